@@ -1,0 +1,44 @@
+/// A numeric port that can be read from a blackboard entry.
+#[derive(Clone, Copy, Debug, PartialEq, Eq)]
+pub enum PortId {
+    SuccessCount,
+    FailureCount,
+    NumAttempts,
+    NumCycles,
+    Msec,
+    DelayMsec,
+    ThenSkip,
+}
+
+/// Why a visit or a halt faulted.
+#[derive(Clone, Copy, Debug, PartialEq, Eq)]
+pub enum Cause {
+    /// A script reads an entry that is not there.
+    NoEntry { slot: u32 },
+    /// A row reads an input that is not there.
+    NoInput { place: u8 },
+    Overflow,
+    ZeroDivisor,
+    NotWhole,
+    /// A number stands where a text must, or a text where a number must.
+    Mixed,
+    /// A joined text would have more than 4,096 bytes.
+    TextTooLong,
+    /// A numeric port holds no number of its range.
+    BadPort { port: PortId },
+}
+
+/// A fault of the node with this uid.
+#[derive(Clone, Copy, Debug, PartialEq, Eq)]
+pub struct NodeFault {
+    pub uid: u32,
+    pub cause: Cause,
+}
+
+/// A fault of a node of this runner.
+#[derive(Clone, Copy, Debug, PartialEq, Eq)]
+pub struct RunFault {
+    pub runner: u8,
+    pub uid: u32,
+    pub cause: Cause,
+}

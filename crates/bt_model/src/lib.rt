@@ -1,0 +1,19 @@
+//! The model of behavior trees and their worlds: plain types, and the definitions that every
+//! contract of the engine speaks of (in `specs/`).
+#![tactic(auto)]
+
+mod block;
+mod fault;
+mod memory;
+mod note;
+mod status;
+mod term;
+mod world;
+
+pub use block::{Block, Header};
+pub use fault::{Cause, NodeFault, PortId, RunFault};
+pub use memory::{Instance, Memo, Memory};
+pub use note::Note;
+pub use status::{Answer, Status};
+pub use term::{Guards, Kind, Port, PortValue, Term, Tree};
+pub use world::{Event, Fact, Out, Row, RowSort, Set, What, World};
