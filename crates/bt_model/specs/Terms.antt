@@ -1,7 +1,7 @@
 -- What is counted over a term.
 use Rattle.std.specs.Prelude.{ℕ, ◌+◌, List, [], ◌∷◌, ◌++◌, sum, max}
 use Rattle.std.specs.List.{flat_map}
-use Rattle.bt_model.specs.declared.term.Term.{Term, Term-F, fold-Term}
+use Rattle.bt_model.specs.declared.term.Term.{Term, fold-Term}
 use Rattle.bt_model.specs.declared.term.Kind.{Kind}
 use Rattle.bt_model.specs.declared.term.Kind.TheVariants.{Leaf}
 

@@ -4,6 +4,7 @@
 
 mod block;
 mod fault;
+mod leaf;
 mod memory;
 mod note;
 mod status;
@@ -12,7 +13,8 @@ mod world;
 
 pub use block::{Block, Header};
 pub use fault::{Cause, NodeFault, PortId, RunFault};
-pub use memory::{Instance, Memo, Memory};
+pub use leaf::{Instance, Phase};
+pub use memory::{Memo, Memory};
 pub use note::Note;
 pub use status::{Answer, Status};
 pub use term::{Guards, Kind, Port, PortValue, Term, Tree};

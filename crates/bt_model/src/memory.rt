@@ -43,11 +43,3 @@ pub struct Memory {
     pub memo: Memo,
     pub children: Items<Memory>,
 }
-
-/// What a leaf's driver keeps: the moment since which the leaf is held, in milliseconds, or none,
-/// and the number of its completions, counted up to 64.
-#[derive(Clone, Copy, Debug, PartialEq, Eq)]
-pub struct Instance {
-    pub since: Option<u64>,
-    pub completions: u8,
-}
