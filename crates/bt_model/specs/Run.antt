@@ -15,6 +15,7 @@ use Rattle.bt_model.specs.declared.status.Status.TheVariants as status
 use Rattle.bt_model.specs.declared.term.Tree.{Tree}
 use Rattle.bt_model.specs.declared.world.Event.{Event}
 use Rattle.bt_model.specs.declared.world.Fact.{Fact}
+use Rattle.bt_model.specs.declared.world.Row.{Row}
 use Rattle.bt_model.specs.declared.world.What.{What}
 use Rattle.bt_model.specs.declared.world.What.TheVariants.{Tick, Halt, Change}
 use Rattle.bt_model.specs.declared.world.World.{World}
@@ -74,8 +75,8 @@ root_told runner answer m s = record {
   calls = [];
 }
 
-abbrev pub ticked : Meaning → ℕ → ℕ → Memory → State → Done Answer Memory
-ticked root runner now m s = follow (root.visit 1 m s now) (λ m1. m1) (λ a m1 s1. root_told runner a m1 s1)
+abbrev pub ticked : Meaning → List Row → ℕ → ℕ → Memory → State → Done Answer Memory
+ticked root rows runner now m s = follow (root.visit rows 1 m s now) (λ m1. m1) (λ a m1 s1. root_told runner a m1 s1)
 
 -- the note of a fault, where there is one
 abbrev pub fault_notes : {A : Type 0} → ℕ → Result A NodeFault → List Note
@@ -111,10 +112,10 @@ abbrev pub idle_step : Header → RunState → ℕ → Stepped
 idle_step header s at = record { state = record { runners = s.runners; facts = s.facts; last = at }; block = record { header = header; notes = []; facts = []; entries = [] }; faulted = false }
 
 -- a tick of a runner, by what it keeps
-abbrev pub tick_step : Option Runner → Meaning → ℕ → ℕ → RunState → Stepped
-tick_step None root runner at s = idle_step (header.Tick runner at) s at
-tick_step (Some r) root runner at s =
-    stepped (header.Tick runner at) s runner at (ticked root runner at r.memory (state_of r s.facts))
+abbrev pub tick_step : Option Runner → Meaning → List Row → ℕ → ℕ → RunState → Stepped
+tick_step None root rows runner at s = idle_step (header.Tick runner at) s at
+tick_step (Some r) root rows runner at s =
+    stepped (header.Tick runner at) s runner at (ticked root rows runner at r.memory (state_of r s.facts))
 
 -- a reset of a runner's root, for a halt and for the finish
 abbrev pub reset_step : Option Runner → Header → Meaning → ℕ → ℕ → RunState → Stepped
@@ -134,13 +135,13 @@ abbrev pub runner_at : RunState → ℕ → Option Runner
 runner_at s runner = slice_get s.runners (runner - 1)
 
 -- one event
-abbrev pub step_by : What → Meaning → ℕ → RunState → Stepped
-step_by (Tick runner) root at s = tick_step (runner_at s runner) root runner at s
-step_by (Halt runner) root at s = reset_step (runner_at s runner) (header.Halt runner at) root runner at s
-step_by (Change fact value) root at s = change_step fact value at s
+abbrev pub step_by : What → Meaning → List Row → ℕ → RunState → Stepped
+step_by (Tick runner) root rows at s = tick_step (runner_at s runner) root rows runner at s
+step_by (Halt runner) root rows at s = reset_step (runner_at s runner) (header.Halt runner at) root runner at s
+step_by (Change fact value) root rows at s = change_step fact value at s
 
-abbrev pub step : Meaning → Event → RunState → Stepped
-step root event s = step_by event.what root event.at s
+abbrev pub step : Meaning → List Row → Event → RunState → Stepped
+step root rows event s = step_by event.what root rows event.at s
 
 -- the finish of a runner, at the moment of the last event
 abbrev pub finish : Meaning → ℕ → RunState → Stepped
@@ -165,10 +166,10 @@ finishes root runner zero s = record { blocks = []; state = s; faulted = false }
 finishes root runner (suc others) s = then_rest (finish root runner s) (finishes root (runner + 1) others)
 
 -- the events in order, and then the finish of all runners
-abbrev pub run_from : Meaning → ℕ → List Event → RunState → Trace
-run_from root runners [] s = finishes root 1 runners s
-run_from root runners (e ∷ es) s = then_rest (step root e s) (run_from root runners es)
+abbrev pub run_from : Meaning → List Row → ℕ → List Event → RunState → Trace
+run_from root rows runners [] s = finishes root 1 runners s
+run_from root rows runners (e ∷ es) s = then_rest (step root rows e s) (run_from root rows runners es)
 
 -- the run of a tree over a world
 abbrev pub run : Tree → World → Trace
-run tree world = run_from (meaning world.rows tree.term) world.runners world.events (opening tree world)
+run tree world = run_from (meaning tree.term) world.rows world.runners world.events (opening tree world)

@@ -11,6 +11,8 @@ use Rattle.bt_model.specs.declared.note.Note.{Note}
 use Rattle.bt_model.specs.declared.note.Note.TheVariants.{Changed, Started, Ran, Halted}
 use Rattle.bt_model.specs.declared.status.Answer.{Answer}
 use Rattle.bt_model.specs.declared.status.Answer.TheVariants as answer
+use Rattle.bt_model.specs.declared.status.RoundEnd.{RoundEnd}
+use Rattle.bt_model.specs.declared.status.RoundEnd.TheVariants.{AtChild, BehindLast}
 use Rattle.bt_model.specs.declared.status.Status.{Status}
 use Rattle.bt_model.specs.declared.status.Status.TheVariants as status
 use Rattle.bt_model.specs.declared.term.Kind.{Kind}
@@ -21,11 +23,11 @@ use Rattle.bt_model.specs.Done.{Done, State, done, behind, follow}
 use Rattle.bt_model.specs.Leaf.{Reply, leaf_rule, let_go}
 
 -- what a term means: how many nodes it has, what a reset and what a visit of it do, from its uid,
--- its memory and the state on, a visit at a moment
+-- its memory and the state on, a visit over the rows of a world and at a moment
 pub record Meaning : Type 0 where
   pub size : ℕ
   pub reset : ℕ → Memory → State → Done (Unit {0}) Memory
-  pub visit : ℕ → Memory → State → ℕ → Done Answer Memory
+  pub visit : List Row → ℕ → Memory → State → ℕ → Done Answer Memory
 
 -- a node's memory
 abbrev pub remembered : Status → Memo → List Memory → Memory
@@ -89,10 +91,10 @@ halted _ uid ms s = record {
 }
 
 -- a reset: a RUNNING node is halted, its children first; any other becomes IDLE, and nothing else of it changes
-abbrev pub reset_by : Status → Term-F Meaning → ℕ → Memory → State → Done (Unit {0}) Memory
-reset_by status.Running node uid m s =
-    follow (resets node.children (out-Memory m).children (uid + 1) s) (λ ms. remembered status.Running (out-Memory m).memo ms) (λ _ ms s1. halted node.kind uid ms s1)
-reset_by old node uid m s = record {
+abbrev pub reset_by : Status → Kind → List Meaning → ℕ → Memory → State → Done (Unit {0}) Memory
+reset_by status.Running kind cs uid m s =
+    follow (resets cs (out-Memory m).children (uid + 1) s) (λ ms. remembered status.Running (out-Memory m).memo ms) (λ _ ms s1. halted kind uid ms s1)
+reset_by old kind cs uid m s = record {
   answer = Ok tt;
   memory = remembered status.Idle (out-Memory m).memo (out-Memory m).children;
   state = s;
@@ -143,19 +145,13 @@ abbrev pub is_seen : Answer → Bool
 is_seen answer.Skipped = false
 is_seen _ = true
 
--- how a round of children ends: at a child with its answer, or behind the last child, and then
--- whether some child since the node's start has answered other than SKIPPED
-pub data RoundEnd : Type 0 where
-  AtChild : (place : ℕ) → (answer : Answer) → RoundEnd
-  BehindLast : (seen : Bool) → RoundEnd
-
 -- a round of these children, of which the first has this uid and this place
-abbrev pub round : Answer → List Meaning → List Memory → ℕ → ℕ → Bool → State → ℕ → Done RoundEnd (List Memory)
-round goes [] ms uid place seen s now = done (BehindLast seen) ms s
-round goes (c ∷ cs) [] uid place seen s now = done (BehindLast seen) [] s
-round goes (c ∷ cs) (m ∷ ms) uid place seen s now =
-    follow (c.visit uid m s now) (λ m1. m1 ∷ ms)
-    (λ a m1 s1. if passes goes a then past (m1 ∷ []) (round goes cs ms (uid + c.size) (place + 1) (seen || is_seen a) s1 now) else done (AtChild place a) (m1 ∷ ms) s1)
+abbrev pub round : List Row → Answer → List Meaning → List Memory → ℕ → ℕ → Bool → State → ℕ → Done RoundEnd (List Memory)
+round rows goes [] ms uid place seen s now = done (BehindLast seen) ms s
+round rows goes (c ∷ cs) [] uid place seen s now = done (BehindLast seen) [] s
+round rows goes (c ∷ cs) (m ∷ ms) uid place seen s now =
+    follow (c.visit rows uid m s now) (λ m1. m1 ∷ ms)
+    (λ a m1 s1. if passes goes a then past (m1 ∷ []) (round rows goes cs ms (uid + c.size) (place + 1) (seen || is_seen a) s1 now) else done (AtChild place a) (m1 ∷ ms) s1)
 
 -- the end of a visit: the memo is cleared, and the status becomes the answer
 abbrev pub ended : Answer → ℕ → List Memory → State → Done Answer Memory
@@ -182,46 +178,45 @@ after_round goes cs uid (BehindLast true) ms s = over cs goes uid ms s
 after_round goes cs uid (BehindLast false) ms s = over cs answer.Skipped uid ms s
 
 -- a Sequence or Fallback goes on at the child with this index
-abbrev pub from_index : Answer → List Meaning → ℕ → ℕ → Bool → List Memory → State → ℕ → Done Answer Memory
-from_index goes cs uid at seen ms s now =
-    follow (past (take at ms) (round goes (drop at cs) (drop at ms) (uid + 1 + sizes (take at cs)) at seen s now))
+abbrev pub from_index : List Row → Answer → List Meaning → ℕ → ℕ → Bool → List Memory → State → ℕ → Done Answer Memory
+from_index rows goes cs uid at seen ms s now =
+    follow (past (take at ms) (round rows goes (drop at cs) (drop at ms) (uid + 1 + sizes (take at cs)) at seen s now))
     (λ ms1. remembered status.Running (Index at seen) ms1) (λ end ms1 s1. after_round goes cs uid end ms1 s1)
 
--- the index that is kept, and its mark
-abbrev pub index_of : Memo → ℕ
-index_of (Index at seen) = at
-index_of _ = 0
+-- the child at which a visit goes on, and whether one was seen: what a RUNNING node has kept, else
+-- the first child
+abbrev pub index_from : Status → Memo → ℕ
+index_from status.Running (Index at seen) = at
+index_from _ _ = 0
 
-abbrev pub seen_of : Memo → Bool
-seen_of (Index at seen) = seen
-seen_of _ = false
+abbrev pub seen_from : Status → Memo → Bool
+seen_from status.Running (Index at seen) = seen
+seen_from _ _ = false
 
--- a visit of a Sequence or Fallback: one that is RUNNING goes on at its index; any other becomes RUNNING
--- and starts with its first child
-abbrev pub control_visit : Status → Answer → List Meaning → ℕ → Memory → State → ℕ → Done Answer Memory
-control_visit status.Running goes cs uid m s now =
-    from_index goes cs uid (index_of (out-Memory m).memo) (seen_of (out-Memory m).memo) (out-Memory m).children s now
-control_visit old goes cs uid m s now =
-    behind (change uid old status.Running) [] (from_index goes cs uid 0 false (out-Memory m).children s now)
+-- a visit of a Sequence or Fallback: it becomes RUNNING where it is not, and goes on at its index
+abbrev pub control_visit : List Row → Answer → List Meaning → ℕ → Memory → State → ℕ → Done Answer Memory
+control_visit rows goes cs uid m s now =
+    behind (change uid (out-Memory m).status status.Running) []
+    (from_index rows goes cs uid (index_from (out-Memory m).status (out-Memory m).memo) (seen_from (out-Memory m).status (out-Memory m).memo) (out-Memory m).children s now)
 
 -- a visit by the node's kind; a kind that no tree reader gives yet is passed over
-abbrev pub visit_by : Kind → List Row → Term-F Meaning → ℕ → Memory → State → ℕ → Done Answer Memory
-visit_by Sequence rows node uid m s now = control_visit (out-Memory m).status answer.Success node.children uid m s now
-visit_by Fallback rows node uid m s now = control_visit (out-Memory m).status answer.Failure node.children uid m s now
-visit_by Leaf rows node uid m s now = leaf_visit (row_of rows node.id) uid m s now
-visit_by _ rows node uid m s now = done answer.Skipped m s
+abbrev pub visit_by : Kind → List Row → List ℕ → List Meaning → ℕ → Memory → State → ℕ → Done Answer Memory
+visit_by Sequence rows id cs uid m s now = control_visit rows answer.Success cs uid m s now
+visit_by Fallback rows id cs uid m s now = control_visit rows answer.Failure cs uid m s now
+visit_by Leaf rows id cs uid m s now = leaf_visit (row_of rows id) uid m s now
+visit_by _ rows id cs uid m s now = done answer.Skipped m s
 
 -- what one node means, with the meaning of each child in its place
-abbrev pub meaning_of_node : List Row → Term-F Meaning → Meaning
-meaning_of_node rows node = record {
+abbrev pub meaning_of_node : Term-F Meaning → Meaning
+meaning_of_node node = record {
   size = 1 + sizes node.children;
-  reset = λ uid m s. reset_by (out-Memory m).status node uid m s;
-  visit = λ uid m s now. visit_by node.kind rows node uid m s now;
+  reset = λ uid m s. reset_by (out-Memory m).status node.kind node.children uid m s;
+  visit = λ rows uid m s now. visit_by node.kind rows node.id node.children uid m s now;
 }
 
--- what a term means over the rows of a world
-abbrev pub meaning : List Row → Term → Meaning
-meaning rows = fold-Term Meaning (meaning_of_node rows)
+-- what a term means
+abbrev pub meaning : Term → Meaning
+meaning = fold-Term Meaning meaning_of_node
 
 -- the memory of a term before its first visit
 abbrev pub idle : Term → Memory

@@ -16,6 +16,6 @@ pub use fault::{Cause, NodeFault, PortId, RunFault};
 pub use leaf::{Instance, Phase};
 pub use memory::{Memo, Memory};
 pub use note::Note;
-pub use status::{Answer, Status};
+pub use status::{Answer, RoundEnd, Status};
 pub use term::{Guards, Kind, Port, PortValue, Term, Tree};
 pub use world::{Event, Fact, Out, Row, RowSort, Set, What, World};

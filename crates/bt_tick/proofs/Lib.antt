@@ -1,0 +1,4 @@
+pub mod Follow
+pub mod Rounds
+pub mod Sizes
+pub mod Undone

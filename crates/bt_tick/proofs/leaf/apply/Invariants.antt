@@ -1,0 +1,7 @@
+use Rattle.std.proofs.Common.{◌≡◌, drop}
+use Rattle.bt_model.specs.Leaf.{with_effects}
+use Rattle.bt_tick.proofs.leaf.apply.Given as goal
+
+-- the effects that are left lead to the facts that all effects lead to
+abbrev pub invariant-loop-set : goal.invariant-loop-set
+invariant-loop-set l = with_effects l.facts.items (drop l.set-index l.sets) ≡ with_effects l.fn.facts.items l.sets
