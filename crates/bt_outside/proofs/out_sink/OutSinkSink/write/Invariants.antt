@@ -1,0 +1,14 @@
+use Rattle.std.proofs.Common.{length, take, ◌-◌, ◌≡◌, ◌≤◌}
+use Rattle.bt_outside.specs.Appending.{Appended}
+use Rattle.bt_outside.proofs.out_sink.OutSinkSink.write.Given as goal
+
+abbrev pub invariant-turns : goal.invariant-turns
+invariant-turns g l =
+    record {
+      within : l.at ≤ length l.piece;
+      text : Appended l.fn.self.written (g.W.Write.contents l.self-inside.writer) (take l.at l.piece);
+      calm : l.self-inside.faults ≡ l.fn.self.faults;
+    }
+
+abbrev pub decreases-turns : goal.decreases-turns
+decreases-turns g l = length l.piece - l.at

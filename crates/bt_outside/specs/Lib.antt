@@ -1,0 +1,6 @@
+pub mod Appending
+pub mod Counts
+pub mod Files
+pub mod MemShelf
+pub mod MemSink
+pub mod OutSink

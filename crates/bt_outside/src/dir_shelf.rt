@@ -1,0 +1,136 @@
+ghost use Rattle.std.specs.Prelude.{◌≡◌, ◌<◌, ◌≤◌, ◌+◌, ◌-◌, ◌^◌, [], OnOk, IsErrOf, IfSome, length};
+ghost use Rattle.bt_outside.specs.Counts.{Rose, next};
+ghost use Rattle.bt_outside.specs.Files.{IsFront};
+
+use crate::shelf::{Shelf, ShelfFault};
+use bt_script::Name;
+use std::fs;
+use std::io::Read;
+use std::marker::Model;
+use std::rt::Files;
+
+/// A shelf of the files of the host, by their paths. It tells nothing of what they hold. Contracts
+/// see its count of failures.
+#[derive(Drop)]
+pub struct DirShelf<R: Files + Drop> {
+    host: R,
+    faults: u64,
+}
+
+impl<R: Files + Drop> Model for DirShelf<R> {
+    ghost use Rattle.std.specs.Prelude.{ℕ};
+
+    ghost Value = { ℕ };
+
+    ghost view = { λ shelf. shelf.faults };
+}
+
+impl<R: Files + Drop> DirShelf<R> {
+    /// A shelf of the files of this host. It takes no memory.
+    pub fn new(host: R) -> DirShelf<R>
+        ensures { result ≡ 0 }
+    {
+        DirShelf { host, faults: 0 }
+    }
+}
+
+// The most bytes of one turn.
+const TURN: usize = 4096;
+
+// Reads what is left of a file, in turns that each give at least one byte: one that gives none is the
+// file's end. It stops behind `limit + 1` bytes.
+fn read_turns<F: Read>(file: &mut F, room: &mut Vec<u8>, limit: u64) -> Result<(), ShelfFault>
+    requires empty { room.old.items ≡ [] }
+    requires below_last { limit < 2 ^ 64 - 1 }
+
+    ensures within { OnOk result (length room.new.items ≤ limit) }
+    ensures whole { OnOk result (IfSome (F.remaining file.old) (λ bytes. room.new.items ≡ bytes)) }
+    ensures past { IsErrOf result ShelfFault.TooLong → length room.new.items ≡ limit + 1 }
+    ensures longer { IsErrOf result ShelfFault.TooLong → IfSome (F.remaining file.old) (λ bytes. limit < length bytes) }
+    ensures front { IfSome (F.remaining file.old) (λ bytes. IsFront room.new.items bytes) }
+{
+    let mut turn = [0; TURN];
+    'turns: while room.len() as u64 <= limit {
+        let left = (limit + 1) - room.len() as u64;
+        let most = left.min(TURN as u64) as usize;
+        match file.read(&mut turn[..most]) {
+            Err(_) => return Err(ShelfFault::Failed),
+            Ok(0) => return Ok(()),
+            Ok(given) => {
+                if room.extend_from_slice(&turn[..given]).is_err() {
+                    return Err(ShelfFault::NoMemory);
+                }
+            }
+        }
+    }
+    Err(ShelfFault::TooLong)
+}
+
+// Reads the file at the path of this name.
+fn read_file<R: Files>(
+    host: &R,
+    name: &Name,
+    room: &mut Vec<u8>,
+    limit: u64,
+) -> Result<(), ShelfFault>
+    requires empty { room.old.items ≡ [] }
+    requires below_last { limit < 2 ^ 64 - 1 }
+
+    ensures within { OnOk result (length room.new.items ≤ limit) }
+    ensures past { IsErrOf result ShelfFault.TooLong → length room.new.items ≡ limit + 1 }
+{
+    let path = str::from_utf8(name.list()).unwrap();
+    let mut file = fs::open(host, path).map_err(|_| ShelfFault::Failed)?;
+    read_turns(&mut file, room, limit)
+}
+
+impl<R: Files + Drop> Shelf for DirShelf<R> {
+    ghost use Rattle.std.specs.Prelude.{None};
+
+    ghost holds = { λ _. None };
+
+    ghost faults = { λ faults. faults };
+
+    fn read(&mut self, name: &Name, room: &mut Vec<u8>, limit: u64) -> Result<(), ShelfFault>
+        requires empty { room.old.items ≡ [] }
+        requires below_last { limit < 2 ^ 64 - 1 }
+
+        ensures count { self.old ≤ self.new }
+        ensures within { OnOk result (length room.new.items ≤ limit) }
+        ensures past { IsErrOf result ShelfFault.TooLong → length room.new.items ≡ limit + 1 }
+        ensures failed { IsErrOf result ShelfFault.Failed → Rose self.old self.new }
+
+        ensures raised { IsErrOf result ShelfFault.Failed → self.new ≡ next self.old }
+        ensures calm { ¬ IsErrOf result ShelfFault.Failed → self.new ≡ self.old }
+    {
+        let answer = read_file(&self.host, name, room, limit);
+        if answer == Err(ShelfFault::Failed) {
+            self.faults = self.faults.saturating_add(1);
+        }
+        answer
+    }
+}
+
+#[cfg(test)]
+mod tests {
+    use super::*;
+    use std::test::Fail;
+
+    #[test]
+    fn files_of_the_host_are_read(rt: HostRuntime) -> Result<(), Fail> {
+        let mut shelf = DirShelf::new(&rt);
+        for (path, answer, bytes) in [
+            ("/dev/null", Ok(()), 0),
+            ("/dev/zero", Err(ShelfFault::TooLong), 5001),
+            ("/", Err(ShelfFault::Failed), 0),
+            ("/no such file", Err(ShelfFault::Failed), 0),
+        ] {
+            let name = Name::of(Vec::from_slice(rt.alloc(), path.as_bytes())?);
+            let mut room = Vec::new(rt.alloc());
+            assert_eq!(rt; shelf.read(&name, &mut room, 5000), answer, "{path}");
+            assert_eq!(rt; room.len(), bytes, "{path}");
+        }
+        assert_eq!(rt; shelf.faults, 2);
+        Ok(())
+    }
+}

@@ -1,0 +1,20 @@
+//! What the engine asks of the outside: a shelf of files by name and a sink of bytes.
+#![tactic(auto)]
+
+mod dir_shelf;
+mod mem_shelf;
+mod mem_sink;
+mod out_sink;
+mod shelf;
+mod sink;
+mod sure_shelf;
+mod sure_sink;
+
+pub use dir_shelf::DirShelf;
+pub use mem_shelf::MemShelf;
+pub use mem_sink::MemSink;
+pub use out_sink::OutSink;
+pub use shelf::{Shelf, ShelfFault};
+pub use sink::{Sink, SinkFault};
+pub use sure_shelf::SureShelf;
+pub use sure_sink::SureSink;

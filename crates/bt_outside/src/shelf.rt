@@ -1,0 +1,45 @@
+ghost use Rattle.std.specs.Prelude.{◌≡◌, ◌<◌, ◌≤◌, ◌+◌, ◌-◌, ◌^◌, List, [], ℕ, Option, OnOk, IsErrOf, length};
+ghost use Rattle.bt_outside.specs.Counts.{Rose};
+ghost use Rattle.bt_outside.specs.Files.{Told, IsFront};
+
+use bt_script::Name;
+
+/// Why a read failed.
+#[derive(Clone, Copy, Debug, PartialEq, Eq)]
+pub enum ShelfFault {
+    /// The shelf could not read the file.
+    Failed,
+    /// The file has more bytes than the limit.
+    TooLong,
+    /// Want of memory.
+    NoMemory,
+}
+
+/// A shelf of files by name.
+pub trait Shelf {
+    /// What each name holds, where the shelf tells it.
+    ghost holds: { Self → Option (List ℕ → List ℕ) };
+
+    /// The count of failures. It never falls.
+    ghost faults: { Self → ℕ };
+
+    /// Reads the file of this name, of at most `limit` bytes, into the empty room.
+    ///
+    /// `ShelfFault::Failed` comes only where the count of failures rose in this call.
+    /// `ShelfFault::TooLong` comes only for a file of more than `limit` bytes, and the room then has
+    /// its first `limit + 1` bytes. At every return the room has some front of the file.
+    fn read(&mut self, name: &Name, room: &mut Vec<u8>, limit: u64) -> Result<(), ShelfFault>
+        requires empty { room.old.items ≡ [] }
+        requires below_last { limit < 2 ^ 64 - 1 }
+
+        ensures holds { holds self.new ≡ holds self.old }
+        ensures count { faults self.old ≤ faults self.new }
+
+        ensures within { OnOk result (length room.new.items ≤ limit) }
+        ensures whole { OnOk result (Told (holds self.old) name.now (λ file. room.new.items ≡ file)) }
+
+        ensures failed { IsErrOf result ShelfFault.Failed → Rose (faults self.old) (faults self.new) }
+        ensures past { IsErrOf result ShelfFault.TooLong → length room.new.items ≡ limit + 1 }
+        ensures longer { IsErrOf result ShelfFault.TooLong → Told (holds self.old) name.now (λ file. limit < length file) }
+        ensures front { Told (holds self.old) name.now (λ file. IsFront room.new.items file) };
+}
