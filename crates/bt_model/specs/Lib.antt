@@ -1,5 +1,6 @@
 pub mod Done
 pub mod Leaf
+pub mod Lines
 pub mod Run
 pub mod Terms
 pub mod Visit

@@ -1,0 +1,91 @@
+-- Texts that are written one after another.
+use Rattle.std.proofs.Common.{◌≡◌, ℕ, ◌+◌, ◌<◌, List, [], ◌∷◌, ◌++◌, Option, map, length, get_or, take, drop, ap, sym, subst, ◌∙◌, append_assoc, append-nil}
+use Rattle.std.proofs.lemmas.List.{take_more, drop_more, take-append-drop, map-append}
+use Rattle.std.proofs.lemmas.List.Folds.{concat-append}
+use Rattle.std.specs.List.{concat}
+use Rattle.bt_model.specs.declared.block.Block.{Block}
+use Rattle.bt_model.specs.Lines.{fact_line, header_line, lines_of, note_line}
+use Rattle.bt_outside.specs.Appending.{Appended, AppendedFront}
+use Rattle.bt_outside.proofs.Appends.{Appended-trans, AppendedFront-whole, AppendedFront-longer, AppendedFront-after}
+
+-- the texts up to one more
+pub concat-map_more :
+    {X : Type 0} (f : X → List ℕ) (xs : List X) (i : ℕ) (d : X) →
+    i < length xs → concat (map f (take (i + 1) xs)) ≡ concat (map f (take i xs)) ++ f (get_or xs i d)
+concat-map_more f xs i d h =
+    ap (λ ys. concat (map f ys)) (take_more xs i d h) ∙ ap concat (map-append f (take i xs) (get_or xs i d ∷ []))
+    ∙ concat-append (map f (take i xs)) (f (get_or xs i d) ∷ [])
+    ∙ ap (λ (z : List ℕ). concat (map f (take i xs)) ++ z) (append-nil (f (get_or xs i d)))
+
+-- the texts before a place, and the rest
+pub concat-map_split :
+    {X : Type 0} (f : X → List ℕ) (xs : List X) (i : ℕ) →
+    concat (map f xs) ≡ concat (map f (take i xs)) ++ concat (map f (drop i xs))
+concat-map_split f xs i =
+    ap (λ ys. concat (map f ys)) (sym (take-append-drop i xs)) ∙ ap concat (map-append f (take i xs) (drop i xs))
+    ∙ concat-append (map f (take i xs)) (map f (drop i xs))
+
+-- one more text was written
+pub Appended-map_more :
+    {X : Type 0} (f : X → List ℕ) (xs : List X) (i : ℕ) (d : X) (a b c : Option (List ℕ)) →
+    i < length xs → Appended a b (concat (map f (take i xs))) → Appended b c (f (get_or xs i d)) →
+    Appended a c (concat (map f (take (i + 1) xs)))
+Appended-map_more f xs i d a b c h p q =
+    subst (Appended a c) (sym (concat-map_more f xs i d h)) (Appended-trans a b c (concat (map f (take i xs))) (f (get_or xs i d)) p q)
+
+-- the texts before a place were written
+pub AppendedFront-map_some :
+    {X : Type 0} (f : X → List ℕ) (xs : List X) (i : ℕ) (a b : Option (List ℕ)) →
+    Appended a b (concat (map f (take i xs))) → AppendedFront a b (concat (map f xs))
+AppendedFront-map_some f xs i a b p =
+    subst (AppendedFront a b) (sym (concat-map_split f xs i))
+    (AppendedFront-longer a b (concat (map f (take i xs))) (concat (map f (drop i xs))) (AppendedFront-whole a b (concat (map f (take i xs))) p))
+
+-- the texts before a place were written, and a front of the next
+pub AppendedFront-map_next :
+    {X : Type 0} (f : X → List ℕ) (xs : List X) (i : ℕ) (d : X) (a b c : Option (List ℕ)) →
+    i < length xs → Appended a b (concat (map f (take i xs))) → AppendedFront b c (f (get_or xs i d)) →
+    AppendedFront a c (concat (map f xs))
+AppendedFront-map_next f xs i d a b c h p q =
+    subst (AppendedFront a c) (sym (concat-map_split f xs i))
+    (AppendedFront-after a b c (concat (map f (take i xs))) (concat (map f (drop i xs))) p
+    (subst (AppendedFront b c) (sym (ap (λ ys. concat (map f ys)) (drop_more xs i d h)))
+    (AppendedFront-longer b c (f (get_or xs i d)) (concat (map f (drop (i + 1) xs))) q)))
+
+-- the lines of a block were written
+pub Appended-lines_of :
+    (names : List (List ℕ)) (block : Block) (a b c d : Option (List ℕ)) →
+    Appended a b (header_line names block.header) → Appended b c (concat (map note_line block.notes)) →
+    Appended c d (concat (map (fact_line names) block.facts)) → Appended a d (concat (lines_of names block))
+Appended-lines_of names block a b c d p q r =
+    let header = header_line names block.header in
+    let notes = map note_line block.notes in
+    let facts = map (fact_line names) block.facts in
+    let rest = Appended-trans b c d (concat notes) (concat facts) q r in
+    Appended-trans a b d header (concat (notes ++ facts)) p (subst (Appended b d) (sym (concat-append notes facts)) rest)
+
+-- the header of a block was written, and a front of its notes
+pub AppendedFront-lines_of_notes :
+    (names : List (List ℕ)) (block : Block) (a b c : Option (List ℕ)) →
+    Appended a b (header_line names block.header) → AppendedFront b c (concat (map note_line block.notes)) →
+    AppendedFront a c (concat (lines_of names block))
+AppendedFront-lines_of_notes names block a b c p q =
+    let header = header_line names block.header in
+    let notes = map note_line block.notes in
+    let facts = map (fact_line names) block.facts in
+    let rest = AppendedFront-longer b c (concat notes) (concat facts) q in
+    AppendedFront-after a b c header (concat (notes ++ facts)) p
+    (subst (AppendedFront b c) (sym (concat-append notes facts)) rest)
+
+-- the header and the notes of a block were written, and a front of its facts
+pub AppendedFront-lines_of_facts :
+    (names : List (List ℕ)) (block : Block) (a b c d : Option (List ℕ)) →
+    Appended a b (header_line names block.header) → Appended b c (concat (map note_line block.notes)) →
+    AppendedFront c d (concat (map (fact_line names) block.facts)) → AppendedFront a d (concat (lines_of names block))
+AppendedFront-lines_of_facts names block a b c d p q r =
+    let header = header_line names block.header in
+    let notes = map note_line block.notes in
+    let facts = map (fact_line names) block.facts in
+    let rest = AppendedFront-after b c d (concat notes) (concat facts) q r in
+    AppendedFront-after a b d header (concat (notes ++ facts)) p
+    (subst (AppendedFront b d) (sym (concat-append notes facts)) rest)

@@ -1,0 +1,17 @@
+//! Writes the lines of a trace: what each event gave, in text, line by line to a sink.
+#![tactic(auto)]
+
+mod block;
+mod line;
+mod names;
+mod put;
+mod stop;
+#[cfg(test)]
+mod tests;
+mod word;
+
+pub use block::{write_block, write_line};
+pub use bt_model::{Block, Header};
+pub use names::{Names, names_of};
+pub use put::{put_bytes, put_number, put_quoted, put_signed};
+pub use stop::TextStop;

@@ -1,0 +1,130 @@
+ghost use Rattle.std.specs.Prelude.{◌≡◌, ◌++◌, IfOk, OnOk, codes, decimal};
+ghost use Rattle.bt_model.specs.Lines.{answer_word, fact_line, header_line, note_line};
+
+use crate::names::Names;
+use crate::put::{put_bytes, put_number, put_signed};
+use crate::word::{answer_word, put_cause, status_word};
+use bt_model::{Answer, Header, Note};
+use bt_script::NoMemory;
+use std::alloc::Global;
+
+/// The line of the event.
+pub fn header_line(alloc: Global, header: Header, names: &Names) -> Result<Vec<u8>, NoMemory>
+    ensures { IfOk result (λ line. line.items ≡ header_line names.now header) }
+{
+    let mut line = Vec::new(alloc);
+    put_header(&mut line, header, names)?;
+    Ok(line)
+}
+
+fn put_header(out: &mut Vec<u8>, header: Header, names: &Names) -> Result<(), NoMemory>
+    ensures { OnOk result (out.new.items ≡ out.old.items ++ header_line names.now header) }
+{
+    match header {
+        Header::Tick { runner, at } => put_runner_event(out, b"tick ", runner, at),
+        Header::Halt { runner, at } => put_runner_event(out, b"halt ", runner, at),
+        Header::Change { fact, value, at } => {
+            put_bytes(out, b"set ")?;
+            put_bytes(out, names.fact_name(fact))?;
+            put_bytes(out, b" ")?;
+            put_signed(out, value)?;
+            put_bytes(out, b" at ")?;
+            put_number(out, at)?;
+            put_bytes(out, b"\n")
+        }
+        Header::Finish { runner, at } => put_runner_event(out, b"finish ", runner, at),
+    }
+}
+
+// Puts the line of an event of a runner.
+fn put_runner_event(out: &mut Vec<u8>, event: &[u8], runner: u8, at: u64) -> Result<(), NoMemory>
+    ensures { OnOk result (out.new.items ≡
+        out.old.items ++ (event.now ++ decimal runner ++ codes " at " ++ decimal at ++ codes "\n")) }
+{
+    put_bytes(out, event)?;
+    put_number(out, u64::from(runner))?;
+    put_bytes(out, b" at ")?;
+    put_number(out, at)?;
+    put_bytes(out, b"\n")
+}
+
+/// The line of the note.
+pub fn note_line(alloc: Global, note: Note) -> Result<Vec<u8>, NoMemory>
+    ensures { IfOk result (λ line. line.items ≡ note_line note) }
+{
+    let mut line = Vec::new(alloc);
+    put_note(&mut line, note)?;
+    Ok(line)
+}
+
+fn put_note(out: &mut Vec<u8>, note: Note) -> Result<(), NoMemory>
+    ensures { OnOk result (out.new.items ≡ out.old.items ++ note_line note) }
+{
+    match note {
+        Note::Changed { uid, old, new } => {
+            put_bytes(out, b"node ")?;
+            put_number(out, u64::from(uid))?;
+            put_bytes(out, b" ")?;
+            put_bytes(out, status_word(old))?;
+            put_bytes(out, b" ")?;
+            put_bytes(out, status_word(new))?;
+            put_bytes(out, b"\n")
+        }
+        Note::Started { uid, answer } => put_answer(out, uid, b" start ", answer),
+        Note::Ran { uid, answer } => put_answer(out, uid, b" running ", answer),
+        Note::Halted { uid } => {
+            put_bytes(out, b"call ")?;
+            put_number(out, u64::from(uid))?;
+            put_bytes(out, b" halted\n")
+        }
+        Note::Root { runner, answer } => {
+            put_bytes(out, b"root ")?;
+            put_number(out, u64::from(runner))?;
+            put_bytes(out, b" ")?;
+            put_bytes(out, answer_word(answer))?;
+            put_bytes(out, b"\n")
+        }
+        Note::Faulted { runner, uid, cause } => {
+            put_bytes(out, b"fault ")?;
+            put_number(out, u64::from(runner))?;
+            put_bytes(out, b" ")?;
+            put_number(out, u64::from(uid))?;
+            put_bytes(out, b" ")?;
+            put_cause(out, cause)?;
+            put_bytes(out, b"\n")
+        }
+        Note::Quenched { runner, uid } => {
+            put_bytes(out, b"quench ")?;
+            put_number(out, u64::from(runner))?;
+            put_bytes(out, b" ")?;
+            put_number(out, u64::from(uid))?;
+            put_bytes(out, b"\n")
+        }
+    }
+}
+
+// Puts the line of a call that answered.
+fn put_answer(out: &mut Vec<u8>, uid: u32, call: &[u8], answer: Answer) -> Result<(), NoMemory>
+    ensures { OnOk result (out.new.items ≡
+        out.old.items ++ (codes "call " ++ decimal uid ++ call.now ++ answer_word answer ++ codes "\n")) }
+{
+    put_bytes(out, b"call ")?;
+    put_number(out, u64::from(uid))?;
+    put_bytes(out, call)?;
+    put_bytes(out, answer_word(answer))?;
+    put_bytes(out, b"\n")
+}
+
+/// The line of a fact that changed, with its new value.
+pub fn fact_line(alloc: Global, fact: (u32, i64), names: &Names) -> Result<Vec<u8>, NoMemory>
+    ensures { IfOk result (λ line. line.items ≡ fact_line names.now fact) }
+{
+    let (number, value) = fact;
+    let mut line = Vec::new(alloc);
+    put_bytes(&mut line, b"fact ")?;
+    put_bytes(&mut line, names.fact_name(number))?;
+    put_bytes(&mut line, b" ")?;
+    put_signed(&mut line, value)?;
+    put_bytes(&mut line, b"\n")?;
+    Ok(line)
+}

@@ -1,0 +1,74 @@
+ghost use Rattle.std.specs.Prelude.{◌≡◌, ◌<◌, ◌++◌, OnOk, decimal};
+ghost use Rattle.std.specs.Fmt.{signed_decimal};
+ghost use Rattle.std.specs.List.{flat_map};
+ghost use Rattle.bt_model.specs.Lines.{hex_digit, quoted, quoted_byte};
+
+use bt_script::NoMemory;
+use itoa::Buffer;
+
+/// Puts the bytes at the end.
+pub fn put_bytes(out: &mut Vec<u8>, bytes: &[u8]) -> Result<(), NoMemory>
+    ensures { OnOk result (out.new.items ≡ out.old.items ++ bytes.now) }
+{
+    out.extend_from_slice(bytes)?;
+    Ok(())
+}
+
+/// Puts the number at the end, in decimal.
+pub fn put_number(out: &mut Vec<u8>, number: u64) -> Result<(), NoMemory>
+    ensures { OnOk result (out.new.items ≡ out.old.items ++ decimal number) }
+{
+    let mut buffer = Buffer::new();
+    put_bytes(out, buffer.format(number).as_bytes())
+}
+
+/// Puts the signed number at the end, in decimal.
+pub fn put_signed(out: &mut Vec<u8>, number: i64) -> Result<(), NoMemory>
+    ensures { OnOk result (out.new.items ≡ out.old.items ++ signed_decimal number) }
+{
+    let mut buffer = Buffer::new();
+    put_bytes(out, buffer.format(number).as_bytes())
+}
+
+/// Puts the text at the end in single quotes, with escapes for quotes, backslashes and bytes below
+/// 32.
+pub fn put_quoted(out: &mut Vec<u8>, text: &[u8]) -> Result<(), NoMemory>
+    ensures { OnOk result (out.new.items ≡ out.old.items ++ quoted text.now) }
+{
+    put_bytes(out, b"'")?;
+    put_escaped(out, text)?;
+    put_bytes(out, b"'")
+}
+
+fn put_escaped(out: &mut Vec<u8>, text: &[u8]) -> Result<(), NoMemory>
+    ensures { OnOk result (out.new.items ≡ out.old.items ++ flat_map quoted_byte text.now) }
+{
+    for byte in text {
+        put_byte(out, *byte)?;
+    }
+    Ok(())
+}
+
+fn put_byte(out: &mut Vec<u8>, byte: u8) -> Result<(), NoMemory>
+    ensures { OnOk result (out.new.items ≡ out.old.items ++ quoted_byte byte) }
+{
+    if byte == b'\'' {
+        put_bytes(out, b"\\'")
+    } else if byte == b'\\' {
+        put_bytes(out, b"\\\\")
+    } else if byte == b'\n' {
+        put_bytes(out, b"\\n")
+    } else if byte < 32 {
+        put_bytes(out, b"\\x")?;
+        put_bytes(out, &[hex_digit(byte / 16), hex_digit(byte % 16)])
+    } else {
+        put_bytes(out, &[byte])
+    }
+}
+
+fn hex_digit(number: u8) -> u8
+    requires { number < 16 }
+    ensures { result ≡ hex_digit number }
+{
+    b"0123456789abcdef"[number as usize]
+}

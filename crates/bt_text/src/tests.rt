@@ -1,0 +1,235 @@
+ghost use Rattle.std.specs.Prelude.{IfOk};
+ghost use Rattle.bt_model.specs.Lines.{NamesOnlyFacts};
+
+use crate::block::{write_block, write_line};
+use crate::names::{Names, names_of};
+use crate::put::{put_number, put_quoted, put_signed};
+use crate::stop::TextStop;
+use bt_model::{
+    Answer, Block, Cause, Fact, Guards, Header, Kind, Note, PortId, Status, Term, Tree, World,
+};
+use bt_outside::{MemSink, SureSink};
+use bt_script::{Items, Name, NoMemory};
+use std::alloc::Global;
+use std::test::Fail;
+
+// What the notes and the facts of `a_block` print.
+const BODY: &str = "node 1 IDLE RUNNING\n\
+    node 20 SUCCESS FAILURE\n\
+    call 2 start SUCCESS\n\
+    call 3 running FAILURE\n\
+    call 4 start SKIPPED\n\
+    call 5 halted\n\
+    root 1 RUNNING\n\
+    fault 1 7 Overflow\n\
+    fault 2 8 ZeroDivisor\n\
+    fault 3 9 NotWhole\n\
+    fault 4 10 Mixed\n\
+    fault 5 11 TextTooLong\n\
+    fault 6 12 BadPort delay_msec\n\
+    quench 1 4294967295\n\
+    fact door -9223372036854775808\n\
+    fact charge 7\n";
+
+fn a_name(alloc: Global, text: &str) -> Result<Name, NoMemory> {
+    Ok(Name::of(Vec::from_slice(alloc, text.as_bytes())?))
+}
+
+fn a_tree(alloc: Global) -> Result<Tree, NoMemory> {
+    let guards = Guards {
+        failure_if: None,
+        success_if: None,
+        skip_if: None,
+        while_true: None,
+        on_success: None,
+        on_failure: None,
+        post: None,
+        on_halted: None,
+    };
+    let term = Term {
+        kind: Kind::Leaf,
+        id: a_name(alloc, "A")?,
+        name: a_name(alloc, "A")?,
+        ports: Items::of(Vec::new(alloc)),
+        code: None,
+        guards,
+        autoremap: false,
+        children: Items::of(Vec::new(alloc)),
+    };
+    Ok(Tree {
+        main: a_name(alloc, "M")?,
+        term,
+    })
+}
+
+fn a_world(alloc: Global) -> Result<World, NoMemory> {
+    let mut facts = Vec::new(alloc);
+    for name in ["charge", "door"] {
+        facts.push(Fact {
+            name: a_name(alloc, name)?,
+            opening: 0,
+        })?;
+    }
+    Ok(World {
+        facts: Items::of(facts),
+        rows: Items::of(Vec::new(alloc)),
+        goals: Items::of(Vec::new(alloc)),
+        runners: 1,
+        events: Items::of(Vec::new(alloc)),
+    })
+}
+
+fn some_names(alloc: Global) -> Result<Names, NoMemory> {
+    names_of(alloc, &a_tree(alloc)?, &a_world(alloc)?)
+}
+
+fn a_block(alloc: Global, header: Header) -> Result<Block, NoMemory>
+    ensures { IfOk result (λ block. NamesOnlyFacts block) }
+{
+    let notes = vec![in alloc;
+        Note::Changed {
+            uid: 1,
+            old: Status::Idle,
+            new: Status::Running
+        },
+        Note::Changed {
+            uid: 20,
+            old: Status::Success,
+            new: Status::Failure
+        },
+        Note::Started {
+            uid: 2,
+            answer: Answer::Success
+        },
+        Note::Ran {
+            uid: 3,
+            answer: Answer::Failure
+        },
+        Note::Started {
+            uid: 4,
+            answer: Answer::Skipped
+        },
+        Note::Halted { uid: 5 },
+        Note::Root {
+            runner: 1,
+            answer: Answer::Running
+        },
+        Note::Faulted {
+            runner: 1,
+            uid: 7,
+            cause: Cause::Overflow
+        },
+        Note::Faulted {
+            runner: 2,
+            uid: 8,
+            cause: Cause::ZeroDivisor
+        },
+        Note::Faulted {
+            runner: 3,
+            uid: 9,
+            cause: Cause::NotWhole
+        },
+        Note::Faulted {
+            runner: 4,
+            uid: 10,
+            cause: Cause::Mixed
+        },
+        Note::Faulted {
+            runner: 5,
+            uid: 11,
+            cause: Cause::TextTooLong
+        },
+        Note::Faulted {
+            runner: 6,
+            uid: 12,
+            cause: Cause::BadPort {
+                port: PortId::DelayMsec
+            }
+        },
+        Note::Quenched {
+            runner: 1,
+            uid: 4294967295
+        },
+    ]?;
+    let facts = vec![in alloc; (1, i64::MIN), (0, 7)]?;
+    Ok(Block {
+        header,
+        notes: Items::of(notes),
+        facts: Items::of(facts),
+        entries: Items::of(Vec::new(alloc)),
+    })
+}
+
+#[test]
+fn each_header_comes_before_what_happened(rt: HostRuntime) -> Result<(), Fail> {
+    let names = some_names(rt.alloc())?;
+    let rows = [
+        (Header::Tick { runner: 1, at: 0 }, "tick 1 at 0\n"),
+        (
+            Header::Halt {
+                runner: 16,
+                at: 299,
+            },
+            "halt 16 at 299\n",
+        ),
+        (
+            Header::Change {
+                fact: 1,
+                value: -1,
+                at: 10,
+            },
+            "set door -1 at 10\n",
+        ),
+        (
+            Header::Finish {
+                runner: 2,
+                at: u64::MAX,
+            },
+            "finish 2 at 18446744073709551615\n",
+        ),
+    ];
+    for (header, line) in rows {
+        let block = a_block(rt.alloc(), header)?;
+        let mut sink = SureSink::new(rt.alloc());
+        write_block(rt.alloc(), &mut sink, &block, &names)?;
+        let mut text = Vec::from_slice(rt.alloc(), line.as_bytes())?;
+        text.extend_from_slice(BODY.as_bytes())?;
+        assert_eq!(rt; sink.list(), text.as_slice(), "at {header:?}");
+    }
+    Ok(())
+}
+
+#[test]
+fn a_failing_write_leaves_the_lines_before_it(rt: HostRuntime) -> Result<(), Fail> {
+    let names = some_names(rt.alloc())?;
+    let block = a_block(rt.alloc(), Header::Tick { runner: 1, at: 0 })?;
+    let mut text = Vec::from_slice(rt.alloc(), b"tick 1 at 0\n")?;
+    text.extend_from_slice(BODY.as_bytes())?;
+    for call in 1..=17 {
+        let mut sink = MemSink::new(rt.alloc(), vec![in rt.alloc(); (call, 3)]?);
+        let stop = write_block(rt.alloc(), &mut sink, &block, &names);
+        assert_eq!(rt; stop, Err(TextStop::WriteFault), "at call {call}");
+        let written = sink.list();
+        assert!(rt; text.starts_with(written), "at call {call}");
+        let lines = written.split(|byte| *byte == b'\n').count();
+        assert_eq!(rt; lines as u64, call, "at call {call}");
+        let last = written.rsplit(|byte| *byte == b'\n').next();
+        assert_eq!(rt; last.map(|line| line.len()), Some(3), "at call {call}");
+    }
+    Ok(())
+}
+
+#[test]
+fn lines_of_other_texts(rt: HostRuntime) -> Result<(), Fail> {
+    let mut line = Vec::from_slice(rt.alloc(), b"n ")?;
+    put_number(&mut line, 18446744073709551615)?;
+    put_signed(&mut line, -40)?;
+    put_quoted(&mut line, b"it's a \\ \n\x00\x1f\x7f \xc3\xa9")?;
+    let mut sink = SureSink::new(rt.alloc());
+    write_line(&mut sink, line.as_slice())?;
+    assert_eq!(rt;
+        sink.list(),
+        b"n 18446744073709551615-40'it\\'s a \\\\ \\n\\x00\\x1f\x7f \xc3\xa9'".as_slice()
+    );
+    Ok(())
+}

@@ -1,0 +1,64 @@
+ghost use Rattle.std.specs.Prelude.{◌≡◌, ◌++◌, OnOk};
+ghost use Rattle.bt_model.specs.Lines.{answer_word, cause_words, port_word, status_word};
+
+use crate::put::put_bytes;
+use bt_model::{Answer, Cause, PortId, Status};
+use bt_script::NoMemory;
+
+/// The word of the status.
+pub fn status_word(status: Status) -> &'static [u8]
+    ensures { result.now ≡ status_word status }
+{
+    match status {
+        Status::Idle => b"IDLE",
+        Status::Running => b"RUNNING",
+        Status::Success => b"SUCCESS",
+        Status::Failure => b"FAILURE",
+    }
+}
+
+/// The word of the answer.
+pub fn answer_word(answer: Answer) -> &'static [u8]
+    ensures { result.now ≡ answer_word answer }
+{
+    match answer {
+        Answer::Running => b"RUNNING",
+        Answer::Success => b"SUCCESS",
+        Answer::Failure => b"FAILURE",
+        Answer::Skipped => b"SKIPPED",
+    }
+}
+
+/// The name of the port.
+pub fn port_word(port: PortId) -> &'static [u8]
+    ensures { result.now ≡ port_word port }
+{
+    match port {
+        PortId::SuccessCount => b"success_count",
+        PortId::FailureCount => b"failure_count",
+        PortId::NumAttempts => b"num_attempts",
+        PortId::NumCycles => b"num_cycles",
+        PortId::Msec => b"msec",
+        PortId::DelayMsec => b"delay_msec",
+        PortId::ThenSkip => b"then_skip",
+    }
+}
+
+/// Puts the words of the cause at the end.
+pub fn put_cause(out: &mut Vec<u8>, cause: Cause) -> Result<(), NoMemory>
+    ensures { OnOk result (out.new.items ≡ out.old.items ++ cause_words cause) }
+{
+    match cause {
+        Cause::NoEntry { .. } => put_bytes(out, b"NoEntry"),
+        Cause::NoInput { .. } => put_bytes(out, b"NoInput"),
+        Cause::Overflow => put_bytes(out, b"Overflow"),
+        Cause::ZeroDivisor => put_bytes(out, b"ZeroDivisor"),
+        Cause::NotWhole => put_bytes(out, b"NotWhole"),
+        Cause::Mixed => put_bytes(out, b"Mixed"),
+        Cause::TextTooLong => put_bytes(out, b"TextTooLong"),
+        Cause::BadPort { port } => {
+            put_bytes(out, b"BadPort ")?;
+            put_bytes(out, port_word(port))
+        }
+    }
+}
