@@ -1,0 +1,92 @@
+-- How the marks of a tree file are written.
+use Rattle.std.specs.Prelude.{ℕ, Bool, true, false, not, ◌==◌, ◌&&◌, ◌||◌, nat_le, List, [], ◌∷◌, ◌++◌, map, length, IsTrue}
+use Rattle.std.specs.List.{list_all, list_any, flat_map, AllByRecursion}
+use Rattle.std.specs.Str.{bytes_eq}
+
+-- blank, tab, carriage return or line feed
+abbrev pub is_white : ℕ → Bool
+is_white c = c == 32 || c == 9 || c == 13 || c == 10
+
+abbrev pub is_letter : ℕ → Bool
+is_letter c = nat_le 65 c && nat_le c 90 || nat_le 97 c && nat_le c 122
+
+abbrev pub is_digit : ℕ → Bool
+is_digit c = nat_le 48 c && nat_le c 57
+
+-- a letter, `_` or a byte of a character past ASCII
+abbrev pub is_name_first : ℕ → Bool
+is_name_first c = is_letter c || c == 95 || nat_le 128 c
+
+-- these, digits, `-`, `.` and `:`
+abbrev pub is_name_rest : ℕ → Bool
+is_name_rest c = is_name_first c || is_digit c || c == 45 || c == 46 || c == 58
+
+-- a name of an element or of an attribute
+abbrev pub is_name : List ℕ → Bool
+is_name [] = false
+is_name (c ∷ cs) = is_name_first c && list_all is_name_rest (c ∷ cs)
+
+-- a byte that may stand in a value between two `"`: all but `"`, `<` and 0
+abbrev pub is_value_byte : ℕ → Bool
+is_value_byte c = not (c == 34 || c == 60 || c == 0)
+
+-- An attribute as it is written, with the white space before its name and around its `=`.
+pub record Attribute : Type 0 where
+  pub gap : List ℕ
+  pub name : List ℕ
+  pub before : List ℕ
+  pub after : List ℕ
+  pub value : List ℕ
+
+-- 61 is `=`, and 34 is `"`
+abbrev pub attribute_written : Attribute → List ℕ
+attribute_written a = a.gap ++ (a.name ++ (a.before ++ (61 ∷ (a.after ++ (34 ∷ (a.value ++ 34 ∷ []))))))
+
+-- a start mark or an empty mark behind its `<`, up to the white space before its end
+pub record Opening : Type 0 where
+  pub name : List ℕ
+  pub attributes : List Attribute
+  pub gap : List ℕ
+
+abbrev pub opening_written : Opening → List ℕ
+opening_written o = o.name ++ (flat_map attribute_written o.attributes ++ o.gap)
+
+-- a mark as it is written
+pub data Mark : Type 0 where
+  Start : Opening → Mark
+  Empty : Opening → Mark
+  End : (name gap : List ℕ) → Mark
+
+-- `<a>`, `<a/>` or `</a>`: 60 is `<`, 62 is `>`, and 47 is `/`
+abbrev pub mark_written : Mark → List ℕ
+mark_written (Start o) = 60 ∷ (opening_written o ++ 62 ∷ [])
+mark_written (Empty o) = 60 ∷ (opening_written o ++ 47 ∷ 62 ∷ [])
+mark_written (End name gap) = 60 ∷ 47 ∷ (name ++ (gap ++ 62 ∷ []))
+
+-- the names and values of attributes
+abbrev pub pairs_of : List Attribute → List (List ℕ × List ℕ)
+pairs_of attributes = map (λ a. (a.name, a.value)) attributes
+
+-- whether no name occurs twice
+abbrev pub no_name_twice : List (List ℕ × List ℕ) → Bool
+no_name_twice [] = true
+no_name_twice (a ∷ more) = not (list_any (λ b. bytes_eq b.0 a.0) more) && no_name_twice more
+
+pub record IsAttribute (a : Attribute) : Type 0 where
+  pub gap : IsTrue (list_all is_white a.gap)
+  pub apart : IsTrue (not (length a.gap == 0))
+  pub name : IsTrue (is_name a.name)
+  pub before : IsTrue (list_all is_white a.before)
+  pub after : IsTrue (list_all is_white a.after)
+  pub value : IsTrue (list_all is_value_byte a.value)
+
+pub record IsOpening (o : Opening) : Type 0 where
+  pub name : IsTrue (is_name o.name)
+  pub attributes : AllByRecursion IsAttribute o.attributes
+  pub single : IsTrue (no_name_twice (pairs_of o.attributes))
+  pub gap : IsTrue (list_all is_white o.gap)
+
+abbrev pub IsMark : Mark → Type 0
+IsMark (Start o) = IsOpening o
+IsMark (Empty o) = IsOpening o
+IsMark (End name gap) = IsTrue (is_name name) × IsTrue (list_all is_white gap)
