@@ -4,3 +4,4 @@ pub mod Lines
 pub mod Run
 pub mod Terms
 pub mod Visit
+pub mod WorldFile

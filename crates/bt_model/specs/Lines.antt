@@ -88,22 +88,6 @@ fact_line names fact = codes "fact " ++ fact_name names fact.0 ++ codes " " ++ s
 abbrev pub lines_of : List (List ℕ) → Block → List (List ℕ)
 lines_of names block = header_line names block.header ∷ (map note_line block.notes ++ map (fact_line names) block.facts)
 
--- whether the words of the cause are whole without the name of an entry or an input
-abbrev pub cause_is_nameless : Cause → Bool
-cause_is_nameless (cause.NoEntry slot) = false
-cause_is_nameless (cause.NoInput place) = false
-cause_is_nameless _ = true
-
--- whether the line of the note is whole without the name of an entry or an input
-abbrev pub note_is_nameless : Note → Bool
-note_is_nameless (note.Faulted runner uid cause) = cause_is_nameless cause
-note_is_nameless _ = true
-
--- the block speaks of no entry and of no input
-pub record NamesOnlyFacts (block : Block) : Type 0 where
-  pub entries : block.entries ≡ []
-  pub notes : IsTrue (list_all note_is_nameless block.notes)
-
 -- the hexadecimal digit of a number below 16
 abbrev pub hex_digit : ℕ → ℕ
 hex_digit n = slice_index (codes "0123456789abcdef") n

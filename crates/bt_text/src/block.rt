@@ -1,6 +1,6 @@
 ghost use Rattle.std.specs.Prelude.{◌≡◌, ◌≤◌, OnOk, IsErrOf, map};
 ghost use Rattle.std.specs.List.{concat};
-ghost use Rattle.bt_model.specs.Lines.{NamesOnlyFacts, fact_line, lines_of, note_line};
+ghost use Rattle.bt_model.specs.Lines.{fact_line, lines_of, note_line};
 ghost use Rattle.bt_outside.specs.Appending.{Appended, AppendedFront};
 ghost use Rattle.bt_outside.specs.Counts.{Rose};
 
@@ -21,8 +21,6 @@ pub fn write_block<K: Sink>(
     block: &Block,
     names: &Names,
 ) -> Result<(), TextStop>
-    requires { NamesOnlyFacts block.now }
-
     ensures whole { OnOk result
         (Appended (K.written out.old) (K.written out.new) (concat (lines_of names.now block.now))) }
     ensures front { AppendedFront (K.written out.old) (K.written out.new) (concat (lines_of names.now block.now)) }

@@ -1,4 +1,4 @@
-ghost use Rattle.std.specs.Prelude.{◌≡◌, ◌-◌, nat_lt, slice_index_or};
+ghost use Rattle.std.specs.Prelude.{◌≡◌, ◌-◌, length, nat_lt, slice_index_or};
 ghost use Rattle.std.specs.Option.{option_copied};
 ghost use Rattle.bt_model.specs.Leaf.{answer_of, compared, completed, decided, fact_at, held, lasting, leaf_rule, let_go, outcome_at, start_of, with_effects};
 ghost use Rattle.bt_model.specs.Visit.{fresh, row_of};
@@ -99,7 +99,8 @@ fn outcome(outcomes: &[bool], completions: u8) -> bool
 }
 
 fn apply(facts: &mut Vec<i64>, sets: &[Set])
-    ensures { facts.new.items ≡ with_effects facts.old.items sets.now }
+    ensures effects { facts.new.items ≡ with_effects facts.old.items sets.now }
+    ensures length { length facts.new.items ≡ length facts.old.items }
 {
     for set in sets {
         if (set.fact as usize) < facts.len() {
@@ -113,6 +114,7 @@ fn decide(success: bool, instance: Instance, facts: &mut Vec<i64>, sets: &[Set])
     ensures answer { result.answer ≡ (decided success instance facts.old.items sets.now).answer }
     ensures instance { result.instance ≡ (decided success instance facts.old.items sets.now).instance }
     ensures facts { facts.new.items ≡ (decided success instance facts.old.items sets.now).facts }
+    ensures length { length facts.new.items ≡ length facts.old.items }
 {
     if !success {
         return Answered {
@@ -144,6 +146,7 @@ pub fn answer_row(
     ensures answer { result.answer ≡ (leaf_rule row.now.sort row.now.sets phase instance facts.old.items now).answer }
     ensures instance { result.instance ≡ (leaf_rule row.now.sort row.now.sets phase instance facts.old.items now).instance }
     ensures facts { facts.new.items ≡ (leaf_rule row.now.sort row.now.sets phase instance facts.old.items now).facts }
+    ensures length { length facts.new.items ≡ length facts.old.items }
 {
     match &row.sort {
         RowSort::Is { fact, op, value } => Answered {

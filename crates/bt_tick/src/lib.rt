@@ -8,4 +8,5 @@ mod plain;
 mod resets;
 mod visits;
 
+pub use notes::note_change;
 pub use plain::{Plain, plain_of, reset_root, tick};

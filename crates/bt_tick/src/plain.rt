@@ -1,4 +1,4 @@
-ghost use Rattle.std.specs.Prelude.{◌≡◌, ◌+◌, ◌<◌, ◌^◌, ℤ, List, IfOk, OnOk, replicate};
+ghost use Rattle.std.specs.Prelude.{◌≡◌, ◌+◌, ◌<◌, ◌^◌, ℤ, List, IfOk, OnOk, length, replicate};
 ghost use Rattle.bt_model.specs.Terms.{node_count};
 ghost use Rattle.bt_model.specs.Visit.{fresh, idle, meaning};
 ghost use Rattle.bt_tick.specs.Shown.{plain_state, shown, shows};
@@ -48,6 +48,7 @@ pub fn tick(
     requires { 1 + node_count plain.old.term.now < 2 ^ 32 }
     ensures visit { IfOk result (λ answer. shows answer plain.new.memory (plain_state facts.new.items plain.new.instances.items) notes.new.items ≡ shown notes.old.items ((meaning plain.old.term.now).visit rows.now 1 plain.old.memory (plain_state facts.old.items plain.old.instances.items) now)) }
     ensures term { plain.new.term.now ≡ plain.old.term.now }
+    ensures length { length facts.new.items ≡ length facts.old.items }
 {
     visit(
         plain.term,

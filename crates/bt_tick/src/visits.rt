@@ -25,7 +25,8 @@ pub fn visit(
     notes: &mut Vec<Note>,
 ) -> Result<Answer, NoMemory>
     requires { uid + node_count term.now < 2 ^ 32 }
-    ensures { IfOk result (λ answer. shows answer memory.new (plain_state facts.new.items instances.new.items) notes.new.items ≡ shown notes.old.items ((meaning term.now).visit rows.now uid memory.old (plain_state facts.old.items instances.old.items) now)) }
+    ensures visit { IfOk result (λ answer. shows answer memory.new (plain_state facts.new.items instances.new.items) notes.new.items ≡ shown notes.old.items ((meaning term.now).visit rows.now uid memory.old (plain_state facts.old.items instances.old.items) now)) }
+    ensures length { length facts.new.items ≡ length facts.old.items }
 {
     match term.kind {
         Kind::Sequence => visit_control(
@@ -69,7 +70,8 @@ fn visit_control(
     notes: &mut Vec<Note>,
 ) -> Result<Answer, NoMemory>
     requires { uid + node_count term.now < 2 ^ 32 }
-    ensures { IfOk result (λ answer. shows answer memory.new (plain_state facts.new.items instances.new.items) notes.new.items ≡ shown notes.old.items (control_visit rows.now goes (map meaning (out-Term term.now).children) uid memory.old (plain_state facts.old.items instances.old.items) now)) }
+    ensures visit { IfOk result (λ answer. shows answer memory.new (plain_state facts.new.items instances.new.items) notes.new.items ≡ shown notes.old.items (control_visit rows.now goes (map meaning (out-Term term.now).children) uid memory.old (plain_state facts.old.items instances.old.items) now)) }
+    ensures length { length facts.new.items ≡ length facts.old.items }
 {
     let at = index_kept(memory.status, memory.memo);
     let seen = seen_kept(memory.status, memory.memo);
@@ -112,7 +114,8 @@ fn visit_round(
 ) -> Result<RoundEnd, NoMemory>
     requires room { uid + sum (map node_count children.now) < 2 ^ 32 }
     requires places { at + length children.now < 2 ^ 32 }
-    ensures { IfOk result (λ end. shows end memories.new (plain_state facts.new.items instances.new.items) notes.new.items ≡ shown notes.old.items (past (take at memories.old) (round rows.now goes (map meaning children.now) (drop at memories.old) uid at seen (plain_state facts.old.items instances.old.items) now))) }
+    ensures round { IfOk result (λ end. shows end memories.new (plain_state facts.new.items instances.new.items) notes.new.items ≡ shown notes.old.items (past (take at memories.old) (round rows.now goes (map meaning children.now) (drop at memories.old) uid at seen (plain_state facts.old.items instances.old.items) now))) }
+    ensures length { length facts.new.items ≡ length facts.old.items }
 {
     let mut next = uid;
     let mut place = at;
@@ -286,7 +289,8 @@ fn visit_leaf(
     now: u64,
     notes: &mut Vec<Note>,
 ) -> Result<Answer, NoMemory>
-    ensures { IfOk result (λ answer. shows answer memory.new (plain_state facts.new.items instances.new.items) notes.new.items ≡ shown notes.old.items (leaf_visit (row_of rows.now id.now) uid memory.old (plain_state facts.old.items instances.old.items) now)) }
+    ensures visit { IfOk result (λ answer. shows answer memory.new (plain_state facts.new.items instances.new.items) notes.new.items ≡ shown notes.old.items (leaf_visit (row_of rows.now id.now) uid memory.old (plain_state facts.old.items instances.old.items) now)) }
+    ensures length { length facts.new.items ≡ length facts.old.items }
 {
     let Some(row) = row_with(rows, id) else {
         return Ok(Answer::Skipped);

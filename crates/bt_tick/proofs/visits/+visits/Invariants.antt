@@ -1,4 +1,4 @@
-use Rattle.std.proofs.Common.{◌≡◌, ◌+◌, ◌*◌, ◌≤◌, map, sum, drop, take}
+use Rattle.std.proofs.Common.{◌≡◌, ◌+◌, ◌*◌, ◌≤◌, length, map, sum, drop, take}
 use Rattle.bt_model.specs.Terms.{node_count}
 use Rattle.bt_model.specs.Visit.{meaning, past, round}
 use Rattle.bt_tick.specs.Shown.{plain_state, shown}
@@ -20,6 +20,7 @@ invariant-visit_round-loop-child l =
     record {
       at : l.place ≡ l.at + l.child-index;
       grows : l.uid ≤ l.next;
+      facts : length l.facts.items ≡ length l.fn.facts.items;
       room : l.next + sum (map node_count (drop l.child-index l.children)) ≡ l.uid + sum (map node_count l.children);
       all : shown l.notes.items (past (take l.place l.memories) (round l.rows l.goes (map meaning (drop l.child-index l.children)) (drop l.place l.memories) l.next l.place l.seen (plain_state l.facts.items l.instances.items) l.now)) ≡ shown l.fn.notes.items (past (take l.at l.fn.memories) (round l.rows l.goes (map meaning l.children) (drop l.at l.fn.memories) l.uid l.at l.fn.seen (plain_state l.fn.facts.items l.fn.instances.items) l.now));
     }
