@@ -1,7 +1,9 @@
 -- The steps of a run with one runner.
-use Rattle.std.proofs.Common.{◌≡◌, ℕ, ℤ, suc, ◌+◌, ◌-◌, ◌<◌, ◌≤◌, List, [], ◌∷◌, ◌++◌, Bool, true, false, cond, Option, Some, None, slice_get, slice_set, refl, sym, ap, ◌∙◌, append_assoc, append-nil, arith, Result, Ok}
+use Rattle.std.proofs.Common.{◌≡◌, ℕ, ℤ, zero, suc, ◌+◌, ◌-◌, ◌<◌, ◌≤◌, List, [], ◌∷◌, ◌++◌, Bool, true, false, cond, Option, Some, None, slice_get, slice_set, drop, refl, sym, ap, ◌∙◌, append_assoc, append-nil, arith, Result, Ok}
 use Rattle.std.specs.Ordering.{int_eq}
 use Rattle.std.proofs.lemmas.Grind.{common_steps}
+use Rattle.std.proofs.lemmas.List.{drop_more}
+use Rattle.std.proofs.lemmas.Option.{slice_get_within, get_or_from_slice_get}
 use Rattle.bt_model.specs.declared.block.Block.{Block}
 use Rattle.bt_model.specs.declared.block.Header.{Header}
 use Rattle.bt_model.specs.declared.block.Header.TheVariants as header
@@ -103,3 +105,31 @@ pub no_reset :
     after_step m0 i0 f0 at (record { header = header; notes = []; facts = []; entries = [] }) ≡ reset_step (runner_at (one_runner m0 i0 f0 last) runner) header root runner at (one_runner m0 i0 f0 last)
 no_reset root header m0 i0 f0 runner at last other =
     ap (λ (o : Option Runner). reset_step o header root runner at (one_runner m0 i0 f0 last)) (sym (gone m0 i0 f0 last runner other))
+
+-- one more fact
+joined_if : (b : Bool) (found rest : List (ℕ × ℤ)) (x : ℕ × ℤ) → (found ++ cond b [] (x ∷ [])) ++ rest ≡ found ++ cond b rest (x ∷ rest)
+joined_if true found rest x = ap (λ (xs : List (ℕ × ℤ)). xs ++ rest) (append-nil found)
+joined_if false found rest x = append_assoc found (x ∷ []) rest
+
+pub changed_more :
+    (place : ℕ) (before after : List ℤ) (old new : ℤ) (found : List (ℕ × ℤ)) →
+    drop place before ≡ old ∷ drop (place + 1) before → drop place after ≡ new ∷ drop (place + 1) after →
+    (found ++ cond (int_eq old new) [] ((place, new) ∷ [])) ++ changed_from (place + 1) (drop (place + 1) before) (drop (place + 1) after) ≡ found ++ changed_from place (drop place before) (drop place after)
+changed_more place before after old new found is_old is_new =
+    joined_if (int_eq old new) found (changed_from (place + 1) (drop (place + 1) before) (drop (place + 1) after)) (place, new)
+    ∙ ap (λ (xs : List ℤ). found ++ changed_from place (old ∷ drop (place + 1) before) xs) (sym is_new)
+    ∙ ap (λ (xs : List ℤ). found ++ changed_from place xs (drop place after)) (sym is_old)
+
+-- nothing is left to compare
+pub changed_from-short : (place : ℕ) (olds news : List ℤ) → news ≡ [] → changed_from place olds news ≡ []
+changed_from-short place [] news e = refl
+changed_from-short place (x ∷ xs) news e = ap (changed_from place (x ∷ xs)) e
+
+-- an item that is there, and one that is not
+pub drop_at : (xs : List ℤ) (i : ℕ) (x : ℤ) → slice_get xs i ≡ Some x → drop i xs ≡ x ∷ drop (i + 1) xs
+drop_at xs i x is_x = drop_more xs i x (slice_get_within xs i x is_x) ∙ ap (λ (y : ℤ). y ∷ drop (i + 1) xs) (get_or_from_slice_get xs i x x is_x)
+
+pub drop_none : (xs : List ℤ) (i : ℕ) → slice_get xs i ≡ None → drop i xs ≡ []
+drop_none [] i none = grind (arith, common_steps)
+drop_none (x ∷ xs) zero none = cc
+drop_none (x ∷ xs) (suc i) none = drop_none xs i none

@@ -1,4 +1,5 @@
-ghost use Rattle.std.specs.Prelude.{◌≡◌, ◌+◌, ◌<◌, ◌^◌, ◌++◌, ◌∷◌, [], IfOk, OnOk, if◌then◌else◌, length, map, slice_set};
+ghost use Rattle.std.specs.Prelude.{◌≡◌, ◌+◌, ◌<◌, ◌^◌, ◌++◌, ◌∷◌, [], IfOk, OnOk, if◌then◌else◌, length, map, slice_get, slice_set};
+ghost use Rattle.std.specs.Option.{option_copied};
 ghost use Rattle.std.specs.Ordering.{int_eq};
 ghost use Rattle.bt_model.specs.Run.{change_step, changed_facts, finish, opening, reset_step, runner_at, settled, step, tick_step};
 ghost use Rattle.bt_model.specs.Terms.{node_count};
@@ -226,20 +227,31 @@ fn changed(
 {
     let mut facts = Vec::new(alloc);
     for (place, old) in before.iter().enumerate() {
-        match after.get(place) {
-            Some(new) => note_fact(&mut facts, place as u32, *old, *new)?,
+        match value_at(after, place) {
+            Some(new) => note_fact(&mut facts, place as u32, old, new)?,
             None => return Ok(Items::of(facts)),
         }
     }
     Ok(Items::of(facts))
 }
 
-/// Notes a fact whose value differs.
-fn note_fact(facts: &mut Vec<(u32, i64)>, fact: u32, old: i64, new: i64) -> Result<(), NoMemory>
-    ensures { OnOk result (facts.new.items ≡ facts.old.items ++ (if int_eq old new then [] else (fact, new) ∷ [])) }
+fn value_at(values: &[i64], place: usize) -> Option<&i64>
+    ensures { option_copied result ≡ slice_get values.now place }
 {
-    if old != new {
-        facts.push((fact, new))?;
+    values.get(place)
+}
+
+/// Notes a fact whose value differs.
+fn note_fact(
+    facts: &mut Vec<(u32, i64)>,
+    fact: u32,
+    old: &i64,
+    new: &i64,
+) -> Result<(), NoMemory>
+    ensures { OnOk result (facts.new.items ≡ facts.old.items ++ (if int_eq old.now new.now then [] else (fact, new.now) ∷ [])) }
+{
+    if *old != *new {
+        facts.push((fact, *new))?;
     }
     Ok(())
 }

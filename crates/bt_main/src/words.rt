@@ -10,7 +10,7 @@ pub struct Command<'a> {
 }
 
 /// The command that the words are.
-pub fn command<'a>(words: &'a [Name]) -> Option<Command<'a>>
+pub fn read_command<'a>(words: &'a [Name]) -> Option<Command<'a>>
     ensures { MatchOption result (command_of words.now ≡ None) (λ c. command_of words.now ≡ Some (record { tree = c.tree.now; world = c.world.now })) }
 {
     match words {
