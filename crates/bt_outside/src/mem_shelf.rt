@@ -8,7 +8,8 @@ use crate::sure_shelf::SureShelf;
 use bt_script::Name;
 use std::marker::Model;
 
-/// A shelf in memory of which some calls are to fail.
+/// A shelf in memory of which some calls are to fail. Contracts see its files, these calls and its
+/// counts as a `ShelfState`.
 #[derive(Debug, Drop)]
 pub struct MemShelf {
     shelf: SureShelf,

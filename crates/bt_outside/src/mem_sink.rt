@@ -1,4 +1,4 @@
-ghost use Rattle.std.specs.Prelude.{◌≡◌, ◌≤◌, ◌++◌, [], take, OnOk, IsErrOf, IsSome, IsNone};
+ghost use Rattle.std.specs.Prelude.{◌≡◌, ◌≤◌, [], OnOk, IsErrOf, IsSome, IsNone};
 ghost use Rattle.bt_outside.specs.Appending.{Appended, AppendedFront};
 ghost use Rattle.bt_outside.specs.Counts.{Rose, next};
 ghost use Rattle.bt_outside.specs.MemSink.{takes_at, takes_now, after_write};
@@ -8,7 +8,8 @@ use crate::sure_sink::SureSink;
 use std::alloc::Global;
 use std::marker::Model;
 
-/// A sink in memory of which some calls are to fail.
+/// A sink in memory of which some calls are to fail. Contracts see its bytes, these calls and its
+/// counts as a `SinkState`.
 #[derive(Debug, Drop)]
 pub struct MemSink {
     sink: SureSink,

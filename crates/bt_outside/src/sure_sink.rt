@@ -1,6 +1,5 @@
-ghost use Rattle.std.specs.Prelude.{◌≡◌, ◌≤◌, ◌++◌, [], OnOk, IsErrOf};
-ghost use Rattle.bt_outside.specs.Appending.{Appended, AppendedFront};
-ghost use Rattle.bt_outside.specs.Counts.{Rose};
+ghost use Rattle.std.specs.Prelude.{◌≡◌, ◌++◌, [], OnOk, IsErrOf};
+ghost use Rattle.bt_outside.specs.Appending.{AppendedFront};
 
 use crate::sink::{Sink, SinkFault};
 use std::alloc::Global;
