@@ -8,32 +8,37 @@ use Rattle.bt_elements.specs.declared.element.Unbuilt.{Unbuilt}
 use Rattle.bt_elements.specs.declared.element.Element.{Element, Element-F, fold-Element}
 use Rattle.bt_elements.specs.Marks.{is_white, is_letter, is_digit, Attribute, Mark, Start, Empty, End, mark_written, pairs_of, IsMark}
 
--- Where an element begins and where it ends. Each says whether it stands inside an element that is named
--- TreeNodesModel; of an ending, whether the content before it does.
+-- Where an element begins and where it ends. Each says whether what stands right before it is content of an element
+-- named TreeNodesModel, or lies deeper in one.
 pub data Tag : Type 0 where
   Begin : (inside : Bool) (place : ℕ) (name : List ℕ) (attributes : List (List ℕ × List ℕ)) → Tag
   Ending : (inside : Bool) (name : List ℕ) → Tag
 
+-- the name of the element that holds the models
 abbrev pub is_models : List ℕ → Bool
 is_models name = bytes_eq name (codes "TreeNodesModel")
 
+-- lists of tags, one after the other
 abbrev pub joined : List (List Tag) → List Tag
 joined [] = []
 joined (ts ∷ tss) = ts ++ joined tss
 
+-- an element's tags, where its children's are known: its beginning, its children's, its ending
 abbrev pub tags_step : Element-F (Bool → List Tag) → Bool → List Tag
 tags_step f inside =
     let below = inside || is_models f.name in
     Begin inside f.place f.name f.attributes ∷ (joined (map (λ child. child below) f.children) ++ Ending below f.name ∷ [])
 
--- the tags of an element that stands inside of models or not
+-- the tags of an element, by whether it stands inside of models
 abbrev pub tags_of : Element → Bool → List Tag
 tags_of = fold-Element (Bool → List Tag) tags_step
 
+-- the greatest of some numbers, or 0
 abbrev pub greatest : List ℕ → ℕ
 greatest [] = 0
 greatest (n ∷ ns) = max n (greatest ns)
 
+-- one more than the deepest child
 abbrev pub depth_step : Element-F ℕ → ℕ
 depth_step f = 1 + greatest f.children
 
@@ -46,6 +51,7 @@ pub record Piece : Type 0 where
   pub text : List ℕ
   pub mark : Mark
 
+-- the bytes of a piece
 abbrev pub piece_written : Piece → List ℕ
 piece_written p = p.text ++ mark_written p.mark
 
@@ -53,11 +59,12 @@ piece_written p = p.text ++ mark_written p.mark
 abbrev pub is_text_byte : ℕ → Bool
 is_text_byte c = not (c == 60)
 
+-- text without `<`, and a mark in one of the forms
 pub record IsPiece (p : Piece) : Type 0 where
   pub text : IsTrue (list_all is_text_byte p.text)
   pub mark : IsMark p.mark
 
--- the tags of a mark at a place, whose front stands inside of models or not
+-- The tags of a mark at a place, by whether the mark stands inside of models. An empty mark is a start and an end.
 abbrev pub tags_of_mark : Bool → ℕ → Mark → List Tag
 tags_of_mark inside place (Start o) = Begin inside place o.name (pairs_of o.attributes) ∷ []
 tags_of_mark inside place (Empty o) =
@@ -97,6 +104,7 @@ is_plain_byte c = nat_le 32 c && nat_le c 126 || is_white c
 abbrev pub is_plain_value : List ℕ → Bool
 is_plain_value value = list_all (λ c. is_plain_byte c && not (c == 38)) value
 
+-- an attribute with such a name and such a value
 abbrev pub is_plain_attribute : Attribute → Bool
 is_plain_attribute a = is_identifier a.name && is_plain_value a.value
 

@@ -1,2 +1,3 @@
 pub mod Elements
 pub mod Marks
+pub mod Reading

@@ -7,9 +7,11 @@ use Rattle.std.specs.Str.{bytes_eq}
 abbrev pub is_white : ℕ → Bool
 is_white c = c == 32 || c == 9 || c == 13 || c == 10
 
+-- an ASCII letter
 abbrev pub is_letter : ℕ → Bool
 is_letter c = nat_le 65 c && nat_le c 90 || nat_le 97 c && nat_le c 122
 
+-- an ASCII digit
 abbrev pub is_digit : ℕ → Bool
 is_digit c = nat_le 48 c && nat_le c 57
 
@@ -72,6 +74,7 @@ abbrev pub no_name_twice : List (List ℕ × List ℕ) → Bool
 no_name_twice [] = true
 no_name_twice (a ∷ more) = not (list_any (λ b. bytes_eq b.0 a.0) more) && no_name_twice more
 
+-- An attribute's form. White space stands before its name, and may stand around its `=`.
 pub record IsAttribute (a : Attribute) : Type 0 where
   pub gap : IsTrue (list_all is_white a.gap)
   pub apart : IsTrue (not (length a.gap == 0))
@@ -80,12 +83,14 @@ pub record IsAttribute (a : Attribute) : Type 0 where
   pub after : IsTrue (list_all is_white a.after)
   pub value : IsTrue (list_all is_value_byte a.value)
 
+-- The form of a start mark or an empty mark. No attribute's name occurs twice.
 pub record IsOpening (o : Opening) : Type 0 where
   pub name : IsTrue (is_name o.name)
   pub attributes : AllByRecursion IsAttribute o.attributes
   pub single : IsTrue (no_name_twice (pairs_of o.attributes))
   pub gap : IsTrue (list_all is_white o.gap)
 
+-- the form of a mark
 abbrev pub IsMark : Mark → Type 0
 IsMark (Start o) = IsOpening o
 IsMark (Empty o) = IsOpening o

@@ -2,7 +2,12 @@
 #![tactic(auto)]
 
 mod element;
+mod laws;
+mod mark;
+mod nest;
 mod read;
+mod scan;
 
 pub use element::{Element, Elements, Unbuilt};
+pub use laws::one_element;
 pub use read::read_elements;

@@ -1,0 +1,334 @@
+-- What was read stood there as a mark that is written.
+use Rattle.std.proofs.Common.{◌≡◌, ℕ, zero, suc, ◌<◌, ◌≤◌, Bool, true, false, not, ◌==◌, ◌||◌, List, [], ◌∷◌, ◌++◌, length, take, drop, Option, Some, None, refl, ap, sym, ◌∙◌, subst, append_assoc, arith, if◌then◌else◌}
+use Rattle.std.proofs.lemmas.List.{take-append-drop, length-append, length-drop}
+use Rattle.std.proofs.lemmas.Bool.Decides.{nat_tests}
+use Rattle.std.specs.List.{prefix_len, list_all, flat_map, AllByRecursion}
+use Rattle.std.specs.Option.{option_map}
+use Rattle.bt_elements.specs.declared.mark.Front.{Front}
+use Rattle.bt_elements.specs.declared.mark.Mark.{Mark}
+use Rattle.bt_elements.specs.declared.mark.Mark.TheVariants as read
+use Rattle.bt_elements.specs.Marks as written
+use Rattle.bt_elements.specs.Marks.{is_white, is_letter, is_digit, is_name, is_name_first, is_name_rest, is_value_byte, Attribute, attribute_written, Opening, opening_written, Start, Empty, End, mark_written, pairs_of, no_name_twice, IsAttribute, IsOpening}
+use Rattle.bt_elements.specs.Reading.{Form, plain, ◌>>=◌, after_white, begins, behind, name_of, value_of, attribute_of, attribute_begins, attributes_of, front_of, closing, end_of, mark_of}
+use Rattle.bt_elements.proofs.Ascii.{both}
+use Rattle.bt_elements.proofs.Fronts.{some_inj, bind_some, map_some, if_some, eq_from_test, taken, take_one_more}
+use Rattle.bt_elements.proofs.Marks.{InForm, OpeningInForm, MarkInForm, front_said, said, from_name, attribute_spread, opening_spread, and_true}
+
+-- a form whose names are names
+abbrev pub HasNames : Form → Type 0
+HasNames f = (name : List ℕ) → f.name name ≡ true → is_name name ≡ true
+
+name_found : (f : Form) (bytes : List ℕ) (r : List ℕ × List ℕ) → name_of f bytes ≡ Some r → (f.name r.0 ≡ true) × (bytes ≡ r.0 ++ r.1)
+name_found f bytes r h =
+    let n = prefix_len is_name_rest bytes in
+    let t = if_some (f.name (take n bytes)) (Some (take n bytes, drop n bytes)) r h in
+    let e : (take n bytes, drop n bytes) ≡ r = some_inj (take n bytes, drop n bytes) r t.1 in
+    (subst (λ (z : List ℕ × List ℕ). f.name z.0 ≡ true) e t.0, sym (take-append-drop n bytes) ∙ ap (λ (z : List ℕ × List ℕ). z.0 ++ z.1) e)
+
+behind_found : (c : ℕ) (bytes rest : List ℕ) → behind c bytes ≡ Some rest → bytes ≡ c ∷ rest
+behind_found c [] rest h = absurd (cc)
+behind_found c (b ∷ bs) rest h =
+    let t = if_some (b == c) (Some bs) rest h in
+    let e : b ≡ c = eq_from_test b c t.0 in
+    let e2 : bs ≡ rest = some_inj bs rest t.1 in
+    cc
+
+value_found : (f : Form) (bytes : List ℕ) (r : List ℕ × List ℕ) → value_of f bytes ≡ Some r → (f.value r.0 ≡ true) × (list_all is_value_byte r.0 ≡ true) × (bytes ≡ r.0 ++ (34 ∷ r.1))
+value_found f bytes r h =
+    let n = prefix_len is_value_byte bytes in
+    let t = if_some (f.value (take n bytes)) (option_map (λ rest. (take n bytes, rest)) (behind 34 (drop n bytes))) r h in
+    let m = map_some (λ (rest : List ℕ). (take n bytes, rest)) (behind 34 (drop n bytes)) r t.1 in
+    let e : (take n bytes, m.0) ≡ r = m.2 in (
+      subst (λ (z : List ℕ × List ℕ). f.value z.0 ≡ true) e t.0,
+      subst (λ (z : List ℕ × List ℕ). list_all is_value_byte z.0 ≡ true) e (taken is_value_byte bytes),
+      sym (take-append-drop n bytes) ∙ ap (λ (z : List ℕ). take n bytes ++ z) (behind_found 34 (drop n bytes) m.0 m.1) ∙ ap (λ (z : List ℕ × List ℕ). z.0 ++ (34 ∷ z.1)) e,
+    )
+
+-- attribute_of in steps
+abbrev with_value : List ℕ × List ℕ → List ℕ × List ℕ → Option ((List ℕ × List ℕ) × List ℕ)
+with_value name value = Some ((name.0, value.0), value.1)
+
+abbrev with_quote : Form → List ℕ × List ℕ → List ℕ → Option ((List ℕ × List ℕ) × List ℕ)
+with_quote f name quote = value_of f quote >>= with_value name
+
+abbrev with_equal : Form → List ℕ × List ℕ → List ℕ → Option ((List ℕ × List ℕ) × List ℕ)
+with_equal f name equal = behind 34 (after_white equal) >>= with_quote f name
+
+abbrev with_name : Form → List ℕ × List ℕ → Option ((List ℕ × List ℕ) × List ℕ)
+with_name f name = behind 61 (after_white name.1) >>= with_equal f name
+
+assemble : (gap bytes name n1 before w1 equal after w2 quote value rest : List ℕ) →
+    bytes ≡ name ++ n1 → n1 ≡ before ++ w1 → w1 ≡ 61 ∷ equal → equal ≡ after ++ w2 → w2 ≡ 34 ∷ quote → quote ≡ value ++ (34 ∷ rest) →
+    gap ++ bytes ≡ gap ++ (name ++ (before ++ (61 ∷ (after ++ (34 ∷ (value ++ (34 ∷ rest)))))))
+assemble gap bytes name n1 before w1 equal after w2 quote value rest e1 e2 e3 e4 e5 e6 = cc
+
+pub attribute_found : (f : Form) → HasNames f → (gap bytes : List ℕ) (r : (List ℕ × List ℕ) × List ℕ) → list_all is_white gap ≡ true → not (length gap == 0) ≡ true → attribute_of f bytes ≡ Some r →
+    (a : Attribute) × InForm f a × ((a.name, a.value) ≡ r.0) × (gap ++ bytes ≡ attribute_written a ++ r.1)
+attribute_found f ok gap bytes r w apart h =
+    let name = bind_some (name_of f bytes) (with_name f) r h in
+    let equal = bind_some (behind 61 (after_white name.0.1)) (with_equal f name.0) r name.2 in
+    let quote = bind_some (behind 34 (after_white equal.0)) (with_quote f name.0) r equal.2 in
+    let value = bind_some (value_of f quote.0) (with_value name.0) r quote.2 in
+    let is_r : ((name.0.0, value.0.0), value.0.1) ≡ r = some_inj ((name.0.0, value.0.0), value.0.1) r value.2 in
+    let n = name_found f bytes name.0 name.1 in
+    let v = value_found f quote.0 value.0 value.1 in
+    let before = take (prefix_len is_white name.0.1) name.0.1 in
+    let after = take (prefix_len is_white equal.0) equal.0 in
+    let a : Attribute = record { gap = gap; name = name.0.0; before = before; after = after; value = value.0.0 } in
+    let is : IsAttribute a = record { gap = w; apart = apart; name = ok name.0.0 n.0; before = taken is_white name.0.1; after = taken is_white equal.0; value = v.1 } in (
+      a,
+      record { is = is; name_ok = n.0; value_ok = v.0 },
+      ap (λ (z : (List ℕ × List ℕ) × List ℕ). z.0) is_r,
+      assemble gap bytes name.0.0 name.0.1 before (after_white name.0.1) equal.0 after (after_white equal.0) quote.0 value.0.0 value.0.1
+          n.1 (sym (take-append-drop (prefix_len is_white name.0.1) name.0.1)) (behind_found 61 (after_white name.0.1) equal.0 equal.1)
+          (sym (take-append-drop (prefix_len is_white equal.0) equal.0)) (behind_found 34 (after_white equal.0) quote.0 quote.1) v.2
+          ∙ ap (λ (z : (List ℕ × List ℕ) × List ℕ). gap ++ from_name a z.1) is_r ∙ sym (attribute_spread a r.1),
+    )
+
+-- an attribute takes bytes
+pub attribute_shrinks : (f : Form) → HasNames f → (bytes : List ℕ) (r : (List ℕ × List ℕ) × List ℕ) → attribute_of f bytes ≡ Some r → length r.1 < length bytes
+attribute_shrinks f ok bytes r h =
+    let found = attribute_found f ok (32 ∷ []) bytes r refl refl h in
+    let a = found.0 in
+    let e : 32 ∷ bytes ≡ a.gap ++ from_name a r.1 = found.3 ∙ attribute_spread a r.1 in
+    let more = 34 ∷ r.1 in
+    let value = 34 ∷ (a.value ++ more) in
+    let after = 61 ∷ (a.after ++ value) in
+    omega (arith, ap length e, length-append a.gap (from_name a r.1), length-append a.name (a.before ++ after), length-append a.before after, length-append a.after value, length-append a.value more)
+
+pub white_len : (bytes : List ℕ) → length (after_white bytes) ≤ length bytes
+white_len bytes = omega (arith, length-drop (prefix_len is_white bytes) bytes)
+
+-- the steps of attributes_of
+abbrev pub and_more : Form → ℕ → (List ℕ × List ℕ) × List ℕ → Option (List (List ℕ × List ℕ) × List ℕ)
+and_more f k a = option_map (λ more. (a.0 ∷ more.0, more.1)) (attributes_of f k a.1)
+
+fuel_bind : (f : Form) → HasNames f → (k j : ℕ) (bytes : List ℕ) → ((rest : List ℕ) → length rest ≤ k → length rest ≤ j → attributes_of f k rest ≡ attributes_of f j rest) → length bytes ≤ suc k → length bytes ≤ suc j →
+    (o : Option ((List ℕ × List ℕ) × List ℕ)) → attribute_of f (after_white bytes) ≡ o → (o >>= and_more f k) ≡ (o >>= and_more f j)
+fuel_bind f ok k j bytes ih hk hj None e = refl
+fuel_bind f ok k j bytes ih hk hj (Some a) e =
+    let shorter : length a.1 < length (after_white bytes) = attribute_shrinks f ok (after_white bytes) a e in
+    ap (option_map (λ (more : List (List ℕ × List ℕ) × List ℕ). (a.0 ∷ more.0, more.1))) (ih a.1 (omega (arith, shorter, white_len bytes)) (omega (arith, shorter, white_len bytes)))
+
+-- attributes_of needs no more steps than there are bytes
+pub attributes_fuel : (f : Form) → HasNames f → (k j : ℕ) (bytes : List ℕ) → length bytes ≤ k → length bytes ≤ j → attributes_of f k bytes ≡ attributes_of f j bytes
+attributes_fuel f ok zero zero bytes hk hj = refl
+attributes_fuel f ok zero (suc j) [] hk hj = refl
+attributes_fuel f ok zero (suc j) (b ∷ bs) hk hj = absurd (omega arith)
+attributes_fuel f ok (suc k) zero [] hk hj = refl
+attributes_fuel f ok (suc k) zero (b ∷ bs) hk hj = absurd (omega arith)
+attributes_fuel f ok (suc k) (suc j) bytes hk hj =
+    ap (λ (z : Option (List (List ℕ × List ℕ) × List ℕ)). if attribute_begins bytes then z else Some ([], bytes))
+    (fuel_bind f ok k j bytes (attributes_fuel f ok k j) hk hj (attribute_of f (after_white bytes)) refl)
+
+not_zero : (n : ℕ) → not (suc n == 0) ≡ true
+not_zero n = grind (arith, nat_tests)
+
+begins_taken : (p : ℕ → Bool) (bytes : List ℕ) → begins p bytes ≡ true → not (length (take (prefix_len p bytes) bytes) == 0) ≡ true
+begins_taken p [] h = absurd (cc)
+begins_taken p (b ∷ bs) h = rw (h, take_one_more) (not_zero (length (take (prefix_len p bs) bs)))
+
+-- what attributes_of gives says which attributes stand there
+abbrev AttributesFound : Form → List ℕ → List (List ℕ × List ℕ) × List ℕ → Type 0
+AttributesFound f bytes r = (list : List Attribute) × AllByRecursion (InForm f) list × (pairs_of list ≡ r.0) × (bytes ≡ flat_map attribute_written list ++ r.1)
+
+attributes_found_if : (f : Form) → HasNames f → (k : ℕ) (bytes : List ℕ) (r : List (List ℕ × List ℕ) × List ℕ) →
+    ((rest : List ℕ) (x : List (List ℕ × List ℕ) × List ℕ) → attributes_of f k rest ≡ Some x → AttributesFound f rest x) →
+    (b : Bool) → attribute_begins bytes ≡ b → (if b then (attribute_of f (after_white bytes) >>= and_more f k) else Some ([], bytes)) ≡ Some r → AttributesFound f bytes r
+attributes_found_if f ok k bytes r ih false e h =
+    let is_r : ([], bytes) ≡ r = some_inj ([], bytes) r h in
+    ([], tt, ap (λ (z : List (List ℕ × List ℕ) × List ℕ). z.0) is_r, ap (λ (z : List (List ℕ × List ℕ) × List ℕ). z.1) is_r)
+attributes_found_if f ok k bytes r ih true e h =
+    let a = bind_some (attribute_of f (after_white bytes)) (and_more f k) r h in
+    let more = map_some (λ (m : List (List ℕ × List ℕ) × List ℕ). (a.0.0 ∷ m.0, m.1)) (attributes_of f k a.0.1) r a.2 in
+    let rest = ih a.0.1 more.0 more.1 in
+    let n = prefix_len is_white bytes in
+    let w = both (begins is_white bytes) (begins is_name_first (after_white bytes)) e in
+    let one = attribute_found f ok (take n bytes) (after_white bytes) a.0 (taken is_white bytes) (begins_taken is_white bytes w.0) a.1 in
+    let is_r : (a.0.0 ∷ more.0.0, more.0.1) ≡ r = more.2 in (
+      one.0 ∷ rest.0,
+      (one.1, rest.1),
+      ap (λ (z : List ℕ × List ℕ). z ∷ pairs_of rest.0) one.2 ∙ ap (λ (z : List (List ℕ × List ℕ)). a.0.0 ∷ z) rest.2 ∙ ap (λ (z : List (List ℕ × List ℕ) × List ℕ). z.0) is_r,
+      sym (take-append-drop n bytes) ∙ one.3 ∙ ap (λ (z : List ℕ). attribute_written one.0 ++ z) rest.3
+          ∙ sym (append_assoc (attribute_written one.0) (flat_map attribute_written rest.0) more.0.1)
+          ∙ ap (λ (z : List (List ℕ × List ℕ) × List ℕ). (attribute_written one.0 ++ flat_map attribute_written rest.0) ++ z.1) is_r,
+    )
+
+attributes_found : (f : Form) → HasNames f → (k : ℕ) (bytes : List ℕ) (r : List (List ℕ × List ℕ) × List ℕ) → attributes_of f k bytes ≡ Some r → AttributesFound f bytes r
+attributes_found f ok zero bytes r h =
+    let is_r : ([], bytes) ≡ r = some_inj ([], bytes) r h in
+    ([], tt, ap (λ (z : List (List ℕ × List ℕ) × List ℕ). z.0) is_r, ap (λ (z : List (List ℕ × List ℕ) × List ℕ). z.1) is_r)
+attributes_found f ok (suc k) bytes r h = attributes_found_if f ok k bytes r (attributes_found f ok k) (attribute_begins bytes) refl h
+
+-- front_of in steps
+abbrev with_attributes : List ℕ × List ℕ → List (List ℕ × List ℕ) × List ℕ → Option (Front × List ℕ)
+with_attributes name more = if no_name_twice more.0 then Some (record { name = name.0; attributes = more.0 }, after_white more.1) else None
+
+abbrev then_attributes : Form → List ℕ × List ℕ → Option (Front × List ℕ)
+then_attributes f name = attributes_of f (length name.1) name.1 >>= with_attributes name
+
+all_is : (f : Form) (list : List Attribute) → AllByRecursion (InForm f) list → AllByRecursion IsAttribute list
+all_is f [] h = tt
+all_is f (a ∷ list) h = (h.0.is, all_is f list h.1)
+
+front_found : (f : Form) → HasNames f → (bytes : List ℕ) (r : Front × List ℕ) → front_of f bytes ≡ Some r →
+    (o : Opening) × OpeningInForm f o × (front_said o ≡ r.0) × (bytes ≡ opening_written o ++ r.1)
+front_found f ok bytes r h =
+    let name = bind_some (name_of f bytes) (then_attributes f) r h in
+    let more = bind_some (attributes_of f (length name.0.1) name.0.1) (with_attributes name.0) r name.2 in
+    let front : Front = record { name = name.0.0; attributes = more.0.0 } in
+    let single = if_some (no_name_twice more.0.0) (Some (front, after_white more.0.1)) r more.2 in
+    let is_r : (front, after_white more.0.1) ≡ r = some_inj (front, after_white more.0.1) r single.1 in
+    let n = name_found f bytes name.0 name.1 in
+    let all = attributes_found f ok (length name.0.1) name.0.1 more.0 more.1 in
+    let gap = take (prefix_len is_white more.0.1) more.0.1 in
+    let o : Opening = record { name = name.0.0; attributes = all.0; gap = gap } in
+    let is : IsOpening o = record {
+      name = ok name.0.0 n.0;
+      attributes = all_is f all.0 all.1;
+      single = subst (λ (z : List (List ℕ × List ℕ)). no_name_twice z ≡ true) (sym all.2) single.0;
+      gap = taken is_white more.0.1;
+    } in (
+      o,
+      record { is = is; name_ok = n.0; attributes_ok = all.1 },
+      ap (λ (z : List (List ℕ × List ℕ)). let x : Front = record { name = name.0.0; attributes = z } in x) all.2 ∙ ap (λ (z : Front × List ℕ). z.0) is_r,
+      n.1 ∙ ap (λ (z : List ℕ). name.0.0 ++ z) (all.3 ∙ ap (λ (z : List ℕ). flat_map attribute_written all.0 ++ z) (sym (take-append-drop (prefix_len is_white more.0.1) more.0.1)))
+          ∙ sym (opening_spread o (after_white more.0.1)) ∙ ap (λ (z : Front × List ℕ). opening_written o ++ z.1) is_r,
+    )
+
+slash_found : (o : Front) (cs : List ℕ) (r : Mark × List ℕ) (c : ℕ) → (if c == 47 then option_map (λ rest. (read.Empty o, rest)) (behind 62 cs) else None) ≡ Some r → (c ∷ cs ≡ 47 ∷ 62 ∷ r.1) × (read.Empty o ≡ r.0)
+slash_found o cs r c h =
+    let t = if_some (c == 47) (option_map (λ rest. (read.Empty o, rest)) (behind 62 cs)) r h in
+    let m = map_some (λ (rest : List ℕ). (read.Empty o, rest)) (behind 62 cs) r t.1 in
+    let is_r : (read.Empty o, m.0) ≡ r = m.2 in
+    let e : c ≡ 47 = eq_from_test c 47 t.0 in
+    let e2 : cs ≡ 62 ∷ m.0 = behind_found 62 cs m.0 m.1 in
+    let e3 : m.0 ≡ r.1 = ap (λ (z : Mark × List ℕ). z.1) is_r in
+    (cc, ap (λ (z : Mark × List ℕ). z.0) is_r)
+
+closing_if : {P : Type 0} (o : Front) (c : ℕ) (cs : List ℕ) (r : Mark × List ℕ) (b : Bool) → (c == 62) ≡ b →
+    (if b then Some (read.Start o, cs) else if c == 47 then option_map (λ rest. (read.Empty o, rest)) (behind 62 cs) else None) ≡ Some r →
+    (c ∷ cs ≡ 62 ∷ r.1 → read.Start o ≡ r.0 → P) → (c ∷ cs ≡ 47 ∷ 62 ∷ r.1 → read.Empty o ≡ r.0 → P) → P
+closing_if o c cs r true e h p q =
+    let is_r : (read.Start o, cs) ≡ r = some_inj (read.Start o, cs) r h in
+    let e1 : c ≡ 62 = eq_from_test c 62 e in
+    let e2 : cs ≡ r.1 = ap (λ (z : Mark × List ℕ). z.1) is_r in
+    p (cc) (ap (λ (z : Mark × List ℕ). z.0) is_r)
+closing_if o c cs r false e h p q =
+    let s = slash_found o cs r c h in
+    q s.0 s.1
+
+closing_found : {P : Type 0} (o : Front) (bytes : List ℕ) (r : Mark × List ℕ) → closing o bytes ≡ Some r → (bytes ≡ 62 ∷ r.1 → read.Start o ≡ r.0 → P) → (bytes ≡ 47 ∷ 62 ∷ r.1 → read.Empty o ≡ r.0 → P) → P
+closing_found o [] r h p q = absurd (cc)
+closing_found o (c ∷ cs) r h p q = closing_if o c cs r (c == 62) refl h p q
+
+abbrev then_name : List ℕ × List ℕ → Option (Mark × List ℕ)
+then_name name = option_map (λ rest. (read.End name.0, rest)) (behind 62 (after_white name.1))
+
+-- what mark_of gives says which mark stands there
+abbrev pub MarkFound : Form → List ℕ → Mark × List ℕ → Type 0
+MarkFound f bytes r = (m : written.Mark) × MarkInForm f m × (said m ≡ r.0) × (60 ∷ bytes ≡ mark_written m ++ r.1)
+
+end_spread : (name gap more : List ℕ) → 60 ∷ 47 ∷ (name ++ (gap ++ (62 ∷ more))) ≡ mark_written (End name gap) ++ more
+end_spread name gap more = sym (ap (λ (z : List ℕ). 60 ∷ 47 ∷ z) (append_assoc name (gap ++ 62 ∷ []) more ∙ ap (λ (z : List ℕ). name ++ z) (append_assoc gap (62 ∷ []) more)))
+
+end_found : (f : Form) → HasNames f → (bytes : List ℕ) (r : Mark × List ℕ) → end_of f bytes ≡ Some r → MarkFound f (47 ∷ bytes) r
+end_found f ok bytes r h =
+    let name = bind_some (name_of f bytes) then_name r h in
+    let m = map_some (λ (rest : List ℕ). (read.End name.0.0, rest)) (behind 62 (after_white name.0.1)) r name.2 in
+    let is_r : (read.End name.0.0, m.0) ≡ r = m.2 in
+    let n = name_found f bytes name.0 name.1 in
+    let gap = take (prefix_len is_white name.0.1) name.0.1 in (
+      End name.0.0 gap,
+      (ok name.0.0 n.0, n.0, taken is_white name.0.1),
+      ap (λ (z : Mark × List ℕ). z.0) is_r,
+      ap (λ (z : List ℕ). 60 ∷ 47 ∷ z) (n.1 ∙ ap (λ (z : List ℕ). name.0.0 ++ z) (sym (take-append-drop (prefix_len is_white name.0.1) name.0.1) ∙ ap (λ (z : List ℕ). gap ++ z) (behind_found 62 (after_white name.0.1) m.0 m.1)))
+          ∙ end_spread name.0.0 gap m.0 ∙ ap (λ (z : Mark × List ℕ). mark_written (End name.0.0 gap) ++ z.1) is_r,
+    )
+
+opening_found : (f : Form) → HasNames f → (bytes : List ℕ) (r : Mark × List ℕ) → (front_of f bytes >>= λ o. closing o.0 o.1) ≡ Some r → MarkFound f bytes r
+opening_found f ok bytes r h =
+    let front = bind_some (front_of f bytes) (λ (o : Front × List ℕ). closing o.0 o.1) r h in
+    let found = front_found f ok bytes front.0 front.1 in
+    let o = found.0 in
+    closing_found front.0.0 front.0.1 r front.2
+    (λ e is_start. (
+      Start o,
+      found.1,
+      ap read.Start found.2 ∙ is_start,
+      ap (λ (z : List ℕ). 60 ∷ z) (found.3 ∙ ap (λ (z : List ℕ). opening_written o ++ z) e ∙ sym (append_assoc (opening_written o) (62 ∷ []) r.1)),
+    ))
+    (λ e is_empty. (
+      Empty o,
+      found.1,
+      ap read.Empty found.2 ∙ is_empty,
+      ap (λ (z : List ℕ). 60 ∷ z) (found.3 ∙ ap (λ (z : List ℕ). opening_written o ++ z) e ∙ sym (append_assoc (opening_written o) (47 ∷ 62 ∷ []) r.1)),
+    ))
+
+mark_found_if : (f : Form) → HasNames f → (c : ℕ) (cs : List ℕ) (r : Mark × List ℕ) (b : Bool) → (c == 47) ≡ b → (if b then end_of f cs else (front_of f (c ∷ cs) >>= λ o. closing o.0 o.1)) ≡ Some r → MarkFound f (c ∷ cs) r
+mark_found_if f ok c cs r false e h = opening_found f ok (c ∷ cs) r h
+mark_found_if f ok c cs r true e h = subst (λ (z : ℕ). MarkFound f (z ∷ cs) r) (sym (eq_from_test c 47 e)) (end_found f ok cs r h)
+
+pub mark_found : (f : Form) → HasNames f → (bytes : List ℕ) (r : Mark × List ℕ) → mark_of f bytes ≡ Some r → MarkFound f bytes r
+mark_found f ok [] r h = absurd (cc)
+mark_found f ok (c ∷ cs) r h = mark_found_if f ok c cs r (c == 47) refl h
+
+pub mark_length : (m : written.Mark) → 2 ≤ length (mark_written m)
+mark_length (Start o) = omega (arith, length-append (opening_written o) (62 ∷ []))
+mark_length (Empty o) = omega (arith, length-append (opening_written o) (47 ∷ 62 ∷ []))
+mark_length (End name gap) = omega arith
+
+-- a mark takes its bytes
+pub mark_shrinks : (f : Form) → HasNames f → (bytes : List ℕ) (r : Mark × List ℕ) → mark_of f bytes ≡ Some r → length r.1 < length bytes
+mark_shrinks f ok bytes r h =
+    let found = mark_found f ok bytes r h in
+    omega (arith, ap length found.3, length-append (mark_written found.0) r.1, mark_length found.0)
+
+abbrev pub prepended : List (List ℕ × List ℕ) → List (List ℕ × List ℕ) × List ℕ → List (List ℕ × List ℕ) × List ℕ
+prepended items x = (items ++ x.0, x.1)
+
+abbrev pub one_more : List ℕ × List ℕ → List (List ℕ × List ℕ) × List ℕ → List (List ℕ × List ℕ) × List ℕ
+one_more a x = (a ∷ x.0, x.1)
+
+taken_step : (f : Form) (k : ℕ) (bytes : List ℕ) (a : (List ℕ × List ℕ) × List ℕ) → attribute_begins bytes ≡ true → attribute_of f (after_white bytes) ≡ Some a → attributes_of f (suc k) bytes ≡ and_more f k a
+taken_step f k bytes a b h =
+    ap (λ (z : Bool). if z then (attribute_of f (after_white bytes) >>= and_more f k) else Some ([], bytes)) b
+    ∙ ap (λ (z : Option ((List ℕ × List ℕ) × List ℕ)). z >>= and_more f k) h
+
+regroup : (items : List (List ℕ × List ℕ)) (a : List ℕ × List ℕ) (o : Option (List (List ℕ × List ℕ) × List ℕ)) →
+    option_map (prepended (items ++ a ∷ [])) o
+    ≡ option_map (prepended items) (option_map (one_more a) o)
+regroup items a None = refl
+regroup items a (Some x) = ap (λ (z : List (List ℕ × List ℕ)). Some (z, x.1)) (append_assoc items (a ∷ []) x.0)
+
+-- the attributes read so far, and those to come
+pub attributes_next : (f : Form) → HasNames f → (items : List (List ℕ × List ℕ)) (rest : List ℕ) (a : List ℕ × List ℕ) (next : List ℕ) → attribute_begins rest ≡ true → attribute_of f (after_white rest) ≡ Some (a, next) →
+    option_map (prepended (items ++ a ∷ [])) (attributes_of f (length next) next) ≡ option_map (prepended items) (attributes_of f (length rest) rest)
+attributes_next f ok items [] a next b h = absurd (cc)
+attributes_next f ok items (c ∷ cs) a next b h =
+    let shorter : length next < length (after_white (c ∷ cs)) = attribute_shrinks f ok (after_white (c ∷ cs)) (a, next) h in
+    let fuel : attributes_of f (length next) next ≡ attributes_of f (length cs) next =
+    attributes_fuel f ok (length next) (length cs) next (omega arith) (omega (arith, shorter, white_len (c ∷ cs))) in
+    let step : attributes_of f (suc (length cs)) (c ∷ cs) ≡ and_more f (length cs) (a, next) = taken_step f (length cs) (c ∷ cs) (a, next) b h in
+    ap (option_map (prepended (items ++ a ∷ []))) fuel
+    ∙ regroup items a (attributes_of f (length cs) next)
+    ∙ sym (ap (option_map (prepended items)) step)
+
+identifier_is_name : (c : ℕ) → (is_letter c || c == 95 || is_digit c) ≡ true → is_name_rest c ≡ true
+identifier_is_name c h = grind (arith, nat_tests)
+
+identifiers_are_names : (bs : List ℕ) → list_all (λ b. is_letter b || b == 95 || is_digit b) bs ≡ true → list_all is_name_rest bs ≡ true
+identifiers_are_names [] h = refl
+identifiers_are_names (c ∷ cs) h =
+    let t = both (is_letter c || c == 95 || is_digit c) (list_all (λ b. is_letter b || b == 95 || is_digit b) cs) h in
+    and_true (is_name_rest c) (list_all is_name_rest cs) (identifier_is_name c t.0) (identifiers_are_names cs t.1)
+
+identifier_first : (c : ℕ) → (is_letter c || c == 95) ≡ true → is_name_first c ≡ true
+identifier_first c h = grind (arith, nat_tests)
+
+-- an identifier is a name
+pub plain_names : HasNames plain
+plain_names [] h = absurd (cc)
+plain_names (c ∷ cs) h =
+    let t = both (is_letter c || c == 95) (list_all (λ b. is_letter b || b == 95 || is_digit b) (c ∷ cs)) h in
+    and_true (is_name_first c) (list_all is_name_rest (c ∷ cs)) (identifier_first c t.0) (identifiers_are_names (c ∷ cs) t.1)

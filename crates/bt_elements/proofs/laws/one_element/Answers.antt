@@ -1,0 +1,5 @@
+use Rattle.bt_elements.proofs.Files.{one}
+use Rattle.bt_elements.proofs.laws.one_element.Goals as goal
+
+pub returns : goal.returns
+returns c = one

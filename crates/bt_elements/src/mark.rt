@@ -1,0 +1,19 @@
+use bt_script::{Items, Name};
+
+/// What a start mark or an empty mark says.
+#[derive(Drop)]
+pub struct Front {
+    pub name: Name,
+    pub attributes: Items<(Name, Name)>,
+}
+
+/// A mark of a tree file.
+#[derive(Drop)]
+pub enum Mark {
+    /// `<a>`
+    Start(Front),
+    /// `<a/>`
+    Empty(Front),
+    /// `</a>`
+    End(Name),
+}

@@ -1,0 +1,193 @@
+ghost use Rattle.std.specs.Prelude.{◌≡◌, IfOk};
+ghost use Rattle.bt_elements.specs.Reading.{Gives, State, seen, start, step, opened, attach, inside_of, may_stand, may_begin, element_of, with_child};
+ghost use Rattle.bt_elements.specs.Elements.{is_models};
+
+use crate::element::{Element, Unbuilt};
+use crate::mark::{Front, Mark};
+use crate::scan::all_white;
+use bt_script::{Items, Name, NoMemory, Stop};
+use std::alloc::Global;
+
+/// How many elements may stand in one another, the document element counted.
+const MOST_DEPTH: usize = 258;
+
+/// An element that has not ended yet.
+#[derive(Drop)]
+pub struct Open {
+    pub name: Name,
+    pub attributes: Items<(Name, Name)>,
+    pub children: Items<Element>,
+    pub place: u32,
+    /// Whether its content stands inside an element named `TreeNodesModel`.
+    pub inside: bool,
+}
+
+/// The elements that have not ended, and the document element once it has.
+#[derive(Drop)]
+pub struct Nest {
+    pub stack: Vec<Open>,
+    pub done: Option<Element>,
+}
+
+impl Open {
+    fn ended(self) -> Element
+        ensures { result ≡ element_of self }
+    {
+        let Open {
+            name,
+            attributes,
+            children,
+            place,
+            inside: _,
+        } = self;
+        Element {
+            name,
+            attributes,
+            children,
+            place,
+        }
+    }
+
+    fn with(self, child: Element) -> Result<Open, NoMemory>
+        ensures { IfOk result (λ o. o ≡ with_child self child) }
+    {
+        let Open {
+            name,
+            attributes,
+            children,
+            place,
+            inside,
+        } = self;
+        let mut children = children.into_vec();
+        children.push(child)?;
+        let children = Items::of(children);
+        Ok(Open {
+            name,
+            attributes,
+            children,
+            place,
+            inside,
+        })
+    }
+}
+
+impl Nest {
+    pub fn new(alloc: Global) -> Nest
+        ensures { seen result ≡ start }
+    {
+        Nest {
+            stack: Vec::new(alloc),
+            done: None,
+        }
+    }
+
+    /// Whether the text may stand here: it is white space, or stands inside of models.
+    pub fn allows(&self, text: &[u8]) -> bool
+        ensures { result ≡ may_stand (seen self.now) text.now }
+    {
+        self.done.is_none() && self.inside() || all_white(text)
+    }
+
+    /// The document element, if it has ended.
+    pub fn finish(self) -> Result<Element, Stop<Unbuilt>>
+        ensures { Gives (λ e. e) result (seen self).done }
+    {
+        let Nest { stack: _, done } = self;
+        done.ok_or(Stop::Fault(Unbuilt))
+    }
+
+    fn inside(&self) -> bool
+        ensures { result ≡ inside_of (seen self.now).stack }
+    {
+        match self.stack.last() {
+            Some(open) => open.inside,
+            None => false,
+        }
+    }
+
+    fn may_begin(&self) -> bool
+        ensures { result ≡ may_begin (seen self.now) }
+    {
+        self.done.is_none() && self.stack.len() < MOST_DEPTH
+    }
+
+    /// Takes the mark that stands at this place.
+    pub fn take(&mut self, alloc: Global, mark: Mark, place: u32) -> Result<(), Stop<Unbuilt>>
+        ensures { Gives (λ _. seen self.new) result (step (seen self.old) place mark) }
+    {
+        match mark {
+            Mark::Start(front) => self.begin(alloc, front, place),
+            Mark::Empty(front) => self.add(alloc, front, place),
+            Mark::End(name) => self.end(&name),
+        }
+    }
+
+    fn begin(&mut self, alloc: Global, front: Front, place: u32) -> Result<(), Stop<Unbuilt>>
+        ensures { Gives (λ _. seen self.new) result (step (seen self.old) place (Mark.Start front)) }
+    {
+        if !self.may_begin() {
+            return Err(Stop::Fault(Unbuilt));
+        }
+        let open = self.opened(alloc, front, place);
+        self.stack.push(open)?;
+        Ok(())
+    }
+
+    fn add(&mut self, alloc: Global, front: Front, place: u32) -> Result<(), Stop<Unbuilt>>
+        ensures { Gives (λ _. seen self.new) result (step (seen self.old) place (Mark.Empty front)) }
+    {
+        if !self.may_begin() {
+            return Err(Stop::Fault(Unbuilt));
+        }
+        let open = self.opened(alloc, front, place);
+        self.attach(open.ended())?;
+        Ok(())
+    }
+
+    fn end(&mut self, name: &Name) -> Result<(), Stop<Unbuilt>>
+        ensures { Gives (λ _. seen self.new) result (step (seen self.old) 0 (Mark.End name.now)) }
+    {
+        let Some(open) = self.stack.pop() else {
+            return Err(Stop::Fault(Unbuilt));
+        };
+        if open.name != *name {
+            return Err(Stop::Fault(Unbuilt));
+        }
+        self.attach(open.ended())?;
+        Ok(())
+    }
+
+    fn opened(&self, alloc: Global, front: Front, place: u32) -> Open
+        ensures { result ≡ opened (seen self.now).stack place front }
+    {
+        let inside = self.inside() || is_models(&front.name);
+        let Front { name, attributes } = front;
+        Open {
+            name,
+            attributes,
+            children: Items::of(Vec::new(alloc)),
+            place,
+            inside,
+        }
+    }
+
+    /// Puts an element that has ended into the innermost open one, or has it as the document element.
+    fn attach(&mut self, element: Element) -> Result<(), NoMemory>
+        ensures { IfOk result (λ _. seen self.new ≡ attach element (seen self.old).stack) }
+    {
+        match self.stack.pop() {
+            None => self.done = Some(element),
+            Some(parent) => {
+                self.stack.push(parent.with(element)?)?;
+                self.done = None;
+            }
+        }
+        Ok(())
+    }
+}
+
+fn is_models(name: &Name) -> bool
+    ensures { result ≡ is_models name.now }
+{
+    name.list() == b"TreeNodesModel".as_slice()
+}
