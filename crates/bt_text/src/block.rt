@@ -48,7 +48,8 @@ pub fn write_line<K: Sink>(out: &mut K, line: &[u8]) -> Result<(), TextStop>
 
 #[tactic(auto, using(bt_outside::proofs::Appends::appending))]
 fn write_notes<K: Sink>(alloc: Global, out: &mut K, notes: &[Note]) -> Result<(), TextStop>
-    ensures whole { OnOk result (Appended (K.written out.old) (K.written out.new) (concat (map note_line notes.now))) }
+    ensures whole { OnOk result
+        (Appended (K.written out.old) (K.written out.new) (concat (map note_line notes.now))) }
     ensures front { AppendedFront (K.written out.old) (K.written out.new) (concat (map note_line notes.now)) }
     ensures failed { IsErrOf result TextStop.WriteFault → Rose (K.faults out.old) (K.faults out.new) }
     ensures count { K.faults out.old ≤ K.faults out.new }

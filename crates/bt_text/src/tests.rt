@@ -1,35 +1,38 @@
-ghost use Rattle.std.specs.Prelude.{IfOk};
-ghost use Rattle.bt_model.specs.Lines.{NamesOnlyFacts};
+ghost use Rattle.std.specs.Prelude.{IfOk, IsTrue};
+ghost use Rattle.std.specs.List.{list_all};
+ghost use Rattle.bt_model.specs.Lines.{NamesOnlyFacts, note_is_nameless};
 
 use crate::block::{write_block, write_line};
-use crate::names::{Names, names_of};
+use crate::names::names_of;
 use crate::put::{put_number, put_quoted, put_signed};
 use crate::stop::TextStop;
 use bt_model::{
     Answer, Block, Cause, Fact, Guards, Header, Kind, Note, PortId, Status, Term, Tree, World,
 };
-use bt_outside::{MemSink, SureSink};
+use bt_outside::{MemSink, Sink, SureSink};
 use bt_script::{Items, Name, NoMemory};
 use std::alloc::Global;
 use std::test::Fail;
 
-// What the notes and the facts of `a_block` print.
-const BODY: &str = "node 1 IDLE RUNNING\n\
-    node 20 SUCCESS FAILURE\n\
-    call 2 start SUCCESS\n\
-    call 3 running FAILURE\n\
-    call 4 start SKIPPED\n\
-    call 5 halted\n\
-    root 1 RUNNING\n\
-    fault 1 7 Overflow\n\
-    fault 2 8 ZeroDivisor\n\
-    fault 3 9 NotWhole\n\
-    fault 4 10 Mixed\n\
-    fault 5 11 TextTooLong\n\
-    fault 6 12 BadPort delay_msec\n\
-    quench 1 4294967295\n\
-    fact door -9223372036854775808\n\
-    fact charge 7\n";
+// What `a_block` prints below its header.
+const LINES: [&str; 16] = [
+    "node 1 IDLE RUNNING\n",
+    "node 20 SUCCESS FAILURE\n",
+    "call 2 start SUCCESS\n",
+    "call 3 running FAILURE\n",
+    "call 4 start SKIPPED\n",
+    "call 5 halted\n",
+    "root 1 RUNNING\n",
+    "fault 1 7 Overflow\n",
+    "fault 2 8 ZeroDivisor\n",
+    "fault 3 9 NotWhole\n",
+    "fault 4 10 Mixed\n",
+    "fault 5 11 TextTooLong\n",
+    "fault 6 12 BadPort delay_msec\n",
+    "quench 1 4294967295\n",
+    "fact door -9223372036854775808\n",
+    "fact charge 7\n",
+];
 
 fn a_name(alloc: Global, text: &str) -> Result<Name, NoMemory> {
     Ok(Name::of(Vec::from_slice(alloc, text.as_bytes())?))
@@ -79,12 +82,8 @@ fn a_world(alloc: Global) -> Result<World, NoMemory> {
     })
 }
 
-fn some_names(alloc: Global) -> Result<Names, NoMemory> {
-    names_of(alloc, &a_tree(alloc)?, &a_world(alloc)?)
-}
-
-fn a_block(alloc: Global, header: Header) -> Result<Block, NoMemory>
-    ensures { IfOk result (λ block. NamesOnlyFacts block) }
+fn some_notes(alloc: Global) -> Result<Vec<Note>, NoMemory>
+    ensures { IfOk result (λ notes. IsTrue (list_all note_is_nameless notes.items)) }
 {
     let notes = vec![in alloc;
         Note::Changed {
@@ -151,6 +150,13 @@ fn a_block(alloc: Global, header: Header) -> Result<Block, NoMemory>
             uid: 4294967295
         },
     ]?;
+    Ok(notes)
+}
+
+fn a_block(alloc: Global, header: Header) -> Result<Block, NoMemory>
+    ensures { IfOk result (λ block. NamesOnlyFacts block) }
+{
+    let notes = some_notes(alloc)?;
     let facts = vec![in alloc; (1, i64::MIN), (0, 7)]?;
     Ok(Block {
         header,
@@ -160,9 +166,22 @@ fn a_block(alloc: Global, header: Header) -> Result<Block, NoMemory>
     })
 }
 
+fn write_a_block<K: Sink>(alloc: Global, out: &mut K, header: Header) -> Result<(), TextStop> {
+    let names = names_of(alloc, &a_tree(alloc)?, &a_world(alloc)?)?;
+    let block = a_block(alloc, header)?;
+    write_block(alloc, out, &block, &names)
+}
+
+fn text_below(alloc: Global, first: &str) -> Result<Vec<u8>, NoMemory> {
+    let mut text = Vec::from_slice(alloc, first.as_bytes())?;
+    for line in LINES {
+        text.extend_from_slice(line.as_bytes())?;
+    }
+    Ok(text)
+}
+
 #[test]
 fn each_header_comes_before_what_happened(rt: HostRuntime) -> Result<(), Fail> {
-    let names = some_names(rt.alloc())?;
     let rows = [
         (Header::Tick { runner: 1, at: 0 }, "tick 1 at 0\n"),
         (
@@ -189,33 +208,27 @@ fn each_header_comes_before_what_happened(rt: HostRuntime) -> Result<(), Fail> {
         ),
     ];
     for (header, line) in rows {
-        let block = a_block(rt.alloc(), header)?;
         let mut sink = SureSink::new(rt.alloc());
-        write_block(rt.alloc(), &mut sink, &block, &names)?;
-        let mut text = Vec::from_slice(rt.alloc(), line.as_bytes())?;
-        text.extend_from_slice(BODY.as_bytes())?;
-        assert_eq!(rt; sink.list(), text.as_slice(), "at {header:?}");
+        write_a_block(rt.alloc(), &mut sink, header)?;
+        assert_eq!(rt; sink.list(), text_below(rt.alloc(), line)?.as_slice());
     }
     Ok(())
 }
 
 #[test]
 fn a_failing_write_leaves_the_lines_before_it(rt: HostRuntime) -> Result<(), Fail> {
-    let names = some_names(rt.alloc())?;
-    let block = a_block(rt.alloc(), Header::Tick { runner: 1, at: 0 })?;
-    let mut text = Vec::from_slice(rt.alloc(), b"tick 1 at 0\n")?;
-    text.extend_from_slice(BODY.as_bytes())?;
-    for call in 1..=17 {
-        let mut sink = MemSink::new(rt.alloc(), vec![in rt.alloc(); (call, 3)]?);
-        let stop = write_block(rt.alloc(), &mut sink, &block, &names);
-        assert_eq!(rt; stop, Err(TextStop::WriteFault), "at call {call}");
-        let written = sink.list();
-        assert!(rt; text.starts_with(written), "at call {call}");
-        let lines = written.split(|byte| *byte == b'\n').count();
-        assert_eq!(rt; lines as u64, call, "at call {call}");
-        let last = written.rsplit(|byte| *byte == b'\n').next();
-        assert_eq!(rt; last.map(|line| line.len()), Some(3), "at call {call}");
+    let text = text_below(rt.alloc(), "tick 1 at 0\n")?;
+    let mut before = 12usize;
+    for (index, line) in LINES.iter().enumerate() {
+        let fails = vec![in rt.alloc(); (index as u64 + 2, 3)]?;
+        let mut sink = MemSink::new(rt.alloc(), fails);
+        let stop = write_a_block(rt.alloc(), &mut sink, Header::Tick { runner: 1, at: 0 });
+        assert_eq!(rt; stop, Err(TextStop::WriteFault));
+        assert!(rt; text.starts_with(sink.list()));
+        assert_eq!(rt; sink.list().len(), before.wrapping_add(3));
+        before = before.wrapping_add(line.len());
     }
+    assert_eq!(rt; before, text.len());
     Ok(())
 }
 

@@ -1,4 +1,4 @@
-use Rattle.std.proofs.Common.{◌∙◌, arith}
+use Rattle.std.proofs.Common.{◌∙◌}
 use Rattle.bt_text.proofs.Lines.{Appended-lines_of, AppendedFront-lines_of_facts, AppendedFront-lines_of_notes}
 use Rattle.bt_outside.proofs.Appends.{AppendedFront-whole}
 use Rattle.bt_text.proofs.block.write_block.Goals as goal
