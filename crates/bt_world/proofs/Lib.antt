@@ -1,0 +1,5 @@
+pub mod Ascii
+pub mod Canonical
+pub mod Onward
+pub mod Rests
+pub mod Said
