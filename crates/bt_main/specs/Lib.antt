@@ -1,3 +1,4 @@
+pub mod Answers
 pub mod Output
 pub mod Runs
 pub mod Words

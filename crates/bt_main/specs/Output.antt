@@ -1,8 +1,9 @@
 -- What a command writes, and how it ends.
 use Rattle.std.specs.Prelude.{ℕ, ◌≡◌, List, [], ◌∷◌, ◌++◌, codes, length, nat_lt, Bool, Option, Some, None, is_none, find, Result, Ok, Err, MatchBool}
-use Rattle.std.specs.List.{flat_map, concat}
+use Rattle.std.specs.List.{concat}
 use Rattle.bt_build.specs.Reads.{reads}
 use Rattle.bt_elements.specs.declared.element.Element.{Element}
+use Rattle.bt_elements.specs.declared.element.Unbuilt.{Unbuilt}
 use Rattle.bt_elements.specs.Elements.{SpellsPlainly}
 use Rattle.bt_main.specs.declared.exit.Exit.{Exit}
 use Rattle.bt_main.specs.declared.exit.Exit.TheVariants as exit
@@ -14,6 +15,8 @@ use Rattle.bt_model.specs.Lines.{fact_names, lines_of, quoted}
 use Rattle.bt_model.specs.Run.{run}
 use Rattle.bt_model.specs.Terms.{leaf_ids}
 use Rattle.bt_model.specs.Visit.{row_of}
+use Rattle.bt_script.specs.declared.stop.Stop.{Stop}
+use Rattle.bt_script.specs.declared.stop.Stop.TheVariants as stop
 use Rattle.bt_model.specs.WorldFile.{WorldFault, world_in}
 
 -- the bytes that are written, and the exit
@@ -56,9 +59,16 @@ abbrev pub ReadsTree : List ℕ → Option Tree → Type 0
 ReadsTree bytes (Some tree) = SpellsTree bytes tree
 ReadsTree bytes None = (tree : Tree) → SpellsTree bytes tree → ⊥
 
--- the lines of a trace
+-- the lines of blocks, one after another
 abbrev pub text_of : List (List ℕ) → List Block → List ℕ
-text_of names blocks = concat (flat_map (lines_of names) blocks)
+text_of names [] = []
+text_of names (block ∷ blocks) = concat (lines_of names block) ++ text_of names blocks
+
+-- the tree that a call gives is the one that the bytes read as, and a refusal says that there is none
+abbrev pub ReadsAs : Result Tree (Stop Unbuilt) → List ℕ → Type 0
+ReadsAs (Ok tree) bytes = SpellsTree bytes tree
+ReadsAs (Err stop.NoMemory) bytes = Unit {0}
+ReadsAs (Err (stop.Fault u)) bytes = (tree : Tree) → SpellsTree bytes tree → ⊥
 
 -- the trace of a run
 abbrev pub run_output : Tree → World → Output

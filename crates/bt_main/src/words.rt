@@ -4,6 +4,7 @@ ghost use Rattle.bt_main.specs.Words.{command_of};
 use bt_script::Name;
 
 /// The files that a command names.
+#[derive(Clone, Copy)]
 pub struct Command<'a> {
     pub tree: &'a Name,
     pub world: &'a Name,

@@ -8,5 +8,6 @@ mod plain;
 mod resets;
 mod visits;
 
+pub use leaf::row_with;
 pub use notes::note_change;
 pub use plain::{Plain, plain_of, reset_root, tick};

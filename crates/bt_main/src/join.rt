@@ -1,0 +1,107 @@
+ghost use Rattle.std.specs.Prelude.{◌≡◌, ◌+◌, ◌<◌, ◌≤◌, ◌^◌, ◌++◌, IfOk, codes, find, is_none, is_some, length};
+ghost use Rattle.std.specs.Option.{option_copied};
+ghost use Rattle.bt_main.specs.Answers.{Answers, Gave, IsSpoken};
+ghost use Rattle.bt_main.specs.Output.{joined_output, row_missing, rowless, world_output};
+ghost use Rattle.bt_model.specs.Lines.{quoted};
+ghost use Rattle.bt_model.specs.Terms.{leaf_ids, node_count, own_leaf_id};
+ghost use Rattle.bt_model.specs.Visit.{row_of};
+ghost use Rattle.bt_model.specs.WorldFile.{world_in};
+ghost use Rattle.bt_model.specs.declared.term.Term.{out-Term};
+ghost use Rattle.bt_outside.specs.Counts.{Rose};
+
+use crate::exit::Exit;
+use crate::trace::write_run;
+use bt_model::{Kind, Row, Term, Tree, World};
+use bt_outside::Sink;
+use bt_script::{Name, NoMemory, Stop};
+use bt_text::{TextStop, put_bytes, put_quoted, write_line};
+use bt_tick::row_with;
+use bt_world::read_world;
+use std::alloc::Global;
+
+/// Writes a line that ends the program with this exit.
+pub fn write_last<K: Sink>(out: &mut K, line: &[u8], exit: Exit) -> Exit
+    requires { IsSpoken exit }
+    ensures gave { Gave (record { bytes = line.now; exit = exit }) result (Rose (K.faults out.old) (K.faults out.new)) (K.written out.old) (K.written out.new) }
+    ensures count { K.faults out.old ≤ K.faults out.new }
+{
+    match write_line(out, line) {
+        Ok(()) => exit,
+        Err(TextStop::WriteFault) => Exit::Write,
+        Err(TextStop::NoMemory) => Exit::Memory,
+    }
+}
+
+/// Reads the world file, and runs the tree over its world where every leaf has a row.
+pub fn run_world<K: Sink>(alloc: Global, tree: &Tree, world: &[u8], out: &mut K) -> Exit
+    requires room { 1 + node_count tree.now.term < 2 ^ 32 }
+    requires short { length world.now ≤ 1048576 }
+    ensures answers { Answers (λ o. o ≡ world_output (world_in world.now) tree.now) result (Rose (K.faults out.old) (K.faults out.new)) (K.written out.old) (K.written out.new) }
+    ensures count { K.faults out.old ≤ K.faults out.new }
+{
+    match read_world(alloc, world) {
+        Ok(world) => run_joined(alloc, tree, &world, out),
+        Err(Stop::Fault(_)) => write_last(out, b"refused world Unbuilt\n", Exit::World),
+        Err(Stop::NoMemory) => Exit::Memory,
+    }
+}
+
+/// Runs the tree over the world where every leaf has a row, and else refuses the first that has none.
+fn run_joined<K: Sink>(alloc: Global, tree: &Tree, world: &World, out: &mut K) -> Exit
+    requires room { 1 + node_count tree.now.term < 2 ^ 32 }
+    requires few { length world.now.facts < 2 ^ 32 }
+    requires one { world.now.runners ≡ 1 }
+    ensures gave { Gave (joined_output (rowless tree.now world.now) tree.now world.now) result (Rose (K.faults out.old) (K.faults out.new)) (K.written out.old) (K.written out.new) }
+    ensures count { K.faults out.old ≤ K.faults out.new }
+{
+    match first_rowless(&tree.term, world.rows.list()) {
+        Some(id) => refuse_leaf(alloc, id, out),
+        None => write_run(alloc, tree, world, out),
+    }
+}
+
+/// Refuses a leaf of this ID, which has no row.
+fn refuse_leaf<K: Sink>(alloc: Global, id: &Name, out: &mut K) -> Exit
+    ensures gave { Gave (row_missing id.now) result (Rose (K.faults out.old) (K.faults out.new)) (K.written out.old) (K.written out.new) }
+    ensures count { K.faults out.old ≤ K.faults out.new }
+{
+    match leaf_refusal(alloc, id) {
+        Ok(line) => write_last(out, line.as_slice(), Exit::World),
+        Err(NoMemory) => Exit::Memory,
+    }
+}
+
+fn leaf_refusal(alloc: Global, id: &Name) -> Result<Vec<u8>, NoMemory>
+    ensures { IfOk result (λ line. line.items ≡ codes "refused world NoRow " ++ quoted id.now ++ codes "\n") }
+{
+    let mut line = Vec::new(alloc);
+    put_bytes(&mut line, b"refused world NoRow ")?;
+    put_quoted(&mut line, id.list())?;
+    put_bytes(&mut line, b"\n")?;
+    Ok(line)
+}
+
+/// The ID of the first leaf in pre-order that has no row.
+fn first_rowless<'a>(term: &'a Term, rows: &[Row]) -> Option<&'a Name>
+    ensures { option_copied result ≡ find (λ id. is_none (row_of rows.now id)) (leaf_ids term.now) }
+{
+    if is_rowless(term, rows) {
+        return Some(&term.id);
+    }
+    for child in term.children.list() {
+        if let Some(id) = first_rowless(child, rows) {
+            return Some(id);
+        }
+    }
+    None
+}
+
+/// Whether the node is a leaf that has no row.
+fn is_rowless(term: &Term, rows: &[Row]) -> bool
+    ensures { result ≡ is_some (find (λ id. is_none (row_of rows.now id)) (own_leaf_id (out-Term term.now).kind (out-Term term.now).id)) }
+{
+    match term.kind {
+        Kind::Leaf => row_with(rows, &term.id).is_none(),
+        _ => false,
+    }
+}
