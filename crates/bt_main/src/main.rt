@@ -5,34 +5,66 @@ mod answer;
 mod exit;
 mod join;
 mod run;
+#[cfg(test)]
+mod tests;
 mod trace;
 mod words;
 
 use crate::answer::bt;
+use crate::exit::Exit;
+use crate::words::word_of;
 use bt_outside::{DirShelf, OutSink};
-use bt_script::Name;
+use bt_script::{Name, NoMemory};
+use std::alloc::AllocFailed;
 use std::process::ExitCode;
 use std::env::Env;
 use std::{env, io};
 
+/// Why the words of the command line can't be had.
+enum NoWords {
+    /// A word is no UTF-8.
+    NotUtf8,
+    /// Want of memory.
+    NoMemory,
+}
+
+impl From<io::Error> for NoWords {
+    fn from(e: io::Error) -> NoWords {
+        match e.kind() {
+            io::ErrorKind::OutOfMemory => NoWords::NoMemory,
+            _ => NoWords::NotUtf8,
+        }
+    }
+}
+
+impl From<NoMemory> for NoWords {
+    fn from(_e: NoMemory) -> NoWords {
+        NoWords::NoMemory
+    }
+}
+
+impl<T: Drop> From<AllocFailed<T>> for NoWords {
+    fn from(_e: AllocFailed<T>) -> NoWords {
+        NoWords::NoMemory
+    }
+}
+
 /// The words of the command line without the program's own name.
-fn words_of(rt: &(impl Env + AllocGlobal)) -> io::Result<Vec<Name>> {
+fn words_of(rt: &(impl Env + AllocGlobal)) -> Result<Vec<Name>, NoWords> {
     let mut words = Vec::new(rt.alloc());
     for word in env::args(rt)?.skip(1) {
-        words.push(Name::of(word.into_bytes()))?;
+        words.push(word_of(rt.alloc(), word.as_str())?)?;
     }
     Ok(words)
 }
 
 /// Makes the shelf and the sink of the host, answers the words and ends with the exit's status.
-/// A word that is no UTF-8 is no word of a command.
+/// A word that is no UTF-8 belongs to no command, and neither does an empty list of words.
 fn main(rt: HostRuntime) -> ExitCode {
     let words = match words_of(&rt) {
         Ok(words) => words,
-        Err(e) if e.kind() == io::ErrorKind::OutOfMemory => {
-            return ExitCode::from(exit::Exit::Memory.status());
-        }
-        Err(_) => Vec::new(rt.alloc()),
+        Err(NoWords::NotUtf8) => Vec::new(rt.alloc()),
+        Err(NoWords::NoMemory) => return ExitCode::from(Exit::Memory.status()),
     };
     let mut shelf = DirShelf::new(&rt);
     let mut out = OutSink::new(io::writer(&rt));

@@ -1,7 +1,8 @@
-ghost use Rattle.std.specs.Prelude.{◌≡◌, MatchOption, Some, None};
+ghost use Rattle.std.specs.Prelude.{◌≡◌, IfOk, MatchOption, Some, None};
 ghost use Rattle.bt_main.specs.Words.{command_of};
 
-use bt_script::Name;
+use bt_script::{Name, NoMemory};
+use std::alloc::Global;
 
 /// The files that a command names.
 #[derive(Clone, Copy)]
@@ -18,4 +19,12 @@ pub fn read_command<'a>(words: &'a [Name]) -> Option<Command<'a>>
         [word, tree, world] if word.list() == b"tick".as_slice() => Some(Command { tree, world }),
         _ => None,
     }
+}
+
+/// A word of the command line.
+pub fn word_of(alloc: Global, word: &str) -> Result<Name, NoMemory>
+    ensures { IfOk result (λ name. name ≡ word.now) }
+{
+    let bytes = Vec::from_slice(alloc, word.as_bytes())?;
+    Ok(Name::of(bytes))
 }
