@@ -1,0 +1,52 @@
+-- Values by slot: what cells and looks mean, and what a slot gives.
+use Rattle.std.specs.Prelude.{ℕ, List, Option, Some, None, Result, Ok, Err, slice_index_or}
+use Rattle.bt_script.specs.declared.value.Value.{Value}
+use Rattle.bt_script.specs.declared.value.Value.TheVariants.{Int, Text}
+use Rattle.bt_script.specs.declared.stop.Stop.{Stop}
+use Rattle.bt_script.specs.declared.stop.Stop.TheVariants as stop
+use Rattle.bt_script_code.specs.declared.cells.Seen.{Seen}
+use Rattle.bt_script_code.specs.declared.cells.Seen.TheVariants as seen
+use Rattle.bt_script_code.specs.declared.fault.ExecFault.{ExecFault}
+use Rattle.bt_script_code.specs.declared.fault.ExecFault.TheVariants.{NoEntry, Mixed}
+
+-- the value of an entry that is there
+abbrev pub present : ℕ → Option Value → Result Value ExecFault
+present slot (Some value) = Ok value
+present slot None = Err (NoEntry slot)
+
+-- the value of a slot's entry
+abbrev pub entry_of : List (Option Value) → ℕ → Result Value ExecFault
+entry_of entries slot = present slot (slice_index_or entries slot None)
+
+-- the number that is seen
+abbrev pub seen_number : ℕ → Seen → Result Value ExecFault
+seen_number slot (seen.Int n) = Ok (Int n)
+seen_number slot seen.Text = Err Mixed
+seen_number slot seen.Absent = Err (NoEntry slot)
+
+-- what looking at a slot gives
+abbrev pub look_of : List Seen → ℕ → Result Value ExecFault
+look_of sights slot = seen_number slot (slice_index_or sights slot seen.Absent)
+
+-- an entry that holds no text
+abbrev pub HoldsNoText : Option Value → Type 0
+HoldsNoText (Some (Int n)) = Unit {0}
+HoldsNoText (Some (Text t)) = ⊥
+HoldsNoText None = Unit {0}
+
+-- a value or a fault, and no want of memory
+abbrev pub IsAnswered : {X F : Type 0} → Result X (Stop F) → Type 0
+IsAnswered (Ok x) = Unit {0}
+IsAnswered (Err (stop.Fault f)) = Unit {0}
+IsAnswered (Err stop.NoMemory) = ⊥
+
+-- a value that is a number
+abbrev pub IsInt : Value → Type 0
+IsInt (Int n) = Unit {0}
+IsInt (Text t) = ⊥
+
+-- a number or a fault, and no want of memory
+abbrev pub GivesInt : {F : Type 0} → Result Value (Stop F) → Type 0
+GivesInt (Ok value) = IsInt value
+GivesInt (Err (stop.Fault f)) = Unit {0}
+GivesInt (Err stop.NoMemory) = ⊥

@@ -1,0 +1,42 @@
+-- What the code of a script or an expression means: what it gives, and what it needs.
+use Rattle.std.specs.Prelude.{ℕ, List, Option, Result, map, sum}
+use Rattle.bt_script.specs.declared.value.Value.{Value}
+use Rattle.bt_script.specs.declared.syntax.Expr.{Expr}
+use Rattle.bt_script.specs.declared.syntax.Stmt.{Stmt}
+use Rattle.bt_script_code.specs.declared.fault.ExecFault.{ExecFault}
+use Rattle.bt_script_code.specs.Evaluation.{Run, eval_of, exec_of}
+use Rattle.bt_script_code.specs.Sources.{reach_of, texts_of, stmt_reach, stmt_expr, greatest}
+
+-- the meaning of an expression's code
+pub record Formula : Type 0 where
+  -- what it gives where the slots give this
+  pub value : (ℕ → Result Value ExecFault) → Result Value ExecFault
+  -- how many slots it needs
+  pub reach : ℕ
+  -- how many text literals it has
+  pub texts : ℕ
+
+-- the meaning of an expression, with its names looked up through slots
+abbrev pub formula_of : (List ℕ → ℕ) → Expr → Formula
+formula_of names e = record {
+  value = λ look. eval_of (λ name. look (names name)) e;
+  reach = reach_of names e;
+  texts = texts_of e;
+}
+
+-- the meaning of a script's code
+pub record Program : Type 0 where
+  -- what it gives and leaves over these entries
+  pub run : List (Option Value) → Run
+  -- how many slots it needs
+  pub reach : ℕ
+  -- how many text literals it has
+  pub texts : ℕ
+
+-- the meaning of a script's statements, with their names looked up through slots
+abbrev pub program_of : (List ℕ → ℕ) → List Stmt → Program
+program_of names stmts = record {
+  run = exec_of names stmts;
+  reach = greatest (map (stmt_reach names) stmts);
+  texts = sum (map (λ s. texts_of (stmt_expr s)) stmts);
+}
