@@ -1,2 +1,7 @@
+pub mod Climb
+pub mod Grammar
+pub mod Reading
+pub mod Spots
 pub mod Stops
+pub mod Tokens
 pub mod formers

@@ -2,16 +2,25 @@
 #![tactic(auto)]
 
 mod boxed;
+mod build;
+mod check;
+mod fault;
 mod items;
+pub mod laws;
+mod lexer;
 mod name;
+mod reader;
 mod stop;
 mod syntax;
+mod token;
 mod txt;
 mod value;
 
 pub use boxed::Boxed;
+pub use fault::ScriptFault;
 pub use items::Items;
 pub use name::Name;
+pub use reader::{parse_expr, parse_script};
 pub use stop::{NoMemory, Stop};
 pub use syntax::{BinOp, Cmp, Expr, Script, Stmt, UnOp};
 pub use txt::Txt;

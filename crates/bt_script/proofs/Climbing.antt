@@ -1,0 +1,403 @@
+-- Climbing finds exactly the expressions of the grammar.
+use Rattle.std.proofs.Common.{◌≡◌, ℕ, zero, suc, ◌<◌, ◌≤◌, ◌+◌, max, Bool, true, false, ◌&&◌, ◌==◌, cond, List, [], ◌∷◌, ◌++◌, Option, Some, None, refl, ap, sym, ◌∙◌, subst, arith, append_assoc, ◌⊎◌, inl, inr}
+use Rattle.std.specs.Prelude.{nat_le}
+use Rattle.std.proofs.lemmas.Bool.Decides.{nat_tests}
+use Rattle.bt_script.specs.declared.syntax.BinOp.{BinOp}
+use Rattle.bt_script.specs.declared.syntax.BinOp.TheVariants.{Add, Sub, Mul, Div, And, Or, BitAnd, BitOr, BitXor, Compare}
+use Rattle.bt_script.specs.declared.syntax.Cmp.TheVariants.{Equal, Differ, Less, AtMost, More, AtLeast}
+use Rattle.bt_script.specs.declared.syntax.UnOp.{UnOp}
+use Rattle.bt_script.specs.declared.syntax.UnOp.TheVariants.{Neg, Not, Flip}
+use Rattle.bt_script.specs.declared.syntax.Expr.{Expr, Expr-F, roll-Expr, map-Expr}
+use Rattle.bt_script.specs.declared.syntax.Expr.TheOpen.{Num, Lit, Look, Group, Unary, Binary, Choose}
+use Rattle.bt_script.specs.declared.token.Token.{Token}
+use Rattle.bt_script.specs.declared.token.Token.TheVariants.{Number, Text, Word, Operator, Bang, Tilde, Question, Colon, Open, Close, Semicolon, Creates, Assigns, Changes}
+use Rattle.bt_script.specs.Grammar.{level, unary_sign, spelled, fits, height}
+use Rattle.bt_script.specs.Climb.{Found, then_found, closed, negated, first, Next, Ends, Infix, Asks, next_of, last_part, go_on, more, climb}
+use Rattle.bt_script.proofs.Trees.{induct, spelled_is, fits_is, height_is}
+
+-- nothing that goes on an expression at this level stands in front
+abbrev pub Stops : ℕ → List Token → Type 0
+Stops place [] = Unit {0}
+Stops place (Operator op ∷ ts) = level op < place
+Stops place (Question ∷ ts) = 0 < place
+Stops place (t ∷ ts) = Unit {0}
+
+-- what stands in front may go on an expression of this level as a whole
+abbrev pub Ends_at : ℕ → List Token → Type 0
+Ends_at place [] = Unit {0}
+Ends_at place (Operator op ∷ ts) = level op ≤ place
+Ends_at place (Question ∷ ts) = 0 < place
+Ends_at place (t ∷ ts) = Unit {0}
+
+pub level_some : (op : BinOp) → (0 < level op) × (level op < 10)
+level_some Add = (omega arith, omega arith)
+level_some Sub = (omega arith, omega arith)
+level_some Mul = (omega arith, omega arith)
+level_some Div = (omega arith, omega arith)
+level_some And = (omega arith, omega arith)
+level_some Or = (omega arith, omega arith)
+level_some BitAnd = (omega arith, omega arith)
+level_some BitOr = (omega arith, omega arith)
+level_some BitXor = (omega arith, omega arith)
+level_some (Compare Equal) = (omega arith, omega arith)
+level_some (Compare Differ) = (omega arith, omega arith)
+level_some (Compare Less) = (omega arith, omega arith)
+level_some (Compare AtMost) = (omega arith, omega arith)
+level_some (Compare More) = (omega arith, omega arith)
+level_some (Compare AtLeast) = (omega arith, omega arith)
+
+-- tests that hold or fail
+pub le-yes : (a b : ℕ) → a ≤ b → nat_le a b ≡ true
+le-yes a b h = grind (arith, nat_tests)
+
+pub le-no : (a b : ℕ) → b < a → nat_le a b ≡ false
+le-no a b h = grind (arith, nat_tests)
+
+pub le-from : (a b : ℕ) → nat_le a b ≡ true → a ≤ b
+le-from a b h = grind (arith, nat_tests)
+
+pub eq-from : (a b : ℕ) → (a == b) ≡ true → a ≡ b
+eq-from a b h = grind (arith, nat_tests)
+
+pub eq-no : (a : ℕ) → 0 < a → (a == 0) ≡ false
+eq-no a h = grind (arith, nat_tests)
+
+pub both : (a b : Bool) → (a && b) ≡ true → (a ≡ true) × (b ≡ true)
+both true b h = (refl, h)
+both false b h = absurd (cc)
+
+-- where nothing goes on, nothing is next
+pub next-stops : (place : ℕ) (ts : List Token) → Stops place ts → next_of place ts ≡ Ends
+next-stops place [] h = refl
+next-stops place (Operator op ∷ ts) h = ap (λ (b : Bool). cond b (Infix op ts) Ends) (le-no place (level op) h)
+next-stops place (Question ∷ ts) h = ap (λ (b : Bool). cond b (Asks ts) Ends) (eq-no place h)
+next-stops place (Number n ∷ ts) h = refl
+next-stops place (Text n ∷ ts) h = refl
+next-stops place (Word n ∷ ts) h = refl
+next-stops place (Bang ∷ ts) h = refl
+next-stops place (Tilde ∷ ts) h = refl
+next-stops place (Colon ∷ ts) h = refl
+next-stops place (Open ∷ ts) h = refl
+next-stops place (Close ∷ ts) h = refl
+next-stops place (Semicolon ∷ ts) h = refl
+next-stops place (Creates ∷ ts) h = refl
+next-stops place (Assigns ∷ ts) h = refl
+next-stops place (Changes op ∷ ts) h = refl
+
+pub Stops-ten : (ts : List Token) → Stops 10 ts
+Stops-ten [] = tt
+Stops-ten (Operator op ∷ ts) = (level_some op).1
+Stops-ten (Question ∷ ts) = omega arith
+Stops-ten (Number n ∷ ts) = tt
+Stops-ten (Text n ∷ ts) = tt
+Stops-ten (Word n ∷ ts) = tt
+Stops-ten (Bang ∷ ts) = tt
+Stops-ten (Tilde ∷ ts) = tt
+Stops-ten (Colon ∷ ts) = tt
+Stops-ten (Open ∷ ts) = tt
+Stops-ten (Close ∷ ts) = tt
+Stops-ten (Semicolon ∷ ts) = tt
+Stops-ten (Creates ∷ ts) = tt
+Stops-ten (Assigns ∷ ts) = tt
+Stops-ten (Changes op ∷ ts) = tt
+
+Ends-from_stops : (place : ℕ) (ts : List Token) → Stops place ts → Ends_at place ts
+Ends-from_stops place [] h = tt
+Ends-from_stops place (Operator op ∷ ts) h = omega arith
+Ends-from_stops place (Question ∷ ts) h = h
+Ends-from_stops place (Number n ∷ ts) h = tt
+Ends-from_stops place (Text n ∷ ts) h = tt
+Ends-from_stops place (Word n ∷ ts) h = tt
+Ends-from_stops place (Bang ∷ ts) h = tt
+Ends-from_stops place (Tilde ∷ ts) h = tt
+Ends-from_stops place (Colon ∷ ts) h = tt
+Ends-from_stops place (Open ∷ ts) h = tt
+Ends-from_stops place (Close ∷ ts) h = tt
+Ends-from_stops place (Semicolon ∷ ts) h = tt
+Ends-from_stops place (Creates ∷ ts) h = tt
+Ends-from_stops place (Assigns ∷ ts) h = tt
+Ends-from_stops place (Changes op ∷ ts) h = tt
+
+-- behind a part of a tighter level
+Stops-tighter : (place tight : ℕ) (ts : List Token) → place < tight → Ends_at place ts → Stops tight ts
+Stops-tighter place tight [] less h = tt
+Stops-tighter place tight (Operator op ∷ ts) less h = omega arith
+Stops-tighter place tight (Question ∷ ts) less h = omega arith
+Stops-tighter place tight (Number n ∷ ts) less h = tt
+Stops-tighter place tight (Text n ∷ ts) less h = tt
+Stops-tighter place tight (Word n ∷ ts) less h = tt
+Stops-tighter place tight (Bang ∷ ts) less h = tt
+Stops-tighter place tight (Tilde ∷ ts) less h = tt
+Stops-tighter place tight (Colon ∷ ts) less h = tt
+Stops-tighter place tight (Open ∷ ts) less h = tt
+Stops-tighter place tight (Close ∷ ts) less h = tt
+Stops-tighter place tight (Semicolon ∷ ts) less h = tt
+Stops-tighter place tight (Creates ∷ ts) less h = tt
+Stops-tighter place tight (Assigns ∷ ts) less h = tt
+Stops-tighter place tight (Changes op ∷ ts) less h = tt
+
+-- behind the last part of a choice
+Stops-zero : (ts : List Token) → Ends_at 0 ts → Stops 0 ts
+Stops-zero [] h = tt
+Stops-zero (Operator op ∷ ts) h = let some = (level_some op).0 in absurd (omega arith)
+Stops-zero (Question ∷ ts) h = absurd (omega arith)
+Stops-zero (Number n ∷ ts) h = tt
+Stops-zero (Text n ∷ ts) h = tt
+Stops-zero (Word n ∷ ts) h = tt
+Stops-zero (Bang ∷ ts) h = tt
+Stops-zero (Tilde ∷ ts) h = tt
+Stops-zero (Colon ∷ ts) h = tt
+Stops-zero (Open ∷ ts) h = tt
+Stops-zero (Close ∷ ts) h = tt
+Stops-zero (Semicolon ∷ ts) h = tt
+Stops-zero (Creates ∷ ts) h = tt
+Stops-zero (Assigns ∷ ts) h = tt
+Stops-zero (Changes op ∷ ts) h = tt
+
+-- the expression where it is no higher than this
+abbrev pub low : ℕ → Expr → List Token → Option Found
+low left e rest = cond (nat_le (height e) left) (Some (e, rest)) None
+
+-- What stands behind an expression goes on it after enough turns.
+abbrev GoesOn : Expr → Type 0
+GoesOn e = (left place tight : ℕ) (rest : List Token) → place ≤ tight → fits e tight ≡ true → Ends_at tight rest →
+    (turns : ℕ) × (left < turns + height e) × (climb (suc left) place (spelled e ++ rest) ≡ cond (nat_le (height e) (suc left)) (more (climb left) left turns place e rest) None)
+
+-- An expression with what does not go on it behind it is found, if it is not too high.
+abbrev pub Finds : Expr → Type 0
+Finds e = (limit place : ℕ) (rest : List Token) → fits e place ≡ true → Stops place rest → climb limit place (spelled e ++ rest) ≡ low limit e rest
+
+height_some_at : (y : Expr-F ((e : Expr) × (0 < height e))) → 0 < height (roll-Expr (map-Expr ((e : Expr) × (0 < height e)) Expr (λ e. e.0) y))
+height_some_at (Num n) = omega (arith, height_is (Num n))
+height_some_at (Lit t) = omega (arith, height_is (Lit t))
+height_some_at (Look name) = omega (arith, height_is (Look name))
+height_some_at (Group a) = omega (arith, height_is (Group a.0))
+height_some_at (Unary op a) = omega (arith, height_is (Unary op a.0))
+height_some_at (Binary op a b) = omega (arith, height_is (Binary op a.0 b.0))
+height_some_at (Choose a b c) = omega (arith, height_is (Choose a.0 b.0 c.0))
+
+pub height_some : (e : Expr) → 0 < height e
+height_some = induct (λ e. 0 < height e) height_some_at
+
+pub more-stops : (lower : ℕ → List Token → Option Found) (left turns place : ℕ) (e : Expr) (rest : List Token) → Stops place rest → more lower left turns place e rest ≡ Some (e, rest)
+more-stops lower left zero place e rest h = ap (λ (n : Next). go_on (λ f r. None) lower left e rest n) (next-stops place rest h)
+more-stops lower left (suc turns) place e rest h = ap (λ (n : Next). go_on (more lower left turns place) lower left e rest n) (next-stops place rest h)
+
+finds-from_goes_on : (e : Expr) → GoesOn e → Finds e
+finds-from_goes_on e g zero place rest fit stop = sym (ap (λ (b : Bool). cond b (Some (e, rest)) None) (le-no (height e) 0 (height_some e)))
+finds-from_goes_on e g (suc left) place rest fit stop =
+    let same : place ≤ place = omega arith in
+    let h = g left place place rest same fit (Ends-from_stops place rest stop) in
+    h.2 ∙ ap (λ (o : Option Found). cond (nat_le (height e) (suc left)) o None) (more-stops (climb left) left h.0 place e rest stop)
+
+then-cond : (b : Bool) (e : Expr) (rest : List Token) (next : Expr → List Token → Option Found) → then_found (cond b (Some (e, rest)) None) next ≡ cond b (next e rest) None
+then-cond true e rest next = refl
+then-cond false e rest next = refl
+
+cond-none : (b : Bool) → cond {A = Option Found} b None None ≡ None
+cond-none true = refl
+cond-none false = refl
+
+order : (a b : ℕ) → (a ≤ b) ⊎ (b < a)
+order a b = elim (nat_le a b) as (λ v. nat_le a b ≡ v → (a ≤ b) ⊎ (b < a)) [ true ↦ λ h. inl (le-from a b h) | false ↦ λ h. inr (grind (arith, nat_tests)) ] refl
+
+le-suc : (a b : ℕ) → nat_le (1 + a) (suc b) ≡ nat_le a b
+le-suc a b = elim (order a b) [ inl h ↦ le-yes (1 + a) (suc b) (omega arith) ∙ sym (le-yes a b h) | inr h ↦ le-no (1 + a) (suc b) (omega arith) ∙ sym (le-no a b h) ]
+
+-- both parts are low where the higher one is
+two-low : (a b left : ℕ) (m : Option Found) → cond (nat_le a left) (cond (nat_le b left) m None) None ≡ cond (nat_le (max a b) left) m None
+two-low a b left m =
+    elim (order a left) [
+      | inl h ↦ elim (order b left) [
+        | inl k ↦ ap (λ (t : Bool). cond t (cond (nat_le b left) m None) None) (le-yes a left h) ∙ ap (λ (t : Bool). cond t m None) (le-yes b left k ∙ sym (le-yes (max a b) left (omega arith)))
+        | inr k ↦ ap (λ (t : Bool). cond t (cond (nat_le b left) m None) None) (le-yes a left h) ∙ ap (λ (t : Bool). cond t m None) (le-no b left k ∙ sym (le-no (max a b) left (omega arith)))
+      ]
+      | inr h ↦ ap (λ (t : Bool). cond t (cond (nat_le b left) m None) None) (le-no a left h) ∙ sym (ap (λ (t : Bool). cond t m None) (le-no (max a b) left (omega arith)))
+    ]
+
+-- a part that is low enough for one level more
+wide-low : (a left : ℕ) (m : Option Found) → cond (nat_le a (suc left)) (cond (nat_le a left) m None) None ≡ cond (nat_le a left) m None
+wide-low a left m =
+    elim (order a left) [
+      | inl h ↦ ap (λ (t : Bool). cond t (cond (nat_le a left) m None) None) (le-yes a (suc left) (omega arith))
+      | inr h ↦ ap (λ (o : Option Found). cond (nat_le a (suc left)) o None) (ap (λ (t : Bool). cond t m None) (le-no a left h)) ∙ cond-none (nat_le a (suc left)) ∙ sym (ap (λ (t : Bool). cond t m None) (le-no a left h))
+    ]
+
+-- an operand goes on where it is found
+operand : (e : Expr) → ((left tight : ℕ) (rest : List Token) → fits e tight ≡ true → first (climb left) (spelled e ++ rest) ≡ low (suc left) e rest) → GoesOn e
+operand e found left place tight rest le fit ends =
+    let some = height_some e in
+    let enough : left < left + height e = omega arith in
+    (left, enough, ap (λ (o : Option Found). then_found o (more (climb left) left left place)) (found left tight rest fit) ∙ then-cond (nat_le (height e) (suc left)) e rest (more (climb left) left left place))
+
+-- the height of an operation, by its parts
+low-by_parts : (e : Expr) (n left : ℕ) (m : Option Found) → height e ≡ 1 + n → cond (nat_le n left) m None ≡ cond (nat_le (height e) (suc left)) m None
+low-by_parts e n left m h = ap (λ (b : Bool). cond b m None) (sym (le-suc n left) ∙ ap (λ (k : ℕ). nat_le k (suc left)) (sym h))
+
+-- the right part of a binary operation, behind its left part and its sign
+infix-step : (op : BinOp) (a b : Expr) (left place tight : ℕ) (rest : List Token) (again : Expr → List Token → Option Found) →
+    Finds b → place ≤ tight → tight ≤ level op → fits b (level op + 1) ≡ true → Ends_at tight rest →
+    cond (nat_le (height a) (suc left)) (go_on again (climb left) left a (Operator op ∷ (spelled b ++ rest)) (next_of place (Operator op ∷ (spelled b ++ rest)))) None
+    ≡ cond (nat_le (height (roll-Expr (Binary op a b))) (suc left)) (again (roll-Expr (Binary op a b)) rest) None
+infix-step op a b left place tight rest again fb le tl fit ends =
+    let ts = spelled b ++ rest in
+    let next : next_of place (Operator op ∷ ts) ≡ Infix op ts = ap (λ (t : Bool). cond t (Infix op ts) Ends) (le-yes place (level op) (omega arith)) in
+    let behind : tight < level op + 1 = omega arith in
+    ap (λ (n : Next). cond (nat_le (height a) (suc left)) (go_on again (climb left) left a (Operator op ∷ ts) n) None) next
+    ∙ wide-low (height a) left (then_found (climb left (level op + 1) ts) (λ x. again (roll-Expr (Binary op a x))))
+    ∙ ap (λ (o : Option Found). cond (nat_le (height a) left) (then_found o (λ x. again (roll-Expr (Binary op a x)))) None) (fb left (level op + 1) rest fit (Stops-tighter tight (level op + 1) rest behind ends))
+    ∙ ap (λ (o : Option Found). cond (nat_le (height a) left) o None) (then-cond (nat_le (height b) left) b rest (λ x. again (roll-Expr (Binary op a x))))
+    ∙ two-low (height a) (height b) left (again (roll-Expr (Binary op a b)) rest)
+    ∙ low-by_parts (roll-Expr (Binary op a b)) (max (height a) (height b)) left (again (roll-Expr (Binary op a b)) rest) (height_is (Binary op a b))
+
+binary-turns : (op : BinOp) (a b : Expr) (left place tight : ℕ) (rest : List Token) →
+    Finds b → place ≤ tight → tight ≤ level op → fits b (level op + 1) ≡ true → Ends_at tight rest →
+    (turns : ℕ) → left < turns + height a →
+    climb (suc left) place (spelled a ++ Operator op ∷ (spelled b ++ rest)) ≡ cond (nat_le (height a) (suc left)) (more (climb left) left turns place a (Operator op ∷ (spelled b ++ rest))) None →
+    (more_turns : ℕ) × (left < more_turns + height (roll-Expr (Binary op a b)))
+    × (climb (suc left) place (spelled (roll-Expr (Binary op a b)) ++ rest) ≡ cond (nat_le (height (roll-Expr (Binary op a b))) (suc left)) (more (climb left) left more_turns place (roll-Expr (Binary op a b)) rest) None)
+binary-turns op a b left place tight rest fb le tl fit ends zero enough is =
+    let e = roll-Expr (Binary op a b) in
+    let tall = height_is (Binary op a b) in
+    let spell = ap (λ (ts : List Token). ts ++ rest) (spelled_is (Binary op a b)) ∙ append_assoc (spelled a) (Operator op ∷ spelled b) rest in
+    let big : suc left < height e = omega (arith, tall) in
+    let some : left < 0 + height e = omega arith in (
+      0,
+      some,
+      ap (λ (ts : List Token). climb (suc left) place ts) spell ∙ is
+          ∙ infix-step op a b left place tight rest (λ f r. None) fb le tl fit ends
+          ∙ cond-none (nat_le (height e) (suc left)) ∙ sym (ap (λ (t : Bool). cond t (more (climb left) left 0 place e rest) None) (le-no (height e) (suc left) big)),
+    )
+binary-turns op a b left place tight rest fb le tl fit ends (suc turns) enough is =
+    let e = roll-Expr (Binary op a b) in
+    let tall = height_is (Binary op a b) in
+    let spell = ap (λ (ts : List Token). ts ++ rest) (spelled_is (Binary op a b)) ∙ append_assoc (spelled a) (Operator op ∷ spelled b) rest in
+    let some : left < turns + height e = omega (arith, tall) in (
+      turns,
+      some,
+      ap (λ (ts : List Token). climb (suc left) place ts) spell ∙ is
+          ∙ infix-step op a b left place tight rest (more (climb left) left turns place) fb le tl fit ends,
+    )
+
+-- a binary operation goes on where its left part does
+binary : (op : BinOp) (a b : Expr) → GoesOn a → GoesOn b → GoesOn (roll-Expr (Binary op a b))
+binary op a b ga gb left place tight rest le fit ends =
+    let parts = sym (ap (λ (f : ℕ → Bool). f tight) (fits_is (Binary op a b))) ∙ fit in
+    let p = both (nat_le tight (level op)) (fits a (level op) && fits b (level op + 1)) parts in
+    let q = both (fits a (level op)) (fits b (level op + 1)) p.1 in
+    let tl = le-from tight (level op) p.0 in
+    let same : level op ≤ level op = omega arith in
+    let below : place ≤ level op = omega arith in
+    let g = ga left place (level op) (Operator op ∷ (spelled b ++ rest)) below q.0 same in
+    binary-turns op a b left place tight rest (finds-from_goes_on b gb) le tl q.1 ends g.0 g.1 g.2
+
+-- the parts of a choice behind its test
+asks-step : (a b c : Expr) (left : ℕ) (rest : List Token) (again : Expr → List Token → Option Found) →
+    Finds b → Finds c → fits b 0 ≡ true → fits c 0 ≡ true → Stops 0 rest →
+    cond (nat_le (height a) (suc left)) (go_on again (climb left) left a (Question ∷ (spelled b ++ Colon ∷ (spelled c ++ rest))) (next_of 0 (Question ∷ (spelled b ++ Colon ∷ (spelled c ++ rest))))) None
+    ≡ cond (nat_le (height (roll-Expr (Choose a b c))) (suc left)) (Some (roll-Expr (Choose a b c), rest)) None
+asks-step a b c left rest again fb fc fit_b fit_c stop =
+    let ts = spelled c ++ rest in
+    let e = roll-Expr (Choose a b c) in
+    let end : Expr → List Token → Option Found = λ x r. Some (roll-Expr (Choose a b x), r) in
+    wide-low (height a) left (then_found (climb left 0 (spelled b ++ Colon ∷ ts)) (last_part (climb left) a))
+    ∙ ap (λ (o : Option Found). cond (nat_le (height a) left) (then_found o (last_part (climb left) a)) None) (fb left 0 (Colon ∷ ts) fit_b tt)
+    ∙ ap (λ (o : Option Found). cond (nat_le (height a) left) o None) (then-cond (nat_le (height b) left) b (Colon ∷ ts) (last_part (climb left) a))
+    ∙ ap (λ (o : Option Found). cond (nat_le (height a) left) (cond (nat_le (height b) left) (then_found o end) None) None) (fc left 0 rest fit_c stop)
+    ∙ ap (λ (o : Option Found). cond (nat_le (height a) left) (cond (nat_le (height b) left) o None) None) (then-cond (nat_le (height c) left) c rest end)
+    ∙ ap (λ (o : Option Found). cond (nat_le (height a) left) o None) (two-low (height b) (height c) left (Some (e, rest)))
+    ∙ two-low (height a) (max (height b) (height c)) left (Some (e, rest))
+    ∙ low-by_parts e (max (height a) (max (height b) (height c))) left (Some (e, rest)) (height_is (Choose a b c))
+
+choice-turns : (a b c : Expr) (left : ℕ) (rest : List Token) →
+    Finds b → Finds c → fits b 0 ≡ true → fits c 0 ≡ true → Stops 0 rest → (turns : ℕ) →
+    cond (nat_le (height a) (suc left)) (more (climb left) left turns 0 a (Question ∷ (spelled b ++ Colon ∷ (spelled c ++ rest)))) None
+    ≡ cond (nat_le (height (roll-Expr (Choose a b c))) (suc left)) (Some (roll-Expr (Choose a b c), rest)) None
+choice-turns a b c left rest fb fc fit_b fit_c stop zero = asks-step a b c left rest (λ f r. None) fb fc fit_b fit_c stop
+choice-turns a b c left rest fb fc fit_b fit_c stop (suc turns) = asks-step a b c left rest (more (climb left) left turns 0) fb fc fit_b fit_c stop
+
+choice-loose : (a b c : Expr) → GoesOn a → Finds b → Finds c → (left : ℕ) (rest : List Token) →
+    fits a 1 ≡ true → fits b 0 ≡ true → fits c 0 ≡ true → Stops 0 rest →
+    climb (suc left) 0 (spelled (roll-Expr (Choose a b c)) ++ rest) ≡ cond (nat_le (height (roll-Expr (Choose a b c))) (suc left)) (Some (roll-Expr (Choose a b c), rest)) None
+choice-loose a b c ga fb fc left rest fit_a fit_b fit_c stop =
+    let zero_one : 0 ≤ 1 = omega arith in
+    let some : 0 < 1 = omega arith in
+    let g = ga left 0 1 (Question ∷ (spelled b ++ Colon ∷ (spelled c ++ rest))) zero_one fit_a some in
+    let spell = ap (λ (ts : List Token). ts ++ rest) (spelled_is (Choose a b c)) ∙ append_assoc (spelled a) (Question ∷ (spelled b ++ Colon ∷ spelled c)) rest
+    ∙ ap (λ (ts : List Token). spelled a ++ Question ∷ ts) (append_assoc (spelled b) (Colon ∷ spelled c) rest) in
+    ap (λ (ts : List Token). climb (suc left) 0 ts) spell ∙ g.2 ∙ choice-turns a b c left rest fb fc fit_b fit_c stop g.0
+
+-- a choice goes on where its test does
+choice : (a b c : Expr) → GoesOn a → GoesOn b → GoesOn c → GoesOn (roll-Expr (Choose a b c))
+choice a b c ga gb gc left place tight rest le fit ends =
+    let e = roll-Expr (Choose a b c) in
+    let parts = sym (ap (λ (f : ℕ → Bool). f tight) (fits_is (Choose a b c))) ∙ fit in
+    let p = both (tight == 0) (fits a 1 && (fits b 0 && fits c 0)) parts in
+    let q = both (fits a 1) (fits b 0 && fits c 0) p.1 in
+    let r = both (fits b 0) (fits c 0) q.1 in
+    let none : tight ≡ 0 = eq-from tight 0 p.0 in
+    let none_here : place ≡ 0 = omega arith in
+    let stop = Stops-zero rest (subst (λ (n : ℕ). Ends_at n rest) none ends) in
+    let tall = height_some e in
+    let enough : left < left + height e = omega arith in (
+      left,
+      enough,
+      subst (λ (n : ℕ). climb (suc left) n (spelled e ++ rest) ≡ cond (nat_le (height e) (suc left)) (more (climb left) left left n e rest) None) (sym none_here)
+          (choice-loose a b c ga (finds-from_goes_on b gb) (finds-from_goes_on c gc) left rest q.0 r.0 r.1 stop
+          ∙ sym (ap (λ (o : Option Found). cond (nat_le (height e) (suc left)) o None) (more-stops (climb left) left left 0 e rest stop))),
+    )
+
+one : (e : Expr) (t : Token) (next : Expr) → spelled e ≡ t ∷ [] → height e ≡ 1 → ((lower : ℕ → List Token → Option Found) (rest : List Token) → first lower (t ∷ rest) ≡ Some (e, rest)) → GoesOn e
+one e t next is tall found =
+    operand e (λ left tight rest fit.
+    ap (λ (ts : List Token). first (climb left) (ts ++ rest)) is ∙ found (climb left) rest
+    ∙ sym (ap (λ (b : Bool). cond b (Some (e, rest)) None) (le-yes (height e) (suc left) (omega arith))))
+
+unary : (op : UnOp) (a : Expr) → GoesOn a → ((lower : ℕ → List Token → Option Found) (ts : List Token) → first lower (unary_sign op ∷ ts) ≡ then_found (lower 10 ts) (negated op)) → GoesOn (roll-Expr (Unary op a))
+unary op a ga sign =
+    operand (roll-Expr (Unary op a)) (λ left tight rest fit.
+    let inner : fits a 10 ≡ true = sym (ap (λ (f : ℕ → Bool). f tight) (fits_is (Unary op a))) ∙ fit in
+    ap (λ (ts : List Token). first (climb left) (ts ++ rest)) (spelled_is (Unary op a)) ∙ sign (climb left) (spelled a ++ rest)
+    ∙ ap (λ (o : Option Found). then_found o (negated op)) (finds-from_goes_on a ga left 10 rest inner (Stops-ten rest))
+    ∙ then-cond (nat_le (height a) left) a rest (negated op)
+    ∙ ap (λ (b : Bool). cond b (Some (roll-Expr (Unary op a), rest)) None) (sym (le-suc (height a) left) ∙ ap (λ (n : ℕ). nat_le n (suc left)) (sym (height_is (Unary op a)))))
+
+group : (a : Expr) → GoesOn a → GoesOn (roll-Expr (Group a))
+group a ga =
+    operand (roll-Expr (Group a)) (λ left tight rest fit.
+    let inner : fits a 0 ≡ true = sym (ap (λ (f : ℕ → Bool). f tight) (fits_is (Group a))) ∙ fit in
+    ap (λ (ts : List Token). first (climb left) (ts ++ rest)) (spelled_is (Group a))
+    ∙ ap (λ (ts : List Token). then_found (climb left 0 ts) closed) (append_assoc (spelled a) (Close ∷ []) rest)
+    ∙ ap (λ (o : Option Found). then_found o closed) (finds-from_goes_on a ga left 0 (Close ∷ rest) inner tt)
+    ∙ then-cond (nat_le (height a) left) a (Close ∷ rest) closed
+    ∙ ap (λ (b : Bool). cond b (Some (roll-Expr (Group a), rest)) None) (sym (le-suc (height a) left) ∙ ap (λ (n : ℕ). nat_le n (suc left)) (sym (height_is (Group a)))))
+
+goes_on_at : (y : Expr-F ((e : Expr) × GoesOn e)) → GoesOn (roll-Expr (map-Expr ((e : Expr) × GoesOn e) Expr (λ e. e.0) y))
+goes_on_at (Num n) = one (roll-Expr (Num n)) (Number n) (roll-Expr (Num n)) (spelled_is (Num n)) (height_is (Num n)) (λ lower rest. refl)
+goes_on_at (Lit t) = one (roll-Expr (Lit t)) (Text t) (roll-Expr (Lit t)) (spelled_is (Lit t)) (height_is (Lit t)) (λ lower rest. refl)
+goes_on_at (Look name) = one (roll-Expr (Look name)) (Word name) (roll-Expr (Look name)) (spelled_is (Look name)) (height_is (Look name)) (λ lower rest. refl)
+goes_on_at (Group a) = group a.0 a.1
+goes_on_at (Unary Neg a) = unary Neg a.0 a.1 (λ lower ts. refl)
+goes_on_at (Unary Not a) = unary Not a.0 a.1 (λ lower ts. refl)
+goes_on_at (Unary Flip a) = unary Flip a.0 a.1 (λ lower ts. refl)
+goes_on_at (Binary op a b) = binary op a.0 b.0 a.1 b.1
+goes_on_at (Choose a b c) = choice a.0 b.0 c.0 a.1 b.1 c.1
+
+-- climbing finds each expression of the grammar
+pub finds : (e : Expr) → Finds e
+finds e = finds-from_goes_on e (induct GoesOn goes_on_at e)
+
+pub found-same : {X : Type 0} (x y : X) → Some x ≡ Some y → x ≡ y
+found-same x y h = cc
+
+-- an expression with what does not go on it behind it has these tokens alone
+pub finds-alone : (e f : Expr) (rest more_rest : List Token) → fits e 0 ≡ true → fits f 0 ≡ true → Stops 0 rest → Stops 0 more_rest →
+    spelled e ++ rest ≡ spelled f ++ more_rest → (e ≡ f) × (rest ≡ more_rest)
+finds-alone e f rest more_rest fit_e fit_f stop_e stop_f same =
+    let limit = height e + height f in
+    let le : height e ≤ limit = omega arith in
+    let lf : height f ≤ limit = omega arith in
+    let x = finds e limit 0 rest fit_e stop_e ∙ ap (λ (b : Bool). cond b (Some (e, rest)) None) (le-yes (height e) limit le) in
+    let y = finds f limit 0 more_rest fit_f stop_f ∙ ap (λ (b : Bool). cond b (Some (f, more_rest)) None) (le-yes (height f) limit lf) in
+    let z = found-same {X = Found} (e, rest) (f, more_rest) (sym x ∙ ap (λ (ts : List Token). climb limit 0 ts) same ∙ y) in
+    (ap (λ (p : Found). p.0) z, ap (λ (p : Found). p.1) z)

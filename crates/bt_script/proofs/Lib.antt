@@ -1,0 +1,12 @@
+pub mod Alone
+pub mod Building
+pub mod Climbing
+pub mod Complete
+pub mod Exclusive
+pub mod Fronts
+pub mod Lexing
+pub mod Machine
+pub mod Readings
+pub mod Statements
+pub mod Trees
+pub mod Verdicts

@@ -1,0 +1,145 @@
+-- How the reader checks which token may come next. Only clauses of private functions cite this; it is proved to
+-- stop at exactly the token with which no script goes on.
+use Rattle.std.specs.Prelude.{◌≡◌, ℕ, Bool, true, false, List, [], ◌∷◌, ◌++◌, Option, Some, None, reverse}
+use Rattle.bt_script.specs.declared.syntax.BinOp.{BinOp}
+use Rattle.bt_script.specs.declared.syntax.BinOp.TheVariants.{Sub}
+use Rattle.bt_script.specs.declared.token.Token.{Token}
+use Rattle.bt_script.specs.declared.token.Token.TheVariants.{Number, Text, Word, Operator, Bang, Tilde, Question, Colon, Open, Close, Semicolon, Creates, Assigns, Changes}
+use Rattle.bt_script.specs.declared.token.Placed.{Placed}
+use Rattle.bt_script.specs.declared.check.Opened.{Opened}
+use Rattle.bt_script.specs.declared.check.Opened.TheVariants.{Paren, Choice, Whole}
+use Rattle.bt_script.specs.declared.check.Stage.{Stage}
+use Rattle.bt_script.specs.declared.check.Stage.TheVariants.{Blank, Start, Named, Before, Behind}
+use Rattle.bt_script.specs.declared.check.Verdict.{Verdict}
+use Rattle.bt_script.specs.declared.check.Verdict.TheVariants as verdict
+use Rattle.bt_script.specs.declared.fault.ScriptFault.{ScriptFault}
+use Rattle.bt_script.specs.declared.fault.ScriptFault.TheVariants.{Syntax}
+use Rattle.bt_script.specs.Grammar.{changes}
+use Rattle.bt_script.specs.Reading.{bare}
+
+-- where reading stands, and what is open, the innermost first
+abbrev pub Spot : Type 0
+Spot = Stage × List Opened
+
+-- the same as the code keeps it, the innermost last
+abbrev pub spot_of : Option Stage → List Opened → Option Spot
+spot_of None opened = None
+spot_of (Some stage) opened = Some (stage, reverse opened)
+
+abbrev pub after_minus : BinOp → Option Spot → Option Spot
+after_minus Sub s = s
+after_minus op s = None
+
+-- a token where an operand may stand, and the stage behind a name
+abbrev pub operand_step : Stage → List Opened → Token → Option Spot
+operand_step word_stage opened (Number n) = Some (Behind, opened)
+operand_step word_stage opened (Text t) = Some (Behind, opened)
+operand_step word_stage opened (Word name) = Some (word_stage, opened)
+operand_step word_stage opened (Operator op) = after_minus op (Some (Before, opened))
+operand_step word_stage opened Bang = Some (Before, opened)
+operand_step word_stage opened Tilde = Some (Before, opened)
+operand_step word_stage opened Open = Some (Before, Paren ∷ opened)
+operand_step word_stage opened t = None
+
+-- a token that closes what is innermost
+abbrev pub closing_step : Opened → Stage → List Opened → Option Spot
+closing_step Choice stage (Choice ∷ opened) = Some (stage, opened)
+closing_step Paren stage (Paren ∷ opened) = Some (stage, opened)
+closing_step Whole stage (Whole ∷ opened) = Some (stage, opened)
+closing_step wanted stage opened = None
+
+abbrev pub semicolon_step : List Opened → Option Spot
+semicolon_step [] = Some (Start, [])
+semicolon_step opened = None
+
+-- a token behind an operand
+abbrev pub behind_step : List Opened → Token → Option Spot
+behind_step opened (Operator op) = Some (Before, opened)
+behind_step opened Question = Some (Before, Choice ∷ opened)
+behind_step opened Colon = closing_step Choice Before opened
+behind_step opened Close = closing_step Paren Behind opened
+behind_step opened Semicolon = semicolon_step opened
+behind_step opened t = None
+
+-- a token at the start of a statement
+abbrev pub start_step : Stage → List Opened → Token → Option Spot
+start_step stage opened Semicolon = Some (stage, opened)
+start_step stage opened t = operand_step Named opened t
+
+abbrev pub change_step : Bool → List Opened → Option Spot
+change_step true opened = Some (Before, opened)
+change_step false opened = None
+
+-- a token behind the name with which a statement begins
+abbrev pub named_step : List Opened → Token → Option Spot
+named_step opened Creates = Some (Before, opened)
+named_step opened Assigns = Some (Before, opened)
+named_step opened (Changes op) = change_step (changes op) opened
+named_step opened t = behind_step opened t
+
+abbrev pub stage_step : Stage → List Opened → Token → Option Spot
+stage_step Blank opened t = start_step Blank opened t
+stage_step Start opened t = start_step Start opened t
+stage_step Named opened t = named_step opened t
+stage_step Before opened t = operand_step Behind opened t
+stage_step Behind opened t = behind_step opened t
+
+abbrev pub step : Spot → Token → Option Spot
+step s t = stage_step s.0 s.1 t
+
+abbrev pub then_spot : Option Spot → (Spot → Option Spot) → Option Spot
+then_spot None next = None
+then_spot (Some s) next = next s
+
+-- where some tokens lead
+abbrev pub run : List Token → Spot → Option Spot
+run [] s = Some s
+run (t ∷ ts) s = then_spot (step s t) (run ts)
+
+abbrev pub nothing_open : List Opened → Bool
+nothing_open [] = true
+nothing_open opened = false
+
+abbrev pub only_whole : List Opened → Bool
+only_whole [] = true
+only_whole (Whole ∷ []) = true
+only_whole opened = false
+
+-- whether a text may end here
+abbrev pub ends_at : Stage → List Opened → Bool
+ends_at Blank opened = false
+ends_at Start opened = nothing_open opened
+ends_at Named opened = nothing_open opened
+ends_at Before opened = false
+ends_at Behind opened = only_whole opened
+
+abbrev pub may_end : Spot → Bool
+may_end s = ends_at s.0 s.1
+
+-- the tokens up to this place lead somewhere, and the one there leads nowhere
+pub record LeadsNowhere (start : Spot) (ts : List Placed) (place : ℕ) : Type 0 where
+  pub front : List Placed
+  pub token : Token
+  pub rest : List Placed
+  pub spot : Spot
+  pub at : ts ≡ front ++ (record { token = token; place = place }) ∷ rest
+  pub led : run (bare front) start ≡ Some spot
+  pub stuck : step spot token ≡ None
+
+-- the tokens lead to a spot at which a text may end, or may not
+pub record Leads (start : Spot) (ts : List Placed) (end : Bool) : Type 0 where
+  pub spot : Spot
+  pub led : run (bare ts) start ≡ Some spot
+  pub ends : may_end spot ≡ end
+
+abbrev pub Checked : Spot → List Placed → Verdict → Type 0
+Checked start ts verdict.Whole = Leads start ts true
+Checked start ts verdict.Unfinished = Leads start ts false
+Checked start ts (verdict.Stuck place) = LeadsNowhere start ts place
+
+-- the fault of a text, by its tokens and their fault
+abbrev pub refused : Verdict → Option ScriptFault → ℕ → Option ScriptFault
+refused (verdict.Stuck place) fault end = Some (Syntax place)
+refused verdict.Whole fault end = fault
+refused verdict.Unfinished (Some fault) end = Some fault
+refused verdict.Unfinished None end = Some (Syntax end)

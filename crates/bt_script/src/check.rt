@@ -1,0 +1,185 @@
+ghost use Rattle.std.specs.Prelude.{◌≡◌, ◌<◌, IfOk, length, reverse};
+ghost use Rattle.bt_script.specs.Grammar.{changes};
+ghost use Rattle.bt_script.specs.Spots.{spot_of, operand_step, behind_step, closing_step, start_step, named_step, stage_step, ends_at, Checked};
+
+use crate::stop::NoMemory;
+use crate::syntax::BinOp;
+use crate::token::{Placed, Token};
+
+/// What is not closed yet.
+#[derive(Clone, Copy, Debug, PartialEq, Eq)]
+pub enum Opened {
+    /// A parenthesis.
+    Paren,
+    /// A `?` that has no `:` yet.
+    Choice,
+    /// An expression that is the whole text: it is not closed, and no `;` stands behind it.
+    Whole,
+}
+
+/// Where reading stands.
+#[derive(Clone, Copy, Debug, PartialEq, Eq)]
+pub enum Stage {
+    /// At the start of a statement, with no statement before it.
+    Blank,
+    /// At the start of a later statement.
+    Start,
+    /// Behind a name with which a statement begins.
+    Named,
+    /// Where an operand must stand.
+    Before,
+    /// Behind an operand.
+    Behind,
+}
+
+/// Whether some tokens are a whole text.
+#[derive(Clone, Copy, Debug, PartialEq, Eq)]
+pub enum Verdict {
+    Whole,
+    /// They could go on to one.
+    Unfinished,
+    /// The token at this place is the first with which they could not.
+    Stuck(u32),
+}
+
+/// The stage behind a token where an operand may stand.
+fn behind_start_of_operand(
+    token: &Token,
+    word_stage: Stage,
+    opened: &mut Vec<Opened>,
+) -> Result<Option<Stage>, NoMemory>
+    ensures { IfOk result (λ stage. spot_of stage opened.new.items ≡ operand_step word_stage (reverse opened.old.items) token.now) }
+{
+    match token {
+        Token::Number(_) => Ok(Some(Stage::Behind)),
+        Token::Text(_) => Ok(Some(Stage::Behind)),
+        Token::Word(_) => Ok(Some(word_stage)),
+        Token::Operator(BinOp::Sub) => Ok(Some(Stage::Before)),
+        Token::Bang => Ok(Some(Stage::Before)),
+        Token::Tilde => Ok(Some(Stage::Before)),
+        Token::Open => {
+            opened.push(Opened::Paren)?;
+            Ok(Some(Stage::Before))
+        }
+        _ => Ok(None),
+    }
+}
+
+/// The stage behind a token that closes what is innermost.
+fn closed(opened: &mut Vec<Opened>, wanted: Opened, stage: Stage) -> Option<Stage>
+    ensures { spot_of result opened.new.items ≡ closing_step wanted stage (reverse opened.old.items) }
+{
+    match opened.pop() {
+        Some(innermost) if innermost == wanted => Some(stage),
+        _ => None,
+    }
+}
+
+/// The stage behind a token behind an operand.
+fn behind_operand(token: &Token, opened: &mut Vec<Opened>) -> Result<Option<Stage>, NoMemory>
+    ensures { IfOk result (λ stage. spot_of stage opened.new.items ≡ behind_step (reverse opened.old.items) token.now) }
+{
+    match token {
+        Token::Operator(_) => Ok(Some(Stage::Before)),
+        Token::Question => {
+            opened.push(Opened::Choice)?;
+            Ok(Some(Stage::Before))
+        }
+        Token::Colon => Ok(closed(opened, Opened::Choice, Stage::Before)),
+        Token::Close => Ok(closed(opened, Opened::Paren, Stage::Behind)),
+        Token::Semicolon => Ok(if opened.is_empty() {
+            Some(Stage::Start)
+        } else {
+            None
+        }),
+        _ => Ok(None),
+    }
+}
+
+/// Whether an operator may stand before `=`.
+fn may_change(op: BinOp) -> bool
+    ensures { result ≡ changes op }
+{
+    match op {
+        BinOp::Add => true,
+        BinOp::Sub => true,
+        BinOp::Mul => true,
+        BinOp::Div => true,
+        _ => false,
+    }
+}
+
+/// The stage behind a token behind the name with which a statement begins.
+fn behind_name(token: &Token, opened: &mut Vec<Opened>) -> Result<Option<Stage>, NoMemory>
+    ensures { IfOk result (λ stage. spot_of stage opened.new.items ≡ named_step (reverse opened.old.items) token.now) }
+{
+    match token {
+        Token::Creates => Ok(Some(Stage::Before)),
+        Token::Assigns => Ok(Some(Stage::Before)),
+        Token::Changes(op) => Ok(if may_change(*op) {
+            Some(Stage::Before)
+        } else {
+            None
+        }),
+        _ => behind_operand(token, opened),
+    }
+}
+
+/// The stage behind a token at the start of a statement.
+fn behind_start(
+    token: &Token,
+    stage: Stage,
+    opened: &mut Vec<Opened>,
+) -> Result<Option<Stage>, NoMemory>
+    ensures { IfOk result (λ next. spot_of next opened.new.items ≡ start_step stage (reverse opened.old.items) token.now) }
+{
+    match token {
+        Token::Semicolon => Ok(Some(stage)),
+        _ => behind_start_of_operand(token, Stage::Named, opened),
+    }
+}
+
+fn step(token: &Token, stage: Stage, opened: &mut Vec<Opened>) -> Result<Option<Stage>, NoMemory>
+    ensures { IfOk result (λ next. spot_of next opened.new.items ≡ stage_step stage (reverse opened.old.items) token.now) }
+{
+    match stage {
+        Stage::Blank => behind_start(token, Stage::Blank, opened),
+        Stage::Start => behind_start(token, Stage::Start, opened),
+        Stage::Named => behind_name(token, opened),
+        Stage::Before => behind_start_of_operand(token, Stage::Behind, opened),
+        Stage::Behind => behind_operand(token, opened),
+    }
+}
+
+/// Whether a text may end here.
+fn may_end(stage: Stage, opened: &[Opened]) -> bool
+    ensures { result ≡ ends_at stage opened.now }
+{
+    match stage {
+        Stage::Blank => false,
+        Stage::Before => false,
+        Stage::Behind => match opened {
+            [] => true,
+            [Opened::Whole] => true,
+            _ => false,
+        },
+        _ => opened.is_empty(),
+    }
+}
+
+/// Whether the tokens are a whole text, from this stage with this open.
+pub fn check(tokens: &[Placed], start: Stage, mut opened: Vec<Opened>) -> Result<Verdict, NoMemory>
+    ensures { IfOk result (λ verdict. Checked (start, reverse opened.items) tokens.now verdict) }
+{
+    let mut stage = start;
+    for placed in tokens {
+        match step(&placed.token, stage, &mut opened)? {
+            Some(next) => stage = next,
+            None => return Ok(Verdict::Stuck(placed.place)),
+        }
+    }
+    if may_end(stage, opened.as_slice()) {
+        return Ok(Verdict::Whole);
+    }
+    Ok(Verdict::Unfinished)
+}

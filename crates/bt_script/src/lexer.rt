@@ -1,0 +1,350 @@
+ghost use Rattle.std.specs.Prelude.{◌≡◌, ◌≤◌, ◌<◌, ◌+◌, ◌-◌, ◌^◌, ◌==◌, true, slice_index, IsUtf8, IfOk, MatchOption, length, drop, take};
+ghost use Rattle.std.specs.List.{prefix_len, position_or_len, list_all};
+ghost use Rattle.bt_script.specs.Stops.{Gives};
+ghost use Rattle.bt_script.specs.Tokens.{is_blank, is_letter, is_digit, is_rest, is_hex, digit_value, number_in, two_sign, one_sign, sign_at, decimal_end, hex_end, starts_hex, decimal_at, hex_at, word_token, word_at, text_at, token_at, unquoted_at, read_tokens};
+
+use crate::fault::ScriptFault;
+use crate::name::Name;
+use crate::stop::{NoMemory, Stop};
+use crate::syntax::{BinOp, Cmp};
+use crate::token::{Placed, Token};
+use crate::txt::Txt;
+use std::alloc::Global;
+
+fn blank(c: u8) -> bool
+    ensures { result ≡ is_blank c }
+{
+    c == b' ' || c == b'\t' || c == b'\n' || c == b'\r'
+}
+
+fn letter(c: u8) -> bool
+    ensures { result ≡ is_letter c }
+{
+    c >= b'A' && c <= b'Z' || c >= b'a' && c <= b'z' || c == b'_'
+}
+
+fn digit(c: u8) -> bool
+    ensures { result ≡ is_digit c }
+{
+    c >= b'0' && c <= b'9'
+}
+
+fn rest(c: u8) -> bool
+    ensures { result ≡ is_rest c }
+{
+    letter(c) || digit(c)
+}
+
+fn hex(c: u8) -> bool
+    ensures { result ≡ is_hex c }
+{
+    digit(c) || c >= b'A' && c <= b'F' || c >= b'a' && c <= b'f'
+}
+
+fn value(c: u8) -> u8
+    ensures value { result ≡ digit_value c }
+    ensures small { result ≤ 15 }
+{
+    match c {
+        b'0'..=b'9' => c - b'0',
+        b'A'..=b'F' => c - b'A' + 10,
+        b'a'..=b'f' => c - b'a' + 10,
+        _ => 0,
+    }
+}
+
+#[tactic(auto, using(crate::proofs::Lexing::fronts))]
+fn rest_len(bytes: &[u8]) -> usize
+    ensures value { result ≡ prefix_len is_rest bytes.now }
+    ensures within { result ≤ length bytes.now }
+{
+    bytes.iter().take_while(|c| rest(**c)).count()
+}
+
+#[tactic(auto, using(crate::proofs::Lexing::fronts))]
+fn digits_len(bytes: &[u8]) -> usize
+    ensures value { result ≡ prefix_len is_digit bytes.now }
+    ensures within { result ≤ length bytes.now }
+{
+    bytes.iter().take_while(|c| digit(**c)).count()
+}
+
+#[tactic(auto, using(crate::proofs::Lexing::fronts))]
+fn hex_len(bytes: &[u8]) -> usize
+    ensures value { result ≡ prefix_len is_hex bytes.now }
+    ensures within { result ≤ length bytes.now }
+{
+    bytes.iter().take_while(|c| hex(**c)).count()
+}
+
+/// The number that digits spell, if it is at most `i64::MAX`.
+fn number(digits: &[u8], base: u64) -> Option<i64>
+    requires { (1 ≤ base) × (base ≤ 16) }
+    ensures { result ≡ number_in base digits.now }
+{
+    let mut n: u64 = 0;
+    'digits: for c in digits {
+        let next = u128::from(n) * u128::from(base) + u128::from(value(*c));
+        if next > i64::MAX as u128 {
+            return None;
+        }
+        n = next as u64;
+    }
+    Some(n as i64)
+}
+
+fn two_bytes(c: u8, d: u8) -> Option<Token>
+    ensures { result ≡ two_sign c d }
+{
+    match (c, d) {
+        (b':', b'=') => Some(Token::Creates),
+        (b'+', b'=') => Some(Token::Changes(BinOp::Add)),
+        (b'-', b'=') => Some(Token::Changes(BinOp::Sub)),
+        (b'*', b'=') => Some(Token::Changes(BinOp::Mul)),
+        (b'/', b'=') => Some(Token::Changes(BinOp::Div)),
+        (b'&', b'&') => Some(Token::Operator(BinOp::And)),
+        (b'|', b'|') => Some(Token::Operator(BinOp::Or)),
+        (b'=', b'=') => Some(Token::Operator(BinOp::Compare(Cmp::Equal))),
+        (b'!', b'=') => Some(Token::Operator(BinOp::Compare(Cmp::Differ))),
+        (b'<', b'=') => Some(Token::Operator(BinOp::Compare(Cmp::AtMost))),
+        (b'>', b'=') => Some(Token::Operator(BinOp::Compare(Cmp::AtLeast))),
+        _ => None,
+    }
+}
+
+fn one_byte(c: u8) -> Option<Token>
+    ensures { result ≡ one_sign c }
+{
+    match c {
+        b'=' => Some(Token::Assigns),
+        b'+' => Some(Token::Operator(BinOp::Add)),
+        b'-' => Some(Token::Operator(BinOp::Sub)),
+        b'*' => Some(Token::Operator(BinOp::Mul)),
+        b'/' => Some(Token::Operator(BinOp::Div)),
+        b'&' => Some(Token::Operator(BinOp::BitAnd)),
+        b'|' => Some(Token::Operator(BinOp::BitOr)),
+        b'^' => Some(Token::Operator(BinOp::BitXor)),
+        b'<' => Some(Token::Operator(BinOp::Compare(Cmp::Less))),
+        b'>' => Some(Token::Operator(BinOp::Compare(Cmp::More))),
+        b'!' => Some(Token::Bang),
+        b'~' => Some(Token::Tilde),
+        b'?' => Some(Token::Question),
+        b':' => Some(Token::Colon),
+        b'(' => Some(Token::Open),
+        b')' => Some(Token::Close),
+        b';' => Some(Token::Semicolon),
+        _ => None,
+    }
+}
+
+/// The sign at the front, and its length.
+fn sign(bytes: &[u8], place: u32) -> Result<(Token, usize), ScriptFault>
+    ensures value { result ≡ sign_at place bytes.now }
+    ensures len { IfOk result (λ found. (0 < found.1) × (found.1 ≤ length bytes.now)) }
+{
+    match bytes {
+        [] => Err(ScriptFault::Syntax { place }),
+        [c] => match one_byte(*c) {
+            Some(token) => Ok((token, 1)),
+            None => Err(ScriptFault::Syntax { place }),
+        },
+        [c, d, ..] => match two_bytes(*c, *d) {
+            Some(token) => Ok((token, 2)),
+            None => match one_byte(*c) {
+                Some(token) => Ok((token, 1)),
+                None => Err(ScriptFault::Syntax { place }),
+            },
+        },
+    }
+}
+
+/// The fault of decimal digits with these bytes behind them.
+fn fault_behind_decimal(bytes: &[u8], place: u32) -> Option<ScriptFault>
+    ensures { result ≡ decimal_end place bytes.now }
+{
+    let c = *bytes.first()?;
+    if c == b'.' || c == b'e' || c == b'E' {
+        return Some(ScriptFault::RealNumber { place });
+    }
+    if letter(c) {
+        return Some(ScriptFault::Syntax { place });
+    }
+    None
+}
+
+/// The fault of hexadecimal digits with these bytes behind them.
+fn fault_behind_hex(bytes: &[u8], place: u32) -> Option<ScriptFault>
+    ensures { result ≡ hex_end place bytes.now }
+{
+    let c = *bytes.first()?;
+    if letter(c) {
+        return Some(ScriptFault::Syntax { place });
+    }
+    None
+}
+
+/// The decimal number at the front, and its length.
+fn decimal(bytes: &[u8], place: u32) -> Result<(Token, usize), ScriptFault>
+    ensures value { result ≡ decimal_at place bytes.now }
+    ensures len { IfOk result (λ found. found.1 ≤ length bytes.now) }
+{
+    let len = digits_len(bytes);
+    let (digits, behind) = bytes.split_at(len);
+    if let Some(fault) = fault_behind_decimal(behind, place) {
+        return Err(fault);
+    }
+    match number(digits, 10) {
+        Some(n) => Ok((Token::Number(n), len)),
+        None => Err(ScriptFault::NumberTooWide { place }),
+    }
+}
+
+/// The hexadecimal number at the front, of which these are the bytes behind `0x`, and its length.
+fn hexadecimal(bytes: &[u8], place: u32) -> Result<(Token, usize), ScriptFault>
+    requires { length bytes.now < 2 ^ 32 }
+    ensures value { result ≡ hex_at place bytes.now }
+    ensures len { IfOk result (λ found. (0 < found.1) × (found.1 ≤ length bytes.now + 2)) }
+{
+    let len = hex_len(bytes);
+    if len == 0 {
+        return Err(ScriptFault::Syntax { place });
+    }
+    let (digits, behind) = bytes.split_at(len);
+    if let Some(fault) = fault_behind_hex(behind, place) {
+        return Err(fault);
+    }
+    match number(digits, 16) {
+        Some(n) => Ok((Token::Number(n), len + 2)),
+        None => Err(ScriptFault::NumberTooWide { place }),
+    }
+}
+
+fn is_hex_mark(bytes: &[u8]) -> bool
+    ensures { result ≡ starts_hex bytes.now }
+{
+    match bytes {
+        [c, d, ..] => *c == b'0' && (*d == b'x' || *d == b'X'),
+        _ => false,
+    }
+}
+
+/// The token of a word.
+fn word(alloc: Global, word: &[u8]) -> Result<Token, NoMemory>
+    requires { list_all is_rest word.now ≡ true }
+    ensures { IfOk result (λ token. token ≡ word_token word.now) }
+{
+    if word == b"true".as_slice() {
+        return Ok(Token::Number(1));
+    }
+    if word == b"false".as_slice() {
+        return Ok(Token::Number(0));
+    }
+    let name = Name::of(Vec::from_slice(alloc, word)?);
+    Ok(Token::Word(name))
+}
+
+#[tactic(auto, using(crate::proofs::Lexing::fronts))]
+fn quote_place(bytes: &[u8]) -> usize
+    ensures value { result ≡ position_or_len (λ c. c == 39) bytes.now }
+    ensures within { result ≤ length bytes.now }
+{
+    bytes.iter().take_while(|c| **c != 39).count()
+}
+
+/// The text in single quotes, of which the first stands at this place, and its length.
+fn quoted(alloc: Global, text: &[u8], at: usize) -> Result<(Token, usize), Stop<ScriptFault>>
+    requires utf8 { IsUtf8 text.now }
+    requires short { length text.now ≤ 4096 }
+    requires inside { at < length text.now }
+    requires quote { slice_index text.now at ≡ 39 }
+    ensures value { Gives result (text_at at (drop (at + 1) text.now)) }
+    ensures len { IfOk result (λ found. (0 < found.1) × (at + found.1 ≤ length text.now)) }
+{
+    let behind = &text[at + 1..];
+    let len = quote_place(behind);
+    if len == behind.len() {
+        return Err(Stop::Fault(ScriptFault::Syntax { place: at as u32 }));
+    }
+    let body = Txt::of(Vec::from_slice(alloc, &behind[..len])?);
+    Ok((Token::Text(body), len + 2))
+}
+
+/// The number or the sign at the front, and its length.
+fn unquoted(bytes: &[u8], place: u32) -> Result<(Token, usize), ScriptFault>
+    requires { (0 < length bytes.now) × (length bytes.now ≤ 4096) }
+    ensures value { result ≡ unquoted_at place bytes.now }
+    ensures len { IfOk result (λ found. (0 < found.1) × (found.1 ≤ length bytes.now)) }
+{
+    if !digit(bytes[0]) {
+        return sign(bytes, place);
+    }
+    if is_hex_mark(bytes) {
+        return hexadecimal(&bytes[2..], place);
+    }
+    decimal(bytes, place)
+}
+
+/// The token that begins at this place, and its length.
+fn token(alloc: Global, text: &[u8], at: usize) -> Result<(Token, usize), Stop<ScriptFault>>
+    requires utf8 { IsUtf8 text.now }
+    requires short { length text.now ≤ 4096 }
+    requires inside { at < length text.now }
+    ensures value { Gives result (token_at at (drop at text.now)) }
+    ensures len { IfOk result (λ found. (0 < found.1) × (at + found.1 ≤ length text.now)) }
+{
+    let bytes = &text[at..];
+    let c = text[at];
+    let place = at as u32;
+    if letter(c) {
+        let len = rest_len(bytes);
+        return Ok((word(alloc, &bytes[..len])?, len));
+    }
+    if c == b'\'' {
+        return quoted(alloc, text, at);
+    }
+    match unquoted(bytes, place) {
+        Ok(found) => Ok(found),
+        Err(fault) => Err(Stop::Fault(fault)),
+    }
+}
+
+/// The tokens of a text, and the fault that ends them, if any.
+#[derive(Debug, Drop)]
+pub struct Lexed {
+    pub tokens: Vec<Placed>,
+    pub fault: Option<ScriptFault>,
+}
+
+/// The tokens of a text.
+pub fn read(alloc: Global, text: &[u8]) -> Result<Lexed, NoMemory>
+    requires utf8 { IsUtf8 text.now }
+    requires short { length text.now ≤ 4096 }
+    ensures tokens { IfOk result (λ read. read.tokens.items ≡ (read_tokens 0 0 text.now).tokens) }
+    ensures fault { IfOk result (λ read. read.fault ≡ (read_tokens 0 0 text.now).fault) }
+    ensures few { IfOk result (λ read. length read.tokens.items ≤ length text.now) }
+{
+    let mut tokens = Vec::new(alloc);
+    let mut at = 0;
+    while at < text.len() {
+        if blank(text[at]) {
+            at += 1;
+        } else {
+            match token(alloc, text, at) {
+                Ok((token, len)) => {
+                    let place = at as u32;
+                    tokens.push(Placed { token, place })?;
+                    at += len;
+                }
+                Err(Stop::Fault(fault)) => {
+                    let fault = Some(fault);
+                    return Ok(Lexed { tokens, fault });
+                }
+                Err(Stop::NoMemory) => return Err(NoMemory),
+            }
+        }
+    }
+    Ok(Lexed {
+        tokens,
+        fault: None,
+    })
+}
