@@ -1,5 +1,5 @@
 -- World scripts: the lines and words of a file, what a line says, and the world that the lines make.
-use Rattle.std.specs.Prelude.{ℕ, ◌+◌, ◌-◌, ◌==◌, Bool, true, false, ◌&&◌, ◌||◌, nat_lt, nat_le, nat_eq, if◌then◌else◌, List, [], ◌∷◌, ◌++◌, map, filter, position, length, take, drop, codes, bytes_eq, ℤ, pos, negsuc, int_le, nat_abs, Option, Some, None, option_map, option_and_then, option_to_list, Result, Ok, Err}
+use Rattle.std.specs.Prelude.{ℕ, ◌+◌, ◌-◌, ◌==◌, Bool, true, false, ◌&&◌, ◌||◌, nat_lt, nat_le, nat_eq, if◌then◌else◌, List, [], ◌∷◌, ◌++◌, map, filter, position, length, take, codes, bytes_eq, ℤ, pos, negsuc, int_le, nat_abs, Option, Some, None, option_map, option_and_then, option_to_list, Result, Ok, Err}
 use Rattle.std.specs.List.{slice_split, list_all, list_any, ends_with}
 use Rattle.std.specs.Str.Parse.{signed_digits_value}
 use Rattle.bt_script.specs.declared.syntax.Cmp.{Cmp}

@@ -1,6 +1,5 @@
 ghost use Rattle.std.specs.Prelude.{IfOk, IsTrue};
 ghost use Rattle.std.specs.List.{list_all};
-ghost use Rattle.bt_model.specs.Lines.{NamesOnlyFacts, note_is_nameless};
 
 use crate::block::{write_block, write_line};
 use crate::names::names_of;
@@ -83,7 +82,6 @@ fn a_world(alloc: Global) -> Result<World, NoMemory> {
 }
 
 fn some_notes(alloc: Global) -> Result<Vec<Note>, NoMemory>
-    ensures { IfOk result (λ notes. IsTrue (list_all note_is_nameless notes.items)) }
 {
     let notes = vec![in alloc;
         Note::Changed {
@@ -154,7 +152,6 @@ fn some_notes(alloc: Global) -> Result<Vec<Note>, NoMemory>
 }
 
 fn a_block(alloc: Global, header: Header) -> Result<Block, NoMemory>
-    ensures { IfOk result (λ block. NamesOnlyFacts block) }
 {
     let notes = some_notes(alloc)?;
     let facts = vec![in alloc; (1, i64::MIN), (0, 7)]?;
