@@ -1,6 +1,6 @@
 -- The tree that an element reads as.
-use Rattle.std.specs.Prelude.{ℕ, List, [], ◌∷◌, length, Bool, true, false, ◌&&◌, ◌||◌, if◌then◌else◌, nat_eq, nat_le, codes, Option, Some, None, Result, Ok, Err}
-use Rattle.std.specs.List.{list_any, list_all}
+use Rattle.std.specs.Prelude.{ℕ, List, [], ◌∷◌, length, Bool, true, false, ◌&&◌, if◌then◌else◌, nat_eq, nat_le, codes, Option, Some, None, Result, Ok, Err}
+use Rattle.std.specs.List.{list_all}
 use Rattle.std.specs.Option.{option_map, option_and_then}
 use Rattle.std.specs.Str.{bytes_eq}
 use Rattle.bt_elements.specs.declared.element.Element.{Element, Element-F, fold-Element, out-Element}
@@ -10,24 +10,20 @@ use Rattle.bt_model.specs.declared.term.Tree.{Tree}
 use Rattle.bt_model.specs.declared.term.Guards.{Guards}
 use Rattle.bt_model.specs.declared.term.Kind.{Kind}
 use Rattle.bt_model.specs.declared.term.Kind.TheVariants.{Sequence, Fallback, Leaf}
+use Rattle.bt_model.specs.Names.{is_reserved}
 use Rattle.bt_model.specs.Terms.{node_count, depth_of}
-use Rattle.bt_build.specs.Names.{built_in_names, format_names}
 
 -- what is read, or the refusal where nothing is
 abbrev pub or_unbuilt : {A : Type 0} → Option A → Result A Unbuilt
 or_unbuilt (Some x) = Ok x
 or_unbuilt None = Err (record {})
 
--- whether a name is one of these
-abbrev pub is_among : List ℕ → List (List ℕ) → Bool
-is_among name names = list_any (λ n. bytes_eq name n) names
-
 -- the kind of a node by its name: a name that is kept for nothing else is a leaf's
 abbrev pub kind_of : List ℕ → Option Kind
 kind_of name =
     if bytes_eq name (codes "Sequence") then Some Sequence
     else (if bytes_eq name (codes "Fallback") then Some Fallback
-    else (if is_among name built_in_names || is_among name format_names then None
+    else (if is_reserved name then None
     else Some Leaf))
 
 -- whether a node of this kind may have so many children

@@ -1,71 +1,7 @@
 ghost use Rattle.std.specs.Prelude.{◌≡◌, IfSome, IsTrue};
-ghost use Rattle.std.specs.List.{list_any};
-ghost use Rattle.std.specs.Str.{bytes_eq};
-ghost use Rattle.bt_build.specs.Names.{built_in_names, format_names};
-ghost use Rattle.bt_build.specs.Reads.{is_among, is_sequential, kind_of};
+ghost use Rattle.bt_build.specs.Reads.{is_sequential, kind_of};
 
-use bt_model::Kind;
-
-/// The names of the built-in nodes.
-const BUILT_IN: [&str; 26] = [
-    "Sequence",
-    "SequenceWithMemory",
-    "ReactiveSequence",
-    "Fallback",
-    "ReactiveFallback",
-    "Parallel",
-    "Switch2",
-    "Switch3",
-    "Switch4",
-    "Switch5",
-    "Switch6",
-    "IfThenElse",
-    "WhileDoElse",
-    "Inverter",
-    "ForceSuccess",
-    "ForceFailure",
-    "KeepRunningUntilFailure",
-    "RetryUntilSuccessful",
-    "Repeat",
-    "Timeout",
-    "Delay",
-    "RunOnce",
-    "AlwaysSuccess",
-    "AlwaysFailure",
-    "Script",
-    "ScriptCondition",
-];
-
-/// The names that the file format keeps for itself.
-const FORMAT: [&str; 8] = [
-    "Action",
-    "Condition",
-    "Control",
-    "Decorator",
-    "SubTree",
-    "BehaviorTree",
-    "TreeNodesModel",
-    "root",
-];
-
-/// Whether the name is one of these.
-fn is_one_of(name: &[u8], names: &[&str]) -> bool
-    ensures { result ≡ list_any (λ n. bytes_eq name.now n.now) names.now }
-{
-    names.iter().any(|n| name == n.as_bytes())
-}
-
-fn is_built_in(name: &[u8]) -> bool
-    ensures { result ≡ is_among name.now built_in_names }
-{
-    is_one_of(name, BUILT_IN.as_slice())
-}
-
-fn is_of_format(name: &[u8]) -> bool
-    ensures { result ≡ is_among name.now format_names }
-{
-    is_one_of(name, FORMAT.as_slice())
-}
+use bt_model::{Kind, is_reserved};
 
 /// The kind of a node whose element has this name, or none.
 pub fn kind_of_name(name: &[u8]) -> Option<Kind>
@@ -78,7 +14,7 @@ pub fn kind_of_name(name: &[u8]) -> Option<Kind>
     if name == b"Fallback".as_slice() {
         return Some(Kind::Fallback);
     }
-    if is_built_in(name) || is_of_format(name) {
+    if is_reserved(name) {
         return None;
     }
     Some(Kind::Leaf)

@@ -1,7 +1,7 @@
 -- The lines of a trace: one text for each thing that a block tells, with its line feed at the end.
-use Rattle.std.specs.Prelude.{ℕ, ℤ, ◌≡◌, ◌/◌, ◌%◌, ◌++◌, List, [], ◌∷◌, Bool, true, false, IsTrue, map, slice_index, slice_index_or, codes, decimal, nat_eq, nat_lt, if◌then◌else◌}
+use Rattle.std.specs.Prelude.{ℕ, ℤ, ◌/◌, ◌%◌, ◌++◌, List, [], ◌∷◌, map, slice_index, slice_index_or, codes, decimal, nat_eq, nat_lt, if◌then◌else◌}
 use Rattle.std.specs.Fmt.{signed_decimal}
-use Rattle.std.specs.List.{flat_map, list_all}
+use Rattle.std.specs.List.{flat_map}
 use Rattle.bt_model.specs.declared.block.Block.{Block}
 use Rattle.bt_model.specs.declared.block.Header.{Header}
 use Rattle.bt_model.specs.declared.block.Header.TheVariants as header

@@ -12,6 +12,7 @@ use Rattle.bt_model.specs.declared.world.Event.{Event}
 use Rattle.bt_model.specs.declared.world.What.{What}
 use Rattle.bt_model.specs.declared.world.What.TheVariants.{Tick, Change}
 use Rattle.bt_model.specs.declared.world.World.{World}
+use Rattle.bt_model.specs.Names.{is_reserved}
 
 -- ---- Lines and words
 
@@ -198,22 +199,9 @@ is_runner = in_range (pos 1) (pos 1)
 abbrev pub fact_number : List Fact → List ℕ → Option ℕ
 fact_number facts name = position (λ f. bytes_eq f.name name) facts
 
--- the IDs of the built-in nodes, and the other names of elements
-abbrev pub reserved_names : List (List ℕ)
-reserved_names =
-    codes "Sequence" ∷ codes "SequenceWithMemory" ∷ codes "ReactiveSequence"
-    ∷ codes "Fallback" ∷ codes "ReactiveFallback" ∷ codes "Parallel"
-    ∷ codes "Switch2" ∷ codes "Switch3" ∷ codes "Switch4" ∷ codes "Switch5" ∷ codes "Switch6"
-    ∷ codes "IfThenElse" ∷ codes "WhileDoElse"
-    ∷ codes "Inverter" ∷ codes "ForceSuccess" ∷ codes "ForceFailure" ∷ codes "KeepRunningUntilFailure"
-    ∷ codes "RetryUntilSuccessful" ∷ codes "Repeat" ∷ codes "Timeout" ∷ codes "Delay" ∷ codes "RunOnce"
-    ∷ codes "AlwaysSuccess" ∷ codes "AlwaysFailure" ∷ codes "Script" ∷ codes "ScriptCondition"
-    ∷ codes "Action" ∷ codes "Condition" ∷ codes "Control" ∷ codes "Decorator" ∷ codes "SubTree"
-    ∷ codes "BehaviorTree" ∷ codes "TreeNodesModel" ∷ codes "root" ∷ []
-
 -- whether no further row may have this ID
 abbrev pub is_taken : List Row → List ℕ → Bool
-is_taken rows id = list_any (bytes_eq id) reserved_names || list_any (λ row. bytes_eq row.id id) rows
+is_taken rows id = is_reserved id || list_any (λ row. bytes_eq row.id id) rows
 
 -- a row of which nothing more is said
 abbrev pub plain_row : List ℕ → RowSort → Row

@@ -1,9 +1,8 @@
-ghost use Rattle.std.specs.Prelude.{◌≡◌, ◌||◌, IfOk, IsTrue, bytes_eq};
-ghost use Rattle.std.specs.List.{list_any, list_all};
-ghost use Rattle.bt_model.specs.WorldFile.{is_digit, is_identifier, is_letter, reserved_names};
+ghost use Rattle.std.specs.Prelude.{◌≡◌, ◌||◌, IfOk, IsTrue};
+ghost use Rattle.std.specs.List.{list_all};
+ghost use Rattle.bt_model.specs.WorldFile.{is_digit, is_identifier, is_letter};
 ghost use Rattle.bt_model.specs.WorldFile as file;
 
-use crate::lines::is;
 use bt_script::{Name, NoMemory};
 use std::alloc::Global;
 
@@ -48,54 +47,4 @@ pub fn name_of(alloc: Global, word: &[u8]) -> Result<Name, NoMemory>
 {
     let bytes = Vec::from_slice(alloc, word)?;
     Ok(Name::of(bytes))
-}
-
-const RESERVED: [&str; 34] = [
-    "Sequence",
-    "SequenceWithMemory",
-    "ReactiveSequence",
-    "Fallback",
-    "ReactiveFallback",
-    "Parallel",
-    "Switch2",
-    "Switch3",
-    "Switch4",
-    "Switch5",
-    "Switch6",
-    "IfThenElse",
-    "WhileDoElse",
-    "Inverter",
-    "ForceSuccess",
-    "ForceFailure",
-    "KeepRunningUntilFailure",
-    "RetryUntilSuccessful",
-    "Repeat",
-    "Timeout",
-    "Delay",
-    "RunOnce",
-    "AlwaysSuccess",
-    "AlwaysFailure",
-    "Script",
-    "ScriptCondition",
-    "Action",
-    "Condition",
-    "Control",
-    "Decorator",
-    "SubTree",
-    "BehaviorTree",
-    "TreeNodesModel",
-    "root",
-];
-
-fn is_among(id: &[u8], names: &[&str]) -> bool
-    ensures { result ≡ list_any (λ name. bytes_eq id.now name.now) names.now }
-{
-    names.iter().any(|name| is(id, name))
-}
-
-/// Whether no row may have this ID.
-pub fn is_reserved(id: &[u8]) -> bool
-    ensures { result ≡ list_any (bytes_eq id.now) reserved_names }
-{
-    is_among(id, &RESERVED)
 }

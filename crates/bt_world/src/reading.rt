@@ -4,9 +4,9 @@ ghost use Rattle.bt_model.specs.WorldFile.{closed, is_name, is_taken, nothing_re
 ghost use Rattle.bt_model.specs.WorldFile as file;
 ghost use Rattle.bt_world.specs.Readings.{LeavesOrRefuses};
 
-use crate::names::{is_reserved, name_of};
+use crate::names::name_of;
 use crate::read::Unbuilt;
-use bt_model::{Event, Fact, Row, RowSort, Set, What, World};
+use bt_model::{Event, Fact, Row, RowSort, Set, What, World, is_reserved};
 use bt_script::{Cmp, Items, Name, NoMemory, Stop};
 use std::alloc::Global;
 use std::marker::Model;

@@ -1,5 +1,7 @@
--- The names of elements that are no leaf.
-use Rattle.std.specs.Prelude.{ℕ, List, [], ◌∷◌, codes}
+-- The names that are no leaf's: those of the built-in nodes, and those that tree files keep for themselves.
+use Rattle.std.specs.Prelude.{ℕ, List, [], ◌∷◌, Bool, ◌||◌, codes}
+use Rattle.std.specs.List.{list_any}
+use Rattle.std.specs.Str.{bytes_eq}
 
 -- the names of the built-in nodes
 abbrev pub built_in_names : List (List ℕ)
@@ -16,3 +18,11 @@ abbrev pub format_names : List (List ℕ)
 format_names =
     codes "Action" ∷ codes "Condition" ∷ codes "Control" ∷ codes "Decorator" ∷ codes "SubTree"
     ∷ codes "BehaviorTree" ∷ codes "TreeNodesModel" ∷ codes "root" ∷ []
+
+-- whether a name is one of these
+abbrev pub is_among : List ℕ → List (List ℕ) → Bool
+is_among name names = list_any (λ n. bytes_eq name n) names
+
+-- whether a name is no leaf's
+abbrev pub is_reserved : List ℕ → Bool
+is_reserved name = is_among name built_in_names || is_among name format_names
