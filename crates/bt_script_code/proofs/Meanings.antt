@@ -19,7 +19,8 @@ use Rattle.bt_script_code.specs.Operators.{◌>>=◌, unary_on, combined, chosen
 use Rattle.bt_script_code.specs.Entries.{entry_of}
 use Rattle.bt_script_code.specs.Evaluation.{eval_step, eval_of, stmt_of, stmts_of, written, if_there, followed}
 use Rattle.bt_script_code.specs.Programs.{formula_of, program_of}
-use Rattle.bt_script_code.specs.Sources.{reach_step, reach_of, texts_step, texts_of, stmt_reach, stmt_expr, greatest}
+use Rattle.bt_script.specs.Grammar.{expr_of}
+use Rattle.bt_script_code.specs.Sources.{reach_step, reach_of, texts_step, texts_of, stmt_reach, greatest}
 use Rattle.bt_script_code.specs.SlotTrees.{tree_step, tree_value, tree_reach_step, tree_reach, tree_texts_step, tree_texts, tree_formula, slot_stmt, slot_stmt_reach, slot_stmt_texts, slot_stmts, slot_program, paired, slotted_step, slotted_expr, slotted_stmt}
 
 -- an operator between two trees
@@ -150,7 +151,7 @@ same_stmt_reach names (Change op name e) =
     omega (arith, tree_reach-paired op (roll-SlotExpr (slot.Look (names name))) (slotted_expr names e), fold-roll-SlotExpr ℕ tree_reach_step (slot.Look (names name)), same_reach names e)
 same_stmt_reach names (Plain e) = same_reach names e
 
-same_stmt_texts : (names : List ℕ → ℕ) (s : Stmt) → slot_stmt_texts (slotted_stmt names s) ≡ texts_of (stmt_expr s)
+same_stmt_texts : (names : List ℕ → ℕ) (s : Stmt) → slot_stmt_texts (slotted_stmt names s) ≡ texts_of (expr_of s)
 same_stmt_texts names (Create name e) = same_texts names e
 same_stmt_texts names (Assign name e) = same_texts names e
 same_stmt_texts names (Change op name e) =
@@ -165,7 +166,7 @@ same_reaches : (names : List ℕ → ℕ) (stmts : List Stmt) → greatest (map 
 same_reaches names [] = refl
 same_reaches names (s ∷ stmts) = λ i. max (same_stmt_reach names s i) (same_reaches names stmts i)
 
-same_text_counts : (names : List ℕ → ℕ) (stmts : List Stmt) → map slot_stmt_texts (map (slotted_stmt names) stmts) ≡ map (λ s. texts_of (stmt_expr s)) stmts
+same_text_counts : (names : List ℕ → ℕ) (stmts : List Stmt) → map slot_stmt_texts (map (slotted_stmt names) stmts) ≡ map (λ s. texts_of (expr_of s)) stmts
 same_text_counts names [] = refl
 same_text_counts names (s ∷ stmts) = λ i. same_stmt_texts names s i ∷ same_text_counts names stmts i
 

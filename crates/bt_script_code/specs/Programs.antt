@@ -5,7 +5,8 @@ use Rattle.bt_script.specs.declared.syntax.Expr.{Expr}
 use Rattle.bt_script.specs.declared.syntax.Stmt.{Stmt}
 use Rattle.bt_script_code.specs.declared.fault.ExecFault.{ExecFault}
 use Rattle.bt_script_code.specs.Evaluation.{Run, eval_of, exec_of}
-use Rattle.bt_script_code.specs.Sources.{reach_of, texts_of, stmt_reach, stmt_expr, greatest}
+use Rattle.bt_script.specs.Grammar.{expr_of}
+use Rattle.bt_script_code.specs.Sources.{reach_of, texts_of, stmt_reach, greatest}
 
 -- the meaning of an expression's code
 pub record Formula : Type 0 where
@@ -38,5 +39,5 @@ abbrev pub program_of : (List ℕ → ℕ) → List Stmt → Program
 program_of names stmts = record {
   run = exec_of names stmts;
   reach = greatest (map (stmt_reach names) stmts);
-  texts = sum (map (λ s. texts_of (stmt_expr s)) stmts);
+  texts = sum (map (λ s. texts_of (expr_of s)) stmts);
 }

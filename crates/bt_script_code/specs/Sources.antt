@@ -8,6 +8,7 @@ use Rattle.bt_script.specs.declared.syntax.Expr.{Expr, fold-Expr}
 use Rattle.bt_script.specs.declared.syntax.Expr.TheOpen.{Expr-F, Num, Lit, Look, Group, Unary, Binary, Choose}
 use Rattle.bt_script.specs.declared.syntax.Stmt.{Stmt}
 use Rattle.bt_script.specs.declared.syntax.Stmt.TheVariants.{Create, Assign, Change, Plain}
+use Rattle.bt_script.specs.Grammar.{expr_of, height}
 
 -- the slot of a name: that of its first pair, and 0 where no pair has it
 abbrev pub slot_of : List (List ℕ × ℕ) → List ℕ → ℕ
@@ -33,26 +34,6 @@ stmt_names (Create name e) = name ∷ names_of e
 stmt_names (Assign name e) = name ∷ names_of e
 stmt_names (Change op name e) = name ∷ names_of e
 stmt_names (Plain e) = names_of e
-
-abbrev pub height_step : Expr-F ℕ → ℕ
-height_step (Num n) = 1
-height_step (Lit t) = 1
-height_step (Look name) = 1
-height_step (Group a) = 1 + a
-height_step (Unary op a) = 1 + a
-height_step (Binary op a b) = 1 + max a b
-height_step (Choose a b c) = 1 + max a (max b c)
-
--- the height of an expression: that of a number, a text or a name is 1
-abbrev pub height_of : Expr → ℕ
-height_of = fold-Expr ℕ height_step
-
--- the expression of a statement
-abbrev pub stmt_expr : Stmt → Expr
-stmt_expr (Create name e) = e
-stmt_expr (Assign name e) = e
-stmt_expr (Change op name e) = e
-stmt_expr (Plain e) = e
 
 -- one of the four operators of arithmetic
 abbrev pub IsArithmetic : BinOp → Type 0
@@ -81,7 +62,7 @@ IsListed slots name = Contains (map (λ pair. pair.0) slots) name
 -- what is asked of a statement that is compiled
 pub record IsCompilable (slots : List (List ℕ × ℕ)) (s : Stmt) : Type 0 where
   pub named : All (IsListed slots) (stmt_names s)
-  pub low : height_of (stmt_expr s) ≤ 64
+  pub low : height (expr_of s) ≤ 64
   pub arithmetic : ChangesByArithmetic s
 
 abbrev pub reach_step : (List ℕ → ℕ) → Expr-F ℕ → ℕ

@@ -2,7 +2,8 @@ ghost use Rattle.std.specs.Prelude.{◌≡◌, ◌<◌, ◌≤◌, ℕ, IfOk, le
 ghost use Rattle.std.specs.List.{All};
 ghost use Rattle.bt_script_code.specs.Codes.{program, formula};
 ghost use Rattle.bt_script_code.specs.Programs.{program_of, formula_of};
-ghost use Rattle.bt_script_code.specs.Sources.{slot_of, names_of, height_of, IsListed, IsCompilable};
+ghost use Rattle.bt_script.specs.Grammar.{height};
+ghost use Rattle.bt_script_code.specs.Sources.{slot_of, names_of, IsListed, IsCompilable};
 ghost use Rattle.bt_script_code.specs.SlotTrees.{paired, slotted_expr, slotted_stmt};
 
 use crate::codes::{Code, ExprCode};
@@ -108,7 +109,7 @@ pub fn compile(alloc: Global, script: &Script, slots: &[(Name, u32)]) -> Result<
 /// The code of an expression, with each name replaced by its slot. The first pair of a name counts.
 pub fn compile_expr(alloc: Global, e: &Expr, slots: &[(Name, u32)]) -> Result<ExprCode, NoMemory>
     requires named { All (IsListed slots.now) (names_of e.now) }
-    requires low { height_of e.now ≤ 64 }
+    requires low { height e.now ≤ 64 }
     ensures meaning { IfOk result (λ code. formula code ≡ formula_of (slot_of slots.now) e.now) }
     ensures reach { (n : ℕ) → All (λ pair. pair.1 < n) slots.now → IfOk result (λ code. (formula code).reach ≤ n) }
 {

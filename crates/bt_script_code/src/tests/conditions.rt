@@ -1,7 +1,8 @@
 //! Whether a script may be compiled, tested at run time.
 ghost use Rattle.std.specs.Prelude.{◌≡◌, ◌<◌, ◌≤◌, IsTrue};
 ghost use Rattle.std.specs.List.{All};
-ghost use Rattle.bt_script_code.specs.Sources.{IsListed, IsArithmetic, IsCompilable, names_of, height_of, texts_of};
+ghost use Rattle.bt_script.specs.Grammar.{height};
+ghost use Rattle.bt_script_code.specs.Sources.{IsListed, IsArithmetic, IsCompilable, names_of, texts_of};
 
 use bt_script::{BinOp, Expr, Name, Stmt};
 
@@ -18,33 +19,33 @@ fn is_listed(slots: &[(Name, u32)], name: &Name) -> bool
 }
 
 /// Whether the expression's names are listed, and it is no higher than this.
-pub fn expr_fits(e: &Expr, slots: &[(Name, u32)], height: u32) -> bool
+pub fn expr_fits(e: &Expr, slots: &[(Name, u32)], most: u32) -> bool
     ensures named { IsTrue result → All (IsListed slots.now) (names_of e.now) }
-    ensures low { IsTrue result → height_of e.now ≤ height }
+    ensures low { IsTrue result → height e.now ≤ most }
 {
-    if height == 0 {
+    if most == 0 {
         return false;
     }
     match e {
         Expr::Num(_) => true,
         Expr::Lit(_) => true,
         Expr::Look(name) => is_listed(slots, name),
-        Expr::Group(a) => expr_fits(a.get(), slots, height - 1),
-        Expr::Unary(_, a) => expr_fits(a.get(), slots, height - 1),
+        Expr::Group(a) => expr_fits(a.get(), slots, most - 1),
+        Expr::Unary(_, a) => expr_fits(a.get(), slots, most - 1),
         Expr::Binary(_, a, b) => {
-            if !expr_fits(a.get(), slots, height - 1) {
+            if !expr_fits(a.get(), slots, most - 1) {
                 return false;
             }
-            expr_fits(b.get(), slots, height - 1)
+            expr_fits(b.get(), slots, most - 1)
         }
         Expr::Choose(a, b, c) => {
-            if !expr_fits(a.get(), slots, height - 1) {
+            if !expr_fits(a.get(), slots, most - 1) {
                 return false;
             }
-            if !expr_fits(b.get(), slots, height - 1) {
+            if !expr_fits(b.get(), slots, most - 1) {
                 return false;
             }
-            expr_fits(c.get(), slots, height - 1)
+            expr_fits(c.get(), slots, most - 1)
         }
     }
 }

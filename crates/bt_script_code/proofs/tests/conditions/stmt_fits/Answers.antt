@@ -5,10 +5,11 @@ use Rattle.bt_script.specs.declared.syntax.BinOp.{BinOp}
 use Rattle.bt_script.specs.declared.syntax.Expr.{Expr}
 use Rattle.bt_script.specs.declared.syntax.Stmt.{Stmt}
 use Rattle.bt_script.specs.declared.syntax.Stmt.TheVariants.{Create, Assign, Change, Plain}
-use Rattle.bt_script_code.specs.Sources.{names_of, height_of, IsListed, IsArithmetic, IsCompilable}
+use Rattle.bt_script.specs.Grammar.{height}
+use Rattle.bt_script_code.specs.Sources.{names_of, IsListed, IsArithmetic, IsCompilable}
 use Rattle.bt_script_code.proofs.tests.conditions.stmt_fits.Goals as goal
 
-module _ (slots : List (List ℕ × ℕ)) (whole : Stmt) (name : List ℕ) (e : Expr) (all : All (IsListed slots) (names_of e)) (low : height_of e ≤ 64) where
+module _ (slots : List (List ℕ × ℕ)) (whole : Stmt) (name : List ℕ) (e : Expr) (all : All (IsListed slots) (names_of e)) (low : height e ≤ 64) where
   plain_fits : whole ≡ Plain e → IsCompilable slots whole
   plain_fits is = subst (IsCompilable slots) (sym is) (record { named = all; low = low; arithmetic = tt })
 
