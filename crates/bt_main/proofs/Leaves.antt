@@ -3,10 +3,10 @@ use Rattle.std.proofs.Common.{◌≡◌, ℕ, ◌+◌, ◌<◌, List, [], ◌∷
 use Rattle.std.specs.Prelude.{find, IsErr, Result, Ok, Err}
 use Rattle.std.specs.List.{flat_map}
 use Rattle.std.proofs.lemmas.List.{drop_more}
-use Rattle.bt_model.specs.declared.term.Term.{Term, fold_out-Term, out-Term}
+use Rattle.bt_model.specs.declared.term.Term.{Term}
 use Rattle.bt_model.specs.declared.term.Tree.{Tree}
 use Rattle.bt_model.specs.declared.world.World.{World}
-use Rattle.bt_model.specs.Terms.{leaf_ids, own_leaf_id}
+use Rattle.bt_model.specs.Terms.{leaf_ids}
 use Rattle.bt_model.specs.WorldFile.{WorldFault}
 use Rattle.bt_main.specs.Output.{world_output, world_unbuilt}
 

@@ -1,10 +1,9 @@
 -- The steps of a run with one runner.
-use Rattle.std.proofs.Common.{◌≡◌, ℕ, ℤ, zero, suc, ◌+◌, ◌-◌, ◌<◌, ◌≤◌, List, [], ◌∷◌, ◌++◌, Bool, true, false, cond, Option, Some, None, slice_get, slice_set, drop, refl, sym, ap, ◌∙◌, append_assoc, append-nil, arith, Result, Ok}
+use Rattle.std.proofs.Common.{◌≡◌, ℕ, ℤ, zero, suc, ◌+◌, ◌-◌, ◌<◌, ◌≤◌, List, [], ◌∷◌, ◌++◌, Bool, true, false, cond, Option, Some, None, slice_get, slice_set, drop, refl, sym, ap, ◌∙◌, append_assoc, append-nil, arith, Ok}
 use Rattle.std.specs.Ordering.{int_eq}
 use Rattle.std.proofs.lemmas.Grind.{common_steps}
 use Rattle.std.proofs.lemmas.List.{drop_more}
 use Rattle.std.proofs.lemmas.Option.{slice_get_within, get_or_from_slice_get}
-use Rattle.bt_model.specs.declared.block.Block.{Block}
 use Rattle.bt_model.specs.declared.block.Header.{Header}
 use Rattle.bt_model.specs.declared.block.Header.TheVariants as header
 use Rattle.bt_model.specs.declared.leaf.Instance.{Instance}
@@ -13,8 +12,8 @@ use Rattle.bt_model.specs.declared.note.Note.{Note}
 use Rattle.bt_model.specs.declared.note.Note.TheVariants.{Root}
 use Rattle.bt_model.specs.declared.status.Answer.{Answer}
 use Rattle.bt_model.specs.declared.world.Row.{Row}
-use Rattle.bt_model.specs.Done.{Done, State, follow}
-use Rattle.bt_model.specs.Run.{RunState, Runner, Stepped, changed_facts, changed_from, reset_step, root_told, runner_at, settled, stepped, tick_step, ticked}
+use Rattle.bt_model.specs.Done.{Done, State}
+use Rattle.bt_model.specs.Run.{Runner, Stepped, changed_facts, changed_from, reset_step, root_told, runner_at, settled, stepped, tick_step, ticked}
 use Rattle.bt_model.specs.Visit.{Meaning, change, remembered}
 use Rattle.bt_main.specs.Runs.{after_step, one_runner}
 use Rattle.bt_tick.specs.Shown.{Shown, plain_state, shown, shows}
@@ -71,8 +70,8 @@ tick_is root rows a m m0 i i0 facts f0 n n1 runner at last changes first made no
     let told : List Note → Shown Answer Memory = λ ns. shows a m1 s ns in
     let visited : Done Answer Memory = root.visit rows 1 m0 (plain_state f0 i0) at in
     let whole : shows a m1 s n1 ≡ shown [] (ticked root rows runner at m0 (plain_state f0 i0)) =
-        ap told (noted ∙ append_assoc n (Root runner a ∷ []) (change 1 (out-Memory m).status (settled (out-Memory m).status)))
-        ∙ sym (follow_made a m s n [] visited (λ k. k) (λ b k t. root_told runner b k t) made) in
+    ap told (noted ∙ append_assoc n (Root runner a ∷ []) (change 1 (out-Memory m).status (settled (out-Memory m).status)))
+    ∙ sym (follow_made a m s n [] visited (λ k. k) (λ b k t. root_told runner b k t) made) in
     stepped_is a m1 m0 i i0 facts f0 n1 (ticked root rows runner at m0 (plain_state f0 i0)) (header.Tick runner at) runner at last changes first whole is_changes
     ∙ ap (λ (o : Option Runner). tick_step o root rows runner at (one_runner m0 i0 f0 last)) (sym (there m0 i0 f0 last runner first))
 

@@ -1,16 +1,15 @@
 -- What holds of each world that a file describes: it has few facts, and one runner.
-use Rattle.std.proofs.Common.{◌≡◌, ℕ, ℤ, ◌+◌, ◌<◌, ◌≤◌, ◌^◌, List, [], ◌∷◌, ◌++◌, length, Bool, true, false, cond, Option, Some, None, Result, Ok, Err, refl, subst, sym, arith, length-append}
+use Rattle.std.proofs.Common.{◌≡◌, ℕ, ℤ, ◌+◌, ◌<◌, ◌≤◌, ◌^◌, List, [], ◌∷◌, ◌++◌, length, Bool, true, false, cond, Option, Some, None, Result, Ok, Err, refl, subst, arith, length-append}
 use Rattle.std.specs.Prelude.{nat_le, nat_lt, nat_abs, codes, bytes_eq}
 use Rattle.std.specs.List.{list_any, list_all}
 use Rattle.std.proofs.lemmas.Grind.{common_steps}
 use Rattle.bt_script.specs.declared.syntax.Cmp.{Cmp}
 use Rattle.bt_model.specs.declared.world.Fact.{Fact}
 use Rattle.bt_model.specs.declared.world.Row.{Row}
-use Rattle.bt_model.specs.declared.world.RowSort.{RowSort}
 use Rattle.bt_model.specs.declared.world.What.{What}
 use Rattle.bt_model.specs.declared.world.What.TheVariants.{Tick, Change}
 use Rattle.bt_model.specs.declared.world.World.{World}
-use Rattle.bt_model.specs.WorldFile.{Line, FactLine, ConditionLine, TimedLine, ReplayLine, SetsLine, AtLine, TickLine, SetLine, Reading, WorldFault, WorldKind, closed, fact_number, go_on, of_open, ranged, row_with_effect, with_action, with_change, with_change_of, with_condition, with_condition_on, with_effect, with_event, with_fact, with_form, with_line, with_lines, with_moment, with_open_row, with_text, world_after, world_in, world_of, world_of_lines, is_int, is_line_byte, is_ms, is_runner, is_taken, line_in, lines_in, nothing_read, without_return, words_in}
+use Rattle.bt_model.specs.WorldFile.{Line, FactLine, ConditionLine, TimedLine, ReplayLine, SetsLine, AtLine, TickLine, SetLine, Reading, WorldFault, WorldKind, closed, fact_number, go_on, of_open, ranged, row_with_effect, with_change_of, with_condition_on, with_event, with_fact, with_form, with_line, with_lines, with_open_row, with_text, world_after, world_in, world_of_lines, is_int, is_line_byte, is_ms, is_runner, is_taken, line_in, lines_in, nothing_read, without_return, words_in}
 
 -- a reading without too many facts, where there is one
 abbrev Few : {F : Type 0} → Result Reading F → Type 0

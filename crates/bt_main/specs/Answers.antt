@@ -1,5 +1,5 @@
 -- What the answer of a command says.
-use Rattle.std.specs.Prelude.{ℕ, ◌≡◌, ◌⊎◌, List, Option, Some, None, ◌++◌}
+use Rattle.std.specs.Prelude.{ℕ, ◌≡◌, ◌⊎◌, List, Option, Some, None}
 use Rattle.bt_main.specs.declared.exit.Exit.{Exit}
 use Rattle.bt_main.specs.declared.exit.Exit.TheVariants as exit
 use Rattle.bt_main.specs.Output.{Output, CommandGives, FilesGive, tree_unread, world_unread}

@@ -16,8 +16,8 @@ use crate::words::word_of;
 use bt_outside::{DirShelf, OutSink};
 use bt_script::{Name, NoMemory};
 use std::alloc::AllocFailed;
-use std::process::ExitCode;
 use std::env::Env;
+use std::process::ExitCode;
 use std::{env, io};
 
 /// Why the words of the command line can't be had.

@@ -217,11 +217,7 @@ fn settled_status(status: Status) -> Status
 }
 
 /// The facts whose values differ, by their number, with their new values.
-fn changed(
-    alloc: Global,
-    before: &[i64],
-    after: &[i64],
-) -> Result<Items<(u32, i64)>, NoMemory>
+fn changed(alloc: Global, before: &[i64], after: &[i64]) -> Result<Items<(u32, i64)>, NoMemory>
     requires { length before.now < 2 ^ 32 }
     ensures { IfOk result (λ facts. facts ≡ changed_facts before.now after.now) }
 {
@@ -242,12 +238,7 @@ fn value_at(values: &[i64], place: usize) -> Option<&i64>
 }
 
 /// Notes a fact whose value differs.
-fn note_fact(
-    facts: &mut Vec<(u32, i64)>,
-    fact: u32,
-    old: &i64,
-    new: &i64,
-) -> Result<(), NoMemory>
+fn note_fact(facts: &mut Vec<(u32, i64)>, fact: u32, old: &i64, new: &i64) -> Result<(), NoMemory>
     ensures { OnOk result (facts.new.items ≡ facts.old.items ++ (if int_eq old.now new.now then [] else (fact, new.now) ∷ [])) }
 {
     if *old != *new {

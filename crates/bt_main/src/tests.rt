@@ -8,7 +8,9 @@ use std::test::Fail;
 
 /// A tree file whose one tree has these nodes.
 fn tree_of(alloc: Global, nodes: &str) -> Result<Vec<u8>, AllocError> {
-    let text = format!(in alloc; "<root BTCPP_format=\"4\"><BehaviorTree ID=\"M\">{nodes}</BehaviorTree></root>")?;
+    let text = format!(in alloc;
+        "<root BTCPP_format=\"4\"><BehaviorTree ID=\"M\">{nodes}</BehaviorTree></root>"
+    )?;
     Ok(text.into_bytes())
 }
 
@@ -59,17 +61,27 @@ fn tick_over(
 }
 
 const TWO_CHECKS: &str = "<Sequence><A/><B/></Sequence>";
-const TWO_CONDITIONS: &str = "fact x 1\ncondition A is x == 1\ncondition B is x < 2\ntick 1";
-const TWO_CHECKS_TRACE: &str = "tick 1 at 0\nnode 1 IDLE RUNNING\ncall 2 start SUCCESS\nnode 2 IDLE SUCCESS\ncall 3 start SUCCESS\nnode 3 IDLE SUCCESS\nnode 2 SUCCESS IDLE\nnode 3 SUCCESS IDLE\nnode 1 RUNNING SUCCESS\nroot 1 SUCCESS\nnode 1 SUCCESS IDLE\nfinish 1 at 0\n";
 
-const CHECK_THEN_ACT: &str = "fact x 1\ncondition A is x == 1\naction B timed 300\ntick 1\nat 299\ntick 1";
-const HELD_TRACE: &str = "tick 1 at 0\nnode 1 IDLE RUNNING\ncall 2 start SUCCESS\nnode 2 IDLE SUCCESS\ncall 3 start RUNNING\nnode 3 IDLE RUNNING\nroot 1 RUNNING\ntick 1 at 299\ncall 3 running RUNNING\nroot 1 RUNNING\n";
+const TWO_CONDITIONS: &str = "fact x 1\ncondition A is x == 1\ncondition B is x < 2\ntick 1";
+
+const TWO_CHECKS_TRACE: &str =
+    "tick 1 at 0\nnode 1 IDLE RUNNING\ncall 2 start SUCCESS\nnode 2 IDLE SUCCESS\ncall 3 start SUCCESS\nnode 3 IDLE SUCCESS\nnode 2 SUCCESS IDLE\nnode 3 SUCCESS IDLE\nnode 1 RUNNING SUCCESS\nroot 1 SUCCESS\nnode 1 SUCCESS IDLE\nfinish 1 at 0\n";
+
+const CHECK_THEN_ACT: &str =
+    "fact x 1\ncondition A is x == 1\naction B timed 300\ntick 1\nat 299\ntick 1";
+
+const HELD_TRACE: &str =
+    "tick 1 at 0\nnode 1 IDLE RUNNING\ncall 2 start SUCCESS\nnode 2 IDLE SUCCESS\ncall 3 start RUNNING\nnode 3 IDLE RUNNING\nroot 1 RUNNING\ntick 1 at 299\ncall 3 running RUNNING\nroot 1 RUNNING\n";
 
 #[test]
 fn traces_are_those_of_the_worked_rows(rt: HostRuntime) -> Result<(), Fail> {
     let alloc = rt.alloc();
-    let done = format!(in alloc; "{HELD_TRACE}tick 1 at 300\ncall 3 running SUCCESS\nnode 3 RUNNING SUCCESS\nnode 2 SUCCESS IDLE\nnode 3 SUCCESS IDLE\nnode 1 RUNNING SUCCESS\nroot 1 SUCCESS\nnode 1 SUCCESS IDLE\nfinish 1 at 300\n")?;
-    let halted = format!(in alloc; "{HELD_TRACE}finish 1 at 299\nnode 2 SUCCESS IDLE\ncall 3 halted\nnode 3 RUNNING IDLE\nnode 1 RUNNING IDLE\n")?;
+    let done = format!(in alloc;
+        "{HELD_TRACE}tick 1 at 300\ncall 3 running SUCCESS\nnode 3 RUNNING SUCCESS\nnode 2 SUCCESS IDLE\nnode 3 SUCCESS IDLE\nnode 1 RUNNING SUCCESS\nroot 1 SUCCESS\nnode 1 SUCCESS IDLE\nfinish 1 at 300\n"
+    )?;
+    let halted = format!(in alloc;
+        "{HELD_TRACE}finish 1 at 299\nnode 2 SUCCESS IDLE\ncall 3 halted\nnode 3 RUNNING IDLE\nnode 1 RUNNING IDLE\n"
+    )?;
     let act = format!(in alloc; "{CHECK_THEN_ACT}\nat 300\ntick 1")?;
     let table: [(&str, &str, Exit, &str); 9] = [
         (TWO_CHECKS, TWO_CONDITIONS, Exit::Done, TWO_CHECKS_TRACE),
@@ -105,7 +117,12 @@ fn traces_are_those_of_the_worked_rows(rt: HostRuntime) -> Result<(), Fail> {
             Exit::World,
             "refused world NoRow 'Q'\n",
         ),
-        ("<Sequence/>", "tick 1", Exit::Tree, "refused tree Unbuilt\n"),
+        (
+            "<Sequence/>",
+            "tick 1",
+            Exit::Tree,
+            "refused tree Unbuilt\n",
+        ),
     ];
     for (nodes, lines, exit, trace) in table {
         let mut sink = MemSink::new(alloc, Vec::new(alloc));
@@ -126,14 +143,22 @@ fn refusals_have_their_line(rt: HostRuntime) -> Result<(), Fail> {
         (&["Tick", "T", "W"], Exit::Words, "refused words\n"),
         (&["tick", "T", "W"], Exit::Done, TWO_CHECKS_TRACE),
         (&["tick", "none", "W"], Exit::Tree, "refused tree Unbuilt\n"),
-        (&["tick", "T", "none"], Exit::World, "refused world Unbuilt\n"),
+        (
+            &["tick", "T", "none"],
+            Exit::World,
+            "refused world Unbuilt\n",
+        ),
     ];
     for (words, exit, line) in table {
         let tree = tree_of(alloc, TWO_CHECKS)?;
         let world = world_of(alloc, TWO_CONDITIONS)?;
         let mut shelf = shelf_of(alloc, tree, world, Vec::new(alloc))?;
         let mut sink = MemSink::new(alloc, Vec::new(alloc));
-        assert_eq!(rt; answer_words(alloc, words, &mut shelf, &mut sink)?, exit, "{line}");
+        assert_eq!(rt;
+            answer_words(alloc, words, &mut shelf, &mut sink)?,
+            exit,
+            "{line}"
+        );
         assert_eq!(rt; sink.list(), line.as_bytes());
     }
     Ok(())

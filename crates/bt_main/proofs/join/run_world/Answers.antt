@@ -1,7 +1,7 @@
 use Rattle.std.proofs.Common.{inl}
 use Rattle.bt_main.specs.Output.{world_unbuilt}
 use Rattle.bt_main.proofs.Leaves.{refused_world}
-use Rattle.bt_main.proofs.Worlds.{few_facts, one_runner_only}
+use Rattle.bt_main.proofs.Worlds.{few_facts}
 use Rattle.bt_main.proofs.join.run_world.Goals as goal
 
 pub run_joined-requires-clause-few : goal.run_joined-requires-clause-few

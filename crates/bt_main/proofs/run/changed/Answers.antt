@@ -1,5 +1,4 @@
-use Rattle.std.proofs.Common.{◌≡◌, ℤ, pos, ◌∷◌, ◌++◌, ◌+◌, ◌<◌, length, drop, get_or, List, ℕ, [], ap, sym, ◌∙◌, append-nil, arith}
-use Rattle.std.proofs.lemmas.Grind.{common_steps}
+use Rattle.std.proofs.Common.{ℤ, pos, ◌++◌, ◌<◌, length, drop, List, ℕ, ap, sym, ◌∙◌, append-nil, arith}
 use Rattle.std.proofs.lemmas.List.{drop_more}
 use Rattle.std.specs.Option.{option_copied}
 use Rattle.bt_main.proofs.Steps.{changed_from-short, changed_more, drop_at, drop_none}
