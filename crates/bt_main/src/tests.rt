@@ -73,6 +73,9 @@ const CHECK_THEN_ACT: &str =
 const HELD_TRACE: &str =
     "tick 1 at 0\nnode 1 IDLE RUNNING\ncall 2 start SUCCESS\nnode 2 IDLE SUCCESS\ncall 3 start RUNNING\nnode 3 IDLE RUNNING\nroot 1 RUNNING\ntick 1 at 299\ncall 3 running RUNNING\nroot 1 RUNNING\n";
 
+const HALTED_TRACE: &str =
+    "finish 1 at 299\nnode 2 SUCCESS IDLE\ncall 3 halted\nnode 3 RUNNING IDLE\nnode 1 RUNNING IDLE\n";
+
 #[test]
 fn traces_are_those_of_the_worked_rows(rt: HostRuntime) -> Result<(), Fail> {
     let alloc = rt.alloc();
@@ -188,9 +191,14 @@ fn files_are_refused(rt: HostRuntime) -> Result<(), Fail> {
 #[test]
 fn a_read_that_fails_has_its_line(rt: HostRuntime) -> Result<(), Fail> {
     let alloc = rt.alloc();
-    for (call, line) in [(1, "refused read tree\n"), (2, "refused read world\n")] {
+    for (call, lines, line) in [
+        (1, TWO_CONDITIONS, "refused read tree\n"),
+        (2, TWO_CONDITIONS, "refused read world\n"),
+        (1, CHECK_THEN_ACT, "refused read tree\n"),
+        (2, CHECK_THEN_ACT, "refused read world\n"),
+    ] {
         let tree = tree_of(alloc, TWO_CHECKS)?;
-        let world = world_of(alloc, TWO_CONDITIONS)?;
+        let world = world_of(alloc, lines)?;
         let mut shelf = shelf_of(alloc, tree, world, vec![in alloc; call]?)?;
         let mut sink = MemSink::new(alloc, Vec::new(alloc));
         let exit = answer_words(alloc, &["tick", "T", "W"], &mut shelf, &mut sink)?;
@@ -207,18 +215,33 @@ fn is_cut(front: &[u8], whole: &[u8], line: usize, taken: usize) -> bool {
     whole.starts_with(front) && lines + 1 == line && rest == taken
 }
 
+/// Whether a sink whose write of this line fails after some bytes is left with that front of the trace.
+fn fails_at(
+    alloc: Global,
+    lines: &str,
+    trace: &str,
+    line: u8,
+    taken: u8,
+) -> Result<bool, NoMemory> {
+    let fails = vec![in alloc; (u64::from(line), u64::from(taken))]?;
+    let mut sink = MemSink::new(alloc, fails);
+    let exit = tick_over(alloc, TWO_CHECKS, lines, &mut sink)?;
+    let whole = trace.as_bytes();
+    let cut = is_cut(sink.list(), whole, usize::from(line), usize::from(taken));
+    Ok(exit == Exit::Write && cut)
+}
+
 #[test]
 fn a_write_that_fails_leaves_a_front(rt: HostRuntime) -> Result<(), Fail> {
     let alloc = rt.alloc();
+    let halted = format!(in alloc; "{HELD_TRACE}{HALTED_TRACE}")?;
     for line in 1..13u8 {
-        for taken in [0u8, 3] {
-            let fails = vec![in alloc; (u64::from(line), u64::from(taken))]?;
-            let mut sink = MemSink::new(alloc, fails);
-            let exit = tick_over(alloc, TWO_CHECKS, TWO_CONDITIONS, &mut sink)?;
-            assert_eq!(rt; exit, Exit::Write);
-            let whole = TWO_CHECKS_TRACE.as_bytes();
-            assert!(rt; is_cut(sink.list(), whole, usize::from(line), usize::from(taken)));
-        }
+        assert!(rt; fails_at(alloc, TWO_CONDITIONS, TWO_CHECKS_TRACE, line, 0)?);
+        assert!(rt; fails_at(alloc, TWO_CONDITIONS, TWO_CHECKS_TRACE, line, 3)?);
+    }
+    for line in 1..16u8 {
+        assert!(rt; fails_at(alloc, CHECK_THEN_ACT, halted.as_str(), line, 0)?);
+        assert!(rt; fails_at(alloc, CHECK_THEN_ACT, halted.as_str(), line, 3)?);
     }
     Ok(())
 }
