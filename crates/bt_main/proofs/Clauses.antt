@@ -1,5 +1,5 @@
 -- What the answers of a command say, one by one.
-use Rattle.std.proofs.Common.{◌≡◌, ℕ, ◌<◌, ◌≤◌, List, [], Bool, true, false, ◌⊎◌, inl, inr, Option, Some, None, length, refl, sym, ap, subst, ◌∙◌, arith, MatchBool, Result, Ok, Err}
+use Rattle.std.proofs.Common.{◌≡◌, ℕ, ◌<◌, ◌≤◌, List, [], Bool, true, false, ◌⊎◌, inl, inr, Option, Some, None, length, refl, sym, ap, subst, ◌∙◌, arith, MatchBool, Err}
 use Rattle.std.proofs.lemmas.Grind.{common_steps}
 use Rattle.bt_build.specs.Reads.{or_unbuilt, reads}
 use Rattle.bt_elements.specs.declared.element.Element.{Element}
@@ -11,12 +11,11 @@ use Rattle.bt_script.specs.declared.stop.Stop.TheVariants as stop
 use Rattle.bt_script.specs.Stops.{Gives}
 use Rattle.bt_main.specs.declared.exit.Exit.{Exit}
 use Rattle.bt_main.specs.declared.exit.Exit.TheVariants as exit
-use Rattle.bt_main.specs.Answers.{Answers, EachOutput, FilesAnswered, Gave, IsGiven, IsSpoken, ReadFailed, UnreadLine, WholeOutput, WorldAnswered}
-use Rattle.bt_main.specs.Output.{CommandGives, FilesGive, Output, ReadsAs, ReadsTree, SpellsTree, is_too_long, joined_output, rowless, tree_output, tree_unbuilt, tree_unread, words_refused, world_output, world_unbuilt, world_unread}
+use Rattle.bt_main.specs.Answers.{Answers, EachOutput, FilesAnswered, Gave, IsGiven, ReadFailed, WholeOutput, WorldAnswered}
+use Rattle.bt_main.specs.Output.{CommandGives, FilesGive, Output, ReadsAs, ReadsTree, SpellsTree, is_too_long, tree_output, tree_unbuilt, words_refused, world_output, world_unbuilt}
 use Rattle.bt_main.specs.Words.{Command}
 use Rattle.bt_model.specs.declared.term.Tree.{Tree}
-use Rattle.bt_model.specs.declared.world.World.{World}
-use Rattle.bt_model.specs.WorldFile.{WorldFault, world_in}
+use Rattle.bt_model.specs.WorldFile.{world_in}
 use Rattle.bt_outside.specs.Appending.{Appended, AppendedFront}
 use Rattle.bt_outside.specs.Files.{Told}
 use Rattle.bt_outside.proofs.Appends.{AppendedFront-nothing}
@@ -24,9 +23,6 @@ use Rattle.bt_outside.proofs.Appends.{AppendedFront-nothing}
 -- the same bytes spell at most one element
 abbrev pub OneElement : Type 0
 OneElement = (bytes : List ℕ) (a b : Element) → Spells bytes a → Spells bytes b → a ≡ b
-
-some_same : {A : Type 0} (x y : A) → Some x ≡ Some y → x ≡ y
-some_same x y e = cc
 
 -- the same bytes read as one tree, or as none
 one_tree : OneElement → (bytes : List ℕ) (a b : Option Tree) → ReadsTree bytes a → ReadsTree bytes b → a ≡ b
@@ -45,43 +41,6 @@ one_files one tree world x y p q =
     one_if (is_too_long tree) x y tree_unbuilt _ _ p q (λ p1 q1. one_if (is_too_long world) x y world_unbuilt _ _ p1 q1
     (λ p2 q2. p2.2 ∙ ap (λ (r : Option Tree). tree_output r world) (one_tree one tree p2.0 q2.0 p2.1 q2.1) ∙ sym q2.2))
 
--- the exits of files
-abbrev IsOfFiles : Exit → Type 0
-IsOfFiles exit.Done = Unit {0}
-IsOfFiles exit.Tree = Unit {0}
-IsOfFiles exit.World = Unit {0}
-IsOfFiles _ = ⊥
-
-joined_exit : (o : Option (List ℕ)) (tree : Tree) (world : World) → IsOfFiles (joined_output o tree world).exit
-joined_exit None tree world = tt
-joined_exit (Some id) tree world = tt
-
-world_exit : (r : Result World WorldFault) (tree : Tree) → IsOfFiles (world_output r tree).exit
-world_exit (Ok world) tree = joined_exit (rowless tree world) tree world
-world_exit (Err f) tree = tt
-
-tree_exit : (r : Option Tree) (world : List ℕ) → IsOfFiles (tree_output r world).exit
-tree_exit (Some tree) world = world_exit (world_in world) tree
-tree_exit None world = tt
-
-exit_if : (b : Bool) (x z : Output) (P : Type 0) → IsOfFiles z.exit → MatchBool b (x ≡ z) P → (P → IsOfFiles x.exit) → IsOfFiles x.exit
-exit_if true x z P i p k = subst (λ (o : Output). IsOfFiles o.exit) (sym p) i
-exit_if false x z P i p k = k p
-
-files_exit : (tree world : List ℕ) (x : Output) → FilesGive tree world x → IsOfFiles x.exit
-files_exit tree world x p =
-    exit_if (is_too_long tree) x tree_unbuilt _ tt p (λ p1. exit_if (is_too_long world) x world_unbuilt _ tt p1 (λ p2. subst (λ (o : Output). IsOfFiles o.exit) (sym p2.2) (tree_exit p2.0 world)))
-
--- an output that was spoken whole
-pub gave_whole : (e result : Exit) (line : List ℕ) (rose : Type 0) (a b : Option (List ℕ)) → IsSpoken e → result ≡ e → Appended a b line → Gave (record { bytes = line; exit = e }) result rose a b
-gave_whole exit.Done result line rose a b s e p = subst (λ (r : Exit). Gave (record { bytes = line; exit = exit.Done }) r rose a b) (sym e) (refl, p)
-gave_whole exit.Words result line rose a b s e p = subst (λ (r : Exit). Gave (record { bytes = line; exit = exit.Words }) r rose a b) (sym e) (refl, p)
-gave_whole exit.Tree result line rose a b s e p = subst (λ (r : Exit). Gave (record { bytes = line; exit = exit.Tree }) r rose a b) (sym e) (refl, p)
-gave_whole exit.World result line rose a b s e p = subst (λ (r : Exit). Gave (record { bytes = line; exit = exit.World }) r rose a b) (sym e) (refl, p)
-gave_whole exit.Read result line rose a b s e p = subst (λ (r : Exit). Gave (record { bytes = line; exit = exit.Read }) r rose a b) (sym e) (refl, p)
-gave_whole exit.Write result line rose a b s e p = absurd s
-gave_whole exit.Memory result line rose a b s e p = absurd s
-
 -- nothing was written for want of memory
 nothing_gave : (o : Output) (result : Exit) (rose : Type 0) (a b : Option (List ℕ)) → result ≡ exit.Memory → b ≡ a → Gave o result rose a b
 nothing_gave o result rose a b e same =
@@ -97,10 +56,6 @@ whole_given o exit.Read rose a b i p = absurd i
 whole_given o exit.Write rose a b i p = absurd i
 whole_given o exit.Memory rose a b i p = absurd i
 
--- Write comes where the sink's count rose
-rose_at_write : (o : Output) (result : Exit) (rose : Type 0) (a b : Option (List ℕ)) → result ≡ exit.Write → Gave o result rose a b → rose
-rose_at_write o result rose a b e p = (subst (λ (r : Exit). Gave o r rose a b) e p).0
-
 -- where the count did not rise, the output is whole or memory ran out
 whole_or_memory : (o : Output) (result : Exit) (rose : Type 0) (a b : Option (List ℕ)) → (rose → ⊥) → Gave o result rose a b → (result ≡ exit.Memory) ⊎ ((result ≡ o.exit) × Appended a b o.bytes)
 whole_or_memory o exit.Done rose a b n p = inr (sym p.0, p.1)
@@ -111,105 +66,33 @@ whole_or_memory o exit.Read rose a b n p = inr (sym p.0, p.1)
 whole_or_memory o exit.Write rose a b n p = absurd (n p.0)
 whole_or_memory o exit.Memory rose a b n p = inl refl
 
--- a given exit is none of a failed read
-read_not_given : (shelf sink : Type 0) (result : Exit) (a b : Option (List ℕ)) → IsGiven result → ReadFailed shelf result sink a b → ⊥
-read_not_given shelf sink exit.Done a b i (s, inl p) = cc
-read_not_given shelf sink exit.Done a b i (s, inr p) = cc
-read_not_given shelf sink exit.Words a b i (s, inl p) = cc
-read_not_given shelf sink exit.Words a b i (s, inr p) = cc
-read_not_given shelf sink exit.Tree a b i (s, inl p) = cc
-read_not_given shelf sink exit.Tree a b i (s, inr p) = cc
-read_not_given shelf sink exit.World a b i (s, inl p) = cc
-read_not_given shelf sink exit.World a b i (s, inr p) = cc
-read_not_given shelf sink exit.Read a b i p = i
-read_not_given shelf sink exit.Write a b i p = i
-read_not_given shelf sink exit.Memory a b i p = i
-
--- the exits of files are not Words
-not_words_exit : (e : Exit) → IsOfFiles e → e ≡ exit.Words → ⊥
-not_words_exit e i same = subst IsOfFiles same i
-
--- the one output of what the shelf tells
-told_output : (h : List ℕ → List ℕ) (c : Command) (tree world : List ℕ) (x : Output) → tree ≡ h c.tree → world ≡ h c.world → FilesGive tree world x → CommandGives (Some c) h x
-told_output h c tree world x t w p = subst (λ (z : List ℕ). FilesGive (h c.tree) z x) w (subst (λ (z : List ℕ). FilesGive z world x) t p)
-
 -- the clauses of a command that names two files
-module _ (one : OneElement) (c : Command) (result : Exit) (shelf sink : Type 0) (a b : Option (List ℕ)) where
-  answered_not_words : (tree world : List ℕ) → Answers (FilesGive tree world) result sink a b → result ≡ exit.Words → ⊥
-  answered_not_words tree world (inl x) e = not_words_exit x.0.exit (files_exit tree world x.0 x.1) ((whole_given x.0 result sink a b (subst IsGiven (sym e) tt) x.2).0 ∙ e)
-  answered_not_words tree world (inr y) e = let clash : exit.Words ≡ exit.Memory = sym e ∙ y.0 in cc
-
-  not_words : (holds : Option (List ℕ → List ℕ)) → ReadFailed shelf result sink a b ⊎ FilesAnswered holds c result sink a b → result ≡ exit.Words → ⊥
-  not_words holds (inl r) e = read_not_given shelf sink result a b (subst IsGiven (sym e) tt) r
-  not_words holds (inr f) e = answered_not_words f.tree f.world f.answers e
-
-  -- Words comes only without a command
-  pub words_clause : (holds : Option (List ℕ → List ℕ)) (command : Option Command) → ReadFailed shelf result sink a b ⊎ FilesAnswered holds c result sink a b → result ≡ exit.Words → command ≡ None
-  words_clause holds command x e = absurd (not_words holds x e)
-
-  whole_told : (h : List ℕ → List ℕ) → ReadFailed shelf result sink a b ⊎ FilesAnswered (Some h) c result sink a b → IsGiven result → WholeOutput (Some h) (Some c) result a b
-  whole_told h (inl r) i = absurd (read_not_given shelf sink result a b i r)
-  whole_told h (inr f) i = whole_answered h f f.answers i where
-    whole_answered : (h : List ℕ → List ℕ) (f : FilesAnswered (Some h) c result sink a b) → Answers (FilesGive f.tree f.world) result sink a b → IsGiven result → WholeOutput (Some h) (Some c) result a b
-    whole_answered h f (inl x) i = (x.0, told_output h c f.tree f.world x.0 f.is_tree f.is_world x.1, (whole_given x.0 result sink a b i x.2).0, (whole_given x.0 result sink a b i x.2).1)
-    whole_answered h f (inr y) i = absurd (subst IsGiven y.0 i)
-
-  -- a given exit is that of the output, which was written whole
-  pub whole_clause : (holds : Option (List ℕ → List ℕ)) → ReadFailed shelf result sink a b ⊎ FilesAnswered holds c result sink a b → IsGiven result → WholeOutput holds (Some c) result a b
-  whole_clause None x i = tt
-  whole_clause (Some h) x i = whole_told h x i
-
+module _ (one : OneElement) (c : Command) (result : Exit) (shelf fits sink : Type 0) (a b : Option (List ℕ)) where
   answered_gave : (tree world : List ℕ) (o : Output) → FilesGive tree world o → Answers (FilesGive tree world) result sink a b → Gave o result sink a b
   answered_gave tree world o p (inl x) = subst (λ (z : Output). Gave z result sink a b) (one_files one tree world x.0 o x.1 p) x.2
   answered_gave tree world o p (inr y) = nothing_gave o result sink a b y.0 y.1
 
-  each_told : (h : List ℕ → List ℕ) (o : Output) → CommandGives (Some c) h o → ReadFailed shelf result sink a b ⊎ FilesAnswered (Some h) c result sink a b → Gave o result sink a b ⊎ ReadFailed shelf result sink a b
+  each_told : (h : List ℕ → List ℕ) (o : Output) → CommandGives (Some c) h o → ReadFailed shelf fits result sink a b ⊎ FilesAnswered (Some h) c result sink a b → Gave o result sink a b ⊎ ReadFailed shelf fits result sink a b
   each_told h o p (inl r) = inr r
   each_told h o p (inr f) =
       inl (answered_gave f.tree f.world o (subst (λ (z : List ℕ). FilesGive f.tree z o) (sym f.is_world) (subst (λ (z : List ℕ). FilesGive z (h c.world) o) (sym f.is_tree) p)) f.answers)
 
   -- each output of the command was given, or a read failed
-  pub each_clause : (holds : Option (List ℕ → List ℕ)) → ReadFailed shelf result sink a b ⊎ FilesAnswered holds c result sink a b → EachOutput holds (Some c) (λ o. Gave o result sink a b ⊎ ReadFailed shelf result sink a b)
+  pub each_clause : (holds : Option (List ℕ → List ℕ)) → ReadFailed shelf fits result sink a b ⊎ FilesAnswered holds c result sink a b → EachOutput holds (Some c) (λ o. Gave o result sink a b ⊎ ReadFailed shelf fits result sink a b)
   each_clause None x = tt
   each_clause (Some h) x = λ o p. each_told h o p x
 
-  unread : ReadFailed shelf result sink a b → result ≡ exit.Read → shelf × UnreadLine a b
-  unread (s, inl p) e = (s, inl (subst (λ (r : Exit). Gave tree_unread r sink a b) e p).1)
-  unread (s, inr p) e = (s, inr (subst (λ (r : Exit). Gave world_unread r sink a b) e p).1)
-
-  answered_not_read : (tree world : List ℕ) → Answers (FilesGive tree world) result sink a b → result ≡ exit.Read → ⊥
-  answered_not_read tree world (inl x) e = subst IsOfFiles ((subst (λ (r : Exit). Gave x.0 r sink a b) e x.2).0) (files_exit tree world x.0 x.1)
-  answered_not_read tree world (inr y) e = let clash : exit.Read ≡ exit.Memory = sym e ∙ y.0 in cc
-
-  -- Read comes where the shelf's count rose, with the line of the file
-  pub read_clause : (holds : Option (List ℕ → List ℕ)) → ReadFailed shelf result sink a b ⊎ FilesAnswered holds c result sink a b → result ≡ exit.Read → shelf × UnreadLine a b
-  read_clause holds (inl r) e = unread r e
-  read_clause holds (inr f) e = absurd (answered_not_read f.tree f.world f.answers e)
-
-  answered_rose : (tree world : List ℕ) → Answers (FilesGive tree world) result sink a b → result ≡ exit.Write → sink
-  answered_rose tree world (inl x) e = rose_at_write x.0 result sink a b e x.2
-  answered_rose tree world (inr y) e = let clash : exit.Write ≡ exit.Memory = sym e ∙ y.0 in absurd (cc)
-
-  failed_rose : ReadFailed shelf result sink a b → result ≡ exit.Write → sink
-  failed_rose (s, inl p) e = rose_at_write tree_unread result sink a b e p
-  failed_rose (s, inr p) e = rose_at_write world_unread result sink a b e p
-
-  -- Write comes where the sink's count rose
-  pub write_clause : (holds : Option (List ℕ → List ℕ)) → ReadFailed shelf result sink a b ⊎ FilesAnswered holds c result sink a b → result ≡ exit.Write → sink
-  write_clause holds (inl r) e = failed_rose r e
-  write_clause holds (inr f) e = answered_rose f.tree f.world f.answers e
-
-  complete_told : (o : Output) → Gave o result sink a b ⊎ ReadFailed shelf result sink a b → (shelf → ⊥) → (sink → ⊥) → (result ≡ exit.Memory) ⊎ ((result ≡ o.exit) × Appended a b o.bytes)
+  complete_told : (o : Output) → Gave o result sink a b ⊎ ReadFailed shelf fits result sink a b → (shelf → ⊥) → (sink → ⊥) → (result ≡ exit.Memory) ⊎ ((result ≡ o.exit) × Appended a b o.bytes)
   complete_told o (inl p) s k = whole_or_memory o result sink a b k p
   complete_told o (inr r) s k = absurd (s r.0)
 
   -- where no count rose, the output is whole or memory ran out
-  pub complete_clause : (holds : Option (List ℕ → List ℕ)) → ReadFailed shelf result sink a b ⊎ FilesAnswered holds c result sink a b → EachOutput holds (Some c) (λ o. (shelf → ⊥) → (sink → ⊥) → (result ≡ exit.Memory) ⊎ ((result ≡ o.exit) × Appended a b o.bytes))
+  pub complete_clause : (holds : Option (List ℕ → List ℕ)) → ReadFailed shelf fits result sink a b ⊎ FilesAnswered holds c result sink a b → EachOutput holds (Some c) (λ o. (shelf → ⊥) → (sink → ⊥) → (result ≡ exit.Memory) ⊎ ((result ≡ o.exit) × Appended a b o.bytes))
   complete_clause None x = tt
   complete_clause (Some h) x = λ o p. complete_told o (each_told h o p x)
 
 -- the clauses of words that are no command
-module _ (result : Exit) (shelf sink : Type 0) (a b : Option (List ℕ)) (gave : Gave words_refused result sink a b) where
+module _ (result : Exit) (shelf fits sink : Type 0) (a b : Option (List ℕ)) (gave : Gave words_refused result sink a b) where
   pub none_whole : (holds : Option (List ℕ → List ℕ)) → IsGiven result → WholeOutput holds None result a b
   none_whole None i = tt
   none_whole (Some h) i = (words_refused, refl, (whole_given words_refused result sink a b i gave).0, (whole_given words_refused result sink a b i gave).1)
@@ -217,7 +100,7 @@ module _ (result : Exit) (shelf sink : Type 0) (a b : Option (List ℕ)) (gave :
   refused_gave : (o : Output) → o ≡ words_refused → Gave o result sink a b
   refused_gave o e = subst (λ (z : Output). Gave z result sink a b) (sym e) gave
 
-  pub none_each : (holds : Option (List ℕ → List ℕ)) → EachOutput holds None (λ o. Gave o result sink a b ⊎ ReadFailed shelf result sink a b)
+  pub none_each : (holds : Option (List ℕ → List ℕ)) → EachOutput holds None (λ o. Gave o result sink a b ⊎ ReadFailed shelf fits result sink a b)
   none_each None = tt
   none_each (Some h) = λ o e. inl (refused_gave o e)
 
@@ -308,7 +191,3 @@ pub tree_too_long : (holds : Option (List ℕ → List ℕ)) (c : Command) (room
 tree_too_long holds c room result rose a b e h gave =
     let f = long_file holds c.tree room e h in
     record { tree = f.bytes; world = (contents_of holds c.world).bytes; is_tree = f.told; is_world = (contents_of holds c.world).told; answers = inl (tree_unbuilt, match_true (is_too_long f.bytes) _ _ (long_is f.bytes f.long) refl, gave) }
-
--- the world file was read after the tree file
-pub world_joins : (holds : Option (List ℕ → List ℕ)) (c : Command) (tree : List ℕ) (result : Exit) (rose : Type 0) (a b : Option (List ℕ)) → Told holds c.tree (λ file. tree ≡ file) → WorldAnswered holds tree c.world result rose a b → FilesAnswered holds c result rose a b
-world_joins holds c tree result rose a b told w = record { tree = tree; world = w.world; is_tree = told; is_world = w.is_world; answers = w.answers }

@@ -1,5 +1,5 @@
 -- What the answer of a command says.
-use Rattle.std.specs.Prelude.{ℕ, ◌≡◌, ◌⊎◌, List, Option, Some, None}
+use Rattle.std.specs.Prelude.{ℕ, ◌≡◌, ◌≤◌, ◌⊎◌, List, length, Option, Some, None}
 use Rattle.bt_main.specs.declared.exit.Exit.{Exit}
 use Rattle.bt_main.specs.declared.exit.Exit.TheVariants as exit
 use Rattle.bt_main.specs.Output.{Output, CommandGives, FilesGive, tree_unread, world_unread}
@@ -32,10 +32,16 @@ abbrev pub Answers : (Output → Type 0) → Exit → Type 0 → Option (List �
 Answers IsOutput result rose old new =
     ((o : Output) × IsOutput o × Gave o result rose old new) ⊎ ((result ≡ exit.Memory) × (new ≡ old))
 
--- the shelf's count of failures rose, and the line of the file that was not read was given
-abbrev pub ReadFailed : Type 0 → Exit → Type 0 → Option (List ℕ) → Option (List ℕ) → Type 0
-ReadFailed shelf_rose result sink_rose old new =
-    shelf_rose × (Gave tree_unread result sink_rose old new ⊎ Gave world_unread result sink_rose old new)
+-- The shelf's count of failures rose, and the line of the file that was not read was given: that of
+-- the tree file, or, where the tree file fits, that of the world file.
+abbrev pub ReadFailed : Type 0 → Type 0 → Exit → Type 0 → Option (List ℕ) → Option (List ℕ) → Type 0
+ReadFailed shelf_rose fits result sink_rose old new =
+    shelf_rose × (Gave tree_unread result sink_rose old new ⊎ (fits × Gave world_unread result sink_rose old new))
+
+-- the tree file that a command names is within the limit, where the shelf tells it
+abbrev pub TreeFits : Option (List ℕ → List ℕ) → Option Command → Type 0
+TreeFits holds None = ⊥
+TreeFits holds (Some command) = Told holds command.tree (λ file. length file ≤ 1048576)
 
 -- the output of these bytes of the two files, which are those that the shelf tells
 pub record FilesAnswered (holds : Option (List ℕ → List ℕ)) (command : Command) (result : Exit) (rose : Type 0) (old new : Option (List ℕ)) : Type 0 where
@@ -45,9 +51,10 @@ pub record FilesAnswered (holds : Option (List ℕ → List ℕ)) (command : Com
   pub is_world : Told holds command.world (λ file. world ≡ file)
   pub answers : Answers (FilesGive tree world) result rose old new
 
--- The line of a file that was not read was written whole.
-abbrev pub UnreadLine : Option (List ℕ) → Option (List ℕ) → Type 0
-UnreadLine old new = Appended old new tree_unread.bytes ⊎ Appended old new world_unread.bytes
+-- The line of a file that was not read was written whole: that of the tree file, or, where the tree
+-- file fits, that of the world file.
+abbrev pub UnreadLine : Type 0 → Option (List ℕ) → Option (List ℕ) → Type 0
+UnreadLine fits old new = Appended old new tree_unread.bytes ⊎ (fits × Appended old new world_unread.bytes)
 
 -- the output of a command over told files was written whole, and this is its exit
 abbrev pub WholeOutput : Option (List ℕ → List ℕ) → Option Command → Exit → Option (List ℕ) → Option (List ℕ) → Type 0
