@@ -86,8 +86,14 @@ fn traces_are_those_of_the_worked_rows(rt: HostRuntime) -> Result<(), Fail> {
         "{HELD_TRACE}finish 1 at 299\nnode 2 SUCCESS IDLE\ncall 3 halted\nnode 3 RUNNING IDLE\nnode 1 RUNNING IDLE\n"
     )?;
     let act = format!(in alloc; "{CHECK_THEN_ACT}\nat 300\ntick 1")?;
-    let table: [(&str, &str, Exit, &str); 9] = [
+    let table: [(&str, &str, Exit, &str); 10] = [
         (TWO_CHECKS, TWO_CONDITIONS, Exit::Done, TWO_CHECKS_TRACE),
+        (
+            "<Sequence><Sequence><A/></Sequence><B/></Sequence>",
+            TWO_CONDITIONS,
+            Exit::Done,
+            "tick 1 at 0\nnode 1 IDLE RUNNING\nnode 2 IDLE RUNNING\ncall 3 start SUCCESS\nnode 3 IDLE SUCCESS\nnode 3 SUCCESS IDLE\nnode 2 RUNNING SUCCESS\ncall 4 start SUCCESS\nnode 4 IDLE SUCCESS\nnode 2 SUCCESS IDLE\nnode 4 SUCCESS IDLE\nnode 1 RUNNING SUCCESS\nroot 1 SUCCESS\nnode 1 SUCCESS IDLE\nfinish 1 at 0\n",
+        ),
         (TWO_CHECKS, act.as_str(), Exit::Done, done.as_str()),
         (TWO_CHECKS, CHECK_THEN_ACT, Exit::Done, halted.as_str()),
         (
