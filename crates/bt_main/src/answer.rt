@@ -36,7 +36,8 @@ fn read_tree(alloc: Global, bytes: &[u8]) -> Result<Tree, Stop<Unbuilt>>
 fn answer_files<K: Sink>(alloc: Global, tree: &[u8], world: &[u8], out: &mut K) -> Exit
     requires tree { length tree.now ≤ 1048576 }
     requires world { length world.now ≤ 1048576 }
-    ensures answers { Answers (FilesGive tree.now world.now) result (Rose (K.faults out.old) (K.faults out.new)) (K.written out.old) (K.written out.new) }
+    ensures answers { Answers (FilesGive tree.now world.now) result
+        (Rose (K.faults out.old) (K.faults out.new)) (K.written out.old) (K.written out.new) }
     ensures count { K.faults out.old ≤ K.faults out.new }
 {
     match read_tree(alloc, tree) {
@@ -53,7 +54,10 @@ fn answer_command<S: Shelf, K: Sink>(
     shelf: &mut S,
     out: &mut K,
 ) -> Exit
-    ensures answers { ReadFailed (Rose (S.faults shelf.old) (S.faults shelf.new)) (Told (S.holds shelf.old) command.now.tree.now (λ file. length file ≤ 1048576)) result (Rose (K.faults out.old) (K.faults out.new)) (K.written out.old) (K.written out.new) ⊎ FilesAnswered (S.holds shelf.old) (record { tree = command.now.tree.now; world = command.now.world.now }) result (Rose (K.faults out.old) (K.faults out.new)) (K.written out.old) (K.written out.new) }
+    ensures answers { ReadFailed (Rose (S.faults shelf.old) (S.faults shelf.new)) (Told (S.holds shelf.old) command.now.tree.now (λ file. length file ≤ 1048576))
+        result (Rose (K.faults out.old) (K.faults out.new)) (K.written out.old) (K.written out.new)
+        ⊎ FilesAnswered (S.holds shelf.old) (record { tree = command.now.tree.now; world = command.now.world.now })
+        result (Rose (K.faults out.old) (K.faults out.new)) (K.written out.old) (K.written out.new) }
     ensures read_count { S.faults shelf.old ≤ S.faults shelf.new }
     ensures count { K.faults out.old ≤ K.faults out.new }
 {
@@ -75,7 +79,10 @@ fn answer_world<S: Shelf, K: Sink>(
     out: &mut K,
 ) -> Exit
     requires { length tree.now ≤ 1048576 }
-    ensures answers { ReadFailed (Rose (S.faults shelf.old) (S.faults shelf.new)) (Unit {0}) result (Rose (K.faults out.old) (K.faults out.new)) (K.written out.old) (K.written out.new) ⊎ WorldAnswered (S.holds shelf.old) tree.now command.now.world.now result (Rose (K.faults out.old) (K.faults out.new)) (K.written out.old) (K.written out.new) }
+    ensures answers { ReadFailed (Rose (S.faults shelf.old) (S.faults shelf.new)) (Unit {0}) result
+        (Rose (K.faults out.old) (K.faults out.new)) (K.written out.old) (K.written out.new)
+        ⊎ WorldAnswered (S.holds shelf.old) tree.now command.now.world.now result
+        (Rose (K.faults out.old) (K.faults out.new)) (K.written out.old) (K.written out.new) }
     ensures read_count { S.faults shelf.old ≤ S.faults shelf.new }
     ensures count { K.faults out.old ≤ K.faults out.new }
 {
@@ -93,19 +100,32 @@ fn answer_world<S: Shelf, K: Sink>(
 pub fn bt<S: Shelf, K: Sink>(alloc: Global, words: &[Name], shelf: &mut S, out: &mut K) -> Exit
     // Words exactly where the words are no command, but for a sink that fails and want of memory.
     ensures words { result ≡ Exit.Words → command_of words.now ≡ None }
-    ensures no_command { command_of words.now ≡ None → Gave words_refused result (Rose (K.faults out.old) (K.faults out.new)) (K.written out.old) (K.written out.new) }
+    ensures no_command { command_of words.now ≡ None →
+        Gave words_refused result (Rose (K.faults out.old) (K.faults out.new))
+        (K.written out.old) (K.written out.new) }
 
-    // At Done, Words, Tree and World the whole output of the definition was written, and this is its exit.
-    ensures whole { IsGiven result → WholeOutput (S.holds shelf.old) (command_of words.now) result (K.written out.old) (K.written out.new) }
+    // At Done, Words, Tree and World the whole output of the definition was written, and this is its
+    // exit.
+    ensures whole { IsGiven result →
+        WholeOutput (S.holds shelf.old) (command_of words.now) result (K.written out.old) (K.written out.new) }
 
     // The output was written, whole or a front of it, or a read failed.
-    ensures each { EachOutput (S.holds shelf.old) (command_of words.now) (λ o. Gave o result (Rose (K.faults out.old) (K.faults out.new)) (K.written out.old) (K.written out.new) ⊎ ReadFailed (Rose (S.faults shelf.old) (S.faults shelf.new)) (TreeFits (S.holds shelf.old) (command_of words.now)) result (Rose (K.faults out.old) (K.faults out.new)) (K.written out.old) (K.written out.new)) }
+    ensures each { EachOutput (S.holds shelf.old) (command_of words.now) (λ o.
+        Gave o result (Rose (K.faults out.old) (K.faults out.new)) (K.written out.old) (K.written out.new)
+        ⊎ ReadFailed (Rose (S.faults shelf.old) (S.faults shelf.new))
+        (TreeFits (S.holds shelf.old) (command_of words.now))
+        result (Rose (K.faults out.old) (K.faults out.new)) (K.written out.old) (K.written out.new)) }
 
-    ensures read { result ≡ Exit.Read → Rose (S.faults shelf.old) (S.faults shelf.new) × UnreadLine (TreeFits (S.holds shelf.old) (command_of words.now)) (K.written out.old) (K.written out.new) }
+    ensures read { result ≡ Exit.Read →
+        Rose (S.faults shelf.old) (S.faults shelf.new)
+        × UnreadLine (TreeFits (S.holds shelf.old) (command_of words.now)) (K.written out.old) (K.written out.new) }
     ensures write { result ≡ Exit.Write → Rose (K.faults out.old) (K.faults out.new) }
 
     // Where no count rose, the whole output was written, or memory ran out.
-    ensures complete { EachOutput (S.holds shelf.old) (command_of words.now) (λ o. ¬ Rose (S.faults shelf.old) (S.faults shelf.new) → ¬ Rose (K.faults out.old) (K.faults out.new) → (result ≡ Exit.Memory) ⊎ ((result ≡ o.exit) × Appended (K.written out.old) (K.written out.new) o.bytes)) }
+    ensures complete { EachOutput (S.holds shelf.old) (command_of words.now) (λ o.
+        ¬ Rose (S.faults shelf.old) (S.faults shelf.new) → ¬ Rose (K.faults out.old) (K.faults out.new)
+        → (result ≡ Exit.Memory)
+        ⊎ ((result ≡ o.exit) × Appended (K.written out.old) (K.written out.new) o.bytes)) }
 
     ensures read_count { S.faults shelf.old ≤ S.faults shelf.new }
     ensures count { K.faults out.old ≤ K.faults out.new }

@@ -22,7 +22,8 @@ use std::alloc::Global;
 /// Writes a line that ends the program with this exit.
 pub fn write_last<K: Sink>(out: &mut K, line: &[u8], exit: Exit) -> Exit
     requires { IsSpoken exit }
-    ensures gave { Gave (record { bytes = line.now; exit = exit }) result (Rose (K.faults out.old) (K.faults out.new)) (K.written out.old) (K.written out.new) }
+    ensures gave { Gave (record { bytes = line.now; exit = exit }) result
+        (Rose (K.faults out.old) (K.faults out.new)) (K.written out.old) (K.written out.new) }
     ensures count { K.faults out.old ≤ K.faults out.new }
 {
     match write_line(out, line) {
@@ -36,7 +37,8 @@ pub fn write_last<K: Sink>(out: &mut K, line: &[u8], exit: Exit) -> Exit
 pub fn run_world<K: Sink>(alloc: Global, tree: &Tree, world: &[u8], out: &mut K) -> Exit
     requires room { 1 + node_count tree.now.term < 2 ^ 32 }
     requires short { length world.now ≤ 1048576 }
-    ensures answers { Answers (λ o. o ≡ world_output (world_in world.now) tree.now) result (Rose (K.faults out.old) (K.faults out.new)) (K.written out.old) (K.written out.new) }
+    ensures answers { Answers (λ o. o ≡ world_output (world_in world.now) tree.now) result
+        (Rose (K.faults out.old) (K.faults out.new)) (K.written out.old) (K.written out.new) }
     ensures count { K.faults out.old ≤ K.faults out.new }
 {
     match read_world(alloc, world) {
@@ -51,7 +53,8 @@ fn run_joined<K: Sink>(alloc: Global, tree: &Tree, world: &World, out: &mut K) -
     requires room { 1 + node_count tree.now.term < 2 ^ 32 }
     requires few { length world.now.facts < 2 ^ 32 }
     requires one { world.now.runners ≡ 1 }
-    ensures gave { Gave (joined_output (rowless tree.now world.now) tree.now world.now) result (Rose (K.faults out.old) (K.faults out.new)) (K.written out.old) (K.written out.new) }
+    ensures gave { Gave (joined_output (rowless tree.now world.now) tree.now world.now) result
+        (Rose (K.faults out.old) (K.faults out.new)) (K.written out.old) (K.written out.new) }
     ensures count { K.faults out.old ≤ K.faults out.new }
 {
     match first_rowless(&tree.term, world.rows.list()) {
@@ -62,7 +65,8 @@ fn run_joined<K: Sink>(alloc: Global, tree: &Tree, world: &World, out: &mut K) -
 
 /// Refuses a leaf of this ID, which has no row.
 fn refuse_leaf<K: Sink>(alloc: Global, id: &Name, out: &mut K) -> Exit
-    ensures gave { Gave (row_missing id.now) result (Rose (K.faults out.old) (K.faults out.new)) (K.written out.old) (K.written out.new) }
+    ensures gave { Gave (row_missing id.now) result (Rose (K.faults out.old) (K.faults out.new))
+        (K.written out.old) (K.written out.new) }
     ensures count { K.faults out.old ≤ K.faults out.new }
 {
     match leaf_refusal(alloc, id) {
@@ -72,7 +76,8 @@ fn refuse_leaf<K: Sink>(alloc: Global, id: &Name, out: &mut K) -> Exit
 }
 
 fn leaf_refusal(alloc: Global, id: &Name) -> Result<Vec<u8>, NoMemory>
-    ensures { IfOk result (λ line. line.items ≡ codes "refused world NoRow " ++ quoted id.now ++ codes "\n") }
+    ensures { IfOk result (λ line. line.items
+        ≡ codes "refused world NoRow " ++ quoted id.now ++ codes "\n") }
 {
     let mut line = Vec::new(alloc);
     put_bytes(&mut line, b"refused world NoRow ")?;
@@ -98,7 +103,8 @@ fn first_rowless<'a>(term: &'a Term, rows: &[Row]) -> Option<&'a Name>
 
 /// Whether the node is a leaf that has no row.
 fn is_rowless(term: &Term, rows: &[Row]) -> bool
-    ensures { result ≡ is_some (find (λ id. is_none (row_of rows.now id)) (own_leaf_id (out-Term term.now).kind (out-Term term.now).id)) }
+    ensures { result
+        ≡ is_some (find (λ id. is_none (row_of rows.now id)) (own_leaf_id (out-Term term.now).kind (out-Term term.now).id)) }
 {
     match term.kind {
         Kind::Leaf => row_with(rows, &term.id).is_none(),

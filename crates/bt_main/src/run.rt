@@ -26,7 +26,8 @@ pub fn runs_of<'a>(alloc: Global, tree: &'a Tree, world: &World) -> Result<Runs<
     requires room { 1 + node_count tree.now.term < 2 ^ 32 }
     requires one { world.now.runners ≡ 1 }
     ensures term { IfOk result (λ runs. runs.plain.term.now ≡ tree.now.term) }
-    ensures state { IfOk result (λ runs. one_runner runs.plain.memory runs.plain.instances.items runs.facts.items runs.last ≡ opening tree.now world.now) }
+    ensures state { IfOk result (λ runs. one_runner runs.plain.memory runs.plain.instances.items runs.facts.items runs.last
+        ≡ opening tree.now world.now) }
     ensures facts { IfOk result (λ runs. length runs.facts.items ≡ length world.now.facts) }
 {
     let plain = plain_of(alloc, tree)?;
@@ -58,7 +59,9 @@ pub fn take_event(
 ) -> Result<Block, NoMemory>
     requires room { 1 + node_count runs.old.plain.term.now < 2 ^ 32 }
     requires few { length runs.old.facts.items < 2 ^ 32 }
-    ensures step { IfOk result (λ block. after_step runs.new.plain.memory runs.new.plain.instances.items runs.new.facts.items runs.new.last block ≡ step (meaning runs.old.plain.term.now) rows.now event (one_runner runs.old.plain.memory runs.old.plain.instances.items runs.old.facts.items runs.old.last)) }
+    ensures step { IfOk result (λ block. after_step runs.new.plain.memory runs.new.plain.instances.items runs.new.facts.items runs.new.last block
+        ≡ step (meaning runs.old.plain.term.now) rows.now event
+        (one_runner runs.old.plain.memory runs.old.plain.instances.items runs.old.facts.items runs.old.last)) }
     ensures term { runs.new.plain.term.now ≡ runs.old.plain.term.now }
     ensures facts { length runs.new.facts.items ≡ length runs.old.facts.items }
 {
@@ -79,7 +82,9 @@ pub fn take_event(
 pub fn finish_runner(alloc: Global, runs: &mut Runs, runner: u8) -> Result<Block, NoMemory>
     requires room { 1 + node_count runs.old.plain.term.now < 2 ^ 32 }
     requires few { length runs.old.facts.items < 2 ^ 32 }
-    ensures step { IfOk result (λ block. after_step runs.new.plain.memory runs.new.plain.instances.items runs.new.facts.items runs.new.last block ≡ finish (meaning runs.old.plain.term.now) runner (one_runner runs.old.plain.memory runs.old.plain.instances.items runs.old.facts.items runs.old.last)) }
+    ensures step { IfOk result (λ block. after_step runs.new.plain.memory runs.new.plain.instances.items runs.new.facts.items runs.new.last block
+        ≡ finish (meaning runs.old.plain.term.now) runner
+        (one_runner runs.old.plain.memory runs.old.plain.instances.items runs.old.facts.items runs.old.last)) }
     ensures term { runs.new.plain.term.now ≡ runs.old.plain.term.now }
     ensures facts { length runs.new.facts.items ≡ length runs.old.facts.items }
 {
@@ -97,7 +102,9 @@ fn tick_runner(
 ) -> Result<Block, NoMemory>
     requires room { 1 + node_count runs.old.plain.term.now < 2 ^ 32 }
     requires few { length runs.old.facts.items < 2 ^ 32 }
-    ensures step { IfOk result (λ block. let s = one_runner runs.old.plain.memory runs.old.plain.instances.items runs.old.facts.items runs.old.last in after_step runs.new.plain.memory runs.new.plain.instances.items runs.new.facts.items runs.new.last block ≡ tick_step (runner_at s runner) (meaning runs.old.plain.term.now) rows.now runner at s) }
+    ensures step { IfOk result (λ block. let s = one_runner runs.old.plain.memory runs.old.plain.instances.items runs.old.facts.items runs.old.last
+        in after_step runs.new.plain.memory runs.new.plain.instances.items runs.new.facts.items runs.new.last block
+        ≡ tick_step (runner_at s runner) (meaning runs.old.plain.term.now) rows.now runner at s) }
     ensures term { runs.new.plain.term.now ≡ runs.old.plain.term.now }
     ensures facts { length runs.new.facts.items ≡ length runs.old.facts.items }
 {
@@ -130,7 +137,9 @@ fn reset_runner(
     at: u64,
 ) -> Result<Block, NoMemory>
     requires room { 1 + node_count runs.old.plain.term.now < 2 ^ 32 }
-    ensures step { IfOk result (λ block. let s = one_runner runs.old.plain.memory runs.old.plain.instances.items runs.old.facts.items runs.old.last in after_step runs.new.plain.memory runs.new.plain.instances.items runs.new.facts.items runs.new.last block ≡ reset_step (runner_at s runner) header (meaning runs.old.plain.term.now) runner at s) }
+    ensures step { IfOk result (λ block. let s = one_runner runs.old.plain.memory runs.old.plain.instances.items runs.old.facts.items runs.old.last
+        in after_step runs.new.plain.memory runs.new.plain.instances.items runs.new.facts.items runs.new.last block
+        ≡ reset_step (runner_at s runner) header (meaning runs.old.plain.term.now) runner at s) }
     ensures term { runs.new.plain.term.now ≡ runs.old.plain.term.now }
     ensures facts { length runs.new.facts.items ≡ length runs.old.facts.items }
 {
@@ -158,7 +167,9 @@ fn change_fact(
     at: u64,
 ) -> Result<Block, NoMemory>
     requires { length runs.old.facts.items < 2 ^ 32 }
-    ensures step { IfOk result (λ block. after_step runs.new.plain.memory runs.new.plain.instances.items runs.new.facts.items runs.new.last block ≡ change_step fact value at (one_runner runs.old.plain.memory runs.old.plain.instances.items runs.old.facts.items runs.old.last)) }
+    ensures step { IfOk result (λ block. after_step runs.new.plain.memory runs.new.plain.instances.items runs.new.facts.items runs.new.last block
+        ≡ change_step fact value at
+        (one_runner runs.old.plain.memory runs.old.plain.instances.items runs.old.facts.items runs.old.last)) }
     ensures term { runs.new.plain.term.now ≡ runs.old.plain.term.now }
     ensures facts { length runs.new.facts.items ≡ length runs.old.facts.items }
 {
@@ -196,8 +207,10 @@ fn empty_block(alloc: Global, header: Header) -> Block
 
 /// A root that has succeeded or failed becomes IDLE when its tick ends.
 fn settle(memory: &mut Memory, notes: &mut Vec<Note>) -> Result<(), NoMemory>
-    ensures memory { OnOk result (memory.new ≡ remembered (settled (out-Memory memory.old).status) (out-Memory memory.old).memo (out-Memory memory.old).children) }
-    ensures notes { OnOk result (notes.new.items ≡ notes.old.items ++ change 1 (out-Memory memory.old).status (settled (out-Memory memory.old).status)) }
+    ensures memory { OnOk result (memory.new
+        ≡ remembered (settled (out-Memory memory.old).status) (out-Memory memory.old).memo (out-Memory memory.old).children) }
+    ensures notes { OnOk result (notes.new.items
+        ≡ notes.old.items ++ change 1 (out-Memory memory.old).status (settled (out-Memory memory.old).status)) }
 {
     let old = memory.status;
     let new = settled_status(old);
@@ -239,7 +252,8 @@ fn value_at(values: &[i64], place: usize) -> Option<&i64>
 
 /// Notes a fact whose value differs.
 fn note_fact(facts: &mut Vec<(u32, i64)>, fact: u32, old: &i64, new: &i64) -> Result<(), NoMemory>
-    ensures { OnOk result (facts.new.items ≡ facts.old.items ++ (if int_eq old.now new.now then [] else (fact, new.now) ∷ [])) }
+    ensures { OnOk result (facts.new.items
+        ≡ facts.old.items ++ (if int_eq old.now new.now then [] else (fact, new.now) ∷ [])) }
 {
     if *old != *new {
         facts.push((fact, *new))?;

@@ -17,8 +17,10 @@ fn run<K: Sink>(alloc: Global, tree: &Tree, world: &World, out: &mut K) -> Resul
     requires room { 1 + node_count tree.now.term < 2 ^ 32 }
     requires few { length world.now.facts < 2 ^ 32 }
     requires one { world.now.runners ≡ 1 }
-    ensures whole { OnOk result (Appended (K.written out.old) (K.written out.new) (run_output tree.now world.now).bytes) }
-    ensures front { AppendedFront (K.written out.old) (K.written out.new) (run_output tree.now world.now).bytes }
+    ensures whole { OnOk result (Appended
+        (K.written out.old) (K.written out.new) (run_output tree.now world.now).bytes) }
+    ensures front { AppendedFront
+        (K.written out.old) (K.written out.new) (run_output tree.now world.now).bytes }
     ensures failed { IsErrOf result TextStop.WriteFault → Rose (K.faults out.old) (K.faults out.new) }
     ensures count { K.faults out.old ≤ K.faults out.new }
 {
@@ -38,7 +40,8 @@ pub fn write_run<K: Sink>(alloc: Global, tree: &Tree, world: &World, out: &mut K
     requires room { 1 + node_count tree.now.term < 2 ^ 32 }
     requires few { length world.now.facts < 2 ^ 32 }
     requires one { world.now.runners ≡ 1 }
-    ensures gave { Gave (run_output tree.now world.now) result (Rose (K.faults out.old) (K.faults out.new)) (K.written out.old) (K.written out.new) }
+    ensures gave { Gave (run_output tree.now world.now) result
+        (Rose (K.faults out.old) (K.faults out.new)) (K.written out.old) (K.written out.new) }
     ensures count { K.faults out.old ≤ K.faults out.new }
 {
     match run(alloc, tree, world, out) {
