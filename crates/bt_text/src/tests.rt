@@ -1,6 +1,3 @@
-ghost use Rattle.std.specs.Prelude.{IfOk, IsTrue};
-ghost use Rattle.std.specs.List.{list_all};
-
 use crate::block::{write_block, write_line};
 use crate::names::names_of;
 use crate::put::{put_number, put_quoted, put_signed};
@@ -81,8 +78,7 @@ fn a_world(alloc: Global) -> Result<World, NoMemory> {
     })
 }
 
-fn some_notes(alloc: Global) -> Result<Vec<Note>, NoMemory>
-{
+fn some_notes(alloc: Global) -> Result<Vec<Note>, NoMemory> {
     let notes = vec![in alloc;
         Note::Changed {
             uid: 1,
@@ -151,8 +147,7 @@ fn some_notes(alloc: Global) -> Result<Vec<Note>, NoMemory>
     Ok(notes)
 }
 
-fn a_block(alloc: Global, header: Header) -> Result<Block, NoMemory>
-{
+fn a_block(alloc: Global, header: Header) -> Result<Block, NoMemory> {
     let notes = some_notes(alloc)?;
     let facts = vec![in alloc; (1, i64::MIN), (0, 7)]?;
     Ok(Block {
