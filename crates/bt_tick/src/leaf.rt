@@ -112,7 +112,8 @@ fn apply(facts: &mut Vec<i64>, sets: &[Set])
 /// What is decided when the time of an action is over.
 fn decide(success: bool, instance: Instance, facts: &mut Vec<i64>, sets: &[Set]) -> Answered
     ensures answer { result.answer ≡ (decided success instance facts.old.items sets.now).answer }
-    ensures instance { result.instance ≡ (decided success instance facts.old.items sets.now).instance }
+    ensures instance { result.instance
+        ≡ (decided success instance facts.old.items sets.now).instance }
     ensures facts { facts.new.items ≡ (decided success instance facts.old.items sets.now).facts }
     ensures length { length facts.new.items ≡ length facts.old.items }
 {
@@ -143,9 +144,12 @@ pub fn answer_row(
     facts: &mut Vec<i64>,
     now: u64,
 ) -> Answered
-    ensures answer { result.answer ≡ (leaf_rule row.now.sort row.now.sets phase instance facts.old.items now).answer }
-    ensures instance { result.instance ≡ (leaf_rule row.now.sort row.now.sets phase instance facts.old.items now).instance }
-    ensures facts { facts.new.items ≡ (leaf_rule row.now.sort row.now.sets phase instance facts.old.items now).facts }
+    ensures answer { result.answer
+        ≡ (leaf_rule row.now.sort row.now.sets phase instance facts.old.items now).answer }
+    ensures instance { result.instance
+        ≡ (leaf_rule row.now.sort row.now.sets phase instance facts.old.items now).instance }
+    ensures facts { facts.new.items
+        ≡ (leaf_rule row.now.sort row.now.sets phase instance facts.old.items now).facts }
     ensures length { length facts.new.items ≡ length facts.old.items }
 {
     match &row.sort {

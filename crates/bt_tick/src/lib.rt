@@ -6,6 +6,8 @@ mod nodes;
 mod notes;
 mod plain;
 mod resets;
+#[cfg(test)]
+mod tests;
 mod visits;
 
 pub use leaf::row_with;

@@ -24,7 +24,9 @@ pub fn plain_of<'a>(alloc: Global, tree: &'a Tree) -> Result<Plain<'a>, NoMemory
     requires { 1 + node_count tree.now.term < 2 ^ 32 }
     ensures term { IfOk result (λ plain. plain.term.now ≡ tree.now.term) }
     ensures idle { IfOk result (λ plain. plain.memory ≡ idle tree.now.term) }
-    ensures fresh { IfOk result (λ plain. plain.instances.items ≡ replicate (1 + node_count tree.now.term) fresh) }
+    ensures fresh { IfOk result (λ plain.
+        plain.instances.items
+        ≡ replicate (1 + node_count tree.now.term) fresh) }
 {
     let term = &tree.term;
     let memory = idle_memory(alloc, term)?;
@@ -46,7 +48,11 @@ pub fn tick(
     notes: &mut Vec<Note>,
 ) -> Result<Answer, NoMemory>
     requires { 1 + node_count plain.old.term.now < 2 ^ 32 }
-    ensures visit { IfOk result (λ answer. shows answer plain.new.memory (plain_state facts.new.items plain.new.instances.items) notes.new.items ≡ shown notes.old.items ((meaning plain.old.term.now).visit rows.now 1 plain.old.memory (plain_state facts.old.items plain.old.instances.items) now)) }
+    ensures visit { IfOk result (λ answer.
+        shows answer plain.new.memory (plain_state facts.new.items plain.new.instances.items) notes.new.items
+        ≡ shown notes.old.items
+        ((meaning plain.old.term.now).visit rows.now 1 plain.old.memory
+        (plain_state facts.old.items plain.old.instances.items) now)) }
     ensures term { plain.new.term.now ≡ plain.old.term.now }
     ensures length { length facts.new.items ≡ length facts.old.items }
 {
@@ -66,7 +72,11 @@ pub fn tick(
 /// the runner is not used again.
 pub fn reset_root(plain: &mut Plain, notes: &mut Vec<Note>) -> Result<(), NoMemory>
     requires { 1 + node_count plain.old.term.now < 2 ^ 32 }
-    ensures reset { OnOk result ((facts : List ℤ) → shows tt plain.new.memory (plain_state facts plain.new.instances.items) notes.new.items ≡ shown notes.old.items ((meaning plain.old.term.now).reset 1 plain.old.memory (plain_state facts plain.old.instances.items))) }
+    ensures reset { OnOk result ((facts : List ℤ) →
+        shows tt plain.new.memory (plain_state facts plain.new.instances.items) notes.new.items
+        ≡ shown notes.old.items
+        ((meaning plain.old.term.now).reset 1 plain.old.memory
+        (plain_state facts plain.old.instances.items))) }
     ensures term { plain.new.term.now ≡ plain.old.term.now }
 {
     reset(

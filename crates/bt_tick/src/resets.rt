@@ -21,7 +21,10 @@ pub fn reset(
     notes: &mut Vec<Note>,
 ) -> Result<(), NoMemory>
     requires { uid + node_count term.now < 2 ^ 32 }
-    ensures { OnOk result ((facts : List ℤ) → shows tt memory.new (plain_state facts instances.new.items) notes.new.items ≡ shown notes.old.items ((meaning term.now).reset uid memory.old (plain_state facts instances.old.items))) }
+    ensures { OnOk result ((facts : List ℤ) →
+        shows tt memory.new (plain_state facts instances.new.items) notes.new.items
+        ≡ shown notes.old.items
+        ((meaning term.now).reset uid memory.old (plain_state facts instances.old.items))) }
 {
     match memory.status {
         Status::Running => halt(term, uid, memory, instances, notes),
@@ -44,7 +47,10 @@ fn halt(
 ) -> Result<(), NoMemory>
     requires room { uid + node_count term.now < 2 ^ 32 }
     requires running { (out-Memory memory.old).status ≡ Status.Running }
-    ensures { OnOk result ((facts : List ℤ) → shows tt memory.new (plain_state facts instances.new.items) notes.new.items ≡ shown notes.old.items ((meaning term.now).reset uid memory.old (plain_state facts instances.old.items))) }
+    ensures { OnOk result ((facts : List ℤ) →
+        shows tt memory.new (plain_state facts instances.new.items) notes.new.items
+        ≡ shown notes.old.items
+        ((meaning term.now).reset uid memory.old (plain_state facts instances.old.items))) }
 {
     reset_all(
         term.children.list(),
@@ -69,7 +75,11 @@ pub fn reset_all(
     notes: &mut Vec<Note>,
 ) -> Result<(), NoMemory>
     requires { uid + sum (map node_count children.now) < 2 ^ 32 }
-    ensures { OnOk result ((facts : List ℤ) → shows tt memories.new (plain_state facts instances.new.items) notes.new.items ≡ shown notes.old.items (resets (map meaning children.now) memories.old uid (plain_state facts instances.old.items))) }
+    ensures { OnOk result ((facts : List ℤ) →
+        shows tt memories.new (plain_state facts instances.new.items) notes.new.items
+        ≡ shown notes.old.items
+        (resets (map meaning children.now) memories.old uid
+        (plain_state facts instances.old.items))) }
 {
     let mut next = uid;
     for (place, child) in children.iter().enumerate() {
@@ -84,7 +94,9 @@ pub fn reset_all(
 
 /// Lets go a leaf's instance.
 fn release(instances: &mut Vec<Instance>, uid: u32)
-    ensures { (facts : List ℤ) → plain_state facts instances.new.items ≡ with_instance (plain_state facts instances.old.items) uid (let_go (instance_at (plain_state facts instances.old.items) uid)) }
+    ensures { (facts : List ℤ) → plain_state facts instances.new.items
+        ≡ with_instance (plain_state facts instances.old.items) uid
+        (let_go (instance_at (plain_state facts instances.old.items) uid)) }
 {
     if (uid as usize) < instances.len() {
         instances[uid as usize] = released(instance_of(instances, uid));
@@ -98,8 +110,12 @@ fn end_halt(
     instances: &mut Vec<Instance>,
     notes: &mut Vec<Note>,
 ) -> Result<(), NoMemory>
-    ensures state { OnOk result ((ms : List Memory) (facts : List ℤ) → plain_state facts instances.new.items ≡ (halted kind uid ms (plain_state facts instances.old.items)).state) }
-    ensures notes { OnOk result ((ms : List Memory) (facts : List ℤ) → notes.new.items ≡ notes.old.items ++ (halted kind uid ms (plain_state facts instances.old.items)).notes) }
+    ensures state { OnOk result ((ms : List Memory) (facts : List ℤ) →
+        plain_state facts instances.new.items
+        ≡ (halted kind uid ms (plain_state facts instances.old.items)).state) }
+    ensures notes { OnOk result ((ms : List Memory) (facts : List ℤ) →
+        notes.new.items
+        ≡ notes.old.items ++ (halted kind uid ms (plain_state facts instances.old.items)).notes) }
 {
     match kind {
         Kind::Leaf => {

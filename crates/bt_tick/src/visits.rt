@@ -25,7 +25,11 @@ pub fn visit(
     notes: &mut Vec<Note>,
 ) -> Result<Answer, NoMemory>
     requires { uid + node_count term.now < 2 ^ 32 }
-    ensures visit { IfOk result (λ answer. shows answer memory.new (plain_state facts.new.items instances.new.items) notes.new.items ≡ shown notes.old.items ((meaning term.now).visit rows.now uid memory.old (plain_state facts.old.items instances.old.items) now)) }
+    ensures visit { IfOk result (λ answer.
+        shows answer memory.new (plain_state facts.new.items instances.new.items) notes.new.items
+        ≡ shown notes.old.items
+        ((meaning term.now).visit rows.now uid memory.old
+        (plain_state facts.old.items instances.old.items) now)) }
     ensures length { length facts.new.items ≡ length facts.old.items }
 {
     match term.kind {
@@ -70,7 +74,11 @@ fn visit_control(
     notes: &mut Vec<Note>,
 ) -> Result<Answer, NoMemory>
     requires { uid + node_count term.now < 2 ^ 32 }
-    ensures visit { IfOk result (λ answer. shows answer memory.new (plain_state facts.new.items instances.new.items) notes.new.items ≡ shown notes.old.items (control_visit rows.now goes (map meaning (out-Term term.now).children) uid memory.old (plain_state facts.old.items instances.old.items) now)) }
+    ensures visit { IfOk result (λ answer.
+        shows answer memory.new (plain_state facts.new.items instances.new.items) notes.new.items
+        ≡ shown notes.old.items
+        (control_visit rows.now goes (map meaning (out-Term term.now).children) uid memory.old
+        (plain_state facts.old.items instances.old.items) now)) }
     ensures length { length facts.new.items ≡ length facts.old.items }
 {
     let at = index_kept(memory.status, memory.memo);
@@ -114,7 +122,12 @@ fn visit_round(
 ) -> Result<RoundEnd, NoMemory>
     requires room { uid + sum (map node_count children.now) < 2 ^ 32 }
     requires places { at + length children.now < 2 ^ 32 }
-    ensures round { IfOk result (λ end. shows end memories.new (plain_state facts.new.items instances.new.items) notes.new.items ≡ shown notes.old.items (past (take at memories.old) (round rows.now goes (map meaning children.now) (drop at memories.old) uid at seen (plain_state facts.old.items instances.old.items) now))) }
+    ensures round { IfOk result (λ end.
+        shows end memories.new (plain_state facts.new.items instances.new.items) notes.new.items
+        ≡ shown notes.old.items
+        (past (take at memories.old)
+        (round rows.now goes (map meaning children.now)
+        (drop at memories.old) uid at seen (plain_state facts.old.items instances.old.items) now))) }
     ensures length { length facts.new.items ≡ length facts.old.items }
 {
     let mut next = uid;
@@ -203,7 +216,11 @@ fn end_round(
     notes: &mut Vec<Note>,
 ) -> Result<Answer, NoMemory>
     requires { uid + 1 + sum (map node_count children.now) < 2 ^ 32 }
-    ensures { IfOk result (λ answer. (facts : List ℤ) → shows answer memory.new (plain_state facts instances.new.items) notes.new.items ≡ shown notes.old.items (after_round goes (map meaning children.now) uid end (out-Memory memory.old).children (plain_state facts instances.old.items))) }
+    ensures { IfOk result (λ answer. (facts : List ℤ) →
+        shows answer memory.new (plain_state facts instances.new.items) notes.new.items
+        ≡ shown notes.old.items
+        (after_round goes (map meaning children.now) uid end (out-Memory memory.old).children
+        (plain_state facts instances.old.items))) }
 {
     match end {
         RoundEnd::AtChild {
@@ -239,7 +256,11 @@ fn finish(
     notes: &mut Vec<Note>,
 ) -> Result<Answer, NoMemory>
     requires { uid + 1 + sum (map node_count children.now) < 2 ^ 32 }
-    ensures { IfOk result (λ a. (facts : List ℤ) → shows a memory.new (plain_state facts instances.new.items) notes.new.items ≡ shown notes.old.items (over (map meaning children.now) answer uid (out-Memory memory.old).children (plain_state facts instances.old.items))) }
+    ensures { IfOk result (λ a. (facts : List ℤ) →
+        shows a memory.new (plain_state facts instances.new.items) notes.new.items
+        ≡ shown notes.old.items
+        (over (map meaning children.now) answer uid (out-Memory memory.old).children
+        (plain_state facts instances.old.items))) }
 {
     reset_all(children, uid + 1, &mut memory.children, instances, notes)?;
     let status = status_after(answer);
@@ -289,7 +310,11 @@ fn visit_leaf(
     now: u64,
     notes: &mut Vec<Note>,
 ) -> Result<Answer, NoMemory>
-    ensures visit { IfOk result (λ answer. shows answer memory.new (plain_state facts.new.items instances.new.items) notes.new.items ≡ shown notes.old.items (leaf_visit (row_of rows.now id.now) uid memory.old (plain_state facts.old.items instances.old.items) now)) }
+    ensures visit { IfOk result (λ answer.
+        shows answer memory.new (plain_state facts.new.items instances.new.items) notes.new.items
+        ≡ shown notes.old.items
+        (leaf_visit (row_of rows.now id.now) uid memory.old
+        (plain_state facts.old.items instances.old.items) now)) }
     ensures length { length facts.new.items ≡ length facts.old.items }
 {
     let Some(row) = row_with(rows, id) else {
