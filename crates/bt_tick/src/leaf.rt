@@ -55,6 +55,7 @@ fn as_answer(holds: bool) -> Answer
     }
 }
 
+/// The instance let go of: its leaf is no longer held, and its count of completions stays.
 pub fn released(instance: Instance) -> Instance
     ensures { result ≡ let_go instance }
 {
