@@ -10,7 +10,8 @@ use Rattle.bt_script.specs.declared.token.Token.{Token}
 use Rattle.bt_script.specs.declared.token.Token.TheVariants.{Number, Text, Word, Operator, Bang, Tilde, Question, Colon, Open, Close, Semicolon, Creates, Assigns, Changes}
 use Rattle.bt_script.specs.Grammar.{changes, spelled, spelled_stmt, spelled_slot, separated, kept, fits, fits_stmt, height, IsStmts}
 use Rattle.bt_script.specs.Climb.{Found, climb}
-use Rattle.bt_script.proofs.Climbing.{Stops, finds, finds-alone, height_some, le-yes, both, more-stops, found-same}
+use Rattle.bt_script.proofs.Bools.{both}
+use Rattle.bt_script.proofs.Climbing.{Stops, finds, finds-alone, height_some, le-yes, more-stops, found-same}
 
 -- what may stand behind a statement
 abbrev pub Rests : List Token → Type 0

@@ -13,6 +13,7 @@ use Rattle.bt_script.specs.declared.token.Token.{Token}
 use Rattle.bt_script.specs.declared.token.Token.TheVariants.{Number, Text, Word, Operator, Bang, Tilde, Question, Colon, Open, Close, Semicolon, Creates, Assigns, Changes}
 use Rattle.bt_script.specs.Grammar.{level, unary_sign, spelled, fits, height}
 use Rattle.bt_script.specs.Climb.{Found, then_found, closed, negated, first, Next, Ends, Infix, Asks, next_of, last_part, go_on, more, climb}
+use Rattle.bt_script.proofs.Bools.{both}
 use Rattle.bt_script.proofs.Trees.{induct, spelled_is, fits_is, height_is}
 
 -- nothing that goes on an expression at this level stands in front
@@ -61,10 +62,6 @@ eq-from a b h = grind (arith, nat_tests)
 
 pub eq-no : (a : ℕ) → 0 < a → (a == 0) ≡ false
 eq-no a h = grind (arith, nat_tests)
-
-pub both : (a b : Bool) → (a && b) ≡ true → (a ≡ true) × (b ≡ true)
-both true b h = (refl, h)
-both false b h = absurd (cc)
 
 -- where nothing goes on, nothing is next
 pub next-stops : (place : ℕ) (ts : List Token) → Stops place ts → next_of place ts ≡ Ends

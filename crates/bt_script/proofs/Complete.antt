@@ -17,18 +17,16 @@ use Rattle.bt_script.specs.Grammar.{level, unary_sign, spelled, fits}
 use Rattle.bt_script.specs.Reading.{Begins}
 use Rattle.bt_script.specs.Spots.{Spot, after_minus, operand_step, closing_step, semicolon_step, behind_step, then_spot, run, step}
 use Rattle.std.proofs.lemmas.Bool.Decides.{nat_tests}
+use Rattle.std.specs.Cmp.Derive.{both_true}
+use Rattle.bt_script.proofs.Bools.{both}
 use Rattle.bt_script.proofs.Trees.{induct, spelled_is, fits_is}
-use Rattle.bt_script.proofs.Climbing.{both, le-yes, le-from, eq-from, level_some}
-
-pub both-true : (a b : Bool) → a ≡ true → b ≡ true → (a && b) ≡ true
-both-true true b h k = k
-both-true false b h k = absurd (cc)
+use Rattle.bt_script.proofs.Climbing.{le-yes, le-from, eq-from, level_some}
 
 fits-binary : (op : BinOp) (a b : Expr) (place : ℕ) → place ≤ level op → fits a (level op) ≡ true → fits b (level op + 1) ≡ true → fits (roll-Expr (Binary op a b)) place ≡ true
-fits-binary op a b place le h k = ap (λ (f : ℕ → Bool). f place) (fits_is (Binary op a b)) ∙ both-true (nat_le place (level op)) (fits a (level op) && fits b (level op + 1)) (le-yes place (level op) le) (both-true (fits a (level op)) (fits b (level op + 1)) h k)
+fits-binary op a b place le h k = ap (λ (f : ℕ → Bool). f place) (fits_is (Binary op a b)) ∙ both_true (le-yes place (level op) le) (both_true h k)
 
 fits-choose : (a b c : Expr) → fits a 1 ≡ true → fits b 0 ≡ true → fits c 0 ≡ true → fits (roll-Expr (Choose a b c)) 0 ≡ true
-fits-choose a b c h k l = ap (λ (f : ℕ → Bool). f 0) (fits_is (Choose a b c)) ∙ both-true (fits a 1) (fits b 0 && fits c 0) h (both-true (fits b 0) (fits c 0) k l)
+fits-choose a b c h k l = ap (λ (f : ℕ → Bool). f 0) (fits_is (Choose a b c)) ∙ both_true h (both_true k l)
 
 binary-parts : (op : BinOp) (a b : Expr) (place : ℕ) → fits (roll-Expr (Binary op a b)) place ≡ true → (place ≤ level op) × (fits a (level op) ≡ true) × (fits b (level op + 1) ≡ true)
 binary-parts op a b place h =

@@ -1,5 +1,5 @@
 -- Tokens of scripts that lead somewhere begin a script, and those that may end are one.
-use Rattle.std.proofs.Common.{◌≡◌, ℕ, ◌<◌, Bool, true, false, ◌&&◌, List, [], ◌∷◌, ◌++◌, length, map, Option, Some, None, refl, ap, sym, ◌∙◌, subst, arith, append_assoc, append-nil}
+use Rattle.std.proofs.Common.{◌≡◌, ℕ, ◌<◌, Bool, true, false, List, [], ◌∷◌, ◌++◌, length, map, Option, Some, None, refl, ap, sym, ◌∙◌, subst, arith, append_assoc, append-nil}
 use Rattle.std.specs.List.{list_all}
 use Rattle.std.proofs.lemmas.List.{length-append}
 use Rattle.std.proofs.lemmas.List.Folds.{list_all-append}
@@ -16,6 +16,7 @@ use Rattle.bt_script.specs.declared.check.Stage.TheVariants.{Blank, Start, Named
 use Rattle.bt_script.specs.Grammar.{changes, spelled, spelled_stmt, spelled_slot, separated, kept, fits, fits_stmt, IsExpr, IsStmts}
 use Rattle.bt_script.specs.Reading.{Begins}
 use Rattle.bt_script.specs.Spots.{Spot, change_step, operand_step, stage_step, only_whole, run, may_end, ends_at}
+use Rattle.std.specs.Cmp.Derive.{both_true}
 use Rattle.bt_script.proofs.Complete
 
 abbrev Slots : Type 0
@@ -60,10 +61,6 @@ record NamedAt (ts : List Token) : Type 0 where
   is : ts ≡ before ++ Word name ∷ []
   opening : Opening before
 
-both-true : (a b : Bool) → a ≡ true → b ≡ true → (a && b) ≡ true
-both-true true b h k = k
-both-true false b h k = absurd (cc)
-
 -- behind a statement's beginning any expression ends a script
 head-of : (before head : List Token) → Opening before → (make : Expr → Stmt) →
     ((e : Expr) → spelled_stmt (make e) ≡ head ++ spelled e) → ((e : Expr) → fits e 0 ≡ true → fits_stmt (make e) ≡ true) →
@@ -74,7 +71,7 @@ head-of before head o make spell fit e h =
     let written : (before ++ head) ++ spelled e ≡ separated (map spelled_slot slots) =
     append_assoc before head (spelled e) ∙ ap (λ (ts : List Token). before ++ ts) (sym (spell e)) ∙ ap (λ (ts : List Token). ts ++ spelled_stmt (make e)) o.is ∙ sym (sep-last o.slots (Some (make e))) in
     let all : list_all fits_stmt (kept slots) ≡ true =
-    ap (λ (ss : List Stmt). list_all fits_stmt ss) ks ∙ list_all-append fits_stmt (kept o.slots) (make e ∷ []) ∙ both-true (list_all fits_stmt (kept o.slots)) (fits_stmt (make e) && true) o.fit (both-true (fits_stmt (make e)) true (fit e h) refl) in
+    ap (λ (ss : List Stmt). list_all fits_stmt ss) ks ∙ list_all-append fits_stmt (kept o.slots) (make e ∷ []) ∙ both_true o.fit (both_true (fit e h) refl) in
     let some : 0 < length (kept slots) = omega (arith, ap (λ (ss : List Stmt). length ss) ks, length-append (kept o.slots) (make e ∷ [])) in
     (slots, record { written = written; fit = all; some = some })
 
@@ -176,7 +173,7 @@ sign-inside ts t n make spell fit =
     (inside-of n.before (Word n.name ∷ t ∷ []) n.opening make spell fit)
 
 change-moves : (ts : List Token) (op : BinOp) (b : Bool) → changes op ≡ b → NamedAt ts → MovesScript (change_step b []) (ts ++ Changes op ∷ [])
-change-moves ts op true is n = sign-inside ts (Changes op) n (Change op n.name) (λ e. refl) (λ e h. both-true (changes op) (fits e 0) is h)
+change-moves ts op true is n = sign-inside ts (Changes op) n (Change op n.name) (λ e. refl) (λ e h. both_true is h)
 change-moves ts op false is n = tt
 
 behind-script : (os : List Opened) (ts : List Token) (t : Token) → Complete.Past Slots IsStmts (Unit {0}) os ts → MovesScript (stage_step Behind os t) (ts ++ t ∷ [])

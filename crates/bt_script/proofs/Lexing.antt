@@ -1,33 +1,17 @@
 -- Lemmas on tokens.
-use Rattle.std.proofs.Common.{◌≡◌, ℕ, zero, suc, ◌<◌, ◌≤◌, ◌+◌, ◌-◌, ◌*◌, Bool, true, false, ◌&&◌, not, ◌==◌, subst, cond, List, [], ◌∷◌, length, get_or, take, drop, refl, ap, sym, ◌∙◌, arith, one-add, Result, Ok, lit<, length-drop}
-use Rattle.std.proofs.lemmas.Bool.Decides.{nat_tests}
+use Rattle.std.proofs.Common.{◌≡◌, ℕ, zero, suc, ◌<◌, ◌≤◌, ◌+◌, ◌-◌, ◌*◌, Bool, true, false, ◌&&◌, not, ◌==◌, subst, cond, List, [], ◌∷◌, length, get_or, take, drop, refl, ap, sym, ◌∙◌, arith, one-add, Result, Ok, length-drop}
 use Rattle.std.proofs.lemmas.Bool.{eqb-true}
 use Rattle.std.proofs.lemmas.List.{drop_more, drop-drop, get_or-drop}
 use Rattle.std.proofs.lemmas.List.Sums.{prefix_len-le-length, prefix_len_stops}
 use Rattle.std.specs.List.{prefix_len, list_all}
 use Rattle.std.specs.Str.{IsUtf8, IsCharBoundary}
-use Rattle.std.proofs.lemmas.Str.{IsUtf8-from_ascii, IsUtf8-between, IsCharBoundary-after_ascii}
-use Rattle.bt_script.specs.Tokens.{is_blank, is_rest, digit_value, read_on, token_at, read_then, read_tokens, Tokens}
+use Rattle.std.proofs.lemmas.Str.{IsUtf8-between, IsCharBoundary-after_ascii}
+use Rattle.bt_script.specs.Identifiers.{is_white}
+use Rattle.bt_script.specs.Tokens.{digit_value, read_on, token_at, read_then, read_tokens, Tokens}
 use Rattle.bt_script.specs.declared.fault.ScriptFault.{ScriptFault}
 use Rattle.bt_script.specs.declared.token.Token.{Token}
 
 pub ruleset fronts = prefix_len-le-length
-
-both : (a b : Bool) → (a && b) ≡ true → (a ≡ true) × (b ≡ true)
-both true b h = (refl, h)
-both false b h = absurd (cc)
-
-small : (c : ℕ) → is_rest c ≡ true → c < 128
-small c h = grind (arith, nat_tests)
-
-ascii : (bs : List ℕ) → list_all is_rest bs ≡ true → (i : ℕ) → get_or bs i 0 < 128
-ascii [] h i = lit< tt
-ascii (c ∷ cs) h zero = small c (both (is_rest c) (list_all is_rest cs) h).0
-ascii (c ∷ cs) h (suc i) = ascii cs (both (is_rest c) (list_all is_rest cs) h).1 i
-
--- words are ASCII, and so UTF-8
-pub IsUtf8-from_rest : (bs : List ℕ) → list_all is_rest bs ≡ true → IsUtf8 bs
-IsUtf8-from_rest bs h = IsUtf8-from_ascii bs (ascii bs h)
 
 front-step : (p : ℕ → Bool) (b : Bool) (c : ℕ) (cs : List ℕ) → p c ≡ b → list_all p (take (prefix_len p cs) cs) ≡ true → list_all p (take (cond b (1 + prefix_len p cs) 0) (c ∷ cs)) ≡ true
 front-step p true c cs is all = rw (one-add (prefix_len p cs)) (ap (λ (b : Bool). b && list_all p (take (prefix_len p cs) cs)) is ∙ all)
@@ -56,7 +40,7 @@ read_past place (suc within) (c ∷ cs) h =
     read_past (place + 1) within cs small ∙ ap (λ (p : ℕ). read_tokens p 0 (drop within cs)) e
 
 read_front : (place len c : ℕ) (cs : List ℕ) (t : Token) →
-    is_blank c ≡ false → token_at place (c ∷ cs) ≡ Ok (t, len) → 0 < len → len ≤ 1 + length cs →
+    is_white c ≡ false → token_at place (c ∷ cs) ≡ Ok (t, len) → 0 < len → len ≤ 1 + length cs →
     read_tokens place 0 (c ∷ cs) ≡ read_then place (Ok (t, len)) (λ n. read_tokens (place + len) 0 (drop (len - 1) cs))
 read_front place len c cs t black is some all =
     let f : ℕ → Tokens = λ n. read_tokens (place + 1) (n - 1) cs in
@@ -69,7 +53,7 @@ read_front place len c cs t black is some all =
 
 -- one more token
 pub read_one : (text : List ℕ) (at len : ℕ) (t : Token) →
-    at < length text → is_blank (get_or text at 0) ≡ false → token_at at (drop at text) ≡ Ok (t, len) → 0 < len → at + len ≤ length text →
+    at < length text → is_white (get_or text at 0) ≡ false → token_at at (drop at text) ≡ Ok (t, len) → 0 < len → at + len ≤ length text →
     read_tokens at 0 (drop at text) ≡ read_then at (Ok (t, len)) (λ n. read_tokens (at + len) 0 (drop (at + len) text))
 read_one text at len t inside black is some all =
     let e = drop_more text at 0 inside in

@@ -1,9 +1,11 @@
 pub mod Alone
+pub mod Bools
 pub mod Building
 pub mod Climbing
 pub mod Complete
 pub mod Exclusive
 pub mod Fronts
+pub mod Identifiers
 pub mod Lexing
 pub mod Machine
 pub mod Readings

@@ -1,5 +1,5 @@
 -- What is written by the grammar leads to an end.
-use Rattle.std.proofs.Common.{◌≡◌, ℕ, ◌<◌, ◌≤◌, ◌+◌, Bool, true, false, ◌&&◌, List, [], ◌∷◌, ◌++◌, length, map, reverse, take, drop, get_or, Option, Some, None, refl, ap, sym, ◌∙◌, arith, append_assoc, append-nil}
+use Rattle.std.proofs.Common.{◌≡◌, ℕ, ◌<◌, ◌≤◌, ◌+◌, Bool, true, false, List, [], ◌∷◌, ◌++◌, length, map, reverse, take, drop, get_or, Option, Some, None, refl, ap, sym, ◌∙◌, arith, append_assoc, append-nil}
 use Rattle.std.specs.List.{list_all}
 use Rattle.std.proofs.lemmas.List.{reverse-append, map-append, drop_more, take_more, take-append-drop, length-reverse}
 use Rattle.bt_script.specs.declared.syntax.UnOp.TheVariants.{Neg, Not, Flip}
@@ -17,6 +17,7 @@ use Rattle.bt_script.specs.declared.check.Stage.TheVariants.{Blank, Start, Named
 use Rattle.bt_script.specs.Grammar.{changes, spelled, spelled_stmt, spelled_slot, separated, kept, fits, fits_stmt, IsExpr, IsStmts}
 use Rattle.bt_script.specs.Reading.{bare, Begins}
 use Rattle.bt_script.specs.Spots.{Spot, LeadsNowhere, step, closing_step, change_step, then_spot, run, may_end, ends_at, only_whole, nothing_open}
+use Rattle.bt_script.proofs.Bools.{both}
 use Rattle.bt_script.proofs.Trees.{induct, spelled_is}
 
 closing-same : (x : Opened) (stage : Stage) (opened : List Opened) → closing_step x stage (x ∷ opened) ≡ Some (stage, opened)
@@ -133,10 +134,6 @@ blank-more (Semicolon ∷ ts) h = absurd (cc)
 blank-more (Creates ∷ ts) h = h
 blank-more (Assigns ∷ ts) h = h
 blank-more (Changes op ∷ ts) h = h
-
-both : (a b : Bool) → (a && b) ≡ true → (a ≡ true) × (b ≡ true)
-both true b h = (refl, h)
-both false b h = absurd (cc)
 
 expr-fine : (e : Expr) (rest : List Token) → fine (run rest (Behind, [])) ≡ true → fine (run (spelled e ++ rest) (Before, [])) ≡ true
 expr-fine e rest h = ap fine (runs e [] rest) ∙ h

@@ -12,7 +12,8 @@ use Rattle.bt_script.specs.declared.token.Placed.{Placed}
 use Rattle.bt_script.specs.Grammar.{changes, spelled, spelled_stmt, spelled_slot, separated, kept, fits, fits_stmt, expr_of, height, IsExpr, IsStmts}
 use Rattle.bt_script.specs.Reading.{bare, high_expr, high_stmt, first_place}
 use Rattle.bt_script.specs.Climb.{Found, climb, whole_expr, from_token, Evaluated, beginning, assigned_by, begun, as_stmt, statement_at}
-use Rattle.bt_script.proofs.Climbing.{finds, both, found-same}
+use Rattle.bt_script.proofs.Bools.{both}
+use Rattle.bt_script.proofs.Climbing.{finds, found-same}
 use Rattle.bt_script.proofs.Alone.{Rests, stops-from_rests, expr-not_sign, stmt-not_rest, rest_of, rests-rest_of, separated-first, fit-first, tails}
 use Rattle.bt_script.proofs.Building.{first-at}
 

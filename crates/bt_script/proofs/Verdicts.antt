@@ -8,7 +8,9 @@ use Rattle.bt_script.specs.declared.token.Token.TheVariants.{Text}
 use Rattle.bt_script.specs.declared.token.Placed.{Placed}
 use Rattle.bt_script.specs.declared.check.Verdict.{Verdict}
 use Rattle.bt_script.specs.declared.check.Verdict.TheVariants as verdict
-use Rattle.bt_script.specs.Tokens.{Tokens, is_blank, is_letter, is_digit, is_hex, number_in, word_at, decimal_end, hex_end, within, ended, decimal_at, hex_at, starts_hex, text_at, two_sign, one_sign, single, longest, sign_at, unquoted_at, token_at, read_then, read_tokens}
+use Rattle.std.specs.Char.{is_ascii_digit, is_ascii_hexdigit}
+use Rattle.bt_script.specs.Identifiers.{is_white, is_identifier_start}
+use Rattle.bt_script.specs.Tokens.{Tokens, number_in, word_at, decimal_end, hex_end, within, ended, decimal_at, hex_at, starts_hex, text_at, two_sign, one_sign, single, longest, sign_at, unquoted_at, token_at, read_then, read_tokens}
 use Rattle.bt_script.specs.Reading.{bare, tokens_of, token_fault, Begins, StuckAt, Unfinished, FaultBehind, Faulty}
 use Rattle.bt_script.specs.Spots.{Spot, run, LeadsNowhere, Leads, Checked, refused}
 use Rattle.bt_script.proofs.Machine.{fine, nothing-begins}
@@ -47,11 +49,11 @@ ended-lexical place (Some fault) value len h = h
 
 decimal_end-lexical : (place : ℕ) (bs : List ℕ) → LexicalEnd (decimal_end place bs)
 decimal_end-lexical place [] = tt
-decimal_end-lexical place (c ∷ cs) = either-end (c == 46 || c == 101 || c == 69) (Some (RealNumber place)) (cond (is_letter c) (Some (Syntax place)) None) tt (either-end (is_letter c) (Some (Syntax place)) None tt tt)
+decimal_end-lexical place (c ∷ cs) = either-end (c == 46 || c == 101 || c == 69) (Some (RealNumber place)) (cond (is_identifier_start c) (Some (Syntax place)) None) tt (either-end (is_identifier_start c) (Some (Syntax place)) None tt tt)
 
 hex_end-lexical : (place : ℕ) (bs : List ℕ) → LexicalEnd (hex_end place bs)
 hex_end-lexical place [] = tt
-hex_end-lexical place (c ∷ cs) = either-end (is_letter c) (Some (Syntax place)) None tt tt
+hex_end-lexical place (c ∷ cs) = either-end (is_identifier_start c) (Some (Syntax place)) None tt tt
 
 single-lexical : (place : ℕ) (o : Option Token) → LexicalAt (single place o)
 single-lexical place None = tt
@@ -67,18 +69,18 @@ sign-lexical place (c ∷ []) = single-lexical place (one_sign c)
 sign-lexical place (c ∷ d ∷ cs) = longest-lexical place c (two_sign c d)
 
 decimal-lexical : (place : ℕ) (bs : List ℕ) → LexicalAt (decimal_at place bs)
-decimal-lexical place bs = ended-lexical place (decimal_end place (drop (prefix_len is_digit bs) bs)) (number_in 10 (take (prefix_len is_digit bs) bs)) (prefix_len is_digit bs) (decimal_end-lexical place (drop (prefix_len is_digit bs) bs))
+decimal-lexical place bs = ended-lexical place (decimal_end place (drop (prefix_len is_ascii_digit bs) bs)) (number_in 10 (take (prefix_len is_ascii_digit bs) bs)) (prefix_len is_ascii_digit bs) (decimal_end-lexical place (drop (prefix_len is_ascii_digit bs) bs))
 
 hex-lexical : (place : ℕ) (bs : List ℕ) → LexicalAt (hex_at place bs)
 hex-lexical place bs =
-    let n = prefix_len is_hex bs in
+    let n = prefix_len is_ascii_hexdigit bs in
     either (n == 0) (Err (Syntax place)) (ended place (hex_end place (drop n bs)) (number_in 16 (take n bs)) (n + 2)) tt
     (ended-lexical place (hex_end place (drop n bs)) (number_in 16 (take n bs)) (n + 2) (hex_end-lexical place (drop n bs)))
 
 unquoted-lexical : (place : ℕ) (bs : List ℕ) → LexicalAt (unquoted_at place bs)
 unquoted-lexical place [] = tt
 unquoted-lexical place (c ∷ cs) =
-    either (is_digit c) (cond (starts_hex (c ∷ cs)) (hex_at place (drop 2 (c ∷ cs))) (decimal_at place (c ∷ cs))) (sign_at place (c ∷ cs))
+    either (is_ascii_digit c) (cond (starts_hex (c ∷ cs)) (hex_at place (drop 2 (c ∷ cs))) (decimal_at place (c ∷ cs))) (sign_at place (c ∷ cs))
     (either (starts_hex (c ∷ cs)) (hex_at place (drop 2 (c ∷ cs))) (decimal_at place (c ∷ cs)) (hex-lexical place (drop 2 (c ∷ cs))) (decimal-lexical place (c ∷ cs)))
     (sign-lexical place (c ∷ cs))
 
@@ -90,7 +92,7 @@ text-lexical place bs =
 token-lexical : (place : ℕ) (bs : List ℕ) → LexicalAt (token_at place bs)
 token-lexical place [] = tt
 token-lexical place (c ∷ cs) =
-    either (is_letter c) (Ok (word_at (c ∷ cs))) (cond (c == 39) (text_at place cs) (unquoted_at place (c ∷ cs))) tt
+    either (is_identifier_start c) (Ok (word_at (c ∷ cs))) (cond (c == 39) (text_at place cs) (unquoted_at place (c ∷ cs))) tt
     (either (c == 39) (text_at place cs) (unquoted_at place (c ∷ cs)) (text-lexical place cs) (unquoted-lexical place (c ∷ cs)))
 
 then-lexical : (place : ℕ) (r : Result (Token × ℕ) ScriptFault) (behind : ℕ → Tokens) → LexicalAt r → ((len : ℕ) → LexicalEnd (behind len).fault) → LexicalEnd (read_then place r behind).fault
@@ -105,7 +107,7 @@ read-lexical : (place skip : ℕ) (bs : List ℕ) → LexicalEnd (read_tokens pl
 read-lexical place skip [] = tt
 read-lexical place (suc skip) (c ∷ cs) = read-lexical (place + 1) skip cs
 read-lexical place zero (c ∷ cs) =
-    blank-lexical (is_blank c) (read_tokens (place + 1) 0 cs) (read_then place (token_at place (c ∷ cs)) (λ len. read_tokens (place + 1) (len - 1) cs))
+    blank-lexical (is_white c) (read_tokens (place + 1) 0 cs) (read_then place (token_at place (c ∷ cs)) (λ len. read_tokens (place + 1) (len - 1) cs))
     (read-lexical (place + 1) 0 cs)
     (then-lexical place (token_at place (c ∷ cs)) (λ len. read_tokens (place + 1) (len - 1) cs) (token-lexical place (c ∷ cs)) (λ len. read-lexical (place + 1) (len - 1) cs))
 

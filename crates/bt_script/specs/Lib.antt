@@ -1,5 +1,6 @@
 pub mod Climb
 pub mod Grammar
+pub mod Identifiers
 pub mod Reading
 pub mod Spots
 pub mod Stops

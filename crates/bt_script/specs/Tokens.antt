@@ -1,5 +1,6 @@
 -- The tokens of a script's text: the longest is taken, and white space separates them.
 use Rattle.std.specs.Prelude.{ℕ, ℤ, pos, zero, suc, ◌+◌, ◌-◌, ◌*◌, ◌==◌, Bool, false, ◌||◌, ◌&&◌, nat_le, nat_lt, if◌then◌else◌, List, [], ◌∷◌, length, take, drop, codes, Option, Some, None, Result, Ok, Err}
+use Rattle.std.specs.Char.{is_ascii_digit, is_ascii_hexdigit}
 use Rattle.std.specs.List.{prefix_len, position_or_len}
 use Rattle.std.specs.Str.{bytes_eq}
 use Rattle.bt_script.specs.declared.fault.ScriptFault.{ScriptFault}
@@ -9,24 +10,7 @@ use Rattle.bt_script.specs.declared.syntax.Cmp.TheVariants.{Equal, Differ, Less,
 use Rattle.bt_script.specs.declared.token.Token.{Token}
 use Rattle.bt_script.specs.declared.token.Token.TheVariants.{Number, Text, Word, Operator, Bang, Tilde, Question, Colon, Open, Close, Semicolon, Creates, Assigns, Changes}
 use Rattle.bt_script.specs.declared.token.Placed.{Placed}
-
--- blank, tab, line feed and carriage return
-abbrev pub is_blank : ℕ → Bool
-is_blank c = c == 32 || c == 9 || c == 10 || c == 13
-
--- an ASCII letter or `_`, with which a word begins
-abbrev pub is_letter : ℕ → Bool
-is_letter c = nat_le 65 c && nat_le c 90 || nat_le 97 c && nat_le c 122 || c == 95
-
-abbrev pub is_digit : ℕ → Bool
-is_digit c = nat_le 48 c && nat_le c 57
-
--- what goes on a word
-abbrev pub is_rest : ℕ → Bool
-is_rest c = is_letter c || is_digit c
-
-abbrev pub is_hex : ℕ → Bool
-is_hex c = is_digit c || nat_le 65 c && nat_le c 70 || nat_le 97 c && nat_le c 102
+use Rattle.bt_script.specs.Identifiers.{is_white, is_identifier_start, is_identifier_continue}
 
 -- the value of a digit, hexadecimal ones in either case
 abbrev pub digit_value : ℕ → ℕ
@@ -50,17 +34,17 @@ word_token word = if bytes_eq word (codes "true") then Number (pos 1) else (if b
 
 -- the word at the front, and its length
 abbrev pub word_at : List ℕ → Token × ℕ
-word_at bytes = (word_token (take (prefix_len is_rest bytes) bytes), prefix_len is_rest bytes)
+word_at bytes = (word_token (take (prefix_len is_identifier_continue bytes) bytes), prefix_len is_identifier_continue bytes)
 
 -- the fault of decimal digits with these bytes behind them
 abbrev pub decimal_end : ℕ → List ℕ → Option ScriptFault
 decimal_end place [] = None
-decimal_end place (c ∷ cs) = if c == 46 || c == 101 || c == 69 then Some (RealNumber place) else (if is_letter c then Some (Syntax place) else None)
+decimal_end place (c ∷ cs) = if c == 46 || c == 101 || c == 69 then Some (RealNumber place) else (if is_identifier_start c then Some (Syntax place) else None)
 
 -- the fault of hexadecimal digits with these bytes behind them
 abbrev pub hex_end : ℕ → List ℕ → Option ScriptFault
 hex_end place [] = None
-hex_end place (c ∷ cs) = if is_letter c then Some (Syntax place) else None
+hex_end place (c ∷ cs) = if is_identifier_start c then Some (Syntax place) else None
 
 -- the number, if its value is no fault
 abbrev pub within : ℕ → Option ℤ → ℕ → Result (Token × ℕ) ScriptFault
@@ -75,13 +59,13 @@ ended place None value len = within place value len
 -- the decimal number at the front
 abbrev pub decimal_at : ℕ → List ℕ → Result (Token × ℕ) ScriptFault
 decimal_at place bytes =
-    let n = prefix_len is_digit bytes in
+    let n = prefix_len is_ascii_digit bytes in
     ended place (decimal_end place (drop n bytes)) (number_in 10 (take n bytes)) n
 
 -- the hexadecimal number at the front, of which these are the bytes behind `0x`
 abbrev pub hex_at : ℕ → List ℕ → Result (Token × ℕ) ScriptFault
 hex_at place bytes =
-    let n = prefix_len is_hex bytes in
+    let n = prefix_len is_ascii_hexdigit bytes in
     if n == 0 then Err (Syntax place) else ended place (hex_end place (drop n bytes)) (number_in 16 (take n bytes)) (n + 2)
 
 -- whether `0x` or `0X` stands at the front
@@ -153,13 +137,13 @@ sign_at place (c ∷ d ∷ cs) = longest place c (two_sign c d)
 abbrev pub unquoted_at : ℕ → List ℕ → Result (Token × ℕ) ScriptFault
 unquoted_at place [] = Err (Syntax place)
 unquoted_at place (c ∷ cs) =
-    if is_digit c then (if starts_hex (c ∷ cs) then hex_at place (drop 2 (c ∷ cs)) else decimal_at place (c ∷ cs)) else sign_at place (c ∷ cs)
+    if is_ascii_digit c then (if starts_hex (c ∷ cs) then hex_at place (drop 2 (c ∷ cs)) else decimal_at place (c ∷ cs)) else sign_at place (c ∷ cs)
 
 -- the token at the front and its length, or its fault, with its place
 abbrev pub token_at : ℕ → List ℕ → Result (Token × ℕ) ScriptFault
 token_at place [] = Err (Syntax place)
 token_at place (c ∷ cs) =
-    if is_letter c then Ok (word_at (c ∷ cs))
+    if is_identifier_start c then Ok (word_at (c ∷ cs))
     else (if c == 39 then text_at place cs else unquoted_at place (c ∷ cs))
 
 -- tokens with their places, and the fault that ends them, if any
@@ -177,5 +161,5 @@ abbrev pub read_tokens : ℕ → ℕ → List ℕ → Tokens
 read_tokens place within [] = record { tokens = []; fault = None }
 read_tokens place (suc within) (c ∷ cs) = read_tokens (place + 1) within cs
 read_tokens place zero (c ∷ cs) =
-    if is_blank c then read_tokens (place + 1) 0 cs
+    if is_white c then read_tokens (place + 1) 0 cs
     else read_then place (token_at place (c ∷ cs)) (λ len. read_tokens (place + 1) (len - 1) cs)

@@ -1,45 +1,18 @@
 ghost use Rattle.std.specs.Prelude.{◌≡◌, ◌≤◌, ◌<◌, ◌+◌, ◌-◌, ◌^◌, ◌==◌, true, slice_index, IsUtf8, IfOk, MatchOption, length, drop, take};
 ghost use Rattle.std.specs.List.{prefix_len, position_or_len, list_all};
+ghost use Rattle.std.specs.Char.{is_ascii_digit, is_ascii_hexdigit};
+ghost use Rattle.bt_script.specs.Identifiers as identifiers;
 ghost use Rattle.bt_script.specs.Stops.{Gives};
-ghost use Rattle.bt_script.specs.Tokens.{is_blank, is_letter, is_digit, is_rest, is_hex, digit_value, number_in, two_sign, one_sign, sign_at, decimal_end, hex_end, starts_hex, decimal_at, hex_at, word_token, word_at, text_at, token_at, unquoted_at, read_tokens};
+ghost use Rattle.bt_script.specs.Tokens.{digit_value, number_in, two_sign, one_sign, sign_at, decimal_end, hex_end, starts_hex, decimal_at, hex_at, word_token, word_at, text_at, token_at, unquoted_at, read_tokens};
 
 use crate::fault::ScriptFault;
+use crate::identifier::{is_identifier_continue, is_identifier_start, is_white};
 use crate::name::Name;
 use crate::stop::{NoMemory, Stop};
 use crate::syntax::{BinOp, Cmp};
 use crate::token::{Placed, Token};
 use crate::txt::Txt;
 use std::alloc::Global;
-
-fn blank(c: u8) -> bool
-    ensures { result ≡ is_blank c }
-{
-    c == b' ' || c == b'\t' || c == b'\n' || c == b'\r'
-}
-
-fn letter(c: u8) -> bool
-    ensures { result ≡ is_letter c }
-{
-    c >= b'A' && c <= b'Z' || c >= b'a' && c <= b'z' || c == b'_'
-}
-
-fn digit(c: u8) -> bool
-    ensures { result ≡ is_digit c }
-{
-    c >= b'0' && c <= b'9'
-}
-
-fn rest(c: u8) -> bool
-    ensures { result ≡ is_rest c }
-{
-    letter(c) || digit(c)
-}
-
-fn hex(c: u8) -> bool
-    ensures { result ≡ is_hex c }
-{
-    digit(c) || c >= b'A' && c <= b'F' || c >= b'a' && c <= b'f'
-}
 
 fn value(c: u8) -> u8
     ensures value { result ≡ digit_value c }
@@ -55,26 +28,29 @@ fn value(c: u8) -> u8
 
 #[tactic(auto, using(crate::proofs::Lexing::fronts))]
 fn rest_len(bytes: &[u8]) -> usize
-    ensures value { result ≡ prefix_len is_rest bytes.now }
+    ensures value { result ≡ prefix_len identifiers.is_identifier_continue bytes.now }
     ensures within { result ≤ length bytes.now }
 {
-    bytes.iter().take_while(|c| rest(**c)).count()
+    bytes
+        .iter()
+        .take_while(|c| is_identifier_continue(**c))
+        .count()
 }
 
 #[tactic(auto, using(crate::proofs::Lexing::fronts))]
 fn digits_len(bytes: &[u8]) -> usize
-    ensures value { result ≡ prefix_len is_digit bytes.now }
+    ensures value { result ≡ prefix_len is_ascii_digit bytes.now }
     ensures within { result ≤ length bytes.now }
 {
-    bytes.iter().take_while(|c| digit(**c)).count()
+    bytes.iter().take_while(|c| c.is_ascii_digit()).count()
 }
 
 #[tactic(auto, using(crate::proofs::Lexing::fronts))]
 fn hex_len(bytes: &[u8]) -> usize
-    ensures value { result ≡ prefix_len is_hex bytes.now }
+    ensures value { result ≡ prefix_len is_ascii_hexdigit bytes.now }
     ensures within { result ≤ length bytes.now }
 {
-    bytes.iter().take_while(|c| hex(**c)).count()
+    bytes.iter().take_while(|c| c.is_ascii_hexdigit()).count()
 }
 
 /// The number that digits spell, if it is at most `i64::MAX`.
@@ -166,7 +142,7 @@ fn fault_behind_decimal(bytes: &[u8], place: u32) -> Option<ScriptFault>
     if c == b'.' || c == b'e' || c == b'E' {
         return Some(ScriptFault::RealNumber { place });
     }
-    if letter(c) {
+    if is_identifier_start(c) {
         return Some(ScriptFault::Syntax { place });
     }
     None
@@ -177,7 +153,7 @@ fn fault_behind_hex(bytes: &[u8], place: u32) -> Option<ScriptFault>
     ensures { result ≡ hex_end place bytes.now }
 {
     let c = *bytes.first()?;
-    if letter(c) {
+    if is_identifier_start(c) {
         return Some(ScriptFault::Syntax { place });
     }
     None
@@ -230,7 +206,7 @@ fn is_hex_mark(bytes: &[u8]) -> bool
 
 /// The token of a word.
 fn word(alloc: Global, word: &[u8]) -> Result<Token, NoMemory>
-    requires { list_all is_rest word.now ≡ true }
+    requires { list_all identifiers.is_identifier_continue word.now ≡ true }
     ensures { IfOk result (λ token. token ≡ word_token word.now) }
 {
     if word == b"true".as_slice() {
@@ -275,7 +251,7 @@ fn unquoted(bytes: &[u8], place: u32) -> Result<(Token, usize), ScriptFault>
     ensures value { result ≡ unquoted_at place bytes.now }
     ensures len { IfOk result (λ found. (0 < found.1) × (found.1 ≤ length bytes.now)) }
 {
-    if !digit(bytes[0]) {
+    if !bytes[0].is_ascii_digit() {
         return sign(bytes, place);
     }
     if is_hex_mark(bytes) {
@@ -295,7 +271,7 @@ fn token(alloc: Global, text: &[u8], at: usize) -> Result<(Token, usize), Stop<S
     let bytes = &text[at..];
     let c = text[at];
     let place = at as u32;
-    if letter(c) {
+    if is_identifier_start(c) {
         let len = rest_len(bytes);
         return Ok((word(alloc, &bytes[..len])?, len));
     }
@@ -326,7 +302,7 @@ pub fn read(alloc: Global, text: &[u8]) -> Result<Lexed, NoMemory>
     let mut tokens = Vec::new(alloc);
     let mut at = 0;
     while at < text.len() {
-        if blank(text[at]) {
+        if is_white(text[at]) {
             at += 1;
         } else {
             match token(alloc, text, at) {

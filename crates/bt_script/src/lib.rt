@@ -5,6 +5,7 @@ mod boxed;
 mod build;
 mod check;
 mod fault;
+mod identifier;
 mod items;
 pub mod laws;
 mod lexer;
@@ -18,6 +19,7 @@ mod value;
 
 pub use boxed::Boxed;
 pub use fault::ScriptFault;
+pub use identifier::{is_identifier, is_identifier_continue, is_identifier_start, is_white};
 pub use items::Items;
 pub use name::Name;
 pub use reader::{parse_expr, parse_script};

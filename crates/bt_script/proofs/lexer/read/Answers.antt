@@ -7,7 +7,7 @@ use Rattle.bt_script.proofs.lexer.read.Goals as goal
 pub loop-at-preserved : goal.loop-at-preserved
 loop-at-preserved c =
     let text = c.args.text.now in
-    let e = read_one text c.loop-at.at c.in-Ok.len c.in-Ok.token c.loop-at-test.true (sym c.if-blank.ensures) c.in-Ok.ensures.value c.in-Ok.ensures.len.0 c.in-Ok.ensures.len.1 in
+    let e = read_one text c.loop-at.at c.in-Ok.len c.in-Ok.token c.loop-at-test.true (sym c.if-is_white.ensures) c.in-Ok.ensures.value c.in-Ok.ensures.len.0 c.in-Ok.ensures.len.1 in
     let rest = read_tokens (c.loop-at.at + c.in-Ok.len) 0 (drop (c.loop-at.at + c.in-Ok.len) text) in
     let one : Placed = record { token = c.in-Ok.token; place = c.loop-at.at } in
     let more = c.in_ok-push-in-Ok.ensures.items in
