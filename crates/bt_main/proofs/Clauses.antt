@@ -13,7 +13,7 @@ use Rattle.bt_main.specs.declared.exit.Exit.{Exit}
 use Rattle.bt_main.specs.declared.exit.Exit.TheVariants as exit
 use Rattle.bt_main.specs.Answers.{Answers, EachOutput, FilesAnswered, Gave, IsGiven, ReadFailed, WholeOutput, WorldAnswered}
 use Rattle.bt_main.specs.Output.{CommandGives, FilesGive, Output, ReadsAs, ReadsTree, SpellsTree, is_too_long, tree_output, tree_unbuilt, words_refused, world_output, world_unbuilt}
-use Rattle.bt_main.specs.Words.{Command}
+use Rattle.bt_main.specs.Words.{Command, File}
 use Rattle.bt_model.specs.declared.term.Tree.{Tree}
 use Rattle.bt_model.specs.WorldFile.{world_in}
 use Rattle.bt_outside.specs.Appending.{Appended, AppendedFront}
@@ -67,32 +67,32 @@ whole_or_memory o exit.Write rose a b n p = absurd (n p.0)
 whole_or_memory o exit.Memory rose a b n p = inl refl
 
 -- the clauses of a command that names two files
-module _ (one : OneElement) (c : Command) (result : Exit) (shelf fits sink : Type 0) (a b : Option (List ℕ)) where
+module _ (one : OneElement) (c : Command) (result : Exit) (shelf : Type 0) (IsUnread : File → Type 0) (sink : Type 0) (a b : Option (List ℕ)) where
   answered_gave : (tree world : List ℕ) (o : Output) → FilesGive tree world o → Answers (FilesGive tree world) result sink a b → Gave o result sink a b
   answered_gave tree world o p (inl x) = subst (λ (z : Output). Gave z result sink a b) (one_files one tree world x.0 o x.1 p) x.2
   answered_gave tree world o p (inr y) = nothing_gave o result sink a b y.0 y.1
 
-  each_told : (h : List ℕ → List ℕ) (o : Output) → CommandGives (Some c) h o → ReadFailed shelf fits result sink a b ⊎ FilesAnswered (Some h) c result sink a b → Gave o result sink a b ⊎ ReadFailed shelf fits result sink a b
+  each_told : (h : List ℕ → List ℕ) (o : Output) → CommandGives (Some c) h o → ReadFailed shelf IsUnread result sink a b ⊎ FilesAnswered (Some h) c result sink a b → Gave o result sink a b ⊎ ReadFailed shelf IsUnread result sink a b
   each_told h o p (inl r) = inr r
   each_told h o p (inr f) =
       inl (answered_gave f.tree f.world o (subst (λ (z : List ℕ). FilesGive f.tree z o) (sym f.is_world) (subst (λ (z : List ℕ). FilesGive z (h c.world) o) (sym f.is_tree) p)) f.answers)
 
   -- each output of the command was given, or a read failed
-  pub each_clause : (holds : Option (List ℕ → List ℕ)) → ReadFailed shelf fits result sink a b ⊎ FilesAnswered holds c result sink a b → EachOutput holds (Some c) (λ o. Gave o result sink a b ⊎ ReadFailed shelf fits result sink a b)
+  pub each_clause : (holds : Option (List ℕ → List ℕ)) → ReadFailed shelf IsUnread result sink a b ⊎ FilesAnswered holds c result sink a b → EachOutput holds (Some c) (λ o. Gave o result sink a b ⊎ ReadFailed shelf IsUnread result sink a b)
   each_clause None x = tt
   each_clause (Some h) x = λ o p. each_told h o p x
 
-  complete_told : (o : Output) → Gave o result sink a b ⊎ ReadFailed shelf fits result sink a b → (shelf → ⊥) → (sink → ⊥) → (result ≡ exit.Memory) ⊎ ((result ≡ o.exit) × Appended a b o.bytes)
+  complete_told : (o : Output) → Gave o result sink a b ⊎ ReadFailed shelf IsUnread result sink a b → (shelf → ⊥) → (sink → ⊥) → (result ≡ exit.Memory) ⊎ ((result ≡ o.exit) × Appended a b o.bytes)
   complete_told o (inl p) s k = whole_or_memory o result sink a b k p
   complete_told o (inr r) s k = absurd (s r.0)
 
   -- where no count rose, the output is whole or memory ran out
-  pub complete_clause : (holds : Option (List ℕ → List ℕ)) → ReadFailed shelf fits result sink a b ⊎ FilesAnswered holds c result sink a b → EachOutput holds (Some c) (λ o. (shelf → ⊥) → (sink → ⊥) → (result ≡ exit.Memory) ⊎ ((result ≡ o.exit) × Appended a b o.bytes))
+  pub complete_clause : (holds : Option (List ℕ → List ℕ)) → ReadFailed shelf IsUnread result sink a b ⊎ FilesAnswered holds c result sink a b → EachOutput holds (Some c) (λ o. (shelf → ⊥) → (sink → ⊥) → (result ≡ exit.Memory) ⊎ ((result ≡ o.exit) × Appended a b o.bytes))
   complete_clause None x = tt
   complete_clause (Some h) x = λ o p. complete_told o (each_told h o p x)
 
 -- the clauses of words that are no command
-module _ (result : Exit) (shelf fits sink : Type 0) (a b : Option (List ℕ)) (gave : Gave words_refused result sink a b) where
+module _ (result : Exit) (shelf : Type 0) (IsUnread : File → Type 0) (sink : Type 0) (a b : Option (List ℕ)) (gave : Gave words_refused result sink a b) where
   pub none_whole : (holds : Option (List ℕ → List ℕ)) → IsGiven result → WholeOutput holds None result a b
   none_whole None i = tt
   none_whole (Some h) i = (words_refused, refl, (whole_given words_refused result sink a b i gave).0, (whole_given words_refused result sink a b i gave).1)
@@ -100,7 +100,7 @@ module _ (result : Exit) (shelf fits sink : Type 0) (a b : Option (List ℕ)) (g
   refused_gave : (o : Output) → o ≡ words_refused → Gave o result sink a b
   refused_gave o e = subst (λ (z : Output). Gave z result sink a b) (sym e) gave
 
-  pub none_each : (holds : Option (List ℕ → List ℕ)) → EachOutput holds None (λ o. Gave o result sink a b ⊎ ReadFailed shelf fits result sink a b)
+  pub none_each : (holds : Option (List ℕ → List ℕ)) → EachOutput holds None (λ o. Gave o result sink a b ⊎ ReadFailed shelf IsUnread result sink a b)
   none_each None = tt
   none_each (Some h) = λ o e. inl (refused_gave o e)
 

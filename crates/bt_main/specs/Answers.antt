@@ -1,11 +1,13 @@
 -- What the answer of a command says.
-use Rattle.std.specs.Prelude.{ℕ, ◌≡◌, ◌≤◌, ◌⊎◌, List, length, Option, Some, None}
+use Rattle.std.specs.Prelude.{ℕ, ◌≡◌, ◌≤◌, ◌⊎◌, List, length, Option, Some, None, Result, Ok, Err}
 use Rattle.bt_main.specs.declared.exit.Exit.{Exit}
 use Rattle.bt_main.specs.declared.exit.Exit.TheVariants as exit
-use Rattle.bt_main.specs.Output.{Output, CommandGives, FilesGive, tree_unread, world_unread}
-use Rattle.bt_main.specs.Words.{Command}
+use Rattle.bt_main.specs.Output.{Output, CommandGives, FilesGive, unread}
+use Rattle.bt_main.specs.Words.{Command, File, Tree, World}
 use Rattle.bt_outside.specs.Appending.{Appended, AppendedFront}
 use Rattle.bt_outside.specs.Files.{Told}
+use Rattle.bt_outside.specs.declared.shelf.ShelfFault.{ShelfFault}
+use Rattle.bt_outside.specs.declared.shelf.ShelfFault.TheVariants as fault
 
 -- the exits with which some output was written whole
 abbrev pub IsSpoken : Exit → Type 0
@@ -32,16 +34,28 @@ abbrev pub Answers : (Output → Type 0) → Exit → Type 0 → Option (List �
 Answers IsOutput result rose old new =
     ((o : Output) × IsOutput o × Gave o result rose old new) ⊎ ((result ≡ exit.Memory) × (new ≡ old))
 
--- The shelf's count of failures rose, and the line of the file that was not read was given: that of
--- the tree file, or, where the tree file fits, that of the world file.
-abbrev pub ReadFailed : Type 0 → Type 0 → Exit → Type 0 → Option (List ℕ) → Option (List ℕ) → Type 0
-ReadFailed shelf_rose fits result sink_rose old new =
-    shelf_rose × (Gave tree_unread result sink_rose old new ⊎ (fits × Gave world_unread result sink_rose old new))
+-- what reads give: a read of a name, with its answer, leads from one state of the shelf to another
+abbrev pub Reading : Type 0 → Type 1
+Reading Shelf = Shelf → List ℕ → Result (Unit {0}) ShelfFault → Shelf → Type 0
 
--- the tree file that a command names is within the limit, where the shelf tells it
-abbrev pub TreeFits : Option (List ℕ → List ℕ) → Option Command → Type 0
-TreeFits holds None = ⊥
-TreeFits holds (Some command) = Told holds command.tree (λ file. length file ≤ 1048576)
+-- The read of this file of a command failed. The world file is read where the tree file was, which is
+-- then within the limit, where the shelf tells it.
+abbrev pub Unread : {Shelf : Type 0} → Reading Shelf → Option (List ℕ → List ℕ) → Command → Shelf → Shelf → File → Type 0
+Unread read_gives holds command old new Tree = read_gives old command.tree (Err fault.Failed) new
+Unread {Shelf} read_gives holds command old new World =
+    (between : Shelf) × read_gives old command.tree (Ok tt) between
+    × Told holds command.tree (λ file. length file ≤ 1048576)
+    × read_gives between command.world (Err fault.Failed) new
+
+-- the same of words, of which those that are no command name no file
+abbrev pub WordsUnread : {Shelf : Type 0} → Reading Shelf → Option (List ℕ → List ℕ) → Option Command → Shelf → Shelf → File → Type 0
+WordsUnread read_gives holds None old new file = ⊥
+WordsUnread read_gives holds (Some command) old new file = Unread read_gives holds command old new file
+
+-- The shelf's count of failures rose: the read of a file failed, and the line of this file was given.
+abbrev pub ReadFailed : Type 0 → (File → Type 0) → Exit → Type 0 → Option (List ℕ) → Option (List ℕ) → Type 0
+ReadFailed shelf_rose IsUnread result sink_rose old new =
+    shelf_rose × (file : File) × IsUnread file × Gave (unread file) result sink_rose old new
 
 -- the output of these bytes of the two files, which are those that the shelf tells
 pub record FilesAnswered (holds : Option (List ℕ → List ℕ)) (command : Command) (result : Exit) (rose : Type 0) (old new : Option (List ℕ)) : Type 0 where
@@ -51,10 +65,9 @@ pub record FilesAnswered (holds : Option (List ℕ → List ℕ)) (command : Com
   pub is_world : Told holds command.world (λ file. world ≡ file)
   pub answers : Answers (FilesGive tree world) result rose old new
 
--- The line of a file that was not read was written whole: that of the tree file, or, where the tree
--- file fits, that of the world file.
-abbrev pub UnreadLine : Type 0 → Option (List ℕ) → Option (List ℕ) → Type 0
-UnreadLine fits old new = Appended old new tree_unread.bytes ⊎ (fits × Appended old new world_unread.bytes)
+-- the read of a file failed, and the line of this file was written whole
+abbrev pub UnreadLine : (File → Type 0) → Option (List ℕ) → Option (List ℕ) → Type 0
+UnreadLine IsUnread old new = (file : File) × IsUnread file × Appended old new (unread file).bytes
 
 -- the output of a command over told files was written whole, and this is its exit
 abbrev pub WholeOutput : Option (List ℕ → List ℕ) → Option Command → Exit → Option (List ℕ) → Option (List ℕ) → Type 0

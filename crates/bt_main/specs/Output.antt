@@ -7,7 +7,8 @@ use Rattle.bt_elements.specs.declared.element.Unbuilt.{Unbuilt}
 use Rattle.bt_elements.specs.Elements.{SpellsPlainly}
 use Rattle.bt_main.specs.declared.exit.Exit.{Exit}
 use Rattle.bt_main.specs.declared.exit.Exit.TheVariants as exit
-use Rattle.bt_main.specs.Words.{Command}
+use Rattle.bt_main.specs.Words.{Command, File}
+use Rattle.bt_main.specs.Words as words
 use Rattle.bt_model.specs.declared.block.Block.{Block}
 use Rattle.bt_model.specs.declared.term.Tree.{Tree}
 use Rattle.bt_model.specs.declared.world.World.{World}
@@ -38,11 +39,9 @@ abbrev pub world_unbuilt : Output
 world_unbuilt = refused (codes "refused world Unbuilt") exit.World
 
 -- a file that could not be read
-abbrev pub tree_unread : Output
-tree_unread = refused (codes "refused read tree") exit.Read
-
-abbrev pub world_unread : Output
-world_unread = refused (codes "refused read world") exit.Read
+abbrev pub unread : File → Output
+unread words.Tree = refused (codes "refused read tree") exit.Read
+unread words.World = refused (codes "refused read world") exit.Read
 
 -- a file of more bytes is too long
 abbrev pub is_too_long : List ℕ → Bool

@@ -9,6 +9,11 @@ pub record Command : Type 0 where
   pub tree : List ℕ
   pub world : List ℕ
 
+-- the files of a command
+pub data File : Type 0 where
+  Tree : File
+  World : File
+
 -- the command that the words are, or none: `tick TREE WORLD`
 abbrev pub command_of : List (List ℕ) → Option Command
 command_of (word ∷ tree ∷ world ∷ []) = if bytes_eq word (codes "tick") then Some (record { tree = tree; world = world }) else None

@@ -1,11 +1,10 @@
-ghost use Rattle.std.specs.Prelude.{◌≡◌, ◌+◌, ◌<◌, ◌≤◌, ◌^◌, ◌⊎◌, List, ℕ, IfOk, Option, None, Some, length};
-ghost use Rattle.bt_main.specs.Answers.{Answers, EachOutput, FilesAnswered, Gave, IsGiven, ReadFailed, TreeFits, UnreadLine, WholeOutput, WorldAnswered};
+ghost use Rattle.std.specs.Prelude.{◌≡◌, ◌+◌, ◌<◌, ◌≤◌, ◌^◌, ◌⊎◌, List, ℕ, IfOk, Option, None, Some, Err, length};
+ghost use Rattle.bt_main.specs.Answers.{Answers, EachOutput, FilesAnswered, Gave, IsGiven, ReadFailed, Unread, UnreadLine, WholeOutput, WordsUnread, WorldAnswered};
 ghost use Rattle.bt_main.specs.Output.{CommandGives, FilesGive, Output, ReadsTree, ReadsAs, words_refused, tree_output};
-ghost use Rattle.bt_main.specs.Words.{Command, command_of};
+ghost use Rattle.bt_main.specs.Words.{Command, World, command_of};
 ghost use Rattle.bt_model.specs.Terms.{node_count};
 ghost use Rattle.bt_outside.specs.Appending.{Appended};
 ghost use Rattle.bt_outside.specs.Counts.{Rose};
-ghost use Rattle.bt_outside.specs.Files.{Told};
 
 use crate::exit::Exit;
 use crate::join::{run_world, write_last};
@@ -54,7 +53,8 @@ fn answer_command<S: Shelf, K: Sink>(
     shelf: &mut S,
     out: &mut K,
 ) -> Exit
-    ensures answers { ReadFailed (Rose (S.faults shelf.old) (S.faults shelf.new)) (Told (S.holds shelf.old) command.now.tree.now (λ file. length file ≤ 1048576))
+    ensures answers { ReadFailed (Rose (S.faults shelf.old) (S.faults shelf.new))
+        (Unread S.read_gives (S.holds shelf.old) (record { tree = command.now.tree.now; world = command.now.world.now }) shelf.old shelf.new)
         result (Rose (K.faults out.old) (K.faults out.new)) (K.written out.old) (K.written out.new)
         ⊎ FilesAnswered (S.holds shelf.old) (record { tree = command.now.tree.now; world = command.now.world.now })
         result (Rose (K.faults out.old) (K.faults out.new)) (K.written out.old) (K.written out.new) }
@@ -79,8 +79,9 @@ fn answer_world<S: Shelf, K: Sink>(
     out: &mut K,
 ) -> Exit
     requires { length tree.now ≤ 1048576 }
-    ensures answers { ReadFailed (Rose (S.faults shelf.old) (S.faults shelf.new)) (Unit {0}) result
-        (Rose (K.faults out.old) (K.faults out.new)) (K.written out.old) (K.written out.new)
+    ensures answers { ReadFailed (Rose (S.faults shelf.old) (S.faults shelf.new))
+        (λ file. (file ≡ World) × S.read_gives shelf.old command.now.world.now (Err ShelfFault.Failed) shelf.new)
+        result (Rose (K.faults out.old) (K.faults out.new)) (K.written out.old) (K.written out.new)
         ⊎ WorldAnswered (S.holds shelf.old) tree.now command.now.world.now result
         (Rose (K.faults out.old) (K.faults out.new)) (K.written out.old) (K.written out.new) }
     ensures read_count { S.faults shelf.old ≤ S.faults shelf.new }
@@ -113,12 +114,14 @@ pub fn bt<S: Shelf, K: Sink>(alloc: Global, words: &[Name], shelf: &mut S, out: 
     ensures each { EachOutput (S.holds shelf.old) (command_of words.now) (λ o.
         Gave o result (Rose (K.faults out.old) (K.faults out.new)) (K.written out.old) (K.written out.new)
         ⊎ ReadFailed (Rose (S.faults shelf.old) (S.faults shelf.new))
-        (TreeFits (S.holds shelf.old) (command_of words.now))
+        (WordsUnread S.read_gives (S.holds shelf.old) (command_of words.now) shelf.old shelf.new)
         result (Rose (K.faults out.old) (K.faults out.new)) (K.written out.old) (K.written out.new)) }
 
+    // At Read the read of a file failed, and the line of this file was written.
     ensures read { result ≡ Exit.Read →
         Rose (S.faults shelf.old) (S.faults shelf.new)
-        × UnreadLine (TreeFits (S.holds shelf.old) (command_of words.now)) (K.written out.old) (K.written out.new) }
+        × UnreadLine (WordsUnread S.read_gives (S.holds shelf.old) (command_of words.now) shelf.old shelf.new)
+        (K.written out.old) (K.written out.new) }
     ensures write { result ≡ Exit.Write → Rose (K.faults out.old) (K.faults out.new) }
 
     // Where no count rose, the whole output was written, or memory ran out.

@@ -4,3 +4,4 @@ pub mod Files
 pub mod MemShelf
 pub mod MemSink
 pub mod OutSink
+pub mod Reads

@@ -1,5 +1,5 @@
 ghost use Rattle.std.specs.Prelude.{◌≡◌, ◌<◌, ◌≤◌, ◌+◌, ◌-◌, ◌^◌, [], OnOk, IsErrOf, IfSome, length};
-ghost use Rattle.bt_outside.specs.Counts.{Rose, next};
+ghost use Rattle.bt_outside.specs.Counts.{Rose};
 ghost use Rattle.bt_outside.specs.Files.{IsFront};
 
 use crate::shelf::{Shelf, ShelfFault};
@@ -86,10 +86,13 @@ fn read_file<R: Files>(
 
 impl<R: Files + Drop> Shelf for DirShelf<R> {
     ghost use Rattle.std.specs.Prelude.{None};
+    ghost use Rattle.bt_outside.specs.Reads.{count_after};
 
     ghost holds = { λ _. None };
 
     ghost faults = { λ faults. faults };
+
+    ghost read_gives = { λ old _ answer new. new ≡ count_after answer old };
 
     fn read(&mut self, name: &Name, room: &mut Vec<u8>, limit: u64) -> Result<(), ShelfFault>
         requires empty { room.old.items ≡ [] }
@@ -100,8 +103,7 @@ impl<R: Files + Drop> Shelf for DirShelf<R> {
         ensures past { IsErrOf result ShelfFault.TooLong → length room.new.items ≡ limit + 1 }
         ensures failed { IsErrOf result ShelfFault.Failed → Rose self.old self.new }
 
-        ensures raised { IsErrOf result ShelfFault.Failed → self.new ≡ next self.old }
-        ensures calm { ¬ IsErrOf result ShelfFault.Failed → self.new ≡ self.old }
+        ensures counted { self.new ≡ count_after result self.old }
     {
         let answer = read_file(&self.host, name, room, limit);
         if answer == Err(ShelfFault::Failed) {

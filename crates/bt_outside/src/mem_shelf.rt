@@ -53,10 +53,13 @@ impl MemShelf {
 impl Shelf for MemShelf {
     ghost use Rattle.std.specs.Prelude.{Some};
     ghost use Rattle.bt_outside.specs.Files.{file_of};
+    ghost use Rattle.bt_outside.specs.declared.shelf.ShelfFault.TheVariants as fault;
 
     ghost holds = { λ s. Some (file_of s.files) };
 
     ghost faults = { λ s. s.faults };
+
+    ghost read_gives = { λ old _ answer new. (new ≡ after_read old) × (IsErrOf answer fault.Failed ↔ IsTrue (fails_now old)) };
 
     fn read(&mut self, name: &Name, room: &mut Vec<u8>, limit: u64) -> Result<(), ShelfFault>
         requires empty { room.old.items ≡ [] }

@@ -1,6 +1,7 @@
-ghost use Rattle.std.specs.Prelude.{◌≡◌, ◌<◌, ◌≤◌, ◌+◌, ◌-◌, ◌^◌, List, [], ℕ, Option, OnOk, IsErrOf, length};
+ghost use Rattle.std.specs.Prelude.{◌≡◌, ◌<◌, ◌≤◌, ◌+◌, ◌-◌, ◌^◌, List, [], ℕ, Option, Result, OnOk, IsErrOf, length};
 ghost use Rattle.bt_outside.specs.Counts.{Rose};
 ghost use Rattle.bt_outside.specs.Files.{Told, IsFront};
+ghost use Rattle.bt_outside.specs.declared.shelf.ShelfFault.{ShelfFault};
 
 use bt_script::Name;
 
@@ -23,6 +24,9 @@ pub trait Shelf {
     /// The count of failures. It never falls.
     ghost faults: { Self → ℕ };
 
+    /// A read of this name gives this answer and leads from the first state to the second.
+    ghost read_gives: { Self → List ℕ → Result (Unit {0}) ShelfFault → Self → Type 0 };
+
     /// Reads the file of this name, of at most `limit` bytes, into the empty room.
     ///
     /// `ShelfFault::Failed` comes only where the count of failures rose in this call.
@@ -32,6 +36,7 @@ pub trait Shelf {
         requires empty { room.old.items ≡ [] }
         requires below_last { limit < 2 ^ 64 - 1 }
 
+        ensures gives { read_gives self.old name.now result self.new }
         ensures holds { holds self.new ≡ holds self.old }
         ensures count { faults self.old ≤ faults self.new }
 

@@ -45,10 +45,13 @@ impl SureShelf {
 impl Shelf for SureShelf {
     ghost use Rattle.std.specs.Prelude.{Some};
     ghost use Rattle.bt_outside.specs.Files.{file_of};
+    ghost use Rattle.bt_outside.specs.declared.shelf.ShelfFault.TheVariants as fault;
 
     ghost holds = { λ files. Some (file_of files) };
 
     ghost faults = { λ _. 0 };
+
+    ghost read_gives = { λ old _ answer new. (new ≡ old) × ¬ IsErrOf answer fault.Failed };
 
     fn read(&mut self, name: &Name, room: &mut Vec<u8>, limit: u64) -> Result<(), ShelfFault>
         requires empty { room.old.items ≡ [] }

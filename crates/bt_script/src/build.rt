@@ -137,7 +137,8 @@ fn group(alloc: Global, a: Built) -> Result<Built, NoMemory>
 
 fn binary(alloc: Global, op: BinOp, a: Built, b: Built) -> Result<Built, NoMemory>
     requires { (a.height ≤ 64) × (b.height ≤ 64) }
-    ensures { IfOk result (λ c. (c.expr ≡ roll-Expr (layer.Binary op a.expr b.expr)) × (c.height ≡ 1 + max a.height b.height) × (c.next ≡ b.next)) }
+    ensures { IfOk result (λ c. (c.expr ≡ roll-Expr (layer.Binary op a.expr b.expr))
+        × (c.height ≡ 1 + max a.height b.height) × (c.next ≡ b.next)) }
 {
     let height = 1 + a.height.max(b.height);
     let next = b.next;
@@ -147,7 +148,8 @@ fn binary(alloc: Global, op: BinOp, a: Built, b: Built) -> Result<Built, NoMemor
 
 fn choice(alloc: Global, a: Built, b: Built, c: Built) -> Result<Built, NoMemory>
     requires { (a.height ≤ 64) × (b.height ≤ 64) × (c.height ≤ 64) }
-    ensures { IfOk result (λ d. (d.expr ≡ roll-Expr (layer.Choose a.expr b.expr c.expr)) × (d.height ≡ 1 + max a.height (max b.height c.height)) × (d.next ≡ c.next)) }
+    ensures { IfOk result (λ d. (d.expr ≡ roll-Expr (layer.Choose a.expr b.expr c.expr))
+        × (d.height ≡ 1 + max a.height (max b.height c.height)) × (d.next ≡ c.next)) }
 {
     let height = 1 + a.height.max(b.height.max(c.height));
     let next = c.next;
@@ -286,7 +288,8 @@ fn otherwise(
 fn chosen(alloc: Global, tokens: &[Placed], a: Built, limit: u32) -> Result<Option<Built>, NoMemory>
     requires small { (limit < 64) × (length tokens.now < 2 ^ 32) }
     requires a { (a.height ≡ height a.expr) × (a.height ≤ limit) × (a.next < length tokens.now) }
-    ensures value { IfOk result (λ found. seen tokens.now found ≡ then_found (climb limit 0 (from_token tokens.now (a.next + 1))) (last_part (climb limit) a.expr)) }
+    ensures value { IfOk result (λ found. seen tokens.now found
+        ≡ then_found (climb limit 0 (from_token tokens.now (a.next + 1))) (last_part (climb limit) a.expr)) }
     ensures sound { IfOk result (λ found. sound tokens.now (limit + 1) found) }
 {
     match climb(alloc, tokens, a.next + 1, LOOSEST, limit)? {

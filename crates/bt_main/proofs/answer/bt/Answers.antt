@@ -8,10 +8,10 @@ pub returns-in-Some-clause-complete : goal.returns-in-Some-clause-complete
 returns-in-Some-clause-complete g c = rw c.in-Some.ensures (complete_clause c.one_element.ensures _ _ _ _ _ _ _ (g.S.Shelf.holds c.args.shelf.now) c.answer_command.ensures.answers)
 
 pub returns-in-None-clause-whole : goal.returns-in-None-clause-whole
-returns-in-None-clause-whole g c = rw c.in-None.ensures (none_whole _ (Unit {0}) (Unit {0}) _ _ _ c.write_last.ensures.gave (g.S.Shelf.holds c.args.shelf.now))
+returns-in-None-clause-whole g c = rw c.in-None.ensures (none_whole _ (Unit {0}) (λ _. Unit {0}) _ _ _ c.write_last.ensures.gave (g.S.Shelf.holds c.args.shelf.now))
 
 pub returns-in-None-clause-each : goal.returns-in-None-clause-each
 returns-in-None-clause-each g c = rw c.in-None.ensures (none_each _ _ _ _ _ _ c.write_last.ensures.gave (g.S.Shelf.holds c.args.shelf.now))
 
 pub returns-in-None-clause-complete : goal.returns-in-None-clause-complete
-returns-in-None-clause-complete g c = rw c.in-None.ensures (none_complete _ _ (Unit {0}) _ _ _ c.write_last.ensures.gave (g.S.Shelf.holds c.args.shelf.now))
+returns-in-None-clause-complete g c = rw c.in-None.ensures (none_complete _ _ (λ _. Unit {0}) _ _ _ c.write_last.ensures.gave (g.S.Shelf.holds c.args.shelf.now))
