@@ -3,20 +3,23 @@ use Rattle.std.proofs.Common.{◌≡◌, ℕ, zero, suc, ◌+◌, ◌-◌, ◌<�
 use Rattle.std.specs.Prelude.{is_none, Err}
 use Rattle.std.proofs.lemmas.List.{take-append-drop, length-append, length-drop}
 use Rattle.std.proofs.lemmas.Bool.Decides.{nat_tests}
+use Rattle.std.specs.Cmp.Derive.{both_true}
 use Rattle.std.specs.List.{list_all, flat_map, AllByRecursion}
+use Rattle.bt_script.specs.Identifiers.{is_white, is_identifier}
 use Rattle.bt_script.specs.declared.stop.Stop.{Stop}
 use Rattle.bt_script.specs.declared.stop.Stop.TheVariants as stop
+use Rattle.bt_script.proofs.Bools.{both}
 use Rattle.bt_elements.specs.declared.element.Unbuilt.{Unbuilt}
 use Rattle.bt_elements.specs.declared.element.Elements.{Elements}
 use Rattle.bt_elements.specs.declared.element.Element.{Element}
 use Rattle.bt_elements.specs.declared.mark.Mark.{Mark}
 use Rattle.bt_elements.specs.Marks as written
-use Rattle.bt_elements.specs.Marks.{is_white, is_name, Attribute, Opening, Start, Empty, End, mark_written, IsAttribute, IsOpening, IsMark}
-use Rattle.bt_elements.specs.Elements.{Piece, piece_written, is_text_byte, IsPiece, tags_of, depth_of, HaveTags, Spells, SpellsPlainly, is_plain_byte, is_plain_attribute, is_plain_mark, is_identifier, is_plain_value, WhenUnbuilt}
+use Rattle.bt_elements.specs.Marks.{is_name, Attribute, Opening, Start, Empty, End, mark_written, IsAttribute, IsOpening, IsMark}
+use Rattle.bt_elements.specs.Elements.{Piece, piece_written, is_text_byte, IsPiece, tags_of, depth_of, HaveTags, Spells, SpellsPlainly, is_plain_byte, is_plain_attribute, is_plain_mark, is_plain_value, WhenUnbuilt}
 use Rattle.bt_elements.specs.Reading.{Gives, Form, plain, full, ◌>>=◌, begins, mark_of, State, start, may_stand, step, text_len, read_from, read}
-use Rattle.bt_elements.proofs.Ascii.{both, IsUtf8-from_is_plain}
+use Rattle.bt_elements.proofs.Ascii.{IsUtf8-from_is_plain}
 use Rattle.bt_elements.proofs.Fronts.{some_inj, bind_some, if_some, taken, left, taken_seam, left_seam}
-use Rattle.bt_elements.proofs.Marks.{InForm, OpeningInForm, MarkInForm, said, and_true, mark_again}
+use Rattle.bt_elements.proofs.Marks.{InForm, OpeningInForm, MarkInForm, said, mark_again}
 use Rattle.bt_elements.proofs.Found.{HasNames, mark_found, mark_shrinks, mark_length, plain_names}
 use Rattle.bt_elements.proofs.Nesting.{run, run_good, element_runs, no_piece}
 
@@ -84,7 +87,7 @@ all_white_text : (bs : List ℕ) → list_all is_white bs ≡ true → list_all 
 all_white_text [] h = refl
 all_white_text (c ∷ cs) h =
     let t = both (is_white c) (list_all is_white cs) h in
-    and_true (is_text_byte c) (list_all is_text_byte cs) (white_is_text c t.0) (all_white_text cs t.1)
+    both_true (white_is_text c t.0) (all_white_text cs t.1)
 
 either_true : (a b : Bool) → b ≡ true → (a || b) ≡ true
 either_true true b h = refl
@@ -300,11 +303,11 @@ plainly_read bytes e s =
 plain_attributes : (list : List Attribute) → AllByRecursion (InForm plain) list → list_all is_plain_attribute list ≡ true
 plain_attributes [] h = refl
 plain_attributes (a ∷ list) h =
-    and_true (is_plain_attribute a) (list_all is_plain_attribute list) (and_true (is_identifier a.name) (is_plain_value a.value) h.0.name_ok h.0.value_ok) (plain_attributes list h.1)
+    both_true (both_true h.0.name_ok h.0.value_ok) (plain_attributes list h.1)
 
 plain_mark : (m : written.Mark) → MarkInForm plain m → IsMark m × (is_plain_mark m ≡ true)
-plain_mark (Start o) h = (h.is, and_true (is_identifier o.name) (list_all is_plain_attribute o.attributes) h.name_ok (plain_attributes o.attributes h.attributes_ok))
-plain_mark (Empty o) h = (h.is, and_true (is_identifier o.name) (list_all is_plain_attribute o.attributes) h.name_ok (plain_attributes o.attributes h.attributes_ok))
+plain_mark (Start o) h = (h.is, both_true h.name_ok (plain_attributes o.attributes h.attributes_ok))
+plain_mark (Empty o) h = (h.is, both_true h.name_ok (plain_attributes o.attributes h.attributes_ok))
 plain_mark (End name gap) h = ((h.0, h.2), h.1)
 
 plain_pieces : (ps : List Piece) → AllByRecursion (PieceInForm plain) ps → AllByRecursion IsPiece ps × (list_all (λ p. is_plain_mark p.mark) ps ≡ true)
@@ -312,7 +315,7 @@ plain_pieces [] h = (tt, refl)
 plain_pieces (p ∷ ps) h =
     let m = plain_mark p.mark h.0.mark in
     let rest = plain_pieces ps h.1 in
-    ((record { text = h.0.text; mark = m.0 }, rest.0), and_true (is_plain_mark p.mark) (list_all (λ x. is_plain_mark x.mark) ps) m.1 rest.1)
+    ((record { text = h.0.text; mark = m.0 }, rest.0), both_true m.1 rest.1)
 
 -- what is read of plain bytes is spelled so in the plain form
 pub read_plainly : (bytes : List ℕ) (e : Element) → list_all is_plain_byte bytes ≡ true → read plain bytes ≡ Some e → SpellsPlainly bytes e

@@ -1,18 +1,20 @@
 -- What was read stood there as a mark that is written.
-use Rattle.std.proofs.Common.{◌≡◌, ℕ, zero, suc, ◌<◌, ◌≤◌, Bool, true, false, not, ◌==◌, ◌||◌, List, [], ◌∷◌, ◌++◌, length, take, drop, Option, Some, None, refl, ap, sym, ◌∙◌, subst, append_assoc, arith, if◌then◌else◌}
+use Rattle.std.proofs.Common.{◌≡◌, ℕ, zero, suc, ◌<◌, ◌≤◌, Bool, true, false, not, ◌==◌, List, [], ◌∷◌, ◌++◌, length, take, drop, Option, Some, None, refl, ap, sym, ◌∙◌, subst, append_assoc, arith, if◌then◌else◌}
 use Rattle.std.proofs.lemmas.List.{take-append-drop, length-append, length-drop}
 use Rattle.std.proofs.lemmas.Bool.Decides.{nat_tests}
+use Rattle.std.specs.Cmp.Derive.{both_true}
 use Rattle.std.specs.List.{prefix_len, list_all, flat_map, AllByRecursion}
 use Rattle.std.specs.Option.{option_map}
+use Rattle.bt_script.specs.Identifiers.{is_white, is_identifier_start, is_identifier_continue}
+use Rattle.bt_script.proofs.Bools.{both}
 use Rattle.bt_elements.specs.declared.mark.Front.{Front}
 use Rattle.bt_elements.specs.declared.mark.Mark.{Mark}
 use Rattle.bt_elements.specs.declared.mark.Mark.TheVariants as read
 use Rattle.bt_elements.specs.Marks as written
-use Rattle.bt_elements.specs.Marks.{is_white, is_letter, is_digit, is_name, is_name_first, is_name_rest, is_value_byte, Attribute, attribute_written, Opening, opening_written, Start, Empty, End, mark_written, pairs_of, no_name_twice, IsAttribute, IsOpening}
+use Rattle.bt_elements.specs.Marks.{is_name, is_name_first, is_name_rest, is_value_byte, Attribute, attribute_written, Opening, opening_written, Start, Empty, End, mark_written, pairs_of, no_name_twice, IsAttribute, IsOpening}
 use Rattle.bt_elements.specs.Reading.{Form, plain, ◌>>=◌, after_white, begins, behind, name_of, value_of, attribute_of, attribute_begins, attributes_of, front_of, closing, end_of, mark_of}
-use Rattle.bt_elements.proofs.Ascii.{both}
 use Rattle.bt_elements.proofs.Fronts.{some_inj, bind_some, map_some, if_some, eq_from_test, taken, take_one_more}
-use Rattle.bt_elements.proofs.Marks.{InForm, OpeningInForm, MarkInForm, front_said, said, from_name, attribute_spread, opening_spread, and_true}
+use Rattle.bt_elements.proofs.Marks.{InForm, OpeningInForm, MarkInForm, front_said, said, from_name, attribute_spread, opening_spread}
 
 -- a form whose names are names
 abbrev pub HasNames : Form → Type 0
@@ -314,21 +316,21 @@ attributes_next f ok items (c ∷ cs) a next b h =
     ∙ regroup items a (attributes_of f (length cs) next)
     ∙ sym (ap (option_map (prepended items)) step)
 
-identifier_is_name : (c : ℕ) → (is_letter c || c == 95 || is_digit c) ≡ true → is_name_rest c ≡ true
+identifier_is_name : (c : ℕ) → is_identifier_continue c ≡ true → is_name_rest c ≡ true
 identifier_is_name c h = grind (arith, nat_tests)
 
-identifiers_are_names : (bs : List ℕ) → list_all (λ b. is_letter b || b == 95 || is_digit b) bs ≡ true → list_all is_name_rest bs ≡ true
+identifiers_are_names : (bs : List ℕ) → list_all is_identifier_continue bs ≡ true → list_all is_name_rest bs ≡ true
 identifiers_are_names [] h = refl
 identifiers_are_names (c ∷ cs) h =
-    let t = both (is_letter c || c == 95 || is_digit c) (list_all (λ b. is_letter b || b == 95 || is_digit b) cs) h in
-    and_true (is_name_rest c) (list_all is_name_rest cs) (identifier_is_name c t.0) (identifiers_are_names cs t.1)
+    let t = both (is_identifier_continue c) (list_all is_identifier_continue cs) h in
+    both_true (identifier_is_name c t.0) (identifiers_are_names cs t.1)
 
-identifier_first : (c : ℕ) → (is_letter c || c == 95) ≡ true → is_name_first c ≡ true
+identifier_first : (c : ℕ) → is_identifier_start c ≡ true → is_name_first c ≡ true
 identifier_first c h = grind (arith, nat_tests)
 
 -- an identifier is a name
 pub plain_names : HasNames plain
 plain_names [] h = absurd (cc)
 plain_names (c ∷ cs) h =
-    let t = both (is_letter c || c == 95) (list_all (λ b. is_letter b || b == 95 || is_digit b) (c ∷ cs)) h in
-    and_true (is_name_first c) (list_all is_name_rest (c ∷ cs)) (identifier_first c t.0) (identifiers_are_names (c ∷ cs) t.1)
+    let t = both (is_identifier_start c) (list_all is_identifier_continue (c ∷ cs)) h in
+    both_true (identifier_first c t.0) (identifiers_are_names (c ∷ cs) t.1)

@@ -5,9 +5,10 @@ use Rattle.std.proofs.lemmas.Bool.Decides.{nat_tests}
 use Rattle.std.proofs.lemmas.Grind.{common_steps}
 use Rattle.std.specs.List.{prefix_len, list_all}
 use Rattle.std.specs.Option.{option_map}
-use Rattle.bt_elements.specs.Marks.{is_white, is_name, is_name_first, is_name_rest, is_value_byte}
+use Rattle.bt_script.specs.Identifiers.{is_white}
+use Rattle.bt_script.proofs.Bools.{both}
+use Rattle.bt_elements.specs.Marks.{is_name, is_name_first, is_name_rest, is_value_byte}
 use Rattle.bt_elements.specs.Reading.{Form, ◌>>=◌, after_white, begins, behind, name_of, value_of}
-use Rattle.bt_elements.proofs.Ascii.{both}
 
 pub some_inj : {A : Type 0} (x y : A) → Some x ≡ Some y → x ≡ y
 some_inj x y h = cc

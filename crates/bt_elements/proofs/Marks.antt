@@ -2,14 +2,16 @@
 use Rattle.std.proofs.Common.{◌≡◌, ℕ, zero, suc, ◌≤◌, Bool, true, false, not, ◌==◌, ◌&&◌, List, [], ◌∷◌, ◌++◌, length, drop, Some, refl, ap, sym, ◌∙◌, append_assoc, arith}
 use Rattle.std.proofs.lemmas.List.{length-append}
 use Rattle.std.proofs.lemmas.Bool.Decides.{nat_tests}
+use Rattle.std.specs.Cmp.Derive.{both_true}
 use Rattle.std.specs.List.{list_all, flat_map, AllByRecursion}
+use Rattle.bt_script.specs.Identifiers.{is_white}
+use Rattle.bt_script.proofs.Bools.{both}
 use Rattle.bt_elements.specs.declared.mark.Front.{Front}
 use Rattle.bt_elements.specs.declared.mark.Mark.{Mark}
 use Rattle.bt_elements.specs.declared.mark.Mark.TheVariants as read
 use Rattle.bt_elements.specs.Marks as written
-use Rattle.bt_elements.specs.Marks.{is_white, is_name, is_name_first, is_name_rest, is_value_byte, Attribute, attribute_written, Opening, opening_written, Start, Empty, End, mark_written, pairs_of, no_name_twice, IsAttribute, IsOpening}
+use Rattle.bt_elements.specs.Marks.{is_name, is_name_first, is_name_rest, is_value_byte, Attribute, attribute_written, Opening, opening_written, Start, Empty, End, mark_written, pairs_of, no_name_twice, IsAttribute, IsOpening}
 use Rattle.bt_elements.specs.Reading.{Form, ◌>>=◌, begins, attribute_of, attribute_begins, attributes_of, front_of, closing, end_of, mark_of}
-use Rattle.bt_elements.proofs.Ascii.{both}
 use Rattle.bt_elements.proofs.Fronts.{white_ends_name, begins_gap, begins_name_not_white, begins_name, name_again, value_again, after_white_again}
 
 -- an attribute of the form
@@ -57,9 +59,6 @@ attribute_again f a more i =
 pub attribute_spread : (a : Attribute) (more : List ℕ) → attribute_written a ++ more ≡ a.gap ++ from_name a more
 attribute_spread a more = simp append_assoc
 
-pub and_true : (a b : Bool) → a ≡ true → b ≡ true → (a && b) ≡ true
-and_true a b h k = rw (h, k) refl
-
 and_false : (a b : Bool) → b ≡ false → (a && b) ≡ false
 and_false true b h = h
 and_false false b h = refl
@@ -71,7 +70,7 @@ begins_white (g ∷ gap) more h k = (both (is_white g) (list_all is_white gap) h
 attribute_begins_again : (a : Attribute) (more : List ℕ) → IsAttribute a → attribute_begins (a.gap ++ from_name a more) ≡ true
 attribute_begins_again a more i =
     let tail = a.before ++ (61 ∷ (a.after ++ (34 ∷ (a.value ++ (34 ∷ more))))) in
-    and_true _ _ (begins_white a.gap (from_name a more) i.gap i.apart)
+    both_true (begins_white a.gap (from_name a more) i.gap i.apart)
     (ap (begins is_name_first) (after_white_again a.gap (from_name a more) i.gap (begins_name_not_white a.name tail i.name)) ∙ begins_name a.name tail i.name)
 
 -- attributes that are written are read, where no attribute follows

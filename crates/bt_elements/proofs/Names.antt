@@ -4,10 +4,11 @@ use Rattle.std.proofs.lemmas.List.{take_more, take-append-drop}
 use Rattle.std.proofs.lemmas.List.Folds.{list_any-append, list_any_more}
 use Rattle.std.proofs.lemmas.Bool.Decides.{same_from_decides}
 use Rattle.std.proofs.lemmas.Slice.Eq.{bytes_eq-Decides}
+use Rattle.std.specs.Cmp.Derive.{both_true}
 use Rattle.std.specs.List.{list_any}
 use Rattle.std.specs.Str.{bytes_eq}
+use Rattle.bt_script.proofs.Bools.{both}
 use Rattle.bt_elements.specs.Marks.{no_name_twice}
-use Rattle.bt_elements.proofs.Ascii.{both}
 
 same_either_way : (a b : List ℕ) → bytes_eq a b ≡ bytes_eq b a
 same_either_way a b =
@@ -36,16 +37,12 @@ not_first : (a b : Bool) → not (a || b) ≡ true → not a ≡ true
 not_first true b h = h
 not_first false b h = refl
 
-both_true : (a b : Bool) → a ≡ true → b ≡ true → (a && b) ≡ true
-both_true a b h k = rw (h, k) refl
-
 -- a front of them has no more names
 twice_kept : (xs ys : List (List ℕ × List ℕ)) → no_name_twice (xs ++ ys) ≡ true → no_name_twice xs ≡ true
 twice_kept [] ys h = refl
 twice_kept (x ∷ xs) ys h =
     let t = both (not (has_name x.0 (xs ++ ys))) (no_name_twice (xs ++ ys)) h in
-    both_true (not (has_name x.0 xs)) (no_name_twice xs)
-    (not_first (has_name x.0 xs) (has_name x.0 ys) (sym (ap not (list_any-append (λ b. bytes_eq b.0 x.0) xs ys)) ∙ t.0)) (twice_kept xs ys t.1)
+    both_true (not_first (has_name x.0 xs) (has_name x.0 ys) (sym (ap not (list_any-append (λ b. bytes_eq b.0 x.0) xs ys)) ∙ t.0)) (twice_kept xs ys t.1)
 
 -- one more attribute that was looked at
 pub names_single : (list : List (List ℕ × List ℕ)) (i : ℕ) (a : List ℕ × List ℕ) → i < length list → a ≡ get_or list i a →

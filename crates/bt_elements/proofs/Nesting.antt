@@ -6,10 +6,11 @@ use Rattle.std.proofs.lemmas.Bool.Decides.{nat_tests}
 use Rattle.std.proofs.lemmas.Slice.Eq.{bytes_eq-Decides}
 use Rattle.std.specs.List.{list_all}
 use Rattle.std.specs.Str.{bytes_eq}
+use Rattle.bt_script.specs.Identifiers.{is_white}
 use Rattle.bt_elements.specs.declared.element.Element.{Element, Element-F, roll-Element, fold-roll-Element, fold_out-Element, ind-Element}
 use Rattle.bt_elements.specs.declared.mark.Mark.TheVariants as read
 use Rattle.bt_elements.specs.declared.nest.Open.{Open}
-use Rattle.bt_elements.specs.Marks.{is_white, Mark, Opening, Start, Empty, End, pairs_of}
+use Rattle.bt_elements.specs.Marks.{Mark, Opening, Start, Empty, End, pairs_of}
 use Rattle.bt_elements.specs.Elements.{Tag, Begin, Ending, is_models, joined, tags_step, tags_of, greatest, depth_step, depth_of, Piece, piece_written, tags_of_mark, HaveTags}
 use Rattle.bt_elements.specs.Reading.{◌>>=◌, State, inside_of, may_stand, element_of, with_child, attach, opened, close, step}
 use Rattle.bt_elements.proofs.Fronts.{some_inj, bind_some, if_some}

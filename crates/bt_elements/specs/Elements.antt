@@ -2,11 +2,12 @@
 use Rattle.std.specs.Prelude.{◌≡◌, Result, Ok, Err, ℕ, ◌+◌, ◌≤◌, max, Bool, false, not, ◌==◌, ◌&&◌, ◌||◌, nat_le, List, [], ◌∷◌, ◌++◌, map, length, codes, IsTrue}
 use Rattle.std.specs.List.{list_all, flat_map, AllByRecursion}
 use Rattle.std.specs.Str.{bytes_eq, IsUtf8}
+use Rattle.bt_script.specs.Identifiers.{is_white, is_identifier}
 use Rattle.bt_script.specs.declared.stop.Stop.{Stop}
 use Rattle.bt_script.specs.declared.stop.Stop.TheVariants as stop
 use Rattle.bt_elements.specs.declared.element.Unbuilt.{Unbuilt}
 use Rattle.bt_elements.specs.declared.element.Element.{Element, Element-F, fold-Element}
-use Rattle.bt_elements.specs.Marks.{is_white, is_letter, is_digit, Attribute, Mark, Start, Empty, End, mark_written, pairs_of, IsMark}
+use Rattle.bt_elements.specs.Marks.{Attribute, Mark, Start, Empty, End, mark_written, pairs_of, IsMark}
 
 -- Where an element begins and where it ends. Each says whether what stands right before it is content of an element
 -- named TreeNodesModel, or lies deeper in one.
@@ -90,11 +91,6 @@ pub record Spells (bytes : List ℕ) (e : Element) : Type 0 where
   pub written : bytes ≡ flat_map piece_written pieces ++ last
   pub nested : HaveTags 0 pieces (tags_of e false)
   pub depth : depth_of e ≤ 258
-
--- a letter or `_`, and then letters, digits and `_`
-abbrev pub is_identifier : List ℕ → Bool
-is_identifier [] = false
-is_identifier (c ∷ cs) = (is_letter c || c == 95) && list_all (λ b. is_letter b || b == 95 || is_digit b) (c ∷ cs)
 
 -- printable ASCII and white space
 abbrev pub is_plain_byte : ℕ → Bool

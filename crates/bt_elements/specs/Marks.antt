@@ -1,27 +1,17 @@
 -- How the marks of a tree file are written.
 use Rattle.std.specs.Prelude.{ℕ, Bool, true, false, not, ◌==◌, ◌&&◌, ◌||◌, nat_le, List, [], ◌∷◌, ◌++◌, map, length, IsTrue}
+use Rattle.std.specs.Char.{is_ascii_digit}
 use Rattle.std.specs.List.{list_all, list_any, flat_map, AllByRecursion}
 use Rattle.std.specs.Str.{bytes_eq}
-
--- blank, tab, carriage return or line feed
-abbrev pub is_white : ℕ → Bool
-is_white c = c == 32 || c == 9 || c == 13 || c == 10
-
--- an ASCII letter
-abbrev pub is_letter : ℕ → Bool
-is_letter c = nat_le 65 c && nat_le c 90 || nat_le 97 c && nat_le c 122
-
--- an ASCII digit
-abbrev pub is_digit : ℕ → Bool
-is_digit c = nat_le 48 c && nat_le c 57
+use Rattle.bt_script.specs.Identifiers.{is_white, is_identifier_start}
 
 -- a letter, `_` or a byte of a character past ASCII
 abbrev pub is_name_first : ℕ → Bool
-is_name_first c = is_letter c || c == 95 || nat_le 128 c
+is_name_first c = is_identifier_start c || nat_le 128 c
 
 -- these, digits, `-`, `.` and `:`
 abbrev pub is_name_rest : ℕ → Bool
-is_name_rest c = is_name_first c || is_digit c || c == 45 || c == 46 || c == 58
+is_name_rest c = is_name_first c || is_ascii_digit c || c == 45 || c == 46 || c == 58
 
 -- a name of an element or of an attribute
 abbrev pub is_name : List ℕ → Bool

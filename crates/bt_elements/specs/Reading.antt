@@ -3,6 +3,7 @@ use Rattle.std.specs.Prelude.{◌≡◌, ℕ, zero, suc, ◌-◌, Bool, true, fa
 use Rattle.std.specs.List.{prefix_len, list_all}
 use Rattle.std.specs.Option.{option_map}
 use Rattle.std.specs.Str.{bytes_eq}
+use Rattle.bt_script.specs.Identifiers.{is_white, is_identifier}
 use Rattle.bt_script.specs.declared.stop.Stop.{Stop}
 use Rattle.bt_script.specs.declared.stop.Stop.TheVariants as stop
 use Rattle.bt_elements.specs.declared.element.Unbuilt.{Unbuilt}
@@ -12,8 +13,8 @@ use Rattle.bt_elements.specs.declared.mark.Mark.{Mark}
 use Rattle.bt_elements.specs.declared.mark.Mark.TheVariants.{Start, Empty, End}
 use Rattle.bt_elements.specs.declared.nest.Open.{Open}
 use Rattle.bt_elements.specs.declared.nest.Nest.{Nest}
-use Rattle.bt_elements.specs.Marks.{is_white, is_name, is_name_first, is_name_rest, is_value_byte, no_name_twice}
-use Rattle.bt_elements.specs.Elements.{is_text_byte, is_models, is_identifier, is_plain_value}
+use Rattle.bt_elements.specs.Marks.{is_name, is_name_first, is_name_rest, is_value_byte, no_name_twice}
+use Rattle.bt_elements.specs.Elements.{is_text_byte, is_models, is_plain_value}
 
 -- what a call gave, seen by view, is what reading gives, unless memory ran out
 abbrev pub Gives : {X Y : Type 0} → (X → Y) → Result X (Stop Unbuilt) → Option Y → Type 0

@@ -1,44 +1,26 @@
-ghost use Rattle.std.specs.Prelude.{◌≡◌, ◌≤◌, ◌<◌, ◌==◌, ◌||◌, ◌&&◌, not, IfOk, length, take, drop};
-ghost use Rattle.std.specs.List.{prefix_len, list_all, list_any};
-ghost use Rattle.std.specs.Str.{bytes_eq};
-ghost use Rattle.bt_elements.specs.Marks.{is_white, is_letter, is_digit, is_name_first, is_name_rest, is_value_byte, no_name_twice};
-ghost use Rattle.bt_elements.specs.Elements.{is_text_byte, is_identifier, is_plain_byte, is_plain_value};
+ghost use Rattle.std.specs.Prelude.{◌≡◌, ◌≤◌, ◌<◌, ◌==◌, ◌&&◌, not, IfOk, length, take, drop};
+ghost use Rattle.std.specs.List.{prefix_len, list_all};
+ghost use Rattle.bt_script.specs.Identifiers as identifiers;
+ghost use Rattle.bt_elements.specs.Marks.{is_name_first, is_name_rest, is_value_byte, no_name_twice};
+ghost use Rattle.bt_elements.specs.Elements.{is_text_byte, is_plain_byte, is_plain_value};
 ghost use Rattle.bt_elements.specs.Reading.{Gives, plain, after_white, begins, behind, name_of, value_of, attribute_of, attribute_begins, attributes_of, front_of, closing, end_of, mark_of, text_len};
 
 use crate::element::Unbuilt;
 use crate::mark::{Front, Mark};
-use bt_script::{Items, Name, NoMemory, Stop};
+use bt_script::{Items, Name, NoMemory, Stop, is_identifier, is_identifier_start, is_white};
 use std::alloc::Global;
 use std::collections::BTreeSet;
-
-fn white(c: u8) -> bool
-    ensures { result ≡ is_white c }
-{
-    c == b' ' || c == b'\t' || c == b'\r' || c == b'\n'
-}
-
-fn letter(c: u8) -> bool
-    ensures { result ≡ is_letter c }
-{
-    b'A' <= c && c <= b'Z' || b'a' <= c && c <= b'z'
-}
-
-fn digit(c: u8) -> bool
-    ensures { result ≡ is_digit c }
-{
-    b'0' <= c && c <= b'9'
-}
 
 fn name_first(c: u8) -> bool
     ensures { result ≡ is_name_first c }
 {
-    letter(c) || c == b'_' || c >= 128
+    is_identifier_start(c) || c >= 128
 }
 
 fn name_rest(c: u8) -> bool
     ensures { result ≡ is_name_rest c }
 {
-    name_first(c) || digit(c) || c == b'-' || c == b'.' || c == b':'
+    name_first(c) || c.is_ascii_digit() || c == b'-' || c == b'.' || c == b':'
 }
 
 fn value_byte(c: u8) -> bool
@@ -50,14 +32,14 @@ fn value_byte(c: u8) -> bool
 fn plain_byte(c: u8) -> bool
     ensures { result ≡ is_plain_byte c }
 {
-    32 <= c && c <= 126 || white(c)
+    32 <= c && c <= 126 || is_white(c)
 }
 
 /// Whether all bytes are white space.
 pub fn all_white(bytes: &[u8]) -> bool
-    ensures { result ≡ list_all is_white bytes.now }
+    ensures { result ≡ list_all identifiers.is_white bytes.now }
 {
-    bytes.iter().all(|c| white(*c))
+    bytes.iter().all(|c| is_white(*c))
 }
 
 /// Whether all bytes are printable ASCII or white space.
@@ -65,27 +47,6 @@ pub fn all_plain(bytes: &[u8]) -> bool
     ensures { result ≡ list_all is_plain_byte bytes.now }
 {
     bytes.iter().all(|c| plain_byte(*c))
-}
-
-fn identifier_byte(c: u8) -> bool
-    ensures { result ≡ (is_letter c || c == 95 || is_digit c) }
-{
-    letter(c) || c == b'_' || digit(c)
-}
-
-fn identifier_bytes(bytes: &[u8]) -> bool
-    ensures { result ≡ list_all (λ b. is_letter b || b == 95 || is_digit b) bytes.now }
-{
-    bytes.iter().all(|c| identifier_byte(*c))
-}
-
-fn identifier(bytes: &[u8]) -> bool
-    ensures { result ≡ is_identifier bytes.now }
-{
-    match bytes.first() {
-        Some(c) => (letter(*c) || *c == b'_') && identifier_bytes(bytes),
-        None => false,
-    }
 }
 
 fn plain_value_byte(c: u8) -> bool
@@ -101,9 +62,9 @@ fn plain_value(bytes: &[u8]) -> bool
 }
 
 fn white_len(bytes: &[u8]) -> usize
-    ensures { result ≡ prefix_len is_white bytes.now }
+    ensures { result ≡ prefix_len identifiers.is_white bytes.now }
 {
-    bytes.iter().take_while(|c| white(**c)).count()
+    bytes.iter().take_while(|c| is_white(**c)).count()
 }
 
 fn name_len(bytes: &[u8]) -> usize
@@ -170,7 +131,7 @@ fn name_at(alloc: Global, bytes: &[u8]) -> Result<(Name, &[u8]), Stop<Unbuilt>>
     ensures within { IfOk result (λ x. length x.1.now ≤ length bytes.now) }
 {
     let (name, rest) = bytes.split_at(name_len(bytes));
-    if !identifier(name) {
+    if !is_identifier(name) {
         return Err(Stop::Fault(Unbuilt));
     }
     let name = Name::of(Vec::from_slice(alloc, name)?);
@@ -204,10 +165,10 @@ fn attribute_at(alloc: Global, bytes: &[u8]) -> Result<((Name, Name), &[u8]), St
 }
 
 fn begins_white(bytes: &[u8]) -> bool
-    ensures { result ≡ begins is_white bytes.now }
+    ensures { result ≡ begins identifiers.is_white bytes.now }
 {
     match bytes.first() {
-        Some(c) => white(*c),
+        Some(c) => is_white(*c),
         None => false,
     }
 }

@@ -1,8 +1,8 @@
 use Rattle.std.proofs.Common.{◌≡◌, true, subst, sym, arith}
 use Rattle.std.specs.Str.{IsUtf8}
 use Rattle.std.proofs.lemmas.Grind.{common_steps}
-use Rattle.bt_elements.proofs.Ascii.{IsUtf8-from_is_identifier}
-use Rattle.bt_elements.specs.Elements.{is_identifier}
+use Rattle.bt_script.proofs.Identifiers.{IsUtf8-from_is_identifier}
+use Rattle.bt_script.specs.Identifiers.{is_identifier}
 use Rattle.std.proofs.lemmas.List.Sums.{prefix_len-le-length}
 use Rattle.bt_elements.specs.Marks.{is_name_rest}
 use Rattle.bt_elements.proofs.scan.name_at.Goals as goal
