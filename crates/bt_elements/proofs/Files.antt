@@ -16,7 +16,7 @@ use Rattle.bt_elements.specs.declared.mark.Mark.{Mark}
 use Rattle.bt_elements.specs.Marks as written
 use Rattle.bt_elements.specs.Marks.{is_name, Attribute, Opening, Start, Empty, End, mark_written, IsAttribute, IsOpening, IsMark}
 use Rattle.bt_elements.specs.Elements.{Piece, piece_written, is_text_byte, IsPiece, tags_of, depth_of, HaveTags, Spells, SpellsPlainly, is_plain_byte, is_plain_attribute, is_plain_mark, is_plain_value, WhenUnbuilt}
-use Rattle.bt_elements.specs.Reading.{Gives, Form, plain, full, ◌>>=◌, begins, mark_of, State, start, may_stand, step, text_len, read_from, read}
+use Rattle.bt_elements.specs.Reading.{GivesSeenBy, Form, plain, full, ◌>>=◌, begins, mark_of, State, start, may_stand, step, text_len, read_from, read}
 use Rattle.bt_elements.proofs.Ascii.{IsUtf8-from_is_plain}
 use Rattle.bt_elements.proofs.Fronts.{some_inj, bind_some, if_some, taken, left, taken_seam, left_seam}
 use Rattle.bt_elements.proofs.Marks.{InForm, OpeningInForm, MarkInForm, said, mark_again}
@@ -348,6 +348,6 @@ read_more f ok total st next bytes marks c inner m more stands is cons mark take
     ∙ read_fuel f ok (length bytes) (suc (length more)) total next more few (omega arith))
 
 -- a fault of reading says that nothing is spelled in the plain form
-pub unbuilt : (s : Stop Unbuilt) (bytes : List ℕ) → Gives {X = Element} (λ e. e) (Err s) (read plain bytes) → WhenUnbuilt {X = Elements} (Err s) ((e : Element) → SpellsPlainly bytes e → ⊥)
+pub unbuilt : (s : Stop Unbuilt) (bytes : List ℕ) → GivesSeenBy {X = Element} (λ e. e) (Err s) (read plain bytes) → WhenUnbuilt {X = Elements} (Err s) ((e : Element) → SpellsPlainly bytes e → ⊥)
 unbuilt stop.NoMemory bytes h = tt
 unbuilt (stop.Fault u) bytes h = λ e s. let k : None ≡ Some e = sym h ∙ plainly_read bytes e s in cc

@@ -16,11 +16,12 @@ use Rattle.bt_elements.specs.declared.nest.Nest.{Nest}
 use Rattle.bt_elements.specs.Marks.{is_name, is_name_first, is_name_rest, is_value_byte, no_name_twice}
 use Rattle.bt_elements.specs.Elements.{is_text_byte, is_models, is_plain_value}
 
--- what a call gave, seen by view, is what reading gives, unless memory ran out
-abbrev pub Gives : {X Y : Type 0} → (X → Y) → Result X (Stop Unbuilt) → Option Y → Type 0
-Gives view (Ok x) said = said ≡ Some (view x)
-Gives view (Err stop.NoMemory) said = Unit {0}
-Gives view (Err (stop.Fault u)) said = said ≡ None
+-- What a call gave, seen by view, is what reading gives, and a fault comes exactly where reading gives nothing. Want of
+-- memory may come anywhere.
+abbrev pub GivesSeenBy : {X Y : Type 0} → (X → Y) → Result X (Stop Unbuilt) → Option Y → Type 0
+GivesSeenBy view (Ok x) said = said ≡ Some (view x)
+GivesSeenBy view (Err stop.NoMemory) said = Unit {0}
+GivesSeenBy view (Err (stop.Fault u)) said = said ≡ None
 
 -- which names and values are read
 pub record Form : Type 0 where

@@ -1,5 +1,5 @@
 ghost use Rattle.std.specs.Prelude.{◌≡◌, IfOk};
-ghost use Rattle.bt_elements.specs.Reading.{Gives, State, seen, start, step, opened, attach, inside_of, may_stand, may_begin, element_of, with_child};
+ghost use Rattle.bt_elements.specs.Reading.{GivesSeenBy, State, seen, start, step, opened, attach, inside_of, may_stand, may_begin, element_of, with_child};
 ghost use Rattle.bt_elements.specs.Elements.{is_models};
 
 use crate::element::{Element, Unbuilt};
@@ -72,6 +72,7 @@ impl Open {
 }
 
 impl Nest {
+    /// The nest before the first mark: nothing has begun.
     pub fn new(alloc: Global) -> Nest
         ensures { seen result ≡ start }
     {
@@ -90,7 +91,7 @@ impl Nest {
 
     /// The document element, if it has ended.
     pub fn finish(self) -> Result<Element, Stop<Unbuilt>>
-        ensures { Gives (λ e. e) result (seen self).done }
+        ensures { GivesSeenBy (λ e. e) result (seen self).done }
     {
         let Nest { stack: _, done } = self;
         done.ok_or(Stop::Fault(Unbuilt))
@@ -113,7 +114,7 @@ impl Nest {
 
     /// Takes the mark that stands at this place.
     pub fn take(&mut self, alloc: Global, mark: Mark, place: u32) -> Result<(), Stop<Unbuilt>>
-        ensures { Gives (λ _. seen self.new) result (step (seen self.old) place mark) }
+        ensures { GivesSeenBy (λ _. seen self.new) result (step (seen self.old) place mark) }
     {
         match mark {
             Mark::Start(front) => self.begin(alloc, front, place),
@@ -123,7 +124,7 @@ impl Nest {
     }
 
     fn begin(&mut self, alloc: Global, front: Front, place: u32) -> Result<(), Stop<Unbuilt>>
-        ensures { Gives (λ _. seen self.new) result (step (seen self.old) place (Mark.Start front)) }
+        ensures { GivesSeenBy (λ _. seen self.new) result (step (seen self.old) place (Mark.Start front)) }
     {
         if !self.may_begin() {
             return Err(Stop::Fault(Unbuilt));
@@ -134,7 +135,7 @@ impl Nest {
     }
 
     fn add(&mut self, alloc: Global, front: Front, place: u32) -> Result<(), Stop<Unbuilt>>
-        ensures { Gives (λ _. seen self.new) result (step (seen self.old) place (Mark.Empty front)) }
+        ensures { GivesSeenBy (λ _. seen self.new) result (step (seen self.old) place (Mark.Empty front)) }
     {
         if !self.may_begin() {
             return Err(Stop::Fault(Unbuilt));
@@ -145,7 +146,7 @@ impl Nest {
     }
 
     fn end(&mut self, name: &Name) -> Result<(), Stop<Unbuilt>>
-        ensures { Gives (λ _. seen self.new) result (step (seen self.old) 0 (Mark.End name.now)) }
+        ensures { GivesSeenBy (λ _. seen self.new) result (step (seen self.old) 0 (Mark.End name.now)) }
     {
         let Some(open) = self.stack.pop() else {
             return Err(Stop::Fault(Unbuilt));

@@ -1,7 +1,7 @@
 ghost use Rattle.std.specs.Prelude.{◌≤◌, IfOk, length};
 ghost use Rattle.bt_elements.specs.declared.element.Element.{Element};
 ghost use Rattle.bt_elements.specs.Elements.{SpellsPlainly, WhenUnbuilt};
-ghost use Rattle.bt_elements.specs.Reading.{Gives, plain, read};
+ghost use Rattle.bt_elements.specs.Reading.{GivesSeenBy, plain, read};
 
 use crate::element::{Element, Elements, Unbuilt};
 use crate::nest::Nest;
@@ -26,7 +26,7 @@ pub fn read_elements(alloc: Global, bytes: &[u8]) -> Result<Elements, Stop<Unbui
 /// The document element.
 fn document(alloc: Global, bytes: &[u8]) -> Result<Element, Stop<Unbuilt>>
     requires { length bytes.now ≤ 1048576 }
-    ensures { Gives (λ e. e) result (read plain bytes.now) }
+    ensures { GivesSeenBy (λ e. e) result (read plain bytes.now) }
 {
     let mut nest = Nest::new(alloc);
     let mut rest = bytes;

@@ -3,7 +3,7 @@ ghost use Rattle.std.specs.List.{prefix_len, list_all};
 ghost use Rattle.bt_script.specs.Identifiers as identifiers;
 ghost use Rattle.bt_elements.specs.Marks.{is_name_first, is_name_rest, is_value_byte, no_name_twice};
 ghost use Rattle.bt_elements.specs.Elements.{is_text_byte, is_plain_byte, is_plain_value};
-ghost use Rattle.bt_elements.specs.Reading.{Gives, plain, after_white, begins, behind, name_of, value_of, attribute_of, attribute_begins, attributes_of, front_of, closing, end_of, mark_of, text_len};
+ghost use Rattle.bt_elements.specs.Reading.{GivesSeenBy, plain, after_white, begins, behind, name_of, value_of, attribute_of, attribute_begins, attributes_of, front_of, closing, end_of, mark_of, text_len};
 
 use crate::element::Unbuilt;
 use crate::mark::{Front, Mark};
@@ -110,7 +110,7 @@ fn white_at(bytes: &[u8]) -> &[u8]
 
 /// What follows this byte.
 fn byte_at(bytes: &[u8], c: u8) -> Result<&[u8], Stop<Unbuilt>>
-    ensures read { Gives (λ rest. rest.now) result (behind c bytes.now) }
+    ensures read { GivesSeenBy (λ rest. rest.now) result (behind c bytes.now) }
     ensures within { IfOk result (λ rest. length rest.now < length bytes.now) }
 {
     match bytes {
@@ -127,7 +127,7 @@ fn byte_at(bytes: &[u8], c: u8) -> Result<&[u8], Stop<Unbuilt>>
 
 /// The name at the front.
 fn name_at(alloc: Global, bytes: &[u8]) -> Result<(Name, &[u8]), Stop<Unbuilt>>
-    ensures read { Gives (λ x. (x.0, x.1.now)) result (name_of plain bytes.now) }
+    ensures read { GivesSeenBy (λ x. (x.0, x.1.now)) result (name_of plain bytes.now) }
     ensures within { IfOk result (λ x. length x.1.now ≤ length bytes.now) }
 {
     let (name, rest) = bytes.split_at(name_len(bytes));
@@ -140,7 +140,7 @@ fn name_at(alloc: Global, bytes: &[u8]) -> Result<(Name, &[u8]), Stop<Unbuilt>>
 
 /// The value behind its `"`.
 fn value_at(alloc: Global, bytes: &[u8]) -> Result<(Name, &[u8]), Stop<Unbuilt>>
-    ensures read { Gives (λ x. (x.0, x.1.now)) result (value_of plain bytes.now) }
+    ensures read { GivesSeenBy (λ x. (x.0, x.1.now)) result (value_of plain bytes.now) }
     ensures within { IfOk result (λ x. length x.1.now < length bytes.now) }
 {
     let (value, rest) = bytes.split_at(value_len(bytes));
@@ -154,7 +154,7 @@ fn value_at(alloc: Global, bytes: &[u8]) -> Result<(Name, &[u8]), Stop<Unbuilt>>
 
 /// The attribute at the front.
 fn attribute_at(alloc: Global, bytes: &[u8]) -> Result<((Name, Name), &[u8]), Stop<Unbuilt>>
-    ensures read { Gives (λ x. (x.0, x.1.now)) result (attribute_of plain bytes.now) }
+    ensures read { GivesSeenBy (λ x. (x.0, x.1.now)) result (attribute_of plain bytes.now) }
     ensures within { IfOk result (λ x. length x.1.now < length bytes.now) }
 {
     let (name, rest) = name_at(alloc, bytes)?;
@@ -190,7 +190,7 @@ fn begins_attribute(bytes: &[u8]) -> bool
 
 /// The attributes at the front, with the white space before each.
 fn attributes_at(alloc: Global, bytes: &[u8]) -> Result<(Items<(Name, Name)>, &[u8]), Stop<Unbuilt>>
-    ensures read { Gives (λ x. (x.0, x.1.now)) result (attributes_of plain (length bytes.now) bytes.now) }
+    ensures read { GivesSeenBy (λ x. (x.0, x.1.now)) result (attributes_of plain (length bytes.now) bytes.now) }
     ensures within { IfOk result (λ x. length x.1.now ≤ length bytes.now) }
 {
     let mut attributes = Vec::new(alloc);
@@ -218,7 +218,7 @@ fn single_names(alloc: Global, attributes: &[(Name, Name)]) -> Result<bool, NoMe
 
 /// A start mark or an empty mark behind its `<`, up to its end.
 fn front_at(alloc: Global, bytes: &[u8]) -> Result<(Front, &[u8]), Stop<Unbuilt>>
-    ensures read { Gives (λ x. (x.0, x.1.now)) result (front_of plain bytes.now) }
+    ensures read { GivesSeenBy (λ x. (x.0, x.1.now)) result (front_of plain bytes.now) }
     ensures within { IfOk result (λ x. length x.1.now ≤ length bytes.now) }
 {
     let (name, rest) = name_at(alloc, bytes)?;
@@ -231,7 +231,7 @@ fn front_at(alloc: Global, bytes: &[u8]) -> Result<(Front, &[u8]), Stop<Unbuilt>
 
 /// The end of a start mark or of an empty mark.
 fn closing_at(front: Front, bytes: &[u8]) -> Result<(Mark, &[u8]), Stop<Unbuilt>>
-    ensures read { Gives (λ x. (x.0, x.1.now)) result (closing front bytes.now) }
+    ensures read { GivesSeenBy (λ x. (x.0, x.1.now)) result (closing front bytes.now) }
     ensures within { IfOk result (λ x. length x.1.now ≤ length bytes.now) }
 {
     match bytes {
@@ -246,7 +246,7 @@ fn closing_at(front: Front, bytes: &[u8]) -> Result<(Mark, &[u8]), Stop<Unbuilt>
 
 /// An end mark behind its `</`.
 fn end_at(alloc: Global, bytes: &[u8]) -> Result<(Mark, &[u8]), Stop<Unbuilt>>
-    ensures read { Gives (λ x. (x.0, x.1.now)) result (end_of plain bytes.now) }
+    ensures read { GivesSeenBy (λ x. (x.0, x.1.now)) result (end_of plain bytes.now) }
     ensures within { IfOk result (λ x. length x.1.now ≤ length bytes.now) }
 {
     let (name, rest) = name_at(alloc, bytes)?;
@@ -256,7 +256,7 @@ fn end_at(alloc: Global, bytes: &[u8]) -> Result<(Mark, &[u8]), Stop<Unbuilt>>
 
 /// The mark behind its `<`.
 pub fn mark_at(alloc: Global, bytes: &[u8]) -> Result<(Mark, &[u8]), Stop<Unbuilt>>
-    ensures read { Gives (λ x. (x.0, x.1.now)) result (mark_of plain bytes.now) }
+    ensures read { GivesSeenBy (λ x. (x.0, x.1.now)) result (mark_of plain bytes.now) }
     ensures within { IfOk result (λ x. length x.1.now ≤ length bytes.now) }
 {
     match bytes {
