@@ -2,7 +2,7 @@
 use Rattle.std.specs.Prelude.{ℕ, ◌≡◌, ◌≤◌, ◌⊎◌, List, length, Option, Some, None, Result, Ok, Err}
 use Rattle.bt_main.specs.declared.exit.Exit.{Exit}
 use Rattle.bt_main.specs.declared.exit.Exit.TheVariants as exit
-use Rattle.bt_main.specs.Output.{Output, CommandGives, FilesGive, unread}
+use Rattle.bt_main.specs.Output.{Output, CommandGives, FilesGive, unread, words_refused}
 use Rattle.bt_main.specs.Words.{Command, File, Tree, World}
 use Rattle.bt_outside.specs.Appending.{Appended, AppendedFront}
 use Rattle.bt_outside.specs.Files.{Told}
@@ -64,6 +64,13 @@ pub record FilesAnswered (holds : Option (List ℕ → List ℕ)) (command : Com
   pub is_tree : Told holds command.tree (λ file. tree ≡ file)
   pub is_world : Told holds command.world (λ file. world ≡ file)
   pub answers : Answers (FilesGive tree world) result rose old new
+
+-- What words were answered, also by a shelf that tells nothing: the output of some bytes of the two files was given,
+-- or the line of a file whose read failed; or the words are no command.
+abbrev pub CommandAnswered : Option Command → Option (List ℕ → List ℕ) → Type 0 → (File → Type 0) → Exit → Type 0 → Option (List ℕ) → Option (List ℕ) → Type 0
+CommandAnswered None holds shelf_rose IsUnread result sink_rose old new = Gave words_refused result sink_rose old new
+CommandAnswered (Some command) holds shelf_rose IsUnread result sink_rose old new =
+    ReadFailed shelf_rose IsUnread result sink_rose old new ⊎ FilesAnswered holds command result sink_rose old new
 
 -- the read of a file failed, and the line of this file was written whole
 abbrev pub UnreadLine : (File → Type 0) → Option (List ℕ) → Option (List ℕ) → Type 0

@@ -1,5 +1,5 @@
 ghost use Rattle.std.specs.Prelude.{◌≡◌, ◌+◌, ◌<◌, ◌≤◌, ◌^◌, ◌⊎◌, List, ℕ, IfOk, Option, None, Some, Err, length};
-ghost use Rattle.bt_main.specs.Answers.{Answers, EachOutput, FilesAnswered, Gave, IsGiven, ReadFailed, Unread, UnreadLine, WholeOutput, WordsUnread, WorldAnswered};
+ghost use Rattle.bt_main.specs.Answers.{Answers, CommandAnswered, EachOutput, FilesAnswered, Gave, IsGiven, ReadFailed, Unread, UnreadLine, WholeOutput, WordsUnread, WorldAnswered};
 ghost use Rattle.bt_main.specs.Output.{CommandGives, FilesGive, Output, ReadsTree, ReadsAs, words_refused, tree_output};
 ghost use Rattle.bt_main.specs.Words.{Command, World, command_of};
 ghost use Rattle.bt_model.specs.Terms.{node_count};
@@ -116,6 +116,11 @@ pub fn bt<S: Shelf, K: Sink>(alloc: Global, words: &[Name], shelf: &mut S, out: 
         ⊎ ReadFailed (Rose (S.faults shelf.old) (S.faults shelf.new))
         (WordsUnread S.read_gives (S.holds shelf.old) (command_of words.now) shelf.old shelf.new)
         result (Rose (K.faults out.old) (K.faults out.new)) (K.written out.old) (K.written out.new)) }
+
+    // Also where the shelf tells nothing: this is so of the output of some bytes of the two files.
+    ensures any_shelf { CommandAnswered (command_of words.now) (S.holds shelf.old) (Rose (S.faults shelf.old) (S.faults shelf.new))
+        (WordsUnread S.read_gives (S.holds shelf.old) (command_of words.now) shelf.old shelf.new)
+        result (Rose (K.faults out.old) (K.faults out.new)) (K.written out.old) (K.written out.new) }
 
     // At Read the read of a file failed, and the line of this file was written.
     ensures read { result ≡ Exit.Read →

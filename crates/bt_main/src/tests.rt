@@ -82,9 +82,7 @@ fn traces_are_those_of_the_worked_rows(rt: HostRuntime) -> Result<(), Fail> {
     let done = format!(in alloc;
         "{HELD_TRACE}tick 1 at 300\ncall 3 running SUCCESS\nnode 3 RUNNING SUCCESS\nnode 2 SUCCESS IDLE\nnode 3 SUCCESS IDLE\nnode 1 RUNNING SUCCESS\nroot 1 SUCCESS\nnode 1 SUCCESS IDLE\nfinish 1 at 300\n"
     )?;
-    let halted = format!(in alloc;
-        "{HELD_TRACE}finish 1 at 299\nnode 2 SUCCESS IDLE\ncall 3 halted\nnode 3 RUNNING IDLE\nnode 1 RUNNING IDLE\n"
-    )?;
+    let halted = format!(in alloc; "{HELD_TRACE}{HALTED_TRACE}")?;
     let act = format!(in alloc; "{CHECK_THEN_ACT}\nat 300\ntick 1")?;
     let table: [(&str, &str, Exit, &str); 10] = [
         (TWO_CHECKS, TWO_CONDITIONS, Exit::Done, TWO_CHECKS_TRACE),

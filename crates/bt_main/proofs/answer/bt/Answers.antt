@@ -4,6 +4,9 @@ use Rattle.bt_main.proofs.answer.bt.Goals as goal
 pub returns-in-Some-clause-each : goal.returns-in-Some-clause-each
 returns-in-Some-clause-each g c = rw c.in-Some.ensures (each_clause c.one_element.ensures _ _ _ _ _ _ _ (g.S.Shelf.holds c.args.shelf.now) c.answer_command.ensures.answers)
 
+pub returns-in-Some-clause-any_shelf : goal.returns-in-Some-clause-any_shelf
+returns-in-Some-clause-any_shelf g c = rw c.in-Some.ensures c.answer_command.ensures.answers
+
 pub returns-in-Some-clause-complete : goal.returns-in-Some-clause-complete
 returns-in-Some-clause-complete g c = rw c.in-Some.ensures (complete_clause c.one_element.ensures _ _ _ _ _ _ _ (g.S.Shelf.holds c.args.shelf.now) c.answer_command.ensures.answers)
 
