@@ -1,7 +1,9 @@
 -- World scripts: the lines and words of a file, what a line says, and the world that the lines make.
 use Rattle.std.specs.Prelude.{ℕ, ◌+◌, ◌-◌, ◌==◌, Bool, true, false, ◌&&◌, ◌||◌, nat_lt, nat_le, nat_eq, if◌then◌else◌, List, [], ◌∷◌, ◌++◌, map, filter, position, length, take, codes, bytes_eq, ℤ, pos, negsuc, int_le, nat_abs, Option, Some, None, option_map, option_and_then, option_to_list, Result, Ok, Err}
+use Rattle.std.specs.Char.{is_ascii_digit}
 use Rattle.std.specs.List.{slice_split, list_all, list_any, ends_with}
 use Rattle.std.specs.Str.Parse.{signed_digits_value}
+use Rattle.bt_script.specs.Identifiers.{is_identifier}
 use Rattle.bt_script.specs.declared.syntax.Cmp.{Cmp}
 use Rattle.bt_script.specs.declared.syntax.Cmp.TheVariants.{Equal, Differ, Less, AtMost, More, AtLeast}
 use Rattle.bt_model.specs.declared.world.Fact.{Fact}
@@ -44,17 +46,6 @@ words_in text = filter (λ word. nat_lt 0 (length word)) (slice_split is_gap tex
 
 -- ---- Names and numbers
 
-abbrev pub is_letter : ℕ → Bool
-is_letter b = nat_le 65 b && nat_le b 90 || nat_le 97 b && nat_le b 122 || b == 95
-
-abbrev pub is_digit : ℕ → Bool
-is_digit b = nat_le 48 b && nat_le b 57
-
--- a letter or `_`, and then letters, digits and `_`
-abbrev pub is_identifier : List ℕ → Bool
-is_identifier [] = false
-is_identifier (b ∷ bs) = is_letter b && list_all (λ c. is_letter c || is_digit c) (b ∷ bs)
-
 -- names and IDs are identifiers of at most 64 bytes
 abbrev pub is_name : List ℕ → Bool
 is_name word = is_identifier word && nat_le (length word) 64
@@ -62,7 +53,7 @@ is_name word = is_identifier word && nat_le (length word) 64
 -- digits of which the first is not 0
 abbrev pub is_positive : List ℕ → Bool
 is_positive [] = false
-is_positive (b ∷ bs) = nat_lt 48 b && list_all is_digit (b ∷ bs)
+is_positive (b ∷ bs) = nat_lt 48 b && list_all is_ascii_digit (b ∷ bs)
 
 -- a word without one minus at its front
 abbrev pub without_minus : List ℕ → List ℕ

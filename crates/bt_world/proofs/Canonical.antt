@@ -2,6 +2,7 @@
 use Rattle.std.proofs.Common.{◌≡◌, ◌≢◌, ◌⊎◌, inl, inr, ℕ, zero, suc, ◌<◌, ◌^◌, ◌==◌, Bool, true, false, cond, ◌||◌, List, [], ◌∷◌, get_or, drop, codes, ℤ, pos, negsuc, Some, None, Result, Ok, Err, refl, sym, ◌∙◌, ap, subst, arith, lit<}
 use Rattle.std.specs.Prelude.{nat_lt, bytes_eq, IsUtf8, FitsSigned}
 use Rattle.std.proofs.lemmas.Bool.Decides.{nat_tests}
+use Rattle.std.specs.Char.{is_ascii_digit}
 use Rattle.std.specs.List.{list_all}
 use Rattle.std.specs.Result.{result_ok}
 use Rattle.std.specs.Str.Parse.{ParsesSigned, IsNumeral, AllDigits, signed_digits_value, without_leading_sign, without_leading_plus}
@@ -11,9 +12,9 @@ use Rattle.std.proofs.lemmas.Slice.Eq.{bytes_eq-Decides}
 use Rattle.std.proofs.lemmas.Bool.{eqb-true}
 use borrow.Author.Tests.{ne_eqb}
 use mir.Syntax.{w64}
-use Rattle.bt_model.specs.WorldFile.{is_canonical, is_digit, is_int, is_positive, number_in, without_minus}
+use Rattle.bt_script.proofs.Bools.{both}
+use Rattle.bt_model.specs.WorldFile.{is_canonical, is_int, is_positive, number_in, without_minus}
 use Rattle.bt_world.specs.Readings.{kept}
-use Rattle.bt_world.proofs.Ascii.{both}
 
 int_from_fits : (z : ℤ) → FitsSigned w64 z → is_int z ≡ true
 int_from_fits (pos n) h = let k : n < 2 ^ 63 = h.sfits in grind (arith, nat_tests)
@@ -27,22 +28,22 @@ either : (a b : Bool) → (a || b) ≡ true → (a ≡ true) ⊎ (b ≡ true)
 either true b h = inl refl
 either false b h = inr h
 
-tells_digits : IsDigitsTest (λ ds. list_all is_digit ds ≡ true)
+tells_digits : IsDigitsTest (λ ds. list_all is_ascii_digit ds ≡ true)
 tells_digits = record {
   empty = refl;
-  parts = λ c cs h. let k = both (is_digit c) (list_all is_digit cs) h in (grind (arith, nat_tests), k.1);
+  parts = λ c cs h. let k = both (is_ascii_digit c) (list_all is_ascii_digit cs) h in (grind (arith, nat_tests), k.1);
   more = λ c cs k h. grind (arith, nat_tests);
 }
 
-all_digits : (ds : List ℕ) → list_all is_digit ds ≡ true → AllDigits 10 ds
+all_digits : (ds : List ℕ) → list_all is_ascii_digit ds ≡ true → AllDigits 10 ds
 all_digits = (numerals_by_value _ tells_digits).to
 
 positive : (ds : List ℕ) → is_positive ds ≡ true → IsNumeral 10 ds
 positive [] h = absurd (cc)
-positive (c ∷ cs) h = (omega arith, all_digits (c ∷ cs) (both (nat_lt 48 c) (list_all is_digit (c ∷ cs)) h).1)
+positive (c ∷ cs) h = (omega arith, all_digits (c ∷ cs) (both (nat_lt 48 c) (list_all is_ascii_digit (c ∷ cs)) h).1)
 
 above : (c : ℕ) (cs : List ℕ) → is_positive (c ∷ cs) ≡ true → 48 < c
-above c cs h = let k = (both (nat_lt 48 c) (list_all is_digit (c ∷ cs)) h).0 in grind (arith, nat_tests)
+above c cs h = let k = (both (nat_lt 48 c) (list_all is_ascii_digit (c ∷ cs)) h).0 in grind (arith, nat_tests)
 
 no_sign : (b : ℕ) (bs : List ℕ) → b ≢ 45 → b ≢ 43 → without_leading_sign (b ∷ bs) ≡ b ∷ bs
 no_sign b bs m p = ap (λ t. cond t (drop 1 (b ∷ bs)) (without_leading_plus (b ∷ bs))) (ne_eqb b 45 m) ∙ without_leading_plus_none (b ∷ bs) p

@@ -1,4 +1,3 @@
-pub mod Ascii
 pub mod Canonical
 pub mod Onward
 pub mod Rests

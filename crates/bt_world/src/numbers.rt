@@ -1,7 +1,7 @@
 ghost use Rattle.std.specs.Prelude.{◌≡◌, nat_abs, option_map};
+ghost use Rattle.std.specs.Char.{is_ascii_digit};
 ghost use Rattle.std.specs.List.{list_all};
 ghost use Rattle.bt_model.specs.WorldFile.{is_canonical, is_int, is_ms, is_positive, number_in, without_minus};
-ghost use Rattle.bt_model.specs.WorldFile as file;
 ghost use Rattle.bt_world.specs.Readings.{kept};
 
 use crate::lines::is;
@@ -10,16 +10,10 @@ use std::str;
 /// The last moment that a script may name, and its longest duration, in milliseconds.
 const LAST_MOMENT: u64 = 1_000_000_000_000;
 
-fn is_digit(byte: u8) -> bool
-    ensures { result ≡ file.is_digit byte }
-{
-    byte >= b'0' && byte <= b'9'
-}
-
 fn all_digits(word: &[u8]) -> bool
-    ensures { result ≡ list_all file.is_digit word.now }
+    ensures { result ≡ list_all is_ascii_digit word.now }
 {
-    word.iter().all(|b| is_digit(*b))
+    word.iter().all(|b| b.is_ascii_digit())
 }
 
 fn unsigned(word: &[u8]) -> &[u8]
