@@ -1,12 +1,12 @@
 -- What the words of a line say, where its numbers were read.
-use Rattle.std.proofs.Common.{◌≡◌, ℕ, ◌<◌, ◌≤◌, Bool, true, false, cond, List, [], ◌∷◌, arith, ℤ, Option, Some, None, Result, refl, sym, ◌∙◌, ap, subst}
-use Rattle.std.specs.Prelude.{nat_abs, option_map, option_and_then, nat_lt, nat_le, length, ◌&&◌, ◌||◌, ◌==◌, map, IsErr, is_err}
+use Rattle.std.proofs.Common.{◌≡◌, ℕ, Bool, true, false, cond, List, ℤ, Option, Some, None, Result, refl, sym, ◌∙◌, ap, subst}
+use Rattle.std.specs.Prelude.{nat_abs, option_map, option_and_then, nat_lt, nat_le, length, ◌&&◌, ◌||◌, ◌==◌, map, IsErr}
 use Rattle.std.specs.List.{list_all}
 use Rattle.std.proofs.lemmas.Int.{to_z-of_z}
 use mir.Val.{to_z, of_z}
 use mir.Syntax.{w64}
 use Rattle.bt_script.specs.declared.syntax.Cmp.{Cmp}
-use Rattle.bt_model.specs.WorldFile.{Line, ConditionLine, ReplayLine, Reading, WorldKind, closed, comparison_in, condition_in, is_int, is_ms, is_name, line_in, named_number, number_in, outcomes_in, ranged, replay_in, with_form, with_line}
+use Rattle.bt_model.specs.WorldFile.{Line, ConditionLine, ReplayLine, Reading, WorldKind, closed, comparison_in, condition_in, is_int, is_ms, is_name, named_number, number_in, outcomes_in, ranged, replay_in, with_form, with_line}
 use Rattle.bt_world.specs.Readings.{kept}
 use Rattle.bt_world.proofs.Canonical.{fits_from_int}
 
@@ -106,26 +106,3 @@ untimed_by r id true (Some z) (Some l) e = out_of_range z (is_ms z) _ e
 -- a line of a replay that names no time is refused
 pub untimed : (r : Reading) (id w letters : List ℕ) → None ≡ option_map nat_abs (kept is_ms (number_in w)) → IsErr (with_form r (replay_in id w letters))
 untimed r id w letters e = untimed_by r id (is_name id) (number_in w) (outcomes_in letters) e
-
-none_short : {X : Type 0} (f : X → List ℕ) (xs : List X) → length xs < 2 → line_in (map f xs) ≡ None
-none_short f [] h = refl
-none_short f (a ∷ []) h = refl
-none_short f (a ∷ b ∷ xs) h = absurd (omega arith)
-
-none_long : {X : Type 0} (f : X → List ℕ) (xs : List X) → 7 ≤ length xs → line_in (map f xs) ≡ None
-none_long f [] h = absurd (omega arith)
-none_long f (a ∷ []) h = absurd (omega arith)
-none_long f (a ∷ b ∷ []) h = absurd (omega arith)
-none_long f (a ∷ b ∷ c ∷ []) h = absurd (omega arith)
-none_long f (a ∷ b ∷ c ∷ d ∷ []) h = absurd (omega arith)
-none_long f (a ∷ b ∷ c ∷ d ∷ e ∷ []) h = absurd (omega arith)
-none_long f (a ∷ b ∷ c ∷ d ∷ e ∷ g ∷ []) h = absurd (omega arith)
-none_long f (a ∷ b ∷ c ∷ d ∷ e ∷ g ∷ i ∷ xs) h = refl
-
--- no form has fewer than two words
-pub refused_short : {X : Type 0} (f : X → List ℕ) (xs : List X) (r : Reading) → length xs < 2 → IsErr (with_form r (line_in (map f xs)))
-refused_short f xs r h = ap (λ o. is_err (with_form r o)) (none_short f xs h)
-
--- no form has more than six words
-pub refused_long : {X : Type 0} (f : X → List ℕ) (xs : List X) (r : Reading) → 7 ≤ length xs → IsErr (with_form r (line_in (map f xs)))
-refused_long f xs r h = ap (λ o. is_err (with_form r o)) (none_long f xs h)

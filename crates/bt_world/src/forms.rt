@@ -1,6 +1,6 @@
-ghost use Rattle.std.specs.Prelude.{◌≡◌, ◌==◌, ◌&&◌, ◌||◌, [], ◌∷◌, nat_lt, nat_le, length, map, IfOk, option_map};
+ghost use Rattle.std.specs.Prelude.{◌≡◌, ◌==◌, ◌&&◌, ◌||◌, nat_lt, nat_le, length, map, IfOk, option_map, bytes_eq};
 ghost use Rattle.std.specs.List.{list_all};
-ghost use Rattle.bt_model.specs.WorldFile.{comparison_in, condition_in, line_in, named_number, number_in, outcomes_in, replay_in, with_form, with_text};
+ghost use Rattle.bt_model.specs.WorldFile.{comparison_in, condition_in, line_in, named_number, number_in, replay_in, with_form, with_text};
 ghost use Rattle.bt_world.specs.Readings.{LeavesOrRefuses};
 ghost use Rattle.bt_model.specs.WorldFile.{AtLine, FactLine, SetLine, SetsLine, TickLine, TimedLine};
 
@@ -65,6 +65,13 @@ fn outcomes(alloc: Global, word: &[u8]) -> Result<Vec<bool>, AllocError>
     word.iter().map(|letter| is_success(*letter)).collect(alloc)
 }
 
+/// Whether the two words are these texts.
+fn are(word: &[u8], text: &str, other_word: &[u8], other_text: &str) -> bool
+    ensures { result ≡ (bytes_eq word.now text.now && bytes_eq other_word.now other_text.now) }
+{
+    is(word, text) && is(other_word, other_text)
+}
+
 impl Reading {
     /// Reads the text of a line.
     pub fn read_text(&mut self, alloc: Global, text: &[u8]) -> Result<(), Stop<Unbuilt>>
@@ -82,98 +89,23 @@ impl Reading {
         ensures { LeavesOrRefuses result self.new (with_form self.old (line_in (map (λ word. word.now) words.now))) }
     {
         match words {
-            [kind, a] => self.read_two(alloc, kind, a),
-            [kind, a, b] => self.read_three(alloc, kind, a, b),
-            [kind, a, b, c] => self.read_four(alloc, kind, a, b, c),
-            [kind, a, b, c, d] => self.read_five(alloc, kind, a, b, c, d),
-            [kind, a, b, c, d, e] => self.read_six(alloc, kind, a, b, c, d, e),
+            [kind, moment] if is(kind, "at") => self.read_moment(alloc, moment),
+            [kind, runner] if is(kind, "tick") => self.read_tick(alloc, runner),
+            [kind, name, opening] if is(kind, "fact") => self.read_fact(alloc, name, opening),
+            [kind, fact, value] if is(kind, "set") => self.read_change(alloc, fact, value),
+            [kind, id, how, ms] if are(kind, "action", how, "timed") => {
+                self.read_timed(alloc, id, ms)
+            }
+            [kind, fact, sign, value] if are(kind, "sets", sign, "=") => {
+                self.read_effect(fact, value)
+            }
+            [kind, id, how, ms, outcomes] if are(kind, "action", how, "replay") => {
+                self.read_replay(alloc, id, ms, outcomes)
+            }
+            [kind, id, verb, fact, op, value] if are(kind, "condition", verb, "is") => {
+                self.read_condition(alloc, id, fact, op, value)
+            }
             _ => Err(Stop::Fault(Unbuilt)),
-        }
-    }
-
-    fn read_two(&mut self, alloc: Global, kind: &[u8], a: &[u8]) -> Result<(), Stop<Unbuilt>>
-        ensures { LeavesOrRefuses result self.new (with_form self.old (line_in (kind.now ∷ a.now ∷ []))) }
-    {
-        if is(kind, "at") {
-            self.read_moment(alloc, a)
-        } else if is(kind, "tick") {
-            self.read_tick(alloc, a)
-        } else {
-            Err(Stop::Fault(Unbuilt))
-        }
-    }
-
-    fn read_three(
-        &mut self,
-        alloc: Global,
-        kind: &[u8],
-        a: &[u8],
-        b: &[u8],
-    ) -> Result<(), Stop<Unbuilt>>
-        ensures { LeavesOrRefuses result self.new (with_form self.old (line_in (kind.now ∷ a.now ∷ b.now ∷ []))) }
-    {
-        if is(kind, "fact") {
-            self.read_fact(alloc, a, b)
-        } else if is(kind, "set") {
-            self.read_change(alloc, a, b)
-        } else {
-            Err(Stop::Fault(Unbuilt))
-        }
-    }
-
-    fn read_four(
-        &mut self,
-        alloc: Global,
-        kind: &[u8],
-        a: &[u8],
-        b: &[u8],
-        c: &[u8],
-    ) -> Result<(), Stop<Unbuilt>>
-        ensures { LeavesOrRefuses result self.new (with_form self.old (line_in (kind.now ∷ a.now ∷ b.now ∷ c.now ∷ []))) }
-    {
-        if is(kind, "action") && is(b, "timed") {
-            self.read_timed(alloc, a, c)
-        } else if is(kind, "sets") && is(b, "=") {
-            self.read_effect(a, c)
-        } else {
-            Err(Stop::Fault(Unbuilt))
-        }
-    }
-
-    fn read_five(
-        &mut self,
-        alloc: Global,
-        kind: &[u8],
-        a: &[u8],
-        b: &[u8],
-        c: &[u8],
-        d: &[u8],
-    ) -> Result<(), Stop<Unbuilt>>
-        ensures { LeavesOrRefuses result self.new (with_form self.old (line_in (kind.now ∷ a.now ∷ b.now ∷ c.now ∷ d.now ∷ []))) }
-    {
-        if is(kind, "action") && is(b, "replay") {
-            self.read_replay(alloc, a, c, d)
-        } else {
-            Err(Stop::Fault(Unbuilt))
-        }
-    }
-
-    fn read_six(
-        &mut self,
-        alloc: Global,
-        kind: &[u8],
-        a: &[u8],
-        b: &[u8],
-        c: &[u8],
-        d: &[u8],
-        e: &[u8],
-    ) -> Result<(), Stop<Unbuilt>>
-        ensures { LeavesOrRefuses result self.new (with_form self.old (line_in (kind.now ∷ a.now ∷ b.now ∷ c.now ∷ d.now ∷ e.now ∷ []))) }
-    {
-        if is(kind, "condition") && is(b, "is") {
-            self.read_condition(alloc, a, c, d, e)
-        } else {
-            Err(Stop::Fault(Unbuilt))
         }
     }
 
