@@ -48,7 +48,13 @@ impl Model for Reading {
 
     ghost coded = { Prim.hlevel (codes, expr.the_row.coded) };
 
-    ghost view = { λ r. record { facts = r.facts.items; rows = r.rows.items; open_row = option_map row_of r.draft; events = r.events.items; moment = r.moment } };
+    ghost view = { λ r. record {
+      facts = r.facts.items;
+      rows = r.rows.items;
+      open_row = option_map row_of r.draft;
+      events = r.events.items;
+      moment = r.moment;
+    } };
 
     ghost invariant = { λ r. length r.facts.items ≤ 1024 };
 }
