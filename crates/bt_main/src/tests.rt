@@ -64,59 +64,189 @@ const TWO_CHECKS: &str = "<Sequence><A/><B/></Sequence>";
 
 const TWO_CONDITIONS: &str = "fact x 1\ncondition A is x == 1\ncondition B is x < 2\ntick 1";
 
-const TWO_CHECKS_TRACE: &str =
-    "tick 1 at 0\nnode 1 IDLE RUNNING\ncall 2 start SUCCESS\nnode 2 IDLE SUCCESS\ncall 3 start SUCCESS\nnode 3 IDLE SUCCESS\nnode 2 SUCCESS IDLE\nnode 3 SUCCESS IDLE\nnode 1 RUNNING SUCCESS\nroot 1 SUCCESS\nnode 1 SUCCESS IDLE\nfinish 1 at 0\n";
+const TWO_CHECKS_TRACE: &str = "\
+tick 1 at 0
+node 1 IDLE RUNNING
+call 2 start SUCCESS
+node 2 IDLE SUCCESS
+call 3 start SUCCESS
+node 3 IDLE SUCCESS
+node 2 SUCCESS IDLE
+node 3 SUCCESS IDLE
+node 1 RUNNING SUCCESS
+root 1 SUCCESS
+node 1 SUCCESS IDLE
+finish 1 at 0
+";
+
+const NESTED_TRACE: &str = "\
+tick 1 at 0
+node 1 IDLE RUNNING
+node 2 IDLE RUNNING
+call 3 start SUCCESS
+node 3 IDLE SUCCESS
+node 3 SUCCESS IDLE
+node 2 RUNNING SUCCESS
+call 4 start SUCCESS
+node 4 IDLE SUCCESS
+node 2 SUCCESS IDLE
+node 4 SUCCESS IDLE
+node 1 RUNNING SUCCESS
+root 1 SUCCESS
+node 1 SUCCESS IDLE
+finish 1 at 0
+";
+
+const THREE_CONDITIONS: &str =
+    "fact x 1\ncondition A is x == 1\ncondition B is x != 1\ncondition C is x == 1\ntick 1";
+
+const SECOND_FAILS_TRACE: &str = "\
+tick 1 at 0
+node 1 IDLE RUNNING
+call 2 start SUCCESS
+node 2 IDLE SUCCESS
+call 3 start FAILURE
+node 3 IDLE FAILURE
+node 2 SUCCESS IDLE
+node 3 FAILURE IDLE
+node 1 RUNNING FAILURE
+root 1 FAILURE
+node 1 FAILURE IDLE
+finish 1 at 0
+";
 
 const CHECK_THEN_ACT: &str =
     "fact x 1\ncondition A is x == 1\naction B timed 300\ntick 1\nat 299\ntick 1";
 
-const HELD_TRACE: &str =
-    "tick 1 at 0\nnode 1 IDLE RUNNING\ncall 2 start SUCCESS\nnode 2 IDLE SUCCESS\ncall 3 start RUNNING\nnode 3 IDLE RUNNING\nroot 1 RUNNING\ntick 1 at 299\ncall 3 running RUNNING\nroot 1 RUNNING\n";
+const HELD_TRACE: &str = "\
+tick 1 at 0
+node 1 IDLE RUNNING
+call 2 start SUCCESS
+node 2 IDLE SUCCESS
+call 3 start RUNNING
+node 3 IDLE RUNNING
+root 1 RUNNING
+tick 1 at 299
+call 3 running RUNNING
+root 1 RUNNING
+";
 
-const HALTED_TRACE: &str =
-    "finish 1 at 299\nnode 2 SUCCESS IDLE\ncall 3 halted\nnode 3 RUNNING IDLE\nnode 1 RUNNING IDLE\n";
+const HALTED_TRACE: &str = "\
+finish 1 at 299
+node 2 SUCCESS IDLE
+call 3 halted
+node 3 RUNNING IDLE
+node 1 RUNNING IDLE
+";
+
+const OVER_TRACE: &str = "\
+tick 1 at 300
+call 3 running SUCCESS
+node 3 RUNNING SUCCESS
+node 2 SUCCESS IDLE
+node 3 SUCCESS IDLE
+node 1 RUNNING SUCCESS
+root 1 SUCCESS
+node 1 SUCCESS IDLE
+finish 1 at 300
+";
+
+const REPLAYED: &str =
+    "fact x 0\naction A replay 0 FS\ncondition B is x == 1\ntick 1\nset x 1\nat 7\nat 7\ntick 1";
+
+const REPLAYED_TRACE: &str = "\
+tick 1 at 0
+node 1 IDLE RUNNING
+call 2 start FAILURE
+node 2 IDLE FAILURE
+call 3 start FAILURE
+node 3 IDLE FAILURE
+node 2 FAILURE IDLE
+node 3 FAILURE IDLE
+node 1 RUNNING FAILURE
+root 1 FAILURE
+node 1 FAILURE IDLE
+set x 1 at 0
+fact x 1
+tick 1 at 7
+node 1 IDLE RUNNING
+call 2 start SUCCESS
+node 2 IDLE SUCCESS
+node 2 SUCCESS IDLE
+node 1 RUNNING SUCCESS
+root 1 SUCCESS
+node 1 SUCCESS IDLE
+finish 1 at 7
+";
+
+const EFFECTS: &str = "fact x 0\nfact y 5\naction A timed 0\nsets y = -3\nsets x = 0\ntick 1";
+
+const EFFECTS_TRACE: &str = "\
+tick 1 at 0
+call 1 start SUCCESS
+node 1 IDLE SUCCESS
+root 1 SUCCESS
+node 1 SUCCESS IDLE
+fact y -3
+finish 1 at 0
+";
 
 #[test]
-fn traces_are_those_of_the_worked_rows(rt: HostRuntime) -> Result<(), Fail> {
-    let alloc = rt.alloc();
-    let done = format!(in alloc;
-        "{HELD_TRACE}tick 1 at 300\ncall 3 running SUCCESS\nnode 3 RUNNING SUCCESS\nnode 2 SUCCESS IDLE\nnode 3 SUCCESS IDLE\nnode 1 RUNNING SUCCESS\nroot 1 SUCCESS\nnode 1 SUCCESS IDLE\nfinish 1 at 300\n"
-    )?;
-    let halted = format!(in alloc; "{HELD_TRACE}{HALTED_TRACE}")?;
-    let act = format!(in alloc; "{CHECK_THEN_ACT}\nat 300\ntick 1")?;
-    let table: [(&str, &str, Exit, &str); 10] = [
-        (TWO_CHECKS, TWO_CONDITIONS, Exit::Done, TWO_CHECKS_TRACE),
-        (
-            "<Sequence><Sequence><A/></Sequence><B/></Sequence>",
-            TWO_CONDITIONS,
+fn checks_have_their_traces(rt: HostRuntime) -> Result<(), Fail> {
+    let nested = "<Sequence><Sequence><A/></Sequence><B/></Sequence>";
+    let three = "<Sequence><A/><B/><C/></Sequence>";
+    for (nodes, lines, trace) in [
+        (TWO_CHECKS, TWO_CONDITIONS, TWO_CHECKS_TRACE),
+        (nested, TWO_CONDITIONS, NESTED_TRACE),
+        (three, THREE_CONDITIONS, SECOND_FAILS_TRACE),
+    ] {
+        let mut sink = MemSink::new(rt.alloc(), Vec::new(rt.alloc()));
+        assert_eq!(rt;
+            tick_over(rt.alloc(), nodes, lines, &mut sink)?,
             Exit::Done,
-            "tick 1 at 0\nnode 1 IDLE RUNNING\nnode 2 IDLE RUNNING\ncall 3 start SUCCESS\nnode 3 IDLE SUCCESS\nnode 3 SUCCESS IDLE\nnode 2 RUNNING SUCCESS\ncall 4 start SUCCESS\nnode 4 IDLE SUCCESS\nnode 2 SUCCESS IDLE\nnode 4 SUCCESS IDLE\nnode 1 RUNNING SUCCESS\nroot 1 SUCCESS\nnode 1 SUCCESS IDLE\nfinish 1 at 0\n",
-        ),
-        (TWO_CHECKS, act.as_str(), Exit::Done, done.as_str()),
-        (TWO_CHECKS, CHECK_THEN_ACT, Exit::Done, halted.as_str()),
-        (
-            "<Sequence><A/><B/><C/></Sequence>",
-            "fact x 1\ncondition A is x == 1\ncondition B is x != 1\ncondition C is x == 1\ntick 1",
+            "{nodes}"
+        );
+        assert_eq!(rt; sink.list(), trace.as_bytes(), "{nodes}");
+    }
+    Ok(())
+}
+
+#[test]
+fn actions_have_their_traces(rt: HostRuntime) -> Result<(), Fail> {
+    let act = format!(in rt.alloc(); "{CHECK_THEN_ACT}\nat 300\ntick 1")?;
+    let over = format!(in rt.alloc(); "{HELD_TRACE}{OVER_TRACE}")?;
+    let halted = format!(in rt.alloc(); "{HELD_TRACE}{HALTED_TRACE}")?;
+    for (nodes, lines, trace) in [
+        (TWO_CHECKS, act.as_str(), over.as_str()),
+        (TWO_CHECKS, CHECK_THEN_ACT, halted.as_str()),
+        ("<Fallback><A/><B/></Fallback>", REPLAYED, REPLAYED_TRACE),
+        ("<A/>", EFFECTS, EFFECTS_TRACE),
+    ] {
+        let mut sink = MemSink::new(rt.alloc(), Vec::new(rt.alloc()));
+        assert_eq!(rt;
+            tick_over(rt.alloc(), nodes, lines, &mut sink)?,
             Exit::Done,
-            "tick 1 at 0\nnode 1 IDLE RUNNING\ncall 2 start SUCCESS\nnode 2 IDLE SUCCESS\ncall 3 start FAILURE\nnode 3 IDLE FAILURE\nnode 2 SUCCESS IDLE\nnode 3 FAILURE IDLE\nnode 1 RUNNING FAILURE\nroot 1 FAILURE\nnode 1 FAILURE IDLE\nfinish 1 at 0\n",
-        ),
+            "{nodes}"
+        );
+        assert_eq!(rt; sink.list(), trace.as_bytes(), "{nodes}");
+    }
+    Ok(())
+}
+
+#[test]
+fn trees_and_worlds_are_refused(rt: HostRuntime) -> Result<(), Fail> {
+    for (nodes, lines, exit, line) in [
         (
-            "<Fallback><A/><B/></Fallback>",
-            "action A replay 0 FS\ncondition B is x == 0\ntick 1",
-            Exit::World,
-            "refused world Unbuilt\n",
-        ),
-        (
-            "<Fallback><A/><B/></Fallback>",
-            "fact x 0\naction A replay 0 FS\ncondition B is x == 1\ntick 1\nset x 1\nat 7\nat 7\ntick 1",
-            Exit::Done,
-            "tick 1 at 0\nnode 1 IDLE RUNNING\ncall 2 start FAILURE\nnode 2 IDLE FAILURE\ncall 3 start FAILURE\nnode 3 IDLE FAILURE\nnode 2 FAILURE IDLE\nnode 3 FAILURE IDLE\nnode 1 RUNNING FAILURE\nroot 1 FAILURE\nnode 1 FAILURE IDLE\nset x 1 at 0\nfact x 1\ntick 1 at 7\nnode 1 IDLE RUNNING\ncall 2 start SUCCESS\nnode 2 IDLE SUCCESS\nnode 2 SUCCESS IDLE\nnode 1 RUNNING SUCCESS\nroot 1 SUCCESS\nnode 1 SUCCESS IDLE\nfinish 1 at 7\n",
+            "<Sequence/>",
+            "tick 1",
+            Exit::Tree,
+            "refused tree Unbuilt\n",
         ),
         (
             "<A/>",
-            "fact x 0\nfact y 5\naction A timed 0\nsets y = -3\nsets x = 0\ntick 1",
-            Exit::Done,
-            "tick 1 at 0\ncall 1 start SUCCESS\nnode 1 IDLE SUCCESS\nroot 1 SUCCESS\nnode 1 SUCCESS IDLE\nfact y -3\nfinish 1 at 0\n",
+            "condition A is x == 0",
+            Exit::World,
+            "refused world Unbuilt\n",
         ),
         (
             "<Sequence><Sequence><A/></Sequence><Q/></Sequence>",
@@ -124,17 +254,14 @@ fn traces_are_those_of_the_worked_rows(rt: HostRuntime) -> Result<(), Fail> {
             Exit::World,
             "refused world NoRow 'Q'\n",
         ),
-        (
-            "<Sequence/>",
-            "tick 1",
-            Exit::Tree,
-            "refused tree Unbuilt\n",
-        ),
-    ];
-    for (nodes, lines, exit, trace) in table {
-        let mut sink = MemSink::new(alloc, Vec::new(alloc));
-        assert_eq!(rt; tick_over(alloc, nodes, lines, &mut sink)?, exit, "{nodes}");
-        assert_eq!(rt; sink.list(), trace.as_bytes(), "{nodes}");
+    ] {
+        let mut sink = MemSink::new(rt.alloc(), Vec::new(rt.alloc()));
+        assert_eq!(rt;
+            tick_over(rt.alloc(), nodes, lines, &mut sink)?,
+            exit,
+            "{nodes}"
+        );
+        assert_eq!(rt; sink.list(), line.as_bytes(), "{nodes}");
     }
     Ok(())
 }

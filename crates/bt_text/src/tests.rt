@@ -78,8 +78,24 @@ fn a_world(alloc: Global) -> Result<World, NoMemory> {
     })
 }
 
+// Each cause that prints a word, at a runner and a node.
+const FAULTS: [(u8, u32, Cause); 6] = [
+    (1, 7, Cause::Overflow),
+    (2, 8, Cause::ZeroDivisor),
+    (3, 9, Cause::NotWhole),
+    (4, 10, Cause::Mixed),
+    (5, 11, Cause::TextTooLong),
+    (
+        6,
+        12,
+        Cause::BadPort {
+            port: PortId::DelayMsec,
+        },
+    ),
+];
+
 fn some_notes(alloc: Global) -> Result<Vec<Note>, NoMemory> {
-    let notes = vec![in alloc;
+    let mut notes = vec![in alloc;
         Note::Changed {
             uid: 1,
             old: Status::Idle,
@@ -107,43 +123,14 @@ fn some_notes(alloc: Global) -> Result<Vec<Note>, NoMemory> {
             runner: 1,
             answer: Answer::Running
         },
-        Note::Faulted {
-            runner: 1,
-            uid: 7,
-            cause: Cause::Overflow
-        },
-        Note::Faulted {
-            runner: 2,
-            uid: 8,
-            cause: Cause::ZeroDivisor
-        },
-        Note::Faulted {
-            runner: 3,
-            uid: 9,
-            cause: Cause::NotWhole
-        },
-        Note::Faulted {
-            runner: 4,
-            uid: 10,
-            cause: Cause::Mixed
-        },
-        Note::Faulted {
-            runner: 5,
-            uid: 11,
-            cause: Cause::TextTooLong
-        },
-        Note::Faulted {
-            runner: 6,
-            uid: 12,
-            cause: Cause::BadPort {
-                port: PortId::DelayMsec
-            }
-        },
-        Note::Quenched {
-            runner: 1,
-            uid: 4294967295
-        },
     ]?;
+    for (runner, uid, cause) in FAULTS {
+        notes.push(Note::Faulted { runner, uid, cause })?;
+    }
+    notes.push(Note::Quenched {
+        runner: 1,
+        uid: 4294967295,
+    })?;
     Ok(notes)
 }
 
