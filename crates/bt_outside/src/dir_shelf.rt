@@ -111,6 +111,8 @@ impl<R: Files + Drop> Shelf for DirShelf<R> {
         }
         answer
     }
+
+    ghost failure_counts = { λ _ _ _ counted. counted };
 }
 
 #[cfg(test)]

@@ -52,6 +52,7 @@ impl MemShelf {
 
 impl Shelf for MemShelf {
     ghost use Rattle.std.specs.Prelude.{Some};
+    ghost use Rattle.std.proofs.Common.{rules};
     ghost use Rattle.bt_outside.specs.Files.{file_of};
     ghost use Rattle.bt_outside.specs.declared.shelf.ShelfFault.TheVariants as fault;
 
@@ -82,6 +83,8 @@ impl Shelf for MemShelf {
         }
         self.shelf.read(name, room, limit)
     }
+
+    ghost failure_counts = { Prim.search rules };
 }
 
 #[cfg(test)]

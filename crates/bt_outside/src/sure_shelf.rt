@@ -44,6 +44,7 @@ impl SureShelf {
 
 impl Shelf for SureShelf {
     ghost use Rattle.std.specs.Prelude.{Some};
+    ghost use Rattle.std.proofs.Common.{rules};
     ghost use Rattle.bt_outside.specs.Files.{file_of};
     ghost use Rattle.bt_outside.specs.declared.shelf.ShelfFault.TheVariants as fault;
 
@@ -81,6 +82,8 @@ impl Shelf for SureShelf {
             Ok(())
         }
     }
+
+    ghost failure_counts = { Prim.search rules };
 }
 
 #[cfg(test)]
