@@ -12,9 +12,9 @@ use Rattle.bt_model.specs.declared.note.Note.{Note}
 use Rattle.bt_model.specs.declared.note.Note.TheVariants.{Root}
 use Rattle.bt_model.specs.declared.status.Answer.{Answer}
 use Rattle.bt_model.specs.declared.world.Row.{Row}
-use Rattle.bt_model.specs.Done.{Done, State}
-use Rattle.bt_model.specs.Run.{Runner, Stepped, changed_facts, changed_from, reset_step, root_told, runner_at, settled, stepped, tick_step, ticked}
-use Rattle.bt_model.specs.Visit.{Meaning, change, remembered}
+use Rattle.bt_tick.specs.Done.{Done, State}
+use Rattle.bt_tick.specs.Run.{Runner, Stepped, changed_facts, changed_from, reset_step, root_told, runner_at, settled, stepped, tick_step, ticked}
+use Rattle.bt_tick.specs.Visit.{Meaning, change, remembered}
 use Rattle.bt_main.specs.Runs.{after_step, one_runner}
 use Rattle.bt_tick.specs.Shown.{Shown, plain_state, shown, shows}
 use Rattle.bt_tick.proofs.Follow.{follow_made}

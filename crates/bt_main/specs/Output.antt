@@ -13,9 +13,9 @@ use Rattle.bt_model.specs.declared.block.Block.{Block}
 use Rattle.bt_model.specs.declared.term.Tree.{Tree}
 use Rattle.bt_model.specs.declared.world.World.{World}
 use Rattle.bt_model.specs.Lines.{fact_names, lines_of, quoted}
-use Rattle.bt_model.specs.Run.{run}
+use Rattle.bt_tick.specs.Run.{run}
 use Rattle.bt_model.specs.Terms.{leaf_ids}
-use Rattle.bt_model.specs.Visit.{row_of}
+use Rattle.bt_tick.specs.Visit.{row_of}
 use Rattle.bt_script.specs.declared.stop.Stop.{Stop}
 use Rattle.bt_script.specs.declared.stop.Stop.TheVariants as stop
 use Rattle.bt_model.specs.WorldFile.{WorldFault, world_in}

@@ -4,7 +4,7 @@ ghost use Rattle.bt_main.specs.Answers.{Answers, Gave, IsSpoken};
 ghost use Rattle.bt_main.specs.Output.{joined_output, row_missing, rowless, world_output};
 ghost use Rattle.bt_model.specs.Lines.{quoted};
 ghost use Rattle.bt_model.specs.Terms.{leaf_ids, node_count, own_leaf_id};
-ghost use Rattle.bt_model.specs.Visit.{row_of};
+ghost use Rattle.bt_tick.specs.Visit.{row_of};
 ghost use Rattle.bt_model.specs.WorldFile.{world_in};
 ghost use Rattle.bt_model.specs.declared.term.Term.{out-Term};
 ghost use Rattle.bt_outside.specs.Counts.{Rose};

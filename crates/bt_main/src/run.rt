@@ -1,9 +1,9 @@
 ghost use Rattle.std.specs.Prelude.{◌≡◌, ◌+◌, ◌<◌, ◌^◌, ◌++◌, ◌∷◌, [], IfOk, OnOk, if◌then◌else◌, length, map, slice_get, slice_set};
 ghost use Rattle.std.specs.Option.{option_copied};
 ghost use Rattle.std.specs.Ordering.{int_eq};
-ghost use Rattle.bt_model.specs.Run.{change_step, changed_facts, finish, opening, reset_step, runner_at, settled, step, tick_step};
+ghost use Rattle.bt_tick.specs.Run.{change_step, changed_facts, finish, opening, reset_step, runner_at, settled, step, tick_step};
 ghost use Rattle.bt_model.specs.Terms.{node_count};
-ghost use Rattle.bt_model.specs.Visit.{change, meaning, remembered};
+ghost use Rattle.bt_tick.specs.Visit.{change, meaning, remembered};
 ghost use Rattle.bt_model.specs.declared.memory.Memory.{out-Memory};
 ghost use Rattle.bt_main.specs.Runs.{after_step, one_runner};
 

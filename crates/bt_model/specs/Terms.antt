@@ -1,6 +1,7 @@
 -- What is counted over a term.
-use Rattle.std.specs.Prelude.{ℕ, ◌+◌, List, [], ◌∷◌, ◌++◌, sum, max}
+use Rattle.std.specs.Prelude.{ℕ, ◌+◌, List, [], ◌∷◌, ◌++◌, sum}
 use Rattle.std.specs.List.{flat_map}
+use Rattle.bt_script.specs.Numbers.{greatest}
 use Rattle.bt_model.specs.declared.term.Term.{Term, fold-Term}
 use Rattle.bt_model.specs.declared.term.Kind.{Kind}
 use Rattle.bt_model.specs.declared.term.Kind.TheVariants.{Leaf}
@@ -8,11 +9,6 @@ use Rattle.bt_model.specs.declared.term.Kind.TheVariants.{Leaf}
 -- the nodes of a term: a node, and those of its children
 abbrev pub node_count : Term → ℕ
 node_count = fold-Term ℕ (λ node. 1 + sum node.children)
-
--- the greatest of some numbers, or 0
-abbrev pub greatest : List ℕ → ℕ
-greatest [] = 0
-greatest (n ∷ ns) = max n (greatest ns)
 
 -- the depth of a term: a node without children has depth 1
 abbrev pub depth_of : Term → ℕ

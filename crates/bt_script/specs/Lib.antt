@@ -1,7 +1,12 @@
 pub mod Climb
+pub mod Entries
+pub mod Evaluation
 pub mod Grammar
 pub mod Identifiers
+pub mod Numbers
+pub mod Operators
 pub mod Reading
+pub mod Scripts
 pub mod Spots
 pub mod Stops
 pub mod Tokens

@@ -3,6 +3,7 @@
 
 mod boxed;
 mod build;
+mod cells;
 mod check;
 mod fault;
 mod identifier;
@@ -18,7 +19,8 @@ mod txt;
 mod value;
 
 pub use boxed::Boxed;
-pub use fault::ScriptFault;
+pub use cells::{Cells, Looks, Seen};
+pub use fault::{ExecFault, ScriptFault};
 pub use identifier::{is_identifier, is_identifier_continue, is_identifier_start, is_white};
 pub use items::Items;
 pub use name::Name;

@@ -9,18 +9,20 @@ use Rattle.bt_script.specs.declared.syntax.Expr.{Expr, ind-Expr, map-Expr, fold-
 use Rattle.bt_script.specs.declared.syntax.Expr.TheOpen.{Expr-F, Num, Lit, Look, Group, Unary, Binary, Choose}
 use Rattle.bt_script.specs.declared.syntax.Stmt.{Stmt}
 use Rattle.bt_script.specs.declared.syntax.Stmt.TheVariants.{Create, Assign, Change, Plain}
-use Rattle.bt_script_code.specs.declared.fault.ExecFault.{ExecFault}
+use Rattle.bt_script.specs.declared.fault.ExecFault.{ExecFault}
 use Rattle.bt_script_code.specs.declared.slots.SlotExpr.{SlotExpr, fold-roll-SlotExpr, roll-SlotExpr}
 use Rattle.bt_script_code.specs.declared.slots.SlotExpr.TheOpen as slot
 use Rattle.bt_script_code.specs.declared.codes.Code.{Code}
 use Rattle.bt_script_code.specs.declared.codes.ExprCode.{ExprCode}
 use Rattle.bt_script_code.specs.Codes.{program, formula}
-use Rattle.bt_script_code.specs.Operators.{◌>>=◌, unary_on, combined, chosen}
-use Rattle.bt_script_code.specs.Entries.{entry_of}
-use Rattle.bt_script_code.specs.Evaluation.{eval_step, eval_of, stmt_of, stmts_of, written, if_there, followed}
+use Rattle.bt_script.specs.Operators.{◌>>=◌, unary_on, combined, chosen}
+use Rattle.bt_script.specs.Entries.{entry_of}
+use Rattle.bt_script.specs.Evaluation.{eval_step, eval_of, stmt_of, stmts_of, written, if_there, followed}
 use Rattle.bt_script_code.specs.Programs.{formula_of, program_of}
 use Rattle.bt_script.specs.Grammar.{expr_of}
-use Rattle.bt_script_code.specs.Sources.{reach_step, reach_of, texts_step, texts_of, stmt_reach, greatest}
+use Rattle.bt_script_code.specs.Sources.{reach_step, reach_of, stmt_reach}
+use Rattle.bt_script.specs.Scripts.{texts_step, texts_of}
+use Rattle.bt_script.specs.Numbers.{greatest}
 use Rattle.bt_script_code.specs.SlotTrees.{tree_step, tree_value, tree_reach_step, tree_reach, tree_texts_step, tree_texts, tree_formula, slot_stmt, slot_stmt_reach, slot_stmt_texts, slot_stmts, slot_program, paired, slotted_step, slotted_expr, slotted_stmt}
 
 -- an operator between two trees

@@ -8,7 +8,9 @@ use Rattle.bt_script.specs.declared.syntax.Expr.{Expr, ind-Expr, map-Expr, fold-
 use Rattle.bt_script.specs.declared.syntax.Expr.TheOpen.{Expr-F, Num, Lit, Look, Group, Unary, Binary, Choose}
 use Rattle.bt_script.specs.declared.syntax.Stmt.{Stmt}
 use Rattle.bt_script.specs.declared.syntax.Stmt.TheVariants.{Create, Assign, Change, Plain}
-use Rattle.bt_script_code.specs.Sources.{slot_of, names_step, names_of, stmt_names, IsListed, IsCompilable, reach_step, reach_of, stmt_reach, greatest}
+use Rattle.bt_script_code.specs.Sources.{slot_of, IsListed, IsCompilable, reach_step, reach_of, stmt_reach}
+use Rattle.bt_script.specs.Scripts.{names_step, names_of, stmt_names}
+use Rattle.bt_script.specs.Numbers.{greatest}
 
 -- the parts of a list of which something holds
 All-left : {X : Type 0} (P : X → Type 0) (xs ys : List X) → All P (xs ++ ys) → All P xs

@@ -3,10 +3,12 @@ use Rattle.std.specs.Prelude.{ℕ, List, Option, Result, map, sum}
 use Rattle.bt_script.specs.declared.value.Value.{Value}
 use Rattle.bt_script.specs.declared.syntax.Expr.{Expr}
 use Rattle.bt_script.specs.declared.syntax.Stmt.{Stmt}
-use Rattle.bt_script_code.specs.declared.fault.ExecFault.{ExecFault}
-use Rattle.bt_script_code.specs.Evaluation.{Run, eval_of, exec_of}
+use Rattle.bt_script.specs.declared.fault.ExecFault.{ExecFault}
+use Rattle.bt_script.specs.Evaluation.{Run, eval_of, exec_of}
 use Rattle.bt_script.specs.Grammar.{expr_of}
-use Rattle.bt_script_code.specs.Sources.{reach_of, texts_of, stmt_reach, greatest}
+use Rattle.bt_script_code.specs.Sources.{reach_of, stmt_reach}
+use Rattle.bt_script.specs.Scripts.{texts_of}
+use Rattle.bt_script.specs.Numbers.{greatest}
 
 -- the meaning of an expression's code
 pub record Formula : Type 0 where

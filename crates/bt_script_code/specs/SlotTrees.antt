@@ -12,12 +12,12 @@ use Rattle.bt_script_code.specs.declared.slots.SlotExpr.{SlotExpr, fold-SlotExpr
 use Rattle.bt_script_code.specs.declared.slots.SlotExpr.TheOpen as slot
 use Rattle.bt_script_code.specs.declared.slots.SlotStmt.{SlotStmt}
 use Rattle.bt_script_code.specs.declared.slots.SlotStmt.TheVariants as slotted
-use Rattle.bt_script_code.specs.declared.fault.ExecFault.{ExecFault}
-use Rattle.bt_script_code.specs.Operators.{◌>>=◌, unary_on, in_order, both, either, chosen}
-use Rattle.bt_script_code.specs.Entries.{entry_of}
-use Rattle.bt_script_code.specs.Evaluation.{Run, written, if_there, followed}
+use Rattle.bt_script.specs.declared.fault.ExecFault.{ExecFault}
+use Rattle.bt_script.specs.Operators.{◌>>=◌, unary_on, in_order, both, either, chosen}
+use Rattle.bt_script.specs.Entries.{entry_of}
+use Rattle.bt_script.specs.Evaluation.{Run, written, if_there, followed}
 use Rattle.bt_script_code.specs.Programs.{Formula, Program}
-use Rattle.bt_script_code.specs.Sources.{greatest}
+use Rattle.bt_script.specs.Numbers.{greatest}
 
 abbrev pub tree_step : (ℕ → Result Value ExecFault) → slot.SlotExpr-F (Result Value ExecFault) → Result Value ExecFault
 tree_step look (slot.Num n) = Ok (Int n)

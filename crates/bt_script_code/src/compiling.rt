@@ -3,7 +3,8 @@ ghost use Rattle.std.specs.List.{All};
 ghost use Rattle.bt_script_code.specs.Codes.{program, formula};
 ghost use Rattle.bt_script_code.specs.Programs.{program_of, formula_of};
 ghost use Rattle.bt_script.specs.Grammar.{height};
-ghost use Rattle.bt_script_code.specs.Sources.{slot_of, names_of, IsListed, IsCompilable};
+ghost use Rattle.bt_script_code.specs.Sources.{slot_of, IsListed, IsCompilable};
+ghost use Rattle.bt_script.specs.Scripts.{names_of};
 ghost use Rattle.bt_script_code.specs.SlotTrees.{paired, slotted_expr, slotted_stmt};
 
 use crate::codes::{Code, ExprCode};

@@ -1,14 +1,13 @@
 ghost use Rattle.std.specs.Prelude.{◌≡◌, ◌+◌, ◌<◌, ◌≤◌, length};
 ghost use Rattle.bt_script_code.specs.Codes.{formula};
-ghost use Rattle.bt_script_code.specs.Entries.{look_of};
-ghost use Rattle.bt_script_code.specs.Operators.{int_value};
+ghost use Rattle.bt_script.specs.Entries.{look_of};
+ghost use Rattle.bt_script.specs.Operators.{int_value};
 ghost use Rattle.bt_script_code.specs.SlotTrees.{tree_value, tree_reach, tree_texts};
 
-use crate::cells::{Looks, Seen};
 use crate::codes::ExprCode;
-use crate::fault::ExecFault;
 use crate::operators::{as_number, binary_ints, unary_int};
 use crate::slots::SlotExpr;
+use bt_script::{ExecFault, Looks, Seen};
 
 /// The number that is seen at a slot.
 fn see<L: Looks>(slot: u32, looks: &L) -> Result<i64, ExecFault>

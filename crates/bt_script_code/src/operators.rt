@@ -1,10 +1,9 @@
 ghost use Rattle.std.specs.Prelude.{◌≡◌};
 ghost use Rattle.bt_script.specs.Stops.{Gives};
-ghost use Rattle.bt_script_code.specs.Entries.{GivesInt, IsAnswered, IsInt};
-ghost use Rattle.bt_script_code.specs.Operators.{truth, quotient, compares, on_int, on_ints, on_texts, number_in, unary_on, binary_on};
+ghost use Rattle.bt_script.specs.Entries.{GivesInt, IsAnswered, IsInt};
+ghost use Rattle.bt_script.specs.Operators.{truth, quotient, compares, on_int, on_ints, on_texts, number_in, unary_on, binary_on};
 
-use crate::fault::ExecFault;
-use bt_script::{BinOp, Cmp, Stop, Txt, UnOp, Value};
+use bt_script::{BinOp, Cmp, ExecFault, Stop, Txt, UnOp, Value};
 use std::cmp::Ordering;
 
 /// A truth as a number.

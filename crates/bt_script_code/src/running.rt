@@ -2,16 +2,14 @@ ghost use Rattle.std.specs.Prelude.{◌≡◌, ◌+◌, ◌<◌, ◌≤◌, leng
 ghost use Rattle.std.specs.List.{All};
 ghost use Rattle.bt_script.specs.Stops.{Gives, UnlessMemory};
 ghost use Rattle.bt_script_code.specs.Codes.{program};
-ghost use Rattle.bt_script_code.specs.Entries.{entry_of, HoldsNoText, IsAnswered, GivesInt, IsInt};
-ghost use Rattle.bt_script_code.specs.Evaluation.{written, if_there};
+ghost use Rattle.bt_script.specs.Entries.{entry_of, HoldsNoText, IsAnswered, GivesInt, IsInt};
+ghost use Rattle.bt_script.specs.Evaluation.{written, if_there};
 ghost use Rattle.bt_script_code.specs.SlotTrees.{tree_value, tree_reach, tree_texts, slot_stmt, slot_stmt_reach, slot_stmt_texts};
 
-use crate::cells::Cells;
 use crate::codes::Code;
-use crate::fault::ExecFault;
 use crate::operators::{as_int, as_number, binary_values, unary_value};
 use crate::slots::{SlotExpr, SlotStmt};
-use bt_script::{Stop, Value};
+use bt_script::{Cells, ExecFault, Stop, Value};
 use std::alloc::Global;
 
 /// The value of a slot. Only a text takes memory.

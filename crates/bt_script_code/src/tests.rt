@@ -6,7 +6,7 @@ mod conditions;
 use crate::*;
 use boards::{Board, Window};
 use bt_script::{
-    BinOp, Boxed, Cmp, Expr, Items, Name, NoMemory, Script, Stmt, Stop, Txt, UnOp, Value,
+    BinOp, Boxed, Cmp, ExecFault, Expr, Items, Name, NoMemory, Script, Stmt, Stop, Txt, UnOp, Value,
 };
 use conditions::{expr_fits, is_textless, script_fits, slots_fit};
 use std::alloc::Global;

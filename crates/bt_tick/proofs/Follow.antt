@@ -3,8 +3,8 @@ use Rattle.std.proofs.Common.{◌≡◌, List, ◌++◌, sym, ap, ◌∙◌, app
 use Rattle.bt_model.specs.declared.fault.NodeFault.{NodeFault}
 use Rattle.bt_model.specs.declared.memory.Memory.{Memory}
 use Rattle.bt_model.specs.declared.note.Note.{Note}
-use Rattle.bt_model.specs.Done.{Call, Done, State, behind, carried, follow}
-use Rattle.bt_model.specs.Visit.{past}
+use Rattle.bt_tick.specs.Done.{Call, Done, State, behind, carried, follow}
+use Rattle.bt_tick.specs.Visit.{past}
 use Rattle.bt_tick.specs.Shown.{Shown, shown, shows}
 
 -- notes behind notes

@@ -11,9 +11,9 @@ use Rattle.bt_model.specs.declared.status.RoundEnd.TheVariants.{AtChild}
 use Rattle.bt_model.specs.declared.status.Status.TheVariants as status
 use Rattle.bt_model.specs.declared.term.Term.{Term, out-Term}
 use Rattle.bt_model.specs.declared.world.Row.{Row}
-use Rattle.bt_model.specs.Done.{Done, State, done, follow}
+use Rattle.bt_tick.specs.Done.{Done, State, done, follow}
 use Rattle.bt_model.specs.Terms.{node_count}
-use Rattle.bt_model.specs.Visit.{Meaning, after_round, change, control_visit, index_from, is_seen, meaning, passes, past, remembered, round, seen_from, sizes}
+use Rattle.bt_tick.specs.Visit.{Meaning, after_round, change, control_visit, index_from, is_seen, meaning, passes, past, remembered, round, seen_from, sizes}
 use Rattle.bt_tick.specs.Shown.{Shown, shown, shows}
 use Rattle.bt_tick.proofs.Follow.{follow_made, past_past, past_shown, shown_behind}
 use Rattle.bt_tick.proofs.Sizes.{size_is_count, sizes_are_counts}

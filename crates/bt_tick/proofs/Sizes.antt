@@ -3,7 +3,7 @@ use Rattle.std.proofs.Common.{◌≡◌, ℕ, ◌+◌, ◌<◌, ◌≤◌, List,
 use Rattle.std.proofs.lemmas.List.{drop_more}
 use Rattle.std.proofs.lemmas.List.Sums.{sum_by-cons, sum_by-take-drop, sum-map}
 use Rattle.bt_model.specs.Terms.{node_count}
-use Rattle.bt_model.specs.Visit.{Meaning, meaning, meaning_of_node, sizes}
+use Rattle.bt_tick.specs.Visit.{Meaning, meaning, meaning_of_node, sizes}
 use Rattle.bt_model.specs.declared.term.Term.{Term, Term-F, ind-Term, fold-roll-Term, fold_out-Term, out-Term}
 
 abbrev IsSized : Term → Type 0

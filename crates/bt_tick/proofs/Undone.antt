@@ -11,8 +11,8 @@ use Rattle.bt_model.specs.declared.status.Status.TheVariants as status
 use Rattle.bt_model.specs.declared.term.Kind.{Kind}
 use Rattle.bt_model.specs.declared.term.Kind.TheVariants.{Leaf}
 use Rattle.bt_model.specs.declared.term.Term.{Term, fold_out-Term, out-Term}
-use Rattle.bt_model.specs.Done.{Done, State, follow}
-use Rattle.bt_model.specs.Visit.{Meaning, halted, meaning, meaning_of_node, past, remembered, reset_by, resets}
+use Rattle.bt_tick.specs.Done.{Done, State, follow}
+use Rattle.bt_tick.specs.Visit.{Meaning, halted, meaning, meaning_of_node, past, remembered, reset_by, resets}
 use Rattle.bt_tick.specs.Shown.{Shown, shown, shows}
 use Rattle.bt_tick.proofs.Follow.{follow_made, past_past, past_shown}
 use Rattle.bt_tick.proofs.Sizes.{size_is_count}

@@ -3,7 +3,7 @@ use Rattle.std.specs.Prelude.{ℤ, List, [], ◌++◌, Result, Ok}
 use Rattle.bt_model.specs.declared.fault.NodeFault.{NodeFault}
 use Rattle.bt_model.specs.declared.leaf.Instance.{Instance}
 use Rattle.bt_model.specs.declared.note.Note.{Note}
-use Rattle.bt_model.specs.Done.{Done, State}
+use Rattle.bt_tick.specs.Done.{Done, State}
 
 pub record Shown (A M : Type 0) : Type 0 where
   pub answer : Result A NodeFault

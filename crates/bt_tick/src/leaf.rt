@@ -1,7 +1,7 @@
 ghost use Rattle.std.specs.Prelude.{◌≡◌, ◌-◌, length, nat_lt, slice_index_or};
 ghost use Rattle.std.specs.Option.{option_copied};
-ghost use Rattle.bt_model.specs.Leaf.{answer_of, compared, completed, decided, fact_at, held, lasting, leaf_rule, let_go, outcome_at, start_of, with_effects};
-ghost use Rattle.bt_model.specs.Visit.{fresh, row_of};
+ghost use Rattle.bt_tick.specs.Leaf.{answer_of, compared, completed, decided, fact_at, held, lasting, leaf_rule, let_go, outcome_at, start_of, with_effects};
+ghost use Rattle.bt_tick.specs.Visit.{fresh, row_of};
 
 use bt_model::{Answer, Instance, Phase, Row, RowSort, Set};
 use bt_script::{Cmp, Name};

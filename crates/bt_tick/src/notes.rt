@@ -1,5 +1,5 @@
 ghost use Rattle.std.specs.Prelude.{◌≡◌, ◌++◌, OnOk};
-ghost use Rattle.bt_model.specs.Visit.{change, status_of};
+ghost use Rattle.bt_tick.specs.Visit.{change, status_of};
 
 use bt_model::{Answer, Note, Status};
 use bt_script::NoMemory;

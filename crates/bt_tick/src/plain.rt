@@ -1,6 +1,6 @@
 ghost use Rattle.std.specs.Prelude.{◌≡◌, ◌+◌, ◌<◌, ◌^◌, ℤ, List, IfOk, OnOk, length, replicate};
 ghost use Rattle.bt_model.specs.Terms.{node_count};
-ghost use Rattle.bt_model.specs.Visit.{fresh, idle, meaning};
+ghost use Rattle.bt_tick.specs.Visit.{fresh, idle, meaning};
 ghost use Rattle.bt_tick.specs.Shown.{plain_state, shown, shows};
 
 use crate::nodes::nodes_of;

@@ -1,7 +1,7 @@
 ghost use Rattle.std.specs.Prelude.{◌≡◌, ◌+◌, ◌<◌, ◌^◌, ◌++◌, ℤ, List, OnOk, map, sum, slice_set};
 ghost use Rattle.bt_model.specs.Terms.{node_count};
-ghost use Rattle.bt_model.specs.Leaf.{let_go};
-ghost use Rattle.bt_model.specs.Visit.{halted, instance_at, meaning, resets, with_instance};
+ghost use Rattle.bt_tick.specs.Leaf.{let_go};
+ghost use Rattle.bt_tick.specs.Visit.{halted, instance_at, meaning, resets, with_instance};
 ghost use Rattle.bt_model.specs.declared.memory.Memory.{Memory, out-Memory};
 ghost use Rattle.bt_tick.specs.Shown.{plain_state, shown, shows};
 

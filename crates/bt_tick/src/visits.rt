@@ -1,6 +1,6 @@
 ghost use Rattle.std.specs.Prelude.{◌≡◌, ◌+◌, ◌<◌, ◌^◌, ◌++◌, ◌||◌, ℤ, List, Some, IfOk, OnOk, length, map, sum, take, drop, slice_set};
 ghost use Rattle.bt_model.specs.Terms.{node_count};
-ghost use Rattle.bt_model.specs.Visit.{after_round, called, control_visit, index_from, is_seen, leaf_visit, meaning, over, passes, past, phase_of, round, row_of, seen_from};
+ghost use Rattle.bt_tick.specs.Visit.{after_round, called, control_visit, index_from, is_seen, leaf_visit, meaning, over, passes, past, phase_of, round, row_of, seen_from};
 ghost use Rattle.bt_model.specs.declared.memory.Memory.{Memory, out-Memory};
 ghost use Rattle.bt_model.specs.declared.term.Term.{out-Term};
 ghost use Rattle.bt_tick.specs.Shown.{plain_state, shown, shows};

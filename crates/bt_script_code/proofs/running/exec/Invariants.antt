@@ -1,8 +1,8 @@
 use Rattle.std.proofs.Common.{◌≡◌, ◌≤◌, pos, length, drop, map, sum}
 use Rattle.std.specs.List.{All}
 use Rattle.bt_script.specs.declared.value.Value.TheVariants.{Int}
-use Rattle.bt_script_code.specs.Entries.{HoldsNoText}
-use Rattle.bt_script_code.specs.Sources.{greatest}
+use Rattle.bt_script.specs.Entries.{HoldsNoText}
+use Rattle.bt_script.specs.Numbers.{greatest}
 use Rattle.bt_script_code.specs.SlotTrees.{slot_stmts, slot_stmt_reach, slot_stmt_texts}
 use Rattle.bt_script_code.proofs.running.exec.Given as goal
 

@@ -1,5 +1,5 @@
 use Rattle.std.proofs.Common.{◌≡◌, drop, length}
-use Rattle.bt_model.specs.Leaf.{with_effects}
+use Rattle.bt_tick.specs.Leaf.{with_effects}
 use Rattle.bt_tick.proofs.leaf.apply.Given as goal
 
 -- the effects that are left lead to the facts that all effects lead to

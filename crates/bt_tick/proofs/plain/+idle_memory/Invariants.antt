@@ -1,5 +1,5 @@
 use Rattle.std.proofs.Common.{◌≡◌, take, map}
-use Rattle.bt_model.specs.Visit.{idle}
+use Rattle.bt_tick.specs.Visit.{idle}
 use Rattle.bt_tick.proofs.plain.+idle_memory.Given as goal
 
 abbrev pub invariant-loop-child : goal.invariant-loop-child

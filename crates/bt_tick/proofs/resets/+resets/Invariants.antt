@@ -1,6 +1,6 @@
 use Rattle.std.proofs.Common.{◌≡◌, ◌+◌, ◌≤◌, ℤ, List, length, map, sum, drop, take}
 use Rattle.bt_model.specs.Terms.{node_count}
-use Rattle.bt_model.specs.Visit.{meaning, past, resets}
+use Rattle.bt_tick.specs.Visit.{meaning, past, resets}
 use Rattle.bt_tick.specs.Shown.{plain_state, shown}
 use Rattle.bt_tick.proofs.resets.+resets.Given as goal
 

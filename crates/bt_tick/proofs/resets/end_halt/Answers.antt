@@ -1,6 +1,6 @@
 use Rattle.std.proofs.Common.{ap, sym, ◌∙◌}
 use Rattle.bt_model.specs.declared.term.Kind.{Kind}
-use Rattle.bt_model.specs.Visit.{halted}
+use Rattle.bt_tick.specs.Visit.{halted}
 use Rattle.bt_tick.specs.Shown.{plain_state}
 use Rattle.bt_tick.proofs.resets.end_halt.Goals as goal
 

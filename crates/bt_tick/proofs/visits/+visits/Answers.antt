@@ -2,7 +2,7 @@ use Rattle.std.proofs.Common.{◌≡◌, ◌+◌, ◌<◌, ℕ, List, length, ma
 use Rattle.bt_model.specs.declared.memory.Memory.{out-roll-Memory}
 use Rattle.bt_model.specs.declared.term.Term.{Term}
 use Rattle.bt_model.specs.Terms.{node_count}
-use Rattle.bt_model.specs.Visit.{passes}
+use Rattle.bt_tick.specs.Visit.{passes}
 use Rattle.bt_tick.specs.Shown.{plain_state}
 use Rattle.bt_tick.proofs.Rounds.{control_shown, round_goes, round_stops}
 use Rattle.bt_tick.proofs.Sizes.{counts_here, counts_split, length_counts, node_count_out}

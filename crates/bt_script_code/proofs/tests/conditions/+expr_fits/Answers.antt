@@ -6,7 +6,8 @@ use Rattle.bt_script.specs.declared.syntax.BinOp.{BinOp}
 use Rattle.bt_script.specs.declared.syntax.Expr.{Expr, fold-roll-Expr}
 use Rattle.bt_script.specs.declared.syntax.Expr.TheOpen as layer
 use Rattle.bt_script.specs.declared.syntax.Expr.TheVariants.{Group, Unary, Binary, Choose, rolls-Group, rolls-Unary, rolls-Binary, rolls-Choose}
-use Rattle.bt_script_code.specs.Sources.{names_step, names_of, IsListed}
+use Rattle.bt_script_code.specs.Sources.{IsListed}
+use Rattle.bt_script.specs.Scripts.{names_step, names_of}
 use Rattle.bt_script_code.proofs.tests.conditions.+expr_fits.Goals as goal
 
 names_of-Group : (a : Expr) → names_of (Group a) ≡ names_of a

@@ -6,7 +6,8 @@ use Rattle.bt_script.specs.declared.syntax.Expr.{Expr}
 use Rattle.bt_script.specs.declared.syntax.Stmt.{Stmt}
 use Rattle.bt_script.specs.declared.syntax.Stmt.TheVariants.{Create, Assign, Change, Plain}
 use Rattle.bt_script.specs.Grammar.{height}
-use Rattle.bt_script_code.specs.Sources.{names_of, IsListed, IsArithmetic, IsCompilable}
+use Rattle.bt_script_code.specs.Sources.{IsListed, IsCompilable}
+use Rattle.bt_script.specs.Scripts.{names_of, IsArithmetic}
 use Rattle.bt_script_code.proofs.tests.conditions.stmt_fits.Goals as goal
 
 module _ (slots : List (List ℕ × ℕ)) (whole : Stmt) (name : List ℕ) (e : Expr) (all : All (IsListed slots) (names_of e)) (low : height e ≤ 64) where

@@ -1,9 +1,10 @@
 ghost use Rattle.std.specs.Prelude.{◌≡◌, ◌<◌, List, Option, Some, length, slice_get, slice_set};
 ghost use Rattle.std.specs.Option.{option_copied};
 ghost use Rattle.bt_script.specs.declared.value.Value.{Value};
-ghost use Rattle.bt_script_code.specs.declared.cells.Seen.{Seen};
+ghost use Rattle.bt_script.specs.declared.cells.Seen.{Seen};
 
-use bt_script::{Txt, Value};
+use crate::txt::Txt;
+use crate::value::Value;
 
 /// The entries that a script reads and writes: a value, or none, for each slot below a number of
 /// slots. No call takes memory.

@@ -12,8 +12,8 @@ use Rattle.bt_script.specs.declared.syntax.BinOp.{BinOp}
 use Rattle.bt_script.specs.declared.syntax.BinOp.TheVariants.{Add, Sub, Mul, Div, And, Or, BitAnd, BitOr, BitXor, Compare}
 use Rattle.bt_script.specs.declared.syntax.Cmp.{Cmp}
 use Rattle.bt_script.specs.declared.syntax.Cmp.TheVariants.{Equal, Differ, Less, AtMost, More, AtLeast}
-use Rattle.bt_script_code.specs.declared.fault.ExecFault.{ExecFault}
-use Rattle.bt_script_code.specs.declared.fault.ExecFault.TheVariants.{Overflow, ZeroDivisor, NotWhole, Mixed, TextTooLong}
+use Rattle.bt_script.specs.declared.fault.ExecFault.{ExecFault}
+use Rattle.bt_script.specs.declared.fault.ExecFault.TheVariants.{Overflow, ZeroDivisor, NotWhole, Mixed, TextTooLong}
 
 -- first the one, then the other on its value: the first fault ends it
 infixl 10 ◌>>=◌

@@ -6,9 +6,9 @@ use Rattle.bt_script.specs.declared.syntax.Expr.{Expr, fold-Expr}
 use Rattle.bt_script.specs.declared.syntax.Expr.TheOpen.{Expr-F, Num, Lit, Look, Group, Unary, Binary, Choose}
 use Rattle.bt_script.specs.declared.syntax.Stmt.{Stmt}
 use Rattle.bt_script.specs.declared.syntax.Stmt.TheVariants.{Create, Assign, Change, Plain}
-use Rattle.bt_script_code.specs.declared.fault.ExecFault.{ExecFault}
-use Rattle.bt_script_code.specs.Operators.{◌>>=◌, unary_on, combined, chosen}
-use Rattle.bt_script_code.specs.Entries.{entry_of}
+use Rattle.bt_script.specs.declared.fault.ExecFault.{ExecFault}
+use Rattle.bt_script.specs.Operators.{◌>>=◌, unary_on, combined, chosen}
+use Rattle.bt_script.specs.Entries.{entry_of}
 
 -- one level of an expression, of whose parts it is known what they give
 abbrev pub eval_step : (List ℕ → Result Value ExecFault) → Expr-F (Result Value ExecFault) → Result Value ExecFault

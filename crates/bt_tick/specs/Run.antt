@@ -19,9 +19,9 @@ use Rattle.bt_model.specs.declared.world.Row.{Row}
 use Rattle.bt_model.specs.declared.world.What.{What}
 use Rattle.bt_model.specs.declared.world.What.TheVariants.{Tick, Halt, Change}
 use Rattle.bt_model.specs.declared.world.World.{World}
-use Rattle.bt_model.specs.Done.{Done, Entry, State, follow}
+use Rattle.bt_tick.specs.Done.{Done, Entry, State, follow}
 use Rattle.bt_model.specs.Terms.{node_count}
-use Rattle.bt_model.specs.Visit.{Meaning, meaning, idle, fresh, remembered, change}
+use Rattle.bt_tick.specs.Visit.{Meaning, meaning, idle, fresh, remembered, change}
 
 -- what a runner keeps between events
 pub record Runner : Type 0 where

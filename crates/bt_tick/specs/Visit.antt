@@ -19,8 +19,8 @@ use Rattle.bt_model.specs.declared.term.Kind.{Kind}
 use Rattle.bt_model.specs.declared.term.Kind.TheVariants.{Sequence, Fallback, Leaf}
 use Rattle.bt_model.specs.declared.term.Term.{Term, Term-F, fold-Term}
 use Rattle.bt_model.specs.declared.world.Row.{Row}
-use Rattle.bt_model.specs.Done.{Done, State, done, behind, follow}
-use Rattle.bt_model.specs.Leaf.{Reply, leaf_rule, let_go}
+use Rattle.bt_tick.specs.Done.{Done, State, done, behind, follow}
+use Rattle.bt_tick.specs.Leaf.{Reply, leaf_rule, let_go}
 
 -- what a term means: how many nodes it has, what a reset and what a visit of it do, from its uid,
 -- its memory and the state on, a visit over the rows of a world and at a moment

@@ -4,10 +4,10 @@ use Rattle.bt_script.specs.declared.value.Value.{Value}
 use Rattle.bt_script.specs.declared.value.Value.TheVariants.{Int, Text}
 use Rattle.bt_script.specs.declared.stop.Stop.{Stop}
 use Rattle.bt_script.specs.declared.stop.Stop.TheVariants as stop
-use Rattle.bt_script_code.specs.declared.cells.Seen.{Seen}
-use Rattle.bt_script_code.specs.declared.cells.Seen.TheVariants as seen
-use Rattle.bt_script_code.specs.declared.fault.ExecFault.{ExecFault}
-use Rattle.bt_script_code.specs.declared.fault.ExecFault.TheVariants.{NoEntry, Mixed}
+use Rattle.bt_script.specs.declared.cells.Seen.{Seen}
+use Rattle.bt_script.specs.declared.cells.Seen.TheVariants as seen
+use Rattle.bt_script.specs.declared.fault.ExecFault.{ExecFault}
+use Rattle.bt_script.specs.declared.fault.ExecFault.TheVariants.{NoEntry, Mixed}
 
 -- the value of an entry that is there
 abbrev pub present : ℕ → Option Value → Result Value ExecFault

@@ -1,0 +1,61 @@
+-- What stands in expressions and statements: names, text literals, and what the reader grants of them.
+use Rattle.std.specs.Prelude.{ℕ, ◌+◌, List, [], ◌∷◌, ◌++◌}
+use Rattle.bt_script.specs.declared.syntax.BinOp.{BinOp}
+use Rattle.bt_script.specs.declared.syntax.BinOp.TheVariants.{Add, Sub, Mul, Div, And, Or, BitAnd, BitOr, BitXor, Compare}
+use Rattle.bt_script.specs.declared.syntax.Expr.{Expr, fold-Expr}
+use Rattle.bt_script.specs.declared.syntax.Expr.TheOpen.{Expr-F, Num, Lit, Look, Group, Unary, Binary, Choose}
+use Rattle.bt_script.specs.declared.syntax.Stmt.{Stmt}
+use Rattle.bt_script.specs.declared.syntax.Stmt.TheVariants.{Create, Assign, Change, Plain}
+
+abbrev pub names_step : Expr-F (List (List ℕ)) → List (List ℕ)
+names_step (Num n) = []
+names_step (Lit t) = []
+names_step (Look name) = name ∷ []
+names_step (Group a) = a
+names_step (Unary op a) = a
+names_step (Binary op a b) = a ++ b
+names_step (Choose a b c) = a ++ b ++ c
+
+-- the names that an expression looks at
+abbrev pub names_of : Expr → List (List ℕ)
+names_of = fold-Expr (List (List ℕ)) names_step
+
+-- the names of a statement
+abbrev pub stmt_names : Stmt → List (List ℕ)
+stmt_names (Create name e) = name ∷ names_of e
+stmt_names (Assign name e) = name ∷ names_of e
+stmt_names (Change op name e) = name ∷ names_of e
+stmt_names (Plain e) = names_of e
+
+abbrev pub texts_step : Expr-F ℕ → ℕ
+texts_step (Num n) = 0
+texts_step (Lit t) = 1
+texts_step (Look name) = 0
+texts_step (Group a) = a
+texts_step (Unary op a) = a
+texts_step (Binary op a b) = a + b
+texts_step (Choose a b c) = a + b + c
+
+-- how many text literals stand in an expression
+abbrev pub texts_of : Expr → ℕ
+texts_of = fold-Expr ℕ texts_step
+
+-- one of the four operators of arithmetic
+abbrev pub IsArithmetic : BinOp → Type 0
+IsArithmetic Add = Unit {0}
+IsArithmetic Sub = Unit {0}
+IsArithmetic Mul = Unit {0}
+IsArithmetic Div = Unit {0}
+IsArithmetic And = ⊥
+IsArithmetic Or = ⊥
+IsArithmetic BitAnd = ⊥
+IsArithmetic BitOr = ⊥
+IsArithmetic BitXor = ⊥
+IsArithmetic (Compare c) = ⊥
+
+-- a statement changes an entry by arithmetic alone
+abbrev pub ChangesByArithmetic : Stmt → Type 0
+ChangesByArithmetic (Create name e) = Unit {0}
+ChangesByArithmetic (Assign name e) = Unit {0}
+ChangesByArithmetic (Change op name e) = IsArithmetic op
+ChangesByArithmetic (Plain e) = Unit {0}
