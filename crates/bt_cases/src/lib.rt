@@ -1,0 +1,5 @@
+//! Tests alone: for each public call of the libraries a table of inputs and wanted outputs.
+#![tactic(auto)]
+
+#[cfg(test)]
+mod script;
