@@ -2,4 +2,8 @@
 #![tactic(auto)]
 
 #[cfg(test)]
+mod outside;
+#[cfg(test)]
 mod script;
+#[cfg(test)]
+mod script_code;

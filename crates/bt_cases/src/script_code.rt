@@ -1,0 +1,186 @@
+//! What scripts and expressions give over entries and looks.
+ghost use Rattle.std.specs.Prelude.{◌≤◌, length};
+
+mod boards;
+mod conditions;
+
+use boards::{Board, Window};
+use bt_script::{Expr, Name, NoMemory, Script, Stop, Value, parse_expr, parse_script};
+use bt_script_code::{ExecFault, Seen, compile, compile_expr, exec, number};
+use conditions::{expr_fits, is_textless, script_fits, slots_fit};
+use std::alloc::{AllocError, Global};
+use std::process::Abort;
+use std::test::Fail;
+
+/// The slots of these names. The first pair of a name counts.
+fn slots_of(alloc: Global, pairs: &[(&str, u32)]) -> Result<Vec<(Name, u32)>, NoMemory> {
+    let mut slots = Vec::new(alloc);
+    for (name, slot) in pairs {
+        slots.push((Name::of(Vec::from_slice(alloc, name.as_bytes())?), *slot))?;
+    }
+    Ok(slots)
+}
+
+/// Compiles a script and runs it over the entries of `y` and `x`.
+fn run_script(
+    rt: &impl Abort,
+    alloc: Global,
+    script: &Script,
+    board: &mut Board,
+) -> Result<Value, Stop<ExecFault>> {
+    let slots = slots_of(alloc, &[("x", 1), ("y", 0), ("x", 0)])?;
+    let stmts = script.stmts.list();
+    let size = board.entries.len();
+    assert!(rt; stmts.len() > 0);
+    assert!(rt; script_fits(stmts, slots.as_slice()));
+    assert!(rt; slots_fit(slots.as_slice(), size));
+    let code = compile(alloc, script, slots.as_slice())?;
+    exec(alloc, &code, board)
+}
+
+/// Reads a script and runs it.
+fn run(
+    rt: &impl Abort,
+    alloc: Global,
+    text: &str,
+    board: &mut Board,
+) -> Result<Value, Stop<ExecFault>> {
+    match parse_script(alloc, text.as_bytes()) {
+        Ok(script) => run_script(rt, alloc, &script, board),
+        Err(_) => Err(Stop::NoMemory),
+    }
+}
+
+/// A number, a text by its length and its front, or a fault.
+fn outcome_text(
+    alloc: Global,
+    outcome: &Result<Value, Stop<ExecFault>>,
+) -> Result<String, AllocError> {
+    match outcome {
+        Ok(Value::Int(n)) => format!(in alloc; "{n}"),
+        Ok(Value::Text(text)) => {
+            let bytes = text.list();
+            let front = str::from_utf8(&bytes[..bytes.len().min(3)]).unwrap_or("?");
+            format!(in alloc; "{} bytes {front}", bytes.len())
+        }
+        Err(Stop::Fault(fault)) => format!(in alloc; "{fault:?}"),
+        Err(Stop::NoMemory) => format!(in alloc; "no memory"),
+    }
+}
+
+/// What a script gives over no entries.
+fn script_text(rt: &impl Abort, alloc: Global, text: &str) -> Result<String, AllocError> {
+    let mut board = Board::empty(alloc)?;
+    let outcome = run(rt, alloc, text, &mut board);
+    outcome_text(alloc, &outcome)
+}
+
+#[test]
+fn scripts_give_values_and_faults(rt: HostRuntime) -> Result<(), Fail> {
+    let alloc = rt.alloc();
+    for (text, want) in [
+        ("-9223372036854775807 - 1", "-9223372036854775808"),
+        ("(-9223372036854775807 - 1) / -1", "Overflow"),
+        ("-(-9223372036854775807 - 1)", "Overflow"),
+        ("7 / 2", "NotWhole"),
+        ("7 / 0", "ZeroDivisor"),
+        ("-6 / 2", "-3"),
+        ("~0", "-1"),
+        ("!0", "1"),
+        ("-1 ^ 5", "-6"),
+        ("'a' < 'b'", "1"),
+        ("'b' < 'aa'", "0"),
+        ("'a' == 1", "Mixed"),
+        ("'ab' + 'c'", "3 bytes abc"),
+        ("0 && 'a'", "0"),
+        ("2 && 'a'", "Mixed"),
+        ("'a' || 1", "Mixed"),
+        ("0 || 'a'", "Mixed"),
+        ("1 || 'a'", "1"),
+        ("1 ? 'a' : 1 / 0", "1 bytes a"),
+        ("x = 1", "NoEntry { slot: 1 }"),
+        ("x := 0; x = 1", "1"),
+        ("x := 1; x += y", "NoEntry { slot: 0 }"),
+    ] {
+        assert_eq!(rt; script_text(&rt, alloc, text)?.as_str(), want, "{text}");
+    }
+    Ok(())
+}
+
+#[test]
+fn texts_have_at_most_4096_bytes(rt: HostRuntime) -> Result<(), Fail> {
+    let alloc = rt.alloc();
+    for (length, joined, want) in [
+        (1365, "x + x + x + 'b'", "4096 bytes aaa"),
+        (1024, "x + x + x + x + 'b'", "TextTooLong"),
+    ] {
+        let text = format!(in alloc; "x := '{}'; {joined}", "a".repeat(alloc, length)?)?;
+        assert_eq!(rt;
+            script_text(&rt, alloc, text.as_str())?.as_str(),
+            want,
+            "{joined}"
+        );
+    }
+    Ok(())
+}
+
+/// The entries of `y` and `x` that a script leaves of none.
+fn entries_text(rt: &impl Abort, alloc: Global, text: &str) -> Result<String, AllocError> {
+    let mut board = Board::empty(alloc)?;
+    let _ = run(rt, alloc, text, &mut board);
+    format!(in alloc; "{:?}", board.entries.as_slice())
+}
+
+#[test]
+fn writes_before_a_fault_stand(rt: HostRuntime) -> Result<(), Fail> {
+    let alloc = rt.alloc();
+    for (text, want) in [
+        ("x = 1", "[None, None]"),
+        ("x := 1; x += y", "[None, Some(Int(1))]"),
+        ("x := 1; x += y; y := 2", "[None, Some(Int(1))]"),
+        ("y := 2; x := 1; x += y", "[Some(Int(2)), Some(Int(3))]"),
+    ] {
+        assert_eq!(rt; entries_text(&rt, alloc, text)?.as_str(), want, "{text}");
+    }
+    Ok(())
+}
+
+/// The number of an expression over the looks `n`, `none` and `t`.
+fn number_over(
+    rt: &impl Abort,
+    alloc: Global,
+    expr: &Expr,
+    window: &Window,
+) -> Result<Result<i64, ExecFault>, NoMemory> {
+    let slots = slots_of(alloc, &[("n", 0), ("none", 1), ("t", 2)])?;
+    let size = window.sights.len();
+    assert!(rt; expr_fits(expr, slots.as_slice(), 64));
+    assert!(rt; slots_fit(slots.as_slice(), size));
+    assert!(rt; is_textless(expr));
+    let code = compile_expr(alloc, expr, slots.as_slice())?;
+    Ok(number(&code, window))
+}
+
+/// What an expression gives over a number, nothing and a text.
+fn number_text(rt: &impl Abort, alloc: Global, text: &str) -> Result<String, NoMemory> {
+    let window = Window {
+        sights: vec![in alloc; Seen::Int(4), Seen::Absent, Seen::Text]?,
+    };
+    match parse_expr(alloc, text.as_bytes()) {
+        Ok(expr) => Ok(format!(in alloc; "{:?}", number_over(rt, alloc, &expr, &window)?)?),
+        Err(_) => Err(NoMemory),
+    }
+}
+
+#[test]
+fn looks_give_numbers(rt: HostRuntime) -> Result<(), Fail> {
+    let alloc = rt.alloc();
+    for (text, want) in [
+        ("n + 1", "Ok(5)"),
+        ("none", "Err(NoEntry { slot: 1 })"),
+        ("t + none", "Err(Mixed)"),
+    ] {
+        assert_eq!(rt; number_text(&rt, alloc, text)?.as_str(), want, "{text}");
+    }
+    Ok(())
+}
