@@ -1,5 +1,5 @@
 -- Statements are written with tokens of their own.
-use Rattle.std.proofs.Common.{◌≡◌, ℕ, zero, suc, ◌<◌, ◌≤◌, Bool, true, ◌&&◌, cond, List, [], ◌∷◌, ◌++◌, map, Option, Some, None, refl, ap, sym, ◌∙◌, subst, arith, append-nil}
+use Rattle.std.proofs.Common.{◌≡◌, ℕ, zero, suc, ◌<◌, ◌≤◌, Bool, true, ◌&&◌, cond, List, [], ◌∷◌, ◌++◌, map, Option, Some, None, refl, ap, sym, ◌∙◌, subst, arith, append-nil, ◌⊎◌, inl, inr}
 use Rattle.std.specs.List.{list_all}
 use Rattle.bt_script.specs.declared.syntax.BinOp.{BinOp}
 use Rattle.bt_script.specs.declared.syntax.Expr.{Expr, roll-Expr}
@@ -19,22 +19,29 @@ Rests [] = Unit {0}
 Rests (Semicolon ∷ ts) = Unit {0}
 Rests (t ∷ ts) = ⊥
 
+rests-are : (ts : List Token) → Rests ts → (ts ≡ []) ⊎ ((us : List Token) × (ts ≡ Semicolon ∷ us))
+rests-are [] h = inl refl
+rests-are (Number n ∷ ts) h = absurd h
+rests-are (Text t ∷ ts) h = absurd h
+rests-are (Word n ∷ ts) h = absurd h
+rests-are (Operator op ∷ ts) h = absurd h
+rests-are (Bang ∷ ts) h = absurd h
+rests-are (Tilde ∷ ts) h = absurd h
+rests-are (Question ∷ ts) h = absurd h
+rests-are (Colon ∷ ts) h = absurd h
+rests-are (Open ∷ ts) h = absurd h
+rests-are (Close ∷ ts) h = absurd h
+rests-are (Semicolon ∷ ts) h = inr (ts, refl)
+rests-are (Creates ∷ ts) h = absurd h
+rests-are (Assigns ∷ ts) h = absurd h
+rests-are (Changes op ∷ ts) h = absurd h
+
 pub stops-from_rests : (ts : List Token) → Rests ts → Stops 0 ts
-stops-from_rests [] h = tt
-stops-from_rests (Number n ∷ ts) h = tt
-stops-from_rests (Text t ∷ ts) h = tt
-stops-from_rests (Word n ∷ ts) h = tt
-stops-from_rests (Operator op ∷ ts) h = absurd h
-stops-from_rests (Bang ∷ ts) h = tt
-stops-from_rests (Tilde ∷ ts) h = tt
-stops-from_rests (Question ∷ ts) h = absurd h
-stops-from_rests (Colon ∷ ts) h = tt
-stops-from_rests (Open ∷ ts) h = tt
-stops-from_rests (Close ∷ ts) h = tt
-stops-from_rests (Semicolon ∷ ts) h = tt
-stops-from_rests (Creates ∷ ts) h = tt
-stops-from_rests (Assigns ∷ ts) h = tt
-stops-from_rests (Changes op ∷ ts) h = tt
+stops-from_rests ts h =
+    elim (rests-are ts h) [
+      | inl none ↦ subst (Stops 0) (sym none) tt
+      | inr some ↦ subst (Stops 0) (sym some.1) tt
+    ]
 
 -- an expression is found, however high it is
 found-whole : (e : Expr) (rest : List Token) → fits e 0 ≡ true → Rests rest → climb (height e) 0 (spelled e ++ rest) ≡ Some (e, rest)
@@ -59,21 +66,11 @@ expr-not_sign e rest name t ts fit r not_end stop same =
 
 not-found : (limit : ℕ) (ts : List Token) → Rests ts → climb limit 0 ts ≡ None
 not-found zero ts r = refl
-not-found (suc left) [] r = refl
-not-found (suc left) (Number n ∷ ts) r = absurd r
-not-found (suc left) (Text t ∷ ts) r = absurd r
-not-found (suc left) (Word n ∷ ts) r = absurd r
-not-found (suc left) (Operator op ∷ ts) r = absurd r
-not-found (suc left) (Bang ∷ ts) r = absurd r
-not-found (suc left) (Tilde ∷ ts) r = absurd r
-not-found (suc left) (Question ∷ ts) r = absurd r
-not-found (suc left) (Colon ∷ ts) r = absurd r
-not-found (suc left) (Open ∷ ts) r = absurd r
-not-found (suc left) (Close ∷ ts) r = absurd r
-not-found (suc left) (Semicolon ∷ ts) r = refl
-not-found (suc left) (Creates ∷ ts) r = absurd r
-not-found (suc left) (Assigns ∷ ts) r = absurd r
-not-found (suc left) (Changes op ∷ ts) r = absurd r
+not-found (suc left) ts r =
+    elim (rests-are ts r) [
+      | inl none ↦ ap (climb (suc left) 0) none
+      | inr some ↦ ap (climb (suc left) 0) some.1
+    ]
 
 word-not_rest : (ts us : List Token) (name : List ℕ) → Rests ts → ts ≡ Word name ∷ us → ⊥
 word-not_rest ts us name r same = subst Rests same r

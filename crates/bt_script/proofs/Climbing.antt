@@ -16,19 +16,35 @@ use Rattle.bt_script.specs.Climb.{Found, then_found, closed, negated, first, Nex
 use Rattle.bt_script.proofs.Bools.{both}
 use Rattle.bt_script.proofs.Trees.{induct, spelled_is, fits_is, height_is}
 
+-- what stands in front, as far as it may go on an expression before it
+pub data Front : Type 0 where
+  Sign : BinOp → Front
+  Mark : Front
+  Other : Front
+
+abbrev pub front_of : List Token → Front
+front_of [] = Other
+front_of (Operator op ∷ ts) = Sign op
+front_of (Question ∷ ts) = Mark
+front_of (t ∷ ts) = Other
+
+abbrev pub stops_before : ℕ → Front → Type 0
+stops_before place (Sign op) = level op < place
+stops_before place Mark = 0 < place
+stops_before place Other = Unit {0}
+
+abbrev pub ends_before : ℕ → Front → Type 0
+ends_before place (Sign op) = level op ≤ place
+ends_before place Mark = 0 < place
+ends_before place Other = Unit {0}
+
 -- nothing that goes on an expression at this level stands in front
 abbrev pub Stops : ℕ → List Token → Type 0
-Stops place [] = Unit {0}
-Stops place (Operator op ∷ ts) = level op < place
-Stops place (Question ∷ ts) = 0 < place
-Stops place (t ∷ ts) = Unit {0}
+Stops place ts = stops_before place (front_of ts)
 
 -- what stands in front may go on an expression of this level as a whole
 abbrev pub Ends_at : ℕ → List Token → Type 0
-Ends_at place [] = Unit {0}
-Ends_at place (Operator op ∷ ts) = level op ≤ place
-Ends_at place (Question ∷ ts) = 0 < place
-Ends_at place (t ∷ ts) = Unit {0}
+Ends_at place ts = ends_before place (front_of ts)
 
 pub level_some : (op : BinOp) → (0 < level op) × (level op < 10)
 level_some Add = (omega arith, omega arith)
@@ -81,75 +97,39 @@ next-stops place (Creates ∷ ts) h = refl
 next-stops place (Assigns ∷ ts) h = refl
 next-stops place (Changes op ∷ ts) h = refl
 
+stops-ten : (f : Front) → stops_before 10 f
+stops-ten (Sign op) = (level_some op).1
+stops-ten Mark = omega arith
+stops-ten Other = tt
+
 pub Stops-ten : (ts : List Token) → Stops 10 ts
-Stops-ten [] = tt
-Stops-ten (Operator op ∷ ts) = (level_some op).1
-Stops-ten (Question ∷ ts) = omega arith
-Stops-ten (Number n ∷ ts) = tt
-Stops-ten (Text n ∷ ts) = tt
-Stops-ten (Word n ∷ ts) = tt
-Stops-ten (Bang ∷ ts) = tt
-Stops-ten (Tilde ∷ ts) = tt
-Stops-ten (Colon ∷ ts) = tt
-Stops-ten (Open ∷ ts) = tt
-Stops-ten (Close ∷ ts) = tt
-Stops-ten (Semicolon ∷ ts) = tt
-Stops-ten (Creates ∷ ts) = tt
-Stops-ten (Assigns ∷ ts) = tt
-Stops-ten (Changes op ∷ ts) = tt
+Stops-ten ts = stops-ten (front_of ts)
+
+ends-from_stops : (place : ℕ) (f : Front) → stops_before place f → ends_before place f
+ends-from_stops place (Sign op) h = omega arith
+ends-from_stops place Mark h = h
+ends-from_stops place Other h = tt
 
 Ends-from_stops : (place : ℕ) (ts : List Token) → Stops place ts → Ends_at place ts
-Ends-from_stops place [] h = tt
-Ends-from_stops place (Operator op ∷ ts) h = omega arith
-Ends-from_stops place (Question ∷ ts) h = h
-Ends-from_stops place (Number n ∷ ts) h = tt
-Ends-from_stops place (Text n ∷ ts) h = tt
-Ends-from_stops place (Word n ∷ ts) h = tt
-Ends-from_stops place (Bang ∷ ts) h = tt
-Ends-from_stops place (Tilde ∷ ts) h = tt
-Ends-from_stops place (Colon ∷ ts) h = tt
-Ends-from_stops place (Open ∷ ts) h = tt
-Ends-from_stops place (Close ∷ ts) h = tt
-Ends-from_stops place (Semicolon ∷ ts) h = tt
-Ends-from_stops place (Creates ∷ ts) h = tt
-Ends-from_stops place (Assigns ∷ ts) h = tt
-Ends-from_stops place (Changes op ∷ ts) h = tt
+Ends-from_stops place ts = ends-from_stops place (front_of ts)
+
+stops-tighter : (place tight : ℕ) (f : Front) → place < tight → ends_before place f → stops_before tight f
+stops-tighter place tight (Sign op) less h = omega arith
+stops-tighter place tight Mark less h = omega arith
+stops-tighter place tight Other less h = tt
 
 -- behind a part of a tighter level
 Stops-tighter : (place tight : ℕ) (ts : List Token) → place < tight → Ends_at place ts → Stops tight ts
-Stops-tighter place tight [] less h = tt
-Stops-tighter place tight (Operator op ∷ ts) less h = omega arith
-Stops-tighter place tight (Question ∷ ts) less h = omega arith
-Stops-tighter place tight (Number n ∷ ts) less h = tt
-Stops-tighter place tight (Text n ∷ ts) less h = tt
-Stops-tighter place tight (Word n ∷ ts) less h = tt
-Stops-tighter place tight (Bang ∷ ts) less h = tt
-Stops-tighter place tight (Tilde ∷ ts) less h = tt
-Stops-tighter place tight (Colon ∷ ts) less h = tt
-Stops-tighter place tight (Open ∷ ts) less h = tt
-Stops-tighter place tight (Close ∷ ts) less h = tt
-Stops-tighter place tight (Semicolon ∷ ts) less h = tt
-Stops-tighter place tight (Creates ∷ ts) less h = tt
-Stops-tighter place tight (Assigns ∷ ts) less h = tt
-Stops-tighter place tight (Changes op ∷ ts) less h = tt
+Stops-tighter place tight ts = stops-tighter place tight (front_of ts)
+
+stops-zero : (f : Front) → ends_before 0 f → stops_before 0 f
+stops-zero (Sign op) h = let some = (level_some op).0 in absurd (omega arith)
+stops-zero Mark h = absurd (omega arith)
+stops-zero Other h = tt
 
 -- behind the last part of a choice
 Stops-zero : (ts : List Token) → Ends_at 0 ts → Stops 0 ts
-Stops-zero [] h = tt
-Stops-zero (Operator op ∷ ts) h = let some = (level_some op).0 in absurd (omega arith)
-Stops-zero (Question ∷ ts) h = absurd (omega arith)
-Stops-zero (Number n ∷ ts) h = tt
-Stops-zero (Text n ∷ ts) h = tt
-Stops-zero (Word n ∷ ts) h = tt
-Stops-zero (Bang ∷ ts) h = tt
-Stops-zero (Tilde ∷ ts) h = tt
-Stops-zero (Colon ∷ ts) h = tt
-Stops-zero (Open ∷ ts) h = tt
-Stops-zero (Close ∷ ts) h = tt
-Stops-zero (Semicolon ∷ ts) h = tt
-Stops-zero (Creates ∷ ts) h = tt
-Stops-zero (Assigns ∷ ts) h = tt
-Stops-zero (Changes op ∷ ts) h = tt
+Stops-zero ts = stops-zero (front_of ts)
 
 -- the expression where it is no higher than this
 abbrev pub low : ℕ → Expr → List Token → Option Found

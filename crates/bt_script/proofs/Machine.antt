@@ -16,7 +16,7 @@ use Rattle.bt_script.specs.declared.check.Stage.{Stage}
 use Rattle.bt_script.specs.declared.check.Stage.TheVariants.{Blank, Start, Named, Before, Behind}
 use Rattle.bt_script.specs.Grammar.{changes, spelled, spelled_stmt, spelled_slot, separated, kept, fits, fits_stmt, IsExpr, IsStmts}
 use Rattle.bt_script.specs.Reading.{bare, Begins}
-use Rattle.bt_script.specs.Spots.{Spot, LeadsNowhere, step, closing_step, change_step, then_spot, run, may_end, ends_at, only_whole, nothing_open}
+use Rattle.bt_script.specs.Spots.{Spot, LeadsNowhere, step, start_step, closing_step, change_step, then_spot, run, may_end, ends_at, only_whole, nothing_open}
 use Rattle.bt_script.proofs.Bools.{both}
 use Rattle.bt_script.proofs.Trees.{induct, spelled_is}
 
@@ -101,39 +101,35 @@ named-more (Creates ∷ ts) h = absurd (cc)
 named-more (Assigns ∷ ts) h = absurd (cc)
 named-more (Changes op ∷ ts) h = absurd (cc)
 
-start-more : (ts : List Token) → fine (run ts (Before, [])) ≡ true → fine (run ts (Start, [])) ≡ true
-start-more [] h = absurd (cc)
-start-more (Number n ∷ ts) h = h
-start-more (Text t ∷ ts) h = h
-start-more (Word n ∷ ts) h = named-more ts h
-start-more (Operator op ∷ ts) h = h
-start-more (Bang ∷ ts) h = h
-start-more (Tilde ∷ ts) h = h
-start-more (Question ∷ ts) h = h
-start-more (Colon ∷ ts) h = h
-start-more (Open ∷ ts) h = h
-start-more (Close ∷ ts) h = h
-start-more (Semicolon ∷ ts) h = absurd (cc)
-start-more (Creates ∷ ts) h = h
-start-more (Assigns ∷ ts) h = h
-start-more (Changes op ∷ ts) h = h
+-- where tokens lead from the start of a statement
+abbrev from_start : Stage → List Token → Option Spot
+from_start stage [] = Some (stage, [])
+from_start stage (t ∷ ts) = then_spot (start_step stage [] t) (run ts)
 
-blank-more : (ts : List Token) → fine (run ts (Before, [])) ≡ true → fine (run ts (Blank, [])) ≡ true
-blank-more [] h = absurd (cc)
-blank-more (Number n ∷ ts) h = h
-blank-more (Text t ∷ ts) h = h
-blank-more (Word n ∷ ts) h = named-more ts h
-blank-more (Operator op ∷ ts) h = h
-blank-more (Bang ∷ ts) h = h
-blank-more (Tilde ∷ ts) h = h
-blank-more (Question ∷ ts) h = h
-blank-more (Colon ∷ ts) h = h
-blank-more (Open ∷ ts) h = h
-blank-more (Close ∷ ts) h = h
-blank-more (Semicolon ∷ ts) h = absurd (cc)
-blank-more (Creates ∷ ts) h = h
-blank-more (Assigns ∷ ts) h = h
-blank-more (Changes op ∷ ts) h = h
+from_start-Start : (ts : List Token) → run ts (Start, []) ≡ from_start Start ts
+from_start-Start [] = refl
+from_start-Start (t ∷ ts) = refl
+
+from_start-Blank : (ts : List Token) → run ts (Blank, []) ≡ from_start Blank ts
+from_start-Blank [] = refl
+from_start-Blank (t ∷ ts) = refl
+
+start-more : (stage : Stage) (ts : List Token) → fine (run ts (Before, [])) ≡ true → fine (from_start stage ts) ≡ true
+start-more stage [] h = absurd (cc)
+start-more stage (Number n ∷ ts) h = h
+start-more stage (Text t ∷ ts) h = h
+start-more stage (Word n ∷ ts) h = named-more ts h
+start-more stage (Operator op ∷ ts) h = h
+start-more stage (Bang ∷ ts) h = h
+start-more stage (Tilde ∷ ts) h = h
+start-more stage (Question ∷ ts) h = h
+start-more stage (Colon ∷ ts) h = h
+start-more stage (Open ∷ ts) h = h
+start-more stage (Close ∷ ts) h = h
+start-more stage (Semicolon ∷ ts) h = absurd (cc)
+start-more stage (Creates ∷ ts) h = h
+start-more stage (Assigns ∷ ts) h = h
+start-more stage (Changes op ∷ ts) h = h
 
 expr-fine : (e : Expr) (rest : List Token) → fine (run rest (Behind, [])) ≡ true → fine (run (spelled e ++ rest) (Before, [])) ≡ true
 expr-fine e rest h = ap fine (runs e [] rest) ∙ h
@@ -142,17 +138,17 @@ change-fine : (b : Bool) (ts : List Token) → b ≡ true → fine (run ts (Befo
 change-fine true ts h k = k
 change-fine false ts h k = absurd (cc)
 
+stmt-fine : (stage : Stage) (s : Stmt) (rest : List Token) → fits_stmt s ≡ true → fine (run rest (Behind, [])) ≡ true → fine (from_start stage (spelled_stmt s ++ rest)) ≡ true
+stmt-fine stage (Create name e) rest fit h = expr-fine e rest h
+stmt-fine stage (Assign name e) rest fit h = expr-fine e rest h
+stmt-fine stage (Change op name e) rest fit h = change-fine (changes op) (spelled e ++ rest) (both (changes op) (fits e 0) fit).0 (expr-fine e rest h)
+stmt-fine stage (Plain e) rest fit h = start-more stage (spelled e ++ rest) (expr-fine e rest h)
+
 start-fine : (s : Stmt) (rest : List Token) → fits_stmt s ≡ true → fine (run rest (Behind, [])) ≡ true → fine (run (spelled_stmt s ++ rest) (Start, [])) ≡ true
-start-fine (Create name e) rest fit h = expr-fine e rest h
-start-fine (Assign name e) rest fit h = expr-fine e rest h
-start-fine (Change op name e) rest fit h = change-fine (changes op) (spelled e ++ rest) (both (changes op) (fits e 0) fit).0 (expr-fine e rest h)
-start-fine (Plain e) rest fit h = start-more (spelled e ++ rest) (expr-fine e rest h)
+start-fine s rest fit h = ap fine (from_start-Start (spelled_stmt s ++ rest)) ∙ stmt-fine Start s rest fit h
 
 blank-fine : (s : Stmt) (rest : List Token) → fits_stmt s ≡ true → fine (run rest (Behind, [])) ≡ true → fine (run (spelled_stmt s ++ rest) (Blank, [])) ≡ true
-blank-fine (Create name e) rest fit h = expr-fine e rest h
-blank-fine (Assign name e) rest fit h = expr-fine e rest h
-blank-fine (Change op name e) rest fit h = change-fine (changes op) (spelled e ++ rest) (both (changes op) (fits e 0) fit).0 (expr-fine e rest h)
-blank-fine (Plain e) rest fit h = blank-more (spelled e ++ rest) (expr-fine e rest h)
+blank-fine s rest fit h = ap fine (from_start-Blank (spelled_stmt s ++ rest)) ∙ stmt-fine Blank s rest fit h
 
 no-rest : (ts : List Token) (s : Spot) → fine (run (ts ++ []) s) ≡ true → fine (run ts s) ≡ true
 no-rest ts s h = ap (λ (us : List Token). fine (run us s)) (sym (append-nil ts)) ∙ h

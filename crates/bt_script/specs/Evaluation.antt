@@ -7,7 +7,8 @@ use Rattle.bt_script.specs.declared.syntax.Expr.TheOpen.{Expr-F, Num, Lit, Look,
 use Rattle.bt_script.specs.declared.syntax.Stmt.{Stmt}
 use Rattle.bt_script.specs.declared.syntax.Stmt.TheVariants.{Create, Assign, Change, Plain}
 use Rattle.bt_script.specs.declared.fault.ExecFault.{ExecFault}
-use Rattle.bt_script.specs.Operators.{◌>>=◌, unary_on, combined, chosen}
+use Rattle.bt_script.specs.Operators.{unary_on, combined, chosen}
+use Rattle.bt_script.specs.Results.{◌>>=◌}
 use Rattle.bt_script.specs.Entries.{entry_of}
 
 -- one level of an expression, of whose parts it is known what they give

@@ -5,7 +5,9 @@ pub mod Grammar
 pub mod Identifiers
 pub mod Numbers
 pub mod Operators
+pub mod Options
 pub mod Reading
+pub mod Results
 pub mod Scripts
 pub mod Spots
 pub mod Stops

@@ -14,12 +14,7 @@ use Rattle.bt_script.specs.declared.syntax.Cmp.{Cmp}
 use Rattle.bt_script.specs.declared.syntax.Cmp.TheVariants.{Equal, Differ, Less, AtMost, More, AtLeast}
 use Rattle.bt_script.specs.declared.fault.ExecFault.{ExecFault}
 use Rattle.bt_script.specs.declared.fault.ExecFault.TheVariants.{Overflow, ZeroDivisor, NotWhole, Mixed, TextTooLong}
-
--- first the one, then the other on its value: the first fault ends it
-infixl 10 ◌>>=◌
-abbrev pub ◌>>=◌ : {A B : Type 0} → Result A ExecFault → (A → Result B ExecFault) → Result B ExecFault
-(Ok x) >>= f = f x
-(Err e) >>= f = Err e
+use Rattle.bt_script.specs.Results.{◌>>=◌}
 
 -- a number of 64 bits, or an overflow
 abbrev pub bounded : ℤ → Result ℤ ExecFault

@@ -1,11 +1,11 @@
 -- What stands in expressions and statements: names, text literals, and what the reader grants of them.
-use Rattle.std.specs.Prelude.{ℕ, ◌+◌, List, [], ◌∷◌, ◌++◌}
+use Rattle.std.specs.Prelude.{ℕ, ◌+◌, IsTrue, List, [], ◌∷◌, ◌++◌}
 use Rattle.bt_script.specs.declared.syntax.BinOp.{BinOp}
-use Rattle.bt_script.specs.declared.syntax.BinOp.TheVariants.{Add, Sub, Mul, Div, And, Or, BitAnd, BitOr, BitXor, Compare}
 use Rattle.bt_script.specs.declared.syntax.Expr.{Expr, fold-Expr}
 use Rattle.bt_script.specs.declared.syntax.Expr.TheOpen.{Expr-F, Num, Lit, Look, Group, Unary, Binary, Choose}
 use Rattle.bt_script.specs.declared.syntax.Stmt.{Stmt}
 use Rattle.bt_script.specs.declared.syntax.Stmt.TheVariants.{Create, Assign, Change, Plain}
+use Rattle.bt_script.specs.Grammar.{changes, sign_fits}
 
 abbrev pub names_step : Expr-F (List (List ℕ)) → List (List ℕ)
 names_step (Num n) = []
@@ -42,20 +42,8 @@ texts_of = fold-Expr ℕ texts_step
 
 -- one of the four operators of arithmetic
 abbrev pub IsArithmetic : BinOp → Type 0
-IsArithmetic Add = Unit {0}
-IsArithmetic Sub = Unit {0}
-IsArithmetic Mul = Unit {0}
-IsArithmetic Div = Unit {0}
-IsArithmetic And = ⊥
-IsArithmetic Or = ⊥
-IsArithmetic BitAnd = ⊥
-IsArithmetic BitOr = ⊥
-IsArithmetic BitXor = ⊥
-IsArithmetic (Compare c) = ⊥
+IsArithmetic op = IsTrue (changes op)
 
 -- a statement changes an entry by arithmetic alone
 abbrev pub ChangesByArithmetic : Stmt → Type 0
-ChangesByArithmetic (Create name e) = Unit {0}
-ChangesByArithmetic (Assign name e) = Unit {0}
-ChangesByArithmetic (Change op name e) = IsArithmetic op
-ChangesByArithmetic (Plain e) = Unit {0}
+ChangesByArithmetic s = IsTrue (sign_fits s)

@@ -15,7 +15,8 @@ use Rattle.bt_script_code.specs.declared.slots.SlotExpr.TheOpen as slot
 use Rattle.bt_script_code.specs.declared.codes.Code.{Code}
 use Rattle.bt_script_code.specs.declared.codes.ExprCode.{ExprCode}
 use Rattle.bt_script_code.specs.Codes.{program, formula}
-use Rattle.bt_script.specs.Operators.{◌>>=◌, unary_on, combined, chosen}
+use Rattle.bt_script.specs.Operators.{unary_on, combined, chosen}
+use Rattle.bt_script.specs.Results.{◌>>=◌}
 use Rattle.bt_script.specs.Entries.{entry_of}
 use Rattle.bt_script.specs.Evaluation.{eval_step, eval_of, stmt_of, stmts_of, written, if_there, followed}
 use Rattle.bt_script_code.specs.Programs.{formula_of, program_of}

@@ -13,7 +13,8 @@ use Rattle.bt_script_code.specs.declared.slots.SlotExpr.TheOpen as slot
 use Rattle.bt_script_code.specs.declared.slots.SlotStmt.{SlotStmt}
 use Rattle.bt_script_code.specs.declared.slots.SlotStmt.TheVariants as slotted
 use Rattle.bt_script.specs.declared.fault.ExecFault.{ExecFault}
-use Rattle.bt_script.specs.Operators.{◌>>=◌, unary_on, in_order, both, either, chosen}
+use Rattle.bt_script.specs.Operators.{unary_on, in_order, both, either, chosen}
+use Rattle.bt_script.specs.Results.{◌>>=◌}
 use Rattle.bt_script.specs.Entries.{entry_of}
 use Rattle.bt_script.specs.Evaluation.{Run, written, if_there, followed}
 use Rattle.bt_script_code.specs.Programs.{Formula, Program}

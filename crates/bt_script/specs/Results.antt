@@ -1,0 +1,8 @@
+-- Results one behind the other.
+use Rattle.std.specs.Prelude.{Result, Ok, Err}
+
+-- first the one, then the other on its value: the first fault ends it
+infixl 10 ◌>>=◌
+abbrev pub ◌>>=◌ : {A B E : Type 0} → Result A E → (A → Result B E) → Result B E
+(Ok x) >>= f = f x
+(Err e) >>= f = Err e
