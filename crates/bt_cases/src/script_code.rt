@@ -5,8 +5,10 @@ mod boards;
 mod conditions;
 
 use boards::{Board, Window};
-use bt_script::{Expr, Name, NoMemory, Script, Stop, Value, parse_expr, parse_script};
-use bt_script_code::{ExecFault, Seen, compile, compile_expr, exec, number};
+use bt_script::{
+    ExecFault, Expr, Name, NoMemory, Script, Seen, Stop, Value, parse_expr, parse_script,
+};
+use bt_script_code::{compile, compile_expr, exec, number};
 use conditions::{expr_fits, is_textless, script_fits, slots_fit};
 use std::alloc::{AllocError, Global};
 use std::process::Abort;

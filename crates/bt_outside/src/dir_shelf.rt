@@ -114,27 +114,3 @@ impl<R: Files + Drop> Shelf for DirShelf<R> {
 
     ghost failure_counts = { λ _ _ _ counted. counted };
 }
-
-#[cfg(test)]
-mod tests {
-    use super::*;
-    use std::test::Fail;
-
-    #[test]
-    fn files_of_the_host_are_read(rt: HostRuntime) -> Result<(), Fail> {
-        let mut shelf = DirShelf::new(&rt);
-        for (path, answer, bytes) in [
-            ("/dev/null", Ok(()), 0),
-            ("/dev/zero", Err(ShelfFault::TooLong), 5001),
-            ("/", Err(ShelfFault::Failed), 0),
-            ("/no such file", Err(ShelfFault::Failed), 0),
-        ] {
-            let name = Name::of(Vec::from_slice(rt.alloc(), path.as_bytes())?);
-            let mut room = Vec::new(rt.alloc());
-            assert_eq!(rt; shelf.read(&name, &mut room, 5000), answer, "{path}");
-            assert_eq!(rt; room.len(), bytes, "{path}");
-        }
-        assert_eq!(rt; shelf.faults, 2);
-        Ok(())
-    }
-}

@@ -90,30 +90,3 @@ impl Sink for MemSink {
         }
     }
 }
-
-#[cfg(test)]
-mod tests {
-    use super::*;
-    use std::test::Fail;
-
-    #[test]
-    fn the_second_call_fails_behind_two_bytes(rt: HostRuntime) -> Result<(), Fail> {
-        let fails = vec![in rt.alloc(); (2u64, 2u64)]?;
-        let mut sink = MemSink::new(rt.alloc(), fails);
-        assert_eq!(rt; sink.write(b"abc"), Ok(()));
-        assert_eq!(rt; sink.write(b"def"), Err(SinkFault::Failed));
-        assert_eq!(rt; sink.list(), b"abcde".as_slice());
-        assert_eq!(rt; sink.write(b"gh"), Ok(()));
-        assert_eq!(rt; sink.list(), b"abcdegh".as_slice());
-        Ok(())
-    }
-
-    #[test]
-    fn a_failing_call_takes_no_more_than_its_piece(rt: HostRuntime) -> Result<(), Fail> {
-        let fails = vec![in rt.alloc(); (1u64, 9u64)]?;
-        let mut sink = MemSink::new(rt.alloc(), fails);
-        assert_eq!(rt; sink.write(b"abc"), Err(SinkFault::Failed));
-        assert_eq!(rt; sink.list(), b"abc".as_slice());
-        Ok(())
-    }
-}

@@ -59,26 +59,3 @@ impl<W: Write + Drop> Sink for OutSink<W> {
         Ok(())
     }
 }
-
-#[cfg(test)]
-mod tests {
-    use super::*;
-    use std::io;
-    use std::test::Fail;
-
-    #[test]
-    fn standard_output_takes_a_piece(rt: HostRuntime) {
-        let mut out = OutSink::new(io::writer(&rt));
-        assert_eq!(rt; out.write(b"a line\n"), Ok(()));
-    }
-
-    #[test]
-    fn a_full_writer_is_a_failure(rt: HostRuntime) -> Result<(), Fail> {
-        let mut room = [0u8; 4];
-        let mut out = OutSink::new(room.as_mut_slice());
-        assert_eq!(rt; out.write(b"abc"), Ok(()));
-        assert_eq!(rt; out.write(b"def"), Err(SinkFault::Failed));
-        assert_eq!(rt; out.faults, 1);
-        Ok(())
-    }
-}

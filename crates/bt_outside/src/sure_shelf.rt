@@ -85,25 +85,3 @@ impl Shelf for SureShelf {
 
     ghost failure_counts = { Prim.search rules };
 }
-
-#[cfg(test)]
-mod tests {
-    use super::*;
-    use std::test::Fail;
-
-    #[test]
-    fn a_file_is_read_whole_or_is_too_long(rt: HostRuntime) -> Result<(), Fail> {
-        let name = Name::of(Vec::from_slice(rt.alloc(), b"a")?);
-        let file = (name.copy(rt.alloc())?, Vec::from_slice(rt.alloc(), b"abc")?);
-        let mut shelf = SureShelf::new(vec![in rt.alloc(); file]?);
-
-        let mut room = Vec::new(rt.alloc());
-        assert_eq!(rt; shelf.read(&name, &mut room, 3), Ok(()));
-        assert_eq!(rt; room.as_slice(), b"abc".as_slice());
-
-        let mut room = Vec::new(rt.alloc());
-        assert_eq!(rt; shelf.read(&name, &mut room, 1), Err(ShelfFault::TooLong));
-        assert_eq!(rt; room.as_slice(), b"ab".as_slice());
-        Ok(())
-    }
-}

@@ -55,18 +55,3 @@ impl Sink for SureSink {
             .map_err(|_| SinkFault::NoMemory)
     }
 }
-
-#[cfg(test)]
-mod tests {
-    use super::*;
-    use std::test::Fail;
-
-    #[test]
-    fn pieces_stand_one_behind_another(rt: HostRuntime) -> Result<(), Fail> {
-        let mut sink = SureSink::new(rt.alloc());
-        assert_eq!(rt; sink.write(b"abc"), Ok(()));
-        assert_eq!(rt; sink.write(b"de"), Ok(()));
-        assert_eq!(rt; sink.list(), b"abcde".as_slice());
-        Ok(())
-    }
-}

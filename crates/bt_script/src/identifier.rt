@@ -38,23 +38,3 @@ pub fn is_identifier(bytes: &[u8]) -> bool
         None => false,
     }
 }
-
-#[cfg(test)]
-mod tests {
-    use super::*;
-
-    #[test]
-    fn identifiers_begin_with_a_letter_or_an_underscore(rt: HostRuntime) {
-        for (text, is) in [
-            ("x", true),
-            ("_1", true),
-            ("Az_09", true),
-            ("", false),
-            ("1x", false),
-            ("x-y", false),
-            ("\u{e9}", false),
-        ] {
-            assert_eq!(rt; is_identifier(text.as_bytes()), is, "{text}");
-        }
-    }
-}

@@ -12,6 +12,3 @@ pub use codes::{Code, ExprCode};
 pub use compiling::{compile, compile_expr};
 pub use numbers::number;
 pub use running::exec;
-
-#[cfg(test)]
-mod tests;

@@ -1,8 +1,7 @@
 //! Cells and looks in memory.
 ghost use Rattle.std.specs.Prelude.{◌≡◌, ◌<◌, length};
 
-use bt_script::{Txt, Value};
-use bt_script_code::{Cells, Looks, Seen};
+use bt_script::{Cells, Looks, Seen, Txt, Value};
 use std::alloc::{AllocError, Global};
 
 /// Entries by slot.

@@ -2,7 +2,8 @@
 ghost use Rattle.std.specs.Prelude.{◌≡◌, ◌<◌, ◌≤◌, IsTrue};
 ghost use Rattle.std.specs.List.{All};
 ghost use Rattle.bt_script.specs.Grammar.{height};
-ghost use Rattle.bt_script_code.specs.Sources.{IsListed, IsArithmetic, IsCompilable, names_of, texts_of};
+ghost use Rattle.bt_script_code.specs.Sources.{IsListed, IsCompilable};
+ghost use Rattle.bt_script.specs.Scripts.{IsArithmetic, names_of, texts_of};
 
 use bt_script::{BinOp, Expr, Name, Stmt};
 

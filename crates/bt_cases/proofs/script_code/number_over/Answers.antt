@@ -1,6 +1,6 @@
 use Rattle.std.proofs.Common.{rules, IsTrue, arith}
 use Rattle.std.proofs.lemmas.Grind.{common_steps}
-use Rattle.bt_script_code.proofs.tests.number_over.Goals as goal
+use Rattle.bt_cases.proofs.script_code.number_over.Goals as goal
 
 pub number-requires-clause-reach : goal.number-requires-clause-reach
 number-requires-clause-reach g c =

@@ -3,7 +3,7 @@ use Rattle.std.specs.Str.{bytes_eq}
 use Rattle.std.proofs.lemmas.List.{get_or-map, length-map}
 use Rattle.std.proofs.lemmas.Slice.Eq.{bytes_eq-Decides}
 use Rattle.bt_script_code.specs.Sources.{IsListed}
-use Rattle.bt_script_code.proofs.tests.conditions.is_listed.Goals as goal
+use Rattle.bt_cases.proofs.script_code.conditions.is_listed.Goals as goal
 
 listed_at : (slots : List (List ℕ × ℕ)) (i : ℕ) (pair : List ℕ × ℕ) (name : List ℕ) → i < length slots → pair ≡ get_or slots i pair → bytes_eq pair.0 name ≡ true → IsListed slots name
 listed_at slots i pair name within is_pair same = (

@@ -8,7 +8,7 @@ use Rattle.bt_script.specs.declared.syntax.Expr.TheOpen as layer
 use Rattle.bt_script.specs.declared.syntax.Expr.TheVariants.{Group, Unary, Binary, Choose, rolls-Group, rolls-Unary, rolls-Binary, rolls-Choose}
 use Rattle.bt_script_code.specs.Sources.{IsListed}
 use Rattle.bt_script.specs.Scripts.{names_step, names_of}
-use Rattle.bt_script_code.proofs.tests.conditions.+expr_fits.Goals as goal
+use Rattle.bt_cases.proofs.script_code.conditions.+expr_fits.Goals as goal
 
 names_of-Group : (a : Expr) → names_of (Group a) ≡ names_of a
 names_of-Group a = ap names_of (sym (rolls-Group a)) ∙ fold-roll-Expr (List (List ℕ)) names_step (layer.Group a)

@@ -1,4 +1,4 @@
-use Rattle.std.proofs.Common.{rules, ◌≡◌, ℕ, ◌≤◌, IsTrue, List, [], sym, subst}
+use Rattle.std.proofs.Common.{rules, ◌≡◌, ℕ, ◌≤◌, IsTrue, List, [], refl, sym, subst}
 use Rattle.std.specs.List.{All}
 use Rattle.std.proofs.lemmas.List.Elements.{All-cons}
 use Rattle.bt_script.specs.declared.syntax.BinOp.{BinOp}
@@ -8,18 +8,18 @@ use Rattle.bt_script.specs.declared.syntax.Stmt.TheVariants.{Create, Assign, Cha
 use Rattle.bt_script.specs.Grammar.{height}
 use Rattle.bt_script_code.specs.Sources.{IsListed, IsCompilable}
 use Rattle.bt_script.specs.Scripts.{names_of, IsArithmetic}
-use Rattle.bt_script_code.proofs.tests.conditions.stmt_fits.Goals as goal
+use Rattle.bt_cases.proofs.script_code.conditions.stmt_fits.Goals as goal
 
 module _ (slots : List (List ℕ × ℕ)) (whole : Stmt) (name : List ℕ) (e : Expr) (all : All (IsListed slots) (names_of e)) (low : height e ≤ 64) where
   plain_fits : whole ≡ Plain e → IsCompilable slots whole
-  plain_fits is = subst (IsCompilable slots) (sym is) (record { named = all; low = low; arithmetic = tt })
+  plain_fits is = subst (IsCompilable slots) (sym is) (record { named = all; low = low; arithmetic = refl })
 
   module _ (listed : IsListed slots name) where
     create_fits : whole ≡ Create name e → IsCompilable slots whole
-    create_fits is = subst (IsCompilable slots) (sym is) (record { named = All-cons (IsListed slots) name (names_of e) listed all; low = low; arithmetic = tt })
+    create_fits is = subst (IsCompilable slots) (sym is) (record { named = All-cons (IsListed slots) name (names_of e) listed all; low = low; arithmetic = refl })
 
     assign_fits : whole ≡ Assign name e → IsCompilable slots whole
-    assign_fits is = subst (IsCompilable slots) (sym is) (record { named = All-cons (IsListed slots) name (names_of e) listed all; low = low; arithmetic = tt })
+    assign_fits is = subst (IsCompilable slots) (sym is) (record { named = All-cons (IsListed slots) name (names_of e) listed all; low = low; arithmetic = refl })
 
     change_fits : (op : BinOp) → IsArithmetic op → whole ≡ Change op name e → IsCompilable slots whole
     change_fits op arithmetic is = subst (IsCompilable slots) (sym is) (record { named = All-cons (IsListed slots) name (names_of e) listed all; low = low; arithmetic = arithmetic })
