@@ -1,3 +1,6 @@
+//! Whole programs over objects in memory: rows of words, files and what comes out, which is the
+//! output with the exit behind it.
+
 use crate::answer::bt;
 use crate::exit::Exit;
 use crate::words::word_of;
@@ -6,31 +9,32 @@ use bt_script::NoMemory;
 use std::alloc::{AllocError, Global};
 use std::test::Fail;
 
+fn joined(alloc: Global, parts: &[&str]) -> Result<String, AllocError> {
+    let mut text = String::new(alloc);
+    for part in parts {
+        text.push_str(part)?;
+    }
+    Ok(text)
+}
+
 /// A tree file whose one tree has these nodes.
-fn tree_of(alloc: Global, nodes: &str) -> Result<Vec<u8>, AllocError> {
-    let text = format!(in alloc;
+fn tree_of(alloc: Global, nodes: &str) -> Result<String, AllocError> {
+    format!(in alloc;
         "<root BTCPP_format=\"4\"><BehaviorTree ID=\"M\">{nodes}</BehaviorTree></root>"
-    )?;
-    Ok(text.into_bytes())
+    )
 }
 
 /// A world script with these lines behind its header.
-fn world_of(alloc: Global, lines: &str) -> Result<Vec<u8>, AllocError> {
-    let text = format!(in alloc; "bt-world 1\n{lines}\n")?;
-    Ok(text.into_bytes())
+fn world_of(alloc: Global, lines: &[&str]) -> Result<String, AllocError> {
+    format!(in alloc; "bt-world 1\n{}\n", joined(alloc, lines)?)
 }
 
-/// A shelf of the files `T` and `W`, of which some reads fail.
-fn shelf_of(
-    alloc: Global,
-    tree: Vec<u8>,
-    world: Vec<u8>,
-    fails: Vec<u64>,
-) -> Result<MemShelf, NoMemory> {
+/// A shelf of the files `T` and `W`, of which these reads fail.
+fn shelf_of(alloc: Global, tree: &[u8], world: &[u8], fails: &[u64]) -> Result<MemShelf, NoMemory> {
     let mut files = Vec::new(alloc);
-    files.push((word_of(alloc, "T")?, tree))?;
-    files.push((word_of(alloc, "W")?, world))?;
-    Ok(MemShelf::new(files, fails))
+    files.push((word_of(alloc, "T")?, Vec::from_slice(alloc, tree)?))?;
+    files.push((word_of(alloc, "W")?, Vec::from_slice(alloc, world)?))?;
+    Ok(MemShelf::new(files, Vec::from_slice(alloc, fails)?))
 }
 
 /// Answers these words.
@@ -47,18 +51,35 @@ fn answer_words(
     Ok(bt(alloc, names.as_slice(), shelf, sink))
 }
 
-/// Ticks a tree of these nodes over a world of these lines.
-fn tick_over(
+/// What words give over files of which these reads fail.
+fn given(
     alloc: Global,
+    words: &[&str],
+    tree: &[u8],
+    world: &[u8],
+    fails: &[u64],
+) -> Result<String, NoMemory> {
+    let mut shelf = shelf_of(alloc, tree, world, fails)?;
+    let mut sink = MemSink::new(alloc, Vec::new(alloc));
+    let exit = answer_words(alloc, words, &mut shelf, &mut sink)?;
+    let text = str::from_utf8(sink.list()).unwrap_or("?");
+    Ok(format!(in alloc; "{text}{exit:?}")?)
+}
+
+/// What words give over a tree of these nodes and a world of these lines.
+fn answered(
+    alloc: Global,
+    words: &[&str],
     nodes: &str,
-    lines: &str,
-    sink: &mut MemSink,
-) -> Result<Exit, NoMemory> {
+    lines: &[&str],
+    fails: &[u64],
+) -> Result<String, NoMemory> {
     let tree = tree_of(alloc, nodes)?;
     let world = world_of(alloc, lines)?;
-    let mut shelf = shelf_of(alloc, tree, world, Vec::new(alloc))?;
-    answer_words(alloc, &["tick", "T", "W"], &mut shelf, sink)
+    given(alloc, words, tree.as_bytes(), world.as_bytes(), fails)
 }
+
+const TICK: [&str; 3] = ["tick", "T", "W"];
 
 const TWO_CHECKS: &str = "<Sequence><A/><B/></Sequence>";
 
@@ -77,7 +98,7 @@ node 1 RUNNING SUCCESS
 root 1 SUCCESS
 node 1 SUCCESS IDLE
 finish 1 at 0
-";
+Done";
 
 const NESTED_TRACE: &str = "\
 tick 1 at 0
@@ -95,7 +116,7 @@ node 1 RUNNING SUCCESS
 root 1 SUCCESS
 node 1 SUCCESS IDLE
 finish 1 at 0
-";
+Done";
 
 const THREE_CONDITIONS: &str =
     "fact x 1\ncondition A is x == 1\ncondition B is x != 1\ncondition C is x == 1\ntick 1";
@@ -113,7 +134,7 @@ node 1 RUNNING FAILURE
 root 1 FAILURE
 node 1 FAILURE IDLE
 finish 1 at 0
-";
+Done";
 
 const CHECK_THEN_ACT: &str =
     "fact x 1\ncondition A is x == 1\naction B timed 300\ntick 1\nat 299\ntick 1";
@@ -137,7 +158,7 @@ node 2 SUCCESS IDLE
 call 3 halted
 node 3 RUNNING IDLE
 node 1 RUNNING IDLE
-";
+Done";
 
 const OVER_TRACE: &str = "\
 tick 1 at 300
@@ -149,7 +170,30 @@ node 1 RUNNING SUCCESS
 root 1 SUCCESS
 node 1 SUCCESS IDLE
 finish 1 at 300
-";
+Done";
+
+const SETTING: &str =
+    "fact x 1\ncondition A is x == 1\naction B timed 300\nsets x = 7\ntick 1\nat 300\ntick 1";
+
+const SETTING_TRACE: &str = "\
+tick 1 at 0
+node 1 IDLE RUNNING
+call 2 start SUCCESS
+node 2 IDLE SUCCESS
+call 3 start RUNNING
+node 3 IDLE RUNNING
+root 1 RUNNING
+tick 1 at 300
+call 3 running SUCCESS
+node 3 RUNNING SUCCESS
+node 2 SUCCESS IDLE
+node 3 SUCCESS IDLE
+node 1 RUNNING SUCCESS
+root 1 SUCCESS
+node 1 SUCCESS IDLE
+fact x 7
+finish 1 at 300
+Done";
 
 const REPLAYED: &str =
     "fact x 0\naction A replay 0 FS\ncondition B is x == 1\ntick 1\nset x 1\nat 7\nat 7\ntick 1";
@@ -177,7 +221,7 @@ node 1 RUNNING SUCCESS
 root 1 SUCCESS
 node 1 SUCCESS IDLE
 finish 1 at 7
-";
+Done";
 
 const EFFECTS: &str = "fact x 0\nfact y 5\naction A timed 0\nsets y = -3\nsets x = 0\ntick 1";
 
@@ -189,107 +233,80 @@ root 1 SUCCESS
 node 1 SUCCESS IDLE
 fact y -3
 finish 1 at 0
-";
-
-/// Whether a tree of these nodes over a world of these lines ends so, with these bytes.
-fn ends_with(
-    alloc: Global,
-    nodes: &str,
-    lines: &str,
-    exit: Exit,
-    text: &str,
-) -> Result<bool, NoMemory> {
-    let mut sink = MemSink::new(alloc, Vec::new(alloc));
-    let ended = tick_over(alloc, nodes, lines, &mut sink)?;
-    Ok(ended == exit && sink.list() == text.as_bytes())
-}
+Done";
 
 #[test]
 fn runs_have_their_traces(rt: HostRuntime) -> Result<(), Fail> {
     let alloc = rt.alloc();
-    let act = format!(in alloc; "{CHECK_THEN_ACT}\nat 300\ntick 1")?;
-    let over = format!(in alloc; "{HELD_TRACE}{OVER_TRACE}")?;
-    let halted = format!(in alloc; "{HELD_TRACE}{HALTED_TRACE}")?;
-    for (nodes, lines, trace) in [
-        (TWO_CHECKS, TWO_CONDITIONS, TWO_CHECKS_TRACE),
+    let table: [(&str, &[&str], &[&str]); 8] = [
+        (TWO_CHECKS, &[TWO_CONDITIONS], &[TWO_CHECKS_TRACE]),
         (
             "<Sequence><Sequence><A/></Sequence><B/></Sequence>",
-            TWO_CONDITIONS,
-            NESTED_TRACE,
+            &[TWO_CONDITIONS],
+            &[NESTED_TRACE],
         ),
         (
             "<Sequence><A/><B/><C/></Sequence>",
-            THREE_CONDITIONS,
-            SECOND_FAILS_TRACE,
+            &[THREE_CONDITIONS],
+            &[SECOND_FAILS_TRACE],
         ),
-        (TWO_CHECKS, act.as_str(), over.as_str()),
-        (TWO_CHECKS, CHECK_THEN_ACT, halted.as_str()),
-        ("<Fallback><A/><B/></Fallback>", REPLAYED, REPLAYED_TRACE),
-        ("<A/>", EFFECTS, EFFECTS_TRACE),
-    ] {
-        assert!(rt;
-            ends_with(alloc, nodes, lines, Exit::Done, trace)?,
-            "{nodes} {lines}"
-        );
+        (
+            TWO_CHECKS,
+            &[CHECK_THEN_ACT, "\nat 300\ntick 1"],
+            &[HELD_TRACE, OVER_TRACE],
+        ),
+        (TWO_CHECKS, &[CHECK_THEN_ACT], &[HELD_TRACE, HALTED_TRACE]),
+        (TWO_CHECKS, &[SETTING], &[SETTING_TRACE]),
+        (
+            "<Fallback><A/><B/></Fallback>",
+            &[REPLAYED],
+            &[REPLAYED_TRACE],
+        ),
+        ("<A/>", &[EFFECTS], &[EFFECTS_TRACE]),
+    ];
+    for (nodes, lines, trace) in table {
+        let want = joined(alloc, trace)?;
+        assert_eq!(rt; answered(alloc, &TICK, nodes, lines, &[])?, want, "{nodes}");
     }
     Ok(())
 }
 
 #[test]
 fn trees_and_worlds_are_refused(rt: HostRuntime) -> Result<(), Fail> {
-    for (nodes, lines, exit, line) in [
-        (
-            "<Sequence/>",
-            "tick 1",
-            Exit::Tree,
-            "refused tree Unbuilt\n",
-        ),
+    for (nodes, lines, want) in [
+        ("<Sequence/>", "tick 1", "refused tree Unbuilt\nTree"),
         (
             "<A/>",
             "condition A is x == 0",
-            Exit::World,
-            "refused world Unbuilt\n",
+            "refused world Unbuilt\nWorld",
         ),
         (
             "<Sequence><Sequence><A/></Sequence><Q/></Sequence>",
             "fact x 1\ncondition A is x == 1",
-            Exit::World,
-            "refused world NoRow 'Q'\n",
+            "refused world NoRow 'Q'\nWorld",
         ),
     ] {
-        assert!(rt; ends_with(rt.alloc(), nodes, lines, exit, line)?, "{nodes}");
+        let text = answered(rt.alloc(), &TICK, nodes, &[lines], &[])?;
+        assert_eq!(rt; text.as_str(), want, "{nodes}");
     }
     Ok(())
 }
 
 #[test]
-fn refusals_have_their_line(rt: HostRuntime) -> Result<(), Fail> {
-    let alloc = rt.alloc();
-    let table: [(&[&str], Exit, &str); 8] = [
-        (&[], Exit::Words, "refused words\n"),
-        (&["tick"], Exit::Words, "refused words\n"),
-        (&["tick", "T"], Exit::Words, "refused words\n"),
-        (&["tick", "T", "W", "X"], Exit::Words, "refused words\n"),
-        (&["Tick", "T", "W"], Exit::Words, "refused words\n"),
-        (&["tick", "T", "W"], Exit::Done, TWO_CHECKS_TRACE),
-        (&["tick", "none", "W"], Exit::Tree, "refused tree Unbuilt\n"),
-        (
-            &["tick", "T", "none"],
-            Exit::World,
-            "refused world Unbuilt\n",
-        ),
+fn words_are_commands_or_refused(rt: HostRuntime) -> Result<(), Fail> {
+    let table: [(&[&str], &str); 8] = [
+        (&[], "refused words\nWords"),
+        (&["tick"], "refused words\nWords"),
+        (&["tick", "T"], "refused words\nWords"),
+        (&["tick", "T", "W", "X"], "refused words\nWords"),
+        (&["Tick", "T", "W"], "refused words\nWords"),
+        (&["tick", "T", "W"], TWO_CHECKS_TRACE),
+        (&["tick", "none", "W"], "refused tree Unbuilt\nTree"),
+        (&["tick", "T", "none"], "refused world Unbuilt\nWorld"),
     ];
-    for (words, exit, line) in table {
-        let tree = tree_of(alloc, TWO_CHECKS)?;
-        let world = world_of(alloc, TWO_CONDITIONS)?;
-        let mut shelf = shelf_of(alloc, tree, world, Vec::new(alloc))?;
-        let mut sink = MemSink::new(alloc, Vec::new(alloc));
-        assert_eq!(rt;
-            answer_words(alloc, words, &mut shelf, &mut sink)?,
-            exit,
-            "{line}"
-        );
-        assert_eq!(rt; sink.list(), line.as_bytes());
+    for (words, want) in table {
+        let text = answered(rt.alloc(), words, TWO_CHECKS, &[TWO_CONDITIONS], &[])?;
+        assert_eq!(rt; text.as_str(), want);
     }
     Ok(())
 }
@@ -299,47 +316,36 @@ fn files_are_refused(rt: HostRuntime) -> Result<(), Fail> {
     let alloc = rt.alloc();
     let long = vec![in alloc; b' '; 1_048_577]?;
     let table: [(&[u8], &[u8], &str); 4] = [
-        (b"<!-- a --><root/>", b"", "refused tree Unbuilt\n"),
-        (b"\xff", b"bt-world 1", "refused tree Unbuilt\n"),
-        (long.as_slice(), b"bt-world 1", "refused tree Unbuilt\n"),
-        (b"", long.as_slice(), "refused world Unbuilt\n"),
+        (b"<!-- a --><root/>", b"", "refused tree Unbuilt\nTree"),
+        (b"\xff", b"bt-world 1", "refused tree Unbuilt\nTree"),
+        (long.as_slice(), b"bt-world 1", "refused tree Unbuilt\nTree"),
+        (b"", long.as_slice(), "refused world Unbuilt\nWorld"),
     ];
-    for (tree, world, line) in table {
-        let tree = Vec::from_slice(alloc, tree)?;
-        let world = Vec::from_slice(alloc, world)?;
-        let mut shelf = shelf_of(alloc, tree, world, Vec::new(alloc))?;
-        let mut sink = MemSink::new(alloc, Vec::new(alloc));
-        let _ = answer_words(alloc, &["tick", "T", "W"], &mut shelf, &mut sink)?;
-        assert_eq!(rt; sink.list(), line.as_bytes());
+    for (tree, world, want) in table {
+        assert_eq!(rt; given(alloc, &TICK, tree, world, &[])?.as_str(), want);
     }
     Ok(())
 }
 
 #[test]
 fn a_read_that_fails_has_its_line(rt: HostRuntime) -> Result<(), Fail> {
-    let alloc = rt.alloc();
-    for (call, lines, line) in [
-        (1, TWO_CONDITIONS, "refused read tree\n"),
-        (2, TWO_CONDITIONS, "refused read world\n"),
-        (1, CHECK_THEN_ACT, "refused read tree\n"),
-        (2, CHECK_THEN_ACT, "refused read world\n"),
+    for (call, lines, want) in [
+        (1, TWO_CONDITIONS, "refused read tree\nRead"),
+        (2, TWO_CONDITIONS, "refused read world\nRead"),
+        (1, CHECK_THEN_ACT, "refused read tree\nRead"),
+        (2, CHECK_THEN_ACT, "refused read world\nRead"),
     ] {
-        let tree = tree_of(alloc, TWO_CHECKS)?;
-        let world = world_of(alloc, lines)?;
-        let mut shelf = shelf_of(alloc, tree, world, vec![in alloc; call]?)?;
-        let mut sink = MemSink::new(alloc, Vec::new(alloc));
-        let exit = answer_words(alloc, &["tick", "T", "W"], &mut shelf, &mut sink)?;
-        assert_eq!(rt; exit, Exit::Read);
-        assert_eq!(rt; sink.list(), line.as_bytes());
+        let text = answered(rt.alloc(), &TICK, TWO_CHECKS, &[lines], &[call])?;
+        assert_eq!(rt; text.as_str(), want, "{call}");
     }
     Ok(())
 }
 
 /// Whether the front is that of the whole up to its line of this number, and some bytes of it.
-fn is_cut(front: &[u8], whole: &[u8], line: usize, taken: usize) -> bool {
+fn is_cut(front: &[u8], whole: &[u8], line: u8, taken: u8) -> bool {
     let lines = front.iter().filter(|b| **b == b'\n').count();
     let rest = front.iter().rev().take_while(|b| **b != b'\n').count();
-    whole.starts_with(front) && lines + 1 == line && rest == taken
+    whole.starts_with(front) && lines + 1 == usize::from(line) && rest == usize::from(taken)
 }
 
 /// Whether a sink whose write of this line fails after some bytes is left with that front of the trace.
@@ -350,25 +356,43 @@ fn fails_at(
     line: u8,
     taken: u8,
 ) -> Result<bool, NoMemory> {
+    let tree = tree_of(alloc, TWO_CHECKS)?;
+    let world = world_of(alloc, &[lines])?;
+    let mut shelf = shelf_of(alloc, tree.as_bytes(), world.as_bytes(), &[])?;
     let fails = vec![in alloc; (u64::from(line), u64::from(taken))]?;
     let mut sink = MemSink::new(alloc, fails);
-    let exit = tick_over(alloc, TWO_CHECKS, lines, &mut sink)?;
-    let whole = trace.as_bytes();
-    let cut = is_cut(sink.list(), whole, usize::from(line), usize::from(taken));
-    Ok(exit == Exit::Write && cut)
+    let exit = answer_words(alloc, &TICK, &mut shelf, &mut sink)?;
+    Ok(exit == Exit::Write && is_cut(sink.list(), trace.as_bytes(), line, taken))
+}
+
+/// The first line up to the last that leaves something else, if there is one.
+fn first_wrong(
+    alloc: Global,
+    lines: &str,
+    trace: &[&str],
+    last: u8,
+    taken: u8,
+) -> Result<Option<u8>, NoMemory> {
+    let whole = joined(alloc, trace)?;
+    for line in 1..=last {
+        if !fails_at(alloc, lines, whole.as_str(), line, taken)? {
+            return Ok(Some(line));
+        }
+    }
+    Ok(None)
 }
 
 #[test]
 fn a_write_that_fails_leaves_a_front(rt: HostRuntime) -> Result<(), Fail> {
-    let alloc = rt.alloc();
-    let halted = format!(in alloc; "{HELD_TRACE}{HALTED_TRACE}")?;
-    for line in 1..13u8 {
-        assert!(rt; fails_at(alloc, TWO_CONDITIONS, TWO_CHECKS_TRACE, line, 0)?);
-        assert!(rt; fails_at(alloc, TWO_CONDITIONS, TWO_CHECKS_TRACE, line, 3)?);
-    }
-    for line in 1..16u8 {
-        assert!(rt; fails_at(alloc, CHECK_THEN_ACT, halted.as_str(), line, 0)?);
-        assert!(rt; fails_at(alloc, CHECK_THEN_ACT, halted.as_str(), line, 3)?);
+    let table: [(&str, &[&str], u8, u8); 4] = [
+        (TWO_CONDITIONS, &[TWO_CHECKS_TRACE], 12, 0),
+        (TWO_CONDITIONS, &[TWO_CHECKS_TRACE], 12, 3),
+        (CHECK_THEN_ACT, &[HELD_TRACE, HALTED_TRACE], 15, 0),
+        (CHECK_THEN_ACT, &[HELD_TRACE, HALTED_TRACE], 15, 3),
+    ];
+    for (lines, trace, last, taken) in table {
+        let wrong = first_wrong(rt.alloc(), lines, trace, last, taken)?;
+        assert_eq!(rt; wrong, None, "{taken} of {lines}");
     }
     Ok(())
 }

@@ -6,8 +6,6 @@ mod line;
 mod names;
 mod put;
 mod stop;
-#[cfg(test)]
-mod tests;
 mod word;
 
 pub use block::{write_block, write_line};
