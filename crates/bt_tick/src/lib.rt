@@ -6,8 +6,6 @@ mod nodes;
 mod notes;
 mod plain;
 mod resets;
-#[cfg(test)]
-mod tests;
 mod visits;
 
 pub use leaf::row_with;
