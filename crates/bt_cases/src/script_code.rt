@@ -23,32 +23,33 @@ fn slots_of(alloc: Global, pairs: &[(&str, u32)]) -> Result<Vec<(Name, u32)>, No
     Ok(slots)
 }
 
-/// Compiles a script and runs it over the entries of `y` and `x`.
-fn run_script(
+/// Compiles a script and runs it over the slots.
+fn run_over(
     rt: &impl Abort,
     alloc: Global,
     script: &Script,
+    slots: &[(Name, u32)],
     board: &mut Board,
 ) -> Result<Value, Stop<ExecFault>> {
-    let slots = slots_of(alloc, &[("x", 1), ("y", 0), ("x", 0)])?;
     let stmts = script.stmts.list();
     let size = board.entries.len();
     assert!(rt; stmts.len() > 0);
-    assert!(rt; script_fits(stmts, slots.as_slice()));
-    assert!(rt; slots_fit(slots.as_slice(), size));
-    let code = compile(alloc, script, slots.as_slice())?;
+    assert!(rt; script_fits(stmts, slots));
+    assert!(rt; slots_fit(slots, size));
+    let code = compile(alloc, script, slots)?;
     exec(alloc, &code, board)
 }
 
-/// Reads a script and runs it.
+/// Reads a script and runs it over the entries of `y` and `x`.
 fn run(
     rt: &impl Abort,
     alloc: Global,
     text: &str,
     board: &mut Board,
 ) -> Result<Value, Stop<ExecFault>> {
+    let slots = slots_of(alloc, &[("x", 1), ("y", 0), ("x", 0)])?;
     match parse_script(alloc, text.as_bytes()) {
-        Ok(script) => run_script(rt, alloc, &script, board),
+        Ok(script) => run_over(rt, alloc, &script, slots.as_slice(), board),
         Err(_) => Err(Stop::NoMemory),
     }
 }
@@ -147,29 +148,39 @@ fn writes_before_a_fault_stand(rt: HostRuntime) -> Result<(), Fail> {
     Ok(())
 }
 
-/// The number of an expression over the looks `n`, `none` and `t`.
+/// The number of an expression over the looks in these slots.
 fn number_over(
     rt: &impl Abort,
     alloc: Global,
     expr: &Expr,
+    slots: &[(Name, u32)],
     window: &Window,
 ) -> Result<Result<i64, ExecFault>, NoMemory> {
-    let slots = slots_of(alloc, &[("n", 0), ("none", 1), ("t", 2)])?;
     let size = window.sights.len();
-    assert!(rt; expr_fits(expr, slots.as_slice(), 64));
-    assert!(rt; slots_fit(slots.as_slice(), size));
+    assert!(rt; expr_fits(expr, slots, 64));
+    assert!(rt; slots_fit(slots, size));
     assert!(rt; is_textless(expr));
-    let code = compile_expr(alloc, expr, slots.as_slice())?;
+    let code = compile_expr(alloc, expr, slots)?;
     Ok(number(&code, window))
 }
 
-/// What an expression gives over a number, nothing and a text.
-fn number_text(rt: &impl Abort, alloc: Global, text: &str) -> Result<String, NoMemory> {
+/// The number of an expression over the looks `n`, `none` and `t`: a number, nothing and a text.
+fn number_of(
+    rt: &impl Abort,
+    alloc: Global,
+    expr: &Expr,
+) -> Result<Result<i64, ExecFault>, NoMemory> {
     let window = Window {
         sights: vec![in alloc; Seen::Int(4), Seen::Absent, Seen::Text]?,
     };
+    let slots = slots_of(alloc, &[("n", 0), ("none", 1), ("t", 2)])?;
+    number_over(rt, alloc, expr, slots.as_slice(), &window)
+}
+
+/// What a text gives as an expression.
+fn number_text(rt: &impl Abort, alloc: Global, text: &str) -> Result<String, NoMemory> {
     match parse_expr(alloc, text.as_bytes()) {
-        Ok(expr) => Ok(format!(in alloc; "{:?}", number_over(rt, alloc, &expr, &window)?)?),
+        Ok(expr) => Ok(format!(in alloc; "{:?}", number_of(rt, alloc, &expr)?)?),
         Err(_) => Err(NoMemory),
     }
 }

@@ -1,6 +1,6 @@
 ghost use Rattle.std.specs.Prelude.{◌≡◌, ◌<◌, IfOk, length, reverse};
 ghost use Rattle.bt_script.specs.Grammar.{changes};
-ghost use Rattle.bt_script.specs.Spots.{spot_of, operand_step, behind_step, closing_step, start_step, named_step, stage_step, ends_at, Checked};
+ghost use Rattle.bt_script.specs.Spots.{spot_of, operand_step, behind_step, closing_step, named_step, stage_step, ends_at, Checked};
 
 use crate::stop::NoMemory;
 use crate::syntax::BinOp;
@@ -125,29 +125,16 @@ fn behind_name(token: &Token, opened: &mut Vec<Opened>) -> Result<Option<Stage>,
     }
 }
 
-/// The stage behind a token at the start of a statement.
-fn behind_start(
-    token: &Token,
-    stage: Stage,
-    opened: &mut Vec<Opened>,
-) -> Result<Option<Stage>, NoMemory>
-    ensures { IfOk result (λ next. spot_of next opened.new.items ≡ start_step stage (reverse opened.old.items) token.now) }
-{
-    match token {
-        Token::Semicolon => Ok(Some(stage)),
-        _ => behind_start_of_operand(token, Stage::Named, opened),
-    }
-}
-
+/// The stage behind a token in this stage.
 fn step(token: &Token, stage: Stage, opened: &mut Vec<Opened>) -> Result<Option<Stage>, NoMemory>
     ensures { IfOk result (λ next. spot_of next opened.new.items ≡ stage_step stage (reverse opened.old.items) token.now) }
 {
-    match stage {
-        Stage::Blank => behind_start(token, Stage::Blank, opened),
-        Stage::Start => behind_start(token, Stage::Start, opened),
-        Stage::Named => behind_name(token, opened),
-        Stage::Before => behind_start_of_operand(token, Stage::Behind, opened),
-        Stage::Behind => behind_operand(token, opened),
+    match (stage, token) {
+        (Stage::Blank | Stage::Start, Token::Semicolon) => Ok(Some(stage)),
+        (Stage::Blank | Stage::Start, _) => behind_start_of_operand(token, Stage::Named, opened),
+        (Stage::Named, _) => behind_name(token, opened),
+        (Stage::Before, _) => behind_start_of_operand(token, Stage::Behind, opened),
+        (Stage::Behind, _) => behind_operand(token, opened),
     }
 }
 

@@ -1,6 +1,6 @@
 use Rattle.std.proofs.Common.{rules, IsTrue, arith}
 use Rattle.std.proofs.lemmas.Grind.{common_steps}
-use Rattle.bt_cases.proofs.script_code.run_script.Goals as goal
+use Rattle.bt_cases.proofs.script_code.run_over.Goals as goal
 
 pub exec-requires : goal.exec-requires
 exec-requires g c =
