@@ -7,3 +7,5 @@ mod outside;
 mod script;
 #[cfg(test)]
 mod script_code;
+#[cfg(test)]
+mod text;

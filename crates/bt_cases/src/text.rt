@@ -1,0 +1,263 @@
+//! The lines of blocks, and texts in quotes.
+
+use bt_model::{
+    Answer, Block, Cause, Guards, Header, Kind, Note, PortId, Status, Term, Tree, World,
+};
+use bt_outside::{MemSink, SureSink};
+use bt_script::{Items, Name, NoMemory};
+use bt_text::{
+    Names, TextStop, names_of, put_number, put_quoted, put_signed, write_block, write_line,
+};
+use bt_world::read_world;
+use std::alloc::Global;
+use std::test::Fail;
+
+/// A tree of one leaf.
+fn a_tree(alloc: Global) -> Result<Tree, NoMemory> {
+    let guards = Guards {
+        failure_if: None,
+        success_if: None,
+        skip_if: None,
+        while_true: None,
+        on_success: None,
+        on_failure: None,
+        post: None,
+        on_halted: None,
+    };
+    let term = Term {
+        kind: Kind::Leaf,
+        id: Name::of(Vec::new(alloc)),
+        name: Name::of(Vec::new(alloc)),
+        ports: Items::of(Vec::new(alloc)),
+        code: None,
+        guards,
+        autoremap: false,
+        children: Items::of(Vec::new(alloc)),
+    };
+    let main = Name::of(Vec::new(alloc));
+    Ok(Tree { main, term })
+}
+
+/// A world of the facts `charge` and `door`.
+fn a_world(alloc: Global) -> Result<World, NoMemory> {
+    match read_world(alloc, b"bt-world 1\nfact charge 0\nfact door 0\n") {
+        Ok(world) => Ok(world),
+        Err(_) => Err(NoMemory),
+    }
+}
+
+fn some_names(alloc: Global) -> Result<Names, NoMemory> {
+    names_of(alloc, &a_tree(alloc)?, &a_world(alloc)?)
+}
+
+/// What the block is as lines to a sink of which these calls fail, and the answer to it.
+fn block_text(
+    alloc: Global,
+    header: Header,
+    notes: &[Note],
+    facts: &[(u32, i64)],
+    fails: &[(u64, u64)],
+) -> Result<String, NoMemory> {
+    let block = Block {
+        header,
+        notes: Items::of(Vec::from_slice(alloc, notes)?),
+        facts: Items::of(Vec::from_slice(alloc, facts)?),
+        entries: Items::of(Vec::new(alloc)),
+    };
+    let mut sink = MemSink::new(alloc, Vec::from_slice(alloc, fails)?);
+    let names = some_names(alloc)?;
+    let answer = write_block(alloc, &mut sink, &block, &names);
+    let text = str::from_utf8(sink.list()).unwrap_or("?");
+    Ok(format!(in alloc; "{answer:?} {text}")?)
+}
+
+#[test]
+fn events_have_their_lines(rt: HostRuntime) -> Result<(), Fail> {
+    let alloc = rt.alloc();
+    for (header, want) in [
+        (Header::Tick { runner: 1, at: 0 }, "Ok(()) tick 1 at 0\n"),
+        (
+            Header::Halt {
+                runner: 16,
+                at: 299,
+            },
+            "Ok(()) halt 16 at 299\n",
+        ),
+        (
+            Header::Change {
+                fact: 1,
+                value: -1,
+                at: 10,
+            },
+            "Ok(()) set door -1 at 10\n",
+        ),
+        (
+            Header::Finish {
+                runner: 2,
+                at: u64::MAX,
+            },
+            "Ok(()) finish 2 at 18446744073709551615\n",
+        ),
+    ] {
+        let text = block_text(alloc, header, &[], &[], &[])?;
+        assert_eq!(rt; text.as_str(), want);
+    }
+    Ok(())
+}
+
+/// The line of a note.
+fn note_text(alloc: Global, note: Note) -> Result<String, NoMemory> {
+    block_text(alloc, Header::Tick { runner: 1, at: 0 }, &[note], &[], &[])
+}
+
+#[test]
+fn notes_have_their_lines(rt: HostRuntime) -> Result<(), Fail> {
+    let alloc = rt.alloc();
+    for (note, line) in [
+        (
+            Note::Changed {
+                uid: 1,
+                old: Status::Idle,
+                new: Status::Running,
+            },
+            "node 1 IDLE RUNNING",
+        ),
+        (
+            Note::Changed {
+                uid: 20,
+                old: Status::Success,
+                new: Status::Failure,
+            },
+            "node 20 SUCCESS FAILURE",
+        ),
+        (
+            Note::Started {
+                uid: 2,
+                answer: Answer::Success,
+            },
+            "call 2 start SUCCESS",
+        ),
+        (
+            Note::Ran {
+                uid: 3,
+                answer: Answer::Failure,
+            },
+            "call 3 running FAILURE",
+        ),
+        (
+            Note::Started {
+                uid: 4,
+                answer: Answer::Skipped,
+            },
+            "call 4 start SKIPPED",
+        ),
+        (Note::Halted { uid: 5 }, "call 5 halted"),
+        (
+            Note::Root {
+                runner: 1,
+                answer: Answer::Running,
+            },
+            "root 1 RUNNING",
+        ),
+        (
+            Note::Quenched {
+                runner: 1,
+                uid: u32::MAX,
+            },
+            "quench 1 4294967295",
+        ),
+    ] {
+        let want = format!(in alloc; "Ok(()) tick 1 at 0\n{line}\n")?;
+        assert_eq!(rt; note_text(alloc, note)?, want, "{line}");
+    }
+    Ok(())
+}
+
+#[test]
+fn faults_have_their_lines(rt: HostRuntime) -> Result<(), Fail> {
+    let alloc = rt.alloc();
+    for (runner, uid, cause, line) in [
+        (1, 7, Cause::Overflow, "fault 1 7 Overflow"),
+        (2, 8, Cause::ZeroDivisor, "fault 2 8 ZeroDivisor"),
+        (3, 9, Cause::NotWhole, "fault 3 9 NotWhole"),
+        (4, 10, Cause::Mixed, "fault 4 10 Mixed"),
+        (5, 11, Cause::TextTooLong, "fault 5 11 TextTooLong"),
+        (
+            6,
+            12,
+            Cause::BadPort {
+                port: PortId::DelayMsec,
+            },
+            "fault 6 12 BadPort delay_msec",
+        ),
+    ] {
+        let want = format!(in alloc; "Ok(()) tick 1 at 0\n{line}\n")?;
+        let text = note_text(alloc, Note::Faulted { runner, uid, cause })?;
+        assert_eq!(rt; text, want, "{line}");
+    }
+    Ok(())
+}
+
+/// A tick of which a leaf is halted and two facts change, where these calls fail.
+fn tick_text(alloc: Global, fails: &[(u64, u64)]) -> Result<String, NoMemory> {
+    let notes = [Note::Halted { uid: 5 }];
+    let facts = [(1, i64::MIN), (0, 7)];
+    block_text(
+        alloc,
+        Header::Tick { runner: 1, at: 0 },
+        &notes,
+        &facts,
+        fails,
+    )
+}
+
+#[test]
+fn a_failing_write_leaves_the_lines_before_it(rt: HostRuntime) -> Result<(), Fail> {
+    let alloc = rt.alloc();
+    let table: [(&[(u64, u64)], &str); 5] = [
+        (
+            &[],
+            "Ok(()) tick 1 at 0\ncall 5 halted\nfact door -9223372036854775808\nfact charge 7\n",
+        ),
+        (&[(1, 3)], "Err(WriteFault) tic"),
+        (&[(2, 3)], "Err(WriteFault) tick 1 at 0\ncal"),
+        (&[(3, 3)], "Err(WriteFault) tick 1 at 0\ncall 5 halted\nfac"),
+        (
+            &[(4, 3)],
+            "Err(WriteFault) tick 1 at 0\ncall 5 halted\nfact door -9223372036854775808\nfac",
+        ),
+    ];
+    for (fails, want) in table {
+        assert_eq!(rt; tick_text(alloc, fails)?.as_str(), want);
+    }
+    Ok(())
+}
+
+/// A line of a number, a signed one and a text in quotes.
+fn put_line(alloc: Global, number: u64, signed: i64, quoted: &[u8]) -> Result<SureSink, TextStop> {
+    let mut line = Vec::new(alloc);
+    put_number(&mut line, number)?;
+    put_signed(&mut line, signed)?;
+    put_quoted(&mut line, quoted)?;
+    let mut sink = SureSink::new(alloc);
+    write_line(&mut sink, line.as_slice())?;
+    Ok(sink)
+}
+
+#[test]
+fn numbers_and_quotes(rt: HostRuntime) -> Result<(), Fail> {
+    let alloc = rt.alloc();
+    let table: [(u64, i64, &[u8], &[u8]); 2] = [
+        (0, 0, b"", b"00''"),
+        (
+            u64::MAX,
+            -40,
+            b"it's a \\ \n\x00\x1f\x7f \xc3\xa9",
+            b"18446744073709551615-40'it\\'s a \\\\ \\n\\x00\\x1f\x7f \xc3\xa9'",
+        ),
+    ];
+    for (number, signed, quoted, want) in table {
+        assert_eq!(rt; put_line(alloc, number, signed, quoted)?.list(), want);
+    }
+    Ok(())
+}
