@@ -7,7 +7,9 @@ pub mod Ports
 pub mod Rules
 pub mod Run
 pub mod Scripts
+pub mod Shapes
 pub mod Sites
+pub mod Sound
 pub mod Steps
 pub mod Terms
 pub mod Visit
