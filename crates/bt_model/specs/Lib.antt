@@ -1,4 +1,16 @@
+pub mod Done
+pub mod Leaves
 pub mod Lines
+pub mod Moves
 pub mod Names
+pub mod Ports
+pub mod Rules
+pub mod Run
+pub mod Scripts
+pub mod Shapes
+pub mod Sites
+pub mod Sound
+pub mod Steps
 pub mod Terms
+pub mod Visit
 pub mod WorldFile

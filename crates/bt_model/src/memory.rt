@@ -11,29 +11,45 @@ pub enum Memo {
         at: u32,
         seen: bool,
     },
-    /// Of Parallel: its thresholds, whether skipped children count, and the counts so far.
-    Counts {
-        need: u32,
-        most: u32,
-        skips: bool,
-        successes: u32,
-        failures: u32,
-        skipped: u32,
-    },
+    /// Of Parallel: its thresholds, and its counts so far.
+    Counts(Counts),
     /// Of Switch and IfThenElse: the chosen child.
     Chosen(Option<u32>),
-    /// Of Retry and Repeat: the turns done, and their limit or -1.
-    Turns {
-        done: u32,
-        limit: i64,
-    },
-    /// Of Timeout and Delay: the moment of the start and the length, in milliseconds.
-    Since {
-        first: u64,
-        length: u64,
-    },
+    /// Of Retry and Repeat: its turns.
+    Turns(Turns),
+    /// Of Timeout and Delay: its start and its length.
+    Since(Since),
     /// Of RunOnce: the answer that it has given.
     Finished(Option<Answer>),
+}
+
+/// The thresholds of a Parallel, and its counts so far.
+#[derive(Clone, Copy, Debug, PartialEq, Eq)]
+pub struct Counts {
+    /// The success count: so many children are to answer SUCCESS.
+    pub need: u32,
+    /// The failure count: so many children that answer FAILURE end the node.
+    pub most: u32,
+    /// Whether the written success count is negative, so that skipped children count towards it.
+    pub skips: bool,
+    pub successes: u32,
+    pub failures: u32,
+    /// The children that were skipped in the present visit; 0 between visits.
+    pub skipped: u32,
+}
+
+/// The turns of a Retry or Repeat that are done, and their limit, or -1 for none.
+#[derive(Clone, Copy, Debug, PartialEq, Eq)]
+pub struct Turns {
+    pub done: u32,
+    pub limit: i64,
+}
+
+/// The moment of a Timeout's or Delay's start, and its length, in milliseconds.
+#[derive(Clone, Copy, Debug, PartialEq, Eq)]
+pub struct Since {
+    pub first: u64,
+    pub length: u64,
 }
 
 /// The memory of a node and of all below it, in the shape of its term.

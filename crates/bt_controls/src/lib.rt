@@ -1,0 +1,13 @@
+//! The next move of a control node: which children are reset, and which child is visited then or
+//! which answer is given.
+#![tactic(auto)]
+
+mod choices;
+mod control;
+mod parallels;
+mod rounds;
+mod steps;
+
+pub use bt_model::{Heard, Move, Span, Then};
+pub use control::control_next;
+pub use steps::{over, pass, reset_and_give, reset_and_visit, visit};

@@ -1,0 +1,117 @@
+ghost use Rattle.std.specs.Prelude.{ℕ, ◌≡◌, ◌-◌, ◌+◌, ◌<◌, ◌^◌};
+ghost use Rattle.bt_model.specs.Moves.{GoesOn, HasRoom, hears_or_passes, makes, parallel_on as parallel_heard};
+ghost use Rattle.bt_model.specs.Rules.Parallels.{counted, counts_of, failure_holds, parallel, parallel_after, parallel_end, success_holds};
+ghost use Rattle.bt_model.specs.Steps.{Rule};
+
+use crate::steps::{over, reset_and_give, visit};
+use bt_model::{Answer, Counts, Heard, Kind, Memo, Move, Span};
+
+/// The thresholds and counts of a memo.
+pub(crate) fn counts_kept(memo: Memo) -> Counts
+    ensures { result ≡ counts_of memo }
+{
+    match memo {
+        Memo::Counts(counts) => counts,
+        _ => Counts {
+            need: 0,
+            most: 0,
+            skips: false,
+            successes: 0,
+            failures: 0,
+            skipped: 0,
+        },
+    }
+}
+
+/// The counts, once one more child has answered.
+pub(crate) fn count(counts: Counts, answer: Answer) -> Counts
+    requires { counts.successes + counts.failures + counts.skipped + 1 < 2 ^ 32 }
+    ensures { result ≡ counted answer counts }
+{
+    match answer {
+        Answer::Success => Counts {
+            successes: counts.successes + 1,
+            ..counts
+        },
+        Answer::Failure => Counts {
+            failures: counts.failures + 1,
+            ..counts
+        },
+        Answer::Skipped => Counts {
+            skipped: counts.skipped + 1,
+            ..counts
+        },
+        Answer::Running => counts,
+    }
+}
+
+fn has_succeeded(counts: Counts) -> bool
+    requires { counts.successes + counts.skipped < 2 ^ 32 }
+    ensures { result ≡ success_holds counts }
+{
+    counts.need <= counts.successes
+        || counts.skips && counts.need <= counts.successes + counts.skipped
+}
+
+fn has_failed(counts: Counts, n: u32) -> bool
+    ensures { result ≡ failure_holds n counts }
+{
+    n.saturating_sub(counts.failures) < counts.need || counts.most <= counts.failures
+}
+
+/// A Parallel behind the answer of the child at this place.
+pub(crate) fn parallel_answered(counts: Counts, n: u32, place: u32, answer: Answer) -> (Memo, Move)
+    requires there { place < n }
+    requires fits { HasRoom n counts place }
+    ensures next { parallel_heard n counts (Heard.Answered place answer) ≡ makes hears_or_passes (λ memo heard. parallel_heard n (counts_of memo) heard) result.0 result.1 }
+    ensures onward { (memo : Memo) → GoesOn Kind.Parallel n memo (place + 1) result.0 result.1.then }
+{
+    parallel_on(count(counts, answer), n, place + 1)
+}
+
+/// A Parallel tries its thresholds, and goes on at this place.
+pub(crate) fn parallel_on(counts: Counts, n: u32, place: u32) -> (Memo, Move)
+    requires { HasRoom n counts place }
+    ensures next { parallel_after n counts (parallel n (n - place) place counts) ≡ makes hears_or_passes (λ memo heard. parallel_heard n (counts_of memo) heard) result.0 result.1 }
+    ensures onward { (memo : Memo) → GoesOn Kind.Parallel n memo place result.0 result.1.then }
+{
+    if has_succeeded(counts) {
+        over(Answer::Success)
+    } else if has_failed(counts, n) {
+        over(Answer::Failure)
+    } else {
+        parallel_to(counts, n, place)
+    }
+}
+
+/// A Parallel goes on at this place, or ends behind its last child.
+pub(crate) fn parallel_to(counts: Counts, n: u32, place: u32) -> (Memo, Move)
+    requires { HasRoom n counts place }
+    ensures next { parallel n (n - place) place counts ≡ makes hears_or_passes (λ memo heard. parallel_heard n (counts_of memo) heard) result.0 result.1 }
+    ensures onward { (memo : Memo) → GoesOn Kind.Parallel n memo place result.0 result.1.then }
+{
+    if place < n {
+        (Memo::Counts(counts), visit(place))
+    } else {
+        end(counts, n)
+    }
+}
+
+/// Behind the last child of a Parallel: SKIPPED where all were skipped, else RUNNING.
+fn end(counts: Counts, n: u32) -> (Memo, Move)
+    ensures next { (hear : ℕ → (Heard → Rule) → Rule) (go : Memo → Heard → Rule) → parallel_end n counts ≡ makes hear go result.0 result.1 }
+    ensures onward { (memo : Memo) (place : ℕ) → GoesOn Kind.Parallel n memo place result.0 result.1.then }
+{
+    if counts.skipped == n {
+        over(Answer::Skipped)
+    } else {
+        let kept = Counts {
+            skipped: 0,
+            ..counts
+        };
+        (
+            Memo::Counts(kept),
+            reset_and_give(Span::None, Answer::Running),
+        )
+    }
+}

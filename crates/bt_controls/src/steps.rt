@@ -1,0 +1,51 @@
+ghost use Rattle.std.specs.Prelude.{◌≡◌, ℕ};
+ghost use Rattle.bt_model.specs.Moves.{makes};
+ghost use Rattle.bt_model.specs.Rules.Answers.{pass_on};
+ghost use Rattle.bt_model.specs.Steps.{Rule};
+
+use bt_model::{Answer, Heard, Memo, Move, Span, Then};
+
+/// A visit of the child at this place.
+pub fn visit(place: u32) -> Move
+    ensures { result ≡ record { reset = Span.None; then = Then.Visit place } }
+{
+    reset_and_visit(Span::None, place)
+}
+
+/// A visit of the child at this place, behind the resets of a span.
+pub fn reset_and_visit(reset: Span, place: u32) -> Move
+    ensures { result ≡ record { reset = reset; then = Then.Visit place } }
+{
+    Move {
+        reset,
+        then: Then::Visit(place),
+    }
+}
+
+/// The node's answer, behind the resets of a span.
+pub fn reset_and_give(reset: Span, answer: Answer) -> Move
+    ensures { result ≡ record { reset = reset; then = Then.Give answer } }
+{
+    Move {
+        reset,
+        then: Then::Give(answer),
+    }
+}
+
+/// The node is over: all children are reset, the memo is cleared and the answer is given.
+pub fn over(answer: Answer) -> (Memo, Move)
+    ensures { result ≡ record { 0 = Memo.Nothing; 1 = record { reset = Span.All; then = Then.Give answer } } }
+{
+    (Memo::Nothing, reset_and_give(Span::All, answer))
+}
+
+/// The answer is passed on: RUNNING keeps the memo, and at any other answer the node is over.
+pub fn pass(memo: Memo, answer: Answer) -> (Memo, Move)
+    ensures next { (hear : ℕ → (Heard → Rule) → Rule) (go : Memo → Heard → Rule) → pass_on memo answer ≡ makes hear go result.0 result.1 }
+    ensures gives { result.1.then ≡ Then.Give answer }
+{
+    match answer {
+        Answer::Running => (memo, reset_and_give(Span::None, answer)),
+        _ => over(answer),
+    }
+}

@@ -1,0 +1,15 @@
+-- The turns of a Retry or Repeat.
+use Rattle.std.specs.Prelude.{◌≡◌, ◌<◌}
+use Rattle.bt_model.specs.declared.memory.Memo.{Memo}
+use Rattle.bt_model.specs.declared.memory.Memo.TheVariants.{Turns as Turned}
+use Rattle.bt_model.specs.declared.memory.Turns.{Turns}
+use Rattle.bt_model.specs.declared.moves.Then.{Then}
+use Rattle.bt_model.specs.declared.moves.Then.TheVariants.{Visit, Give}
+use Rattle.bt_model.specs.Moves.{TurnIsLeft, turns_to_do}
+use Rattle.bt_model.specs.Rules.Turns.{limit_of, turns_of}
+
+-- the child is visited again only where fewer turns are to be done, and one is left
+abbrev pub TurnsOn : Turns → Memo → Then → Type 0
+TurnsOn t kept (Give a) = Unit {0}
+TurnsOn t kept (Visit place) =
+    (place ≡ 0) × (kept ≡ Turned (turns_of kept)) × TurnIsLeft (turns_of kept).done (limit_of (turns_of kept).limit) × (turns_to_do (turns_of kept) < turns_to_do t)

@@ -1,0 +1,105 @@
+ghost use Rattle.std.specs.Prelude.{IsTrue, ◌≡◌, ◌+◌, ◌<◌, ℕ};
+ghost use Rattle.bt_model.specs.Moves.{Fits, FitsChild, FitsStart, GoesOn, after, hears, hears_answer, is_decorator, keep_running_on, makes, next_place, rest};
+ghost use Rattle.bt_model.specs.Rules.Decorators.{forced, inverted, keep_running_after};
+ghost use Rattle.bt_model.specs.Rules.Kinds.{rule};
+
+use crate::once::{mark_kept, run_once_answered, run_once_begun};
+use crate::turns::{turn_answered, turns_kept};
+use crate::waits::{delay_begun, timeout_begun};
+use bt_controls::{pass, reset_and_give, visit};
+use bt_model::{Answer, Heard, Kind, Memo, Move, Span};
+
+/// The next move of a decorator or a SubTree node, and the memo behind it: where a visit begins at
+/// the moment `now`, in milliseconds, and behind each answer of the child. The memo is the one with
+/// which the visit begins, or that of the move before.
+pub fn decorator_next(kind: Kind, memo: Memo, now: u64, heard: Heard) -> (Memo, Move)
+    requires decorator { IsTrue (is_decorator kind) }
+    requires fits { Fits kind 1 memo heard }
+    // What is still to come of the node's rule is this move, and then what is still to come of it.
+    ensures next { rest kind 1 now memo heard ≡ makes (hears kind) (after kind 1) result.0 result.1 }
+    ensures onward { GoesOn kind 1 memo (next_place heard) result.0 result.1.then }
+{
+    match heard {
+        Heard::Begin { picked } => begin(kind, memo, now, picked),
+        Heard::Answered(place, answer) => answered(kind, memo, place, answer),
+        Heard::Passed(_) => unreachable!(),
+    }
+}
+
+/// The first move of a visit.
+fn begin(kind: Kind, memo: Memo, now: u64, picked: u32) -> (Memo, Move)
+    requires decorator { IsTrue (is_decorator kind) }
+    requires fits { FitsStart kind 1 memo picked }
+    ensures next { rule kind 1 memo picked now ≡ makes (hears kind) (after kind 1) result.0 result.1 }
+    ensures onward { GoesOn kind 1 memo 0 result.0 result.1.then }
+{
+    match kind {
+        Kind::SubTree => (memo, visit(0)),
+        Kind::Inverter => (memo, visit(0)),
+        Kind::ForceSuccess => (memo, visit(0)),
+        Kind::ForceFailure => (memo, visit(0)),
+        Kind::KeepRunningUntilFailure => (memo, visit(0)),
+        Kind::Retry => (Memo::Turns(turns_kept(memo)), visit(0)),
+        Kind::Repeat => (Memo::Turns(turns_kept(memo)), visit(0)),
+        Kind::Timeout => timeout_begun(memo, now),
+        Kind::Delay => delay_begun(memo, now),
+        Kind::RunOnce => run_once_begun(mark_kept(memo), picked),
+        _ => unreachable!(),
+    }
+}
+
+/// The move behind the answer of the child.
+fn answered(kind: Kind, memo: Memo, place: u32, answer: Answer) -> (Memo, Move)
+    requires decorator { IsTrue (is_decorator kind) }
+    requires there { place < 1 }
+    requires fits { FitsChild kind 1 memo place }
+    ensures next { after kind 1 memo (Heard.Answered place answer) ≡ makes (hears kind) (after kind 1) result.0 result.1 }
+    ensures onward { GoesOn kind 1 memo (place + 1) result.0 result.1.then }
+{
+    match kind {
+        Kind::SubTree => pass(memo, answer),
+        Kind::Inverter => pass(memo, invert(answer)),
+        Kind::ForceSuccess => pass(memo, force(Answer::Success, answer)),
+        Kind::ForceFailure => pass(memo, force(Answer::Failure, answer)),
+        Kind::KeepRunningUntilFailure => keep_running(memo, answer),
+        Kind::Retry => turn_answered(Answer::Failure, turns_kept(memo), answer),
+        Kind::Repeat => turn_answered(Answer::Success, turns_kept(memo), answer),
+        Kind::Timeout => pass(memo, answer),
+        Kind::Delay => pass(memo, answer),
+        Kind::RunOnce => run_once_answered(answer),
+        _ => unreachable!(),
+    }
+}
+
+/// SUCCESS and FAILURE exchanged.
+fn invert(answer: Answer) -> Answer
+    ensures { result ≡ inverted answer }
+{
+    match answer {
+        Answer::Success => Answer::Failure,
+        Answer::Failure => Answer::Success,
+        _ => answer,
+    }
+}
+
+/// SUCCESS and FAILURE turned into this answer.
+fn force(to: Answer, answer: Answer) -> Answer
+    ensures { result ≡ forced to answer }
+{
+    match answer {
+        Answer::Success => to,
+        Answer::Failure => to,
+        _ => answer,
+    }
+}
+
+/// A KeepRunningUntilFailure behind its child's answer.
+fn keep_running(memo: Memo, answer: Answer) -> (Memo, Move)
+    ensures next { keep_running_after memo answer ≡ makes hears_answer (λ m heard. keep_running_on m heard) result.0 result.1 }
+    ensures onward { (old : Memo) (first : ℕ) → GoesOn Kind.KeepRunningUntilFailure 1 old first result.0 result.1.then }
+{
+    match answer {
+        Answer::Success => (memo, reset_and_give(Span::All, Answer::Running)),
+        _ => pass(memo, answer),
+    }
+}

@@ -1,0 +1,52 @@
+ghost use Rattle.std.specs.Prelude.{◌≡◌};
+ghost use Rattle.bt_model.specs.Moves.{GoesOn, child_on, hears_answer, makes};
+ghost use Rattle.bt_model.specs.Rules.Decorators.{as_it_is, delay, is_late, since_of, timeout};
+
+use bt_controls::{over, reset_and_give, visit};
+use bt_model::{Answer, Kind, Memo, Move, Since, Span};
+
+/// The start and the length of a memo.
+fn since_kept(memo: Memo) -> Since
+    ensures { result ≡ since_of memo }
+{
+    match memo {
+        Memo::Since(since) => since,
+        _ => Since {
+            first: 0,
+            length: 0,
+        },
+    }
+}
+
+/// Whether the length of a Timeout, which is not 0, has passed since its start.
+fn has_passed(since: Since, now: u64) -> bool
+    ensures { result ≡ is_late since now }
+{
+    since.length != 0 && since.length <= now.saturating_sub(since.first)
+}
+
+/// A Timeout gives FAILURE once its length has passed, and else visits its child.
+pub(crate) fn timeout_begun(memo: Memo, now: u64) -> (Memo, Move)
+    ensures next { timeout memo now ≡ makes hears_answer (λ m heard. child_on as_it_is m heard) result.0 result.1 }
+    ensures onward { (old : Memo) → GoesOn Kind.Timeout 1 old 0 result.0 result.1.then }
+{
+    if has_passed(since_kept(memo), now) {
+        over(Answer::Failure)
+    } else {
+        (memo, visit(0))
+    }
+}
+
+/// A Delay gives RUNNING until its length has passed, and then visits its child.
+pub(crate) fn delay_begun(memo: Memo, now: u64) -> (Memo, Move)
+    ensures next { delay memo now ≡ makes hears_answer (λ m heard. child_on as_it_is m heard) result.0 result.1 }
+    ensures onward { (old : Memo) → GoesOn Kind.Delay 1 old 0 result.0 result.1.then }
+{
+    let since = since_kept(memo);
+    let next = if now.saturating_sub(since.first) < since.length {
+        reset_and_give(Span::None, Answer::Running)
+    } else {
+        visit(0)
+    };
+    (memo, next)
+}
