@@ -1,3 +1,5 @@
+pub mod Drivers
+pub mod Leaf
 pub mod Lines
 pub mod Names
 pub mod Terms

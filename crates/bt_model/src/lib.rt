@@ -14,7 +14,7 @@ mod world;
 
 pub use block::{Block, Header};
 pub use fault::{Cause, NodeFault, PortId, RunFault};
-pub use leaf::{Instance, Phase};
+pub use leaf::{DriverKind, Instance, Phase, Reply, Totals};
 pub use memory::{Memo, Memory};
 pub use names::is_reserved;
 pub use note::Note;
