@@ -89,6 +89,10 @@ is_held instance = is_some instance.since
 abbrev pub held_count : DriverState → ℕ
 held_count d = count_by is_held d.table
 
+-- no instance is held
+abbrev pub HoldsNothing : DriverState → Type 0
+HoldsNothing d = (instance : ℕ) → is_held (instance_of d instance) ≡ false
+
 -- an instance is held since a moment that is not above this one
 abbrev pub IsHeldBy : Instance → ℕ → Type 0
 IsHeldBy instance now = MatchOption instance.since ⊥ (λ since. since ≤ now)
@@ -132,15 +136,11 @@ roster_called ds place phase instance left = slice_set ds place (after_call (dri
 abbrev pub roster_halted : List DriverState → ℕ → ℕ → List DriverState
 roster_halted ds place instance = slice_set ds place (after_halted (driver_at ds place) instance)
 
--- the drivers, of which those from this place on have as many instances as these say, none of them ever held
+-- the drivers, of which the first have as many instances as is said, none of them ever held
 abbrev pub roster_prepared : List DriverState → List ℕ → List DriverState
 roster_prepared [] counts = []
-roster_prepared ds [] = ds
+roster_prepared (d ∷ ds) [] = d ∷ ds
 roster_prepared (d ∷ ds) (count ∷ counts) = prepared d count ∷ roster_prepared ds counts
-
--- whether an instance of the driver at a place is held
-abbrev pub is_held_at : List DriverState → ℕ → ℕ → Bool
-is_held_at ds place instance = is_held (instance_at ds place instance)
 
 -- there is this instance of the driver at this place
 abbrev pub IsThere : List DriverState → ℕ → ℕ → Type 0
@@ -148,4 +148,8 @@ IsThere ds place instance = (place < length ds) × (instance < length (driver_at
 
 -- no driver holds an instance
 abbrev pub NothingHeld : List DriverState → Type 0
-NothingHeld ds = (place instance : ℕ) → is_held_at ds place instance ≡ false
+NothingHeld ds = (place : ℕ) → HoldsNothing (driver_at ds place)
+
+-- what a call of `start` or `running` leaves by this rule of an instance of the driver at a place
+abbrev pub roster_answer : List DriverState → ℕ → ℕ → Rule → Phase → List Seen → List ℤ → ℕ → Answered
+roster_answer ds place instance rule phase inputs facts now = driver_answer (driver_at ds place) instance rule phase inputs facts now

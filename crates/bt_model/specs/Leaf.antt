@@ -90,25 +90,29 @@ fact_at facts fact = slice_index_or facts fact (pos 0)
 abbrev pub comparison : ℕ → Cmp → ℤ → Number
 comparison fact op value inputs facts = Ok (truth (compares op (int_cmp (fact_at facts fact) value)))
 
--- what an expression gives, for a row with these ports in a world with these facts
-abbrev pub number_of : List (List ℕ) → List Fact → Expr → Number
-number_of ports names e inputs facts = as_number (eval_of (λ name. look_of (sights inputs facts) (place_of ports names name)) e)
+-- what an expression gives, where its names have these places
+abbrev pub number_of : (List ℕ → ℕ) → Expr → Number
+number_of places e inputs facts = as_number (eval_of (λ name. look_of (sights inputs facts) (places name)) e)
 
 -- how a row answers, by its sort
-abbrev pub way_of : List (List ℕ) → List Fact → RowSort → Way
-way_of ports names (Is fact op value) = Tests (comparison fact op value)
-way_of ports names (When test) = Tests (number_of ports names test)
-way_of ports names (Timed ms fails) = Lasts ms (option_map (number_of ports names) fails)
-way_of ports names (Replay ms outcomes) = Replays ms outcomes
-way_of ports names (Gate test) = Waits (number_of ports names test)
+abbrev pub way_of : (List ℕ → ℕ) → RowSort → Way
+way_of places (Is fact op value) = Tests (comparison fact op value)
+way_of places (When test) = Tests (number_of places test)
+way_of places (Timed ms fails) = Lasts ms (option_map (number_of places) fails)
+way_of places (Replay ms outcomes) = Replays ms outcomes
+way_of places (Gate test) = Waits (number_of places test)
+
+-- the rule of a row whose names have these places
+abbrev pub rule_by : (List ℕ → ℕ) → Row → Rule
+rule_by places row = record {
+  way = way_of places row.sort;
+  sets = row.sets;
+  outs = map (λ (out : Out). number_of places out.expr) row.outs;
+}
 
 -- the rule of a row in a world with these facts
 abbrev pub rule_of : List Fact → Row → Rule
-rule_of names row = record {
-  way = way_of row.ports names row.sort;
-  sets = row.sets;
-  outs = map (λ (out : Out). number_of row.ports names out.expr) row.outs;
-}
+rule_of names row = rule_by (place_of row.ports names) row
 
 -- ---- Instances
 
