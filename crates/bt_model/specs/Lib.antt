@@ -1,4 +1,6 @@
 pub mod Done
+pub mod Drivers
+pub mod Leaf
 pub mod Leaves
 pub mod Lines
 pub mod Moves

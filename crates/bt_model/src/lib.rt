@@ -18,6 +18,8 @@ pub use fault::{Cause, NodeFault, PortId, RunFault};
 pub use leaf::{Instance, Phase};
 pub use memory::{Counts, Memo, Memory, Since, Turns};
 pub use moves::{Heard, Move, Span, Then};
+pub use leaf::{DriverKind, Instance, Phase, Reply, Totals};
+pub use memory::{Memo, Memory};
 pub use names::is_reserved;
 pub use note::Note;
 pub use status::{Answer, RoundEnd, Status};
