@@ -3,6 +3,7 @@
 #![tactic(auto)]
 
 mod block;
+mod cell;
 mod fault;
 mod leaf;
 mod memory;
@@ -13,6 +14,7 @@ mod term;
 mod world;
 
 pub use block::{Block, Header};
+pub use cell::Cell;
 pub use fault::{Cause, NodeFault, PortId, RunFault};
 pub use leaf::{Instance, Phase};
 pub use memory::{Memo, Memory};
