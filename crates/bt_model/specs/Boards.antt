@@ -15,6 +15,7 @@ use Rattle.bt_script.specs.declared.syntax.Stmt.{Stmt}
 use Rattle.bt_script.specs.declared.syntax.Stmt.TheVariants.{Create, Assign, Change, Plain}
 use Rattle.bt_script.specs.declared.value.Value.{Value}
 use Rattle.bt_model.specs.declared.cell.Cell.{Cell}
+use Rattle.bt_model.specs.declared.cell.Naming.{Naming}
 use Rattle.bt_model.specs.declared.term.Guards.{Guards}
 use Rattle.bt_model.specs.declared.term.Kind.{Kind}
 use Rattle.bt_model.specs.declared.term.Kind.TheVariants.{SubTree}
@@ -146,11 +147,6 @@ stmt_names (Change op name e) = name ∷ names_of e
 stmt_names (Plain e) = names_of e
 
 -- a key that is named in the scope of a number, with its cell
-pub record Naming : Type 0 where
-  pub number : ℕ
-  pub key : List ℕ
-  pub cell : Cell
-
 abbrev pub named_in : ℕ → Scope → List ℕ → Naming
 named_in number scope key = record { number = number; key = key; cell = scope key }
 

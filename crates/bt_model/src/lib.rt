@@ -14,7 +14,7 @@ mod term;
 mod world;
 
 pub use block::{Block, Header};
-pub use cell::Cell;
+pub use cell::{Cell, Naming};
 pub use fault::{Cause, NodeFault, PortId, RunFault};
 pub use leaf::{Instance, Phase};
 pub use memory::{Memo, Memory};

@@ -1,0 +1,4 @@
+//! Blackboards.
+#![tactic(auto)]
+
+mod scope;
