@@ -1,19 +1,15 @@
 -- Blackboards: the cell of each key in each scope of a tree, the slots of the cells, and what a board
 -- holds at the beginning.
-use Rattle.std.specs.Prelude.{ℕ, ◌+◌, ◌&&◌, nat_eq, List, [], ◌∷◌, ◌++◌, Bool, true, false, if◌then◌else◌, Option, Some, None, find, length, map, position, unwrap_or}
+use Rattle.std.specs.Prelude.{ℕ, ◌+◌, ◌&&◌, nat_eq, List, [], ◌∷◌, ◌++◌, Bool, true, false, if◌then◌else◌, Option, Some, None, find, length, map}
 use Rattle.std.specs.Cmp.Lexicographic.{slice_cmp}
 use Rattle.std.specs.List.{flat_map, list_any}
 use Rattle.std.specs.Ordering.{nat_cmp, ordering_then}
 use Rattle.std.specs.declared.cmp.Ordering.{Ordering}
 use Rattle.std.specs.declared.cmp.Ordering.TheVariants.{Less, Equal, Greater}
 use Rattle.std.specs.Str.{bytes_eq}
-use Rattle.bt_script.specs.declared.syntax.Expr.{Expr, fold-Expr}
-use Rattle.bt_script.specs.declared.syntax.Expr.TheOpen.{Expr-F, Num, Look, Group, Unary, Binary, Choose}
-use Rattle.bt_script.specs.declared.syntax.Expr.TheOpen as expr
 use Rattle.bt_script.specs.declared.syntax.Script.{Script}
-use Rattle.bt_script.specs.declared.syntax.Stmt.{Stmt}
-use Rattle.bt_script.specs.declared.syntax.Stmt.TheVariants.{Create, Assign, Change, Plain}
 use Rattle.bt_script.specs.declared.value.Value.{Value}
+use Rattle.bt_script.specs.Scripts.{stmt_names}
 use Rattle.bt_model.specs.declared.cell.Cell.{Cell}
 use Rattle.bt_model.specs.declared.cell.Naming.{Naming}
 use Rattle.bt_model.specs.declared.term.Guards.{Guards}
@@ -126,26 +122,6 @@ scope_made None = main_scope
 abbrev pub scope_of : Tree → ℕ → Scope
 scope_of tree number = scope_made (find (λ (node : Standing). makes_scope node.kind && nat_eq node.uid number) (standing tree))
 
--- the names that an expression looks at
-abbrev pub names_step : Expr-F (List (List ℕ)) → List (List ℕ)
-names_step (Num n) = []
-names_step (expr.Lit t) = []
-names_step (Look name) = name ∷ []
-names_step (Group a) = a
-names_step (Unary op a) = a
-names_step (Binary op a b) = a ++ b
-names_step (Choose a b c) = a ++ b ++ c
-
-abbrev pub names_of : Expr → List (List ℕ)
-names_of = fold-Expr (List (List ℕ)) names_step
-
--- the names of a statement
-abbrev pub stmt_names : Stmt → List (List ℕ)
-stmt_names (Create name e) = name ∷ names_of e
-stmt_names (Assign name e) = name ∷ names_of e
-stmt_names (Change op name e) = name ∷ names_of e
-stmt_names (Plain e) = names_of e
-
 -- a key that is named in the scope of a number, with its cell
 abbrev pub named_in : ℕ → Scope → List ℕ → Naming
 named_in number scope key = record { number = number; key = key; cell = scope key }
@@ -200,9 +176,10 @@ in_order (cell ∷ cells) = placed cell (in_order cells)
 abbrev pub slots : Tree → List Cell
 slots tree = in_order (map (λ (n : Naming). n.cell) (namings tree))
 
--- the slot of a cell, and 0 where it has none
+-- the slot of a cell: how many cells come before it
 abbrev pub slot_in : List Cell → Cell → ℕ
-slot_in cells cell = unwrap_or (position (λ c. same_cell c cell) cells) 0
+slot_in [] cell = 0
+slot_in (first ∷ rest) cell = if same_cell first cell then 0 else 1 + slot_in rest cell
 
 -- the slots of the names in a scope
 abbrev pub names_in : List Cell → Scope → List ℕ → ℕ
