@@ -1,10 +1,11 @@
 -- What the scopes mean while the names of a tree are resolved.
-use Rattle.std.specs.Prelude.{ℕ, List, Option, Some, None}
+use Rattle.std.specs.Prelude.{ℕ, List, Option, Some, None, if◌then◌else◌}
 use Rattle.std.specs.Str.{bytes_eq}
 use Rattle.indexmap.specs.IndexMap.{get}
 use Rattle.bt_model.specs.declared.cell.Cell.{Cell}
-use Rattle.bt_model.specs.Boards.{main_scope, cell_by_port}
+use Rattle.bt_model.specs.Boards.{main_scope, cell_by_port, cell_by_value}
 use Rattle.bt_model.specs.Boards as model
+use Rattle.bt_model.specs.declared.term.Port.{Port}
 use Rattle.bt_board.specs.declared.scope.Mappings.{Mappings}
 use Rattle.bt_board.specs.declared.scope.Scope.{Scope, Main, Below'}
 
@@ -16,6 +17,10 @@ cell_by_entry None mappings outer key = cell_by_port None mappings.uid mappings.
 -- the scope of mappings within another
 abbrev pub cells_below : Mappings → model.Scope → model.Scope
 cells_below mappings outer key = cell_by_entry (get bytes_eq mappings.cells key) mappings outer key
+
+-- the cell that a port of a SubTree node gives its name
+abbrev pub cell_of_port : Port → ℕ → model.Scope → List ℕ → Option Cell
+cell_of_port port uid outer key = if bytes_eq port.name key then Some (cell_by_value port.value uid outer key) else None
 
 -- the scope that is meant
 abbrev pub cells_of : Scope → model.Scope

@@ -1,6 +1,9 @@
-ghost use Rattle.std.specs.Prelude.{◌≡◌, ℕ, List, IfOk};
+ghost use Rattle.std.specs.Prelude.{◌≡◌, ℕ, List, IfOk, OnOk};
+ghost use Rattle.std.specs.Option.{option_or};
+ghost use Rattle.std.specs.Str.{bytes_eq};
+ghost use Rattle.indexmap.specs.IndexMap.{get};
 ghost use Rattle.bt_model.specs.Boards.{is_private, scope_below, owner, cell_by_value};
-ghost use Rattle.bt_board.specs.Scopes.{number_of, cells_of, cells_below};
+ghost use Rattle.bt_board.specs.Scopes.{number_of, cells_of, cells_below, cell_of_port};
 
 use bt_model::{Cell, Port, PortValue};
 use bt_script::{Name, NoMemory};
@@ -79,6 +82,24 @@ fn mapped(
     }
 }
 
+/// Adds the cell that a port of a SubTree node gives its name. An earlier port of the name counts.
+fn add_port(
+    alloc: Global,
+    port: &Port,
+    uid: u32,
+    outer: &Scope,
+    cells: &mut IndexMap<Name, Cell>,
+) -> Result<(), NoMemory>
+    ensures { OnOk result ((key : List ℕ) → get bytes_eq cells.new key ≡ option_or (get bytes_eq cells.old key) (cell_of_port port.now uid (cells_of outer.now) key)) }
+{
+    if !cells.contains_key(&port.name) {
+        let name = port.name.copy(alloc)?;
+        let cell = mapped(alloc, port, uid, outer)?;
+        cells.insert(name, cell)?;
+    }
+    Ok(())
+}
+
 /// The mappings of a SubTree node with these ports, within a scope. The first port of a name counts.
 pub(crate) fn mappings_of(
     alloc: Global,
@@ -92,11 +113,7 @@ pub(crate) fn mappings_of(
 {
     let mut cells = IndexMap::new(alloc);
     for port in ports {
-        if !cells.contains_key(&port.name) {
-            let name = port.name.copy(alloc)?;
-            let cell = mapped(alloc, port, uid, outer)?;
-            cells.insert(name, cell)?;
-        }
+        add_port(alloc, port, uid, outer, &mut cells)?;
     }
     Ok(Mappings {
         uid,
