@@ -1,4 +1,5 @@
 //! Blackboards.
 #![tactic(auto)]
 
+mod naming;
 mod scope;
