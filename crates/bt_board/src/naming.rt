@@ -4,7 +4,7 @@ ghost use Rattle.bt_script.specs.Scripts.{names_of, stmt_names};
 ghost use Rattle.bt_model.specs.Boards.{given, scripts_of, named_in, value_keys, namings_at, standing_from, standing_all};
 ghost use Rattle.bt_model.specs.Terms.{node_count};
 ghost use Rattle.bt_board.specs.Scopes.{number_of, cells_of};
-ghost use Rattle.bt_board.specs.Namings.{script_names, names_here};
+ghost use Rattle.bt_board.specs.Namings.{script_names, names_here, keys_of_node, namings_of_term, namings_of_terms};
 
 use crate::scope::{Scope, cell_in, mappings_of, scope_number};
 use bt_model::{Guards, Kind, Naming, Port, PortValue, Term};
@@ -140,4 +140,62 @@ fn name_ports(
         name_key(alloc, &port.name, scope, namings)?;
     }
     Ok(())
+}
+
+/// Adds what a node names in the scope in which it stands.
+fn name_node(
+    alloc: Global,
+    node: &Term,
+    scope: &Scope,
+    namings: &mut Vec<Naming>,
+) -> Result<(), NoMemory>
+    ensures { OnOk result (namings.new.items ≡ namings.old.items ++ names_here scope.now (keys_of_node node.now)) }
+{
+    name_scripts(alloc, &node.code, &node.guards, scope, namings)?;
+    name_values(alloc, node.ports.list(), scope, namings)
+}
+
+/// Adds what the nodes of a term name, from this uid on, and answers the uid behind them.
+#[cycle(terms)]
+fn name_term(
+    alloc: Global,
+    term: &Term,
+    uid: u32,
+    scope: &Scope,
+    namings: &mut Vec<Naming>,
+) -> Result<u32, NoMemory>
+    requires { uid + node_count term.now < 2 ^ 32 }
+    ensures next { IfOk result (λ next. next ≡ uid + node_count term.now) }
+    ensures named { OnOk result (namings.new.items ≡ namings.old.items ++ namings_of_term term.now uid (number_of scope.now) (cells_of scope.now)) }
+{
+    name_node(alloc, term, scope, namings)?;
+    if let Kind::SubTree = term.kind {
+        let ports = term.ports.list();
+        let mappings = mappings_of(alloc, uid, ports, term.autoremap, scope)?;
+        let inner = Scope::Below(&mappings, &*scope);
+        name_ports(alloc, ports, &inner, namings)?;
+        name_terms(alloc, term.children.list(), uid + 1, &inner, namings)
+    } else {
+        name_terms(alloc, term.children.list(), uid + 1, scope, namings)
+    }
+}
+
+/// The same for some terms, one after the other.
+#[cycle(terms)]
+fn name_terms(
+    alloc: Global,
+    terms: &[Term],
+    uid: u32,
+    scope: &Scope,
+    namings: &mut Vec<Naming>,
+) -> Result<u32, NoMemory>
+    requires { uid + sum (map node_count terms.now) < 2 ^ 32 }
+    ensures next { IfOk result (λ next. next ≡ uid + sum (map node_count terms.now)) }
+    ensures named { OnOk result (namings.new.items ≡ namings.old.items ++ namings_of_terms terms.now uid (number_of scope.now) (cells_of scope.now)) }
+{
+    let mut next = uid;
+    for term in terms {
+        next = name_term(alloc, term, next, scope, namings)?;
+    }
+    Ok(next)
 }
