@@ -1,3 +1,4 @@
 pub mod Named
+pub mod Ordered
 pub mod Scoping
 pub mod Standings

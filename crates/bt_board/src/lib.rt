@@ -2,4 +2,6 @@
 #![tactic(auto)]
 
 mod naming;
+mod order;
 mod scope;
+mod slots;

@@ -189,6 +189,21 @@ names_in cells scope key = slot_in cells (scope key)
 abbrev pub slot_of : Tree → ℕ → List ℕ → Option ℕ
 slot_of tree number key = if is_named tree number key then Some (slot_in (slots tree) (scope_of tree number key)) else None
 
+-- the keys that a tree names, each in its scope as if the scope owned it, in order
+abbrev pub named_keys : Tree → List Cell
+named_keys tree = in_order (map (λ (n : Naming). owner n.number n.key) (namings tree))
+
+-- the slots as a table: the cells in order, and the keys that are named, each with the slot of its cell
+pub record SlotTable : Type 0 where
+  pub cells : List Cell
+  pub named : List (Cell × ℕ)
+
+abbrev pub slot_table : Tree → SlotTable
+slot_table tree = record {
+  cells = slots tree;
+  named = map (λ (k : Cell). (k, slot_in (slots tree) (scope_of tree k.scope k.key))) (named_keys tree);
+}
+
 -- a literal with the cell that holds it
 abbrev pub value_literals : PortValue → List ℕ → ℕ → List (Cell × Value)
 value_literals (Lit value) name uid = (owner uid name, value) ∷ []
