@@ -1,3 +1,4 @@
+pub mod Cells
 pub mod Named
 pub mod Ordered
 pub mod Scoping

@@ -1,13 +1,13 @@
 ghost use Rattle.std.specs.Prelude.{◌≡◌, ◌+◌, ◌<◌, ◌^◌, ◌∷◌, ◌++◌, [], map, sum, IfOk, OnOk};
 ghost use Rattle.std.specs.List.{flat_map};
 ghost use Rattle.bt_script.specs.Scripts.{names_of, stmt_names};
-ghost use Rattle.bt_model.specs.Boards.{given, scripts_of, named_in, value_keys, namings_at, standing_from, standing_all};
+ghost use Rattle.bt_model.specs.Boards.{given, scripts_of, value_keys, namings};
 ghost use Rattle.bt_model.specs.Terms.{node_count};
 ghost use Rattle.bt_board.specs.Scopes.{number_of, cells_of};
 ghost use Rattle.bt_board.specs.Namings.{script_names, names_here, keys_of_node, namings_of_term, namings_of_terms};
 
 use crate::scope::{Scope, cell_in, mappings_of, scope_number};
-use bt_model::{Guards, Kind, Naming, Port, PortValue, Term};
+use bt_model::{Guards, Kind, Naming, Port, PortValue, Term, Tree};
 use bt_script::{Expr, Name, NoMemory, Script, Stmt};
 use std::alloc::Global;
 
@@ -198,4 +198,14 @@ fn name_terms(
         next = name_term(alloc, term, next, scope, namings)?;
     }
     Ok(next)
+}
+
+/// All that a tree names.
+pub(crate) fn name_tree(alloc: Global, tree: &Tree) -> Result<Vec<Naming>, NoMemory>
+    requires { node_count tree.now.term < 2 ^ 31 }
+    ensures { IfOk result (λ named. named.items ≡ namings tree.now) }
+{
+    let mut named = Vec::new(alloc);
+    name_term(alloc, &tree.term, 1, &Scope::Main, &mut named)?;
+    Ok(named)
 }
