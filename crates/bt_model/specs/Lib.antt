@@ -1,3 +1,4 @@
+pub mod Boards
 pub mod Done
 pub mod Drivers
 pub mod Leaf

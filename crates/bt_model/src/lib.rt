@@ -3,6 +3,7 @@
 #![tactic(auto)]
 
 mod block;
+mod cell;
 mod fault;
 mod leaf;
 mod memory;
@@ -14,6 +15,7 @@ mod term;
 mod world;
 
 pub use block::{Block, Header};
+pub use cell::{Cell, Naming};
 pub use fault::{Cause, NodeFault, PortId, RunFault};
 pub use leaf::{Instance, Phase};
 pub use memory::{Counts, Memo, Memory, Since, Turns};

@@ -1,0 +1,5 @@
+pub mod Cells
+pub mod Named
+pub mod Ordered
+pub mod Scoping
+pub mod Standings

@@ -1,0 +1,33 @@
+-- What is named while a tree is gone through.
+use Rattle.std.specs.Prelude.{ℕ, List, ◌++◌, map}
+use Rattle.std.specs.List.{flat_map}
+use Rattle.bt_script.specs.declared.syntax.Script.{Script}
+use Rattle.bt_script.specs.Scripts.{stmt_names}
+use Rattle.bt_model.specs.declared.cell.Naming.{Naming}
+use Rattle.bt_model.specs.declared.term.Port.{Port}
+use Rattle.bt_model.specs.declared.term.Term.{Term, out-Term}
+use Rattle.bt_model.specs.Boards.{named_in, namings_at, scripts_of, standing_from, standing_all, value_keys}
+use Rattle.bt_model.specs.Boards as model
+use Rattle.bt_board.specs.declared.scope.Scope.{Scope}
+use Rattle.bt_board.specs.Scopes.{number_of, cells_of}
+
+-- these keys, named in a scope
+abbrev pub names_here : Scope → List (List ℕ) → List Naming
+names_here scope keys = map (named_in (number_of scope) (cells_of scope)) keys
+
+-- the names of some scripts
+abbrev pub script_names : List Script → List (List ℕ)
+script_names scripts = flat_map (λ (script : Script). flat_map stmt_names script.stmts) scripts
+
+-- the keys that a node names in the scope in which it stands
+abbrev pub keys_of_node : Term → List (List ℕ)
+keys_of_node node =
+    script_names (scripts_of (out-Term node).code (out-Term node).guards) ++ flat_map (λ (port : Port). value_keys port.value) (out-Term node).ports
+
+-- what the nodes of a term name, from this uid on, within a scope of this number
+abbrev pub namings_of_term : Term → ℕ → ℕ → model.Scope → List Naming
+namings_of_term term uid number scope = flat_map namings_at (standing_from term uid number scope)
+
+-- what some terms name, one after the other
+abbrev pub namings_of_terms : List Term → ℕ → ℕ → model.Scope → List Naming
+namings_of_terms terms uid number scope = flat_map namings_at (standing_all (map standing_from terms) uid number scope)

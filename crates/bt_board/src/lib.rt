@@ -1,0 +1,7 @@
+//! Blackboards.
+#![tactic(auto)]
+
+mod naming;
+mod order;
+mod scope;
+mod slots;
