@@ -1,8 +1,12 @@
+pub mod BuiltIns
 pub mod Done
 pub mod Leaf
 pub mod Lines
 pub mod Names
+pub mod Numbers
 pub mod Run
 pub mod Terms
+pub mod Trees
+pub mod Values
 pub mod Visit
 pub mod WorldFile

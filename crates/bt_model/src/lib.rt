@@ -3,21 +3,25 @@
 #![tactic(auto)]
 
 mod block;
+mod built_ins;
 mod fault;
 mod leaf;
 mod memory;
 mod names;
 mod note;
+mod numbers;
 mod status;
 mod term;
 mod world;
 
 pub use block::{Block, Header};
+pub use built_ins::{Class, PortRule, Range, class_of, fits, has_code, kind_named, ports_of, takes, writes};
 pub use fault::{Cause, NodeFault, PortId, RunFault};
 pub use leaf::{Instance, Phase};
 pub use memory::{Memo, Memory};
 pub use names::is_reserved;
 pub use note::Note;
+pub use numbers::int;
 pub use status::{Answer, RoundEnd, Status};
 pub use term::{Guards, Kind, Port, PortValue, Term, Tree};
 pub use world::{Event, Fact, Out, Row, RowSort, Set, What, World};
