@@ -1,1 +1,2 @@
-pub mod Reads
+pub mod Heads
+pub mod Scripts

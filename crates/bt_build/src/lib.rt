@@ -1,9 +1,8 @@
 //! From the element of a tree file to the tree.
 #![tactic(auto)]
 
-mod limits;
-mod names;
-mod tree;
+mod fault;
+mod scripts;
 
-pub use bt_elements::Unbuilt;
-pub use tree::build;
+pub use fault::BuildFault;
+pub use scripts::script;
