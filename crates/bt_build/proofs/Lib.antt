@@ -1,2 +1,1 @@
-pub mod EveryText
-pub mod Scripts
+pub mod ScriptAnswers

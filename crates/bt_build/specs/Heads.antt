@@ -6,11 +6,7 @@ use Rattle.bt_model.specs.declared.term.Kind.{Kind}
 use Rattle.bt_model.specs.declared.term.Kind.TheVariants.{SubTree, Leaf}
 use Rattle.bt_model.specs.BuiltIns.{class_of, kind_named, writes}
 use Rattle.bt_manifest.specs.Attributes.{Attributes, value_of}
-
--- a node's kind and ID
-pub record Head : Type 0 where
-  pub kind : Kind
-  pub id : List ℕ
+use Rattle.bt_build.specs.declared.head.Head.{Head}
 
 -- the elements that name their node in the attribute `ID`
 abbrev pub is_explicit : List ℕ → Bool

@@ -1,4 +1,4 @@
-use Rattle.bt_build.proofs.Scripts.{gives-script_in}
+use Rattle.bt_build.proofs.ScriptAnswers.{gives-script_in}
 use Rattle.bt_build.proofs.scripts.script.Goals as goal
 
 pub returns : goal.returns

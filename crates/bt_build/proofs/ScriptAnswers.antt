@@ -8,7 +8,7 @@ use Rattle.bt_script.specs.Reading.{Answers, ReadsScript, StmtsFault}
 use Rattle.bt_script.specs.Stops.{Gives}
 use Rattle.bt_script.proofs.Exclusive.{no-stmts_fault, one-script, one-stmts_fault}
 use Rattle.bt_build.specs.Scripts.{script_in}
-use Rattle.bt_build.proofs.EveryText.{Reading, every_text}
+use Rattle.bt_build.specs.EveryText.{Reading, every_text}
 
 is_script : (text : List ℕ) (s : Script) → ReadsScript text s → (r : Reading text) → elim r as (λ _. Result Script ScriptFault) [ inl t ↦ Ok t.0 | inr f ↦ Err f.0 ] ≡ Ok s
 is_script text s h (inl t) = ap (λ (x : Script). Ok x) (one-script text t.0 s t.1 h)

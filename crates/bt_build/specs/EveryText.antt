@@ -1,7 +1,7 @@
 -- Every text reads as a script by the grammar, or has a fault.
 use Rattle.std.specs.Prelude.{◌≡◌, ℕ, ◌≤◌, ◌<◌, ◌⊎◌, List, [], ◌∷◌, ◌++◌, length, Bool, true, false, nat_le, Option, Some, None, Result, Ok, Err, refl}
-use Rattle.std.proofs.Common.{inl, inr, ap, sym, ◌∙◌, arith}
-use Rattle.std.proofs.lemmas.Bool.Decides.{nat_tests}
+use Rattle.std.proofs.Common.{inl, inr, ap, ◌∙◌}
+use Rattle.std.proofs.lemmas.Bool.{leb-true, leb-false}
 use Rattle.bt_script.specs.declared.check.Verdict.{Verdict}
 use Rattle.bt_script.specs.declared.check.Verdict.TheVariants as verdict
 use Rattle.bt_script.specs.declared.check.Stage.TheVariants.{Blank}
@@ -70,8 +70,8 @@ short_text text short = by (refused f.0 (token_fault text) (length text)) refl
         built text short c.0 c.1.0 c.1.1 (high_stmt c.1.0 (tokens_of text)) refl
 
 by_length : (text : List ℕ) (b : Bool) → nat_le (length text) 4096 ≡ b → Reading text
-by_length text true h = let k : length text ≤ 4096 = grind (arith, nat_tests) in short_text text k
-by_length text false h = let k : 4096 < length text = grind (arith, nat_tests) in inr (TooLong, k)
+by_length text true h = short_text text (leb-true (length text) 4096 h)
+by_length text false h = inr (TooLong, leb-false (length text) 4096 h)
 
 -- every text reads as a script, or has a fault
 pub every_text : (text : List ℕ) → Reading text

@@ -1,0 +1,11 @@
+-- What a call that gives a list that it made gives.
+use Rattle.std.specs.Prelude.{◌≡◌, List, Result, Ok, Err, Vec}
+use Rattle.std.specs.Global.{Global}
+use Rattle.bt_script.specs.declared.stop.Stop.{Stop}
+use Rattle.bt_script.specs.declared.stop.Stop.TheVariants as stop
+
+-- the list that is said, or exactly the fault that is said; want of memory may come anywhere
+abbrev pub GivesList : {X F : Type 0} → Result (Vec X Global) (Stop F) → Result (List X) F → Type 0
+GivesList (Ok v) said = said ≡ Ok v.items
+GivesList (Err stop.NoMemory) said = Unit {0}
+GivesList (Err (stop.Fault f)) said = said ≡ Err f
