@@ -208,12 +208,18 @@ scripts_in uid ports text autoremap attributes =
     (guards_in uid attributes))
     (script_of uid text)
 
+-- the rest of what the attributes of a node say, whose ports are these
+abbrev pub rest_in : ℕ → Kind → Attributes → List Port → Result Content BuildFault
+rest_in uid kind attributes ports =
+    go_on (λ text. go_on (λ autoremap. scripts_in uid ports text autoremap attributes)
+    (autoremap_in uid kind attributes))
+    (code_text uid (has_code kind) attributes)
+
+abbrev pub known_in : ℕ → Bool → Kind → Rules → Attributes → Result Content BuildFault
+known_in uid true kind rules attributes = go_on (rest_in uid kind attributes) (ports_in uid (has_code kind) rules attributes)
+known_in uid false kind rules attributes = Err (UnknownPort uid)
+
 -- what the attributes of a node say: unknown ports come first, then values that may not stand, then scripts that can't be read
 abbrev pub content_in : ℕ → Models → Kind → List ℕ → Attributes → Result Content BuildFault
 content_in uid models kind id attributes =
-    if all_known (has_code kind) (rules_of models kind id) attributes
-    then go_on (λ ports. go_on (λ text. go_on (λ autoremap. scripts_in uid ports text autoremap attributes)
-    (autoremap_in uid kind attributes))
-    (code_text uid (has_code kind) attributes))
-    (ports_in uid (has_code kind) (rules_of models kind id) attributes)
-    else Err (UnknownPort uid)
+    known_in uid (all_known (has_code kind) (rules_of models kind id) attributes) kind (rules_of models kind id) attributes

@@ -9,3 +9,9 @@ abbrev pub GivesList : {X F : Type 0} → Result (Vec X Global) (Stop F) → Res
 GivesList (Ok v) said = said ≡ Ok v.items
 GivesList (Err stop.NoMemory) said = Unit {0}
 GivesList (Err (stop.Fault f)) said = said ≡ Err f
+
+-- the same of any value, as it is seen
+abbrev pub GivesSeen : {X Y F : Type 0} → (X → Y) → Result X (Stop F) → Result Y F → Type 0
+GivesSeen seen (Ok x) said = said ≡ Ok (seen x)
+GivesSeen seen (Err stop.NoMemory) said = Unit {0}
+GivesSeen seen (Err (stop.Fault f)) said = said ≡ Err f

@@ -59,18 +59,25 @@ one_node_more numbers = record { nodes = numbers.nodes + 1; scopes = numbers.sco
 abbrev pub one_scope_more : Numbers → Numbers
 one_scope_more numbers = record { nodes = numbers.nodes; scopes = numbers.scopes + 1 }
 
+-- the name of a node is its ID where no other is written
+abbrev pub name_in : Attributes → List ℕ → List ℕ
+name_in attributes id = unwrap_or (value_of (codes "name") attributes) id
+
 -- a node of all that was read
-abbrev pub node_with : Head → Attributes → Content → List Term × Numbers → Result (Term × Numbers) BuildFault
-node_with head attributes content below = Ok (roll-Term (record {
+abbrev pub term_of : Head → Attributes → Content → List Term → Term
+term_of head attributes content children = roll-Term (record {
   kind = head.kind;
   id = head.id;
-  name = unwrap_or (value_of (codes "name") attributes) head.id;
+  name = name_in attributes head.id;
   ports = content.ports;
   code = content.code;
   guards = content.guards;
   autoremap = content.autoremap;
-  children = below.0;
-}), below.1)
+  children = children;
+})
+
+abbrev pub node_with : Head → Attributes → Content → List Term × Numbers → Result (Term × Numbers) BuildFault
+node_with head attributes content below = Ok (term_of head attributes content below.0, below.1)
 
 -- a node of this kind and ID, with these elements as its children: what its attributes say comes before its children
 abbrev pub node_of : Models → Reader → Head → Attributes → List (List ℕ) → List Element → Numbers → ℕ → Result (Term × Numbers) BuildFault

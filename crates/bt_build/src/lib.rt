@@ -8,6 +8,7 @@ mod ports;
 mod rules;
 mod scripts;
 mod tree;
+mod trees;
 mod values;
 
 pub use fault::BuildFault;

@@ -12,4 +12,5 @@ mod read;
 pub use attributes::attribute;
 pub use fault::ManifestFault;
 pub use models::{Manifest, ModelPort, NodeModel, model};
+pub use names::is_port_name;
 pub use read::manifest_of;

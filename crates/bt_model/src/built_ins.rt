@@ -1,8 +1,8 @@
 ghost use Rattle.std.specs.Prelude.{◌≡◌, ◌+◌, map, take};
+ghost use Rattle.bt_script.specs.declared.value.Value.TheVariants.{Int, Text};
 ghost use Rattle.bt_model.specs.BuiltIns.{class_of, fits, has_code, kind_among, kind_named, named_kinds, ports_of, row_seen, rule_seen, switch_ports, takes, takes_by, writes};
 
 use crate::term::Kind;
-use bt_script::Value;
 
 /// The class of a node, by which an element may write it with its name in the attribute `ID`:
 /// `Control`, `Decorator`, `Action` or `Condition`.
@@ -274,20 +274,25 @@ pub fn writes(name: &[u8], class: Class) -> bool
     }
 }
 
-/// Whether the literal is within the range.
-pub fn fits(range: Range, literal: &Value) -> bool
-    ensures { result ≡ fits range literal.now }
+/// Whether the number is within the range.
+pub fn int_fits(range: Range, n: i64) -> bool
+    ensures { result ≡ fits range (Int n) }
 {
-    match (range, literal) {
-        (Range::AnyValue, Value::Int(_)) => true,
-        (Range::AnyValue, Value::Text(text)) => text.list().len() <= 4096,
-        (Range::AnyInt, Value::Int(_)) => true,
-        (Range::Turns, Value::Int(n)) => *n == -1 || *n >= 1 && *n <= 1000,
-        (Range::Duration, Value::Int(n)) => *n >= 0 && *n <= 4_294_967_295,
-        (Range::Truth, Value::Int(n)) => *n == 0 || *n == 1,
-        (Range::Truth, Value::Text(text)) => {
-            text.list() == b"true".as_slice() || text.list() == b"false".as_slice()
-        }
-        _ => false,
+    match range {
+        Range::AnyValue | Range::AnyInt => true,
+        Range::Turns => n == -1 || n >= 1 && n <= 1000,
+        Range::Duration => n >= 0 && n <= 4_294_967_295,
+        Range::Truth => n == 0 || n == 1,
+    }
+}
+
+/// Whether the text is within the range.
+pub fn text_fits(range: Range, text: &[u8]) -> bool
+    ensures { result ≡ fits range (Text text.now) }
+{
+    match range {
+        Range::AnyValue => text.len() <= 4096,
+        Range::AnyInt | Range::Turns | Range::Duration => false,
+        Range::Truth => text == b"true".as_slice() || text == b"false".as_slice(),
     }
 }

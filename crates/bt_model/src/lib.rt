@@ -15,7 +15,7 @@ mod term;
 mod world;
 
 pub use block::{Block, Header};
-pub use built_ins::{Class, PortRule, Range, class_of, fits, has_code, kind_named, ports_of, takes, writes};
+pub use built_ins::{Class, PortRule, Range, class_of, has_code, int_fits, kind_named, ports_of, takes, text_fits, writes};
 pub use fault::{Cause, NodeFault, PortId, RunFault};
 pub use leaf::{Instance, Phase};
 pub use memory::{Memo, Memory};
