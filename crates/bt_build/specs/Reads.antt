@@ -1,129 +1,201 @@
--- The tree that an element reads as.
-use Rattle.std.specs.Prelude.{ℕ, List, [], ◌∷◌, length, Bool, true, false, ◌&&◌, if◌then◌else◌, nat_eq, nat_le, codes, Option, Some, None, Result, Ok, Err}
-use Rattle.std.specs.List.{list_all}
-use Rattle.std.specs.Option.{option_map, option_and_then}
+-- The tree that the document element of a tree file reads as, or the first fault.
+use Rattle.std.specs.Prelude.{ℕ, zero, suc, ◌+◌, List, [], ◌∷◌, ◌++◌, length, map, codes, Bool, true, false, not, is_some, ◌&&◌, ◌||◌, nat_eq, nat_le, if◌then◌else◌, Option, Some, None, unwrap_or, Result, Ok, Err}
+use Rattle.std.specs.List.{list_any}
+use Rattle.std.specs.Map.{lookup}
 use Rattle.std.specs.Str.{bytes_eq}
-use Rattle.bt_elements.specs.declared.element.Element.{Element, Element-F, fold-Element, out-Element}
-use Rattle.bt_elements.specs.declared.element.Unbuilt.{Unbuilt}
-use Rattle.bt_model.specs.declared.term.Term.{Term, fold-Term, roll-Term}
-use Rattle.bt_model.specs.declared.term.Tree.{Tree}
-use Rattle.bt_model.specs.declared.term.Guards.{Guards}
+use Rattle.bt_elements.specs.declared.element.Element.{Element}
 use Rattle.bt_model.specs.declared.term.Kind.{Kind}
-use Rattle.bt_model.specs.declared.term.Kind.TheVariants.{Sequence, Fallback, Leaf}
-use Rattle.bt_model.specs.Names.{is_reserved}
-use Rattle.bt_model.specs.Terms.{node_count, depth_of}
+use Rattle.bt_model.specs.declared.term.Kind.TheVariants.{SubTree}
+use Rattle.bt_model.specs.declared.term.Term.{Term, roll-Term}
+use Rattle.bt_model.specs.declared.term.Tree.{Tree}
+use Rattle.bt_model.specs.BuiltIns.{takes}
+use Rattle.bt_model.specs.Names.{is_among}
+use Rattle.bt_model.specs.Terms.{work_of}
+use Rattle.bt_manifest.specs.Attributes.{Attributes, value_of}
+use Rattle.bt_manifest.specs.Models.{Models, attributes_of, children_of, name_of, place_of}
+use Rattle.bt_manifest.specs.Steps.{go_on}
+use Rattle.bt_build.specs.declared.fault.BuildFault.{BuildFault}
+use Rattle.bt_build.specs.declared.fault.BuildFault.TheVariants.{NotRoot, Format, DoubleTree, NoMain, NoTree, TooManyNodes, TooDeep, UnknownNode, Recursive, TooManyScopes, ChildCount, TooMuchWork}
+use Rattle.bt_build.specs.declared.tree.Numbers.{Numbers}
+use Rattle.bt_build.specs.declared.content.Content.{Content}
+use Rattle.bt_build.specs.declared.head.Head.{Head}
+use Rattle.bt_build.specs.Content.{content_in}
+use Rattle.bt_build.specs.Heads.{head_of, id_or_empty}
 
--- what is read, or the refusal where nothing is
-abbrev pub or_unbuilt : {A : Type 0} → Option A → Result A Unbuilt
-or_unbuilt (Some x) = Ok x
-or_unbuilt None = Err (record {})
+-- the trees of a file by their IDs, in the order of the file
+abbrev pub Trees : Type 0
+Trees = List (List ℕ × Element)
 
--- the kind of a node by its name: a name that is kept for nothing else is a leaf's
-abbrev pub kind_of : List ℕ → Option Kind
-kind_of name =
-    if bytes_eq name (codes "Sequence") then Some Sequence
-    else (if bytes_eq name (codes "Fallback") then Some Fallback
-    else (if is_reserved name then None
-    else Some Leaf))
+abbrev pub tree_of : List ℕ → Trees → Option Element
+tree_of id trees = lookup (bytes_eq id) trees
 
--- whether a node of this kind may have so many children
-abbrev pub may_have : Kind → ℕ → Bool
-may_have Sequence children = nat_le 1 children
-may_have Fallback children = nat_le 1 children
-may_have Leaf children = nat_eq children 0
-may_have _ children = false
+-- what a file defines: its trees, and the models of its leaves
+pub record File : Type 0 where
+  pub trees : Trees
+  pub models : Models
 
--- a node without guards
-abbrev pub no_guards : Guards
-no_guards = record {
-  failure_if = None;
-  success_if = None;
-  skip_if = None;
-  while_true = None;
-  on_success = None;
-  on_failure = None;
-  post = None;
-  on_halted = None;
-}
+-- a fault where something is so, else what is read
+abbrev pub refused_if : {A : Type 0} → Bool → BuildFault → Result A BuildFault → Result A BuildFault
+refused_if true fault read = Err fault
+refused_if false fault read = read
 
--- the node of a kind whose ID and name are this name
-abbrev pub plain_node : Kind → List ℕ → List Term → Term
-plain_node kind name children = roll-Term (record {
-  kind = kind;
-  id = name;
-  name = name;
-  ports = [];
-  code = None;
-  guards = no_guards;
-  autoremap = false;
+-- how a node is read, where so many levels are left for it and below it: from its element, the IDs of the trees that are
+-- being opened, and the numbers of nodes and scopes before it
+abbrev pub Reader : Type 0
+Reader = Element → List (List ℕ) → Numbers → Result (Term × Numbers) BuildFault
+
+abbrev pub with_first : Term → Result (List Term × Numbers) BuildFault → Result (List Term × Numbers) BuildFault
+with_first term rest = go_on (λ r. Ok (term ∷ r.0, r.1)) rest
+
+-- some nodes, one after another
+abbrev pub nodes_by : Reader → List (List ℕ) → List Element → Numbers → Result (List Term × Numbers) BuildFault
+nodes_by reader opened [] numbers = Ok ([], numbers)
+nodes_by reader opened (e ∷ es) numbers = go_on (λ r. with_first r.0 (nodes_by reader opened es r.1)) (reader e opened numbers)
+
+-- the numbers with a node more, and with a scope more
+abbrev pub one_node_more : Numbers → Numbers
+one_node_more numbers = record { nodes = numbers.nodes + 1; scopes = numbers.scopes }
+
+abbrev pub one_scope_more : Numbers → Numbers
+one_scope_more numbers = record { nodes = numbers.nodes; scopes = numbers.scopes + 1 }
+
+-- the name of a node is its ID where no other is written
+abbrev pub name_in : Attributes → List ℕ → List ℕ
+name_in attributes id = unwrap_or (value_of (codes "name") attributes) id
+
+-- a node of all that was read
+abbrev pub term_of : Head → Attributes → Content → List Term → Term
+term_of head attributes content children = roll-Term (record {
+  kind = head.kind;
+  id = head.id;
+  name = name_in attributes head.id;
+  ports = content.ports;
+  code = content.code;
+  guards = content.guards;
+  autoremap = content.autoremap;
   children = children;
 })
 
--- the values of all, where each has one
-abbrev pub all_some : {A : Type 0} → List (Option A) → Option (List A)
-all_some [] = Some []
-all_some (None ∷ rest) = None
-all_some (Some x ∷ rest) = option_map (λ xs. x ∷ xs) (all_some rest)
+abbrev pub node_with : Head → Attributes → Content → List Term × Numbers → Result (Term × Numbers) BuildFault
+node_with head attributes content below = Ok (term_of head attributes content below.0, below.1)
 
--- whether an element can be a node of this kind: it has no attribute, and as many children as the kind may have
-abbrev pub fits : {A : Type 0} → Kind → Element-F A → Bool
-fits kind e = nat_eq (length e.attributes) 0 && may_have kind (length e.children)
+-- a node of this kind and ID, with these elements as its children: what its attributes say comes before its children
+abbrev pub node_of : Models → Reader → Head → Attributes → List (List ℕ) → List Element → Numbers → ℕ → Result (Term × Numbers) BuildFault
+node_of models below head attributes opened children numbers uid =
+    go_on (λ content. go_on (node_with head attributes content) (nodes_by below opened children numbers))
+    (content_in uid models head.kind head.id attributes)
 
--- the node that an element reads as, where what its children read as stands in their places
-abbrev pub node_step : Element-F (Option Term) → Option Term
-node_step e =
-    option_and_then (λ kind. if fits kind e then option_map (plain_node kind e.name) (all_some e.children) else None) (kind_of e.name)
+-- a SubTree node, whose tree is this element: it opens a scope, and has the root of the tree as its one child
+abbrev pub opened_by : File → Reader → Head → Element → List (List ℕ) → Numbers → Option Element → Result (Term × Numbers) BuildFault
+opened_by file below head e opened numbers None = Err (NoTree head.id)
+opened_by file below head e opened numbers (Some tree) =
+    refused_if (is_among head.id opened) (Recursive head.id)
+    (refused_if (nat_le 256 numbers.scopes) TooManyScopes
+    (refused_if (not (nat_eq (length (children_of e)) 0 && nat_eq (length (children_of tree)) 1)) (ChildCount (numbers.nodes + 1))
+    (node_of file.models below head (attributes_of e) (opened ++ head.id ∷ []) (children_of tree) (one_scope_more (one_node_more numbers)) (numbers.nodes + 1))))
 
--- the node that an element reads as, with all below it
-abbrev pub node_of : Element → Option Term
-node_of = fold-Element (Option Term) node_step
+-- a node by its kind
+abbrev pub node_by : Kind → File → Reader → Head → Element → List (List ℕ) → Numbers → Result (Term × Numbers) BuildFault
+node_by SubTree file below head e opened numbers = opened_by file below head e opened numbers (tree_of head.id file.trees)
+node_by kind file below head e opened numbers =
+    refused_if (not (takes kind (length (children_of e)))) (ChildCount (numbers.nodes + 1))
+    (node_of file.models below head (attributes_of e) opened (children_of e) (one_node_more numbers) (numbers.nodes + 1))
 
--- whether there are not too many nodes, and none too deep
-abbrev pub within_limits : Term → Bool
-within_limits term = nat_le (node_count term) 4096 && nat_le (depth_of term) 256
+abbrev pub known : File → Reader → Element → List (List ℕ) → Numbers → Option Head → Result (Term × Numbers) BuildFault
+known file below e opened numbers None = Err (UnknownNode (numbers.nodes + 1))
+known file below e opened numbers (Some head) = node_by head.kind file below head e opened numbers
 
--- the tree of this ID, where its node is within the limits
-abbrev pub tree_with : List ℕ → Term → Option Tree
-tree_with main term = if within_limits term then Some (record { main = main; term = term }) else None
+-- A node, where so many levels are left. The nodes of a tree are numbered from 1 as they are reached.
+abbrev pub read_node : File → ℕ → Reader
+read_node file zero e opened numbers = refused_if (nat_le 4096 numbers.nodes) TooManyNodes (Err (TooDeep (numbers.nodes + 1)))
+read_node file (suc left) e opened numbers =
+    refused_if (nat_le 4096 numbers.nodes) TooManyNodes
+    (known file (read_node file left) e opened numbers (head_of (name_of e) (attributes_of e) (length (children_of e))))
 
--- the tree of this ID whose root node this element reads as
-abbrev pub tree_at : List ℕ → Element → Option Tree
-tree_at main root = option_and_then (tree_with main) (node_of root)
+-- ---- The file
 
--- the tree of the one attribute, which is the ID, and the one child, which is the root node
-abbrev pub tree_from : List (List ℕ × List ℕ) → List Element → Option Tree
-tree_from (a ∷ []) (root ∷ []) = if bytes_eq a.0 (codes "ID") then tree_at a.1 root else None
-tree_from _ _ = None
+abbrev pub is_tree : List ℕ → Bool
+is_tree name = bytes_eq name (codes "BehaviorTree")
 
--- the tree that a `BehaviorTree` reads as
-abbrev pub tree_of : Element → Option Tree
-tree_of e =
-    if bytes_eq (out-Element e).name (codes "BehaviorTree") then tree_from (out-Element e).attributes (out-Element e).children
-    else None
+abbrev pub may_stand : List ℕ → Bool
+may_stand name = is_tree name || bytes_eq name (codes "TreeNodesModel")
 
--- whether the one attribute says format 4
-abbrev pub has_format : List (List ℕ × List ℕ) → Bool
-has_format (a ∷ []) = bytes_eq a.0 (codes "BTCPP_format") && bytes_eq a.1 (codes "4")
-has_format _ = false
+-- the first of these elements that may not stand in a file
+abbrev pub stray_place : List Element → Option ℕ
+stray_place [] = None
+stray_place (e ∷ es) = if may_stand (name_of e) then stray_place es else Some (place_of e)
 
--- the tree of the one element
-abbrev pub only_tree : List Element → Option Tree
-only_tree (e ∷ []) = tree_of e
-only_tree _ = None
+-- the place of what is no root, if anything is none
+abbrev pub not_root : Element → Option ℕ
+not_root root = if bytes_eq (name_of root) (codes "root") then stray_place (children_of root) else Some (place_of root)
 
--- the tree that the document element reads as: it is a `root` of format 4 that holds one tree
-abbrev pub reads : Element → Option Tree
-reads e =
-    if bytes_eq (out-Element e).name (codes "root") && has_format (out-Element e).attributes then only_tree (out-Element e).children
-    else None
+abbrev pub says_format : Option (List ℕ) → Bool
+says_format None = false
+says_format (Some text) = bytes_eq text (codes "4")
 
--- whether the node is a Sequence, a Fallback or a leaf
-abbrev pub is_sequential : Kind → Bool
-is_sequential Sequence = true
-is_sequential Fallback = true
-is_sequential Leaf = true
-is_sequential _ = false
+-- the trees with one of this ID, which no earlier one may have
+abbrev pub with_id : Trees → Element → List ℕ → Result Trees BuildFault
+with_id trees e id = if is_some (tree_of id trees) then Err (DoubleTree id) else Ok (trees ++ (id, e) ∷ [])
 
--- whether every node is one of these
-abbrev pub all_sequential : Term → Bool
-all_sequential = fold-Term Bool (λ node. is_sequential node.kind && list_all (λ b. b) node.children)
+abbrev pub with_tree : Trees → Element → Result Trees BuildFault
+with_tree trees e = if is_tree (name_of e) then with_id trees e (id_or_empty (attributes_of e)) else Ok trees
+
+-- the trees with those of these elements
+abbrev pub with_trees : Trees → List Element → Result Trees BuildFault
+with_trees trees [] = Ok trees
+with_trees trees (e ∷ es) = go_on (λ more. with_trees more es) (with_tree trees e)
+
+-- the ID of the only tree
+abbrev pub only_id : Trees → Option (List ℕ)
+only_id (tree ∷ []) = Some tree.0
+only_id trees = None
+
+-- the first that is there
+abbrev pub or_else : {A : Type 0} → Option A → Option A → Option A
+or_else (Some x) other = Some x
+or_else None other = other
+
+-- the main tree: the one that is asked for, else the one that the file names, else its only one
+abbrev pub main_of : Option (List ℕ) → Attributes → Trees → Option (List ℕ)
+main_of asked attributes trees = or_else asked (or_else (value_of (codes "main_tree_to_execute") attributes) (only_id trees))
+
+-- before the first node: one scope is there, the main one
+abbrev pub no_numbers : Numbers
+no_numbers = record { nodes = 0; scopes = 1 }
+
+abbrev pub first_root : List Element → Option Element
+first_root (root ∷ []) = Some root
+first_root elements = None
+
+-- the term of a root node, with 256 levels for all nodes
+unfoldable pub read_root : File → Element → List ℕ → Result (Term × Numbers) BuildFault
+read_root file root id = read_node file 256 root (id ∷ []) no_numbers
+
+abbrev pub within_work : List ℕ → Term × Numbers → Result Tree BuildFault
+within_work id read = refused_if (not (nat_le (work_of read.0) 100000)) TooMuchWork (Ok (record { main = id; term = read.0 }))
+
+abbrev pub root_read : File → List ℕ → Option Element → Result Tree BuildFault
+root_read file id None = Err (ChildCount 0)
+root_read file id (Some root) = go_on (within_work id) (read_root file root id)
+
+-- the tree of this ID
+abbrev pub main_read : File → List ℕ → Option Element → Result Tree BuildFault
+main_read file id None = Err (NoTree id)
+main_read file id (Some tree) = root_read file id (first_root (children_of tree))
+
+abbrev pub named_read : File → Option (List ℕ) → Result Tree BuildFault
+named_read file None = Err NoMain
+named_read file (Some id) = main_read file id (tree_of id file.trees)
+
+abbrev pub trees_read : Models → Option (List ℕ) → Attributes → Trees → Result Tree BuildFault
+trees_read models asked attributes trees = named_read (record { trees = trees; models = models }) (main_of asked attributes trees)
+
+abbrev pub root_faults : Option ℕ → Bool → Result Tree BuildFault → Result Tree BuildFault
+root_faults (Some place) format read = Err (NotRoot place)
+root_faults None format read = refused_if (not format) Format read
+
+-- the tree that a file's document element reads as, with its models, and with the main tree that is asked for, if one is
+abbrev pub reads : Models → Option (List ℕ) → Element → Result Tree BuildFault
+reads models asked root =
+    root_faults (not_root root) (says_format (value_of (codes "BTCPP_format") (attributes_of root)))
+    (go_on (trees_read models asked (attributes_of root)) (with_trees [] (children_of root)))

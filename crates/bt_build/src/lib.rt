@@ -1,9 +1,15 @@
 //! From the element of a tree file to the tree.
 #![tactic(auto)]
 
-mod limits;
-mod names;
+mod content;
+mod fault;
+mod head;
+mod ports;
+mod rules;
+mod scripts;
 mod tree;
+mod trees;
+mod values;
 
-pub use bt_elements::Unbuilt;
-pub use tree::build;
+pub use fault::BuildFault;
+pub use scripts::script;

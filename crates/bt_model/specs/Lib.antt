@@ -1,4 +1,5 @@
 pub mod Boards
+pub mod BuiltIns
 pub mod Done
 pub mod Drivers
 pub mod Leaf
@@ -6,6 +7,7 @@ pub mod Leaves
 pub mod Lines
 pub mod Moves
 pub mod Names
+pub mod Numbers
 pub mod Ports
 pub mod Rules
 pub mod Run
@@ -15,5 +17,7 @@ pub mod Sites
 pub mod Sound
 pub mod Steps
 pub mod Terms
+pub mod Trees
+pub mod Values
 pub mod Visit
 pub mod WorldFile

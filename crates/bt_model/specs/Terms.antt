@@ -2,9 +2,15 @@
 use Rattle.std.specs.Prelude.{ℕ, ◌+◌, List, [], ◌∷◌, ◌++◌, sum}
 use Rattle.std.specs.List.{flat_map}
 use Rattle.bt_script.specs.Numbers.{greatest}
+use Rattle.std.specs.Prelude.{ℕ, ◌+◌, ◌*◌, List, [], ◌∷◌, ◌++◌, sum, max, negsuc, nat_abs, if◌then◌else◌}
+use Rattle.std.specs.Ordering.{int_eq}
+use Rattle.bt_script.specs.declared.value.Value.TheVariants.{Int, Text}
+use Rattle.bt_model.specs.declared.term.Port.{Port}
+use Rattle.bt_model.specs.declared.term.PortValue.{PortValue}
+use Rattle.bt_model.specs.declared.term.PortValue.TheVariants.{Lit, Key}
 use Rattle.bt_model.specs.declared.term.Term.{Term, fold-Term}
 use Rattle.bt_model.specs.declared.term.Kind.{Kind}
-use Rattle.bt_model.specs.declared.term.Kind.TheVariants.{Leaf}
+use Rattle.bt_model.specs.declared.term.Kind.TheVariants.{Leaf, Repeat, Retry, SubTree}
 
 -- the nodes of a term: a node, and those of its children
 abbrev pub node_count : Term → ℕ
@@ -22,3 +28,33 @@ own_leaf_id _ id = []
 -- the IDs of the leaves of a term in pre-order
 abbrev pub leaf_ids : Term → List (List ℕ)
 leaf_ids = fold-Term (List (List ℕ)) (λ node. own_leaf_id node.kind node.id ++ flat_map (λ ids. ids) node.children)
+
+-- how often a Retry or a Repeat visits its child at most in one visit: by its one port, once where it counts nothing,
+-- and 1000 times where a key is read
+abbrev pub turns_given : PortValue → ℕ
+turns_given (Key key) = 1000
+turns_given (Lit (Int n)) = if int_eq n (negsuc 0) then 1 else nat_abs n
+turns_given (Lit (Text text)) = 1
+
+abbrev pub turns_of : List Port → ℕ
+turns_of [] = 1
+turns_of (port ∷ ports) = turns_given port.value
+
+-- the work of a node of this kind, where the work of each of its children is known
+abbrev pub work_step : Kind → List Port → List ℕ → ℕ
+work_step Retry ports children = 1 + turns_of ports * sum children
+work_step Repeat ports children = 1 + turns_of ports * sum children
+work_step kind ports children = 1 + sum children
+
+-- the work of a term: how many visits one visit of its root makes at most
+abbrev pub work_of : Term → ℕ
+work_of = fold-Term ℕ (λ node. work_step node.kind node.ports node.children)
+
+-- the scopes that a node opens: a SubTree node opens one
+abbrev pub own_scopes : Kind → ℕ
+own_scopes SubTree = 1
+own_scopes _ = 0
+
+-- the scopes that stand in a term beside the one in which it stands
+abbrev pub scope_count : Term → ℕ
+scope_count = fold-Term ℕ (λ node. own_scopes node.kind + sum node.children)

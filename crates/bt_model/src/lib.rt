@@ -4,18 +4,21 @@
 
 mod block;
 mod cell;
+mod built_ins;
 mod fault;
 mod leaf;
 mod memory;
 mod moves;
 mod names;
 mod note;
+mod numbers;
 mod status;
 mod term;
 mod world;
 
 pub use block::{Block, Header};
 pub use cell::{Cell, Naming};
+pub use built_ins::{Class, PortRule, Range, class_of, has_code, int_fits, kind_named, ports_of, takes, text_fits, writes};
 pub use fault::{Cause, NodeFault, PortId, RunFault};
 pub use leaf::{Instance, Phase};
 pub use memory::{Counts, Memo, Memory, Since, Turns};
@@ -24,6 +27,7 @@ pub use leaf::{DriverKind, Instance, Phase, Reply, Totals};
 pub use memory::{Memo, Memory};
 pub use names::is_reserved;
 pub use note::Note;
+pub use numbers::int;
 pub use status::{Answer, RoundEnd, Status};
 pub use term::{Guards, Kind, Port, PortValue, Term, Tree};
 pub use world::{Event, Fact, Out, Row, RowSort, Set, What, World};

@@ -1,0 +1,43 @@
+-- How nodes are read one after another.
+use Rattle.std.proofs.Common.{◌≡◌, ℕ, zero, suc, ◌+◌, ◌-◌, ◌<◌, List, [], ◌∷◌, ◌++◌, length, take, drop, get_or, Result, Ok, Err, refl, ap, sym, ◌∙◌, arith, append_assoc, drop_more}
+use Rattle.bt_elements.specs.declared.element.Element.{Element}
+use Rattle.bt_model.specs.declared.term.Term.{Term}
+use Rattle.bt_manifest.specs.Steps.{go_on}
+use Rattle.bt_build.specs.declared.fault.BuildFault.{BuildFault}
+use Rattle.bt_build.specs.declared.tree.Numbers.{Numbers}
+use Rattle.bt_build.specs.Reads.{Reader, nodes_by, with_first}
+
+abbrev Read : Type 0
+Read = Result (List Term × Numbers) BuildFault
+
+-- some nodes behind these
+abbrev pub behind : List Term → Read → Read
+behind terms rest = go_on (λ r. Ok (terms ++ r.0, r.1)) rest
+
+behind_first : (terms : List Term) (t : Term) (r : Read) → behind terms (with_first t r) ≡ behind (terms ++ t ∷ []) r
+behind_first terms t (Ok r) = ap (λ (ts : List Term). Ok (ts, r.1)) (sym (append_assoc terms (t ∷ []) r.0))
+behind_first terms t (Err f) = refl
+
+first_of_rest : (reader : Reader) (opened : List (List ℕ)) (es : List Element) (i : ℕ) (e : Element) (n : Numbers) →
+    i < length es → e ≡ get_or es i e →
+    nodes_by reader opened (drop i es) n ≡ go_on (λ r. with_first r.0 (nodes_by reader opened (drop (i + 1) es) r.1)) (reader e opened n)
+first_of_rest reader opened es i e n within is_e =
+    ap (λ (xs : List Element). nodes_by reader opened xs n) (drop_more es i e within)
+    ∙ ap (λ (x : Element). nodes_by reader opened (x ∷ drop (i + 1) es) n) (sym is_e)
+
+-- one node more
+pub behind_more : (reader : Reader) (opened : List (List ℕ)) (es : List Element) (i : ℕ) (e : Element) (n m : Numbers) (terms : List Term) (t : Term) →
+    i < length es → e ≡ get_or es i e → reader e opened n ≡ Ok (t, m) →
+    behind terms (nodes_by reader opened (drop i es) n) ≡ behind (terms ++ t ∷ []) (nodes_by reader opened (drop (i + 1) es) m)
+behind_more reader opened es i e n m terms t within is_e h =
+    ap (behind terms) (first_of_rest reader opened es i e n within is_e
+    ∙ ap (λ (r : Result (Term × Numbers) BuildFault). go_on (λ r. with_first r.0 (nodes_by reader opened (drop (i + 1) es) r.1)) r) h)
+    ∙ behind_first terms t (nodes_by reader opened (drop (i + 1) es) m)
+
+-- a node that can't be read
+pub behind_fault : (reader : Reader) (opened : List (List ℕ)) (es : List Element) (i : ℕ) (e : Element) (n : Numbers) (terms : List Term) (f : BuildFault) →
+    i < length es → e ≡ get_or es i e → reader e opened n ≡ Err f →
+    behind terms (nodes_by reader opened (drop i es) n) ≡ Err f
+behind_fault reader opened es i e n terms f within is_e h =
+    ap (behind terms) (first_of_rest reader opened es i e n within is_e
+    ∙ ap (λ (r : Result (Term × Numbers) BuildFault). go_on (λ r. with_first r.0 (nodes_by reader opened (drop (i + 1) es) r.1)) r) h)

@@ -1,0 +1,52 @@
+-- Which node an element is.
+use Rattle.std.specs.Prelude.{ℕ, List, [], ◌∷◌, Bool, true, false, not, ◌&&◌, ◌||◌, nat_eq, if◌then◌else◌, codes, Option, Some, None, unwrap_or}
+use Rattle.std.specs.Option.{option_and_then}
+use Rattle.std.specs.Str.{bytes_eq}
+use Rattle.bt_model.specs.declared.term.Kind.{Kind}
+use Rattle.bt_model.specs.declared.term.Kind.TheVariants.{SubTree, Leaf}
+use Rattle.bt_model.specs.BuiltIns.{class_of, kind_named, writes}
+use Rattle.bt_manifest.specs.Attributes.{Attributes, value_of}
+use Rattle.bt_build.specs.declared.head.Head.{Head}
+
+-- the elements that name their node in the attribute `ID`
+abbrev pub is_explicit : List ℕ → Bool
+is_explicit name =
+    bytes_eq name (codes "Action") || bytes_eq name (codes "Condition") || bytes_eq name (codes "Control") || bytes_eq name (codes "Decorator")
+
+-- the elements that may be a leaf of any ID
+abbrev pub is_leaf_name : List ℕ → Bool
+is_leaf_name name = bytes_eq name (codes "Action") || bytes_eq name (codes "Condition")
+
+-- the elements that are never a node by their own name
+abbrev pub is_kept : List ℕ → Bool
+is_kept name = bytes_eq name (codes "BehaviorTree") || bytes_eq name (codes "TreeNodesModel") || bytes_eq name (codes "root")
+
+abbrev pub leaf_head : List ℕ → Option Head
+leaf_head id = Some (record { kind = Leaf; id = id })
+
+-- the node that an element of this name writes by this ID
+abbrev pub explicit_by : List ℕ → Bool → List ℕ → Option Kind → Option Head
+explicit_by name childless id (Some kind) = if writes name (class_of kind) then Some (record { kind = kind; id = id }) else None
+explicit_by name childless id None = if is_leaf_name name && childless then leaf_head id else None
+
+abbrev pub explicit_head : List ℕ → Bool → List ℕ → Option Head
+explicit_head name childless id = explicit_by name childless id (kind_named id)
+
+-- the node that an element is by its own name
+abbrev pub compact_by : Bool → List ℕ → Option Kind → Option Head
+compact_by childless name (Some kind) = Some (record { kind = kind; id = name })
+compact_by childless name None = if not (is_kept name) && childless then leaf_head name else None
+
+abbrev pub compact_head : Bool → List ℕ → Option Head
+compact_head childless name = compact_by childless name (kind_named name)
+
+-- the ID of a tree, an absent one being the empty text
+abbrev pub id_or_empty : Attributes → List ℕ
+id_or_empty attributes = unwrap_or (value_of (codes "ID") attributes) []
+
+-- the node that an element of this name, these attributes and so many children is
+abbrev pub head_of : List ℕ → Attributes → ℕ → Option Head
+head_of name attributes children =
+    if bytes_eq name (codes "SubTree") then Some (record { kind = SubTree; id = id_or_empty attributes })
+    else if is_explicit name then option_and_then (explicit_head name (nat_eq children 0)) (value_of (codes "ID") attributes)
+    else compact_head (nat_eq children 0) name

@@ -1,0 +1,192 @@
+ghost use Rattle.std.specs.Prelude.{◌≡◌};
+ghost use Rattle.std.specs.Option.{option_copied};
+ghost use Rattle.bt_script.specs.Stops.{Gives};
+ghost use Rattle.bt_model.specs.BuiltIns.{has_code};
+ghost use Rattle.bt_build.specs.Content.{all_known, autoremap_in, code_text, content_in, guard_in, guards_in, known_in, rest_in, scripts_in, said_or_false, script_of, truth_in};
+ghost use Rattle.bt_build.specs.Seen.{rules_seen, text_seen};
+
+use crate::fault::BuildFault;
+use crate::head::Head;
+use crate::ports::ports_in;
+use crate::rules::{Rules, all_known, rules_of};
+use crate::scripts::script;
+use bt_manifest::{Manifest, attribute};
+use bt_model::{Guards, Kind, Port, has_code};
+use bt_script::{Items, Name, Script, Stop};
+use std::alloc::Global;
+
+/// What a node has beside its kind, its ID, its name and its children.
+#[derive(Debug, Drop)]
+pub struct Content {
+    pub ports: Items<Port>,
+    pub code: Option<Script>,
+    pub guards: Guards,
+    pub autoremap: bool,
+}
+
+/// The script of the text, if there is one.
+fn script_of(alloc: Global, uid: u32, text: Option<&Name>) -> Result<Option<Script>, Stop<BuildFault>>
+    ensures { Gives result (script_of uid (option_copied text.entry)) }
+{
+    let Some(text) = text else {
+        return Ok(None);
+    };
+    match script(alloc, text.list()) {
+        Ok(script) => Ok(Some(script)),
+        Err(Stop::Fault(fault)) => Err(Stop::Fault(BuildFault::BadScript { uid, fault })),
+        Err(Stop::NoMemory) => Err(Stop::NoMemory),
+    }
+}
+
+/// The guard in the attribute of this name.
+fn guard_in(
+    alloc: Global,
+    uid: u32,
+    attributes: &[(Name, Name)],
+    name: &[u8],
+) -> Result<Option<Script>, Stop<BuildFault>>
+    ensures { Gives result (guard_in uid attributes.now name.now) }
+{
+    script_of(alloc, uid, attribute(attributes, name))
+}
+
+/// The guards of a node.
+fn guards_in(alloc: Global, uid: u32, attributes: &[(Name, Name)]) -> Result<Guards, Stop<BuildFault>>
+    ensures { Gives result (guards_in uid attributes.now) }
+{
+    let failure_if = guard_in(alloc, uid, attributes, b"_failureIf")?;
+    let success_if = guard_in(alloc, uid, attributes, b"_successIf")?;
+    let skip_if = guard_in(alloc, uid, attributes, b"_skipIf")?;
+    let while_true = guard_in(alloc, uid, attributes, b"_while")?;
+    let on_success = guard_in(alloc, uid, attributes, b"_onSuccess")?;
+    let on_failure = guard_in(alloc, uid, attributes, b"_onFailure")?;
+    let post = guard_in(alloc, uid, attributes, b"_post")?;
+    let on_halted = guard_in(alloc, uid, attributes, b"_onHalted")?;
+    Ok(Guards {
+        failure_if,
+        success_if,
+        skip_if,
+        while_true,
+        on_success,
+        on_failure,
+        post,
+        on_halted,
+    })
+}
+
+/// The text of the code of a node, where it has one.
+fn code_text(
+    uid: u32,
+    with_code: bool,
+    attributes: &[(Name, Name)],
+) -> Result<Option<&Name>, Stop<BuildFault>>
+    ensures { Gives (text_seen result) (code_text uid with_code attributes.now) }
+{
+    if !with_code {
+        return Ok(None);
+    }
+    match attribute(attributes, b"code") {
+        Some(text) => Ok(Some(text)),
+        None => Err(Stop::Fault(BuildFault::BadLiteral { uid })),
+    }
+}
+
+/// The truth value that the text says, if it says one.
+fn truth_in(text: &[u8]) -> Option<bool>
+    ensures { result ≡ truth_in text.now }
+{
+    if text == b"true".as_slice() || text == b"1".as_slice() {
+        Some(true)
+    } else if text == b"false".as_slice() || text == b"0".as_slice() {
+        Some(false)
+    } else {
+        None
+    }
+}
+
+fn said_or_false(uid: u32, text: Option<&Name>) -> Result<bool, Stop<BuildFault>>
+    ensures { Gives result (said_or_false uid (option_copied text.entry)) }
+{
+    let Some(text) = text else {
+        return Ok(false);
+    };
+    match truth_in(text.list()) {
+        Some(truth) => Ok(truth),
+        None => Err(Stop::Fault(BuildFault::BadLiteral { uid })),
+    }
+}
+
+/// Whether all keys of a SubTree node are mapped.
+fn autoremap_in(uid: u32, kind: Kind, attributes: &[(Name, Name)]) -> Result<bool, Stop<BuildFault>>
+    ensures { Gives result (autoremap_in uid kind attributes.now) }
+{
+    match kind {
+        Kind::SubTree => said_or_false(uid, attribute(attributes, b"_autoremap")),
+        _ => Ok(false),
+    }
+}
+
+/// The content of a node with these ports and this code.
+fn scripts_in(
+    alloc: Global,
+    uid: u32,
+    ports: Vec<Port>,
+    text: Option<&Name>,
+    autoremap: bool,
+    attributes: &[(Name, Name)],
+) -> Result<Content, Stop<BuildFault>>
+    ensures { Gives result (scripts_in uid ports.items (option_copied text.entry) autoremap attributes.now) }
+{
+    let code = script_of(alloc, uid, text)?;
+    let guards = guards_in(alloc, uid, attributes)?;
+    Ok(Content {
+        ports: Items::of(ports),
+        code,
+        guards,
+        autoremap,
+    })
+}
+
+/// The content of a node with these ports.
+fn rest_in(
+    alloc: Global,
+    uid: u32,
+    kind: Kind,
+    attributes: &[(Name, Name)],
+    ports: Vec<Port>,
+) -> Result<Content, Stop<BuildFault>>
+    ensures { Gives result (rest_in uid kind attributes.now ports.items) }
+{
+    let text = code_text(uid, has_code(kind), attributes)?;
+    let autoremap = autoremap_in(uid, kind, attributes)?;
+    scripts_in(alloc, uid, ports, text, autoremap, attributes)
+}
+
+fn known_in(
+    alloc: Global,
+    uid: u32,
+    kind: Kind,
+    rules: Rules<'_>,
+    attributes: &[(Name, Name)],
+) -> Result<Content, Stop<BuildFault>>
+    ensures { Gives result (known_in uid (all_known (has_code kind) (rules_seen rules.entry) attributes.now) kind (rules_seen rules.entry) attributes.now) }
+{
+    if !all_known(has_code(kind), rules, attributes) {
+        return Err(Stop::Fault(BuildFault::UnknownPort { uid }));
+    }
+    let ports = ports_in(alloc, uid, has_code(kind), rules, attributes)?;
+    rest_in(alloc, uid, kind, attributes, ports)
+}
+
+/// What the attributes of a node say.
+pub fn content_in(
+    alloc: Global,
+    uid: u32,
+    models: &Manifest,
+    head: &Head,
+    attributes: &[(Name, Name)],
+) -> Result<Content, Stop<BuildFault>>
+    ensures { Gives result (content_in uid models.now head.now.kind head.now.id attributes.now) }
+{
+    known_in(alloc, uid, head.kind, rules_of(models, head), attributes)
+}

@@ -1,0 +1,167 @@
+ghost use Rattle.std.specs.Prelude.{◌≡◌, [], true, false, map, option_map, IsUtf8, IfOk};
+ghost use Rattle.std.specs.Option.{option_copied};
+ghost use Rattle.bt_model.specs.BuiltIns.{rule_seen};
+ghost use Rattle.bt_build.specs.Content.{ports_in, with_absent, with_attribute, with_fallback, with_model, with_modelled, with_port, with_ranged, with_rule, with_rules, with_written};
+ghost use Rattle.bt_build.specs.Content as content;
+ghost use Rattle.bt_build.specs.Gives.{GivesList};
+ghost use Rattle.bt_build.specs.Seen.{rules_seen};
+
+use crate::fault::BuildFault;
+use crate::rules::{Rules, is_port, name_fits, range_of};
+use crate::values::value;
+use bt_manifest::{ModelPort, attribute};
+use bt_model::{Port, PortRule, Range};
+use bt_script::{Name, Stop};
+use std::alloc::Global;
+
+/// The ports with one of this name and text, if the text may stand there.
+fn with_port(
+    alloc: Global,
+    uid: u32,
+    mut ports: Vec<Port>,
+    range: Range,
+    name: &[u8],
+    text: &[u8],
+) -> Result<Vec<Port>, Stop<BuildFault>>
+    requires name { IsUtf8 name.now }
+    requires text { IsUtf8 text.now }
+    ensures { GivesList result (with_port uid ports.items range name.now text.now) }
+{
+    match value(alloc, range, name, text)? {
+        Some(value) => {
+            let name = Name::of(Vec::from_slice(alloc, name)?);
+            ports.push(Port { name, value })?;
+            Ok(ports)
+        }
+        None => Err(Stop::Fault(BuildFault::BadLiteral { uid })),
+    }
+}
+
+/// The ports with that of this attribute, where it is one.
+fn with_attribute(
+    alloc: Global,
+    uid: u32,
+    with_code: bool,
+    rules: Rules<'_>,
+    ports: Vec<Port>,
+    name: &Name,
+    text: &Name,
+) -> Result<Vec<Port>, Stop<BuildFault>>
+    ensures { GivesList result (with_attribute uid with_code (rules_seen rules.entry) ports.items (name.now, text.now)) }
+{
+    let name = name.list();
+    if !is_port(with_code, name) {
+        return Ok(ports);
+    }
+    match range_of(rules, name) {
+        Some(range) if name_fits(rules, name) => {
+            with_port(alloc, uid, ports, range, name, text.list())
+        }
+        _ => Err(Stop::Fault(BuildFault::BadLiteral { uid })),
+    }
+}
+
+/// The ports that the attributes write.
+fn written(
+    alloc: Global,
+    uid: u32,
+    with_code: bool,
+    rules: Rules<'_>,
+    attributes: &[(Name, Name)],
+) -> Result<Vec<Port>, Stop<BuildFault>>
+    ensures { GivesList result (with_written uid with_code (rules_seen rules.entry) [] attributes.now) }
+{
+    let mut ports = Vec::new(alloc);
+    for (name, text) in attributes {
+        ports = with_attribute(alloc, uid, with_code, rules, ports, name, text)?;
+    }
+    Ok(ports)
+}
+
+/// The ports with a built-in node's one of this rule, where it is not written.
+fn with_rule(
+    alloc: Global,
+    uid: u32,
+    attributes: &[(Name, Name)],
+    ports: Vec<Port>,
+    rule: &PortRule,
+) -> Result<Vec<Port>, Stop<BuildFault>>
+    ensures { GivesList result (with_rule uid attributes.now ports.items (rule_seen rule.now)) }
+{
+    let name = rule.name.as_bytes();
+    if attribute(attributes, name).is_some() {
+        return Ok(ports);
+    }
+    match rule.default {
+        Some(text) => with_port(alloc, uid, ports, rule.range, name, text.as_bytes()),
+        None => Err(Stop::Fault(BuildFault::BadLiteral { uid })),
+    }
+}
+
+fn with_rules(
+    alloc: Global,
+    uid: u32,
+    attributes: &[(Name, Name)],
+    mut ports: Vec<Port>,
+    rules: &[PortRule],
+) -> Result<Vec<Port>, Stop<BuildFault>>
+    ensures { GivesList result (with_rules uid attributes.now ports.items (map rule_seen rules.now)) }
+{
+    for rule in rules {
+        ports = with_rule(alloc, uid, attributes, ports, rule)?;
+    }
+    Ok(ports)
+}
+
+/// The ports with a leaf's one of this port of its model, where it is not written.
+fn with_modelled(
+    alloc: Global,
+    uid: u32,
+    attributes: &[(Name, Name)],
+    ports: Vec<Port>,
+    port: &ModelPort,
+) -> Result<Vec<Port>, Stop<BuildFault>>
+    ensures { GivesList result (with_modelled uid attributes.now ports.items port.now) }
+{
+    let name = port.name.list();
+    if attribute(attributes, name).is_some() {
+        return Ok(ports);
+    }
+    match &port.fallback {
+        Some(text) => with_port(alloc, uid, ports, Range::AnyValue, name, text.list()),
+        None => Ok(ports),
+    }
+}
+
+fn with_model(
+    alloc: Global,
+    uid: u32,
+    attributes: &[(Name, Name)],
+    mut ports: Vec<Port>,
+    model: &[ModelPort],
+) -> Result<Vec<Port>, Stop<BuildFault>>
+    ensures { GivesList result (with_model uid attributes.now ports.items model.now) }
+{
+    for port in model {
+        ports = with_modelled(alloc, uid, attributes, ports, port)?;
+    }
+    Ok(ports)
+}
+
+/// The ports of a node: those that are written, and then those that have a default.
+pub fn ports_in(
+    alloc: Global,
+    uid: u32,
+    with_code: bool,
+    rules: Rules<'_>,
+    attributes: &[(Name, Name)],
+) -> Result<Vec<Port>, Stop<BuildFault>>
+    ensures { GivesList result (ports_in uid with_code (rules_seen rules.entry) attributes.now) }
+{
+    let ports = written(alloc, uid, with_code, rules, attributes)?;
+    match rules {
+        Rules::AnyPort | Rules::AnyKey => Ok(ports),
+        Rules::Modelled(model) => with_model(alloc, uid, attributes, ports, model),
+        Rules::BuiltIn(rules) => with_rules(alloc, uid, attributes, ports, rules),
+    }
+}

@@ -1,0 +1,95 @@
+ghost use Rattle.std.specs.Prelude.{◌≡◌, map};
+ghost use Rattle.std.specs.List.{list_all};
+ghost use Rattle.bt_model.specs.BuiltIns.{rule_seen};
+ghost use Rattle.bt_build.specs.Content.{all_known, is_modelled, is_port, name_fits, range_among, range_of, rules_of};
+ghost use Rattle.bt_build.specs.Seen.{rules_seen};
+
+use crate::head::Head;
+use bt_manifest::{Manifest, ModelPort, is_port_name, model};
+use bt_model::{Kind, PortRule, Range, ports_of};
+use bt_script::{Name, is_identifier};
+
+/// Which ports a node may have.
+#[derive(Clone, Copy)]
+pub enum Rules<'a> {
+    /// Any port, as a leaf without a model has.
+    AnyPort,
+    /// Any key, as a SubTree node has.
+    AnyKey,
+    /// The ports of a leaf's model.
+    Modelled(&'a [ModelPort]),
+    /// The ports of a built-in node.
+    BuiltIn(&'static [PortRule]),
+}
+
+/// The rules of a node.
+pub fn rules_of<'a>(models: &'a Manifest, head: &Head) -> Rules<'a>
+    ensures { rules_seen result ≡ rules_of models.now head.now.kind head.now.id }
+{
+    match head.kind {
+        Kind::SubTree => Rules::AnyKey,
+        Kind::Leaf => match model(models, &head.id) {
+            Some(model) => Rules::Modelled(model.ports.list()),
+            None => Rules::AnyPort,
+        },
+        kind => Rules::BuiltIn(ports_of(kind)),
+    }
+}
+
+/// The range of the port of this name, if the node may have one.
+pub fn range_of(rules: Rules<'_>, name: &[u8]) -> Option<Range>
+    ensures { result ≡ range_of (rules_seen rules.entry) name.now }
+{
+    match rules {
+        Rules::AnyPort | Rules::AnyKey => Some(Range::AnyValue),
+        Rules::Modelled(ports) if is_modelled(ports, name) => Some(Range::AnyValue),
+        Rules::Modelled(_) => None,
+        Rules::BuiltIn(rules) => range_among(rules, name),
+    }
+}
+
+fn is_modelled(ports: &[ModelPort], name: &[u8]) -> bool
+    ensures { result ≡ is_modelled ports.now name.now }
+{
+    ports.iter().any(|port| name == port.name.list())
+}
+
+fn range_among(rules: &[PortRule], name: &[u8]) -> Option<Range>
+    ensures { result ≡ range_among (map rule_seen rules.now) name.now }
+{
+    for rule in rules {
+        if name == rule.name.as_bytes() {
+            return Some(rule.range);
+        }
+    }
+    None
+}
+
+/// Whether a port of this name may be a key, where the rules ask for one.
+pub fn name_fits(rules: Rules<'_>, name: &[u8]) -> bool
+    ensures { result ≡ name_fits (rules_seen rules.entry) name.now }
+{
+    match rules {
+        Rules::AnyKey => is_identifier(name),
+        _ => true,
+    }
+}
+
+/// Whether the attribute of this name is a port of a node with or without a code.
+pub fn is_port(with_code: bool, name: &[u8]) -> bool
+    ensures { result ≡ is_port with_code name.now }
+{
+    is_port_name(name) && !(with_code && name == b"code".as_slice())
+}
+
+/// Whether the node may have all ports that are written.
+pub fn all_known(with_code: bool, rules: Rules<'_>, attributes: &[(Name, Name)]) -> bool
+    ensures { result ≡ all_known with_code (rules_seen rules.entry) attributes.now }
+{
+    for (name, _) in attributes {
+        if is_port(with_code, name.list()) && range_of(rules, name.list()).is_none() {
+            return false;
+        }
+    }
+    true
+}

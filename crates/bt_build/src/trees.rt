@@ -1,0 +1,107 @@
+ghost use Rattle.std.specs.Prelude.{◌≡◌, ◌++◌, ◌∷◌, [], None, IfOk, is_some, option_map, length};
+ghost use Rattle.std.specs.Option.{option_copied};
+ghost use Rattle.bt_manifest.specs.Models.{attributes_of, children_of};
+ghost use Rattle.bt_build.specs.Gives.{GivesSeen};
+ghost use Rattle.bt_build.specs.Heads as heads;
+ghost use Rattle.bt_build.specs.Reads.{is_tree, may_stand, not_root, says_format, stray_place, tree_of, with_id, with_tree, with_trees};
+ghost use Rattle.bt_build.specs.Seen.{trees_seen};
+
+use crate::fault::BuildFault;
+use crate::head::id_or_empty;
+use bt_elements::Element;
+use bt_script::{Name, NoMemory, Stop};
+use indexmap::IndexMap;
+use std::alloc::Global;
+
+/// The trees of a file by their IDs.
+pub type Trees<'a> = IndexMap<Name, &'a Element>;
+
+fn is_tree(name: &[u8]) -> bool
+    ensures { result ≡ is_tree name.now }
+{
+    name == b"BehaviorTree".as_slice()
+}
+
+fn may_stand(name: &[u8]) -> bool
+    ensures { result ≡ may_stand name.now }
+{
+    is_tree(name) || name == b"TreeNodesModel".as_slice()
+}
+
+/// The place of the first of these elements that may not stand in a file.
+fn stray_place(elements: &[Element]) -> Option<u32>
+    ensures { result ≡ stray_place elements.now }
+{
+    for element in elements {
+        if !may_stand(element.name.list()) {
+            return Some(element.place);
+        }
+    }
+    None
+}
+
+/// The place of what is no root, if anything is none.
+pub fn not_root(root: &Element) -> Option<u32>
+    ensures { result ≡ not_root root.now }
+{
+    if root.name.list() == b"root".as_slice() {
+        stray_place(root.children.list())
+    } else {
+        Some(root.place)
+    }
+}
+
+/// Whether the text says the format that is read.
+pub fn says_format(text: Option<&Name>) -> bool
+    ensures { result ≡ says_format (option_copied text.entry) }
+{
+    match text {
+        Some(text) => text.list() == b"4".as_slice(),
+        None => false,
+    }
+}
+
+/// The tree of this ID.
+pub fn tree_of<'a>(trees: &Trees<'a>, id: &Name) -> Option<&'a Element>
+    ensures { option_copied result ≡ tree_of id.now (trees_seen trees.now.entries) }
+{
+    trees.get(id).copied()
+}
+
+/// The table with one more tree, at its end.
+fn with_new<'a>(mut trees: Trees<'a>, id: Name, tree: &'a Element) -> Result<Trees<'a>, NoMemory>
+    requires { tree_of id (trees_seen trees.entries) ≡ None }
+    ensures { IfOk result (λ t. trees_seen t.entries ≡ trees_seen trees.entry.entries ++ (id, tree.now) ∷ []) }
+{
+    trees.insert(id, tree)?;
+    Ok(trees)
+}
+
+/// The trees with that of this element, where it is one.
+fn with_tree<'a>(
+    alloc: Global,
+    trees: Trees<'a>,
+    element: &'a Element,
+) -> Result<Trees<'a>, Stop<BuildFault>>
+    ensures { GivesSeen (λ t. trees_seen t.entries) result (with_tree (trees_seen trees.entry.entries) element.now) }
+{
+    if !is_tree(element.name.list()) {
+        return Ok(trees);
+    }
+    let id = id_or_empty(alloc, element.attributes.list())?;
+    match tree_of(&trees, &id) {
+        Some(_) => Err(Stop::Fault(BuildFault::DoubleTree { id })),
+        None => Ok(with_new(trees, id, element)?),
+    }
+}
+
+/// The trees of these elements.
+pub fn trees_of<'a>(alloc: Global, elements: &'a [Element]) -> Result<Trees<'a>, Stop<BuildFault>>
+    ensures { GivesSeen (λ t. trees_seen t.entries) result (with_trees [] elements.now) }
+{
+    let mut trees = IndexMap::new(alloc);
+    for element in elements {
+        trees = with_tree(alloc, trees, element)?;
+    }
+    Ok(trees)
+}

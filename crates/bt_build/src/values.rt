@@ -1,0 +1,64 @@
+ghost use Rattle.std.specs.Prelude.{◌≡◌, true, IfOk, IsUtf8};
+ghost use Rattle.bt_model.specs.Values.{in_braces, key_said, key_value, literal, literal_value, value_in};
+
+use bt_model::{PortValue, Range, int, int_fits, text_fits};
+use bt_script::{Name, NoMemory, Txt, Value, is_identifier};
+use std::alloc::Global;
+
+fn in_braces(text: &[u8]) -> bool
+    ensures { result ≡ in_braces text.now }
+{
+    text.first() == Some(&b'{') && text.last() == Some(&b'}')
+}
+
+/// The key that a text in braces names at a port of this name.
+fn key_said<'a>(port: &'a [u8], text: &'a [u8]) -> &'a [u8]
+    requires { in_braces text.now ≡ true }
+    ensures { result.now ≡ key_said port.now text.now }
+{
+    if text == b"{=}".as_slice() {
+        port
+    } else {
+        &text[1..text.len() - 1]
+    }
+}
+
+fn key_value(alloc: Global, key: &[u8]) -> Result<Option<PortValue>, NoMemory>
+    ensures { IfOk result (λ value. value ≡ key_value key.now) }
+{
+    if !is_identifier(key) {
+        return Ok(None);
+    }
+    Ok(Some(PortValue::Key(Name::of(Vec::from_slice(alloc, key)?))))
+}
+
+fn literal(alloc: Global, range: Range, text: &[u8]) -> Result<Option<PortValue>, NoMemory>
+    requires { IsUtf8 text.now }
+    ensures { IfOk result (λ value. value ≡ literal_value range (literal text.now)) }
+{
+    match int(text) {
+        Some(n) if int_fits(range, n) => Ok(Some(PortValue::Lit(Value::Int(n)))),
+        None if text_fits(range, text) => {
+            let text = Txt::of(Vec::from_slice(alloc, text)?);
+            Ok(Some(PortValue::Lit(Value::Text(text))))
+        }
+        _ => Ok(None),
+    }
+}
+
+/// What the text says at a port of this range and name, if it may stand there.
+pub fn value(
+    alloc: Global,
+    range: Range,
+    port: &[u8],
+    text: &[u8],
+) -> Result<Option<PortValue>, NoMemory>
+    requires { IsUtf8 text.now }
+    ensures { IfOk result (λ value. value ≡ value_in range port.now text.now) }
+{
+    if in_braces(text) {
+        key_value(alloc, key_said(port, text))
+    } else {
+        literal(alloc, range, text)
+    }
+}

@@ -1,0 +1,298 @@
+ghost use Rattle.std.specs.Prelude.{◌≡◌, ◌+◌, map, take};
+ghost use Rattle.bt_script.specs.declared.value.Value.TheVariants.{Int, Text};
+ghost use Rattle.bt_model.specs.BuiltIns.{class_of, fits, has_code, kind_among, kind_named, named_kinds, ports_of, row_seen, rule_seen, switch_ports, takes, takes_by, writes};
+
+use crate::term::Kind;
+
+/// The class of a node, by which an element may write it with its name in the attribute `ID`:
+/// `Control`, `Decorator`, `Action` or `Condition`.
+#[derive(Clone, Copy, Debug, PartialEq, Eq)]
+pub enum Class {
+    Control,
+    Decorator,
+    Leaf,
+    /// A SubTree node is written by elements of its own.
+    SubTree,
+}
+
+/// The literals that a port may be given.
+#[derive(Clone, Copy, Debug, PartialEq, Eq)]
+pub enum Range {
+    /// A number, or a text of at most 4,096 bytes.
+    AnyValue,
+    AnyInt,
+    /// 1 to 1000, or -1.
+    Turns,
+    /// 0 to 4294967295 milliseconds.
+    Duration,
+    /// `true`, `false`, `1` or `0`.
+    Truth,
+}
+
+/// A port of a built-in node. It must be written where it has no default.
+#[derive(Clone, Copy, Debug)]
+pub struct PortRule {
+    pub name: &'static str,
+    pub range: Range,
+    pub default: Option<&'static str>,
+}
+
+/// The names of the built-in nodes.
+static NAMED: [(&str, Kind); 26] = [
+    ("Sequence", Kind::Sequence),
+    ("SequenceWithMemory", Kind::SequenceWithMemory),
+    ("ReactiveSequence", Kind::ReactiveSequence),
+    ("Fallback", Kind::Fallback),
+    ("ReactiveFallback", Kind::ReactiveFallback),
+    ("Parallel", Kind::Parallel),
+    ("Switch2", Kind::Switch(2)),
+    ("Switch3", Kind::Switch(3)),
+    ("Switch4", Kind::Switch(4)),
+    ("Switch5", Kind::Switch(5)),
+    ("Switch6", Kind::Switch(6)),
+    ("IfThenElse", Kind::IfThenElse),
+    ("WhileDoElse", Kind::WhileDoElse),
+    ("Inverter", Kind::Inverter),
+    ("ForceSuccess", Kind::ForceSuccess),
+    ("ForceFailure", Kind::ForceFailure),
+    ("KeepRunningUntilFailure", Kind::KeepRunningUntilFailure),
+    ("RetryUntilSuccessful", Kind::Retry),
+    ("Repeat", Kind::Repeat),
+    ("Timeout", Kind::Timeout),
+    ("Delay", Kind::Delay),
+    ("RunOnce", Kind::RunOnce),
+    ("AlwaysSuccess", Kind::AlwaysSuccess),
+    ("AlwaysFailure", Kind::AlwaysFailure),
+    ("Script", Kind::ScriptNode),
+    ("ScriptCondition", Kind::ScriptCondition),
+];
+
+static PARALLEL_PORTS: [PortRule; 2] = [
+    PortRule {
+        name: "success_count",
+        range: Range::AnyInt,
+        default: Some("-1"),
+    },
+    PortRule {
+        name: "failure_count",
+        range: Range::AnyInt,
+        default: Some("1"),
+    },
+];
+
+/// The variable and the cases of a Switch of six cases.
+static SWITCH_PORTS: [PortRule; 7] = [
+    PortRule {
+        name: "variable",
+        range: Range::AnyValue,
+        default: None,
+    },
+    PortRule {
+        name: "case_1",
+        range: Range::AnyValue,
+        default: None,
+    },
+    PortRule {
+        name: "case_2",
+        range: Range::AnyValue,
+        default: None,
+    },
+    PortRule {
+        name: "case_3",
+        range: Range::AnyValue,
+        default: None,
+    },
+    PortRule {
+        name: "case_4",
+        range: Range::AnyValue,
+        default: None,
+    },
+    PortRule {
+        name: "case_5",
+        range: Range::AnyValue,
+        default: None,
+    },
+    PortRule {
+        name: "case_6",
+        range: Range::AnyValue,
+        default: None,
+    },
+];
+
+static RETRY_PORTS: [PortRule; 1] = [PortRule {
+    name: "num_attempts",
+    range: Range::Turns,
+    default: None,
+}];
+
+static REPEAT_PORTS: [PortRule; 1] = [PortRule {
+    name: "num_cycles",
+    range: Range::Turns,
+    default: None,
+}];
+
+static TIMEOUT_PORTS: [PortRule; 1] = [PortRule {
+    name: "msec",
+    range: Range::Duration,
+    default: None,
+}];
+
+static DELAY_PORTS: [PortRule; 1] = [PortRule {
+    name: "delay_msec",
+    range: Range::Duration,
+    default: None,
+}];
+
+static RUN_ONCE_PORTS: [PortRule; 1] = [PortRule {
+    name: "then_skip",
+    range: Range::Truth,
+    default: Some("true"),
+}];
+
+static NO_PORTS: [PortRule; 0] = [];
+
+/// The built-in node of this name.
+pub fn kind_named(name: &[u8]) -> Option<Kind>
+    ensures { result ≡ kind_named name.now }
+{
+    kind_among(named_kinds(), name)
+}
+
+#[tactic(auto, unfolding(crate::specs::BuiltIns::named_kinds))]
+fn named_kinds() -> &'static [(&'static str, Kind)]
+    ensures { map row_seen result.now ≡ named_kinds }
+{
+    NAMED.as_slice()
+}
+
+/// The kind of this name among the rows.
+fn kind_among(rows: &[(&str, Kind)], name: &[u8]) -> Option<Kind>
+    ensures { result ≡ kind_among (map row_seen rows.now) name.now }
+{
+    for (row, kind) in rows {
+        if name == row.as_bytes() {
+            return Some(*kind);
+        }
+    }
+    None
+}
+
+/// The ports of a node of this kind, in their order.
+pub fn ports_of(kind: Kind) -> &'static [PortRule]
+    ensures { map rule_seen result.now ≡ ports_of kind }
+{
+    match kind {
+        Kind::Parallel => PARALLEL_PORTS.as_slice(),
+        Kind::Switch(cases) => first_ports(switch_ports(), usize::from(cases) + 1),
+        Kind::Retry => RETRY_PORTS.as_slice(),
+        Kind::Repeat => REPEAT_PORTS.as_slice(),
+        Kind::Timeout => TIMEOUT_PORTS.as_slice(),
+        Kind::Delay => DELAY_PORTS.as_slice(),
+        Kind::RunOnce => RUN_ONCE_PORTS.as_slice(),
+        _ => NO_PORTS.as_slice(),
+    }
+}
+
+#[tactic(auto, unfolding(crate::specs::BuiltIns::switch_ports))]
+fn switch_ports() -> &'static [PortRule]
+    ensures { map rule_seen result.now ≡ switch_ports }
+{
+    SWITCH_PORTS.as_slice()
+}
+
+/// The first ports, as many as there are up to this number.
+fn first_ports(ports: &'static [PortRule], most: usize) -> &'static [PortRule]
+    ensures { map rule_seen result.now ≡ take most (map rule_seen ports.now) }
+{
+    &ports[..most.min(ports.len())]
+}
+
+/// The class of a kind.
+pub fn class_of(kind: Kind) -> Class
+    ensures { result ≡ class_of kind }
+{
+    match kind {
+        Kind::Inverter
+        | Kind::ForceSuccess
+        | Kind::ForceFailure
+        | Kind::KeepRunningUntilFailure
+        | Kind::Retry
+        | Kind::Repeat
+        | Kind::Timeout
+        | Kind::Delay
+        | Kind::RunOnce => Class::Decorator,
+        Kind::SubTree => Class::SubTree,
+        Kind::AlwaysSuccess
+        | Kind::AlwaysFailure
+        | Kind::ScriptNode
+        | Kind::ScriptCondition
+        | Kind::Leaf => Class::Leaf,
+        _ => Class::Control,
+    }
+}
+
+fn takes_by(class: Class, children: usize) -> bool
+    ensures { result ≡ takes_by class children }
+{
+    match class {
+        Class::Control => children >= 1,
+        Class::Decorator | Class::SubTree => children == 1,
+        Class::Leaf => children == 0,
+    }
+}
+
+/// Whether a node of this kind may have so many children.
+pub fn takes(kind: Kind, children: usize) -> bool
+    ensures { result ≡ takes kind children }
+{
+    match kind {
+        Kind::Switch(cases) => children == usize::from(cases) + 1,
+        Kind::IfThenElse | Kind::WhileDoElse => children == 2 || children == 3,
+        _ => takes_by(class_of(kind), children),
+    }
+}
+
+/// Whether a node of this kind has a script of its own, its code.
+pub fn has_code(kind: Kind) -> bool
+    ensures { result ≡ has_code kind }
+{
+    match kind {
+        Kind::ScriptNode | Kind::ScriptCondition => true,
+        _ => false,
+    }
+}
+
+/// Whether an element of this name writes a node of this class by its ID.
+pub fn writes(name: &[u8], class: Class) -> bool
+    ensures { result ≡ writes name.now class }
+{
+    match class {
+        Class::Control => name == b"Control".as_slice(),
+        Class::Decorator => name == b"Decorator".as_slice(),
+        Class::Leaf => name == b"Action".as_slice() || name == b"Condition".as_slice(),
+        Class::SubTree => false,
+    }
+}
+
+/// Whether the number is within the range.
+pub fn int_fits(range: Range, n: i64) -> bool
+    ensures { result ≡ fits range (Int n) }
+{
+    match range {
+        Range::AnyValue | Range::AnyInt => true,
+        Range::Turns => n == -1 || n >= 1 && n <= 1000,
+        Range::Duration => n >= 0 && n <= 4_294_967_295,
+        Range::Truth => n == 0 || n == 1,
+    }
+}
+
+/// Whether the text is within the range.
+pub fn text_fits(range: Range, text: &[u8]) -> bool
+    ensures { result ≡ fits range (Text text.now) }
+{
+    match range {
+        Range::AnyValue => text.len() <= 4096,
+        Range::AnyInt | Range::Turns | Range::Duration => false,
+        Range::Truth => text == b"true".as_slice() || text == b"false".as_slice(),
+    }
+}
