@@ -6,3 +6,4 @@ pub mod Run
 pub mod Terms
 pub mod Visit
 pub mod WorldFile
+pub mod Worlds

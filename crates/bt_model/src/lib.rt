@@ -11,6 +11,7 @@ mod note;
 mod status;
 mod term;
 mod world;
+mod world_fault;
 
 pub use block::{Block, Header};
 pub use fault::{Cause, NodeFault, PortId, RunFault};
@@ -21,3 +22,4 @@ pub use note::Note;
 pub use status::{Answer, RoundEnd, Status};
 pub use term::{Guards, Kind, Port, PortValue, Term, Tree};
 pub use world::{Event, Fact, Out, Row, RowSort, Set, What, World};
+pub use world_fault::{WorldFault, WorldKind};
