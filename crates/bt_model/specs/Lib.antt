@@ -21,3 +21,4 @@ pub mod Trees
 pub mod Values
 pub mod Visit
 pub mod WorldFile
+pub mod Worlds

@@ -1,20 +1,26 @@
 -- World scripts: the lines and words of a file, what a line says, and the world that the lines make.
-use Rattle.std.specs.Prelude.{ℕ, ◌+◌, ◌-◌, ◌==◌, Bool, true, false, ◌&&◌, ◌||◌, nat_lt, nat_le, nat_eq, if◌then◌else◌, List, [], ◌∷◌, ◌++◌, map, filter, position, length, take, codes, bytes_eq, ℤ, pos, negsuc, int_le, nat_abs, Option, Some, None, option_map, option_and_then, option_to_list, Result, Ok, Err}
+use Rattle.std.specs.Prelude.{◌≡◌, ℕ, zero, suc, ◌+◌, ◌-◌, ◌==◌, Bool, true, false, not, ◌&&◌, ◌||◌, nat_lt, nat_le, nat_eq, if◌then◌else◌, MatchBool, List, [], ◌∷◌, ◌++◌, map, length, take, drop, codes, bytes_eq, ℤ, pos, nat_abs, Option, Some, None, is_some, is_none, option_map, option_and_then, option_to_list, unwrap_or, Result, Ok, Err, position, slice_get}
 use Rattle.std.specs.Char.{is_ascii_digit}
-use Rattle.std.specs.List.{slice_split, list_all, list_any, ends_with}
+use Rattle.std.specs.List.{slice_split, list_all, list_any, ends_with, starts_with, prefix_len, suffix_len, position_or_len}
 use Rattle.std.specs.Str.Parse.{signed_digits_value}
-use Rattle.bt_script.specs.Identifiers.{is_identifier}
+use Rattle.bt_script.specs.Reading.{ReadsExpr}
 use Rattle.bt_script.specs.declared.syntax.Cmp.{Cmp}
 use Rattle.bt_script.specs.declared.syntax.Cmp.TheVariants.{Equal, Differ, Less, AtMost, More, AtLeast}
+use Rattle.bt_script.specs.declared.syntax.Expr.{Expr}
+use Rattle.bt_script_code.specs.Sources.{names_of, texts_of}
 use Rattle.bt_model.specs.declared.world.Fact.{Fact}
 use Rattle.bt_model.specs.declared.world.Row.{Row}
 use Rattle.bt_model.specs.declared.world.RowSort.{RowSort}
-use Rattle.bt_model.specs.declared.world.RowSort.TheVariants.{Is, Timed, Replay}
+use Rattle.bt_model.specs.declared.world.RowSort.TheVariants.{Is, When, Timed, Replay, Gate}
 use Rattle.bt_model.specs.declared.world.Event.{Event}
 use Rattle.bt_model.specs.declared.world.What.{What}
-use Rattle.bt_model.specs.declared.world.What.TheVariants.{Tick, Change}
+use Rattle.bt_model.specs.declared.world.What.TheVariants.{Tick, Halt, Change}
 use Rattle.bt_model.specs.declared.world.World.{World}
+use Rattle.bt_model.specs.declared.world_fault.WorldFault.{WorldFault}
+use Rattle.bt_model.specs.declared.world_fault.WorldKind.{WorldKind}
+use Rattle.bt_model.specs.declared.world_fault.WorldKind.TheVariants.{Header, BadLine, Range, DoubleName, NoName, MomentBack, TooMany}
 use Rattle.bt_model.specs.Names.{is_reserved}
+use Rattle.bt_model.specs.Worlds.{in_range, is_int, is_name, is_comparison, names_of_facts, ids_of_rows, facts_set, ports_written}
 
 -- ---- Lines and words
 
@@ -40,15 +46,40 @@ is_gap b = b == 32 || b == 9
 abbrev pub is_line_byte : ℕ → Bool
 is_line_byte b = b == 9 || nat_le 32 b && nat_le b 126
 
--- the words of a line
-abbrev pub words_in : List ℕ → List (List ℕ)
-words_in text = filter (λ word. nat_lt 0 (length word)) (slice_split is_gap text)
+-- a text without the gap at its front
+abbrev pub behind_gap : List ℕ → List ℕ
+behind_gap text = drop (prefix_len is_gap text) text
 
--- ---- Names and numbers
+-- a text without the gap at its end
+abbrev pub before_gap : List ℕ → List ℕ
+before_gap text = take (length text - suffix_len is_gap text) text
 
--- names and IDs are identifiers of at most 64 bytes
-abbrev pub is_name : List ℕ → Bool
-is_name word = is_identifier word && nat_le (length word) 64
+-- what a line holds, without the gaps round it
+abbrev pub content : List ℕ → List ℕ
+content text = before_gap (behind_gap (without_return text))
+
+-- the word at the front of a text
+abbrev pub front_word : List ℕ → List ℕ
+front_word text = take (position_or_len is_gap text) text
+
+-- what stands behind that word and the gap after it
+abbrev pub behind_word : List ℕ → List ℕ
+behind_word text = behind_gap (drop (position_or_len is_gap text) text)
+
+-- what stands behind so many words
+abbrev pub behind : ℕ → List ℕ → List ℕ
+behind zero text = text
+behind (suc n) text = behind n (behind_word text)
+
+-- the word of this number, counted from 0, or the empty text where there are fewer
+abbrev pub word : ℕ → List ℕ → List ℕ
+word n text = front_word (behind n text)
+
+-- whether there are no more words than this
+abbrev pub ends_after : ℕ → List ℕ → Bool
+ends_after n text = length (behind n text) == 0
+
+-- ---- Rows, names and numbers
 
 -- digits of which the first is not 0
 abbrev pub is_positive : List ℕ → Bool
@@ -68,17 +99,48 @@ is_canonical word = bytes_eq word (codes "0") || is_positive (without_minus word
 abbrev pub number_in : List ℕ → Option ℤ
 number_in word = if is_canonical word then Some (signed_digits_value 10 word) else None
 
+-- the ID of a row and its input ports
+pub record Head : Type 0 where
+  pub id : List ℕ
+  pub ports : List (List ℕ)
+
+-- an ID with these input ports, where all are names
+abbrev pub head_with : List ℕ → List (List ℕ) → Option Head
+head_with id ports = if is_name id && list_all is_name ports then Some (record { id = id; ports = ports }) else None
+
+-- an ID, with what stands behind its `(`: ports between commas, and the `)`
+abbrev pub head_before : List ℕ → List ℕ → Option Head
+head_before id rest =
+    if ends_with nat_eq rest (codes ")") then head_with id (slice_split (λ b. b == 44) (take (length rest - 1) rest)) else None
+
+-- `ID`, or `ID(p,q)`
+abbrev pub head_of : List (List ℕ) → Option Head
+head_of (id ∷ []) = head_with id []
+head_of (id ∷ rest ∷ []) = head_before id rest
+head_of _ = None
+
+abbrev pub head_in : List ℕ → Option Head
+head_in word = head_of (slice_split (λ b. b == 40) word)
+
 -- ---- What a line says
 
--- a line by its form, with its numbers as they are written
+-- a line by its form, with its numbers as they are written and the text of its expression
 pub data Line : Type 0 where
   FactLine : (name : List ℕ) (opening : ℤ) → Line
-  ConditionLine : (id fact : List ℕ) (op : Cmp) (value : ℤ) → Line
-  TimedLine : (id : List ℕ) (ms : ℤ) → Line
-  ReplayLine : (id : List ℕ) (ms : ℤ) (outcomes : List Bool) → Line
+  IsLine : (id fact : List ℕ) (op : Cmp) (value : ℤ) → Line
+  WhenLine : (head : Head) (expr : List ℕ) → Line
+  TimedLine : (head : Head) (ms : ℤ) → Line
+  ReplayLine : (head : Head) (ms : ℤ) (outcomes : List Bool) → Line
+  GateLine : (head : Head) (expr : List ℕ) → Line
+  FailsLine : (expr : List ℕ) → Line
+  NeedsLine : (id : List ℕ) → Line
   SetsLine : (fact : List ℕ) (value : ℤ) → Line
+  OutLine : (port expr : List ℕ) → Line
+  GoalLine : (id : List ℕ) → Line
+  RunnersLine : (count : ℤ) → Line
   AtLine : (ms : ℤ) → Line
   TickLine : (runner : ℤ) → Line
+  HaltLine : (runner : ℤ) → Line
   SetLine : (fact : List ℕ) (value : ℤ) → Line
 
 -- the comparison that a word names
@@ -99,147 +161,239 @@ outcomes_in word =
     then Some (map (λ b. b == 83) word)
     else None
 
--- a line that has a name and a number
-abbrev pub named_number : (List ℕ → ℤ → Line) → List ℕ → List ℕ → Option Line
-named_number line name number = if is_name name then option_map (line name) (number_in number) else None
+-- `NAME`
+abbrev pub name_line : (List ℕ → Line) → List ℕ → Option Line
+name_line line text = if is_name (word 0 text) && ends_after 1 text then Some (line (word 0 text)) else None
 
--- `condition ROW is NAME OP INT`
-abbrev pub condition_in : List ℕ → List ℕ → List ℕ → List ℕ → Option Line
-condition_in id fact op number =
-    if is_name id && is_name fact
-    then option_and_then (λ op. option_map (ConditionLine id fact op) (number_in number)) (comparison_in op)
+-- `N`
+abbrev pub number_line : (ℤ → Line) → List ℕ → Option Line
+number_line line text = if ends_after 1 text then option_map line (number_in (word 0 text)) else None
+
+-- `NAME INT`
+abbrev pub named_number : (List ℕ → ℤ → Line) → List ℕ → Option Line
+named_number line text =
+    if is_name (word 0 text) && ends_after 2 text then option_map (line (word 0 text)) (number_in (word 1 text)) else None
+
+-- `NAME = INT`
+abbrev pub sets_line : List ℕ → Option Line
+sets_line text =
+    if is_name (word 0 text) && bytes_eq (word 1 text) (codes "=") && ends_after 3 text
+    then option_map (SetsLine (word 0 text)) (number_in (word 2 text))
     else None
 
--- `action ROW replay MS OUTCOMES`
-abbrev pub replay_in : List ℕ → List ℕ → List ℕ → Option Line
-replay_in id ms outcomes =
-    if is_name id
-    then option_and_then (λ ms. option_map (ReplayLine id ms) (outcomes_in outcomes)) (number_in ms)
+-- `PORT = EXPR`
+abbrev pub out_line : List ℕ → Option Line
+out_line text =
+    if is_name (word 0 text) && bytes_eq (word 1 text) (codes "=") then Some (OutLine (word 0 text) (behind 2 text)) else None
+
+-- `ID is NAME OP INT`, behind `is`
+abbrev pub is_line : List ℕ → List ℕ → Option Line
+is_line id text =
+    if is_name id && is_name (word 0 text) && ends_after 3 text
+    then option_and_then (λ op. option_map (IsLine id (word 0 text) op) (number_in (word 2 text))) (comparison_in (word 1 text))
     else None
 
--- what the words of a line say, if they have one of the forms
-abbrev pub line_in : List (List ℕ) → Option Line
-line_in (kind ∷ a ∷ []) =
-    if bytes_eq kind (codes "at") then option_map AtLine (number_in a)
-    else if bytes_eq kind (codes "tick") then option_map TickLine (number_in a)
+-- `ROW is NAME OP INT`, or `ROW when EXPR`
+abbrev pub condition_line : List ℕ → Option Line
+condition_line text =
+    if bytes_eq (word 1 text) (codes "is") then is_line (word 0 text) (behind 2 text)
+    else if bytes_eq (word 1 text) (codes "when") then option_map (λ head. WhenLine head (behind 2 text)) (head_in (word 0 text))
     else None
-line_in (kind ∷ a ∷ b ∷ []) =
-    if bytes_eq kind (codes "fact") then named_number FactLine a b
-    else if bytes_eq kind (codes "set") then named_number SetLine a b
+
+-- `MS`, of an action that lasts
+abbrev pub timed_line : List ℕ → Head → Option Line
+timed_line text head = number_line (TimedLine head) text
+
+-- `MS OUTCOMES`
+abbrev pub replay_line : List ℕ → Head → Option Line
+replay_line text head =
+    if ends_after 2 text
+    then option_and_then (λ ms. option_map (ReplayLine head ms) (outcomes_in (word 1 text))) (number_in (word 0 text))
     else None
-line_in (kind ∷ a ∷ b ∷ c ∷ []) =
-    if bytes_eq kind (codes "action") && bytes_eq b (codes "timed") then named_number TimedLine a c
-    else if bytes_eq kind (codes "sets") && bytes_eq b (codes "=") then named_number SetsLine a c
+
+-- `ROW timed MS`, `ROW replay MS OUTCOMES` or `ROW gate EXPR`
+abbrev pub action_line : List ℕ → Option Line
+action_line text =
+    if bytes_eq (word 1 text) (codes "timed") then option_and_then (timed_line (behind 2 text)) (head_in (word 0 text))
+    else if bytes_eq (word 1 text) (codes "replay") then option_and_then (replay_line (behind 2 text)) (head_in (word 0 text))
+    else if bytes_eq (word 1 text) (codes "gate") then option_map (λ head. GateLine head (behind 2 text)) (head_in (word 0 text))
     else None
-line_in (kind ∷ a ∷ b ∷ c ∷ d ∷ []) =
-    if bytes_eq kind (codes "action") && bytes_eq b (codes "replay") then replay_in a c d else None
-line_in (kind ∷ a ∷ b ∷ c ∷ d ∷ e ∷ []) =
-    if bytes_eq kind (codes "condition") && bytes_eq b (codes "is") then condition_in a c d e else None
-line_in _ = None
+
+-- what a line says that begins with this word, by what stands behind it
+abbrev pub line_by : List ℕ → List ℕ → Option Line
+line_by kind text =
+    if bytes_eq kind (codes "fact") then named_number FactLine text
+    else if bytes_eq kind (codes "condition") then condition_line text
+    else if bytes_eq kind (codes "action") then action_line text
+    else if bytes_eq kind (codes "fails") then Some (FailsLine text)
+    else if bytes_eq kind (codes "needs") then name_line NeedsLine text
+    else if bytes_eq kind (codes "sets") then sets_line text
+    else if bytes_eq kind (codes "out") then out_line text
+    else if bytes_eq kind (codes "goal") then name_line GoalLine text
+    else if bytes_eq kind (codes "runners") then number_line RunnersLine text
+    else if bytes_eq kind (codes "at") then number_line AtLine text
+    else if bytes_eq kind (codes "tick") then number_line TickLine text
+    else if bytes_eq kind (codes "halt") then number_line HaltLine text
+    else if bytes_eq kind (codes "set") then named_number SetLine text
+    else None
+
+-- what the content of a line says, if it has one of the forms
+abbrev pub line_in : List ℕ → Option Line
+line_in text = if list_all is_line_byte text then line_by (word 0 text) (behind 1 text) else None
+
+-- what a text reads as: an expression without text literals, or none
+abbrev pub ReadsNumeric : List ℕ → Option Expr → Type 0
+ReadsNumeric text (Some e) = ReadsExpr text e × (texts_of e ≡ 0)
+ReadsNumeric text None = (e : Expr) → ReadsExpr text e → texts_of e ≡ 0 → ⊥
 
 -- ---- The world so far
-
--- what is wrong with a line
-pub data WorldKind : Type 0 where
-  Header : WorldKind
-  BadLine : WorldKind
-  Range : WorldKind
-  DoubleName : WorldKind
-  NoName : WorldKind
-  MomentBack : WorldKind
-  TooMany : WorldKind
-
--- the first faulty line, counted from 1, and what is wrong with it
-pub record WorldFault : Type 0 where
-  pub line : ℕ
-  pub kind : WorldKind
 
 -- what the lines so far have made; an action is open as long as lines may add to it
 pub record Reading : Type 0 where
   pub facts : List Fact
   pub rows : List Row
   pub open_row : Option Row
+  pub goals : List ℕ
+  pub runners : Option ℕ
   pub events : List Event
   pub moment : ℕ
 
 -- before the first line
 abbrev pub nothing_read : Reading
-nothing_read = record { facts = []; rows = []; open_row = None; events = []; moment = 0 }
+nothing_read = record { facts = []; rows = []; open_row = None; goals = []; runners = None; events = []; moment = 0 }
 
 -- an open action takes its place among the rows
 abbrev pub closed : Reading → Reading
 closed r = record r { rows = r.rows ++ option_to_list r.open_row; open_row = None }
 
--- whether a number stands in this range, its ends included
-abbrev pub in_range : ℤ → ℤ → ℤ → Bool
-in_range low high number = int_le low number && int_le number high
-
--- any number of 64 bits
-abbrev pub is_int : ℤ → Bool
-is_int = in_range (negsuc 9223372036854775807) (pos 9223372036854775807)
+-- how many runners there are: one where no line says it
+abbrev pub runners_of : Reading → ℕ
+runners_of r = unwrap_or r.runners 1
 
 -- a moment or a duration in milliseconds
 abbrev pub is_ms : ℤ → Bool
 is_ms = in_range (pos 0) (pos 1000000000000)
 
--- the number of a runner: there is one
-abbrev pub is_runner : ℤ → Bool
-is_runner = in_range (pos 1) (pos 1)
+-- the number of one of so many runners
+abbrev pub is_runner : ℕ → ℤ → Bool
+is_runner runners = in_range (pos 1) (pos runners)
 
 -- the number of the fact of this name
 abbrev pub fact_number : List Fact → List ℕ → Option ℕ
-fact_number facts name = position (λ f. bytes_eq f.name name) facts
+fact_number facts name = position (bytes_eq name) (names_of_facts facts)
+
+-- a number of a row, where the row compares a fact
+abbrev pub where_compares : Option Row → ℕ → Option ℕ
+where_compares None number = None
+where_compares (Some row) number = if is_comparison row.sort then Some number else None
+
+-- the number of the condition of this ID that compares a fact
+abbrev pub comparison_number : List Row → List ℕ → Option ℕ
+comparison_number rows id = option_and_then (λ n. where_compares (slice_get rows n) n) (position (bytes_eq id) (ids_of_rows rows))
 
 -- whether no further row may have this ID
 abbrev pub is_taken : List Row → List ℕ → Bool
-is_taken rows id = is_reserved id || list_any (λ row. bytes_eq row.id id) rows
+is_taken rows id = is_reserved id || list_any (bytes_eq id) (ids_of_rows rows)
+
+-- whether one of some names stands among the earlier ones, or among those before it
+abbrev pub repeats : List (List ℕ) → List (List ℕ) → Bool
+repeats earlier [] = false
+repeats earlier (name ∷ names) = list_any (bytes_eq name) earlier || repeats (earlier ++ name ∷ []) names
+
+-- whether a name is one of these ports or one of these facts
+abbrev pub is_known : List (List ℕ) → List Fact → List ℕ → Bool
+is_known ports facts name = list_any (bytes_eq name) ports || list_any (bytes_eq name) (names_of_facts facts)
+
+-- whether each name of an expression is
+abbrev pub knows_all : List (List ℕ) → List Fact → Expr → Bool
+knows_all ports facts e = list_all (is_known ports facts) (names_of e)
 
 -- a row of which nothing more is said
-abbrev pub plain_row : List ℕ → RowSort → Row
-plain_row id sort = record { id = id; ports = []; sort = sort; needs = []; sets = []; outs = [] }
+abbrev pub plain_row : List ℕ → List (List ℕ) → RowSort → Row
+plain_row id ports sort = record { id = id; ports = ports; sort = sort; needs = []; sets = []; outs = [] }
 
 -- ---- The world after a line: its faults in their order, or what it adds
 
 abbrev pub with_fact : List ℕ → ℤ → Reading → Result Reading WorldKind
 with_fact name opening r =
-    if list_any (λ f. bytes_eq f.name name) r.facts then Err DoubleName
+    if list_any (bytes_eq name) (names_of_facts r.facts) then Err DoubleName
     else if nat_le 1024 (length r.facts) then Err TooMany
     else Ok (record r { facts = r.facts ++ record { name = name; opening = opening } ∷ [] })
 
+-- one more row, which is closed
+abbrev pub with_row : Row → Reading → Result Reading WorldKind
+with_row row r = if nat_le 1024 (length r.rows) then Err TooMany else Ok (record r { rows = r.rows ++ row ∷ [] })
+
+-- one more row, which is open
+abbrev pub with_action : Row → Reading → Result Reading WorldKind
+with_action row r = if nat_le 1024 (length r.rows) then Err TooMany else Ok (record r { open_row = Some row })
+
 -- a condition on the fact of this number
-abbrev pub with_condition_on : Option ℕ → List ℕ → Cmp → ℤ → Reading → Result Reading WorldKind
-with_condition_on None id op value r = Err NoName
-with_condition_on (Some n) id op value r =
-    if nat_le 1024 (length r.rows) then Err TooMany
-    else Ok (record r { rows = r.rows ++ plain_row id (Is n op value) ∷ [] })
+abbrev pub with_comparison_on : Option ℕ → List ℕ → Cmp → ℤ → Reading → Result Reading WorldKind
+with_comparison_on None id op value r = Err NoName
+with_comparison_on (Some n) id op value r = with_row (plain_row id [] (Is n op value)) r
 
-abbrev pub with_condition : List ℕ → List ℕ → Cmp → ℤ → Reading → Result Reading WorldKind
-with_condition id fact op value r =
-    if is_taken r.rows id then Err DoubleName else with_condition_on (fact_number r.facts fact) id op value r
+abbrev pub with_comparison : List ℕ → List ℕ → Cmp → ℤ → Reading → Result Reading WorldKind
+with_comparison id fact op value r =
+    if is_taken r.rows id then Err DoubleName else with_comparison_on (fact_number r.facts fact) id op value r
 
--- an action stays open for its effects
-abbrev pub with_action : List ℕ → RowSort → Reading → Result Reading WorldKind
-with_action id sort r =
-    if is_taken r.rows id then Err DoubleName
-    else if nat_le 1024 (length r.rows) then Err TooMany
-    else Ok (record r { open_row = Some (plain_row id sort) })
+-- a row of its own name, whose ports differ, and whose names are known
+abbrev pub with_head : Head → Bool → (Row → Reading → Result Reading WorldKind) → RowSort → Reading → Result Reading WorldKind
+with_head head known add sort r =
+    if is_taken r.rows head.id || repeats [] head.ports then Err DoubleName
+    else if not known then Err NoName
+    else if nat_lt 8 (length head.ports) then Err TooMany
+    else add (plain_row head.id head.ports sort) r
+
+-- the row that is open becomes this one
+abbrev pub with_open_row : Reading → Result Row WorldKind → Result Reading WorldKind
+with_open_row r (Ok row) = Ok (record r { open_row = Some row })
+with_open_row r (Err kind) = Err kind
+
+-- an action that fails where this expression is not 0: it has no other such line
+abbrev pub fails_by : RowSort → Row → Bool → Expr → Result Row WorldKind
+fails_by (Timed ms None) row known e = if known then Ok (record row { sort = Timed ms (Some e) }) else Err NoName
+fails_by (Timed ms (Some other)) row known e = Err DoubleName
+fails_by _ row known e = Err BadLine
+
+abbrev pub row_with_fails : List Fact → Expr → Row → Result Row WorldKind
+row_with_fails facts e row = fails_by row.sort row (knows_all row.ports facts e) e
+
+-- a row with one more need, of the condition of this number
+abbrev pub row_with_need : Option ℕ → Row → Result Row WorldKind
+row_with_need None row = Err NoName
+row_with_need (Some n) row =
+    if list_any (nat_eq n) row.needs then Err DoubleName
+    else if nat_le 16 (length row.needs) then Err TooMany
+    else Ok (record row { needs = row.needs ++ n ∷ [] })
 
 -- a row with one more effect, on the fact of this number
 abbrev pub row_with_effect : Option ℕ → ℤ → Row → Result Row WorldKind
 row_with_effect None value row = Err NoName
 row_with_effect (Some n) value row =
-    if list_any (λ s. s.fact == n) row.sets then Err DoubleName
+    if list_any (nat_eq n) (facts_set row.sets) then Err DoubleName
     else if nat_le 16 (length row.sets) then Err TooMany
     else Ok (record row { sets = row.sets ++ record { fact = n; value = value } ∷ [] })
 
--- this row is open now
-abbrev pub with_open_row : Reading → Result Row WorldKind → Result Reading WorldKind
-with_open_row r (Ok row) = Ok (record r { open_row = Some row })
-with_open_row r (Err kind) = Err kind
+-- a row with one more output
+abbrev pub row_with_out : List Fact → List ℕ → Expr → Row → Result Row WorldKind
+row_with_out facts port e row =
+    if list_any (bytes_eq port) (ports_written row.outs) then Err DoubleName
+    else if not (knows_all row.ports facts e) then Err NoName
+    else if nat_le 8 (length row.outs) then Err TooMany
+    else Ok (record row { outs = row.outs ++ record { port = port; expr = e } ∷ [] })
 
--- an effect on a fact, of the open action
-abbrev pub with_effect : List ℕ → ℤ → Row → Reading → Result Reading WorldKind
-with_effect fact value row r = with_open_row r (row_with_effect (fact_number r.facts fact) value row)
+-- one more goal, the condition of this number
+abbrev pub with_goal : Option ℕ → Reading → Result Reading WorldKind
+with_goal None r = Err NoName
+with_goal (Some n) r =
+    if list_any (nat_eq n) r.goals then Err DoubleName
+    else if nat_le 64 (length r.goals) then Err TooMany
+    else Ok (record r { goals = r.goals ++ n ∷ [] })
+
+-- so many runners, which no earlier line says
+abbrev pub with_runners : ℕ → Reading → Result Reading WorldKind
+with_runners count r = if is_some r.runners then Err DoubleName else Ok (record r { runners = Some count })
 
 abbrev pub with_moment : ℕ → Reading → Result Reading WorldKind
 with_moment ms r = if nat_lt ms r.moment then Err MomentBack else Ok (record r { moment = ms })
@@ -250,78 +404,110 @@ with_event what r =
     else Ok (record r { events = r.events ++ record { at = r.moment; what = what } ∷ [] })
 
 -- a change of the fact of this number
-abbrev pub with_change_of : Option ℕ → ℤ → Reading → Result Reading WorldKind
-with_change_of None value r = Err NoName
-with_change_of (Some n) value r = with_event (Change n value) r
-
-abbrev pub with_change : List ℕ → ℤ → Reading → Result Reading WorldKind
-with_change fact value r = with_change_of (fact_number r.facts fact) value r
+abbrev pub with_change : Option ℕ → ℤ → Reading → Result Reading WorldKind
+with_change None value r = Err NoName
+with_change (Some n) value r = with_event (Change n value) r
 
 -- what is said, where the number of the line stands in its range
 abbrev pub ranged : Bool → Result Reading WorldKind → Result Reading WorldKind
 ranged true said = said
 ranged false said = Err Range
 
+-- what is said where the line stands in its place
+abbrev pub placed : Bool → Result Reading WorldKind → Result Reading WorldKind
+placed true said = said
+placed false said = Err BadLine
+
 -- what is said of the open action; where none is open, the line stands in a wrong place
 abbrev pub of_open : Option Row → (Row → Result Reading WorldKind) → Result Reading WorldKind
 of_open None said = Err BadLine
 of_open (Some row) said = said row
 
--- after a line; every line but an effect closes an open action
-abbrev pub with_line : Reading → Line → Result Reading WorldKind
-with_line r (FactLine name opening) = ranged (is_int opening) (with_fact name opening (closed r))
-with_line r (ConditionLine id fact op value) = ranged (is_int value) (with_condition id fact op value (closed r))
-with_line r (TimedLine id ms) = ranged (is_ms ms) (with_action id (Timed (nat_abs ms) None) (closed r))
-with_line r (ReplayLine id ms outcomes) = ranged (is_ms ms) (with_action id (Replay (nat_abs ms) outcomes) (closed r))
-with_line r (SetsLine fact value) = of_open r.open_row (λ row. ranged (is_int value) (with_effect fact value row r))
-with_line r (AtLine ms) = ranged (is_ms ms) (with_moment (nat_abs ms) (closed r))
-with_line r (TickLine runner) = ranged (is_runner runner) (with_event (Tick (nat_abs runner)) (closed r))
-with_line r (SetLine fact value) = ranged (is_int value) (with_change fact value (closed r))
+-- what is said by what a text reads as, which is to be an expression
+abbrev pub by_expr : Option Expr → (Expr → Result Reading WorldKind) → Result Reading WorldKind
+by_expr None said = Err BadLine
+by_expr (Some e) said = said e
+
+-- this is said of the expression that a text is
+pub record SaysOf (text : List ℕ) (rule : Expr → Result Reading WorldKind) (said : Result Reading WorldKind) : Type 0 where
+  pub expr : Option Expr
+  pub reads : ReadsNumeric text expr
+  pub is : said ≡ by_expr expr rule
+
+-- after a line; every line but those that add to an action closes the open one
+abbrev pub AfterLine : Reading → Line → Result Reading WorldKind → Type 0
+AfterLine r (FactLine name opening) said = said ≡ ranged (is_int opening) (with_fact name opening (closed r))
+AfterLine r (IsLine id fact op value) said = said ≡ ranged (is_int value) (with_comparison id fact op value (closed r))
+AfterLine r (WhenLine head expr) said = SaysOf expr (λ e. with_head head (knows_all head.ports r.facts e) with_row (When e) (closed r)) said
+AfterLine r (TimedLine head ms) said = said ≡ ranged (is_ms ms) (with_head head true with_action (Timed (nat_abs ms) None) (closed r))
+AfterLine r (ReplayLine head ms outcomes) said = said ≡ ranged (is_ms ms) (with_head head true with_action (Replay (nat_abs ms) outcomes) (closed r))
+AfterLine r (GateLine head expr) said = SaysOf expr (λ e. with_head head (knows_all head.ports r.facts e) with_action (Gate e) (closed r)) said
+AfterLine r (FailsLine expr) said = SaysOf expr (λ e. of_open r.open_row (λ row. with_open_row r (row_with_fails r.facts e row))) said
+AfterLine r (NeedsLine id) said = said ≡ of_open r.open_row (λ row. with_open_row r (row_with_need (comparison_number r.rows id) row))
+AfterLine r (SetsLine fact value) said =
+    said ≡ of_open r.open_row (λ row. ranged (is_int value) (with_open_row r (row_with_effect (fact_number r.facts fact) value row)))
+AfterLine r (OutLine port expr) said = SaysOf expr (λ e. of_open r.open_row (λ row. with_open_row r (row_with_out r.facts port e row))) said
+AfterLine r (GoalLine id) said = said ≡ with_goal (comparison_number (closed r).rows id) (closed r)
+AfterLine r (RunnersLine count) said =
+    said ≡ placed (length r.events == 0) (ranged (in_range (pos 1) (pos 16) count) (with_runners (nat_abs count) (closed r)))
+AfterLine r (AtLine ms) said = said ≡ ranged (is_ms ms) (with_moment (nat_abs ms) (closed r))
+AfterLine r (TickLine runner) said = said ≡ ranged (is_runner (runners_of r) runner) (with_event (Tick (nat_abs runner)) (closed r))
+AfterLine r (HaltLine runner) said = said ≡ ranged (is_runner (runners_of r) runner) (with_event (Halt (nat_abs runner)) (closed r))
+AfterLine r (SetLine fact value) said = said ≡ ranged (is_int value) (with_change (fact_number r.facts fact) value (closed r))
 
 -- after what may be a line of one of the forms
-abbrev pub with_form : Reading → Option Line → Result Reading WorldKind
-with_form r None = Err BadLine
-with_form r (Some line) = with_line r line
+abbrev pub AfterForm : Reading → Option Line → Result Reading WorldKind → Type 0
+AfterForm r None said = said ≡ Err BadLine
+AfterForm r (Some line) said = AfterLine r line said
+
+-- blank lines, and lines that begin with `#`, are read over
+abbrev pub is_read_over : List ℕ → Bool
+is_read_over text = length text == 0 || starts_with nat_eq text (codes "#")
+
+-- after the content of a line
+abbrev pub AfterContent : Reading → List ℕ → Result Reading WorldKind → Type 0
+AfterContent r text said = MatchBool (is_read_over text) (said ≡ Ok r) (AfterForm r (line_in text) said)
 
 -- after the text of a line
-abbrev pub with_text : Reading → List ℕ → Result Reading WorldKind
-with_text r text =
-    if list_all is_line_byte (without_return text) then with_form r (line_in (words_in (without_return text)))
-    else Err BadLine
+abbrev pub AfterText : Reading → List ℕ → Result Reading WorldKind → Type 0
+AfterText r text said = AfterContent r (content text) said
 
 -- ---- The world of a file
 
--- goes on after a line, or gives its number and its fault
-abbrev pub go_on : ℕ → (Reading → Result Reading WorldFault) → Result Reading WorldKind → Result Reading WorldFault
-go_on number rest (Ok r) = rest r
-go_on number rest (Err kind) = Err (record { line = number; kind = kind })
+-- the lines behind one are read, or it is the first faulty one
+abbrev pub GoesOn : ℕ → (Reading → Type 0) → Result Reading WorldFault → Result Reading WorldKind → Type 0
+GoesOn number rest said (Ok r) = rest r
+GoesOn number rest said (Err kind) = said ≡ Err (record { line = number; kind = kind })
 
 -- after all these lines, of which the first has this number
-abbrev pub with_lines : ℕ → List (List ℕ) → Reading → Result Reading WorldFault
-with_lines number [] r = Ok r
-with_lines number (text ∷ texts) r = go_on number (λ next. with_lines (number + 1) texts next) (with_text r text)
+abbrev pub AfterLines : ℕ → List (List ℕ) → Reading → Result Reading WorldFault → Type 0
+AfterLines number [] r said = said ≡ Ok r
+AfterLines number (text ∷ texts) r said =
+    (next : Result Reading WorldKind) × AfterText r text next × GoesOn number (λ left. AfterLines (number + 1) texts left said) said next
 
--- the world of all that was read: one runner, and no goals
+-- the world of all that was read
 abbrev pub world_of : Reading → World
-world_of r = record {
-  facts = r.facts;
-  rows = (closed r).rows;
-  goals = [];
-  runners = 1;
-  events = r.events;
-}
+world_of r = record { facts = r.facts; rows = (closed r).rows; goals = r.goals; runners = runners_of r; events = r.events }
 
 abbrev pub world_after : Result Reading WorldFault → Result World WorldFault
 world_after (Ok r) = Ok (world_of r)
 world_after (Err fault) = Err fault
 
--- the world of the lines of a file, of which the first is the header
-abbrev pub world_of_lines : List (List ℕ) → Result World WorldFault
-world_of_lines [] = Err (record { line = 1; kind = Header })
-world_of_lines (first ∷ rest) =
-    if bytes_eq (without_return first) (codes "bt-world 1") then world_after (with_lines 2 rest nothing_read)
-    else Err (record { line = 1; kind = Header })
+-- the fault of a file without its first line
+abbrev pub no_header : Result World WorldFault
+no_header = Err (record { line = 1; kind = Header })
 
--- the world of a file, or its first faulty line
-abbrev pub world_in : List ℕ → Result World WorldFault
-world_in bytes = world_of_lines (lines_in bytes)
+-- the lines behind the header make this world, or have this first fault
+pub record LinesMake (texts : List (List ℕ)) (said : Result World WorldFault) : Type 0 where
+  pub after : Result Reading WorldFault
+  pub lines : AfterLines 2 texts nothing_read after
+  pub is : said ≡ world_after after
+
+-- the world of the lines of a file, of which the first is the header
+abbrev pub LinesRead : List (List ℕ) → Result World WorldFault → Type 0
+LinesRead [] said = said ≡ no_header
+LinesRead (first ∷ rest) said = MatchBool (bytes_eq (without_return first) (codes "bt-world 1")) (LinesMake rest said) (said ≡ no_header)
+
+-- the bytes of a file read as this world, or have this first faulty line
+abbrev pub ReadsWorld : List ℕ → Result World WorldFault → Type 0
+ReadsWorld bytes said = LinesRead (lines_in bytes) said

@@ -15,6 +15,7 @@ mod numbers;
 mod status;
 mod term;
 mod world;
+mod world_fault;
 
 pub use block::{Block, Header};
 pub use cell::{Cell, Naming};
@@ -31,3 +32,4 @@ pub use numbers::int;
 pub use status::{Answer, RoundEnd, Status};
 pub use term::{Guards, Kind, Port, PortValue, Term, Tree};
 pub use world::{Event, Fact, Out, Row, RowSort, Set, What, World};
+pub use world_fault::{WorldFault, WorldKind};
