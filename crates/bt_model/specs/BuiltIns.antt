@@ -1,6 +1,6 @@
 -- The built-in nodes: under which name each stands, which elements may write it by its ID, how many children
 -- it has, which ports, and whether it has a script of its own.
-use Rattle.std.specs.Prelude.{ℕ, ◌+◌, ◌-◌, ℤ, pos, negsuc, int_le, List, [], ◌∷◌, ◌++◌, length, take, Bool, true, false, ◌&&◌, ◌||◌, nat_eq, nat_le, if◌then◌else◌, codes, decimal, Option, Some, None, option_map}
+use Rattle.std.specs.Prelude.{ℕ, ◌+◌, pos, negsuc, int_le, List, [], ◌∷◌, length, take, Bool, true, false, ◌&&◌, ◌||◌, nat_eq, nat_le, if◌then◌else◌, codes, Option, Some, None, option_map}
 use Rattle.std.specs.Borrow.{Bor}
 use Rattle.std.specs.Ordering.{int_eq}
 use Rattle.std.specs.Str.{bytes_eq}

@@ -1,5 +1,5 @@
 -- What nodes without children do: a leaf calls its driver, a script node runs its code.
-use Rattle.std.specs.Prelude.{ℕ, ℤ, List, [], ◌∷◌, map, find, slice_index_or, slice_set, Bool, if◌then◌else◌, Option, Some, None, Result, Ok, Err}
+use Rattle.std.specs.Prelude.{ℕ, ℤ, List, [], ◌∷◌, map, find, slice_index_or, slice_set, if◌then◌else◌, Option, Some, None, Result, Ok, Err}
 use Rattle.std.specs.Str.{bytes_eq}
 use Rattle.bt_script.specs.declared.cells.Seen.{Seen}
 use Rattle.bt_script.specs.declared.cells.Seen.TheVariants as seen
@@ -21,7 +21,7 @@ use Rattle.bt_model.specs.declared.status.Answer.TheVariants.{Running, Success, 
 use Rattle.bt_model.specs.declared.status.Status.{Status}
 use Rattle.bt_model.specs.declared.status.Status.TheVariants as status
 use Rattle.bt_model.specs.declared.term.PortValue.{PortValue}
-use Rattle.bt_model.specs.declared.term.PortValue.TheVariants.{Lit, Key}
+use Rattle.bt_model.specs.declared.term.PortValue.TheVariants.{Key}
 use Rattle.bt_model.specs.declared.world.Out.{Out}
 use Rattle.bt_model.specs.declared.world.Row.{Row}
 use Rattle.bt_model.specs.Done.{Done, State, done, follow}

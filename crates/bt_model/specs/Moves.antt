@@ -2,7 +2,7 @@
 use Rattle.std.specs.Prelude.{ℕ, ◌+◌, ◌-◌, ◌<◌, ◌≤◌, ◌^◌, ◌≡◌, Bool, true, false, Option, Some, None, unwrap_or, if◌then◌else◌, nat_eq}
 use Rattle.bt_model.specs.declared.memory.Counts.{Counts}
 use Rattle.bt_model.specs.declared.memory.Memo.{Memo}
-use Rattle.bt_model.specs.declared.memory.Memo.TheVariants.{Nothing, Index, Chosen, Finished, Counts as Counted, Turns as Turned, Since as Begun}
+use Rattle.bt_model.specs.declared.memory.Memo.TheVariants.{Index, Chosen, Finished, Counts as Counted, Turns as Turned}
 use Rattle.bt_model.specs.declared.memory.Turns.{Turns}
 use Rattle.bt_model.specs.declared.moves.Heard.{Heard}
 use Rattle.bt_model.specs.declared.moves.Heard.TheVariants.{Begin, Answered, Passed}
@@ -18,7 +18,7 @@ use Rattle.bt_model.specs.declared.term.Kind.{Kind}
 use Rattle.bt_model.specs.declared.term.Kind.TheVariants.{Sequence, SequenceWithMemory, ReactiveSequence, Fallback, ReactiveFallback, Parallel, Switch, IfThenElse, WhileDoElse, Inverter, ForceSuccess, ForceFailure, KeepRunningUntilFailure, Retry, Repeat, Timeout, Delay, RunOnce, SubTree}
 use Rattle.bt_model.specs.Rules.Answers.{pass_on}
 use Rattle.bt_model.specs.Rules.Choices.{chosen_of, if_then_else_after, while_do_else_after}
-use Rattle.bt_model.specs.Rules.Decorators.{as_it_is, forced, inverted, keep_running_after, run_once_after, since_of}
+use Rattle.bt_model.specs.Rules.Decorators.{as_it_is, forced, inverted, keep_running_after, run_once_after}
 use Rattle.bt_model.specs.Rules.Kinds.{rule}
 use Rattle.bt_model.specs.Rules.Parallels.{counted, counts_of, parallel, parallel_after}
 use Rattle.bt_model.specs.Rules.Sequences.{reactive_end, round, round_after, seen_of, sequence_end, with_memory_end}

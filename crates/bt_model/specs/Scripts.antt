@@ -1,5 +1,5 @@
 -- The scripts of a node: its guards before a visit's rule, and those that run after an answer or a halt.
-use Rattle.std.specs.Prelude.{ℕ, Bool, true, false, if◌then◌else◌, Option, Some, None, Result, Ok, Err}
+use Rattle.std.specs.Prelude.{ℕ, Bool, true, false, Option, Some, None, Result, Ok, Err}
 use Rattle.bt_script.specs.declared.fault.ExecFault.{ExecFault}
 use Rattle.bt_script.specs.declared.fault.ExecFault.TheVariants as exec
 use Rattle.bt_script.specs.declared.syntax.Script.{Script}

@@ -1,7 +1,6 @@
 -- What the status and the memo of a node and the statuses of its children may be together, kind by kind.
-use Rattle.std.specs.Prelude.{ℕ, ℤ, pos, negsuc, ◌+◌, ◌<◌, ◌≤◌, ◌≡◌, List, length, map, slice_index_or, codes, Bool, true, false, count_by, IsTrue, Option, Some, None}
-use Rattle.bt_script.specs.declared.value.Value.{Value}
-use Rattle.bt_script.specs.declared.value.Value.TheVariants.{Int, Text}
+use Rattle.std.specs.Prelude.{ℕ, ℤ, pos, negsuc, ◌+◌, ◌<◌, ◌≤◌, ◌≡◌, List, length, slice_index_or, codes, Bool, true, false, count_by, IsTrue, Option, Some, None}
+use Rattle.bt_script.specs.declared.value.Value.TheVariants.{Int}
 use Rattle.bt_model.specs.declared.built_ins.Range.{Range}
 use Rattle.bt_model.specs.declared.built_ins.Range.TheVariants as range
 use Rattle.bt_model.specs.declared.memory.Counts.{Counts}

@@ -1,6 +1,6 @@
 -- Which trees are valid: what the readers of trees give, and what each call that takes a tree needs.
 use Rattle.std.specs.Prelude.{◌≡◌, ℕ, ◌+◌, ◌≤◌, List, [], ◌∷◌, length, map, Bool, true, false, not, ◌&&◌, if◌then◌else◌, IsTrue, Option, Some, None}
-use Rattle.std.specs.List.{list_all, list_any, AllByRecursion}
+use Rattle.std.specs.List.{list_all, AllByRecursion}
 use Rattle.std.specs.Str.{bytes_eq}
 use Rattle.bt_script.specs.declared.syntax.Script.{Script}
 use Rattle.bt_script.specs.Identifiers.{is_identifier}

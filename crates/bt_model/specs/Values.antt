@@ -1,5 +1,5 @@
 -- What the value of a port says: a literal, or the key of a blackboard entry.
-use Rattle.std.specs.Prelude.{ℕ, ◌-◌, ◌==◌, List, [], ◌∷◌, length, slice_index, slice_range, Bool, true, false, not, is_some, ◌&&◌, ◌||◌, nat_eq, nat_le, if◌then◌else◌, codes, Option, Some, None, option_map}
+use Rattle.std.specs.Prelude.{ℕ, ◌-◌, ◌==◌, List, length, slice_index, slice_range, Bool, true, not, is_some, ◌&&◌, ◌||◌, nat_eq, if◌then◌else◌, codes, Option, Some, None}
 use Rattle.std.specs.Option.{option_map_or}
 use Rattle.std.specs.Str.{bytes_eq}
 use Rattle.bt_script.specs.declared.value.Value.{Value}

@@ -5,7 +5,7 @@ use Rattle.std.specs.List.Sorted.{IsNonDecreasing}
 use Rattle.bt_script.specs.Grammar.{height}
 use Rattle.bt_script.specs.Identifiers.{is_identifier}
 use Rattle.bt_script.specs.declared.syntax.Expr.{Expr}
-use Rattle.bt_script_code.specs.Sources.{names_of, texts_of}
+use Rattle.bt_script.specs.Scripts.{names_of, texts_of}
 use Rattle.bt_model.specs.Names.{is_reserved}
 use Rattle.bt_model.specs.declared.world.Event.{Event}
 use Rattle.bt_model.specs.declared.world.Fact.{Fact}

@@ -3,8 +3,8 @@
 #![tactic(auto)]
 
 mod block;
-mod cell;
 mod built_ins;
+mod cell;
 mod fault;
 mod leaf;
 mod memory;
@@ -18,14 +18,15 @@ mod world;
 mod world_fault;
 
 pub use block::{Block, Header};
+pub use built_ins::{
+    Class, PortRule, Range, class_of, has_code, int_fits, kind_named, ports_of, takes, text_fits,
+    writes,
+};
 pub use cell::{Cell, Naming};
-pub use built_ins::{Class, PortRule, Range, class_of, has_code, int_fits, kind_named, ports_of, takes, text_fits, writes};
 pub use fault::{Cause, NodeFault, PortId, RunFault};
-pub use leaf::{Instance, Phase};
+pub use leaf::{DriverKind, Instance, Phase, Reply, Totals};
 pub use memory::{Counts, Memo, Memory, Since, Turns};
 pub use moves::{Heard, Move, Span, Then};
-pub use leaf::{DriverKind, Instance, Phase, Reply, Totals};
-pub use memory::{Memo, Memory};
 pub use names::is_reserved;
 pub use note::Note;
 pub use numbers::int;

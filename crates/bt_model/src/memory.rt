@@ -7,10 +7,7 @@ pub enum Memo {
     Nothing,
     /// Of the Sequence and Fallback kinds: the child that comes next, and whether some child has
     /// answered other than SKIPPED since the node started.
-    Index {
-        at: u32,
-        seen: bool,
-    },
+    Index { at: u32, seen: bool },
     /// Of Parallel: its thresholds, and its counts so far.
     Counts(Counts),
     /// Of Switch and IfThenElse: the chosen child.
