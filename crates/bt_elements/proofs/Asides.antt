@@ -1,14 +1,17 @@
 -- What an instruction or a comment holds up to its end is read over, and what was read over stood there.
-use Rattle.std.proofs.Common.{◌≡◌, ℕ, Bool, true, false, not, ◌==◌, ◌&&◌, ◌||◌, List, [], ◌∷◌, ◌++◌, length, drop, Option, Some, None, refl, ap, sym, ◌∙◌, append_assoc, arith, if◌then◌else◌}
+use Rattle.std.proofs.Common.{◌≡◌, ℕ, Bool, true, false, not, ◌==◌, ◌&&◌, ◌||◌, List, [], ◌∷◌, ◌++◌, length, ◌<◌, drop, Option, Some, None, refl, ap, sym, ◌∙◌, subst, append_assoc, arith, if◌then◌else◌}
 use Rattle.std.specs.Prelude.{nat_eq}
 use Rattle.std.proofs.lemmas.Bool.Decides.{nat_tests, Decides-eqb}
 use Rattle.std.proofs.lemmas.Slice.Eq.{starts_is}
 use Rattle.std.specs.Cmp.Derive.{both_true}
+use Rattle.std.specs.Char.{is_ascii}
 use Rattle.std.specs.List.{list_all}
+use Rattle.std.specs.Str.{IsUtf8}
 use Rattle.bt_script.proofs.Bools.{both}
 use Rattle.bt_elements.specs.References.{begins_with}
 use Rattle.bt_elements.specs.Marks.{is_not_zero, holds, instruction_end, comment_end}
 use Rattle.bt_elements.specs.Reading.{behind_first}
+use Rattle.bt_elements.proofs.Cuts.{cut_within}
 use Rattle.bt_elements.proofs.Fronts.{some_inj}
 
 pub begins_is : (word text : List ℕ) → begins_with word text ≡ true → text ≡ word ++ drop (length word) text
@@ -114,3 +117,17 @@ body_found word (c ∷ cs) rest h = found_if word c cs rest (begins_with word (c
 -- one byte more is read over
 pub passed_over : (word : List ℕ) (c : ℕ) (cs : List ℕ) → begins_with word (c ∷ cs) ≡ false → (c == 0) ≡ false → behind_first word (c ∷ cs) ≡ behind_first word cs
 passed_over word c cs b z = passed word c cs b (not_false (c == 0) z)
+
+here_if : (word : List ℕ) (c : ℕ) (cs : List ℕ) → begins_with word (c ∷ cs) ≡ true → behind_first word (c ∷ cs) ≡ Some (drop (length word) (c ∷ cs))
+here_if word c cs h = ap (λ (t : Bool). if t then Some (drop (length word) (c ∷ cs)) else (if c == 0 then None else behind_first word cs)) h
+
+pub here_found : (word bytes : List ℕ) → 0 < length word → begins_with word bytes ≡ true → behind_first word bytes ≡ Some (drop (length word) bytes)
+here_found word (c ∷ cs) some h = here_if word c cs h
+here_found [] [] some h = absurd (omega arith)
+here_found (w ∷ ws) [] some h = absurd (cc)
+
+-- what follows an ASCII word is a text
+pub behind_utf8 : (word bytes rest : List ℕ) → 0 < length word → list_all is_ascii word ≡ true → IsUtf8 bytes → behind_first word bytes ≡ Some rest → IsUtf8 rest
+behind_utf8 word bytes rest some ascii u h =
+    let found = body_found word bytes rest h in
+    cut_within found.body word rest some ascii (subst IsUtf8 found.is u)

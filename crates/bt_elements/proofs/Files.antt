@@ -104,14 +104,14 @@ read_marked total st bytes c inner m more stands is mark =
     read_inner total st bytes c inner (Some (m, more)) stands is mark
     ∙ step_fuel (length bytes) (suc (length more)) total (m, more) (λ next. read_fuel (length bytes) (suc (length more)) total next more few (omega arith)) (step st (total - length (c ∷ inner)) m)
 
-mark_cons : (m : written.Mark) (more : List ℕ) → mark_written m ++ more ≡ 60 ∷ drop 1 (mark_written m ++ more)
+pub mark_cons : (m : written.Mark) (more : List ℕ) → mark_written m ++ more ≡ 60 ∷ drop 1 (mark_written m ++ more)
 mark_cons (Start o) more = refl
 mark_cons (Empty o) more = refl
 mark_cons (End name gap) more = refl
 mark_cons (Instruction body) more = refl
 mark_cons (Comment body) more = refl
 
-mark_no_text : (m : written.Mark) (more : List ℕ) → begins is_text_byte (mark_written m ++ more) ≡ false
+pub mark_no_text : (m : written.Mark) (more : List ℕ) → begins is_text_byte (mark_written m ++ more) ≡ false
 mark_no_text m more = ap (begins is_text_byte) (mark_cons m more)
 
 -- the text before something that begins with no text
@@ -177,6 +177,7 @@ pub record Found (at total : ℕ) (st : State) (bytes : List ℕ) (r : Result El
   pub last : State
   pub valid : AllByRecursion IsPiece pieces
   pub no_mark : list_all is_text_byte text ≡ true
+  pub edge : begins is_text_byte rest ≡ false
   pub is : bytes ≡ pieces_written pieces ++ (text ++ rest)
   pub runs : run at st pieces ≡ Ok last
   pub ends : Ends (at + length (pieces_written pieces)) total last text rest r
@@ -185,10 +186,10 @@ angle : (c : ℕ) → is_text_byte c ≡ false → c ≡ 60
 angle c h = grind (arith, nat_tests)
 
 -- reading that ends before a further mark
-at_once : (at total : ℕ) (st : State) (text rest : List ℕ) (r : Result Element ElementFault) → list_all is_text_byte text ≡ true → Ends at total st text rest r → Found at total st (text ++ rest) r
-at_once at total st text rest r is ends =
+at_once : (at total : ℕ) (st : State) (text rest : List ℕ) (r : Result Element ElementFault) → list_all is_text_byte text ≡ true → begins is_text_byte rest ≡ false → Ends at total st text rest r → Found at total st (text ++ rest) r
+at_once at total st text rest r is edge ends =
     let here : at ≡ at + 0 = omega arith in
-    record { pieces = []; text = text; rest = rest; last = st; valid = tt; no_mark = is; is = refl; runs = refl; ends = subst (λ (n : ℕ). Ends n total st text rest r) here ends }
+    record { pieces = []; text = text; rest = rest; last = st; valid = tt; no_mark = is; edge = edge; is = refl; runs = refl; ends = subst (λ (n : ℕ). Ends n total st text rest r) here ends }
 
 -- reading that goes on behind a piece
 behind_piece : (at total : ℕ) (st next : State) (p : Piece) (more : List ℕ) (r : Result Element ElementFault) → IsPiece p → may_stand st p.text ≡ true →
@@ -203,6 +204,7 @@ behind_piece at total st next p more r is stands taken_is found =
       last = found.last;
       valid = (is, found.valid);
       no_mark = found.no_mark;
+      edge = found.edge;
       is = ap (λ (z : List ℕ). piece_written p ++ z) found.is ∙ sym (append_assoc (piece_written p) (pieces_written found.pieces) (found.text ++ found.rest));
       runs = run_one at st p found.pieces (said p.mark) next stands refl taken_is ∙ found.runs;
       ends = subst (λ (n : ℕ). Ends n total found.last found.text found.rest r) there found.ends;
@@ -213,7 +215,7 @@ mark_read : (k at total : ℕ) (st : State) (text : List ℕ) (m : written.Mark)
     ((next : State) → read_from k total next more ≡ r → Found (at + length (text ++ mark_written m)) total next more r) →
     (o : Result State ElementFault) → step st (at + length text) (said m) ≡ o → (o >=> λ next. read_from k total next more) ≡ r → Found at total st (text ++ (mark_written m ++ more)) r
 mark_read k at total st text m more r is stands form ih (Err fault) e h =
-    at_once at total st text (mark_written m ++ more) r is (Faulty m more fault stands form refl e (sym h))
+    at_once at total st text (mark_written m ++ more) r is (mark_no_text m more) (Faulty m more fault stands form refl e (sym h))
 mark_read k at total st text m more r is stands form ih (Ok next) e h =
     let p : Piece = record { text = text; mark = m } in
     let is_piece : IsPiece p = record { text = is; mark = form } in
@@ -227,7 +229,7 @@ inner_read : (k at total : ℕ) (st : State) (text inner : List ℕ) (r : Result
     ((elim o [ Some m ↦ Ok m | None ↦ Err (BadMark (total - length (60 ∷ inner))) ]) >=> then_step k total (total - length (60 ∷ inner)) st) ≡ r → Found at total st (text ++ (60 ∷ inner)) r
 inner_read k at total st text inner r is stands place ih None e h =
     let here : total - length (60 ∷ inner) ≡ at + length text = omega (arith, place, length-append text (60 ∷ inner)) in
-    at_once at total st text (60 ∷ inner) r is (Bad inner stands refl e (sym h ∙ ap (λ (n : ℕ). Err (BadMark n)) here))
+    at_once at total st text (60 ∷ inner) r is refl (Bad inner stands refl e (sym h ∙ ap (λ (n : ℕ). Err (BadMark n)) here))
 inner_read k at total st text inner r is stands place ih (Some m) e h =
     let here : total - length (60 ∷ inner) ≡ at + length text = omega (arith, place, length-append text (60 ∷ inner)) in
     let found = mark_found inner m e in
@@ -247,7 +249,7 @@ inner_read k at total st text inner r is stands place ih (Some m) e h =
 rest_read : (k at total : ℕ) (st : State) (text rest : List ℕ) (r : Result Element ElementFault) → list_all is_text_byte text ≡ true → may_stand st text ≡ true → begins is_text_byte rest ≡ false → at + length (text ++ rest) ≡ total →
     ((end : ℕ) (next : State) (x : List ℕ) → end + length x ≡ total → length x < length rest → read_from k total next x ≡ r → Found end total next x r) →
     by_marks k total st rest ≡ r → Found at total st (text ++ rest) r
-rest_read k at total st text [] r is stands edge place ih h = at_once at total st text [] r is (Last stands refl (sym h))
+rest_read k at total st text [] r is stands edge place ih h = at_once at total st text [] r is refl (Last stands refl (sym h))
 rest_read k at total st text (c ∷ inner) r is stands edge place ih h =
     subst (λ (z : ℕ). (at + length (text ++ (z ∷ inner)) ≡ total) → (by_marks k total st (z ∷ inner) ≡ r) → Found at total st (text ++ (z ∷ inner)) r) (sym (angle c edge))
     (λ here g.
@@ -263,7 +265,7 @@ text_read : (k at total : ℕ) (st : State) (text rest : List ℕ) (r : Result E
 text_read k at total st text rest r is edge place ih true stands h = rest_read k at total st text rest r is stands edge place ih h
 text_read k at total st text rest r is edge place ih false stands h =
     let here : total - length (text ++ rest) ≡ at = omega (arith, place) in
-    at_once at total st text rest r is (Stray stands (sym h ∙ ap (λ (n : ℕ). stray n text) here))
+    at_once at total st text rest r is edge (Stray stands (sym h ∙ ap (λ (n : ℕ). stray n text) here))
 
 -- what was read stood there
 pub pieces_found : (k at total : ℕ) (st : State) (bytes : List ℕ) (r : Result Element ElementFault) → at + length bytes ≡ total → length bytes < k → read_from k total st bytes ≡ r → Found at total st bytes r

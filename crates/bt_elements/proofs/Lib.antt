@@ -7,3 +7,6 @@ pub mod Marks
 pub mod Names
 pub mod Nesting
 pub mod Outcomes
+pub mod References
+pub mod Standings
+pub mod Verdicts

@@ -189,7 +189,7 @@ aside_good stack done place m next none good h =
     subst (Steps stack done place m) (ok_inj (record { stack = stack; done = done }) next h)
     (good, sym (ap (λ (z : List Tag). so_far done stack ++ z) none ∙ append-nil (so_far done stack)))
 
-step_good : (stack : List Open) (done : Option Element) (place : ℕ) (m : Mark) (next : State) → IsState done stack →
+pub step_good : (stack : List Open) (done : Option Element) (place : ℕ) (m : Mark) (next : State) → IsState done stack →
     step (record { stack = stack; done = done }) place (said m) ≡ Ok next → Steps stack done place m next
 step_good stack done place (Start o) next good h = begin_good stack done place o next good h
 step_good stack done place (Empty o) next good h = empty_good stack done place o next good h
@@ -206,9 +206,9 @@ step_single stack done place (Start o) next h =
 step_single stack done place (Empty o) next h =
     let x = bind_ok (begun (record { stack = stack; done = done }) place (front_said o)) (λ (x : Open). Ok (attach (element_of x) stack)) next h in
     (begun_found stack done place (front_said o) x.0 x.1).0.single
-step_single stack done place (End name gap) next h = refl
-step_single stack done place (Instruction body) next h = refl
-step_single stack done place (Comment body) next h = refl
+step_single stack d place (End name gap) next h = refl
+step_single stack d place (Instruction body) next h = refl
+step_single stack d place (Comment body) next h = refl
 
 weaker : (a b c : Bool) → (a && b || c) ≡ true → (b || c) ≡ true
 weaker true b c h = h
@@ -313,7 +313,7 @@ run_one at st p ps m next stands is s =
     ∙ ap (step st (at + length p.text)) is ∙ s)
 
 -- an instruction or a comment is read over
-run_aside : (at : ℕ) (st : State) (p : Piece) (ps : List Piece) → may_stand st p.text ≡ true → said p.mark ≡ read.Aside →
+pub run_aside : (at : ℕ) (st : State) (p : Piece) (ps : List Piece) → may_stand st p.text ≡ true → said p.mark ≡ read.Aside →
     run at st (p ∷ ps) ≡ run (at + length (piece_written p)) st ps
 run_aside at st p ps stands is = run_one at st p ps read.Aside st stands is refl
 

@@ -1,5 +1,5 @@
 -- The fault of a tree file that spells no element: the first along the file, and of one mark the first by its kind.
-use Rattle.std.specs.Prelude.{◌≡◌, ℕ, ◌+◌, Bool, true, ◌&&◌, ◌||◌, nat_lt, List, [], ◌∷◌, ◌++◌, map, length, drop, Option, Some, None, is_none, Result, Ok, Err, IsTrue, if◌then◌else◌}
+use Rattle.std.specs.Prelude.{◌≡◌, ℕ, ◌+◌, ◌⊎◌, Bool, true, ◌&&◌, ◌||◌, nat_lt, List, [], ◌∷◌, ◌++◌, map, length, drop, Option, Some, None, is_none, Result, Ok, Err, IsTrue, if◌then◌else◌}
 use Rattle.std.specs.List.{prefix_len, list_all, list_any, AllByRecursion}
 use Rattle.std.specs.Str.{bytes_eq, IsUtf8}
 use Rattle.std.specs.Str.Lossy.{utf8_valid_len}
@@ -102,8 +102,7 @@ pub record FirstFault (bytes : List ℕ) (fault : ElementFault) : Type 0 where
 
 -- The fault of the bytes. A file that is not UTF-8 has the length of its longest front that is.
 abbrev pub ElementFaultOf : List ℕ → ElementFault → Type 0
-ElementFaultOf bytes (NotUtf8 place) = (IsUtf8 bytes → ⊥) × (place ≡ utf8_valid_len bytes)
-ElementFaultOf bytes fault = IsUtf8 bytes × FirstFault bytes fault
+ElementFaultOf bytes fault = (IsUtf8 bytes × FirstFault bytes fault) ⊎ ((IsUtf8 bytes → ⊥) × (fault ≡ NotUtf8 (utf8_valid_len bytes)))
 
 -- what is said of the fault that a call answers
 abbrev pub WhenFault : {X F : Type 0} → Result X (Stop F) → (F → Type 0) → Type 0

@@ -95,7 +95,10 @@ impl Nest {
         ensures { Gives result (finished (seen self) place) }
     {
         let Nest { stack: _, done } = self;
-        done.ok_or(Stop::Fault(ElementFault::Unmatched { place }))
+        match done {
+            Some(element) => Ok(element),
+            None => Err(Stop::Fault(ElementFault::Unmatched { place })),
+        }
     }
 
     fn inside(&self) -> bool

@@ -40,7 +40,8 @@ fn behind_order_mark(bytes: &[u8]) -> &[u8]
     ensures utf8 { IsUtf8 result.now }
 {
     if bytes.starts_with(b"\xEF\xBB\xBF") {
-        &bytes[3..]
+        let (_, rest) = bytes.split_at(3);
+        rest
     } else {
         bytes
     }

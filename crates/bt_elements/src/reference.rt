@@ -86,9 +86,11 @@ fn reference_at(bytes: &[u8]) -> Option<(char, usize)>
     } else if bytes.starts_with(b"apos;") {
         Some(('\'', 5))
     } else if bytes.starts_with(b"#x") {
-        numeric(&bytes[2..], 16, 2)
+        let (_, digits) = bytes.split_at(2);
+        numeric(digits, 16, 2)
     } else if bytes.starts_with(b"#") {
-        numeric(&bytes[1..], 10, 1)
+        let (_, digits) = bytes.split_at(1);
+        numeric(digits, 10, 1)
     } else {
         None
     }
@@ -118,7 +120,8 @@ pub fn decode(alloc: Global, value: &[u8]) -> Result<Name, NoMemory>
         match reference_at(behind) {
             Some((c, len)) => {
                 push(&mut said, c)?;
-                rest = &behind[len..];
+                let (_, more) = behind.split_at(len);
+                rest = more;
             }
             None => {
                 said.push(b'&')?;

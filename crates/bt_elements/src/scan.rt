@@ -1,4 +1,5 @@
-ghost use Rattle.std.specs.Prelude.{◌≡◌, ◌≤◌, ◌<◌, ◌==◌, ◌&&◌, not, IfOk, IsUtf8, length, take, drop};
+ghost use Rattle.std.specs.Prelude.{◌≡◌, ◌≤◌, ◌<◌, ◌==◌, ◌&&◌, true, not, IfOk, IsUtf8, length, take, drop};
+ghost use Rattle.std.specs.Char.{is_ascii};
 ghost use Rattle.std.specs.List.{prefix_len, list_all};
 ghost use Rattle.bt_script.specs.Identifiers as identifiers;
 ghost use Rattle.bt_elements.specs.Marks.{is_name_first, is_name_rest, is_quote, is_value_byte, instruction_end, comment_end, no_name_twice};
@@ -110,16 +111,13 @@ fn byte_at(bytes: &[u8], c: u8) -> Result<&[u8], Stop<NoMark>>
     ensures within { IfOk result (λ rest. length rest.now < length bytes.now) }
     ensures utf8 { IfOk result (λ rest. IsUtf8 rest.now) }
 {
-    match bytes {
-        [b, rest @ ..] => {
-            if *b == c {
-                Ok(rest)
-            } else {
-                Err(Stop::Fault(NoMark))
-            }
-        }
-        [] => Err(Stop::Fault(NoMark)),
+    let Some((b, rest)) = bytes.split_first() else {
+        return Err(Stop::Fault(NoMark));
+    };
+    if *b != c {
+        return Err(Stop::Fault(NoMark));
     }
+    Ok(rest)
 }
 
 fn begins_white(bytes: &[u8]) -> bool
@@ -175,11 +173,13 @@ fn value_at(alloc: Global, bytes: &[u8]) -> Result<(Name, &[u8]), Stop<NoMark>>
     ensures within { IfOk result (λ x. length x.1.now < length bytes.now) }
     ensures utf8 { IfOk result (λ x. IsUtf8 x.1.now) }
 {
-    match bytes {
-        [b'"', rest @ ..] => value_behind(alloc, b'"', rest),
-        [b'\'', rest @ ..] => value_behind(alloc, b'\'', rest),
-        _ => Err(Stop::Fault(NoMark)),
+    let Some((c, rest)) = bytes.split_first() else {
+        return Err(Stop::Fault(NoMark));
+    };
+    if !quote(*c) {
+        return Err(Stop::Fault(NoMark));
     }
+    value_behind(alloc, *c, rest)
 }
 
 /// The attribute at the front.
@@ -251,14 +251,17 @@ fn closing_at(front: Front, bytes: &[u8]) -> Result<(Mark, &[u8]), Stop<NoMark>>
     ensures within { IfOk result (λ x. length x.1.now ≤ length bytes.now) }
     ensures utf8 { IfOk result (λ x. IsUtf8 x.1.now) }
 {
-    match bytes {
-        [b'>', rest @ ..] => Ok((Mark::Start(front), rest)),
-        [b'/', rest @ ..] => {
-            let rest = byte_at(rest, b'>')?;
-            Ok((Mark::Empty(front), rest))
-        }
-        _ => Err(Stop::Fault(NoMark)),
+    let Some((c, rest)) = bytes.split_first() else {
+        return Err(Stop::Fault(NoMark));
+    };
+    if *c == b'>' {
+        return Ok((Mark::Start(front), rest));
     }
+    if *c != b'/' {
+        return Err(Stop::Fault(NoMark));
+    }
+    let rest = byte_at(rest, b'>')?;
+    Ok((Mark::Empty(front), rest))
 }
 
 /// A start mark or an empty mark behind its `<`.
@@ -284,6 +287,31 @@ fn end_at(alloc: Global, bytes: &[u8]) -> Result<(Mark, &[u8]), Stop<NoMark>>
     Ok((Mark::End(name), rest))
 }
 
+/// What follows the first of these endings, before which no byte is 0.
+fn ending_at<'a>(bytes: &'a [u8], ending: &[u8]) -> Result<&'a [u8], Stop<NoMark>>
+    requires utf8 { IsUtf8 bytes.now }
+    requires some { 0 < length ending.now }
+    requires ascii { list_all is_ascii ending.now ≡ true }
+    ensures read { Scans (λ rest. rest.now) result (behind_first ending.now bytes.now) }
+    ensures within { IfOk result (λ rest. length rest.now ≤ length bytes.now) }
+    ensures utf8 { IfOk result (λ rest. IsUtf8 rest.now) }
+{
+    let mut rest = bytes;
+    'body: loop {
+        if rest.starts_with(ending) {
+            let (_, behind) = rest.split_at(ending.len());
+            return Ok(behind);
+        }
+        let Some((c, more)) = rest.split_first() else {
+            return Err(Stop::Fault(NoMark));
+        };
+        if *c == 0 {
+            return Err(Stop::Fault(NoMark));
+        }
+        rest = more;
+    }
+}
+
 /// An instruction behind its `<?`.
 fn instruction_at(bytes: &[u8]) -> Result<(Mark, &[u8]), Stop<NoMark>>
     requires { IsUtf8 bytes.now }
@@ -291,31 +319,8 @@ fn instruction_at(bytes: &[u8]) -> Result<(Mark, &[u8]), Stop<NoMark>>
     ensures within { IfOk result (λ x. length x.1.now ≤ length bytes.now) }
     ensures utf8 { IfOk result (λ x. IsUtf8 x.1.now) }
 {
-    let mut rest = bytes;
-    'body: loop {
-        match rest {
-            [b'?', b'>', behind @ ..] => return Ok((Mark::Aside, behind)),
-            [] | [0, ..] => return Err(Stop::Fault(NoMark)),
-            [_, more @ ..] => rest = more,
-        }
-    }
-}
-
-/// A comment behind its `<!--`.
-fn comment_body_at(bytes: &[u8]) -> Result<(Mark, &[u8]), Stop<NoMark>>
-    requires { IsUtf8 bytes.now }
-    ensures read { Scans (λ x. (x.0, x.1.now)) result (aside_of comment_end bytes.now) }
-    ensures within { IfOk result (λ x. length x.1.now ≤ length bytes.now) }
-    ensures utf8 { IfOk result (λ x. IsUtf8 x.1.now) }
-{
-    let mut rest = bytes;
-    'body: loop {
-        match rest {
-            [b'-', b'-', b'>', behind @ ..] => return Ok((Mark::Aside, behind)),
-            [] | [0, ..] => return Err(Stop::Fault(NoMark)),
-            [_, more @ ..] => rest = more,
-        }
-    }
+    let rest = ending_at(bytes, b"?>")?;
+    Ok((Mark::Aside, rest))
 }
 
 /// A comment behind its `<!`.
@@ -325,7 +330,10 @@ fn comment_at(bytes: &[u8]) -> Result<(Mark, &[u8]), Stop<NoMark>>
     ensures within { IfOk result (λ x. length x.1.now ≤ length bytes.now) }
     ensures utf8 { IfOk result (λ x. IsUtf8 x.1.now) }
 {
-    comment_body_at(byte_at(byte_at(bytes, b'-')?, b'-')?)
+    let rest = byte_at(bytes, b'-')?;
+    let rest = byte_at(rest, b'-')?;
+    let rest = ending_at(rest, b"-->")?;
+    Ok((Mark::Aside, rest))
 }
 
 /// The mark behind its `<`.
@@ -335,10 +343,13 @@ pub fn mark_behind(alloc: Global, bytes: &[u8]) -> Result<(Mark, &[u8]), Stop<No
     ensures within { IfOk result (λ x. length x.1.now ≤ length bytes.now) }
     ensures utf8 { IfOk result (λ x. IsUtf8 x.1.now) }
 {
-    match bytes {
-        [b'/', rest @ ..] => end_at(alloc, rest),
-        [b'?', rest @ ..] => instruction_at(rest),
-        [b'!', rest @ ..] => comment_at(rest),
+    let Some((c, rest)) = bytes.split_first() else {
+        return Err(Stop::Fault(NoMark));
+    };
+    match *c {
+        b'/' => end_at(alloc, rest),
+        b'?' => instruction_at(rest),
+        b'!' => comment_at(rest),
         _ => opening_at(alloc, bytes),
     }
 }

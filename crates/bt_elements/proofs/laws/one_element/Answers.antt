@@ -1,5 +1,5 @@
-use Rattle.bt_elements.proofs.Files.{pieces_found}
+use Rattle.bt_elements.proofs.Verdicts.{one}
 use Rattle.bt_elements.proofs.laws.one_element.Goals as goal
 
 pub returns : goal.returns
-returns c = ?
+returns c = one
