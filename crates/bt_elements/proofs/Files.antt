@@ -5,7 +5,10 @@ use Rattle.std.proofs.lemmas.Bool.Decides.{nat_tests}
 use Rattle.std.specs.Cmp.Derive.{both_true}
 use Rattle.std.specs.List.{prefix_len, list_all, AllByRecursion}
 use Rattle.bt_script.specs.Identifiers.{is_white}
-use Rattle.bt_script.proofs.Bools.{both}
+use Rattle.std.specs.Str.{IsUtf8}
+use Rattle.bt_script.specs.declared.stop.Stop.{Stop}
+use Rattle.bt_script.specs.declared.stop.Stop.TheVariants as stop
+use Rattle.bt_script.specs.Stops.{Gives}
 use Rattle.bt_elements.specs.declared.element.Element.{Element}
 use Rattle.bt_elements.specs.declared.element.ElementFault.{ElementFault}
 use Rattle.bt_elements.specs.declared.element.ElementFault.TheVariants.{BadMark, StrayText}
@@ -13,14 +16,16 @@ use Rattle.bt_elements.specs.declared.mark.Mark.{Mark}
 use Rattle.bt_elements.specs.Marks as written
 use Rattle.bt_elements.specs.Marks.{Start, Empty, End, Instruction, Comment, mark_written}
 use Rattle.bt_elements.specs.Elements.{Piece, piece_written, pieces_written, is_text_byte, IsPiece}
-use Rattle.bt_elements.specs.Reading.{◌>=>◌, begins, mark_of, mark_at, State, may_stand, step, finished, text_len, read_from, read_rest}
+use Rattle.bt_elements.specs.Reading.{GivesAs, ◌>=>◌, begins, mark_of, mark_at, State, may_stand, step, finished, text_len, read_from, read_rest}
 use Rattle.bt_elements.proofs.Fronts.{taken, left, taken_seam, left_seam}
 use Rattle.bt_elements.proofs.Marks.{said, mark_again}
 use Rattle.bt_elements.proofs.Found.{mark_found, mark_shrinks, mark_length}
 use Rattle.bt_elements.proofs.Nesting.{piece_step, run, run_one}
+use Rattle.bt_elements.proofs.Cuts.{cut_behind}
+use Rattle.bt_elements.proofs.Outcomes.{ok_inj}
 
 -- the steps of read_from
-abbrev then_step : ℕ → ℕ → ℕ → State → Mark × List ℕ → Result Element ElementFault
+abbrev pub then_step : ℕ → ℕ → ℕ → State → Mark × List ℕ → Result Element ElementFault
 then_step k total place st m = step st place m.0 >=> λ next. read_from k total next m.1
 
 abbrev pub by_marks : ℕ → ℕ → State → List ℕ → Result Element ElementFault
@@ -79,14 +84,21 @@ pub read_last : (total : ℕ) (st : State) (bytes : List ℕ) → may_stand st (
     read_rest total st bytes ≡ finished st total
 read_last total st bytes stands is = read_text total st bytes [] stands is
 
+-- a mark is read, or the fault of what stands there
+pub read_at_mark : (total : ℕ) (st : State) (bytes : List ℕ) (c : ℕ) (inner : List ℕ) → may_stand st (take (text_len bytes) bytes) ≡ true → drop (text_len bytes) bytes ≡ c ∷ inner →
+    read_rest total st bytes ≡ (mark_at (total - length (c ∷ inner)) inner >=> then_step (length bytes) total (total - length (c ∷ inner)) st)
+read_at_mark total st bytes c inner stands is =
+    let place = total - length (c ∷ inner) in
+    read_text total st bytes (c ∷ inner) stands is
+    ∙ ap (λ (b : Bool). if b then finished st total else (mark_at place inner >=> then_step (length bytes) total place st)) (not_empty c inner)
+
 -- a mark is read
 read_inner : (total : ℕ) (st : State) (bytes : List ℕ) (c : ℕ) (inner : List ℕ) (o : Option (Mark × List ℕ)) → may_stand st (take (text_len bytes) bytes) ≡ true →
     drop (text_len bytes) bytes ≡ c ∷ inner → mark_of inner ≡ o →
     read_rest total st bytes ≡ ((elim o [ Some m ↦ Ok m | None ↦ Err (BadMark (total - length (c ∷ inner))) ]) >=> then_step (length bytes) total (total - length (c ∷ inner)) st)
 read_inner total st bytes c inner o stands is mark =
     let place = total - length (c ∷ inner) in
-    read_text total st bytes (c ∷ inner) stands is
-    ∙ ap (λ (b : Bool). if b then finished st total else (mark_at place inner >=> then_step (length bytes) total place st)) (not_empty c inner)
+    read_at_mark total st bytes c inner stands is
     ∙ ap (λ (x : Option (Mark × List ℕ)). (elim x [ Some m ↦ Ok m | None ↦ Err (BadMark place) ]) >=> then_step (length bytes) total place st) mark
 
 -- a `<` that begins no mark is read
@@ -278,3 +290,34 @@ pieces_found (suc k) at total st bytes r place few h =
     (text_read k at total st (take n bytes) (drop n bytes) r (taken is_text_byte bytes) (left is_text_byte bytes) (ap (λ (z : List ℕ). at + length z) joins ∙ place)
     (λ end next x e shorter g. pieces_found k end total next x r e (omega arith) g)
     (may_stand st (take n bytes)) refl (ap (λ (z : List ℕ). if may_stand st (take n bytes) then by_marks k total st (drop n bytes) else stray (total - length z) (take n bytes)) joins ∙ h))
+
+mark_at_if : (place : ℕ) (o : Option (Mark × List ℕ)) (m : Mark × List ℕ) → ◌≡◌ {A = Result (Mark × List ℕ) ElementFault} (elim o [ Some x ↦ Ok x | None ↦ Err (BadMark place) ]) (Ok m) → o ≡ Some m
+mark_at_if place None m h = absurd (cc)
+mark_at_if place (Some x) m h = ap (λ (z : Mark × List ℕ). Some z) (ok_inj x m h)
+
+-- reading goes on behind a mark that was taken
+pub read_on : (total : ℕ) (st next : State) (bytes : List ℕ) (c : ℕ) (inner : List ℕ) (m : Mark) (more : List ℕ) → may_stand st (take (text_len bytes) bytes) ≡ true →
+    drop (text_len bytes) bytes ≡ c ∷ inner → mark_at (total - length (c ∷ inner)) inner ≡ Ok (m, more) → step st (total - length (c ∷ inner)) m ≡ Ok next → read_rest total next more ≡ read_rest total st bytes
+read_on total st next bytes c inner m more stands is mark taken_is =
+    sym (read_marked total st bytes c inner m more stands is (mark_at_if (total - length (c ∷ inner)) (mark_of inner) (m, more) mark)
+    ∙ ap (λ (r : Result State ElementFault). r >=> λ x. read_rest total x more) taken_is)
+
+-- reading ends at a mark that is no mark, or that has a fault
+pub mark_stops : {X : Type 0} (view : X → Mark × List ℕ) (s : Stop ElementFault) (total : ℕ) (st : State) (bytes : List ℕ) (c : ℕ) (inner : List ℕ) → may_stand st (take (text_len bytes) bytes) ≡ true → drop (text_len bytes) bytes ≡ c ∷ inner →
+    GivesAs view (Err s) (mark_at (total - length (c ∷ inner)) inner) → Gives (Err s) (read_rest total st bytes)
+mark_stops view stop.NoMemory total st bytes c inner stands is h = tt
+mark_stops view (stop.Fault fault) total st bytes c inner stands is h =
+    read_at_mark total st bytes c inner stands is ∙ ap (λ (r : Result (Mark × List ℕ) ElementFault). r >=> then_step (length bytes) total (total - length (c ∷ inner)) st) h
+
+pub step_stops : {X : Type 0} (view : X → State) (s : Stop ElementFault) (total : ℕ) (st : State) (bytes : List ℕ) (c : ℕ) (inner : List ℕ) (m : Mark) (more : List ℕ) → may_stand st (take (text_len bytes) bytes) ≡ true →
+    drop (text_len bytes) bytes ≡ c ∷ inner → mark_at (total - length (c ∷ inner)) inner ≡ Ok (m, more) → GivesAs view (Err s) (step st (total - length (c ∷ inner)) m) → Gives (Err s) (read_rest total st bytes)
+step_stops view stop.NoMemory total st bytes c inner m more stands is mark h = tt
+step_stops view (stop.Fault fault) total st bytes c inner m more stands is mark h =
+    read_marked total st bytes c inner m more stands is (mark_at_if (total - length (c ∷ inner)) (mark_of inner) (m, more) mark)
+    ∙ ap (λ (r : Result State ElementFault). r >=> λ x. read_rest total x more) h
+
+-- what follows the `<` of a mark
+pub cut_mark : (bytes marks : List ℕ) (c : ℕ) (inner : List ℕ) → marks ≡ drop (text_len bytes) bytes → marks ≡ c ∷ inner → IsUtf8 marks → IsUtf8 inner
+cut_mark bytes marks c inner is cons u =
+    let e : c ≡ 60 = angle c (sym (ap (begins is_text_byte) cons) ∙ ap (begins is_text_byte) is ∙ left is_text_byte bytes) in
+    cut_behind c marks inner cons (omega arith) u

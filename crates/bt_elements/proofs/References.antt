@@ -86,7 +86,7 @@ ampersand_ascii a behind marked edge is = let e = ampersand a behind marked edge
 pub ampersand_utf8 : IsUtf8 (38 ∷ [])
 ampersand_utf8 = subst IsUtf8 (encode_ascii 38 (omega arith)) (IsUtf8-encode 38 refl)
 
-empty_from : (xs : List ℕ) → length xs ≡ 0 → xs ≡ []
+pub empty_from : (xs : List ℕ) → length xs ≡ 0 → xs ≡ []
 empty_from [] h = refl
 empty_from (x ∷ xs) h = absurd (omega arith)
 

@@ -10,7 +10,11 @@ use Rattle.std.specs.Str.{IsUtf8, is_utf8}
 use Rattle.std.specs.Str.Lossy.{utf8_valid_len}
 use Rattle.bt_script.specs.Identifiers.{is_white}
 use Rattle.bt_script.proofs.Bools.{both}
+use Rattle.bt_script.specs.declared.stop.Stop.{Stop}
+use Rattle.bt_script.specs.declared.stop.Stop.TheVariants as stop
+use Rattle.bt_script.specs.Stops.{Gives}
 use Rattle.bt_elements.specs.declared.element.Element.{Element}
+use Rattle.bt_elements.specs.declared.element.Elements.{Elements}
 use Rattle.bt_elements.specs.declared.element.ElementFault.{ElementFault}
 use Rattle.bt_elements.specs.declared.element.ElementFault.TheVariants.{NotUtf8, BadMark, Unmatched, StrayText}
 use Rattle.bt_elements.specs.declared.mark.Mark.{Mark as ReadMark}
@@ -19,8 +23,8 @@ use Rattle.bt_elements.specs.declared.nest.Open.{Open}
 use Rattle.bt_elements.specs.References.{begins_with}
 use Rattle.bt_elements.specs.Marks.{Mark, Start, Empty, End, Instruction, Comment, mark_written, IsMark}
 use Rattle.bt_elements.specs.Elements.{Tag, tags_of, depth_of, Piece, piece_written, pieces_written, is_text_byte, IsPiece, tags_of_mark, HaveTags, order_mark_len, Spells}
-use Rattle.bt_elements.specs.Faults.{Standing, In, Behind, behind_pieces, may_hold, mark_fault, last_fault, Next, Marked, Unmarked, Over, IsNext, fault_behind, next_fault, FirstFault, ElementFaultOf}
-use Rattle.bt_elements.specs.Reading.{◌>=>◌, begins, mark_of, State, start, may_stand, step, finished, text_len, read_rest, read}
+use Rattle.bt_elements.specs.Faults.{Standing, In, Behind, behind_pieces, may_hold, mark_fault, last_fault, Next, Marked, Unmarked, Over, IsNext, fault_behind, next_fault, FirstFault, ElementFaultOf, WhenFault}
+use Rattle.bt_elements.specs.Reading.{◌>=>◌, begins, mark_of, State, start, may_stand, step, ended_by, finished, text_len, read_rest, read}
 use Rattle.bt_elements.proofs.Asides.{begins_is}
 use Rattle.bt_elements.proofs.Fronts.{some_inj}
 use Rattle.bt_elements.proofs.Marks.{said, mark_again}
@@ -100,7 +104,7 @@ white_there : (done : Option Element) (inside white : Bool) (e : Element) → do
 white_there None inside white e h t = absurd (cc)
 white_there (Some d) inside white e h t = t
 
-finished_done : (st : State) (total : ℕ) (e : Element) (done : Option Element) → st.done ≡ done → ◌≡◌ {A = Result Element ElementFault} (Ok e) (elim done [ Some x ↦ Ok x | None ↦ Err (Unmatched total) ]) → st.done ≡ Some e
+finished_done : (st : State) (total : ℕ) (e : Element) (done : Option Element) → st.done ≡ done → ◌≡◌ {A = Result Element ElementFault} (Ok e) (ended_by done total) → st.done ≡ Some e
 finished_done st total e None is h = absurd (cc)
 finished_done st total e (Some x) is h = is ∙ (let k : e ≡ x = cc in ap (λ (z : Element). Some z) (sym k))
 
@@ -166,7 +170,7 @@ err_inj : {A E : Type 0} (x y : E) → ◌≡◌ {A = Result A E} (Err x) (Err y
 err_inj x y h = cc
 
 -- the fault of a file's end
-finished_fault : (st : State) (total : ℕ) (fault : ElementFault) (done : Option Element) → st.done ≡ done → ◌≡◌ {A = Result Element ElementFault} (Err fault) (elim done [ Some x ↦ Ok x | None ↦ Err (Unmatched total) ]) →
+finished_fault : (st : State) (total : ℕ) (fault : ElementFault) (done : Option Element) → st.done ≡ done → ◌≡◌ {A = Result Element ElementFault} (Err fault) (ended_by done total) →
     (st.done ≡ None) × (fault ≡ Unmatched total)
 finished_fault st total fault None is h = (is, err_inj {A = Element} fault (Unmatched total) h)
 finished_fault st total fault (Some x) is h = absurd (cc)
@@ -280,7 +284,7 @@ next_read at total st text rest Over fault good is place next stands wrong =
     let end = no_more st.done st.stack (at + length text) fault wrong in
     let here : total ≡ at + length text = omega (arith, place, length-append text rest, ap length next) in
     read_last total st (text ++ rest) (ap (may_stand st) (text_before text rest is edge) ∙ stands) (behind_text text rest is edge ∙ next)
-    ∙ ap (λ (d : Option Element). elim d [ Some x ↦ Ok x | None ↦ Err (Unmatched total) ]) end.0 ∙ ap (λ (n : ℕ). Err (Unmatched n)) here ∙ ap (λ (z : ElementFault). Err z) end.1
+    ∙ ap (λ (d : Option Element). ended_by d total) end.0 ∙ ap (λ (n : ℕ). Err (Unmatched n)) here ∙ ap (λ (z : ElementFault). Err z) end.1
 
 text_read : (at total : ℕ) (st : State) (text rest : List ℕ) (next : Next) (fault : ElementFault) → IsState st.done st.stack → list_all is_text_byte text ≡ true → at + length (text ++ rest) ≡ total → IsNext rest next →
     (b : Bool) → may_stand st text ≡ b → (if b then fault_behind (standing st.done st.stack) (at + length text) next else Some (StrayText (at + prefix_len is_white text))) ≡ Some fault → read_rest total st (text ++ rest) ≡ Err fault
@@ -314,8 +318,13 @@ pub one : (bytes : List ℕ) (a b : Element) → Spells bytes a → Spells bytes
 one bytes a b s t = ok_same a b (sym (spells_read bytes a s) ∙ spells_read bytes b t)
 
 -- a refused file has the fault
-pub refused : (bytes : List ℕ) (fault : ElementFault) → IsUtf8 bytes → read bytes ≡ Err fault → ElementFaultOf bytes fault
+refused : (bytes : List ℕ) (fault : ElementFault) → IsUtf8 bytes → read bytes ≡ Err fault → ElementFaultOf bytes fault
 refused bytes fault utf8 h = inl (utf8, read_fault bytes fault h)
+
+-- what a call answers that gives what reading gives
+pub refused_so : (s : Stop ElementFault) (bytes : List ℕ) → IsUtf8 bytes → Gives {X = Element} (Err s) (read bytes) → WhenFault {X = Elements} (Err s) (ElementFaultOf bytes)
+refused_so stop.NoMemory bytes utf8 h = tt
+refused_so (stop.Fault fault) bytes utf8 h = refused bytes fault utf8 h
 
 either_if : (bytes : List ℕ) (b : Bool) (r : Result Element ElementFault) → is_utf8 bytes ≡ b → read bytes ≡ r → ((e : Element) × Spells bytes e) ⊎ ((fault : ElementFault) × ElementFaultOf bytes fault)
 either_if bytes true (Ok e) is h = inl (e, read_spells bytes e (IsUtf8-from_is_utf8 bytes is) h)

@@ -186,9 +186,13 @@ step st place (Empty o) = begun st place o >=> λ x. Ok (attach (element_of x) s
 step st place (End name) = close place name st.stack
 step st place Aside = Ok st
 
--- the document element at the end of a file of this length
+-- the document element at the end of a file of this length, if it has ended
+abbrev pub ended_by : Option Element → ℕ → Result Element ElementFault
+ended_by None total = Err (Unmatched total)
+ended_by (Some e) total = Ok e
+
 abbrev pub finished : State → ℕ → Result Element ElementFault
-finished st total = elim st.done [ Some e ↦ Ok e | None ↦ Err (Unmatched total) ]
+finished st total = ended_by st.done total
 
 -- the text at the front, up to a `<`
 abbrev pub text_len : List ℕ → ℕ

@@ -1,6 +1,6 @@
 ghost use Rattle.std.specs.Prelude.{◌≡◌, IfOk};
 ghost use Rattle.bt_script.specs.Stops.{Gives};
-ghost use Rattle.bt_elements.specs.Reading.{GivesAs, State, seen, start, step, begun, opened, attach, finished, inside_of, may_stand, element_of, with_child};
+ghost use Rattle.bt_elements.specs.Reading.{GivesAs, State, seen, start, step, begun, opened, attach, ended_by, finished, inside_of, may_stand, element_of, with_child};
 ghost use Rattle.bt_elements.specs.Elements.{is_models};
 
 use crate::element::{Element, ElementFault};
@@ -95,10 +95,7 @@ impl Nest {
         ensures { Gives result (finished (seen self) place) }
     {
         let Nest { stack: _, done } = self;
-        match done {
-            Some(element) => Ok(element),
-            None => Err(Stop::Fault(ElementFault::Unmatched { place })),
-        }
+        ended_by(done, place)
     }
 
     fn inside(&self) -> bool
@@ -194,6 +191,13 @@ impl Nest {
         }
         Ok(())
     }
+}
+
+/// The document element, where the file ends at this place.
+fn ended_by(done: Option<Element>, place: u32) -> Result<Element, Stop<ElementFault>>
+    ensures { Gives result (ended_by done place) }
+{
+    done.ok_or(Stop::Fault(ElementFault::Unmatched { place }))
 }
 
 fn is_models(name: &Name) -> bool
