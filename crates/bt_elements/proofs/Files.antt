@@ -1,353 +1,323 @@
--- A file that spells an element is read, and what is read is spelled so.
-use Rattle.std.proofs.Common.{◌≡◌, ℕ, zero, suc, ◌+◌, ◌-◌, ◌<◌, ◌≤◌, Bool, true, false, ◌==◌, ◌&&◌, ◌||◌, List, [], ◌∷◌, ◌++◌, length, take, drop, Option, Some, None, refl, ap, sym, ◌∙◌, subst, append_assoc, append-nil, arith, if◌then◌else◌}
-use Rattle.std.specs.Prelude.{is_none, Err}
+-- A file is read piece by piece: pieces that are written are read, and what was read stood there as pieces.
+use Rattle.std.proofs.Common.{◌≡◌, ℕ, zero, suc, ◌+◌, ◌-◌, ◌<◌, ◌≤◌, Bool, true, false, ◌==◌, List, [], ◌∷◌, ◌++◌, length, take, drop, Option, Some, None, Result, Ok, Err, refl, ap, sym, ◌∙◌, subst, append_assoc, append-nil, arith, if◌then◌else◌}
 use Rattle.std.proofs.lemmas.List.{take-append-drop, length-append, length-drop}
 use Rattle.std.proofs.lemmas.Bool.Decides.{nat_tests}
 use Rattle.std.specs.Cmp.Derive.{both_true}
-use Rattle.std.specs.List.{list_all, flat_map, AllByRecursion}
-use Rattle.bt_script.specs.Identifiers.{is_white, is_identifier}
+use Rattle.std.specs.List.{prefix_len, list_all, AllByRecursion}
+use Rattle.bt_script.specs.Identifiers.{is_white}
+use Rattle.std.specs.Str.{IsUtf8}
 use Rattle.bt_script.specs.declared.stop.Stop.{Stop}
 use Rattle.bt_script.specs.declared.stop.Stop.TheVariants as stop
-use Rattle.bt_script.proofs.Bools.{both}
-use Rattle.bt_elements.specs.declared.element.Unbuilt.{Unbuilt}
-use Rattle.bt_elements.specs.declared.element.Elements.{Elements}
+use Rattle.bt_script.specs.Stops.{Gives}
 use Rattle.bt_elements.specs.declared.element.Element.{Element}
+use Rattle.bt_elements.specs.declared.element.ElementFault.{ElementFault}
+use Rattle.bt_elements.specs.declared.element.ElementFault.TheVariants.{BadMark, StrayText}
 use Rattle.bt_elements.specs.declared.mark.Mark.{Mark}
 use Rattle.bt_elements.specs.Marks as written
-use Rattle.bt_elements.specs.Marks.{is_name, Attribute, Opening, Start, Empty, End, mark_written, IsAttribute, IsOpening, IsMark}
-use Rattle.bt_elements.specs.Elements.{Piece, piece_written, is_text_byte, IsPiece, tags_of, depth_of, HaveTags, Spells, SpellsPlainly, is_plain_byte, is_plain_attribute, is_plain_mark, is_plain_value, WhenUnbuilt}
-use Rattle.bt_elements.specs.Reading.{GivesSeenBy, Form, plain, full, ◌>>=◌, begins, mark_of, State, start, may_stand, step, text_len, read_from, read}
-use Rattle.bt_elements.proofs.Ascii.{IsUtf8-from_is_plain}
-use Rattle.bt_elements.proofs.Fronts.{some_inj, bind_some, if_some, taken, left, taken_seam, left_seam}
-use Rattle.bt_elements.proofs.Marks.{InForm, OpeningInForm, MarkInForm, said, mark_again}
-use Rattle.bt_elements.proofs.Found.{HasNames, mark_found, mark_shrinks, mark_length, plain_names}
-use Rattle.bt_elements.proofs.Nesting.{run, run_good, element_runs, no_piece}
+use Rattle.bt_elements.specs.Marks.{Start, Empty, End, Instruction, Comment, mark_written}
+use Rattle.bt_elements.specs.Elements.{Piece, piece_written, pieces_written, is_text_byte, IsPiece}
+use Rattle.bt_elements.specs.Reading.{GivesAs, ◌>=>◌, begins, mark_of, mark_at, State, may_stand, step, finished, text_len, read_from, read_rest}
+use Rattle.bt_elements.proofs.Fronts.{taken, left, taken_seam, left_seam}
+use Rattle.bt_elements.proofs.Marks.{said, mark_again}
+use Rattle.bt_elements.proofs.Found.{mark_found, mark_shrinks, mark_length}
+use Rattle.bt_elements.proofs.Nesting.{piece_step, run, run_one}
+use Rattle.bt_elements.proofs.Cuts.{cut_behind}
+use Rattle.bt_elements.proofs.Outcomes.{ok_inj}
 
 -- the steps of read_from
-abbrev then_step : Form → ℕ → ℕ → ℕ → State → Mark × List ℕ → Option Element
-then_step f k total place st m = step st place m.0 >>= λ next. read_from f k total next m.1
+abbrev pub then_step : ℕ → ℕ → ℕ → State → Mark × List ℕ → Result Element ElementFault
+then_step k total place st m = step st place m.0 >=> λ next. read_from k total next m.1
 
-abbrev by_marks : Form → ℕ → ℕ → State → List ℕ → Option Element
-by_marks f k total st rest = if length rest == 0 then st.done else (mark_of f (drop 1 rest) >>= then_step f k total (total - length rest) st)
+abbrev pub by_marks : ℕ → ℕ → State → List ℕ → Result Element ElementFault
+by_marks k total st rest =
+    if length rest == 0 then finished st total
+    else (mark_at (total - length rest) (drop 1 rest) >=> then_step k total (total - length rest) st)
+
+abbrev stray : ℕ → List ℕ → Result Element ElementFault
+stray at text = Err (StrayText (at + prefix_len is_white text))
 
 drop_len : (n : ℕ) (bytes : List ℕ) → length (drop n bytes) ≤ length bytes
 drop_len n bytes = omega (arith, length-drop n bytes)
 
-step_fuel : (f : Form) (k j total place : ℕ) (st : State) (m : Mark × List ℕ) → ((next : State) → read_from f k total next m.1 ≡ read_from f j total next m.1) →
-    (o : Option State) → (o >>= λ next. read_from f k total next m.1) ≡ (o >>= λ next. read_from f j total next m.1)
-step_fuel f k j total place st m ih None = refl
-step_fuel f k j total place st m ih (Some next) = ih next
+step_fuel : (k j total : ℕ) (m : Mark × List ℕ) → ((next : State) → read_from k total next m.1 ≡ read_from j total next m.1) →
+    (o : Result State ElementFault) → (o >=> λ next. read_from k total next m.1) ≡ (o >=> λ next. read_from j total next m.1)
+step_fuel k j total m ih (Err fault) = refl
+step_fuel k j total m ih (Ok next) = ih next
 
-mark_fuel : (f : Form) → HasNames f → (k j total : ℕ) (st : State) (bytes rest : List ℕ) → ((x : List ℕ) (next : State) → length x < k → length x < j → read_from f k total next x ≡ read_from f j total next x) →
-    length bytes < suc k → length bytes < suc j → length rest ≤ length bytes → (o : Option (Mark × List ℕ)) → mark_of f (drop 1 rest) ≡ o →
-    (o >>= then_step f k total (total - length rest) st) ≡ (o >>= then_step f j total (total - length rest) st)
-mark_fuel f ok k j total st bytes rest ih hk hj within None e = refl
-mark_fuel f ok k j total st bytes rest ih hk hj within (Some m) e =
-    let shorter : length m.1 < length (drop 1 rest) = mark_shrinks f ok (drop 1 rest) m e in
-    let few : length m.1 < length bytes = omega (arith, shorter, within, drop_len 1 rest) in
-    step_fuel f k j total (total - length rest) st m (λ next. ih m.1 next (omega arith) (omega arith)) (step st (total - length rest) m.0)
+mark_fuel : (k j total place : ℕ) (st : State) (bytes inner : List ℕ) → ((x : List ℕ) (next : State) → length x < k → length x < j → read_from k total next x ≡ read_from j total next x) →
+    length bytes < suc k → length bytes < suc j → length inner ≤ length bytes → (o : Option (Mark × List ℕ)) → mark_of inner ≡ o →
+    ((elim o [ Some m ↦ Ok m | None ↦ Err (BadMark place) ]) >=> then_step k total place st) ≡ ((elim o [ Some m ↦ Ok m | None ↦ Err (BadMark place) ]) >=> then_step j total place st)
+mark_fuel k j total place st bytes inner ih hk hj within None e = refl
+mark_fuel k j total place st bytes inner ih hk hj within (Some m) e =
+    let shorter : length m.1 < length inner = mark_shrinks inner m e in
+    step_fuel k j total m (λ next. ih m.1 next (omega arith) (omega arith)) (step st place m.0)
 
 -- read_from needs no more steps than there are bytes
-pub read_fuel : (f : Form) → HasNames f → (k j total : ℕ) (st : State) (bytes : List ℕ) → length bytes < k → length bytes < j → read_from f k total st bytes ≡ read_from f j total st bytes
-read_fuel f ok zero j total st bytes hk hj = absurd (omega arith)
-read_fuel f ok (suc k) zero total st bytes hk hj = absurd (omega arith)
-read_fuel f ok (suc k) (suc j) total st bytes hk hj =
+read_fuel : (k j total : ℕ) (st : State) (bytes : List ℕ) → length bytes < k → length bytes < j → read_from k total st bytes ≡ read_from j total st bytes
+read_fuel zero j total st bytes hk hj = absurd (omega arith)
+read_fuel (suc k) zero total st bytes hk hj = absurd (omega arith)
+read_fuel (suc k) (suc j) total st bytes hk hj =
     let rest = drop (text_len bytes) bytes in
-    ap (λ (z : Option Element). if may_stand st (take (text_len bytes) bytes) then (if length rest == 0 then st.done else z) else None)
-    (mark_fuel f ok k j total st bytes rest (λ x next. read_fuel f ok k j total next x) hk hj (drop_len (text_len bytes) bytes) (mark_of f (drop 1 rest)) refl)
+    let text = take (text_len bytes) bytes in
+    let within : length (drop 1 rest) ≤ length bytes = omega (arith, drop_len 1 rest, drop_len (text_len bytes) bytes) in
+    ap (λ (z : Result Element ElementFault). if may_stand st text then (if length rest == 0 then finished st total else z) else stray (total - length bytes) text)
+    (mark_fuel k j total (total - length rest) st bytes (drop 1 rest) (λ x next. read_fuel k j total next x) hk hj within (mark_of (drop 1 rest)) refl)
 
 not_empty : (c : ℕ) (cs : List ℕ) → (length (c ∷ cs) == 0) ≡ false
 not_empty c cs = grind (arith, nat_tests)
 
--- one text and one mark are read
-pub read_one : (f : Form) (k total : ℕ) (st : State) (bytes : List ℕ) (c : ℕ) (inner : List ℕ) (m : Mark) (more : List ℕ) →
-    may_stand st (take (text_len bytes) bytes) ≡ true → drop (text_len bytes) bytes ≡ c ∷ inner → mark_of f inner ≡ Some (m, more) →
-    read_from f (suc k) total st bytes ≡ (step st (total - length (c ∷ inner)) m >>= λ next. read_from f k total next more)
-read_one f k total st bytes c inner m more stands is mark =
-    ap (λ (b : Bool). if b then by_marks f k total st (drop (text_len bytes) bytes) else None) stands
-    ∙ ap (by_marks f k total st) is
-    ∙ ap (λ (b : Bool). if b then st.done else (mark_of f inner >>= then_step f k total (total - length (c ∷ inner)) st)) (not_empty c inner)
-    ∙ ap (λ (o : Option (Mark × List ℕ)). o >>= then_step f k total (total - length (c ∷ inner)) st) mark
+-- a text that may not stand there is read
+pub read_stray : (total : ℕ) (st : State) (bytes : List ℕ) → may_stand st (take (text_len bytes) bytes) ≡ false →
+    read_rest total st bytes ≡ Err (StrayText (total - length bytes + prefix_len is_white (take (text_len bytes) bytes)))
+read_stray total st bytes stands =
+    ap (λ (b : Bool). if b then by_marks (length bytes) total st (drop (text_len bytes) bytes) else stray (total - length bytes) (take (text_len bytes) bytes)) stands
+
+-- a text that may stand there is read over
+read_text : (total : ℕ) (st : State) (bytes rest : List ℕ) → may_stand st (take (text_len bytes) bytes) ≡ true → drop (text_len bytes) bytes ≡ rest →
+    read_rest total st bytes ≡ by_marks (length bytes) total st rest
+read_text total st bytes rest stands is =
+    ap (λ (b : Bool). if b then by_marks (length bytes) total st (drop (text_len bytes) bytes) else stray (total - length bytes) (take (text_len bytes) bytes)) stands
+    ∙ ap (by_marks (length bytes) total st) is
 
 -- the last text is read
-read_last : (f : Form) (k total : ℕ) (st : State) (bytes : List ℕ) →
-    may_stand st (take (text_len bytes) bytes) ≡ true → drop (text_len bytes) bytes ≡ [] → read_from f (suc k) total st bytes ≡ st.done
-read_last f k total st bytes stands is =
-    ap (λ (b : Bool). if b then by_marks f k total st (drop (text_len bytes) bytes) else None) stands
-    ∙ ap (by_marks f k total st) is
+pub read_last : (total : ℕ) (st : State) (bytes : List ℕ) → may_stand st (take (text_len bytes) bytes) ≡ true → drop (text_len bytes) bytes ≡ [] →
+    read_rest total st bytes ≡ finished st total
+read_last total st bytes stands is = read_text total st bytes [] stands is
 
-pub record PieceInForm (f : Form) (p : Piece) : Type 0 where
-  pub text : list_all is_text_byte p.text ≡ true
-  pub mark : MarkInForm f p.mark
+-- a mark is read, or the fault of what stands there
+pub read_at_mark : (total : ℕ) (st : State) (bytes : List ℕ) (c : ℕ) (inner : List ℕ) → may_stand st (take (text_len bytes) bytes) ≡ true → drop (text_len bytes) bytes ≡ c ∷ inner →
+    read_rest total st bytes ≡ (mark_at (total - length (c ∷ inner)) inner >=> then_step (length bytes) total (total - length (c ∷ inner)) st)
+read_at_mark total st bytes c inner stands is =
+    let place = total - length (c ∷ inner) in
+    read_text total st bytes (c ∷ inner) stands is
+    ∙ ap (λ (b : Bool). if b then finished st total else (mark_at place inner >=> then_step (length bytes) total place st)) (not_empty c inner)
 
-white_is_text : (c : ℕ) → is_white c ≡ true → is_text_byte c ≡ true
-white_is_text c h = grind (arith, nat_tests)
+-- a mark is read
+read_inner : (total : ℕ) (st : State) (bytes : List ℕ) (c : ℕ) (inner : List ℕ) (o : Option (Mark × List ℕ)) → may_stand st (take (text_len bytes) bytes) ≡ true →
+    drop (text_len bytes) bytes ≡ c ∷ inner → mark_of inner ≡ o →
+    read_rest total st bytes ≡ ((elim o [ Some m ↦ Ok m | None ↦ Err (BadMark (total - length (c ∷ inner))) ]) >=> then_step (length bytes) total (total - length (c ∷ inner)) st)
+read_inner total st bytes c inner o stands is mark =
+    let place = total - length (c ∷ inner) in
+    read_at_mark total st bytes c inner stands is
+    ∙ ap (λ (x : Option (Mark × List ℕ)). (elim x [ Some m ↦ Ok m | None ↦ Err (BadMark place) ]) >=> then_step (length bytes) total place st) mark
 
-all_white_text : (bs : List ℕ) → list_all is_white bs ≡ true → list_all is_text_byte bs ≡ true
-all_white_text [] h = refl
-all_white_text (c ∷ cs) h =
-    let t = both (is_white c) (list_all is_white cs) h in
-    both_true (white_is_text c t.0) (all_white_text cs t.1)
+-- a `<` that begins no mark is read
+pub read_unmarked : (total : ℕ) (st : State) (bytes : List ℕ) (c : ℕ) (inner : List ℕ) → may_stand st (take (text_len bytes) bytes) ≡ true →
+    drop (text_len bytes) bytes ≡ c ∷ inner → mark_of inner ≡ None → read_rest total st bytes ≡ Err (BadMark (total - length (c ∷ inner)))
+read_unmarked total st bytes c inner stands is mark = read_inner total st bytes c inner None stands is mark
 
-either_true : (a b : Bool) → b ≡ true → (a || b) ≡ true
-either_true true b h = refl
-either_true false b h = h
+-- a mark is read, and what follows it
+pub read_marked : (total : ℕ) (st : State) (bytes : List ℕ) (c : ℕ) (inner : List ℕ) (m : Mark) (more : List ℕ) → may_stand st (take (text_len bytes) bytes) ≡ true →
+    drop (text_len bytes) bytes ≡ c ∷ inner → mark_of inner ≡ Some (m, more) →
+    read_rest total st bytes ≡ (step st (total - length (c ∷ inner)) m >=> λ next. read_rest total next more)
+read_marked total st bytes c inner m more stands is mark =
+    let shorter : length more < length inner = mark_shrinks inner (m, more) mark in
+    let few : length more < length bytes = omega (arith, shorter, ap length is, drop_len (text_len bytes) bytes) in
+    read_inner total st bytes c inner (Some (m, more)) stands is mark
+    ∙ step_fuel (length bytes) (suc (length more)) total (m, more) (λ next. read_fuel (length bytes) (suc (length more)) total next more few (omega arith)) (step st (total - length (c ∷ inner)) m)
 
-mark_cons : (m : written.Mark) (more : List ℕ) → mark_written m ++ more ≡ 60 ∷ drop 1 (mark_written m ++ more)
+pub mark_cons : (m : written.Mark) (more : List ℕ) → mark_written m ++ more ≡ 60 ∷ drop 1 (mark_written m ++ more)
 mark_cons (Start o) more = refl
 mark_cons (Empty o) more = refl
 mark_cons (End name gap) more = refl
+mark_cons (Instruction body) more = refl
+mark_cons (Comment body) more = refl
 
-mark_no_text : (m : written.Mark) (more : List ℕ) → begins is_text_byte (mark_written m ++ more) ≡ false
-mark_no_text (Start o) more = refl
-mark_no_text (Empty o) more = refl
-mark_no_text (End name gap) more = refl
+pub mark_no_text : (m : written.Mark) (more : List ℕ) → begins is_text_byte (mark_written m ++ more) ≡ false
+mark_no_text m more = ap (begins is_text_byte) (mark_cons m more)
 
-abbrev spelled : List Piece → List ℕ → List ℕ
-spelled ps last = flat_map piece_written ps ++ last
+-- the text before something that begins with no text
+pub text_before : (text rest : List ℕ) → list_all is_text_byte text ≡ true → begins is_text_byte rest ≡ false → take (text_len (text ++ rest)) (text ++ rest) ≡ text
+text_before text rest is edge = taken_seam is_text_byte text rest is edge
 
--- what reading and running give, from an offset on
-abbrev gives : Option State → Option Element
-gives o = o >>= λ st. st.done
+pub behind_text : (text rest : List ℕ) → list_all is_text_byte text ≡ true → begins is_text_byte rest ≡ false → drop (text_len (text ++ rest)) (text ++ rest) ≡ rest
+behind_text text rest is edge = left_seam is_text_byte text rest is edge
 
-after_step : (f : Form) (k total end : ℕ) (ps : List Piece) (last : List ℕ) → ((next : State) → read_from f k total next (spelled ps last) ≡ gives (run end next ps)) →
-    (o : Option State) → (o >>= λ next. read_from f k total next (spelled ps last)) ≡ gives (o >>= λ next. run end next ps)
-after_step f k total end ps last ih None = refl
-after_step f k total end ps last ih (Some next) = ih next
+-- a piece that is written is read
+piece_if : (total at : ℕ) (st : State) (p : Piece) (more : List ℕ) → IsPiece p → at + length (p.text ++ (mark_written p.mark ++ more)) ≡ total → (b : Bool) → may_stand st p.text ≡ b →
+    read_rest total st (p.text ++ (mark_written p.mark ++ more))
+    ≡ ((if b then step st (at + length p.text) (said p.mark) else Err (StrayText (at + prefix_len is_white p.text))) >=> λ next. read_rest total next more)
+piece_if total at st p more is place true stands =
+    let rest = mark_written p.mark ++ more in
+    let inner = drop 1 rest in
+    let edge = mark_no_text p.mark more in
+    let text = text_before p.text rest is.text edge in
+    let here : total - length (60 ∷ inner) ≡ at + length p.text = omega (arith, place, length-append p.text rest, ap length (mark_cons p.mark more)) in
+    read_marked total st (p.text ++ rest) 60 inner (said p.mark) more (ap (may_stand st) text ∙ stands)
+    (behind_text p.text rest is.text edge ∙ mark_cons p.mark more) (mark_again p.mark more is.mark)
+    ∙ ap (λ (n : ℕ). step st n (said p.mark) >=> λ next. read_rest total next more) here
+piece_if total at st p more is place false stands =
+    let rest = mark_written p.mark ++ more in
+    let text = text_before p.text rest is.text (mark_no_text p.mark more) in
+    let here : total - length (p.text ++ rest) ≡ at = omega (arith, place) in
+    read_stray total st (p.text ++ rest) (ap (may_stand st) text ∙ stands)
+    ∙ ap (λ (n : ℕ). stray n (take (text_len (p.text ++ rest)) (p.text ++ rest))) here ∙ ap (stray at) text
 
-if_gives : (b : Bool) (o : Option State) → (if b then gives o else None) ≡ gives (if b then o else None)
-if_gives true o = refl
-if_gives false o = refl
+after_piece : (total end : ℕ) (ps : List Piece) (tail : List ℕ) → ((next : State) → read_rest total next (pieces_written ps ++ tail) ≡ (run end next ps >=> λ x. read_rest total x tail)) →
+    (o : Result State ElementFault) → (o >=> λ next. read_rest total next (pieces_written ps ++ tail)) ≡ ((o >=> λ next. run end next ps) >=> λ x. read_rest total x tail)
+after_piece total end ps tail ih (Err fault) = refl
+after_piece total end ps tail ih (Ok next) = ih next
 
-not_standing : (f : Form) (k total : ℕ) (st : State) (bytes : List ℕ) → may_stand st (take (text_len bytes) bytes) ≡ false → read_from f (suc k) total st bytes ≡ None
-not_standing f k total st bytes h = ap (λ (b : Bool). if b then by_marks f k total st (drop (text_len bytes) bytes) else None) h
+-- pieces that are written are read, and what follows them
+pub pieces_again : (total at : ℕ) (st : State) (ps : List Piece) (tail : List ℕ) → AllByRecursion IsPiece ps → at + length (pieces_written ps ++ tail) ≡ total →
+    read_rest total st (pieces_written ps ++ tail) ≡ (run at st ps >=> λ next. read_rest total next tail)
+pieces_again total at st [] tail all place = refl
+pieces_again total at st (p ∷ ps) tail all place =
+    let more = pieces_written ps ++ tail in
+    let joins : pieces_written (p ∷ ps) ++ tail ≡ p.text ++ (mark_written p.mark ++ more) =
+    append_assoc (piece_written p) (pieces_written ps) tail ∙ append_assoc p.text (mark_written p.mark) more in
+    let whole : at + length (p.text ++ (mark_written p.mark ++ more)) ≡ total = ap (λ (z : List ℕ). at + length z) (sym joins) ∙ place in
+    let there : at + length (piece_written p) + length more ≡ total =
+    omega (arith, whole, length-append p.text (mark_written p.mark ++ more), length-append (mark_written p.mark) more, length-append p.text (mark_written p.mark)) in
+    ap (read_rest total st) joins
+    ∙ piece_if total at st p more all.0 whole (may_stand st p.text) refl
+    ∙ after_piece total (at + length (piece_written p)) ps tail (λ next. pieces_again total (at + length (piece_written p)) next ps tail all.1 there) (piece_step at st p)
 
-piece_if : (f : Form) (k total at : ℕ) (st : State) (p : Piece) (more : List ℕ) → PieceInForm f p → at + length (p.text ++ (mark_written p.mark ++ more)) ≡ total → (b : Bool) →
-    may_stand st (take (text_len (p.text ++ (mark_written p.mark ++ more))) (p.text ++ (mark_written p.mark ++ more))) ≡ b →
-    drop (text_len (p.text ++ (mark_written p.mark ++ more))) (p.text ++ (mark_written p.mark ++ more)) ≡ mark_written p.mark ++ more →
-    read_from f (suc k) total st (p.text ++ (mark_written p.mark ++ more)) ≡ (if b then (step st (at + length p.text) (said p.mark) >>= λ next. read_from f k total next more) else None)
-piece_if f k total at st p more i place false stood rest = not_standing f k total st (p.text ++ (mark_written p.mark ++ more)) stood
-piece_if f k total at st p more i place true stood rest =
-    let marks = mark_written p.mark ++ more in
-    let inner = drop 1 marks in
-    let here : total - length (60 ∷ inner) ≡ at + length p.text =
-    omega (arith, place, length-append p.text marks, ap length (mark_cons p.mark more)) in
-    read_one f k total st (p.text ++ marks) 60 inner (said p.mark) more stood (rest ∙ mark_cons p.mark more) (mark_again f p.mark more i.mark)
-    ∙ ap (λ (n : ℕ). step st n (said p.mark) >>= λ next. read_from f k total next more) here
+-- how reading ends: at a text that may not stand there, at the end, at a `<` that begins no mark, or at a mark with a fault
+pub data Ends (at total : ℕ) (st : State) (text rest : List ℕ) (r : Result Element ElementFault) : Type 0 where
+  Stray : may_stand st text ≡ false → r ≡ Err (StrayText (at + prefix_len is_white text)) → Ends at total st text rest r
+  Last : may_stand st text ≡ true → rest ≡ [] → r ≡ finished st total → Ends at total st text rest r
+  Bad : (inner : List ℕ) → may_stand st text ≡ true → rest ≡ 60 ∷ inner → mark_of inner ≡ None → r ≡ Err (BadMark (at + length text)) → Ends at total st text rest r
+  Faulty : (m : written.Mark) (more : List ℕ) (fault : ElementFault) → may_stand st text ≡ true → written.IsMark m → rest ≡ mark_written m ++ more →
+      step st (at + length text) (said m) ≡ Err fault → r ≡ Err fault → Ends at total st text rest r
 
-piece_again : (f : Form) (k total at : ℕ) (st : State) (p : Piece) (more : List ℕ) → PieceInForm f p → at + length (piece_written p ++ more) ≡ total → (b : Bool) → may_stand st p.text ≡ b →
-    read_from f (suc k) total st (piece_written p ++ more) ≡ (if b then (step st (at + length p.text) (said p.mark) >>= λ next. read_from f k total next more) else None)
-piece_again f k total at st p more i place b stands =
-    let marks = mark_written p.mark ++ more in
-    let bytes = p.text ++ marks in
-    let joins : piece_written p ++ more ≡ bytes = append_assoc p.text (mark_written p.mark) more in
-    let text : take (text_len bytes) bytes ≡ p.text = taken_seam is_text_byte p.text marks i.text (mark_no_text p.mark more) in
-    let rest : drop (text_len bytes) bytes ≡ marks = left_seam is_text_byte p.text marks i.text (mark_no_text p.mark more) in
-    let stood : may_stand st (take (text_len bytes) bytes) ≡ b = ap (may_stand st) text ∙ stands in
-    ap (read_from f (suc k) total st) joins ∙ piece_if f k total at st p more i (ap (λ (z : List ℕ). at + length z) (sym joins) ∙ place) b stood rest
-
--- pieces that are written are read
-pub pieces_again : (f : Form) (k total at : ℕ) (st : State) (ps : List Piece) (last : List ℕ) → AllByRecursion (PieceInForm f) ps → list_all is_white last ≡ true → length ps < k → at + length (spelled ps last) ≡ total →
-    read_from f k total st (spelled ps last) ≡ gives (run at st ps)
-pieces_again f zero total at st ps last all blank few place = absurd (omega arith)
-pieces_again f (suc k) total at st [] last all blank few place =
-    let text : take (text_len last) last ≡ last = ap (λ (z : List ℕ). take (text_len z) z) (sym (append-nil last)) ∙ taken_seam is_text_byte last [] (all_white_text last blank) refl in
-    let rest : drop (text_len last) last ≡ [] = ap (λ (z : List ℕ). drop (text_len z) z) (sym (append-nil last)) ∙ left_seam is_text_byte last [] (all_white_text last blank) refl in
-    read_last f k total st last (ap (may_stand st) text ∙ either_true _ (list_all is_white last) blank) rest
-pieces_again f (suc k) total at st (p ∷ ps) last all blank few place =
-    let more = spelled ps last in
-    let end = at + length (piece_written p) in
-    let joins : spelled (p ∷ ps) last ≡ piece_written p ++ more = append_assoc (piece_written p) (flat_map piece_written ps) last in
-    let there : end + length more ≡ total = omega (arith, place, ap length joins, length-append (piece_written p) more) in
-    ap (read_from f (suc k) total st) joins
-    ∙ piece_again f k total at st p more all.0 (ap (λ (z : List ℕ). at + length z) (sym joins) ∙ place) (may_stand st p.text) refl
-    ∙ ap (λ (o : Option Element). if may_stand st p.text then o else None)
-    (after_step f k total end ps last (λ next. pieces_again f k total end next ps last all.1 blank (omega arith) there) (step st (at + length p.text) (said p.mark)))
-    ∙ if_gives (may_stand st p.text) (step st (at + length p.text) (said p.mark) >>= λ next. run end next ps)
-
--- the pieces of what was read
-abbrev PiecesFound : Form → ℕ → State → List ℕ → Element → Type 0
-PiecesFound f at st bytes e =
-    (ps : List Piece) × (last : List ℕ) × AllByRecursion (PieceInForm f) ps × (list_all is_white last ≡ true) × (bytes ≡ spelled ps last) × (gives (run at st ps) ≡ Some e)
-
-done_white : (done : Option Element) (i w : Bool) (e : Element) → done ≡ Some e → (is_none done && i || w) ≡ true → w ≡ true
-done_white None i w e h t = absurd (cc)
-done_white (Some d) i w e h t = t
-
-empty_from_test : (xs : List ℕ) → (length xs == 0) ≡ true → xs ≡ []
-empty_from_test [] h = refl
-empty_from_test (x ∷ xs) h = absurd (let k = not_empty x xs in cc)
+-- what stood there where reading gave this
+pub record Found (at total : ℕ) (st : State) (bytes : List ℕ) (r : Result Element ElementFault) : Type 0 where
+  pub pieces : List Piece
+  pub text : List ℕ
+  pub rest : List ℕ
+  pub last : State
+  pub valid : AllByRecursion IsPiece pieces
+  pub no_mark : list_all is_text_byte text ≡ true
+  pub edge : begins is_text_byte rest ≡ false
+  pub is : bytes ≡ pieces_written pieces ++ (text ++ rest)
+  pub runs : run at st pieces ≡ Ok last
+  pub ends : Ends (at + length (pieces_written pieces)) total last text rest r
 
 angle : (c : ℕ) → is_text_byte c ≡ false → c ≡ 60
 angle c h = grind (arith, nat_tests)
 
-run_next : (at : ℕ) (st : State) (p : Piece) (ps : List Piece) (next : State) → may_stand st p.text ≡ true → step st (at + length p.text) (said p.mark) ≡ Some next → run at st (p ∷ ps) ≡ run (at + length (piece_written p)) next ps
-run_next at st p ps next stands taken_is =
-    ap (λ (b : Bool). if b then (step st (at + length p.text) (said p.mark) >>= λ x. run (at + length (piece_written p)) x ps) else None) stands
-    ∙ ap (λ (o : Option State). o >>= λ x. run (at + length (piece_written p)) x ps) taken_is
+-- reading that ends before a further mark
+at_once : (at total : ℕ) (st : State) (text rest : List ℕ) (r : Result Element ElementFault) → list_all is_text_byte text ≡ true → begins is_text_byte rest ≡ false → Ends at total st text rest r → Found at total st (text ++ rest) r
+at_once at total st text rest r is edge ends =
+    let here : at ≡ at + 0 = omega arith in
+    record { pieces = []; text = text; rest = rest; last = st; valid = tt; no_mark = is; edge = edge; is = refl; runs = refl; ends = subst (λ (n : ℕ). Ends n total st text rest r) here ends }
 
--- a text and what follows it
-rest_found : (f : Form) → HasNames f → (k total at : ℕ) (st : State) (text rest : List ℕ) (e : Element) →
-    ((end : ℕ) (next : State) (x : List ℕ) → end + length x ≡ total → read_from f k total next x ≡ Some e → PiecesFound f end next x e) →
-    list_all is_text_byte text ≡ true → may_stand st text ≡ true → begins is_text_byte rest ≡ false → at + length (text ++ rest) ≡ total →
-    by_marks f k total st rest ≡ Some e → PiecesFound f at st (text ++ rest) e
-rest_found f ok k total at st text [] e ih is stands edge place h =
-    ([], text, tt, done_white st.done _ (list_all is_white text) e h stands, append-nil text, h)
-rest_found f ok k total at st text (c ∷ inner) e ih is stands edge place h =
-    let there = total - length (c ∷ inner) in
-    let begun : (mark_of f inner >>= then_step f k total there st) ≡ Some e =
-    sym (ap (λ (b : Bool). if b then st.done else (mark_of f inner >>= then_step f k total there st)) (not_empty c inner)) ∙ h in
-    let m = bind_some (mark_of f inner) (then_step f k total there st) e begun in
-    let s = bind_some (step st there m.0.0) (λ (next : State). read_from f k total next m.0.1) e m.2 in
-    let found = mark_found f ok inner m.0 m.1 in
-    let p : Piece = record { text = text; mark = found.0 } in
-    let end = at + length (piece_written p) in
-    let joins : text ++ (c ∷ inner) ≡ piece_written p ++ m.0.1 =
-    ap (λ (z : ℕ). text ++ (z ∷ inner)) (angle c edge) ∙ ap (λ (z : List ℕ). text ++ z) found.3 ∙ sym (append_assoc text (mark_written found.0) m.0.1) in
-    let end_place : end + length m.0.1 ≡ total = omega (arith, place, ap length joins, length-append (piece_written p) m.0.1) in
-    let rest = ih end s.0 m.0.1 end_place s.2 in
-    let here : there ≡ at + length text = omega (arith, place, length-append text (c ∷ inner)) in
-    let taken_is : step st (at + length text) (said found.0) ≡ Some s.0 =
-    ap (λ (z : Mark). step st (at + length text) z) found.2 ∙ ap (λ (n : ℕ). step st n m.0.0) (sym here) ∙ s.1 in (
-      p ∷ rest.0,
-      rest.1,
-      (record { text = is; mark = found.1 }, rest.2),
-      rest.3,
-      joins ∙ ap (λ (z : List ℕ). piece_written p ++ z) rest.4 ∙ sym (append_assoc (piece_written p) (flat_map piece_written rest.0) rest.1),
-      ap gives (run_next at st p rest.0 s.0 stands taken_is) ∙ rest.5,
-    )
+-- reading that goes on behind a piece
+behind_piece : (at total : ℕ) (st next : State) (p : Piece) (more : List ℕ) (r : Result Element ElementFault) → IsPiece p → may_stand st p.text ≡ true →
+    step st (at + length p.text) (said p.mark) ≡ Ok next → Found (at + length (piece_written p)) total next more r → Found at total st (piece_written p ++ more) r
+behind_piece at total st next p more r is stands taken_is found =
+    let there : at + length (piece_written p) + length (pieces_written found.pieces) ≡ at + length (pieces_written (p ∷ found.pieces)) =
+    omega (arith, length-append (piece_written p) (pieces_written found.pieces)) in
+    record {
+      pieces = p ∷ found.pieces;
+      text = found.text;
+      rest = found.rest;
+      last = found.last;
+      valid = (is, found.valid);
+      no_mark = found.no_mark;
+      edge = found.edge;
+      is = ap (λ (z : List ℕ). piece_written p ++ z) found.is ∙ sym (append_assoc (piece_written p) (pieces_written found.pieces) (found.text ++ found.rest));
+      runs = run_one at st p found.pieces (said p.mark) next stands refl taken_is ∙ found.runs;
+      ends = subst (λ (n : ℕ). Ends n total found.last found.text found.rest r) there found.ends;
+    }
 
--- what was read stood there as pieces that are written
-pub pieces_found : (f : Form) → HasNames f → (k total at : ℕ) (st : State) (bytes : List ℕ) (e : Element) → at + length bytes ≡ total → read_from f k total st bytes ≡ Some e → PiecesFound f at st bytes e
-pieces_found f ok zero total at st bytes e place h = absurd (cc)
-pieces_found f ok (suc k) total at st bytes e place h =
+-- what was read at a mark
+mark_read : (k at total : ℕ) (st : State) (text : List ℕ) (m : written.Mark) (more : List ℕ) (r : Result Element ElementFault) → list_all is_text_byte text ≡ true → may_stand st text ≡ true → written.IsMark m →
+    ((next : State) → read_from k total next more ≡ r → Found (at + length (text ++ mark_written m)) total next more r) →
+    (o : Result State ElementFault) → step st (at + length text) (said m) ≡ o → (o >=> λ next. read_from k total next more) ≡ r → Found at total st (text ++ (mark_written m ++ more)) r
+mark_read k at total st text m more r is stands form ih (Err fault) e h =
+    at_once at total st text (mark_written m ++ more) r is (mark_no_text m more) (Faulty m more fault stands form refl e (sym h))
+mark_read k at total st text m more r is stands form ih (Ok next) e h =
+    let p : Piece = record { text = text; mark = m } in
+    let is_piece : IsPiece p = record { text = is; mark = form } in
+    subst (λ (z : List ℕ). Found at total st z r) (append_assoc text (mark_written m) more)
+    (behind_piece at total st next p more r is_piece stands e (ih next h))
+
+-- what was read behind a `<`
+inner_read : (k at total : ℕ) (st : State) (text inner : List ℕ) (r : Result Element ElementFault) → list_all is_text_byte text ≡ true → may_stand st text ≡ true → at + length (text ++ (60 ∷ inner)) ≡ total →
+    ((end : ℕ) (next : State) (x : List ℕ) → end + length x ≡ total → length x < length (60 ∷ inner) → read_from k total next x ≡ r → Found end total next x r) →
+    (o : Option (Mark × List ℕ)) → mark_of inner ≡ o →
+    ((elim o [ Some m ↦ Ok m | None ↦ Err (BadMark (total - length (60 ∷ inner))) ]) >=> then_step k total (total - length (60 ∷ inner)) st) ≡ r → Found at total st (text ++ (60 ∷ inner)) r
+inner_read k at total st text inner r is stands place ih None e h =
+    let here : total - length (60 ∷ inner) ≡ at + length text = omega (arith, place, length-append text (60 ∷ inner)) in
+    at_once at total st text (60 ∷ inner) r is refl (Bad inner stands refl e (sym h ∙ ap (λ (n : ℕ). Err (BadMark n)) here))
+inner_read k at total st text inner r is stands place ih (Some m) e h =
+    let here : total - length (60 ∷ inner) ≡ at + length text = omega (arith, place, length-append text (60 ∷ inner)) in
+    let found = mark_found inner m e in
+    let w = found.0 in
+    let shorter : length m.1 < length inner = mark_shrinks inner m e in
+    let end_place : at + length (text ++ mark_written w) + length m.1 ≡ total =
+    omega (arith, place, length-append text (60 ∷ inner), ap length found.3, length-append (mark_written w) m.1, length-append text (mark_written w)) in
+    let step_is : (step st (at + length text) (said w) >=> λ next. read_from k total next m.1) ≡ r =
+    ap (λ (x : Mark). step st (at + length text) x >=> λ next. read_from k total next m.1) found.2
+    ∙ ap (λ (n : ℕ). step st n m.0 >=> λ next. read_from k total next m.1) (sym here) ∙ h in
+    subst (λ (z : List ℕ). Found at total st (text ++ z) r) (sym found.3)
+    (mark_read k at total st text w m.1 r is stands found.1
+    (λ next g. ih (at + length (text ++ mark_written w)) next m.1 end_place (omega arith) g)
+    (step st (at + length text) (said w)) refl step_is)
+
+-- what was read behind a text
+rest_read : (k at total : ℕ) (st : State) (text rest : List ℕ) (r : Result Element ElementFault) → list_all is_text_byte text ≡ true → may_stand st text ≡ true → begins is_text_byte rest ≡ false → at + length (text ++ rest) ≡ total →
+    ((end : ℕ) (next : State) (x : List ℕ) → end + length x ≡ total → length x < length rest → read_from k total next x ≡ r → Found end total next x r) →
+    by_marks k total st rest ≡ r → Found at total st (text ++ rest) r
+rest_read k at total st text [] r is stands edge place ih h = at_once at total st text [] r is refl (Last stands refl (sym h))
+rest_read k at total st text (c ∷ inner) r is stands edge place ih h =
+    subst (λ (z : ℕ). (at + length (text ++ (z ∷ inner)) ≡ total) → (by_marks k total st (z ∷ inner) ≡ r) → Found at total st (text ++ (z ∷ inner)) r) (sym (angle c edge))
+    (λ here g.
+    let opened : (mark_at (total - length (60 ∷ inner)) inner >=> then_step k total (total - length (60 ∷ inner)) st) ≡ r =
+    sym (ap (λ (b : Bool). if b then finished st total else (mark_at (total - length (60 ∷ inner)) inner >=> then_step k total (total - length (60 ∷ inner)) st)) (not_empty 60 inner)) ∙ g in
+    inner_read k at total st text inner r is stands here (λ end next x e few i. ih end next x e few i) (mark_of inner) refl opened)
+    place h
+
+-- what was read of a text and what stands behind it
+text_read : (k at total : ℕ) (st : State) (text rest : List ℕ) (r : Result Element ElementFault) → list_all is_text_byte text ≡ true → begins is_text_byte rest ≡ false → at + length (text ++ rest) ≡ total →
+    ((end : ℕ) (next : State) (x : List ℕ) → end + length x ≡ total → length x < length rest → read_from k total next x ≡ r → Found end total next x r) →
+    (b : Bool) → may_stand st text ≡ b → (if b then by_marks k total st rest else stray (total - length (text ++ rest)) text) ≡ r → Found at total st (text ++ rest) r
+text_read k at total st text rest r is edge place ih true stands h = rest_read k at total st text rest r is stands edge place ih h
+text_read k at total st text rest r is edge place ih false stands h =
+    let here : total - length (text ++ rest) ≡ at = omega (arith, place) in
+    at_once at total st text rest r is edge (Stray stands (sym h ∙ ap (λ (n : ℕ). stray n text) here))
+
+-- what was read stood there
+pub pieces_found : (k at total : ℕ) (st : State) (bytes : List ℕ) (r : Result Element ElementFault) → at + length bytes ≡ total → length bytes < k → read_from k total st bytes ≡ r → Found at total st bytes r
+pieces_found zero at total st bytes r place few h = absurd (omega arith)
+pieces_found (suc k) at total st bytes r place few h =
     let n = text_len bytes in
     let joins : take n bytes ++ drop n bytes ≡ bytes = take-append-drop n bytes in
-    let t = if_some (may_stand st (take n bytes)) (by_marks f k total st (drop n bytes)) e h in
-    subst (λ (z : List ℕ). PiecesFound f at st z e) joins
-    (rest_found f ok k total at st (take n bytes) (drop n bytes) e (λ end next x w g. pieces_found f ok k total end next x e w g)
-    (taken is_text_byte bytes) t.0 (left is_text_byte bytes) (ap (λ (z : List ℕ). at + length z) joins ∙ place) t.1)
+    let lengths : length (drop n bytes) ≤ length bytes = drop_len n bytes in
+    subst (λ (z : List ℕ). Found at total st z r) joins
+    (text_read k at total st (take n bytes) (drop n bytes) r (taken is_text_byte bytes) (left is_text_byte bytes) (ap (λ (z : List ℕ). at + length z) joins ∙ place)
+    (λ end next x e shorter g. pieces_found k end total next x r e (omega arith) g)
+    (may_stand st (take n bytes)) refl (ap (λ (z : List ℕ). if may_stand st (take n bytes) then by_marks k total st (drop n bytes) else stray (total - length z) (take n bytes)) joins ∙ h))
 
-all_run : (end : ℕ) (st : State) (ps : List Piece) → HaveTags end ps [] → run end st ps ≡ Some st
-all_run end st [] h = refl
-all_run end st (p ∷ ps) h = absurd (no_piece end p ps h)
+mark_at_if : (place : ℕ) (o : Option (Mark × List ℕ)) (m : Mark × List ℕ) → ◌≡◌ {A = Result (Mark × List ℕ) ElementFault} (elim o [ Some x ↦ Ok x | None ↦ Err (BadMark place) ]) (Ok m) → o ≡ Some m
+mark_at_if place None m h = absurd (cc)
+mark_at_if place (Some x) m h = ap (λ (z : Mark × List ℕ). Some z) (ok_inj x m h)
 
-pieces_count : (ps : List Piece) → length ps ≤ length (flat_map piece_written ps)
-pieces_count [] = omega arith
-pieces_count (p ∷ ps) =
-    omega (arith, pieces_count ps, length-append (piece_written p) (flat_map piece_written ps), length-append p.text (mark_written p.mark), mark_length p.mark)
+-- reading goes on behind a mark that was taken
+pub read_on : (total : ℕ) (st next : State) (bytes : List ℕ) (c : ℕ) (inner : List ℕ) (m : Mark) (more : List ℕ) → may_stand st (take (text_len bytes) bytes) ≡ true →
+    drop (text_len bytes) bytes ≡ c ∷ inner → mark_at (total - length (c ∷ inner)) inner ≡ Ok (m, more) → step st (total - length (c ∷ inner)) m ≡ Ok next → read_rest total next more ≡ read_rest total st bytes
+read_on total st next bytes c inner m more stands is mark taken_is =
+    sym (read_marked total st bytes c inner m more stands is (mark_at_if (total - length (c ∷ inner)) (mark_of inner) (m, more) mark)
+    ∙ ap (λ (r : Result State ElementFault). r >=> λ x. read_rest total x more) taken_is)
 
--- a file whose pieces are of the form is read as the element that they nest to
-spelled_read : (f : Form) (ps : List Piece) (last : List ℕ) (e : Element) → AllByRecursion (PieceInForm f) ps → list_all is_white last ≡ true →
-    HaveTags 0 ps (tags_of e false) → depth_of e ≤ 258 → read f (spelled ps last) ≡ Some e
-spelled_read f ps last e all blank tags deep =
-    let n = length (spelled ps last) in
-    let r = element_runs e 0 ps [] [] (subst (HaveTags 0 ps) (sym (append-nil (tags_of e false))) tags) (omega arith) in
-    let after : State = record { stack = []; done = Some e } in
-    let few : length ps < suc n = omega (arith, pieces_count ps, length-append (flat_map piece_written ps) last) in
-    pieces_again f (suc n) n 0 start ps last all blank few (omega arith)
-    ∙ ap gives (r.3 ∙ all_run r.0 after r.1 r.2)
+-- reading ends at a mark that is no mark, or that has a fault
+pub mark_stops : {X : Type 0} (view : X → Mark × List ℕ) (s : Stop ElementFault) (total : ℕ) (st : State) (bytes : List ℕ) (c : ℕ) (inner : List ℕ) → may_stand st (take (text_len bytes) bytes) ≡ true → drop (text_len bytes) bytes ≡ c ∷ inner →
+    GivesAs view (Err s) (mark_at (total - length (c ∷ inner)) inner) → Gives (Err s) (read_rest total st bytes)
+mark_stops view stop.NoMemory total st bytes c inner stands is h = tt
+mark_stops view (stop.Fault fault) total st bytes c inner stands is h =
+    read_at_mark total st bytes c inner stands is ∙ ap (λ (r : Result (Mark × List ℕ) ElementFault). r >=> then_step (length bytes) total (total - length (c ∷ inner)) st) h
 
-attributes_full : (list : List Attribute) → AllByRecursion IsAttribute list → AllByRecursion (InForm full) list
-attributes_full [] h = tt
-attributes_full (a ∷ list) h = (record { is = h.0; name_ok = h.0.name; value_ok = refl }, attributes_full list h.1)
+pub step_stops : {X : Type 0} (view : X → State) (s : Stop ElementFault) (total : ℕ) (st : State) (bytes : List ℕ) (c : ℕ) (inner : List ℕ) (m : Mark) (more : List ℕ) → may_stand st (take (text_len bytes) bytes) ≡ true →
+    drop (text_len bytes) bytes ≡ c ∷ inner → mark_at (total - length (c ∷ inner)) inner ≡ Ok (m, more) → GivesAs view (Err s) (step st (total - length (c ∷ inner)) m) → Gives (Err s) (read_rest total st bytes)
+step_stops view stop.NoMemory total st bytes c inner m more stands is mark h = tt
+step_stops view (stop.Fault fault) total st bytes c inner m more stands is mark h =
+    read_marked total st bytes c inner m more stands is (mark_at_if (total - length (c ∷ inner)) (mark_of inner) (m, more) mark)
+    ∙ ap (λ (r : Result State ElementFault). r >=> λ x. read_rest total x more) h
 
-opening_full : (o : Opening) → IsOpening o → OpeningInForm full o
-opening_full o h = record { is = h; name_ok = h.name; attributes_ok = attributes_full o.attributes h.attributes }
-
-mark_full : (m : written.Mark) → IsMark m → MarkInForm full m
-mark_full (Start o) h = opening_full o h
-mark_full (Empty o) h = opening_full o h
-mark_full (End name gap) h = (h.0, h.0, h.1)
-
-pieces_full : (ps : List Piece) → AllByRecursion IsPiece ps → AllByRecursion (PieceInForm full) ps
-pieces_full [] h = tt
-pieces_full (p ∷ ps) h = (record { text = h.0.text; mark = mark_full p.mark h.0.mark }, pieces_full ps h.1)
-
-spells_read : (bytes : List ℕ) (e : Element) → Spells bytes e → read full bytes ≡ Some e
-spells_read bytes e s = ap (read full) s.written ∙ spelled_read full s.pieces s.last e (pieces_full s.pieces s.valid) s.blank s.nested s.depth
-
--- the same bytes spell at most one element
-pub one : (bytes : List ℕ) (a b : Element) → Spells bytes a → Spells bytes b → a ≡ b
-one bytes a b s t = some_inj a b (sym (spells_read bytes a s) ∙ spells_read bytes b t)
-
-attributes_plain : (list : List Attribute) → AllByRecursion IsAttribute list → list_all is_plain_attribute list ≡ true → AllByRecursion (InForm plain) list
-attributes_plain [] h t = tt
-attributes_plain (a ∷ list) h t =
-    let u = both (is_plain_attribute a) (list_all is_plain_attribute list) t in
-    let v = both (is_identifier a.name) (is_plain_value a.value) u.0 in
-    (record { is = h.0; name_ok = v.0; value_ok = v.1 }, attributes_plain list h.1 u.1)
-
-opening_plain : (o : Opening) → IsOpening o → (is_identifier o.name && list_all is_plain_attribute o.attributes) ≡ true → OpeningInForm plain o
-opening_plain o h t =
-    let u = both (is_identifier o.name) (list_all is_plain_attribute o.attributes) t in
-    record { is = h; name_ok = u.0; attributes_ok = attributes_plain o.attributes h.attributes u.1 }
-
-mark_plain : (m : written.Mark) → IsMark m → is_plain_mark m ≡ true → MarkInForm plain m
-mark_plain (Start o) h t = opening_plain o h t
-mark_plain (Empty o) h t = opening_plain o h t
-mark_plain (End name gap) h t = (h.0, t, h.1)
-
-pieces_plain : (ps : List Piece) → AllByRecursion IsPiece ps → list_all (λ p. is_plain_mark p.mark) ps ≡ true → AllByRecursion (PieceInForm plain) ps
-pieces_plain [] h t = tt
-pieces_plain (p ∷ ps) h t =
-    let u = both (is_plain_mark p.mark) (list_all (λ x. is_plain_mark x.mark) ps) t in
-    (record { text = h.0.text; mark = mark_plain p.mark h.0.mark u.0 }, pieces_plain ps h.1 u.1)
-
--- what is spelled in the plain form is read
-pub plainly_read : (bytes : List ℕ) (e : Element) → SpellsPlainly bytes e → read plain bytes ≡ Some e
-plainly_read bytes e s =
-    ap (read plain) s.spells.written
-    ∙ spelled_read plain s.spells.pieces s.spells.last e (pieces_plain s.spells.pieces s.spells.valid s.plain) s.spells.blank s.spells.nested s.spells.depth
-
-plain_attributes : (list : List Attribute) → AllByRecursion (InForm plain) list → list_all is_plain_attribute list ≡ true
-plain_attributes [] h = refl
-plain_attributes (a ∷ list) h =
-    both_true (both_true h.0.name_ok h.0.value_ok) (plain_attributes list h.1)
-
-plain_mark : (m : written.Mark) → MarkInForm plain m → IsMark m × (is_plain_mark m ≡ true)
-plain_mark (Start o) h = (h.is, both_true h.name_ok (plain_attributes o.attributes h.attributes_ok))
-plain_mark (Empty o) h = (h.is, both_true h.name_ok (plain_attributes o.attributes h.attributes_ok))
-plain_mark (End name gap) h = ((h.0, h.2), h.1)
-
-plain_pieces : (ps : List Piece) → AllByRecursion (PieceInForm plain) ps → AllByRecursion IsPiece ps × (list_all (λ p. is_plain_mark p.mark) ps ≡ true)
-plain_pieces [] h = (tt, refl)
-plain_pieces (p ∷ ps) h =
-    let m = plain_mark p.mark h.0.mark in
-    let rest = plain_pieces ps h.1 in
-    ((record { text = h.0.text; mark = m.0 }, rest.0), both_true m.1 rest.1)
-
--- what is read of plain bytes is spelled so in the plain form
-pub read_plainly : (bytes : List ℕ) (e : Element) → list_all is_plain_byte bytes ≡ true → read plain bytes ≡ Some e → SpellsPlainly bytes e
-read_plainly bytes e ascii h =
-    let found = pieces_found plain plain_names (suc (length bytes)) (length bytes) 0 start bytes e (omega arith) h in
-    let nest = run_good 0 [] None found.0 e tt found.5 in
-    let is = plain_pieces found.0 found.2 in
-    let spells : Spells bytes e = record {
-      pieces = found.0;
-      last = found.1;
-      utf8 = IsUtf8-from_is_plain bytes ascii;
-      valid = is.0;
-      blank = found.3;
-      written = found.4;
-      nested = subst (HaveTags 0 found.0) nest.2 nest.1;
-      depth = nest.3;
-    } in
-    record { spells = spells; ascii = ascii; plain = is.1 }
-
--- after one text and one mark the rest is read as before
-pub read_more : (f : Form) → HasNames f → (total : ℕ) (st next : State) (bytes marks : List ℕ) (c : ℕ) (inner : List ℕ) (m : Mark) (more : List ℕ) →
-    may_stand st (take (text_len bytes) bytes) ≡ true → drop (text_len bytes) bytes ≡ marks → marks ≡ c ∷ inner → mark_of f inner ≡ Some (m, more) → step st (total - length marks) m ≡ Some next →
-    read_from f (suc (length more)) total next more ≡ read_from f (suc (length bytes)) total st bytes
-read_more f ok total st next bytes marks c inner m more stands is cons mark taken_is =
-    let shorter : length more < length inner = mark_shrinks f ok inner (m, more) mark in
-    let few : length more < length bytes = omega (arith, shorter, ap length (is ∙ cons), drop_len (text_len bytes) bytes) in
-    let first : step st (total - length (c ∷ inner)) m ≡ Some next = ap (λ (z : List ℕ). step st (total - length z) m) (sym cons) ∙ taken_is in
-    sym (read_one f (length bytes) total st bytes c inner m more stands (is ∙ cons) mark
-    ∙ ap (λ (o : Option State). o >>= λ x. read_from f (length bytes) total x more) first
-    ∙ read_fuel f ok (length bytes) (suc (length more)) total next more few (omega arith))
-
--- a fault of reading says that nothing is spelled in the plain form
-pub unbuilt : (s : Stop Unbuilt) (bytes : List ℕ) → GivesSeenBy {X = Element} (λ e. e) (Err s) (read plain bytes) → WhenUnbuilt {X = Elements} (Err s) ((e : Element) → SpellsPlainly bytes e → ⊥)
-unbuilt stop.NoMemory bytes h = tt
-unbuilt (stop.Fault u) bytes h = λ e s. let k : None ≡ Some e = sym h ∙ plainly_read bytes e s in cc
+-- what follows the `<` of a mark
+pub cut_mark : (bytes marks : List ℕ) (c : ℕ) (inner : List ℕ) → marks ≡ drop (text_len bytes) bytes → marks ≡ c ∷ inner → IsUtf8 marks → IsUtf8 inner
+cut_mark bytes marks c inner is cons u =
+    let e : c ≡ 60 = angle c (sym (ap (begins is_text_byte) cons) ∙ ap (begins is_text_byte) is ∙ left is_text_byte bytes) in
+    cut_behind c marks inner cons (omega arith) u

@@ -1,14 +1,19 @@
 -- What stands at the front of bytes is read, and what was read stood there.
-use Rattle.std.proofs.Common.{◌≡◌, ℕ, ◌+◌, Bool, true, false, ◌==◌, List, [], ◌∷◌, ◌++◌, length, take, drop, Option, Some, None, cond, refl, arith, if◌then◌else◌}
+use Rattle.std.proofs.Common.{◌≡◌, ℕ, ◌+◌, Bool, true, false, ◌==◌, List, [], ◌∷◌, ◌++◌, length, take, drop, Option, Some, None, cond, refl, ap, sym, ◌∙◌, arith, if◌then◌else◌}
 use Rattle.std.proofs.Math.Seq.{take-append_seam, drop-append_seam}
 use Rattle.std.proofs.lemmas.Bool.Decides.{nat_tests}
 use Rattle.std.proofs.lemmas.Grind.{common_steps}
+use Rattle.std.proofs.lemmas.List.Sums.{prefix_len-le-length}
+use Rattle.std.specs.Cmp.Derive.{both_true}
 use Rattle.std.specs.List.{prefix_len, list_all}
 use Rattle.std.specs.Option.{option_map}
 use Rattle.bt_script.specs.Identifiers.{is_white}
 use Rattle.bt_script.proofs.Bools.{both}
-use Rattle.bt_elements.specs.Marks.{is_name, is_name_first, is_name_rest, is_value_byte}
-use Rattle.bt_elements.specs.Reading.{Form, ◌>>=◌, after_white, begins, behind, name_of, value_of}
+use Rattle.bt_elements.specs.References.{decoded}
+use Rattle.bt_elements.specs.Marks.{is_name, is_name_first, is_name_rest, is_quote, is_value_byte}
+use Rattle.bt_elements.specs.Reading.{◌>>=◌, after_white, begins, behind, name_of, value_of}
+
+pub ruleset fronts = prefix_len-le-length
 
 pub some_inj : {A : Type 0} (x y : A) → Some x ≡ Some y → x ≡ y
 some_inj x y h = cc
@@ -95,16 +100,38 @@ begins_name [] more h = absurd (cc)
 begins_name (c ∷ cs) more h = (both (is_name_first c) (list_all is_name_rest (c ∷ cs)) h).0
 
 -- a name is read, whatever follows that does not go on with it
-pub name_again : (f : Form) (name more : List ℕ) → f.name name ≡ true → is_name name ≡ true → begins is_name_rest more ≡ false → name_of f (name ++ more) ≡ Some (name, more)
-name_again f name more ok is e =
-    rw (taken_seam is_name_rest name more (name_rest_all name is) e, left_seam is_name_rest name more (name_rest_all name is) e, ok) refl
+pub name_again : (name more : List ℕ) → is_name name ≡ true → begins is_name_rest more ≡ false → name_of (name ++ more) ≡ Some (name, more)
+name_again name more is e =
+    rw (begins_name name more is, taken_seam is_name_rest name more (name_rest_all name is) e, left_seam is_name_rest name more (name_rest_all name is) e) refl
 
 pub behind_again : (c : ℕ) (more : List ℕ) → behind c (c ∷ more) ≡ Some more
 behind_again c more = rw (test_same c) refl
 
-pub value_again : (f : Form) (value more : List ℕ) → f.value value ≡ true → list_all is_value_byte value ≡ true → value_of f (value ++ (34 ∷ more)) ≡ Some (value, more)
-value_again f value more ok h =
-    rw (taken_seam is_value_byte value (34 ∷ more) h refl, left_seam is_value_byte value (34 ∷ more) h refl, ok) refl
+quote_ends_value : (quote : ℕ) → is_value_byte quote quote ≡ false
+quote_ends_value quote = grind (arith, nat_tests)
+
+pub value_again : (quote : ℕ) (value more : List ℕ) → is_quote quote ≡ true → list_all (is_value_byte quote) value ≡ true → value_of (quote ∷ (value ++ (quote ∷ more))) ≡ Some (decoded value, more)
+value_again quote value more q h =
+    rw (
+      q,
+      taken_seam (is_value_byte quote) value (quote ∷ more) h (quote_ends_value quote),
+      left_seam (is_value_byte quote) value (quote ∷ more) h (quote_ends_value quote),
+      test_same quote,
+    ) refl
 
 pub after_white_again : (gap more : List ℕ) → list_all is_white gap ≡ true → begins is_white more ≡ false → after_white (gap ++ more) ≡ more
 after_white_again gap more h e = left_seam is_white gap more h e
+
+-- a name stands at the front of bytes that begin with one
+first_in : (p q : ℕ → Bool) (b : ℕ) (bs : List ℕ) → ((c : ℕ) → p c ≡ true → q c ≡ true) → p b ≡ true → list_all q (take (prefix_len q (b ∷ bs)) (b ∷ bs)) ≡ true → take (prefix_len q (b ∷ bs)) (b ∷ bs) ≡ b ∷ take (prefix_len q bs) bs
+first_in p q b bs sub h all = rw (sub b h) (take_one_more (prefix_len q bs) b bs)
+
+first_is_rest : (c : ℕ) → is_name_first c ≡ true → is_name_rest c ≡ true
+first_is_rest c h = grind (arith, nat_tests)
+
+pub name_taken : (bytes : List ℕ) → begins is_name_first bytes ≡ true → is_name (take (prefix_len is_name_rest bytes) bytes) ≡ true
+name_taken [] h = absurd (cc)
+name_taken (b ∷ bs) h =
+    let all = taken is_name_rest (b ∷ bs) in
+    let e = first_in is_name_first is_name_rest b bs first_is_rest h all in
+    ap is_name e ∙ both_true h (sym (ap (list_all is_name_rest) e) ∙ all)

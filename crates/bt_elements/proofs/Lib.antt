@@ -1,7 +1,12 @@
-pub mod Ascii
+pub mod Asides
+pub mod Cuts
 pub mod Files
 pub mod Found
 pub mod Fronts
 pub mod Marks
 pub mod Names
 pub mod Nesting
+pub mod Outcomes
+pub mod References
+pub mod Standings
+pub mod Verdicts

@@ -9,26 +9,12 @@ use Rattle.bt_script.proofs.Bools.{both}
 use Rattle.bt_elements.specs.declared.mark.Front.{Front}
 use Rattle.bt_elements.specs.declared.mark.Mark.{Mark}
 use Rattle.bt_elements.specs.declared.mark.Mark.TheVariants as read
+use Rattle.bt_elements.specs.References.{decoded}
 use Rattle.bt_elements.specs.Marks as written
-use Rattle.bt_elements.specs.Marks.{is_name, is_name_first, is_name_rest, is_value_byte, Attribute, attribute_written, Opening, opening_written, Start, Empty, End, mark_written, pairs_of, no_name_twice, IsAttribute, IsOpening}
-use Rattle.bt_elements.specs.Reading.{Form, ◌>>=◌, begins, attribute_of, attribute_begins, attributes_of, front_of, closing, end_of, mark_of}
+use Rattle.bt_elements.specs.Marks.{is_name, is_name_first, is_name_rest, is_quote, Attribute, attribute_written, Opening, opening_written, Start, Empty, End, Instruction, Comment, instruction_end, comment_end, mark_written, pairs_of, IsAttribute, IsOpening, IsMark}
+use Rattle.bt_elements.specs.Reading.{◌>>=◌, begins, attribute_of, attribute_begins, attributes_of, front_of, closing, opening_of, end_of, aside_of, mark_of}
 use Rattle.bt_elements.proofs.Fronts.{white_ends_name, begins_gap, begins_name_not_white, begins_name, name_again, value_again, after_white_again}
-
--- an attribute of the form
-pub record InForm (f : Form) (a : Attribute) : Type 0 where
-  pub is : IsAttribute a
-  pub name_ok : f.name a.name ≡ true
-  pub value_ok : f.value a.value ≡ true
-
-pub record OpeningInForm (f : Form) (o : Opening) : Type 0 where
-  pub is : IsOpening o
-  pub name_ok : f.name o.name ≡ true
-  pub attributes_ok : AllByRecursion (InForm f) o.attributes
-
-abbrev pub MarkInForm : Form → written.Mark → Type 0
-MarkInForm f (Start o) = OpeningInForm f o
-MarkInForm f (Empty o) = OpeningInForm f o
-MarkInForm f (End name gap) = (is_name name ≡ true) × (f.name name ≡ true) × (list_all is_white gap ≡ true)
+use Rattle.bt_elements.proofs.Asides.{instruction_again, comment_again}
 
 -- what a start or an empty mark says
 abbrev pub front_said : Opening → Front
@@ -39,21 +25,26 @@ abbrev pub said : written.Mark → Mark
 said (Start o) = read.Start (front_said o)
 said (Empty o) = read.Empty (front_said o)
 said (End name gap) = read.End name
+said (Instruction body) = read.Aside
+said (Comment body) = read.Aside
 
 -- an attribute from its name on, with what follows
 abbrev pub from_name : Attribute → List ℕ → List ℕ
-from_name a more = a.name ++ (a.before ++ (61 ∷ (a.after ++ (34 ∷ (a.value ++ (34 ∷ more))))))
+from_name a more = a.name ++ (a.before ++ (61 ∷ (a.after ++ (a.quote ∷ (a.value ++ (a.quote ∷ more))))))
 
-attribute_again : (f : Form) (a : Attribute) (more : List ℕ) → InForm f a → attribute_of f (from_name a more) ≡ Some ((a.name, a.value), more)
-attribute_again f a more i =
-    let value = a.value ++ (34 ∷ more) in
-    let quote = a.after ++ (34 ∷ value) in
+quote_not_white : (c : ℕ) → is_quote c ≡ true → is_white c ≡ false
+quote_not_white c h = grind (arith, nat_tests)
+
+attribute_again : (a : Attribute) (more : List ℕ) → IsAttribute a → attribute_of (from_name a more) ≡ Some ((a.name, decoded a.value), more)
+attribute_again a more i =
+    let value = a.value ++ (a.quote ∷ more) in
+    let quote = a.after ++ (a.quote ∷ value) in
     let equal = a.before ++ (61 ∷ quote) in
     rw (
-      name_again f a.name equal i.name_ok i.is.name (begins_gap is_name_rest a.before 61 quote white_ends_name i.is.before refl),
-      after_white_again a.before (61 ∷ quote) i.is.before refl,
-      after_white_again a.after (34 ∷ value) i.is.after refl,
-      value_again f a.value more i.value_ok i.is.value,
+      name_again a.name equal i.name (begins_gap is_name_rest a.before 61 quote white_ends_name i.before refl),
+      after_white_again a.before (61 ∷ quote) i.before refl,
+      after_white_again a.after (a.quote ∷ value) i.after (quote_not_white a.quote i.quote),
+      value_again a.quote a.value more i.quote i.value,
     ) refl
 
 pub attribute_spread : (a : Attribute) (more : List ℕ) → attribute_written a ++ more ≡ a.gap ++ from_name a more
@@ -69,26 +60,26 @@ begins_white (g ∷ gap) more h k = (both (is_white g) (list_all is_white gap) h
 
 attribute_begins_again : (a : Attribute) (more : List ℕ) → IsAttribute a → attribute_begins (a.gap ++ from_name a more) ≡ true
 attribute_begins_again a more i =
-    let tail = a.before ++ (61 ∷ (a.after ++ (34 ∷ (a.value ++ (34 ∷ more))))) in
+    let tail = a.before ++ (61 ∷ (a.after ++ (a.quote ∷ (a.value ++ (a.quote ∷ more))))) in
     both_true (begins_white a.gap (from_name a more) i.gap i.apart)
     (ap (begins is_name_first) (after_white_again a.gap (from_name a more) i.gap (begins_name_not_white a.name tail i.name)) ∙ begins_name a.name tail i.name)
 
 -- attributes that are written are read, where no attribute follows
-attributes_again : (f : Form) (k : ℕ) (list : List Attribute) (tail : List ℕ) → AllByRecursion (InForm f) list → attribute_begins tail ≡ false → length list ≤ k → attributes_of f k (flat_map attribute_written list ++ tail) ≡ Some (pairs_of list, tail)
-attributes_again f zero [] tail all e h = refl
-attributes_again f (suc k) [] tail all e h = rw e refl
-attributes_again f zero (a ∷ list) tail all e h = absurd (omega arith)
-attributes_again f (suc k) (a ∷ list) tail all e h =
+attributes_again : (k : ℕ) (list : List Attribute) (tail : List ℕ) → AllByRecursion IsAttribute list → attribute_begins tail ≡ false → length list ≤ k → attributes_of k (flat_map attribute_written list ++ tail) ≡ Some (pairs_of list, tail)
+attributes_again zero [] tail all e h = refl
+attributes_again (suc k) [] tail all e h = rw e refl
+attributes_again zero (a ∷ list) tail all e h = absurd (omega arith)
+attributes_again (suc k) (a ∷ list) tail all e h =
     let more = flat_map attribute_written list ++ tail in
     let spread : flat_map attribute_written (a ∷ list) ++ tail ≡ a.gap ++ from_name a more =
     append_assoc (attribute_written a) (flat_map attribute_written list) tail ∙ attribute_spread a more in
-    let rest = a.before ++ (61 ∷ (a.after ++ (34 ∷ (a.value ++ (34 ∷ more))))) in
-    let ih : attributes_of f k more ≡ Some (pairs_of list, tail) = attributes_again f k list tail all.1 e (omega arith) in
-    ap (attributes_of f (suc k)) spread
+    let rest = a.before ++ (61 ∷ (a.after ++ (a.quote ∷ (a.value ++ (a.quote ∷ more))))) in
+    let ih : attributes_of k more ≡ Some (pairs_of list, tail) = attributes_again k list tail all.1 e (omega arith) in
+    ap (attributes_of (suc k)) spread
     ∙ rw (
-      attribute_begins_again a more all.0.is,
-      after_white_again a.gap (from_name a more) all.0.is.gap (begins_name_not_white a.name rest all.0.is.name),
-      attribute_again f a more all.0,
+      attribute_begins_again a more all.0,
+      after_white_again a.gap (from_name a more) all.0.gap (begins_name_not_white a.name rest all.0.name),
+      attribute_again a more all.0,
       ih,
     ) refl
 
@@ -96,7 +87,7 @@ attributes_count : (list : List Attribute) → length list ≤ length (flat_map 
 attributes_count [] = omega arith
 attributes_count (a ∷ list) =
     let e : attribute_written a ++ flat_map attribute_written list ≡ a.gap ++ from_name a (flat_map attribute_written list) = attribute_spread a (flat_map attribute_written list) in
-    omega (arith, attributes_count list, ap length e, length-append a.gap (from_name a (flat_map attribute_written list)), length-append a.name (a.before ++ (61 ∷ (a.after ++ (34 ∷ (a.value ++ (34 ∷ flat_map attribute_written list)))))), length-append a.before (61 ∷ (a.after ++ (34 ∷ (a.value ++ (34 ∷ flat_map attribute_written list))))), length-append a.after (34 ∷ (a.value ++ (34 ∷ flat_map attribute_written list))), length-append a.value (34 ∷ flat_map attribute_written list))
+    omega (arith, attributes_count list, ap length e, length-append a.gap (from_name a (flat_map attribute_written list)), length-append a.name (a.before ++ (61 ∷ (a.after ++ (a.quote ∷ (a.value ++ (a.quote ∷ flat_map attribute_written list)))))), length-append a.before (61 ∷ (a.after ++ (a.quote ∷ (a.value ++ (a.quote ∷ flat_map attribute_written list))))), length-append a.after (a.quote ∷ (a.value ++ (a.quote ∷ flat_map attribute_written list))), length-append a.value (a.quote ∷ flat_map attribute_written list))
 
 pub opening_spread : (o : Opening) (more : List ℕ) → opening_written o ++ more ≡ o.name ++ (flat_map attribute_written o.attributes ++ (o.gap ++ more))
 opening_spread o more = simp append_assoc
@@ -106,55 +97,61 @@ gap_ends [] more h k = absurd (cc)
 gap_ends (g ∷ gap) more h k = white_ends_name g (both (is_white g) (list_all is_white gap) h).0
 
 -- what follows a name does not go on with it
-name_ends : (f : Form) (list : List Attribute) (gap : List ℕ) (c : ℕ) (more : List ℕ) → AllByRecursion (InForm f) list → list_all is_white gap ≡ true → is_name_rest c ≡ false → begins is_name_rest (flat_map attribute_written list ++ (gap ++ (c ∷ more))) ≡ false
-name_ends f [] gap c more all h e = begins_gap is_name_rest gap c more white_ends_name h e
-name_ends f (a ∷ list) gap c more all h e =
+name_ends : (list : List Attribute) (gap : List ℕ) (c : ℕ) (more : List ℕ) → AllByRecursion IsAttribute list → list_all is_white gap ≡ true → is_name_rest c ≡ false → begins is_name_rest (flat_map attribute_written list ++ (gap ++ (c ∷ more))) ≡ false
+name_ends [] gap c more all h e = begins_gap is_name_rest gap c more white_ends_name h e
+name_ends (a ∷ list) gap c more all h e =
     let rest = flat_map attribute_written list ++ (gap ++ (c ∷ more)) in
     let spread : flat_map attribute_written (a ∷ list) ++ (gap ++ (c ∷ more)) ≡ a.gap ++ from_name a rest =
     append_assoc (attribute_written a) (flat_map attribute_written list) (gap ++ (c ∷ more)) ∙ attribute_spread a rest in
-    ap (begins is_name_rest) spread ∙ gap_ends a.gap (from_name a rest) all.0.is.gap all.0.is.apart
+    ap (begins is_name_rest) spread ∙ gap_ends a.gap (from_name a rest) all.0.gap all.0.apart
 
 name_rest_first : (c : ℕ) → is_name_rest c ≡ false → is_name_first c ≡ false
 name_rest_first c h = grind (arith, nat_tests)
 
-front_again : (f : Form) (o : Opening) (c : ℕ) (more : List ℕ) → OpeningInForm f o → is_name_rest c ≡ false → is_white c ≡ false → front_of f (opening_written o ++ (c ∷ more)) ≡ Some (front_said o, c ∷ more)
-front_again f o c more i e w =
+front_again : (o : Opening) (c : ℕ) (more : List ℕ) → IsOpening o → is_name_rest c ≡ false → is_white c ≡ false → front_of (opening_written o ++ (c ∷ more)) ≡ Some (front_said o, c ∷ more)
+front_again o c more i e w =
     let tail = o.gap ++ (c ∷ more) in
     let rest = flat_map attribute_written o.attributes ++ tail in
     let none : attribute_begins tail ≡ false =
-    and_false _ _ (ap (begins is_name_first) (after_white_again o.gap (c ∷ more) i.is.gap w) ∙ name_rest_first c e) in
+    and_false _ _ (ap (begins is_name_first) (after_white_again o.gap (c ∷ more) i.gap w) ∙ name_rest_first c e) in
     let few : length o.attributes ≤ length rest =
     omega (arith, attributes_count o.attributes, length-append (flat_map attribute_written o.attributes) tail) in
-    ap (front_of f) (opening_spread o (c ∷ more))
+    ap front_of (opening_spread o (c ∷ more))
     ∙ rw (
-      name_again f o.name rest i.name_ok i.is.name (name_ends f o.attributes o.gap c more i.attributes_ok i.is.gap e),
-      attributes_again f (length rest) o.attributes tail i.attributes_ok none few,
-      i.is.single,
-      after_white_again o.gap (c ∷ more) i.is.gap w,
+      name_again o.name rest i.name (name_ends o.attributes o.gap c more i.attributes i.gap e),
+      attributes_again (length rest) o.attributes tail i.attributes none few,
+      after_white_again o.gap (c ∷ more) i.gap w,
     ) refl
 
-name_is_no_slash : (c : ℕ) → is_name_first c ≡ true → (c == 47) ≡ false
-name_is_no_slash c h = grind (arith, nat_tests)
+name_begins_opening : (c : ℕ) → is_name_first c ≡ true → ((c == 47) ≡ false) × ((c == 63) ≡ false) × ((c == 33) ≡ false)
+name_begins_opening c h = (grind (arith, nat_tests), grind (arith, nat_tests), grind (arith, nat_tests))
 
-mark_of_front : (f : Form) (name more : List ℕ) → is_name name ≡ true → mark_of f (name ++ more) ≡ (front_of f (name ++ more) >>= λ o. closing o.0 o.1)
-mark_of_front f [] more h = absurd (cc)
-mark_of_front f (c ∷ cs) more h = rw (name_is_no_slash c (both (is_name_first c) (list_all is_name_rest (c ∷ cs)) h).0) refl
+pub mark_of_opening : (name more : List ℕ) → is_name name ≡ true → mark_of (name ++ more) ≡ opening_of (name ++ more)
+mark_of_opening [] more h = absurd (cc)
+mark_of_opening (c ∷ cs) more h =
+    let other = name_begins_opening c (both (is_name_first c) (list_all is_name_rest (c ∷ cs)) h).0 in
+    rw (other.0, other.1, other.2) refl
 
 -- a mark that is written is read, whatever follows it
-pub mark_again : (f : Form) (m : written.Mark) (more : List ℕ) → MarkInForm f m → mark_of f (drop 1 (mark_written m ++ more)) ≡ Some (said m, more)
-mark_again f (Start o) more i =
-    ap (mark_of f) (append_assoc (opening_written o) (62 ∷ []) more ∙ opening_spread o (62 ∷ more))
-    ∙ mark_of_front f o.name (flat_map attribute_written o.attributes ++ (o.gap ++ (62 ∷ more))) i.is.name
-    ∙ ap (λ (bytes : List ℕ). front_of f bytes >>= λ x. closing x.0 x.1) (sym (opening_spread o (62 ∷ more)))
-    ∙ rw (front_again f o 62 more i refl refl) refl
-mark_again f (Empty o) more i =
-    ap (mark_of f) (append_assoc (opening_written o) (47 ∷ 62 ∷ []) more ∙ opening_spread o (47 ∷ 62 ∷ more))
-    ∙ mark_of_front f o.name (flat_map attribute_written o.attributes ++ (o.gap ++ (47 ∷ 62 ∷ more))) i.is.name
-    ∙ ap (λ (bytes : List ℕ). front_of f bytes >>= λ x. closing x.0 x.1) (sym (opening_spread o (47 ∷ 62 ∷ more)))
-    ∙ rw (front_again f o 47 (62 ∷ more) i refl refl) refl
-mark_again f (End name gap) more i =
-    ap (end_of f) (append_assoc name (gap ++ 62 ∷ []) more ∙ ap (λ (z : List ℕ). name ++ z) (append_assoc gap (62 ∷ []) more))
+pub mark_again : (m : written.Mark) (more : List ℕ) → IsMark m → mark_of (drop 1 (mark_written m ++ more)) ≡ Some (said m, more)
+mark_again (Start o) more i =
+    ap mark_of (append_assoc (opening_written o) (62 ∷ []) more ∙ opening_spread o (62 ∷ more))
+    ∙ mark_of_opening o.name (flat_map attribute_written o.attributes ++ (o.gap ++ (62 ∷ more))) i.name
+    ∙ ap opening_of (sym (opening_spread o (62 ∷ more)))
+    ∙ rw (front_again o 62 more i refl refl) refl
+mark_again (Empty o) more i =
+    ap mark_of (append_assoc (opening_written o) (47 ∷ 62 ∷ []) more ∙ opening_spread o (47 ∷ 62 ∷ more))
+    ∙ mark_of_opening o.name (flat_map attribute_written o.attributes ++ (o.gap ++ (47 ∷ 62 ∷ more))) i.name
+    ∙ ap opening_of (sym (opening_spread o (47 ∷ 62 ∷ more)))
+    ∙ rw (front_again o 47 (62 ∷ more) i refl refl) refl
+mark_again (End name gap) more i =
+    ap end_of (append_assoc name (gap ++ 62 ∷ []) more ∙ ap (λ (z : List ℕ). name ++ z) (append_assoc gap (62 ∷ []) more))
     ∙ rw (
-      name_again f name (gap ++ (62 ∷ more)) i.1 i.0 (begins_gap is_name_rest gap 62 more white_ends_name i.2 refl),
-      after_white_again gap (62 ∷ more) i.2 refl,
+      name_again name (gap ++ (62 ∷ more)) i.0 (begins_gap is_name_rest gap 62 more white_ends_name i.1 refl),
+      after_white_again gap (62 ∷ more) i.1 refl,
     ) refl
+
+mark_again (Instruction body) more i =
+    ap (aside_of instruction_end) (append_assoc body instruction_end more) ∙ rw (instruction_again body more i.0 i.1) refl
+mark_again (Comment body) more i =
+    ap (aside_of comment_end) (append_assoc body comment_end more) ∙ rw (comment_again body more i.0 i.1) refl

@@ -1,26 +1,34 @@
 -- What the marks of an element do to the stack of open elements, and what elements the stack gives.
-use Rattle.std.proofs.Common.{◌≡◌, ℕ, ◌+◌, ◌<◌, ◌≤◌, max, Bool, true, false, ◌&&◌, ◌||◌, List, [], ◌∷◌, ◌++◌, length, Option, Some, None, map, refl, ap, sym, ◌∙◌, subst, append_assoc, append-nil, arith, if◌then◌else◌}
+use Rattle.std.proofs.Common.{◌≡◌, ℕ, ◌+◌, ◌<◌, ◌≤◌, max, Bool, true, false, ◌&&◌, ◌||◌, List, [], ◌∷◌, ◌++◌, length, Option, Some, None, Result, Ok, Err, map, refl, ap, sym, ◌∙◌, subst, append_assoc, append-nil, arith, if◌then◌else◌}
 use Rattle.std.specs.Prelude.{is_none, nat_lt}
 use Rattle.std.proofs.lemmas.List.{map-append}
 use Rattle.std.proofs.lemmas.Bool.Decides.{nat_tests}
 use Rattle.std.proofs.lemmas.Slice.Eq.{bytes_eq-Decides}
-use Rattle.std.specs.List.{list_all}
+use Rattle.std.specs.List.{list_all, prefix_len}
 use Rattle.std.specs.Str.{bytes_eq}
 use Rattle.bt_script.specs.Identifiers.{is_white}
 use Rattle.bt_elements.specs.declared.element.Element.{Element, Element-F, roll-Element, fold-roll-Element, fold_out-Element, ind-Element}
+use Rattle.bt_elements.specs.declared.mark.Front.{Front}
+use Rattle.bt_elements.specs.declared.mark.Mark.{Mark as ReadMark}
 use Rattle.bt_elements.specs.declared.mark.Mark.TheVariants as read
 use Rattle.bt_elements.specs.declared.nest.Open.{Open}
-use Rattle.bt_elements.specs.Marks.{Mark, Opening, Start, Empty, End, pairs_of}
-use Rattle.bt_elements.specs.Elements.{Tag, Begin, Ending, is_models, joined, tags_step, tags_of, greatest, depth_step, depth_of, Piece, piece_written, tags_of_mark, HaveTags}
-use Rattle.bt_elements.specs.Reading.{◌>>=◌, State, inside_of, may_stand, element_of, with_child, attach, opened, close, step}
-use Rattle.bt_elements.proofs.Fronts.{some_inj, bind_some, if_some}
+use Rattle.bt_elements.specs.declared.element.ElementFault.{ElementFault}
+use Rattle.bt_elements.specs.declared.element.ElementFault.TheVariants.{Unmatched, DoubleAttribute, StrayText, TooDeep}
+use Rattle.bt_elements.specs.Marks.{Mark, Opening, Start, Empty, End, Instruction, Comment, pairs_of, no_name_twice, is_single}
+use Rattle.bt_elements.specs.Elements.{Tag, Begin, Ending, is_models, joined, tags_step, tags_of, greatest, depth_step, depth_of, Piece, piece_written, tags_of_mark, inside_before, HaveTags}
+use Rattle.bt_elements.specs.Reading.{◌>=>◌, State, inside_of, may_stand, element_of, with_child, attach, opened, begun, close, step}
+use Rattle.bt_elements.proofs.Fronts.{some_inj}
+use Rattle.bt_elements.proofs.Outcomes.{ok_inj, bind_ok, if_ok}
 use Rattle.bt_elements.proofs.Marks.{said, front_said}
 
--- the state after the pieces, from this offset on
-abbrev pub run : ℕ → State → List Piece → Option State
-run at st [] = Some st
-run at st (p ∷ ps) =
-    if may_stand st p.text then (step st (at + length p.text) (said p.mark) >>= λ next. run (at + length (piece_written p)) next ps) else None
+-- the state after one piece, from this offset on
+abbrev pub piece_step : ℕ → State → Piece → Result State ElementFault
+piece_step at st p = if may_stand st p.text then step st (at + length p.text) (said p.mark) else Err (StrayText (at + prefix_len is_white p.text))
+
+-- the state after the pieces
+abbrev pub run : ℕ → State → List Piece → Result State ElementFault
+run at st [] = Ok st
+run at st (p ∷ ps) = piece_step at st p >=> λ next. run (at + length (piece_written p)) next ps
 
 abbrev pub within : List Open → State
 within stack = record { stack = stack; done = None }
@@ -92,18 +100,41 @@ few_from_test n h = grind (arith, nat_tests)
 test_from_few : (n : ℕ) → n < 258 → nat_lt n 258 ≡ true
 test_from_few n h = grind (arith, nat_tests)
 
+none_from : {A : Type 0} (o : Option A) → is_none o ≡ true → o ≡ None
+none_from None h = refl
+none_from (Some x) h = absurd (cc)
+
 -- what a mark does to the tags so far
 abbrev Steps : List Open → Option Element → ℕ → Mark → State → Type 0
 Steps stack done place m next =
     IsState next.done next.stack × (so_far next.done next.stack ≡ so_far done stack ++ tags_of_mark (inside_of stack) place m)
 
+-- what is known of an element that may begin
+record MayBegin (stack : List Open) (done : Option Element) (attributes : List (List ℕ × List ℕ)) : Type 0 where
+  none : done ≡ None
+  few : nat_lt (length stack) 258 ≡ true
+  single : no_name_twice attributes ≡ true
+
+begun_found : (stack : List Open) (done : Option Element) (place : ℕ) (o : Front) (x : Open) → begun (record { stack = stack; done = done }) place o ≡ Ok x →
+    MayBegin stack done o.attributes × (opened stack place o ≡ x)
+begun_found stack done place o x h =
+    let deep = if nat_lt (length stack) 258 then Ok (opened stack place o) else Err (TooDeep place) in
+    let single = if_ok (no_name_twice o.attributes) (if is_none done then deep else Err (Unmatched place)) (DoubleAttribute place) x h in
+    let open_ = if_ok (is_none done) deep (Unmatched place) x single.1 in
+    let few = if_ok (nat_lt (length stack) 258) (Ok (opened stack place o)) (TooDeep place) x open_.1 in
+    (record { none = none_from done open_.0; few = few.0; single = single.0 }, ok_inj (opened stack place o) x few.1)
+
 begin_good : (stack : List Open) (done : Option Element) (place : ℕ) (o : Opening) (next : State) → IsState done stack →
-    step (record { stack = stack; done = done }) place (read.Start (front_said o)) ≡ Some next → Steps stack done place (Start o) next
-begin_good stack (Some e) place o next good h = absurd (cc)
+    step (record { stack = stack; done = done }) place (read.Start (front_said o)) ≡ Ok next → Steps stack done place (Start o) next
+begin_good stack (Some e) place o next good h =
+    let x = bind_ok (begun (record { stack = stack; done = Some e }) place (front_said o)) (λ (x : Open). Ok (within (x ∷ stack))) next h in
+    let found = begun_found stack (Some e) place (front_said o) x.0 x.1 in
+    absurd (let k = found.0.none in cc)
 begin_good stack None place o next good h =
-    let t = if_some (nat_lt (length stack) 258) (Some (within (opened stack place (front_said o) ∷ stack))) next h in
-    let is : within (opened stack place (front_said o) ∷ stack) ≡ next = some_inj (within (opened stack place (front_said o) ∷ stack)) next t.1 in
-    subst (Steps stack None place (Start o)) is ((refl, omega (arith, few_from_test (length stack) t.0), good), refl)
+    let x = bind_ok (begun (within stack) place (front_said o)) (λ (x : Open). Ok (within (x ∷ stack))) next h in
+    let found = begun_found stack None place (front_said o) x.0 x.1 in
+    let is : within (opened stack place (front_said o) ∷ stack) ≡ next = ap (λ (z : Open). within (z ∷ stack)) found.1 ∙ ok_inj (within (x.0 ∷ stack)) next x.2 in
+    subst (Steps stack None place (Start o)) is ((refl, omega (arith, few_from_test (length stack) found.0.few), good), refl)
 
 empty_tags : (stack : List Open) (place : ℕ) (o : Opening) → tags_of (element_of (opened stack place (front_said o))) (inside_of stack) ≡ tags_of_mark (inside_of stack) place (Empty o)
 empty_tags stack place o = tags_of-roll (record { name = o.name; attributes = pairs_of o.attributes; children = []; place = place }) (inside_of stack)
@@ -112,13 +143,17 @@ empty_depth : (stack : List Open) (place : ℕ) (o : Opening) → depth_of (elem
 empty_depth stack place o = depth_of-roll (record { name = o.name; attributes = pairs_of o.attributes; children = []; place = place })
 
 empty_good : (stack : List Open) (done : Option Element) (place : ℕ) (o : Opening) (next : State) → IsState done stack →
-    step (record { stack = stack; done = done }) place (read.Empty (front_said o)) ≡ Some next → Steps stack done place (Empty o) next
-empty_good stack (Some e) place o next good h = absurd (cc)
+    step (record { stack = stack; done = done }) place (read.Empty (front_said o)) ≡ Ok next → Steps stack done place (Empty o) next
+empty_good stack (Some e) place o next good h =
+    let x = bind_ok (begun (record { stack = stack; done = Some e }) place (front_said o)) (λ (x : Open). Ok (attach (element_of x) stack)) next h in
+    let found = begun_found stack (Some e) place (front_said o) x.0 x.1 in
+    absurd (let k = found.0.none in cc)
 empty_good stack None place o next good h =
+    let x = bind_ok (begun (within stack) place (front_said o)) (λ (x : Open). Ok (attach (element_of x) stack)) next h in
+    let found = begun_found stack None place (front_said o) x.0 x.1 in
     let e = element_of (opened stack place (front_said o)) in
-    let t = if_some (nat_lt (length stack) 258) (Some (attach e stack)) next h in
-    let is : attach e stack ≡ next = some_inj (attach e stack) next t.1 in
-    let one = attach_good e stack good (omega (arith, few_from_test (length stack) t.0, empty_depth stack place o)) in
+    let is : attach e stack ≡ next = ap (λ (z : Open). attach (element_of z) stack) found.1 ∙ ok_inj (attach (element_of x.0) stack) next x.2 in
+    let one = attach_good e stack good (omega (arith, few_from_test (length stack) found.0.few, empty_depth stack place o)) in
     subst (Steps stack None place (Empty o)) is (one.0, one.1 ∙ ap (λ (z : List Tag). open_tags stack ++ z) (empty_tags stack place o))
 
 same_bytes : (a b : List ℕ) → bytes_eq a b ≡ true → a ≡ b
@@ -131,12 +166,12 @@ cons_not_nil : (o : Open) (os : List Open) → o ∷ os ≡ [] → ⊥
 cons_not_nil o os h = cc
 
 end_good : (stack : List Open) (done : Option Element) (place : ℕ) (name gap : List ℕ) (next : State) → IsState done stack →
-    close name stack ≡ Some next → Steps stack done place (End name gap) next
+    close place name stack ≡ Ok next → Steps stack done place (End name gap) next
 end_good [] d place name gap next good h = absurd (cc)
 end_good (o ∷ os) (Some e) place name gap next good h = absurd (cons_not_nil o os good.0)
 end_good (o ∷ os) None place name gap next good h =
-    let t = if_some (bytes_eq o.name name) (Some (attach (element_of o) os)) next h in
-    let is : attach (element_of o) os ≡ next = some_inj (attach (element_of o) os) next t.1 in
+    let t = if_ok (bytes_eq o.name name) (Ok (attach (element_of o) os)) (Unmatched place) next h in
+    let is : attach (element_of o) os ≡ next = ok_inj (attach (element_of o) os) next t.1 in
     let x : Element-F Element = record { name = o.name; attributes = o.attributes; children = o.children; place = o.place } in
     let one = attach_good (element_of o) os good.2 (omega (arith, good.1, depth_of-roll x)) in
     let front = Begin (inside_of os) o.place o.name o.attributes in
@@ -148,11 +183,32 @@ end_good (o ∷ os) None place name gap next good h =
           ∙ sym (append_assoc (open_tags os) (front ∷ tags_of_all o.children o.inside) (Ending o.inside name ∷ [])),
     )
 
-step_good : (stack : List Open) (done : Option Element) (place : ℕ) (m : Mark) (next : State) → IsState done stack →
-    step (record { stack = stack; done = done }) place (said m) ≡ Some next → Steps stack done place m next
+aside_good : (stack : List Open) (done : Option Element) (place : ℕ) (m : Mark) (next : State) → tags_of_mark (inside_of stack) place m ≡ [] → IsState done stack →
+    ◌≡◌ {A = Result State ElementFault} (Ok (record { stack = stack; done = done })) (Ok next) → Steps stack done place m next
+aside_good stack done place m next none good h =
+    subst (Steps stack done place m) (ok_inj (record { stack = stack; done = done }) next h)
+    (good, sym (ap (λ (z : List Tag). so_far done stack ++ z) none ∙ append-nil (so_far done stack)))
+
+pub step_good : (stack : List Open) (done : Option Element) (place : ℕ) (m : Mark) (next : State) → IsState done stack →
+    step (record { stack = stack; done = done }) place (said m) ≡ Ok next → Steps stack done place m next
 step_good stack done place (Start o) next good h = begin_good stack done place o next good h
 step_good stack done place (Empty o) next good h = empty_good stack done place o next good h
 step_good stack done place (End name gap) next good h = end_good stack done place name gap next good h
+step_good stack done place (Instruction body) next good h = aside_good stack done place (Instruction body) next refl good h
+step_good stack done place (Comment body) next good h = aside_good stack done place (Comment body) next refl good h
+
+-- a mark that is taken has no attribute's name twice
+step_single : (stack : List Open) (done : Option Element) (place : ℕ) (m : Mark) (next : State) →
+    step (record { stack = stack; done = done }) place (said m) ≡ Ok next → is_single m ≡ true
+step_single stack done place (Start o) next h =
+    let x = bind_ok (begun (record { stack = stack; done = done }) place (front_said o)) (λ (x : Open). Ok (within (x ∷ stack))) next h in
+    (begun_found stack done place (front_said o) x.0 x.1).0.single
+step_single stack done place (Empty o) next h =
+    let x = bind_ok (begun (record { stack = stack; done = done }) place (front_said o)) (λ (x : Open). Ok (attach (element_of x) stack)) next h in
+    (begun_found stack done place (front_said o) x.0 x.1).0.single
+step_single stack d place (End name gap) next h = refl
+step_single stack d place (Instruction body) next h = refl
+step_single stack d place (Comment body) next h = refl
 
 weaker : (a b c : Bool) → (a && b || c) ≡ true → (b || c) ≡ true
 weaker true b c h = h
@@ -165,84 +221,121 @@ done_some (Some d) stack e good h =
     let is : d ≡ e = some_inj d e h in
     (ap (λ (z : Element). tags_of z false) is, subst (λ (z : Element). depth_of z ≤ 258) is good.1)
 
+no_stack : (done : Option Element) (stack : List Open) (e : Element) → IsState done stack → done ≡ Some e → false ≡ inside_of stack
+no_stack None stack e good h = absurd (cc)
+no_stack (Some d) stack e good h = sym (ap inside_of good.0)
+
+-- the next tags stand where the stack says
+before_mark : (st next : State) (place : ℕ) (m : Mark) (ts : List Tag) → step st place (said m) ≡ Ok next → inside_before ts ≡ inside_of next.stack →
+    inside_before (tags_of_mark (inside_of st.stack) place m ++ ts) ≡ inside_of st.stack
+before_mark st next place (Start o) ts h e = refl
+before_mark st next place (Empty o) ts h e = refl
+before_mark st next place (End name gap) ts h e = refl
+before_mark st next place (Instruction body) ts h e = e ∙ ap (λ (z : State). inside_of z.stack) (sym (ok_inj st next h))
+before_mark st next place (Comment body) ts h e = e ∙ ap (λ (z : State). inside_of z.stack) (sym (ok_inj st next h))
+
+-- what pieces that were run are: they have tags, which spell the element
+pub record RunFound (at : ℕ) (stack : List Open) (done : Option Element) (ps : List Piece) (e : Element) : Type 0 where
+  pub tags : List Tag
+  pub have : HaveTags at ps tags
+  pub inside : inside_before tags ≡ inside_of stack
+  pub spell : so_far done stack ++ tags ≡ tags_of e false
+  pub deep : depth_of e ≤ 258
+
 -- what the pieces give is what their tags spell
-pub run_good : (at : ℕ) (stack : List Open) (done : Option Element) (ps : List Piece) (e : Element) → IsState done stack →
-    (run at (record { stack = stack; done = done }) ps >>= λ st. st.done) ≡ Some e →
-    (ts : List Tag) × HaveTags at ps ts × (so_far done stack ++ ts ≡ tags_of e false) × (depth_of e ≤ 258)
-run_good at stack done [] e good h =
-    let d = done_some done stack e good h in
-    ([], refl, append-nil (so_far done stack) ∙ d.0, d.1)
-run_good at stack done (p ∷ ps) e good h =
+pub run_good : (at : ℕ) (stack : List Open) (done : Option Element) (ps : List Piece) (last : State) (e : Element) → IsState done stack →
+    run at (record { stack = stack; done = done }) ps ≡ Ok last → last.done ≡ Some e → RunFound at stack done ps e
+run_good at stack done [] last e good h is =
+    let same : done ≡ Some e = ap (λ (z : State). z.done) (ok_inj (record { stack = stack; done = done }) last h) ∙ is in
+    let d = done_some done stack e good same in
+    record { tags = []; have = refl; inside = no_stack done stack e good same; spell = append-nil (so_far done stack) ∙ d.0; deep = d.1 }
+run_good at stack done (p ∷ ps) last e good h is =
     let st : State = record { stack = stack; done = done } in
     let place = at + length p.text in
     let end = at + length (piece_written p) in
-    let all = bind_some (if may_stand st p.text then (step st place (said p.mark) >>= λ next. run end next ps) else None) (λ (x : State). x.done) e h in
-    let stands = if_some (may_stand st p.text) (step st place (said p.mark) >>= λ next. run end next ps) all.0 all.1 in
-    let one = bind_some (step st place (said p.mark)) (λ (next : State). run end next ps) all.0 stands.1 in
-    let good_one = step_good stack done place p.mark one.0 good one.1 in
-    let rest = run_good end one.0.stack one.0.done ps e good_one.0 (ap (λ (o : Option State). o >>= λ x. x.done) one.2 ∙ all.2) in (
-      tags_of_mark (inside_of stack) place p.mark ++ rest.0,
-      (inside_of stack, rest.0, weaker (is_none done) (inside_of stack) (list_all is_white p.text) stands.0, refl, rest.1),
-      sym (append_assoc (so_far done stack) (tags_of_mark (inside_of stack) place p.mark) rest.0) ∙ ap (λ (z : List Tag). z ++ rest.0) (sym good_one.1) ∙ rest.2,
-      rest.3,
-    )
+    let all = bind_ok (piece_step at st p) (λ (next : State). run end next ps) last h in
+    let stands = if_ok (may_stand st p.text) (step st place (said p.mark)) (StrayText (at + prefix_len is_white p.text)) all.0 all.1 in
+    let good_one = step_good stack done place p.mark all.0 good stands.1 in
+    let rest = run_good end all.0.stack all.0.done ps last e good_one.0 all.2 is in
+    let tags = tags_of_mark (inside_of stack) place p.mark ++ rest.tags in
+    let inside : inside_before tags ≡ inside_of stack = before_mark st all.0 place p.mark rest.tags stands.1 rest.inside in
+    record {
+      tags = tags;
+      have = (
+        rest.tags,
+        ap (λ (b : Bool). b || list_all is_white p.text) inside ∙ weaker (is_none done) (inside_of stack) (list_all is_white p.text) stands.0,
+        step_single stack done place p.mark all.0 stands.1,
+        ap (λ (b : Bool). tags_of_mark b place p.mark ++ rest.tags) (sym inside),
+        rest.have,
+      );
+      inside = inside;
+      spell =
+          sym (append_assoc (so_far done stack) (tags_of_mark (inside_of stack) place p.mark) rest.tags) ∙ ap (λ (z : List Tag). z ++ rest.tags) (sym good_one.1) ∙ rest.spell;
+      deep = rest.deep;
+    }
 
 -- no tags are left of no pieces
 has_piece : (at : ℕ) (t : Tag) (ts : List Tag) → HaveTags at [] (t ∷ ts) → ⊥
 has_piece at t ts h = cc
 
-no_tags : (inside : Bool) (place : ℕ) (m : Mark) (more : List Tag) → [] ≡ tags_of_mark inside place m ++ more → ⊥
-no_tags inside place (Start o) more h = cc
-no_tags inside place (Empty o) more h = cc
-no_tags inside place (End name gap) more h = cc
-
-pub no_piece : (at : ℕ) (p : Piece) (ps : List Piece) → HaveTags at (p ∷ ps) [] → ⊥
-no_piece at p ps h = no_tags h.0 (at + length p.text) p.mark h.1 h.3
-
--- the mark whose tags begin with a beginning
+-- the mark whose tags begin with a beginning, or that has none
 first_is : {P : Type 0} (b : Bool) (place : ℕ) (name : List ℕ) (attributes : List (List ℕ × List ℕ)) (rest : List Tag)
-    (inside : Bool) (at : ℕ) (m : Mark) (more : List Tag) → Begin b place name attributes ∷ rest ≡ tags_of_mark inside at m ++ more →
-    ((o : Opening) → m ≡ Start o → b ≡ inside → place ≡ at → name ≡ o.name → attributes ≡ pairs_of o.attributes → rest ≡ more → P) →
-    ((o : Opening) → m ≡ Empty o → b ≡ inside → place ≡ at → name ≡ o.name → attributes ≡ pairs_of o.attributes → rest ≡ Ending (inside || is_models o.name) o.name ∷ more → P) → P
-first_is b place name attributes rest inside at (Start o) more h p q = p o refl (cc) (cc) (cc) (cc) (cc)
-first_is b place name attributes rest inside at (Empty o) more h p q = q o refl (cc) (cc) (cc) (cc) (cc)
-first_is b place name attributes rest inside at (End n gap) more h p q = absurd (cc)
+    (at : ℕ) (m : Mark) (more : List Tag) → Begin b place name attributes ∷ rest ≡ tags_of_mark b at m ++ more →
+    ((o : Opening) → m ≡ Start o → place ≡ at → name ≡ o.name → attributes ≡ pairs_of o.attributes → rest ≡ more → P) →
+    ((o : Opening) → m ≡ Empty o → place ≡ at → name ≡ o.name → attributes ≡ pairs_of o.attributes → rest ≡ Ending (b || is_models o.name) o.name ∷ more → P) →
+    (said m ≡ read.Aside → Begin b place name attributes ∷ rest ≡ more → P) → P
+first_is b place name attributes rest at (Start o) more h p q r = p o refl (cc) (cc) (cc) (cc)
+first_is b place name attributes rest at (Empty o) more h p q r = q o refl (cc) (cc) (cc) (cc)
+first_is b place name attributes rest at (End n gap) more h p q r = absurd (cc)
+first_is b place name attributes rest at (Instruction body) more h p q r = r refl h
+first_is b place name attributes rest at (Comment body) more h p q r = r refl h
 
--- the mark whose tags begin with an ending
-last_is : {P : Type 0} (b : Bool) (name : List ℕ) (rest : List Tag) (inside : Bool) (at : ℕ) (m : Mark) (more : List Tag) →
-    Ending b name ∷ rest ≡ tags_of_mark inside at m ++ more → ((gap : List ℕ) → m ≡ End name gap → b ≡ inside → rest ≡ more → P) → P
-last_is b name rest inside at (Start o) more h p = absurd (cc)
-last_is b name rest inside at (Empty o) more h p = absurd (cc)
-last_is b name rest inside at (End n gap) more h p = p gap (let e : n ≡ name = cc in ap (λ (z : List ℕ). End z gap) e) (cc) (cc)
+-- the mark whose tags begin with an ending, or that has none
+last_is : {P : Type 0} (b : Bool) (name : List ℕ) (rest : List Tag) (at : ℕ) (m : Mark) (more : List Tag) →
+    Ending b name ∷ rest ≡ tags_of_mark b at m ++ more → ((gap : List ℕ) → m ≡ End name gap → rest ≡ more → P) →
+    (said m ≡ read.Aside → Ending b name ∷ rest ≡ more → P) → P
+last_is b name rest at (Start o) more h p r = absurd (cc)
+last_is b name rest at (Empty o) more h p r = absurd (cc)
+last_is b name rest at (End n gap) more h p r = p gap (let e : n ≡ name = cc in ap (λ (z : List ℕ). End z gap) e) (cc)
+last_is b name rest at (Instruction body) more h p r = r refl h
+last_is b name rest at (Comment body) more h p r = r refl h
 
 -- the pieces of some tags are run, and others are left
 abbrev pub Runs : ℕ → State → List Piece → State → List Tag → Type 0
 Runs at st ps next more = (end : ℕ) × (rest : List Piece) × HaveTags end rest more × (run at st ps ≡ run end next rest)
 
-stands : (inside : Bool) (text : List ℕ) (stack : List Open) → inside_of stack ≡ inside → (inside || list_all is_white text) ≡ true → may_stand (within stack) text ≡ true
-stands inside text stack e h = ap (λ (b : Bool). b || list_all is_white text) e ∙ h
-
 -- one piece is run
-run_one : (at : ℕ) (stack : List Open) (p : Piece) (ps : List Piece) (inside : Bool) (m : Mark) (next : State) → inside_of stack ≡ inside → (inside || list_all is_white p.text) ≡ true → p.mark ≡ m →
-    step (within stack) (at + length p.text) (said m) ≡ Some next → run at (within stack) (p ∷ ps) ≡ run (at + length (piece_written p)) next ps
-run_one at stack p ps inside m next e h is s =
-    let end = at + length (piece_written p) in
-    let taken : step (within stack) (at + length p.text) (said p.mark) ≡ Some next = ap (λ (z : Mark). step (within stack) (at + length p.text) (said z)) is ∙ s in
-    ap (λ (b : Bool). if b then (step (within stack) (at + length p.text) (said p.mark) >>= λ x. run end x ps) else None) (stands inside p.text stack e h)
-    ∙ ap (λ (o : Option State). o >>= λ x. run end x ps) taken
+pub run_one : (at : ℕ) (st : State) (p : Piece) (ps : List Piece) (m : ReadMark) (next : State) → may_stand st p.text ≡ true → said p.mark ≡ m →
+    step st (at + length p.text) m ≡ Ok next → run at st (p ∷ ps) ≡ run (at + length (piece_written p)) next ps
+run_one at st p ps m next stands is s =
+    ap (λ (r : Result State ElementFault). r >=> λ x. run (at + length (piece_written p)) x ps)
+    (ap (λ (b : Bool). if b then step st (at + length p.text) (said p.mark) else Err (StrayText (at + prefix_len is_white p.text))) stands
+    ∙ ap (step st (at + length p.text)) is ∙ s)
+
+-- an instruction or a comment is read over
+pub run_aside : (at : ℕ) (st : State) (p : Piece) (ps : List Piece) → may_stand st p.text ≡ true → said p.mark ≡ read.Aside →
+    run at st (p ∷ ps) ≡ run (at + length (piece_written p)) st ps
+run_aside at st p ps stands is = run_one at st p ps read.Aside st stands is refl
+
+onward : (at end : ℕ) (st next : State) (ps rest : List Piece) (more : List Tag) → run at st ps ≡ run end st rest → Runs end st rest next more → Runs at st ps next more
+onward at end st next ps rest more e r = (r.0, r.1, r.2, e ∙ r.3)
 
 end_runs : (at : ℕ) (ps : List Piece) (more : List Tag) (o : Open) (os : List Open) → HaveTags at ps (Ending o.inside o.name ∷ more) →
     Runs at (within (o ∷ os)) ps (attach (element_of o) os) more
 end_runs at [] more o os h = absurd (has_piece at (Ending o.inside o.name) more h)
 end_runs at (p ∷ ps) more o os h =
-    last_is o.inside o.name more h.0 (at + length p.text) p.mark h.1 h.3
-    (λ gap is b rest. (
-      at + length (piece_written p),
+    let end = at + length (piece_written p) in
+    last_is o.inside o.name more (at + length p.text) p.mark h.0 h.3
+    (λ gap is rest. (
+      end,
       ps,
-      subst (HaveTags (at + length (piece_written p)) ps) (sym rest) h.4,
-      run_one at (o ∷ os) p ps h.0 (End o.name gap) (attach (element_of o) os) b h.2 is
-          (ap (λ (z : Bool). if z then Some (attach (element_of o) os) else None) (test_same_bytes o.name)),
+      subst (HaveTags end ps) (sym rest) h.4,
+      run_one at (within (o ∷ os)) p ps (read.End o.name) (attach (element_of o) os) h.1 (ap said is)
+          (ap (λ (z : Bool). if z then Ok (attach (element_of o) os) else Err (Unmatched (at + length p.text))) (test_same_bytes o.name)),
     ))
+    (λ is same.
+    onward at end (within (o ∷ os)) (attach (element_of o) os) (p ∷ ps) ps more (run_aside at (within (o ∷ os)) p ps h.1 is)
+    (end_runs end ps more o os (subst (HaveTags end ps) (sym same) h.4)))
 
 -- the tags of an element are run as the element
 abbrev pub Runs_of : Element → Type 0
@@ -285,25 +378,28 @@ parts y = record { name = y.name; attributes = y.attributes; children = bare y.c
 few_open : (n d : ℕ) → n + (1 + d) ≤ 258 → nat_lt n 258 ≡ true
 few_open n d h = test_from_few n (omega arith)
 
+may_begin : (stack : List Open) (place : ℕ) (o : Front) → no_name_twice o.attributes ≡ true → nat_lt (length stack) 258 ≡ true → begun (within stack) place o ≡ Ok (opened stack place o)
+may_begin stack place o single few = rw (single, few) refl
+
 start_runs : (y : Element-F ((e : Element) × Runs_of e)) (at : ℕ) (p : Piece) (ps : List Piece) (more : List Tag) (stack : List Open) (o : Opening) →
-    length stack + (1 + depth_of_all (bare y.children)) ≤ 258 → p.mark ≡ Start o → at + length p.text ≡ y.place → o.name ≡ y.name → pairs_of o.attributes ≡ y.attributes →
+    length stack + (1 + depth_of_all (bare y.children)) ≤ 258 → p.mark ≡ Start o → is_single p.mark ≡ true → at + length p.text ≡ y.place → o.name ≡ y.name → pairs_of o.attributes ≡ y.attributes →
     (inside_of stack || list_all is_white p.text) ≡ true →
     HaveTags (at + length (piece_written p)) ps ((tags_of_all (bare y.children) (inside_of stack || is_models y.name) ++ Ending (inside_of stack || is_models y.name) y.name ∷ []) ++ more) →
     Runs at (within stack) (p ∷ ps) (attach (roll-Element (parts y)) stack) more
-start_runs y at p ps more stack o deep is place name attributes text h =
+start_runs y at p ps more stack o deep is single place name attributes text h =
     let below = inside_of stack || is_models y.name in
     let first : Open = record { name = y.name; attributes = y.attributes; children = []; place = y.place; inside = below } in
     let is_first : opened stack (at + length p.text) (front_said o) ≡ first =
     ap (λ (z : List ℕ). let x : Open = record { name = z; attributes = pairs_of o.attributes; children = []; place = at + length p.text; inside = inside_of stack || is_models z } in x) name
     ∙ ap (λ (z : List (List ℕ × List ℕ)). let x : Open = record { name = y.name; attributes = z; children = []; place = at + length p.text; inside = below } in x) attributes
     ∙ ap (λ (z : ℕ). let x : Open = record { name = y.name; attributes = y.attributes; children = []; place = z; inside = below } in x) place in
-    let taken : step (within stack) (at + length p.text) (said (Start o)) ≡ Some (within (first ∷ stack)) =
-    ap (λ (b : Bool). if b then Some (within (opened stack (at + length p.text) (front_said o) ∷ stack)) else None) (few_open (length stack) (depth_of_all (bare y.children)) deep)
-    ∙ ap (λ (z : Open). Some (within (z ∷ stack))) is_first in
+    let begins = may_begin stack (at + length p.text) (front_said o) (sym (ap is_single is) ∙ single) (few_open (length stack) (depth_of_all (bare y.children)) deep) in
+    let taken : step (within stack) (at + length p.text) (read.Start (front_said o)) ≡ Ok (within (first ∷ stack)) =
+    ap (λ (r : Result Open ElementFault). r >=> λ x. Ok (within (x ∷ stack))) begins ∙ ap (λ (z : Open). Ok (within (z ∷ stack))) is_first in
     let tags = subst (HaveTags (at + length (piece_written p)) ps) (append_assoc (tags_of_all (bare y.children) below) (Ending below y.name ∷ []) more) h in
     let inner = children_run y.children (at + length (piece_written p)) ps (Ending below y.name ∷ more) first stack tags deep in
     let last = end_runs inner.0 inner.1 more (with_children first (bare y.children)) stack inner.2 in
-    (last.0, last.1, last.2, run_one at stack p ps (inside_of stack) (Start o) (within (first ∷ stack)) refl text is taken ∙ inner.3 ∙ last.3)
+    (last.0, last.1, last.2, run_one at (within stack) p ps (read.Start (front_said o)) (within (first ∷ stack)) text (ap said is) taken ∙ inner.3 ∙ last.3)
 
 no_children : (es : List ((e : Element) × Runs_of e)) (b : Bool) (t : Tag) (more : List Tag) (c : Bool) (name : List ℕ) (rest : List Tag) →
     (tags_of_all (bare es) b ++ t ∷ []) ++ more ≡ Ending c name ∷ rest → (bare es ≡ []) × (t ∷ more ≡ Ending c name ∷ rest)
@@ -314,12 +410,12 @@ no_children (e ∷ es) b t more c name rest h =
     ∙ ap (λ (z : List Tag). z ++ more) (sym (append_assoc (tags_of e.0 b) (tags_of_all (bare es) b) (t ∷ []))) ∙ h))
 
 empty_runs : (y : Element-F ((e : Element) × Runs_of e)) (at : ℕ) (p : Piece) (ps : List Piece) (more left : List Tag) (stack : List Open) (o : Opening) →
-    length stack + (1 + depth_of_all (bare y.children)) ≤ 258 → p.mark ≡ Empty o → at + length p.text ≡ y.place → o.name ≡ y.name → pairs_of o.attributes ≡ y.attributes →
+    length stack + (1 + depth_of_all (bare y.children)) ≤ 258 → p.mark ≡ Empty o → is_single p.mark ≡ true → at + length p.text ≡ y.place → o.name ≡ y.name → pairs_of o.attributes ≡ y.attributes →
     (inside_of stack || list_all is_white p.text) ≡ true →
     (tags_of_all (bare y.children) (inside_of stack || is_models y.name) ++ Ending (inside_of stack || is_models y.name) y.name ∷ []) ++ more ≡ Ending (inside_of stack || is_models o.name) o.name ∷ left →
     HaveTags (at + length (piece_written p)) ps left →
     Runs at (within stack) (p ∷ ps) (attach (roll-Element (parts y)) stack) more
-empty_runs y at p ps more left stack o deep is place name attributes text tags h =
+empty_runs y at p ps more left stack o deep is single place name attributes text tags h =
     let below = inside_of stack || is_models y.name in
     let none = no_children y.children below (Ending below y.name) more (inside_of stack || is_models o.name) o.name left tags in
     let left_is : more ≡ left = let e = none.1 in cc in
@@ -328,13 +424,13 @@ empty_runs y at p ps more left stack o deep is place name attributes text tags h
     ∙ ap (λ (z : List (List ℕ × List ℕ)). roll-Element (record { name = y.name; attributes = z; children = []; place = at + length p.text })) attributes
     ∙ ap (λ (z : ℕ). roll-Element (record { name = y.name; attributes = y.attributes; children = []; place = z })) place
     ∙ ap (λ (z : List Element). roll-Element (record { name = y.name; attributes = y.attributes; children = z; place = y.place })) (sym none.0) in
-    let taken : step (within stack) (at + length p.text) (said (Empty o)) ≡ Some (attach (roll-Element (parts y)) stack) =
-    ap (λ (b : Bool). if b then Some (attach (element_of (opened stack (at + length p.text) (front_said o))) stack) else None) (few_open (length stack) (depth_of_all (bare y.children)) deep)
-    ∙ ap (λ (z : Element). Some (attach z stack)) made in (
+    let begins = may_begin stack (at + length p.text) (front_said o) (sym (ap is_single is) ∙ single) (few_open (length stack) (depth_of_all (bare y.children)) deep) in
+    let taken : step (within stack) (at + length p.text) (read.Empty (front_said o)) ≡ Ok (attach (roll-Element (parts y)) stack) =
+    ap (λ (r : Result Open ElementFault). r >=> λ x. Ok (attach (element_of x) stack)) begins ∙ ap (λ (z : Element). Ok (attach z stack)) made in (
       at + length (piece_written p),
       ps,
       subst (HaveTags (at + length (piece_written p)) ps) (sym left_is) h,
-      run_one at stack p ps (inside_of stack) (Empty o) (attach (roll-Element (parts y)) stack) refl text is taken,
+      run_one at (within stack) p ps (read.Empty (front_said o)) (attach (roll-Element (parts y)) stack) text (ap said is) taken,
     )
 
 pieces_run : (y : Element-F ((e : Element) × Runs_of e)) (at : ℕ) (ps : List Piece) (more : List Tag) (stack : List Open) →
@@ -344,13 +440,15 @@ pieces_run y at [] more stack h deep = absurd (has_piece at (Begin (inside_of st
 pieces_run y at (p ∷ ps) more stack h deep =
     let below = inside_of stack || is_models y.name in
     let rest = (tags_of_all (bare y.children) below ++ Ending below y.name ∷ []) ++ more in
-    first_is (inside_of stack) y.place y.name y.attributes rest h.0 (at + length p.text) p.mark h.1 h.3
-    (λ o is b place name attributes more_is.
-    start_runs y at p ps more stack o deep is (sym place) (sym name) (sym attributes) (subst (λ (z : Bool). (z || list_all is_white p.text) ≡ true) (sym b) h.2)
-    (subst (HaveTags (at + length (piece_written p)) ps) (sym more_is) h.4))
-    (λ o is b place name attributes more_is.
-    empty_runs y at p ps more h.1 stack o deep is (sym place) (sym name) (sym attributes) (subst (λ (z : Bool). (z || list_all is_white p.text) ≡ true) (sym b) h.2)
-    (more_is ∙ ap (λ (z : Bool). Ending (z || is_models o.name) o.name ∷ h.1) (sym b)) h.4)
+    let end = at + length (piece_written p) in
+    first_is (inside_of stack) y.place y.name y.attributes rest (at + length p.text) p.mark h.0 h.3
+    (λ o is place name attributes more_is.
+    start_runs y at p ps more stack o deep is h.2 (sym place) (sym name) (sym attributes) h.1 (subst (HaveTags end ps) (sym more_is) h.4))
+    (λ o is place name attributes more_is.
+    empty_runs y at p ps more h.0 stack o deep is h.2 (sym place) (sym name) (sym attributes) h.1 more_is h.4)
+    (λ is same.
+    onward at end (within stack) (attach (roll-Element (parts y)) stack) (p ∷ ps) ps more (run_aside at (within stack) p ps h.1 is)
+    (pieces_run y end ps more stack (subst (HaveTags end ps) (sym same) h.4) deep))
 
 whole_runs : (y : Element-F ((e : Element) × Runs_of e)) → Runs_of (roll-Element (parts y))
 whole_runs y at ps more stack h deep =

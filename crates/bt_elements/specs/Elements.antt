@@ -1,13 +1,11 @@
 -- What a tree file spells: a list of marks with text between them, which nest to an element.
-use Rattle.std.specs.Prelude.{◌≡◌, Result, Ok, Err, ℕ, ◌+◌, ◌≤◌, max, Bool, false, not, ◌==◌, ◌&&◌, ◌||◌, nat_le, List, [], ◌∷◌, ◌++◌, map, length, codes, IsTrue}
+use Rattle.std.specs.Prelude.{◌≡◌, ℕ, ◌+◌, ◌≤◌, max, Bool, false, not, ◌==◌, ◌||◌, List, [], ◌∷◌, ◌++◌, map, length, drop, codes, IsTrue, if◌then◌else◌}
 use Rattle.std.specs.List.{list_all, flat_map, AllByRecursion}
 use Rattle.std.specs.Str.{bytes_eq, IsUtf8}
-use Rattle.bt_script.specs.Identifiers.{is_white, is_identifier}
-use Rattle.bt_script.specs.declared.stop.Stop.{Stop}
-use Rattle.bt_script.specs.declared.stop.Stop.TheVariants as stop
-use Rattle.bt_elements.specs.declared.element.Unbuilt.{Unbuilt}
+use Rattle.bt_script.specs.Identifiers.{is_white}
 use Rattle.bt_elements.specs.declared.element.Element.{Element, Element-F, fold-Element}
-use Rattle.bt_elements.specs.Marks.{Attribute, Mark, Start, Empty, End, mark_written, pairs_of, IsMark}
+use Rattle.bt_elements.specs.References.{begins_with}
+use Rattle.bt_elements.specs.Marks.{Mark, Start, Empty, End, Instruction, Comment, mark_written, pairs_of, is_single, IsMark}
 
 -- Where an element begins and where it ends. Each says whether what stands right before it is content of an element
 -- named TreeNodesModel, or lies deeper in one.
@@ -56,6 +54,10 @@ pub record Piece : Type 0 where
 abbrev pub piece_written : Piece → List ℕ
 piece_written p = p.text ++ mark_written p.mark
 
+-- the bytes of pieces
+abbrev pub pieces_written : List Piece → List ℕ
+pieces_written = flat_map piece_written
+
 -- text holds no `<`
 abbrev pub is_text_byte : ℕ → Bool
 is_text_byte c = not (c == 60)
@@ -66,20 +68,35 @@ pub record IsPiece (p : Piece) : Type 0 where
   pub mark : IsMark p.mark
 
 -- The tags of a mark at a place, by whether the mark stands inside of models. An empty mark is a start and an end.
+-- Instructions and comments are read over.
 abbrev pub tags_of_mark : Bool → ℕ → Mark → List Tag
 tags_of_mark inside place (Start o) = Begin inside place o.name (pairs_of o.attributes) ∷ []
 tags_of_mark inside place (Empty o) =
     Begin inside place o.name (pairs_of o.attributes) ∷ Ending (inside || is_models o.name) o.name ∷ []
 tags_of_mark inside place (End name gap) = Ending inside name ∷ []
+tags_of_mark inside place (Instruction body) = []
+tags_of_mark inside place (Comment body) = []
 
--- These pieces, from this offset on, have these tags. Text is white space, or stands inside of models.
+-- whether what stands before these tags is inside of models
+abbrev pub inside_before : List Tag → Bool
+inside_before [] = false
+inside_before (Begin inside place name attributes ∷ tags) = inside
+inside_before (Ending inside name ∷ tags) = inside
+
+-- These pieces, from this offset on, have these tags. Text is white space, or stands inside of models, and no
+-- attribute's name occurs twice in a mark.
 abbrev pub HaveTags : ℕ → List Piece → List Tag → Type 0
 HaveTags at [] tags = tags ≡ []
 HaveTags at (p ∷ ps) tags =
-    (inside : Bool) × (more : List Tag)
-    × IsTrue (inside || list_all is_white p.text)
-    × (tags ≡ tags_of_mark inside (at + length p.text) p.mark ++ more)
+    (more : List Tag)
+    × IsTrue (inside_before tags || list_all is_white p.text)
+    × IsTrue (is_single p.mark)
+    × (tags ≡ tags_of_mark (inside_before tags) (at + length p.text) p.mark ++ more)
     × HaveTags (at + length (piece_written p)) ps more
+
+-- the length of the byte order mark at the beginning of a file, which is read over
+abbrev pub order_mark_len : List ℕ → ℕ
+order_mark_len bytes = if begins_with (0xEF ∷ 0xBB ∷ 0xBF ∷ []) bytes then 3 else 0
 
 -- The bytes are marks with text between them, and the marks nest to the element.
 pub record Spells (bytes : List ℕ) (e : Element) : Type 0 where
@@ -88,36 +105,10 @@ pub record Spells (bytes : List ℕ) (e : Element) : Type 0 where
   pub utf8 : IsUtf8 bytes
   pub valid : AllByRecursion IsPiece pieces
   pub blank : IsTrue (list_all is_white last)
-  pub written : bytes ≡ flat_map piece_written pieces ++ last
-  pub nested : HaveTags 0 pieces (tags_of e false)
+  pub written : drop (order_mark_len bytes) bytes ≡ pieces_written pieces ++ last
+  pub nested : HaveTags (order_mark_len bytes) pieces (tags_of e false)
   pub depth : depth_of e ≤ 258
 
--- printable ASCII and white space
-abbrev pub is_plain_byte : ℕ → Bool
-is_plain_byte c = nat_le 32 c && nat_le c 126 || is_white c
-
--- a value without `&`
-abbrev pub is_plain_value : List ℕ → Bool
-is_plain_value value = list_all (λ c. is_plain_byte c && not (c == 38)) value
-
--- an attribute with such a name and such a value
-abbrev pub is_plain_attribute : Attribute → Bool
-is_plain_attribute a = is_identifier a.name && is_plain_value a.value
-
--- a mark whose names are identifiers, and whose values have no `&`
-abbrev pub is_plain_mark : Mark → Bool
-is_plain_mark (Start o) = is_identifier o.name && list_all is_plain_attribute o.attributes
-is_plain_mark (Empty o) = is_identifier o.name && list_all is_plain_attribute o.attributes
-is_plain_mark (End name gap) = is_identifier name
-
--- The bytes spell the element in the plain form.
-pub record SpellsPlainly (bytes : List ℕ) (e : Element) : Type 0 where
-  pub spells : Spells bytes e
-  pub ascii : IsTrue (list_all is_plain_byte bytes)
-  pub plain : IsTrue (list_all (λ p. is_plain_mark p.mark) spells.pieces)
-
--- what an answer Unbuilt says
-abbrev pub WhenUnbuilt : {X : Type 0} → Result X (Stop Unbuilt) → Type 0 → Type 0
-WhenUnbuilt (Ok x) P = Unit {0}
-WhenUnbuilt (Err stop.NoMemory) P = Unit {0}
-WhenUnbuilt (Err (stop.Fault u)) P = P
+-- the element is what some tree file spells that is not too long
+abbrev pub IsValid : Element → Type 0
+IsValid e = (bytes : List ℕ) × (length bytes ≤ 1048576) × Spells bytes e

@@ -1,3 +1,5 @@
 pub mod Elements
+pub mod Faults
 pub mod Marks
 pub mod Reading
+pub mod References

@@ -1,43 +1,46 @@
 -- The reading of marks and of a file as functions on lists, for the contracts of private functions alone: what the scanner does.
-use Rattle.std.specs.Prelude.{◌≡◌, ℕ, zero, suc, ◌-◌, Bool, true, false, ◌==◌, ◌&&◌, ◌||◌, nat_lt, List, [], ◌∷◌, ◌++◌, length, take, drop, Option, Some, None, Result, Ok, Err, if◌then◌else◌, is_none, reverse}
+use Rattle.std.specs.Prelude.{◌≡◌, ℕ, zero, suc, ◌+◌, ◌-◌, Bool, false, not, ◌==◌, ◌&&◌, ◌||◌, nat_lt, List, [], ◌∷◌, ◌++◌, length, take, drop, Option, Some, None, Result, Ok, Err, if◌then◌else◌, is_none, reverse}
 use Rattle.std.specs.List.{prefix_len, list_all}
 use Rattle.std.specs.Option.{option_map}
 use Rattle.std.specs.Str.{bytes_eq}
-use Rattle.bt_script.specs.Identifiers.{is_white, is_identifier}
+use Rattle.bt_script.specs.Identifiers.{is_white}
 use Rattle.bt_script.specs.declared.stop.Stop.{Stop}
 use Rattle.bt_script.specs.declared.stop.Stop.TheVariants as stop
-use Rattle.bt_elements.specs.declared.element.Unbuilt.{Unbuilt}
+use Rattle.bt_elements.specs.declared.element.ElementFault.{ElementFault}
+use Rattle.bt_elements.specs.declared.element.ElementFault.TheVariants.{BadMark, Unmatched, DoubleAttribute, StrayText, TooDeep}
 use Rattle.bt_elements.specs.declared.element.Element.{Element, roll-Element}
 use Rattle.bt_elements.specs.declared.mark.Front.{Front}
 use Rattle.bt_elements.specs.declared.mark.Mark.{Mark}
-use Rattle.bt_elements.specs.declared.mark.Mark.TheVariants.{Start, Empty, End}
+use Rattle.bt_elements.specs.declared.mark.Mark.TheVariants.{Start, Empty, End, Aside}
+use Rattle.bt_elements.specs.declared.mark.NoMark.{NoMark}
 use Rattle.bt_elements.specs.declared.nest.Open.{Open}
 use Rattle.bt_elements.specs.declared.nest.Nest.{Nest}
-use Rattle.bt_elements.specs.Marks.{is_name, is_name_first, is_name_rest, is_value_byte, no_name_twice}
-use Rattle.bt_elements.specs.Elements.{is_text_byte, is_models, is_plain_value}
+use Rattle.bt_elements.specs.References.{begins_with, decoded}
+use Rattle.bt_elements.specs.Marks.{is_name_first, is_name_rest, is_quote, is_value_byte, instruction_end, comment_end, no_name_twice}
+use Rattle.bt_elements.specs.Elements.{is_text_byte, is_models, order_mark_len}
 
--- What a call gave, seen by view, is what reading gives, and a fault comes exactly where reading gives nothing. Want of
--- memory may come anywhere.
-abbrev pub GivesSeenBy : {X Y : Type 0} → (X → Y) → Result X (Stop Unbuilt) → Option Y → Type 0
-GivesSeenBy view (Ok x) said = said ≡ Some (view x)
-GivesSeenBy view (Err stop.NoMemory) said = Unit {0}
-GivesSeenBy view (Err (stop.Fault u)) said = said ≡ None
+-- What a scanner gave, seen by view, is what reading gives, and it finds no mark exactly where reading gives nothing.
+-- Want of memory may come anywhere.
+abbrev pub Scans : {X Y : Type 0} → (X → Y) → Result X (Stop NoMark) → Option Y → Type 0
+Scans view (Ok x) said = said ≡ Some (view x)
+Scans view (Err stop.NoMemory) said = Unit {0}
+Scans view (Err (stop.Fault none)) said = said ≡ None
 
--- which names and values are read
-pub record Form : Type 0 where
-  pub name : List ℕ → Bool
-  pub value : List ℕ → Bool
-
-abbrev pub plain : Form
-plain = record { name = is_identifier; value = is_plain_value }
-
-abbrev pub full : Form
-full = record { name = is_name; value = λ _. true }
+-- What a call gave, seen by view, is what reading gives, and so is its fault.
+abbrev pub GivesAs : {X Y F : Type 0} → (X → Y) → Result X (Stop F) → Result Y F → Type 0
+GivesAs view (Ok x) said = said ≡ Ok (view x)
+GivesAs view (Err stop.NoMemory) said = Unit {0}
+GivesAs view (Err (stop.Fault fault)) said = said ≡ Err fault
 
 infixl 10 ◌>>=◌
 abbrev pub ◌>>=◌ : {A B : Type 0} → Option A → (A → Option B) → Option B
 None >>= f = None
 (Some x) >>= f = f x
+
+infixl 10 ◌>=>◌
+abbrev pub ◌>=>◌ : {A B F : Type 0} → Result A F → (A → Result B F) → Result B F
+(Err fault) >=> f = Err fault
+(Ok x) >=> f = f x
 
 abbrev pub after_white : List ℕ → List ℕ
 after_white bytes = drop (prefix_len is_white bytes) bytes
@@ -52,41 +55,44 @@ abbrev pub behind : ℕ → List ℕ → Option (List ℕ)
 behind c [] = None
 behind c (b ∷ bs) = if b == c then Some bs else None
 
-abbrev pub name_of : Form → List ℕ → Option (List ℕ × List ℕ)
-name_of f bytes =
+abbrev pub name_of : List ℕ → Option (List ℕ × List ℕ)
+name_of bytes =
     let n = prefix_len is_name_rest bytes in
-    if f.name (take n bytes) then Some (take n bytes, drop n bytes) else None
+    if begins is_name_first bytes then Some (take n bytes, drop n bytes) else None
 
--- the value up to its ending quote
-abbrev pub value_of : Form → List ℕ → Option (List ℕ × List ℕ)
-value_of f bytes =
-    let n = prefix_len is_value_byte bytes in
-    if f.value (take n bytes) then option_map (λ rest. (take n bytes, rest)) (behind 34 (drop n bytes)) else None
+-- what a value says that stands behind this quote, and what follows it
+abbrev pub value_behind : ℕ → List ℕ → Option (List ℕ × List ℕ)
+value_behind quote bytes =
+    let n = prefix_len (is_value_byte quote) bytes in
+    option_map (λ rest. (decoded (take n bytes), rest)) (behind quote (drop n bytes))
 
-abbrev pub attribute_of : Form → List ℕ → Option ((List ℕ × List ℕ) × List ℕ)
-attribute_of f bytes =
-    name_of f bytes >>= λ name.
+abbrev pub value_of : List ℕ → Option (List ℕ × List ℕ)
+value_of [] = None
+value_of (c ∷ cs) = if is_quote c then value_behind c cs else None
+
+abbrev pub attribute_of : List ℕ → Option ((List ℕ × List ℕ) × List ℕ)
+attribute_of bytes =
+    name_of bytes >>= λ name.
     behind 61 (after_white name.1) >>= λ equal.
-    behind 34 (after_white equal) >>= λ quote.
-    value_of f quote >>= λ value.
+    value_of (after_white equal) >>= λ value.
     Some ((name.0, value.0), value.1)
 
 abbrev pub attribute_begins : List ℕ → Bool
 attribute_begins bytes = begins is_white bytes && begins is_name_first (after_white bytes)
 
 -- at most so many attributes
-abbrev pub attributes_of : Form → ℕ → List ℕ → Option (List (List ℕ × List ℕ) × List ℕ)
-attributes_of f zero bytes = Some ([], bytes)
-attributes_of f (suc k) bytes =
+abbrev pub attributes_of : ℕ → List ℕ → Option (List (List ℕ × List ℕ) × List ℕ)
+attributes_of zero bytes = Some ([], bytes)
+attributes_of (suc k) bytes =
     if attribute_begins bytes then
-    (attribute_of f (after_white bytes) >>= λ a. option_map (λ more. (a.0 ∷ more.0, more.1)) (attributes_of f k a.1))
+    (attribute_of (after_white bytes) >>= λ a. option_map (λ more. (a.0 ∷ more.0, more.1)) (attributes_of k a.1))
     else Some ([], bytes)
 
-abbrev pub front_of : Form → List ℕ → Option (Front × List ℕ)
-front_of f bytes =
-    name_of f bytes >>= λ name.
-    attributes_of f (length name.1) name.1 >>= λ more.
-    if no_name_twice more.0 then Some (record { name = name.0; attributes = more.0 }, after_white more.1) else None
+abbrev pub front_of : List ℕ → Option (Front × List ℕ)
+front_of bytes =
+    name_of bytes >>= λ name.
+    attributes_of (length name.1) name.1 >>= λ more.
+    Some (record { name = name.0; attributes = more.0 }, after_white more.1)
 
 -- the end of a start mark or of an empty mark
 abbrev pub closing : Front → List ℕ → Option (Mark × List ℕ)
@@ -95,16 +101,39 @@ closing o (c ∷ cs) =
     if c == 62 then Some (Start o, cs)
     else if c == 47 then option_map (λ rest. (Empty o, rest)) (behind 62 cs) else None
 
-abbrev pub end_of : Form → List ℕ → Option (Mark × List ℕ)
-end_of f bytes =
-    name_of f bytes >>= λ name.
+abbrev pub opening_of : List ℕ → Option (Mark × List ℕ)
+opening_of bytes = front_of bytes >>= λ o. closing o.0 o.1
+
+abbrev pub end_of : List ℕ → Option (Mark × List ℕ)
+end_of bytes =
+    name_of bytes >>= λ name.
     option_map (λ rest. (End name.0, rest)) (behind 62 (after_white name.1))
 
+-- the bytes after the first of these words, before which no byte is 0
+abbrev pub behind_first : List ℕ → List ℕ → Option (List ℕ)
+behind_first word [] = None
+behind_first word (c ∷ cs) =
+    if begins_with word (c ∷ cs) then Some (drop (length word) (c ∷ cs))
+    else if c == 0 then None else behind_first word cs
+
+abbrev pub aside_of : List ℕ → List ℕ → Option (Mark × List ℕ)
+aside_of ending bytes = option_map (λ rest. (Aside, rest)) (behind_first ending bytes)
+
+-- the mark behind a `<!`
+abbrev pub comment_of : List ℕ → Option (Mark × List ℕ)
+comment_of bytes = behind 45 bytes >>= λ one. behind 45 one >>= λ two. aside_of comment_end two
+
 -- the mark behind a `<`
-abbrev pub mark_of : Form → List ℕ → Option (Mark × List ℕ)
-mark_of f [] = None
-mark_of f (c ∷ cs) =
-    if c == 47 then end_of f cs else (front_of f (c ∷ cs) >>= λ o. closing o.0 o.1)
+abbrev pub mark_of : List ℕ → Option (Mark × List ℕ)
+mark_of [] = None
+mark_of (c ∷ cs) =
+    if c == 47 then end_of cs
+    else (if c == 63 then aside_of instruction_end cs
+    else (if c == 33 then comment_of cs else opening_of (c ∷ cs)))
+
+-- the mark behind a `<` at this place
+abbrev pub mark_at : ℕ → List ℕ → Result (Mark × List ℕ) ElementFault
+mark_at place bytes = elim (mark_of bytes) [ Some m ↦ Ok m | None ↦ Err (BadMark place) ]
 
 -- the open elements, the innermost first, and the document element once it has ended
 pub record State : Type 0 where
@@ -135,37 +164,55 @@ abbrev pub attach : Element → List Open → State
 attach e [] = record { stack = []; done = Some e }
 attach e (o ∷ os) = record { stack = with_child o e ∷ os; done = None }
 
-abbrev pub may_begin : State → Bool
-may_begin st = is_none st.done && nat_lt (length st.stack) 258
-
 abbrev pub opened : List Open → ℕ → Front → Open
 opened stack place o =
     record { name = o.name; attributes = o.attributes; children = []; place = place; inside = inside_of stack || is_models o.name }
 
-abbrev pub close : List ℕ → List Open → Option State
-close name [] = None
-close name (o ∷ os) = if bytes_eq o.name name then Some (attach (element_of o) os) else None
+-- an element that begins at this place
+abbrev pub begun : State → ℕ → Front → Result Open ElementFault
+begun st place o =
+    if no_name_twice o.attributes then
+    (if is_none st.done then
+    (if nat_lt (length st.stack) 258 then Ok (opened st.stack place o) else Err (TooDeep place)) else Err (Unmatched place))
+    else Err (DoubleAttribute place)
 
-abbrev pub step : State → ℕ → Mark → Option State
-step st place (Start o) =
-    if may_begin st then Some (record { stack = opened st.stack place o ∷ st.stack; done = None }) else None
-step st place (Empty o) = if may_begin st then Some (attach (element_of (opened st.stack place o)) st.stack) else None
-step st place (End name) = close name st.stack
+abbrev pub close : ℕ → List ℕ → List Open → Result State ElementFault
+close place name [] = Err (Unmatched place)
+close place name (o ∷ os) = if bytes_eq o.name name then Ok (attach (element_of o) os) else Err (Unmatched place)
+
+abbrev pub step : State → ℕ → Mark → Result State ElementFault
+step st place (Start o) = begun st place o >=> λ x. Ok (record { stack = x ∷ st.stack; done = None })
+step st place (Empty o) = begun st place o >=> λ x. Ok (attach (element_of x) st.stack)
+step st place (End name) = close place name st.stack
+step st place Aside = Ok st
+
+-- the document element at the end of a file of this length, if it has ended
+abbrev pub ended_by : Option Element → ℕ → Result Element ElementFault
+ended_by None total = Err (Unmatched total)
+ended_by (Some e) total = Ok e
+
+abbrev pub finished : State → ℕ → Result Element ElementFault
+finished st total = ended_by st.done total
 
 -- the text at the front, up to a `<`
 abbrev pub text_len : List ℕ → ℕ
 text_len bytes = prefix_len is_text_byte bytes
 
--- the document element of the rest of a file of this length
-abbrev pub read_from : Form → ℕ → ℕ → State → List ℕ → Option Element
-read_from f zero total st bytes = None
-read_from f (suc k) total st bytes =
+-- the document element of the rest of a file of this length, in at most so many steps
+abbrev pub read_from : ℕ → ℕ → State → List ℕ → Result Element ElementFault
+read_from zero total st bytes = finished st total
+read_from (suc k) total st bytes =
+    let text = take (text_len bytes) bytes in
     let rest = drop (text_len bytes) bytes in
-    if may_stand st (take (text_len bytes) bytes) then
-    (if length rest == 0 then st.done
-    else (mark_of f (drop 1 rest) >>= λ m. step st (total - length rest) m.0 >>= λ next. read_from f k total next m.1))
-    else None
+    let place = total - length rest in
+    if may_stand st text then
+    (if length rest == 0 then finished st total
+    else (mark_at place (drop 1 rest) >=> λ m. step st place m.0 >=> λ next. read_from k total next m.1))
+    else Err (StrayText (total - length bytes + prefix_len is_white text))
+
+abbrev pub read_rest : ℕ → State → List ℕ → Result Element ElementFault
+read_rest total st bytes = read_from (suc (length bytes)) total st bytes
 
 -- the document element of a file
-abbrev pub read : Form → List ℕ → Option Element
-read f bytes = read_from f (suc (length bytes)) (length bytes) start bytes
+abbrev pub read : List ℕ → Result Element ElementFault
+read bytes = read_rest (length bytes) start (drop (order_mark_len bytes) bytes)

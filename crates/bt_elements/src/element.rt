@@ -4,7 +4,7 @@ use bt_script::{Items, Name};
 #[derive(Debug, Drop)]
 pub struct Element {
     pub name: Name,
-    /// Names and values, in the order of the file. No name occurs twice.
+    /// Names, and what their values say, in the order of the file. No name occurs twice.
     pub attributes: Items<(Name, Name)>,
     pub children: Items<Element>,
     /// The offset of its `<` from the first byte of the file.
@@ -18,6 +18,20 @@ pub struct Elements {
     pub root: Element,
 }
 
-/// The file is spelled by no element, or not in the plain form.
+/// Why a tree file spells no element. Each place is an offset from the first byte of the file.
 #[derive(Clone, Copy, Debug, PartialEq, Eq)]
-pub struct Unbuilt;
+pub enum ElementFault {
+    /// The file is not UTF-8. The place is the length of its longest front that is.
+    NotUtf8 { place: u32 },
+    /// A `<` that begins no mark in one of the forms.
+    BadMark { place: u32 },
+    /// An end mark of another element than the innermost one that stands unended, or a start behind the document
+    /// element, or the end of a file whose document element has not ended.
+    Unmatched { place: u32 },
+    /// A mark in which an attribute's name occurs twice.
+    DoubleAttribute { place: u32 },
+    /// The first byte that is no white space of a text that may not stand there.
+    StrayText { place: u32 },
+    /// The mark of an element with 258 round it.
+    TooDeep { place: u32 },
+}

@@ -1,8 +1,17 @@
-ghost use Rattle.std.specs.Prelude.{◌≡◌, List, ℕ};
+ghost use Rattle.std.specs.Prelude.{◌≡◌, ◌⊎◌, List, ℕ};
 ghost use Rattle.bt_elements.specs.declared.element.Element.{Element};
+ghost use Rattle.bt_elements.specs.declared.element.ElementFault.{ElementFault};
 ghost use Rattle.bt_elements.specs.Elements.{Spells};
+ghost use Rattle.bt_elements.specs.Faults.{ElementFaultOf};
 
 /// The same bytes spell at most one element.
 pub fn one_element()
     ensures { (bytes : List ℕ) (a b : Element) → Spells bytes a → Spells bytes b → a ≡ b }
+{}
+
+/// Each sequence of bytes spells an element or has a fault, has one fault at most, and never has both.
+pub fn element_or_fault()
+    ensures either { (bytes : List ℕ) → ((e : Element) × Spells bytes e) ⊎ ((fault : ElementFault) × ElementFaultOf bytes fault) }
+    ensures once { (bytes : List ℕ) (f g : ElementFault) → ElementFaultOf bytes f → ElementFaultOf bytes g → f ≡ g }
+    ensures not_both { (bytes : List ℕ) (e : Element) (fault : ElementFault) → Spells bytes e → ElementFaultOf bytes fault → ⊥ }
 {}

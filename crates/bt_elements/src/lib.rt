@@ -6,8 +6,9 @@ mod laws;
 mod mark;
 mod nest;
 mod read;
+mod reference;
 mod scan;
 
-pub use element::{Element, Elements, Unbuilt};
-pub use laws::one_element;
+pub use element::{Element, ElementFault, Elements};
+pub use laws::{element_or_fault, one_element};
 pub use read::read_elements;

@@ -16,4 +16,10 @@ pub enum Mark {
     Empty(Front),
     /// `</a>`
     End(Name),
+    /// `<?a?>` or `<!--a-->`, which are read over.
+    Aside,
 }
+
+/// What stands there begins no mark in one of the forms.
+#[derive(Clone, Copy)]
+pub struct NoMark;

@@ -1,10 +1,11 @@
 ghost use Rattle.std.specs.Prelude.{◌≡◌, IfOk};
-ghost use Rattle.bt_elements.specs.Reading.{GivesSeenBy, State, seen, start, step, opened, attach, inside_of, may_stand, may_begin, element_of, with_child};
+ghost use Rattle.bt_script.specs.Stops.{Gives};
+ghost use Rattle.bt_elements.specs.Reading.{GivesAs, State, seen, start, step, begun, opened, attach, ended_by, finished, inside_of, may_stand, element_of, with_child};
 ghost use Rattle.bt_elements.specs.Elements.{is_models};
 
-use crate::element::{Element, Unbuilt};
+use crate::element::{Element, ElementFault};
 use crate::mark::{Front, Mark};
-use crate::scan::all_white;
+use crate::scan::{all_white, single_names};
 use bt_script::{Items, Name, NoMemory, Stop};
 use std::alloc::Global;
 
@@ -89,12 +90,12 @@ impl Nest {
         self.done.is_none() && self.inside() || all_white(text)
     }
 
-    /// The document element, if it has ended.
-    pub fn finish(self) -> Result<Element, Stop<Unbuilt>>
-        ensures { GivesSeenBy (λ e. e) result (seen self).done }
+    /// The document element, if it has ended where the file ends.
+    pub fn finish(self, place: u32) -> Result<Element, Stop<ElementFault>>
+        ensures { Gives result (finished (seen self) place) }
     {
         let Nest { stack: _, done } = self;
-        done.ok_or(Stop::Fault(Unbuilt))
+        ended_by(done, place)
     }
 
     fn inside(&self) -> bool
@@ -106,56 +107,61 @@ impl Nest {
         }
     }
 
-    fn may_begin(&self) -> bool
-        ensures { result ≡ may_begin (seen self.now) }
-    {
-        self.done.is_none() && self.stack.len() < MOST_DEPTH
-    }
-
     /// Takes the mark that stands at this place.
-    pub fn take(&mut self, alloc: Global, mark: Mark, place: u32) -> Result<(), Stop<Unbuilt>>
-        ensures { GivesSeenBy (λ _. seen self.new) result (step (seen self.old) place mark) }
+    pub fn take(&mut self, alloc: Global, mark: Mark, place: u32) -> Result<(), Stop<ElementFault>>
+        ensures { GivesAs (λ _. seen self.new) result (step (seen self.old) place mark) }
     {
         match mark {
             Mark::Start(front) => self.begin(alloc, front, place),
             Mark::Empty(front) => self.add(alloc, front, place),
-            Mark::End(name) => self.end(&name),
+            Mark::End(name) => self.end(&name, place),
+            Mark::Aside => Ok(()),
         }
     }
 
-    fn begin(&mut self, alloc: Global, front: Front, place: u32) -> Result<(), Stop<Unbuilt>>
-        ensures { GivesSeenBy (λ _. seen self.new) result (step (seen self.old) place (Mark.Start front)) }
+    fn begin(&mut self, alloc: Global, front: Front, place: u32) -> Result<(), Stop<ElementFault>>
+        ensures { GivesAs (λ _. seen self.new) result (step (seen self.old) place (Mark.Start front)) }
     {
-        if !self.may_begin() {
-            return Err(Stop::Fault(Unbuilt));
-        }
-        let open = self.opened(alloc, front, place);
+        let open = self.begun(alloc, front, place)?;
         self.stack.push(open)?;
         Ok(())
     }
 
-    fn add(&mut self, alloc: Global, front: Front, place: u32) -> Result<(), Stop<Unbuilt>>
-        ensures { GivesSeenBy (λ _. seen self.new) result (step (seen self.old) place (Mark.Empty front)) }
+    fn add(&mut self, alloc: Global, front: Front, place: u32) -> Result<(), Stop<ElementFault>>
+        ensures { GivesAs (λ _. seen self.new) result (step (seen self.old) place (Mark.Empty front)) }
     {
-        if !self.may_begin() {
-            return Err(Stop::Fault(Unbuilt));
-        }
-        let open = self.opened(alloc, front, place);
+        let open = self.begun(alloc, front, place)?;
         self.attach(open.ended())?;
         Ok(())
     }
 
-    fn end(&mut self, name: &Name) -> Result<(), Stop<Unbuilt>>
-        ensures { GivesSeenBy (λ _. seen self.new) result (step (seen self.old) 0 (Mark.End name.now)) }
+    fn end(&mut self, name: &Name, place: u32) -> Result<(), Stop<ElementFault>>
+        ensures { GivesAs (λ _. seen self.new) result (step (seen self.old) place (Mark.End name.now)) }
     {
         let Some(open) = self.stack.pop() else {
-            return Err(Stop::Fault(Unbuilt));
+            return Err(Stop::Fault(ElementFault::Unmatched { place }));
         };
         if open.name != *name {
-            return Err(Stop::Fault(Unbuilt));
+            return Err(Stop::Fault(ElementFault::Unmatched { place }));
         }
         self.attach(open.ended())?;
         Ok(())
+    }
+
+    /// The element that begins at this place.
+    fn begun(&self, alloc: Global, front: Front, place: u32) -> Result<Open, Stop<ElementFault>>
+        ensures { Gives result (begun (seen self.now) place front) }
+    {
+        if !single_names(alloc, front.attributes.list())? {
+            return Err(Stop::Fault(ElementFault::DoubleAttribute { place }));
+        }
+        if self.done.is_some() {
+            return Err(Stop::Fault(ElementFault::Unmatched { place }));
+        }
+        if self.stack.len() >= MOST_DEPTH {
+            return Err(Stop::Fault(ElementFault::TooDeep { place }));
+        }
+        Ok(self.opened(alloc, front, place))
     }
 
     fn opened(&self, alloc: Global, front: Front, place: u32) -> Open
@@ -185,6 +191,13 @@ impl Nest {
         }
         Ok(())
     }
+}
+
+/// The document element, where the file ends at this place.
+fn ended_by(done: Option<Element>, place: u32) -> Result<Element, Stop<ElementFault>>
+    ensures { Gives result (ended_by done place) }
+{
+    done.ok_or(Stop::Fault(ElementFault::Unmatched { place }))
 }
 
 fn is_models(name: &Name) -> bool

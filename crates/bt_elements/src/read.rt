@@ -1,143 +1,86 @@
-ghost use Rattle.std.specs.Prelude.{◌≤◌, IfOk, length};
-ghost use Rattle.bt_elements.specs.declared.element.Element.{Element};
-ghost use Rattle.bt_elements.specs.Elements.{SpellsPlainly, WhenUnbuilt};
-ghost use Rattle.bt_elements.specs.Reading.{GivesSeenBy, plain, read};
+ghost use Rattle.std.specs.Prelude.{◌≡◌, ◌≤◌, IfOk, IsUtf8, length, drop};
+ghost use Rattle.bt_script.specs.Stops.{Gives};
+ghost use Rattle.bt_elements.specs.Elements.{IsValid, Spells, order_mark_len};
+ghost use Rattle.bt_elements.specs.Faults.{ElementFaultOf, WhenFault};
+ghost use Rattle.bt_elements.specs.Reading.{GivesAs, mark_at, read};
 
-use crate::element::{Element, Elements, Unbuilt};
+use crate::element::{Element, ElementFault, Elements};
+use crate::mark::{Mark, NoMark};
 use crate::nest::Nest;
-use crate::scan::{all_plain, mark_at, text_at};
+use crate::scan::{mark_behind, text_at, white_len};
 use bt_script::Stop;
 use std::alloc::Global;
 
-/// The element that the bytes spell in the plain form. `Unbuilt` says that there is none.
-pub fn read_elements(alloc: Global, bytes: &[u8]) -> Result<Elements, Stop<Unbuilt>>
+/// The element that the bytes spell, or their fault. Of several faults it is the first along the file, but one that is
+/// not UTF-8 has that fault; of one mark it is the first of `BadMark`, `DoubleAttribute`, `Unmatched` and `TooDeep`.
+pub fn read_elements(alloc: Global, bytes: &[u8]) -> Result<Elements, Stop<ElementFault>>
     requires { length bytes.now ≤ 1048576 }
 
-    ensures read { IfOk result (λ elements. SpellsPlainly bytes.now elements.root) }
-    ensures unbuilt { WhenUnbuilt result ((e : Element) → SpellsPlainly bytes.now e → ⊥) }
+    ensures read { IfOk result (λ elements. Spells bytes.now elements.root) }
+    ensures fault { WhenFault result (λ fault. ElementFaultOf bytes.now fault) }
+    ensures valid { IfOk result (λ elements. IsValid elements.root) }
 {
-    if !all_plain(bytes) {
-        return Err(Stop::Fault(Unbuilt));
+    match std::str::from_utf8(bytes) {
+        Ok(_) => {
+            let root = document(alloc, bytes)?;
+            Ok(Elements { root })
+        }
+        Err(error) => {
+            let place = error.valid_up_to() as u32;
+            Err(Stop::Fault(ElementFault::NotUtf8 { place }))
+        }
     }
-    let root = document(alloc, bytes)?;
-    Ok(Elements { root })
+}
+
+/// What follows a byte order mark at the front.
+fn behind_order_mark(bytes: &[u8]) -> &[u8]
+    requires { IsUtf8 bytes.now }
+    ensures value { result.now ≡ drop (order_mark_len bytes.now) bytes.now }
+    ensures within { length result.now ≤ length bytes.now }
+    ensures utf8 { IsUtf8 result.now }
+{
+    if bytes.starts_with(b"\xEF\xBB\xBF") {
+        let (_, rest) = bytes.split_at(3);
+        rest
+    } else {
+        bytes
+    }
+}
+
+/// The mark behind the `<` that stands at this place.
+fn mark_after(alloc: Global, bytes: &[u8], place: u32) -> Result<(Mark, &[u8]), Stop<ElementFault>>
+    requires { IsUtf8 bytes.now }
+    ensures read { GivesAs (λ x. (x.0, x.1.now)) result (mark_at place bytes.now) }
+    ensures within { IfOk result (λ x. length x.1.now ≤ length bytes.now) }
+    ensures utf8 { IfOk result (λ x. IsUtf8 x.1.now) }
+{
+    match mark_behind(alloc, bytes) {
+        Ok(found) => Ok(found),
+        Err(Stop::Fault(NoMark)) => Err(Stop::Fault(ElementFault::BadMark { place })),
+        Err(Stop::NoMemory) => Err(Stop::NoMemory),
+    }
 }
 
 /// The document element.
-fn document(alloc: Global, bytes: &[u8]) -> Result<Element, Stop<Unbuilt>>
-    requires { length bytes.now ≤ 1048576 }
-    ensures { GivesSeenBy (λ e. e) result (read plain bytes.now) }
+fn document(alloc: Global, bytes: &[u8]) -> Result<Element, Stop<ElementFault>>
+    requires few { length bytes.now ≤ 1048576 }
+    requires utf8 { IsUtf8 bytes.now }
+    ensures { Gives result (read bytes.now) }
 {
     let mut nest = Nest::new(alloc);
-    let mut rest = bytes;
+    let mut rest = behind_order_mark(bytes);
     'marks: loop {
         let (text, marks) = text_at(rest);
         if !nest.allows(text) {
-            return Err(Stop::Fault(Unbuilt));
+            let place = (bytes.len() - rest.len() + white_len(text)) as u32;
+            return Err(Stop::Fault(ElementFault::StrayText { place }));
         }
-        let Some((_, inner)) = marks.split_first() else {
-            return nest.finish();
-        };
         let place = (bytes.len() - marks.len()) as u32;
-        let (mark, next) = mark_at(alloc, inner)?;
+        let Some((_, inner)) = marks.split_first() else {
+            return nest.finish(place);
+        };
+        let (mark, next) = mark_after(alloc, inner, place)?;
         nest.take(alloc, mark, place)?;
         rest = next;
-    }
-}
-
-#[cfg(test)]
-mod tests {
-    use super::*;
-    use std::test::Fail;
-
-    /// The names, places, attributes and children, as `a@0[k=v](b@3[]())`.
-    fn outline(alloc: Global, element: &Element, out: &mut Vec<u8>) -> Result<(), Fail> {
-        out.extend_from_slice(element.name.list())?;
-        let place = format!(in alloc; "@{}[", element.place)?;
-        out.extend_from_slice(place.as_bytes())?;
-        for (name, value) in element.attributes.list() {
-            out.extend_from_slice(name.list())?;
-            out.push(b'=')?;
-            out.extend_from_slice(value.list())?;
-            out.push(b';')?;
-        }
-        out.extend_from_slice(b"](")?;
-        for child in element.children.list() {
-            outline(alloc, child, out)?;
-        }
-        out.push(b')')?;
-        Ok(())
-    }
-
-    /// What the bytes spell: an outline, or `Unbuilt` or `NoMemory`.
-    fn outcome(alloc: Global, bytes: &[u8]) -> Result<Vec<u8>, Fail>
-        requires { length bytes.now ≤ 1048576 }
-    {
-        let mut out = Vec::new(alloc);
-        match read_elements(alloc, bytes) {
-            Ok(elements) => outline(alloc, &elements.root, &mut out)?,
-            Err(Stop::Fault(Unbuilt)) => out.extend_from_slice(b"Unbuilt")?,
-            Err(Stop::NoMemory) => out.extend_from_slice(b"NoMemory")?,
-        }
-        Ok(out)
-    }
-
-    /// So many elements, each in the one before it.
-    fn nested(alloc: Global, depth: usize) -> Result<Vec<u8>, Fail> {
-        let mut out = Vec::new(alloc);
-        for _ in 0..depth {
-            out.extend_from_slice(b"<a>")?;
-        }
-        for _ in 0..depth {
-            out.extend_from_slice(b"</a>")?;
-        }
-        Ok(out)
-    }
-
-    #[test]
-    fn elements(rt: HostRuntime) -> Result<(), Fail> {
-        let table: [(&[u8], &[u8]); 14] = [
-            (
-                b"<root BTCPP_format=\"4\"><BehaviorTree ID=\"M\"><Sequence><A/><B/></Sequence></BehaviorTree></root>",
-                b"root@0[BTCPP_format=4;](BehaviorTree@23[ID=M;](Sequence@44[](A@54[]()B@58[]())))",
-            ),
-            (
-                b"\n<a\tk = \"1\" l=\"x y\" >\r\n</a >",
-                b"a@1[k=1;l=x y;]()",
-            ),
-            (
-                b"<a><TreeNodesModel>text</TreeNodesModel></a>",
-                b"a@0[](TreeNodesModel@3[]())",
-            ),
-            (b"", b"Unbuilt"),
-            (b"<root a=\"1\" a=\"2\"/>", b"Unbuilt"),
-            (b"<root", b"Unbuilt"),
-            (b"<a></b>", b"Unbuilt"),
-            (b"<a/><b/>", b"Unbuilt"),
-            (b"x<a/>", b"Unbuilt"),
-            (b"<!-- a --><root/>", b"Unbuilt"),
-            (b"<a k=\"1\"l=\"2\"/>", b"Unbuilt"),
-            (b"<a k=\"&amp;\"/>", b"Unbuilt"),
-            (b"<a-b/>", b"Unbuilt"),
-            (b"<a>\x80</a>", b"Unbuilt"),
-        ];
-        for (bytes, expected) in table {
-            assert!(rt; bytes.len() <= 1048576);
-            let found = outcome(rt.alloc(), bytes)?;
-            assert_eq!(rt; found.as_slice(), expected);
-        }
-        Ok(())
-    }
-
-    #[test]
-    fn depths(rt: HostRuntime) -> Result<(), Fail> {
-        let most = nested(rt.alloc(), 258)?;
-        assert!(rt; most.len() <= 1048576);
-        assert!(rt; read_elements(rt.alloc(), most.as_slice()).is_ok());
-        let deeper = nested(rt.alloc(), 259)?;
-        assert!(rt; deeper.len() <= 1048576);
-        let found = outcome(rt.alloc(), deeper.as_slice())?;
-        assert_eq!(rt; found.as_slice(), b"Unbuilt".as_slice());
-        Ok(())
     }
 }

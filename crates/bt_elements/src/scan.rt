@@ -1,13 +1,14 @@
-ghost use Rattle.std.specs.Prelude.{◌≡◌, ◌≤◌, ◌<◌, ◌==◌, ◌&&◌, not, IfOk, length, take, drop};
+ghost use Rattle.std.specs.Prelude.{◌≡◌, ◌≤◌, ◌<◌, ◌==◌, ◌&&◌, true, not, IfOk, IsUtf8, length, take, drop};
+ghost use Rattle.std.specs.Char.{is_ascii};
 ghost use Rattle.std.specs.List.{prefix_len, list_all};
 ghost use Rattle.bt_script.specs.Identifiers as identifiers;
-ghost use Rattle.bt_elements.specs.Marks.{is_name_first, is_name_rest, is_value_byte, no_name_twice};
-ghost use Rattle.bt_elements.specs.Elements.{is_text_byte, is_plain_byte, is_plain_value};
-ghost use Rattle.bt_elements.specs.Reading.{GivesSeenBy, plain, after_white, begins, behind, name_of, value_of, attribute_of, attribute_begins, attributes_of, front_of, closing, end_of, mark_of, text_len};
+ghost use Rattle.bt_elements.specs.Marks.{is_name_first, is_name_rest, is_quote, is_value_byte, instruction_end, comment_end, no_name_twice};
+ghost use Rattle.bt_elements.specs.Elements.{is_text_byte};
+ghost use Rattle.bt_elements.specs.Reading.{Scans, after_white, begins, behind, behind_first, name_of, value_behind, value_of, attribute_of, attribute_begins, attributes_of, front_of, closing, opening_of, end_of, aside_of, comment_of, mark_of, text_len};
 
-use crate::element::Unbuilt;
-use crate::mark::{Front, Mark};
-use bt_script::{Items, Name, NoMemory, Stop, is_identifier, is_identifier_start, is_white};
+use crate::mark::{Front, Mark, NoMark};
+use crate::reference::decode;
+use bt_script::{Items, Name, NoMemory, Stop, is_identifier_start, is_white};
 use std::alloc::Global;
 use std::collections::BTreeSet;
 
@@ -23,16 +24,16 @@ fn name_rest(c: u8) -> bool
     name_first(c) || c.is_ascii_digit() || c == b'-' || c == b'.' || c == b':'
 }
 
-fn value_byte(c: u8) -> bool
-    ensures { result ≡ is_value_byte c }
+fn quote(c: u8) -> bool
+    ensures { result ≡ is_quote c }
 {
-    !(c == b'"' || c == b'<' || c == 0)
+    c == b'"' || c == b'\''
 }
 
-fn plain_byte(c: u8) -> bool
-    ensures { result ≡ is_plain_byte c }
+fn value_byte(quote: u8, c: u8) -> bool
+    ensures { result ≡ is_value_byte quote c }
 {
-    32 <= c && c <= 126 || is_white(c)
+    !(c == quote || c == b'<' || c == 0)
 }
 
 /// Whether all bytes are white space.
@@ -42,41 +43,29 @@ pub fn all_white(bytes: &[u8]) -> bool
     bytes.iter().all(|c| is_white(*c))
 }
 
-/// Whether all bytes are printable ASCII or white space.
-pub fn all_plain(bytes: &[u8]) -> bool
-    ensures { result ≡ list_all is_plain_byte bytes.now }
-{
-    bytes.iter().all(|c| plain_byte(*c))
-}
-
-fn plain_value_byte(c: u8) -> bool
-    ensures { result ≡ (is_plain_byte c && not (c == 38)) }
-{
-    plain_byte(c) && c != b'&'
-}
-
-fn plain_value(bytes: &[u8]) -> bool
-    ensures { result ≡ is_plain_value bytes.now }
-{
-    bytes.iter().all(|c| plain_value_byte(*c))
-}
-
-fn white_len(bytes: &[u8]) -> usize
-    ensures { result ≡ prefix_len identifiers.is_white bytes.now }
+/// How much white space stands at the front.
+#[tactic(auto, using(crate::proofs::Fronts::fronts))]
+pub fn white_len(bytes: &[u8]) -> usize
+    ensures value { result ≡ prefix_len identifiers.is_white bytes.now }
+    ensures within { result ≤ length bytes.now }
 {
     bytes.iter().take_while(|c| is_white(**c)).count()
 }
 
+#[tactic(auto, using(crate::proofs::Fronts::fronts))]
 fn name_len(bytes: &[u8]) -> usize
-    ensures { result ≡ prefix_len is_name_rest bytes.now }
+    ensures value { result ≡ prefix_len is_name_rest bytes.now }
+    ensures within { result ≤ length bytes.now }
 {
     bytes.iter().take_while(|c| name_rest(**c)).count()
 }
 
-fn value_len(bytes: &[u8]) -> usize
-    ensures { result ≡ prefix_len is_value_byte bytes.now }
+#[tactic(auto, using(crate::proofs::Fronts::fronts))]
+fn value_len(quote: u8, bytes: &[u8]) -> usize
+    ensures value { result ≡ prefix_len (is_value_byte quote) bytes.now }
+    ensures within { result ≤ length bytes.now }
 {
-    bytes.iter().take_while(|c| value_byte(**c)).count()
+    bytes.iter().take_while(|c| value_byte(quote, **c)).count()
 }
 
 fn text_byte(c: u8) -> bool
@@ -85,83 +74,50 @@ fn text_byte(c: u8) -> bool
     c != b'<'
 }
 
+#[tactic(auto, using(crate::proofs::Fronts::fronts))]
 fn text_length(bytes: &[u8]) -> usize
-    ensures { result ≡ text_len bytes.now }
+    ensures value { result ≡ text_len bytes.now }
+    ensures within { result ≤ length bytes.now }
 {
     bytes.iter().take_while(|c| text_byte(**c)).count()
 }
 
 /// The text at the front, up to the first `<`, and what follows it.
 pub fn text_at(bytes: &[u8]) -> (&[u8], &[u8])
+    requires { IsUtf8 bytes.now }
     ensures text { result.0.now ≡ take (text_len bytes.now) bytes.now }
     ensures rest { result.1.now ≡ drop (text_len bytes.now) bytes.now }
+    ensures utf8 { IsUtf8 result.1.now }
 {
     bytes.split_at(text_length(bytes))
 }
 
 /// What follows the white space at the front.
 fn white_at(bytes: &[u8]) -> &[u8]
+    requires { IsUtf8 bytes.now }
     ensures rest { result.now ≡ after_white bytes.now }
     ensures within { length result.now ≤ length bytes.now }
+    ensures utf8 { IsUtf8 result.now }
 {
     let (_, rest) = bytes.split_at(white_len(bytes));
     rest
 }
 
 /// What follows this byte.
-fn byte_at(bytes: &[u8], c: u8) -> Result<&[u8], Stop<Unbuilt>>
-    ensures read { GivesSeenBy (λ rest. rest.now) result (behind c bytes.now) }
+fn byte_at(bytes: &[u8], c: u8) -> Result<&[u8], Stop<NoMark>>
+    requires utf8 { IsUtf8 bytes.now }
+    requires ascii { c < 128 }
+    ensures read { Scans (λ rest. rest.now) result (behind c bytes.now) }
     ensures within { IfOk result (λ rest. length rest.now < length bytes.now) }
+    ensures utf8 { IfOk result (λ rest. IsUtf8 rest.now) }
 {
-    match bytes {
-        [b, rest @ ..] => {
-            if *b == c {
-                Ok(rest)
-            } else {
-                Err(Stop::Fault(Unbuilt))
-            }
-        }
-        [] => Err(Stop::Fault(Unbuilt)),
+    let Some((b, rest)) = bytes.split_first() else {
+        return Err(Stop::Fault(NoMark));
+    };
+    if *b != c {
+        return Err(Stop::Fault(NoMark));
     }
-}
-
-/// The name at the front.
-fn name_at(alloc: Global, bytes: &[u8]) -> Result<(Name, &[u8]), Stop<Unbuilt>>
-    ensures read { GivesSeenBy (λ x. (x.0, x.1.now)) result (name_of plain bytes.now) }
-    ensures within { IfOk result (λ x. length x.1.now ≤ length bytes.now) }
-{
-    let (name, rest) = bytes.split_at(name_len(bytes));
-    if !is_identifier(name) {
-        return Err(Stop::Fault(Unbuilt));
-    }
-    let name = Name::of(Vec::from_slice(alloc, name)?);
-    Ok((name, rest))
-}
-
-/// The value behind its `"`.
-fn value_at(alloc: Global, bytes: &[u8]) -> Result<(Name, &[u8]), Stop<Unbuilt>>
-    ensures read { GivesSeenBy (λ x. (x.0, x.1.now)) result (value_of plain bytes.now) }
-    ensures within { IfOk result (λ x. length x.1.now < length bytes.now) }
-{
-    let (value, rest) = bytes.split_at(value_len(bytes));
-    if !plain_value(value) {
-        return Err(Stop::Fault(Unbuilt));
-    }
-    let rest = byte_at(rest, b'"')?;
-    let value = Name::of(Vec::from_slice(alloc, value)?);
-    Ok((value, rest))
-}
-
-/// The attribute at the front.
-fn attribute_at(alloc: Global, bytes: &[u8]) -> Result<((Name, Name), &[u8]), Stop<Unbuilt>>
-    ensures read { GivesSeenBy (λ x. (x.0, x.1.now)) result (attribute_of plain bytes.now) }
-    ensures within { IfOk result (λ x. length x.1.now < length bytes.now) }
-{
-    let (name, rest) = name_at(alloc, bytes)?;
-    let rest = byte_at(white_at(rest), b'=')?;
-    let rest = byte_at(white_at(rest), b'"')?;
-    let (value, rest) = value_at(alloc, rest)?;
-    Ok(((name, value), rest))
+    Ok(rest)
 }
 
 fn begins_white(bytes: &[u8]) -> bool
@@ -182,16 +138,76 @@ fn begins_name(bytes: &[u8]) -> bool
     }
 }
 
+/// The name at the front.
+fn name_at(alloc: Global, bytes: &[u8]) -> Result<(Name, &[u8]), Stop<NoMark>>
+    requires { IsUtf8 bytes.now }
+    ensures read { Scans (λ x. (x.0, x.1.now)) result (name_of bytes.now) }
+    ensures within { IfOk result (λ x. length x.1.now ≤ length bytes.now) }
+    ensures utf8 { IfOk result (λ x. IsUtf8 x.1.now) }
+{
+    if !begins_name(bytes) {
+        return Err(Stop::Fault(NoMark));
+    }
+    let (name, rest) = bytes.split_at(name_len(bytes));
+    let name = Name::of(Vec::from_slice(alloc, name)?);
+    Ok((name, rest))
+}
+
+/// What the value says behind its quote.
+fn value_behind(alloc: Global, quote: u8, bytes: &[u8]) -> Result<(Name, &[u8]), Stop<NoMark>>
+    requires utf8 { IsUtf8 bytes.now }
+    requires ascii { quote < 128 }
+    ensures read { Scans (λ x. (x.0, x.1.now)) result (value_behind quote bytes.now) }
+    ensures within { IfOk result (λ x. length x.1.now < length bytes.now) }
+    ensures utf8 { IfOk result (λ x. IsUtf8 x.1.now) }
+{
+    let (value, rest) = bytes.split_at(value_len(quote, bytes));
+    let rest = byte_at(rest, quote)?;
+    let value = decode(alloc, value)?;
+    Ok((value, rest))
+}
+
+fn value_at(alloc: Global, bytes: &[u8]) -> Result<(Name, &[u8]), Stop<NoMark>>
+    requires { IsUtf8 bytes.now }
+    ensures read { Scans (λ x. (x.0, x.1.now)) result (value_of bytes.now) }
+    ensures within { IfOk result (λ x. length x.1.now < length bytes.now) }
+    ensures utf8 { IfOk result (λ x. IsUtf8 x.1.now) }
+{
+    let Some((c, rest)) = bytes.split_first() else {
+        return Err(Stop::Fault(NoMark));
+    };
+    if !quote(*c) {
+        return Err(Stop::Fault(NoMark));
+    }
+    value_behind(alloc, *c, rest)
+}
+
+/// The attribute at the front.
+fn attribute_at(alloc: Global, bytes: &[u8]) -> Result<((Name, Name), &[u8]), Stop<NoMark>>
+    requires { IsUtf8 bytes.now }
+    ensures read { Scans (λ x. (x.0, x.1.now)) result (attribute_of bytes.now) }
+    ensures within { IfOk result (λ x. length x.1.now < length bytes.now) }
+    ensures utf8 { IfOk result (λ x. IsUtf8 x.1.now) }
+{
+    let (name, rest) = name_at(alloc, bytes)?;
+    let rest = byte_at(white_at(rest), b'=')?;
+    let (value, rest) = value_at(alloc, white_at(rest))?;
+    Ok(((name, value), rest))
+}
+
 fn begins_attribute(bytes: &[u8]) -> bool
+    requires { IsUtf8 bytes.now }
     ensures { result ≡ attribute_begins bytes.now }
 {
     begins_white(bytes) && begins_name(white_at(bytes))
 }
 
 /// The attributes at the front, with the white space before each.
-fn attributes_at(alloc: Global, bytes: &[u8]) -> Result<(Items<(Name, Name)>, &[u8]), Stop<Unbuilt>>
-    ensures read { GivesSeenBy (λ x. (x.0, x.1.now)) result (attributes_of plain (length bytes.now) bytes.now) }
+fn attributes_at(alloc: Global, bytes: &[u8]) -> Result<(Items<(Name, Name)>, &[u8]), Stop<NoMark>>
+    requires { IsUtf8 bytes.now }
+    ensures read { Scans (λ x. (x.0, x.1.now)) result (attributes_of (length bytes.now) bytes.now) }
     ensures within { IfOk result (λ x. length x.1.now ≤ length bytes.now) }
+    ensures utf8 { IfOk result (λ x. IsUtf8 x.1.now) }
 {
     let mut attributes = Vec::new(alloc);
     let mut rest = bytes;
@@ -204,7 +220,7 @@ fn attributes_at(alloc: Global, bytes: &[u8]) -> Result<(Items<(Name, Name)>, &[
 }
 
 /// Whether no attribute's name occurs twice.
-fn single_names(alloc: Global, attributes: &[(Name, Name)]) -> Result<bool, NoMemory>
+pub fn single_names(alloc: Global, attributes: &[(Name, Name)]) -> Result<bool, NoMemory>
     ensures { IfOk result (λ single. single ≡ no_name_twice attributes.now) }
 {
     let mut names = BTreeSet::new(alloc);
@@ -217,53 +233,123 @@ fn single_names(alloc: Global, attributes: &[(Name, Name)]) -> Result<bool, NoMe
 }
 
 /// A start mark or an empty mark behind its `<`, up to its end.
-fn front_at(alloc: Global, bytes: &[u8]) -> Result<(Front, &[u8]), Stop<Unbuilt>>
-    ensures read { GivesSeenBy (λ x. (x.0, x.1.now)) result (front_of plain bytes.now) }
+fn front_at(alloc: Global, bytes: &[u8]) -> Result<(Front, &[u8]), Stop<NoMark>>
+    requires { IsUtf8 bytes.now }
+    ensures read { Scans (λ x. (x.0, x.1.now)) result (front_of bytes.now) }
     ensures within { IfOk result (λ x. length x.1.now ≤ length bytes.now) }
+    ensures utf8 { IfOk result (λ x. IsUtf8 x.1.now) }
 {
     let (name, rest) = name_at(alloc, bytes)?;
     let (attributes, rest) = attributes_at(alloc, rest)?;
-    if !single_names(alloc, attributes.list())? {
-        return Err(Stop::Fault(Unbuilt));
-    }
     Ok((Front { name, attributes }, white_at(rest)))
 }
 
 /// The end of a start mark or of an empty mark.
-fn closing_at(front: Front, bytes: &[u8]) -> Result<(Mark, &[u8]), Stop<Unbuilt>>
-    ensures read { GivesSeenBy (λ x. (x.0, x.1.now)) result (closing front bytes.now) }
+fn closing_at(front: Front, bytes: &[u8]) -> Result<(Mark, &[u8]), Stop<NoMark>>
+    requires { IsUtf8 bytes.now }
+    ensures read { Scans (λ x. (x.0, x.1.now)) result (closing front bytes.now) }
     ensures within { IfOk result (λ x. length x.1.now ≤ length bytes.now) }
+    ensures utf8 { IfOk result (λ x. IsUtf8 x.1.now) }
 {
-    match bytes {
-        [b'>', rest @ ..] => Ok((Mark::Start(front), rest)),
-        [b'/', rest @ ..] => {
-            let rest = byte_at(rest, b'>')?;
-            Ok((Mark::Empty(front), rest))
-        }
-        _ => Err(Stop::Fault(Unbuilt)),
+    let Some((c, rest)) = bytes.split_first() else {
+        return Err(Stop::Fault(NoMark));
+    };
+    if *c == b'>' {
+        return Ok((Mark::Start(front), rest));
     }
+    if *c != b'/' {
+        return Err(Stop::Fault(NoMark));
+    }
+    let rest = byte_at(rest, b'>')?;
+    Ok((Mark::Empty(front), rest))
+}
+
+/// A start mark or an empty mark behind its `<`.
+fn opening_at(alloc: Global, bytes: &[u8]) -> Result<(Mark, &[u8]), Stop<NoMark>>
+    requires { IsUtf8 bytes.now }
+    ensures read { Scans (λ x. (x.0, x.1.now)) result (opening_of bytes.now) }
+    ensures within { IfOk result (λ x. length x.1.now ≤ length bytes.now) }
+    ensures utf8 { IfOk result (λ x. IsUtf8 x.1.now) }
+{
+    let (front, rest) = front_at(alloc, bytes)?;
+    closing_at(front, rest)
 }
 
 /// An end mark behind its `</`.
-fn end_at(alloc: Global, bytes: &[u8]) -> Result<(Mark, &[u8]), Stop<Unbuilt>>
-    ensures read { GivesSeenBy (λ x. (x.0, x.1.now)) result (end_of plain bytes.now) }
+fn end_at(alloc: Global, bytes: &[u8]) -> Result<(Mark, &[u8]), Stop<NoMark>>
+    requires { IsUtf8 bytes.now }
+    ensures read { Scans (λ x. (x.0, x.1.now)) result (end_of bytes.now) }
     ensures within { IfOk result (λ x. length x.1.now ≤ length bytes.now) }
+    ensures utf8 { IfOk result (λ x. IsUtf8 x.1.now) }
 {
     let (name, rest) = name_at(alloc, bytes)?;
     let rest = byte_at(white_at(rest), b'>')?;
     Ok((Mark::End(name), rest))
 }
 
-/// The mark behind its `<`.
-pub fn mark_at(alloc: Global, bytes: &[u8]) -> Result<(Mark, &[u8]), Stop<Unbuilt>>
-    ensures read { GivesSeenBy (λ x. (x.0, x.1.now)) result (mark_of plain bytes.now) }
-    ensures within { IfOk result (λ x. length x.1.now ≤ length bytes.now) }
+/// What follows the first of these endings, before which no byte is 0.
+fn ending_at<'a>(bytes: &'a [u8], ending: &[u8]) -> Result<&'a [u8], Stop<NoMark>>
+    requires utf8 { IsUtf8 bytes.now }
+    requires some { 0 < length ending.now }
+    requires ascii { list_all is_ascii ending.now ≡ true }
+    ensures read { Scans (λ rest. rest.now) result (behind_first ending.now bytes.now) }
+    ensures within { IfOk result (λ rest. length rest.now ≤ length bytes.now) }
+    ensures utf8 { IfOk result (λ rest. IsUtf8 rest.now) }
 {
-    match bytes {
-        [b'/', rest @ ..] => end_at(alloc, rest),
-        _ => {
-            let (front, rest) = front_at(alloc, bytes)?;
-            closing_at(front, rest)
+    let mut rest = bytes;
+    'body: loop {
+        if rest.starts_with(ending) {
+            let (_, behind) = rest.split_at(ending.len());
+            return Ok(behind);
         }
+        let Some((c, more)) = rest.split_first() else {
+            return Err(Stop::Fault(NoMark));
+        };
+        if *c == 0 {
+            return Err(Stop::Fault(NoMark));
+        }
+        rest = more;
+    }
+}
+
+/// An instruction behind its `<?`.
+fn instruction_at(bytes: &[u8]) -> Result<(Mark, &[u8]), Stop<NoMark>>
+    requires { IsUtf8 bytes.now }
+    ensures read { Scans (λ x. (x.0, x.1.now)) result (aside_of instruction_end bytes.now) }
+    ensures within { IfOk result (λ x. length x.1.now ≤ length bytes.now) }
+    ensures utf8 { IfOk result (λ x. IsUtf8 x.1.now) }
+{
+    let rest = ending_at(bytes, b"?>")?;
+    Ok((Mark::Aside, rest))
+}
+
+/// A comment behind its `<!`.
+fn comment_at(bytes: &[u8]) -> Result<(Mark, &[u8]), Stop<NoMark>>
+    requires { IsUtf8 bytes.now }
+    ensures read { Scans (λ x. (x.0, x.1.now)) result (comment_of bytes.now) }
+    ensures within { IfOk result (λ x. length x.1.now ≤ length bytes.now) }
+    ensures utf8 { IfOk result (λ x. IsUtf8 x.1.now) }
+{
+    let rest = byte_at(bytes, b'-')?;
+    let rest = byte_at(rest, b'-')?;
+    let rest = ending_at(rest, b"-->")?;
+    Ok((Mark::Aside, rest))
+}
+
+/// The mark behind its `<`.
+pub fn mark_behind(alloc: Global, bytes: &[u8]) -> Result<(Mark, &[u8]), Stop<NoMark>>
+    requires { IsUtf8 bytes.now }
+    ensures read { Scans (λ x. (x.0, x.1.now)) result (mark_of bytes.now) }
+    ensures within { IfOk result (λ x. length x.1.now ≤ length bytes.now) }
+    ensures utf8 { IfOk result (λ x. IsUtf8 x.1.now) }
+{
+    let Some((c, rest)) = bytes.split_first() else {
+        return Err(Stop::Fault(NoMark));
+    };
+    match *c {
+        b'/' => end_at(alloc, rest),
+        b'?' => instruction_at(rest),
+        b'!' => comment_at(rest),
+        _ => opening_at(alloc, bytes),
     }
 }

@@ -1,0 +1,132 @@
+ghost use Rattle.std.specs.Prelude.{◌≡◌, ◌+◌, ◌≤◌, ◌++◌, IfOk, IsTrue, IsUtf8, Some, None, if◌then◌else◌, length};
+ghost use Rattle.std.specs.Char.{encode_utf8, is_digit};
+ghost use Rattle.std.specs.List.{prefix_len, list_all};
+ghost use Rattle.std.specs.Str.Parse.{digits_value};
+ghost use Rattle.bt_elements.specs.References.{is_plain_byte, is_character, numeric as numeric_of, reference_of, decoded};
+
+use bt_script::{Name, NoMemory};
+use std::alloc::Global;
+
+fn plain_byte(c: u8) -> bool
+    ensures { result ≡ is_plain_byte c }
+{
+    c != b'&'
+}
+
+#[tactic(auto, using(crate::proofs::Fronts::fronts))]
+fn plain_len(bytes: &[u8]) -> usize
+    ensures value { result ≡ prefix_len is_plain_byte bytes.now }
+    ensures within { result ≤ length bytes.now }
+{
+    bytes.iter().take_while(|c| plain_byte(**c)).count()
+}
+
+fn digit(c: u8, base: u32) -> bool
+    requires { (2 ≤ base) × (base ≤ 16) }
+    ensures { result ≡ is_digit c base }
+{
+    char::from(c).is_digit(base)
+}
+
+#[tactic(auto, using(crate::proofs::Fronts::fronts))]
+fn digits_len(bytes: &[u8], base: u32) -> usize
+    requires { (2 ≤ base) × (base ≤ 16) }
+    ensures value { result ≡ prefix_len (λ c. is_digit c base) bytes.now }
+    ensures within { result ≤ length bytes.now }
+{
+    bytes.iter().take_while(|c| digit(**c, base)).count()
+}
+
+/// The character of a number, which is neither 0 nor a surrogate nor too large.
+fn numbered(digits: &[u8], base: u32) -> Option<char>
+    requires base { (2 ≤ base) × (base ≤ 16) }
+    requires digits { IsTrue (list_all (λ c. is_digit c base) digits.now) }
+    ensures { result ≡ (if is_character (digits_value base digits.now) then Some (digits_value base digits.now) else None) }
+{
+    let mut n: u32 = 0;
+    'digits: for c in digits {
+        n = n * base + char::from(*c).to_digit(base)?;
+        if n > 0x10FFFF {
+            return None;
+        }
+    }
+    if n == 0 {
+        return None;
+    }
+    char::from_u32(n)
+}
+
+/// A numeric reference, of which so many bytes stand before its digits.
+fn numeric(bytes: &[u8], base: u32, before: usize) -> Option<(char, usize)>
+    requires base { (2 ≤ base) × (base ≤ 16) }
+    requires few { before ≤ 2 }
+    ensures { result ≡ numeric_of base before bytes.now }
+{
+    let len = digits_len(bytes, base);
+    let (digits, rest) = bytes.split_at(len);
+    if !rest.starts_with(b";") {
+        return None;
+    }
+    let c = numbered(digits, base)?;
+    Some((c, before + len + 1))
+}
+
+/// The character of the reference behind an `&`, and how many bytes it has there.
+fn reference_at(bytes: &[u8]) -> Option<(char, usize)>
+    ensures { result ≡ reference_of bytes.now }
+{
+    if bytes.starts_with(b"lt;") {
+        Some(('<', 3))
+    } else if bytes.starts_with(b"gt;") {
+        Some(('>', 3))
+    } else if bytes.starts_with(b"amp;") {
+        Some(('&', 4))
+    } else if bytes.starts_with(b"quot;") {
+        Some(('"', 5))
+    } else if bytes.starts_with(b"apos;") {
+        Some(('\'', 5))
+    } else if bytes.starts_with(b"#x") {
+        let (_, digits) = bytes.split_at(2);
+        numeric(digits, 16, 2)
+    } else if bytes.starts_with(b"#") {
+        let (_, digits) = bytes.split_at(1);
+        numeric(digits, 10, 1)
+    } else {
+        None
+    }
+}
+
+fn push(said: &mut Vec<u8>, c: char) -> Result<(), NoMemory>
+    ensures { IfOk result (λ _. said.new.items ≡ said.old.items ++ encode_utf8 c) }
+{
+    let mut room = [0; 4];
+    said.extend_from_slice(c.encode_utf8(&mut room).as_bytes())?;
+    Ok(())
+}
+
+/// What a value says.
+pub fn decode(alloc: Global, value: &[u8]) -> Result<Name, NoMemory>
+    requires { IsUtf8 value.now }
+    ensures { IfOk result (λ name. name ≡ decoded value.now) }
+{
+    let mut said = Vec::with_capacity(alloc, value.len())?;
+    let mut rest = value;
+    'parts: loop {
+        let (plain, marked) = rest.split_at(plain_len(rest));
+        said.extend_from_slice(plain)?;
+        let Some((_, behind)) = marked.split_first() else {
+            return Ok(Name::of(said));
+        };
+        match reference_at(behind) {
+            Some((c, len)) => {
+                push(&mut said, c)?;
+                let (_, more) = behind.split_at(len);
+                rest = more;
+            }
+            None => {
+                said.push(b'&')?;
+                rest = behind;
+            }
+        }
+    }
+}
