@@ -1,3 +1,4 @@
 pub mod Nodes
 pub mod ScriptAnswers
 pub mod Tables
+pub mod Walk

@@ -94,16 +94,25 @@ opened_by file below head e opened numbers (Some tree) =
     (refused_if (not (nat_eq (length (children_of e)) 0 && nat_eq (length (children_of tree)) 1)) (ChildCount (numbers.nodes + 1))
     (node_of file.models below head (attributes_of e) (opened ++ head.id ∷ []) (children_of tree) (one_scope_more (one_node_more numbers)) (numbers.nodes + 1))))
 
--- a node by its kind
-abbrev pub node_by : Kind → File → Reader → Head → Element → List (List ℕ) → Numbers → Result (Term × Numbers) BuildFault
-node_by SubTree file below head e opened numbers = opened_by file below head e opened numbers (tree_of head.id file.trees)
-node_by kind file below head e opened numbers =
-    refused_if (not (takes kind (length (children_of e)))) (ChildCount (numbers.nodes + 1))
+abbrev pub is_subtree : Kind → Bool
+is_subtree SubTree = true
+is_subtree _ = false
+
+-- any other node, of whose kind so many children have to be
+abbrev pub plain_by : File → Reader → Head → Element → List (List ℕ) → Numbers → Result (Term × Numbers) BuildFault
+plain_by file below head e opened numbers =
+    refused_if (not (takes head.kind (length (children_of e)))) (ChildCount (numbers.nodes + 1))
     (node_of file.models below head (attributes_of e) opened (children_of e) (one_node_more numbers) (numbers.nodes + 1))
+
+-- a node of this kind and ID
+abbrev pub node_by : File → Reader → Head → Element → List (List ℕ) → Numbers → Result (Term × Numbers) BuildFault
+node_by file below head e opened numbers =
+    if is_subtree head.kind then opened_by file below head e opened numbers (tree_of head.id file.trees)
+    else plain_by file below head e opened numbers
 
 abbrev pub known : File → Reader → Element → List (List ℕ) → Numbers → Option Head → Result (Term × Numbers) BuildFault
 known file below e opened numbers None = Err (UnknownNode (numbers.nodes + 1))
-known file below e opened numbers (Some head) = node_by head.kind file below head e opened numbers
+known file below e opened numbers (Some head) = node_by file below head e opened numbers
 
 -- A node, where so many levels are left. The nodes of a tree are numbered from 1 as they are reached.
 abbrev pub read_node : File → ℕ → Reader

@@ -39,15 +39,15 @@ abbrev pub turns_of : List Port → ℕ
 turns_of [] = 1
 turns_of (port ∷ ports) = turns_given port.value
 
--- the work of a node of this kind, where the work of each of its children is known
-abbrev pub work_step : Kind → List Port → List ℕ → ℕ
-work_step Retry ports children = 1 + turns_of ports * sum children
-work_step Repeat ports children = 1 + turns_of ports * sum children
-work_step kind ports children = 1 + sum children
+-- how often a node of this kind visits its children at most in one visit
+abbrev pub times_of : Kind → List Port → ℕ
+times_of Retry ports = turns_of ports
+times_of Repeat ports = turns_of ports
+times_of kind ports = 1
 
 -- the work of a term: how many visits one visit of its root makes at most
 abbrev pub work_of : Term → ℕ
-work_of = fold-Term ℕ (λ node. work_step node.kind node.ports node.children)
+work_of = fold-Term ℕ (λ node. 1 + times_of node.kind node.ports * sum node.children)
 
 -- the scopes that a node opens: a SubTree node opens one
 abbrev pub own_scopes : Kind → ℕ
