@@ -2,3 +2,4 @@ pub mod Nodes
 pub mod ScriptAnswers
 pub mod Tables
 pub mod Walk
+pub mod WorkLimits

@@ -172,25 +172,30 @@ main_of asked attributes trees = or_else asked (or_else (value_of (codes "main_t
 abbrev pub no_numbers : Numbers
 no_numbers = record { nodes = 0; scopes = 1 }
 
-abbrev pub first_root : List Element → Option Element
-first_root (root ∷ []) = Some root
-first_root elements = None
+-- the levels that are left for a root node
+unfoldable pub most_levels : ℕ
+most_levels = 256
 
--- the term of a root node, with 256 levels for all nodes
-unfoldable pub read_root : File → Element → List ℕ → Result (Term × Numbers) BuildFault
-read_root file root id = read_node file 256 root (id ∷ []) no_numbers
+-- the term of a root node, the tree of which has this ID
+abbrev pub read_root : File → Element → List ℕ → Result (Term × Numbers) BuildFault
+read_root file root id = read_node file most_levels root (id ∷ []) no_numbers
 
-abbrev pub within_work : List ℕ → Term × Numbers → Result Tree BuildFault
-within_work id read = refused_if (not (nat_le (work_of read.0) 100000)) TooMuchWork (Ok (record { main = id; term = read.0 }))
+-- the tree of this ID and term, where its work is within the limit
+abbrev pub within_work : List ℕ → Term → Result Tree BuildFault
+within_work id term = refused_if (not (nat_le (work_of term) 100000)) TooMuchWork (Ok (record { main = id; term = term }))
 
-abbrev pub root_read : File → List ℕ → Option Element → Result Tree BuildFault
-root_read file id None = Err (ChildCount 0)
-root_read file id (Some root) = go_on (within_work id) (read_root file root id)
+abbrev pub root_read : File → List ℕ → Element → Result Tree BuildFault
+root_read file id root = go_on (λ read. within_work id read.0) (read_root file root id)
+
+-- a tree has one root
+abbrev pub roots_read : File → List ℕ → List Element → Result Tree BuildFault
+roots_read file id (root ∷ []) = root_read file id root
+roots_read file id roots = Err (ChildCount 0)
 
 -- the tree of this ID
 abbrev pub main_read : File → List ℕ → Option Element → Result Tree BuildFault
 main_read file id None = Err (NoTree id)
-main_read file id (Some tree) = root_read file id (first_root (children_of tree))
+main_read file id (Some tree) = roots_read file id (children_of tree)
 
 abbrev pub named_read : File → Option (List ℕ) → Result Tree BuildFault
 named_read file None = Err NoMain

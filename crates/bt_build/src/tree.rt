@@ -28,6 +28,7 @@ pub struct Numbers {
 }
 
 /// What a file defines: its trees, and the models of its leaves.
+#[derive(Drop)]
 pub struct File<'a> {
     pub trees: Trees<'a>,
     pub models: &'a Manifest,

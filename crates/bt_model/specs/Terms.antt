@@ -1,7 +1,7 @@
 -- What is counted over a term.
 use Rattle.std.specs.List.{flat_map}
 use Rattle.bt_script.specs.Numbers.{greatest}
-use Rattle.std.specs.Prelude.{ℕ, ◌+◌, ◌*◌, List, [], ◌∷◌, ◌++◌, sum, negsuc, nat_abs, if◌then◌else◌}
+use Rattle.std.specs.Prelude.{ℕ, ◌+◌, ◌*◌, List, [], ◌∷◌, ◌++◌, sum, negsuc, unsigned_abs, if◌then◌else◌}
 use Rattle.std.specs.Ordering.{int_eq}
 use Rattle.bt_script.specs.declared.value.Value.TheVariants.{Int, Text}
 use Rattle.bt_model.specs.declared.term.Port.{Port}
@@ -32,7 +32,7 @@ leaf_ids = fold-Term (List (List ℕ)) (λ node. own_leaf_id node.kind node.id +
 -- and 1000 times where a key is read
 abbrev pub turns_given : PortValue → ℕ
 turns_given (Key key) = 1000
-turns_given (Lit (Int n)) = if int_eq n (negsuc 0) then 1 else nat_abs n
+turns_given (Lit (Int n)) = if int_eq n (negsuc 0) then 1 else unsigned_abs n
 turns_given (Lit (Text text)) = 1
 
 abbrev pub turns_of : List Port → ℕ
