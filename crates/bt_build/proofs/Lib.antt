@@ -1,3 +1,5 @@
 pub mod Nodes
 pub mod ScriptAnswers
 pub mod Tables
+pub mod Walk
+pub mod WorkLimits

@@ -1,10 +1,10 @@
 -- The table of trees, as it is seen.
-use Rattle.std.proofs.Common.{◌≡◌, ℕ, Bool, true, false, cond, List, [], ◌∷◌, ◌++◌, map, Option, Some, None, refl, ap, sym, ◌∙◌, Bor}
+use Rattle.std.proofs.Common.{◌≡◌, ℕ, Bool, true, false, cond, List, [], ◌∷◌, ◌++◌, map, Option, Some, None, length, slice_get, refl, ap, sym, ◌∙◌, arith, Bor}
 use Rattle.std.specs.Prelude.{bytes_eq, option_map}
 use Rattle.std.specs.Map.{lookup}
 use Rattle.std.specs.Option.{option_copied}
 use Rattle.bt_elements.specs.declared.element.Element.{Element}
-use Rattle.bt_build.specs.Reads.{tree_of}
+use Rattle.bt_build.specs.Reads.{only_id, tree_of}
 use Rattle.bt_build.specs.Seen.{trees_seen}
 
 either : (t : Bool) (e : Bor Element) (o : Option (Bor Element)) → option_copied (cond t (Some e) o) ≡ cond t (Some e.now) (option_copied o)
@@ -24,3 +24,9 @@ none_copied (Some x) h = cc
 -- no tree of this ID is there
 pub not_there : (id : List ℕ) (entries : List (List ℕ × Bor Element)) → tree_of id (trees_seen entries) ≡ None → lookup (bytes_eq id) entries ≡ None
 not_there id entries h = none_copied (lookup (bytes_eq id) entries) (tree_of-seen id entries ∙ h)
+
+-- the ID of the only entry
+pub only_id-seen : (entries : List (List ℕ × Bor Element)) (x : List ℕ × Bor Element) → length entries ≡ 1 → Some x ≡ slice_get entries 0 → Some x.0 ≡ only_id (trees_seen entries)
+only_id-seen [] x one h = absurd (omega arith)
+only_id-seen (e ∷ []) x one h = ap (option_map (λ (t : List ℕ × Bor Element). t.0)) h
+only_id-seen (e ∷ f ∷ es) x one h = absurd (omega arith)

@@ -94,16 +94,25 @@ opened_by file below head e opened numbers (Some tree) =
     (refused_if (not (nat_eq (length (children_of e)) 0 && nat_eq (length (children_of tree)) 1)) (ChildCount (numbers.nodes + 1))
     (node_of file.models below head (attributes_of e) (opened ++ head.id ∷ []) (children_of tree) (one_scope_more (one_node_more numbers)) (numbers.nodes + 1))))
 
--- a node by its kind
-abbrev pub node_by : Kind → File → Reader → Head → Element → List (List ℕ) → Numbers → Result (Term × Numbers) BuildFault
-node_by SubTree file below head e opened numbers = opened_by file below head e opened numbers (tree_of head.id file.trees)
-node_by kind file below head e opened numbers =
-    refused_if (not (takes kind (length (children_of e)))) (ChildCount (numbers.nodes + 1))
+abbrev pub is_subtree : Kind → Bool
+is_subtree SubTree = true
+is_subtree _ = false
+
+-- any other node, of whose kind so many children have to be
+abbrev pub plain_by : File → Reader → Head → Element → List (List ℕ) → Numbers → Result (Term × Numbers) BuildFault
+plain_by file below head e opened numbers =
+    refused_if (not (takes head.kind (length (children_of e)))) (ChildCount (numbers.nodes + 1))
     (node_of file.models below head (attributes_of e) opened (children_of e) (one_node_more numbers) (numbers.nodes + 1))
+
+-- a node of this kind and ID
+abbrev pub node_by : File → Reader → Head → Element → List (List ℕ) → Numbers → Result (Term × Numbers) BuildFault
+node_by file below head e opened numbers =
+    if is_subtree head.kind then opened_by file below head e opened numbers (tree_of head.id file.trees)
+    else plain_by file below head e opened numbers
 
 abbrev pub known : File → Reader → Element → List (List ℕ) → Numbers → Option Head → Result (Term × Numbers) BuildFault
 known file below e opened numbers None = Err (UnknownNode (numbers.nodes + 1))
-known file below e opened numbers (Some head) = node_by head.kind file below head e opened numbers
+known file below e opened numbers (Some head) = node_by file below head e opened numbers
 
 -- A node, where so many levels are left. The nodes of a tree are numbered from 1 as they are reached.
 abbrev pub read_node : File → ℕ → Reader
@@ -163,25 +172,30 @@ main_of asked attributes trees = or_else asked (or_else (value_of (codes "main_t
 abbrev pub no_numbers : Numbers
 no_numbers = record { nodes = 0; scopes = 1 }
 
-abbrev pub first_root : List Element → Option Element
-first_root (root ∷ []) = Some root
-first_root elements = None
+-- the levels that are left for a root node
+unfoldable pub most_levels : ℕ
+most_levels = 256
 
--- the term of a root node, with 256 levels for all nodes
-unfoldable pub read_root : File → Element → List ℕ → Result (Term × Numbers) BuildFault
-read_root file root id = read_node file 256 root (id ∷ []) no_numbers
+-- the term of a root node, the tree of which has this ID
+abbrev pub read_root : File → Element → List ℕ → Result (Term × Numbers) BuildFault
+read_root file root id = read_node file most_levels root (id ∷ []) no_numbers
 
-abbrev pub within_work : List ℕ → Term × Numbers → Result Tree BuildFault
-within_work id read = refused_if (not (nat_le (work_of read.0) 100000)) TooMuchWork (Ok (record { main = id; term = read.0 }))
+-- the tree of this ID and term, where its work is within the limit
+abbrev pub within_work : List ℕ → Term → Result Tree BuildFault
+within_work id term = refused_if (not (nat_le (work_of term) 100000)) TooMuchWork (Ok (record { main = id; term = term }))
 
-abbrev pub root_read : File → List ℕ → Option Element → Result Tree BuildFault
-root_read file id None = Err (ChildCount 0)
-root_read file id (Some root) = go_on (within_work id) (read_root file root id)
+abbrev pub root_read : File → List ℕ → Element → Result Tree BuildFault
+root_read file id root = go_on (λ read. within_work id read.0) (read_root file root id)
+
+-- a tree has one root
+abbrev pub roots_read : File → List ℕ → List Element → Result Tree BuildFault
+roots_read file id (root ∷ []) = root_read file id root
+roots_read file id roots = Err (ChildCount 0)
 
 -- the tree of this ID
 abbrev pub main_read : File → List ℕ → Option Element → Result Tree BuildFault
 main_read file id None = Err (NoTree id)
-main_read file id (Some tree) = root_read file id (first_root (children_of tree))
+main_read file id (Some tree) = roots_read file id (children_of tree)
 
 abbrev pub named_read : File → Option (List ℕ) → Result Tree BuildFault
 named_read file None = Err NoMain

@@ -1,6 +1,7 @@
 //! From the element of a tree file to the tree.
 #![tactic(auto)]
 
+mod building;
 mod content;
 mod fault;
 mod head;
@@ -10,6 +11,8 @@ mod scripts;
 mod tree;
 mod trees;
 mod values;
+mod working;
 
+pub use building::build;
 pub use fault::BuildFault;
-pub use scripts::script;
+pub use working::work;

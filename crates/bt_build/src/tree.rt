@@ -1,7 +1,7 @@
 ghost use Rattle.std.specs.Prelude.{◌≡◌, ◌++◌, ◌∷◌, ◌<◌, [], IfOk};
 ghost use Rattle.bt_script.specs.Stops.{Gives};
 ghost use Rattle.bt_model.specs.Names.{is_among};
-ghost use Rattle.bt_build.specs.Reads.{node_by, node_of, name_in, nodes_by, opened_by, read_node, term_of, tree_of};
+ghost use Rattle.bt_build.specs.Reads.{is_subtree, node_by, node_of, name_in, nodes_by, opened_by, read_node, term_of, tree_of};
 ghost use Rattle.bt_build.specs.Seen.{file_seen, ids_seen};
 
 use crate::content::{Content, content_in};
@@ -28,6 +28,7 @@ pub struct Numbers {
 }
 
 /// What a file defines: its trees, and the models of its leaves.
+#[derive(Drop)]
 pub struct File<'a> {
     pub trees: Trees<'a>,
     pub models: &'a Manifest,
@@ -56,6 +57,15 @@ fn with_opened<'a>(
     let mut all = Vec::from_slice(alloc, opened)?;
     all.push(id)?;
     Ok(all)
+}
+
+fn is_subtree(kind: Kind) -> bool
+    ensures { result ≡ is_subtree kind }
+{
+    match kind {
+        Kind::SubTree => true,
+        _ => false,
+    }
 }
 
 /// The name of a node, which is its ID where no other is written.
@@ -163,13 +173,13 @@ fn opened_by(
     if !element.children.list().is_empty() || roots.len() != 1 {
         return Err(Stop::Fault(BuildFault::ChildCount { uid }));
     }
-    let opened = with_opened(alloc, opened, &head.id)?;
+    let inner = with_opened(alloc, &*opened, &head.id)?;
     let numbers = Numbers {
         nodes: uid,
         scopes: numbers.scopes + 1,
     };
     let attributes = element.attributes.list();
-    node_of(alloc, file, left, head, attributes, opened.as_slice(), roots, numbers, uid)
+    node_of(alloc, file, left, head, attributes, inner.as_slice(), roots, numbers, uid)
 }
 
 /// A node by its kind.
@@ -184,9 +194,9 @@ fn node_by(
     numbers: Numbers,
 ) -> Result<(Term, Numbers), Stop<BuildFault>>
     requires { numbers.nodes < 4096 }
-    ensures { Gives result (node_by head.now.kind (file_seen file.now) (read_node (file_seen file.now) left) head.now element.now (ids_seen opened.now) numbers) }
+    ensures { Gives result (node_by (file_seen file.now) (read_node (file_seen file.now) left) head.now element.now (ids_seen opened.now) numbers) }
 {
-    if let Kind::SubTree = head.kind {
+    if is_subtree(head.kind) {
         return opened_by(alloc, file, left, head, element, opened, numbers);
     }
     let uid = numbers.nodes + 1;

@@ -1,7 +1,7 @@
 -- What is counted over a term.
 use Rattle.std.specs.List.{flat_map}
 use Rattle.bt_script.specs.Numbers.{greatest}
-use Rattle.std.specs.Prelude.{ℕ, ◌+◌, ◌*◌, List, [], ◌∷◌, ◌++◌, sum, negsuc, nat_abs, if◌then◌else◌}
+use Rattle.std.specs.Prelude.{ℕ, ◌+◌, ◌*◌, List, [], ◌∷◌, ◌++◌, sum, negsuc, unsigned_abs, if◌then◌else◌}
 use Rattle.std.specs.Ordering.{int_eq}
 use Rattle.bt_script.specs.declared.value.Value.TheVariants.{Int, Text}
 use Rattle.bt_model.specs.declared.term.Port.{Port}
@@ -32,22 +32,22 @@ leaf_ids = fold-Term (List (List ℕ)) (λ node. own_leaf_id node.kind node.id +
 -- and 1000 times where a key is read
 abbrev pub turns_given : PortValue → ℕ
 turns_given (Key key) = 1000
-turns_given (Lit (Int n)) = if int_eq n (negsuc 0) then 1 else nat_abs n
+turns_given (Lit (Int n)) = if int_eq n (negsuc 0) then 1 else unsigned_abs n
 turns_given (Lit (Text text)) = 1
 
 abbrev pub turns_of : List Port → ℕ
 turns_of [] = 1
 turns_of (port ∷ ports) = turns_given port.value
 
--- the work of a node of this kind, where the work of each of its children is known
-abbrev pub work_step : Kind → List Port → List ℕ → ℕ
-work_step Retry ports children = 1 + turns_of ports * sum children
-work_step Repeat ports children = 1 + turns_of ports * sum children
-work_step kind ports children = 1 + sum children
+-- how often a node of this kind visits its children at most in one visit
+abbrev pub times_of : Kind → List Port → ℕ
+times_of Retry ports = turns_of ports
+times_of Repeat ports = turns_of ports
+times_of kind ports = 1
 
 -- the work of a term: how many visits one visit of its root makes at most
 abbrev pub work_of : Term → ℕ
-work_of = fold-Term ℕ (λ node. work_step node.kind node.ports node.children)
+work_of = fold-Term ℕ (λ node. 1 + times_of node.kind node.ports * sum node.children)
 
 -- the scopes that a node opens: a SubTree node opens one
 abbrev pub own_scopes : Kind → ℕ

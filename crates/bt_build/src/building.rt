@@ -1,0 +1,154 @@
+ghost use Rattle.std.specs.Prelude.{◌≡◌, Ok};
+ghost use Rattle.std.specs.Option.{option_copied};
+ghost use Rattle.bt_script.specs.Stops.{Gives};
+ghost use Rattle.bt_manifest.specs.Models.{manifest_in};
+ghost use Rattle.bt_build.specs.Reads.{main_of, main_read, most_levels, only_id, read_root, reads, root_read, tree_of, trees_read, within_work};
+ghost use Rattle.bt_build.specs.Seen.{file_seen, trees_seen};
+
+use crate::fault::BuildFault;
+use crate::tree::{File, Numbers, read_node};
+use crate::trees::{Trees, not_root, says_format, tree_of, trees_of};
+use crate::working::is_within_work;
+use bt_elements::{Element, Elements};
+use bt_manifest::{Manifest, attribute};
+use bt_model::{Term, Tree};
+use bt_script::{Name, Stop};
+use std::alloc::Global;
+
+/// The most visits that one visit of a tree may make.
+const MOST_WORK: u32 = 100_000;
+
+/// The ID of the only tree.
+fn only_id<'t>(trees: &'t Trees<'_>) -> Option<&'t Name>
+    ensures { option_copied result ≡ only_id (trees_seen trees.now.entries) }
+{
+    if trees.len() != 1 {
+        return None;
+    }
+    match trees.as_slice().first() {
+        Some((id, _)) => Some(id),
+        None => None,
+    }
+}
+
+/// The ID of the main tree: the one that is asked for, else the one that the file names, else that
+/// of its only tree.
+fn main_of<'t>(
+    asked: Option<&'t Name>,
+    attributes: &'t [(Name, Name)],
+    trees: &'t Trees<'_>,
+) -> Option<&'t Name>
+    ensures { option_copied result ≡ main_of (option_copied asked.entry) attributes.now (trees_seen trees.now.entries) }
+{
+    if let Some(id) = asked {
+        return Some(id);
+    }
+    match attribute(attributes, b"main_tree_to_execute") {
+        Some(id) => Some(id),
+        None => only_id(trees),
+    }
+}
+
+/// The levels that are left for a root node.
+#[tactic(auto, unfolding(crate::specs::Reads::most_levels))]
+fn most_levels() -> u32
+    ensures { result ≡ most_levels }
+{
+    256
+}
+
+/// The term of a root node, the tree of which has this ID.
+fn read_root(
+    alloc: Global,
+    file: &File<'_>,
+    root: &Element,
+    id: &Name,
+) -> Result<(Term, Numbers), Stop<BuildFault>>
+    ensures { Gives result (read_root (file_seen file.now) root.now id.now) }
+{
+    let numbers = Numbers { nodes: 0, scopes: 1 };
+    let opened = [id];
+    read_node(alloc, file, most_levels(), root, opened.as_slice(), numbers)
+}
+
+/// The tree of this term, where its work is within the limit.
+fn within_work(alloc: Global, id: &Name, term: Term) -> Result<Tree, Stop<BuildFault>>
+    ensures { Gives result (within_work id.now term) }
+{
+    if !is_within_work(&term, MOST_WORK) {
+        return Err(Stop::Fault(BuildFault::TooMuchWork));
+    }
+    Ok(Tree {
+        main: id.copy(alloc)?,
+        term,
+    })
+}
+
+/// The tree of this ID and root node.
+fn root_read(
+    alloc: Global,
+    file: &File<'_>,
+    id: &Name,
+    root: &Element,
+) -> Result<Tree, Stop<BuildFault>>
+    ensures { Gives result (root_read (file_seen file.now) id.now root.now) }
+{
+    let (term, _) = read_root(alloc, file, root, id)?;
+    within_work(alloc, id, term)
+}
+
+/// The tree of this ID.
+fn main_read(alloc: Global, file: &File<'_>, id: &Name) -> Result<Tree, Stop<BuildFault>>
+    ensures { Gives result (main_read (file_seen file.now) id.now (tree_of id.now (file_seen file.now).trees)) }
+{
+    match tree_of(&file.trees, id) {
+        Some(tree) => match tree.children.list() {
+            [root] => root_read(alloc, file, id, root),
+            _ => Err(Stop::Fault(BuildFault::ChildCount { uid: 0 })),
+        },
+        None => {
+            let id = id.copy(alloc)?;
+            Err(Stop::Fault(BuildFault::NoTree { id }))
+        }
+    }
+}
+
+/// The tree of a file with these trees.
+fn trees_read(
+    alloc: Global,
+    models: &Manifest,
+    asked: Option<&Name>,
+    attributes: &[(Name, Name)],
+    trees: Trees<'_>,
+) -> Result<Tree, Stop<BuildFault>>
+    ensures { Gives result (trees_read models.now (option_copied asked.entry) attributes.now (trees_seen trees.entry.entries)) }
+{
+    let file = File { trees, models };
+    match main_of(asked, attributes, &file.trees) {
+        Some(id) => main_read(alloc, &file, id),
+        None => Err(Stop::Fault(BuildFault::NoMain)),
+    }
+}
+
+/// The tree that the elements of a file read as, with the main tree that is asked for, or the first
+/// fault.
+pub fn build(
+    alloc: Global,
+    elements: &Elements,
+    models: &Manifest,
+    main: Option<&Name>,
+) -> Result<Tree, Stop<BuildFault>>
+    requires { manifest_in elements.now.root ≡ Ok models.now }
+    ensures reads { Gives result (reads models.now (option_copied main.entry) elements.now.root) }
+{
+    let root = &elements.root;
+    let attributes = root.attributes.list();
+    if let Some(place) = not_root(root) {
+        return Err(Stop::Fault(BuildFault::NotRoot { place }));
+    }
+    if !says_format(attribute(attributes, b"BTCPP_format")) {
+        return Err(Stop::Fault(BuildFault::Format));
+    }
+    let trees = trees_of(alloc, root.children.list())?;
+    trees_read(alloc, models, main, attributes, trees)
+}

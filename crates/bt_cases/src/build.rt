@@ -1,0 +1,234 @@
+//! What tree files are understood as, and the first fault of each.
+
+use bt_build::{BuildFault, build, work};
+use bt_elements::read_elements;
+use bt_manifest::manifest_of;
+use bt_model::{Guards, Port, PortValue, Term, Tree};
+use bt_script::{Name, NoMemory, Script, Stop, Value};
+use std::alloc::{AllocError, Global};
+use std::test::Fail;
+
+fn text(name: &Name) -> &str {
+    str::from_utf8(name.list()).unwrap_or("?")
+}
+
+/// A port as it is understood: numbers bare, texts in quotes, keys in braces.
+fn port_text(alloc: Global, port: &Port) -> Result<String, AllocError> {
+    let name = text(&port.name);
+    match &port.value {
+        PortValue::Lit(Value::Int(n)) => format!(in alloc; " {name}={n}"),
+        PortValue::Lit(Value::Text(t)) => {
+            format!(in alloc; " {name}='{}'", str::from_utf8(t.list()).unwrap_or("?"))
+        }
+        PortValue::Key(key) => format!(in alloc; " {name}={{{}}}", text(key)),
+    }
+}
+
+/// The number of statements of a script, if it is there.
+fn script_text(alloc: Global, name: &str, script: &Option<Script>) -> Result<String, AllocError> {
+    match script {
+        Some(script) => format!(in alloc; " {name}:{}", script.stmts.list().len()),
+        None => format!(in alloc; ""),
+    }
+}
+
+fn guards_text(alloc: Global, guards: &Guards) -> Result<String, AllocError> {
+    let mut all = String::new(alloc);
+    for (name, script) in [
+        ("failure_if", &guards.failure_if),
+        ("success_if", &guards.success_if),
+        ("skip_if", &guards.skip_if),
+        ("while_true", &guards.while_true),
+        ("on_success", &guards.on_success),
+        ("on_failure", &guards.on_failure),
+        ("post", &guards.post),
+        ("on_halted", &guards.on_halted),
+    ] {
+        all.push_str(script_text(alloc, name, script)?.as_str())?;
+    }
+    Ok(all)
+}
+
+/// A node with its children in parentheses.
+fn term_text(alloc: Global, term: &Term) -> Result<String, AllocError> {
+    let mut all = format!(in alloc; "{:?} {} {}", term.kind, text(&term.id), text(&term.name))?;
+    for port in term.ports.list() {
+        all.push_str(port_text(alloc, port)?.as_str())?;
+    }
+    if term.autoremap {
+        all.push_str(" autoremap")?;
+    }
+    all.push_str(script_text(alloc, "code", &term.code)?.as_str())?;
+    all.push_str(guards_text(alloc, &term.guards)?.as_str())?;
+    for child in term.children.list() {
+        all.push_str(format!(in alloc; " ({})", term_text(alloc, child)?)?.as_str())?;
+    }
+    Ok(all)
+}
+
+fn fault_text(alloc: Global, fault: &BuildFault) -> Result<String, AllocError> {
+    match fault {
+        BuildFault::NotRoot { place } => format!(in alloc; "NotRoot {place}"),
+        BuildFault::Format => format!(in alloc; "Format"),
+        BuildFault::DoubleTree { id } => format!(in alloc; "DoubleTree '{}'", text(id)),
+        BuildFault::NoMain => format!(in alloc; "NoMain"),
+        BuildFault::NoTree { id } => format!(in alloc; "NoTree '{}'", text(id)),
+        BuildFault::TooManyNodes => format!(in alloc; "TooManyNodes"),
+        BuildFault::TooDeep { uid } => format!(in alloc; "TooDeep {uid}"),
+        BuildFault::UnknownNode { uid } => format!(in alloc; "UnknownNode {uid}"),
+        BuildFault::Recursive { id } => format!(in alloc; "Recursive '{}'", text(id)),
+        BuildFault::TooManyScopes => format!(in alloc; "TooManyScopes"),
+        BuildFault::ChildCount { uid } => format!(in alloc; "ChildCount {uid}"),
+        BuildFault::UnknownPort { uid } => format!(in alloc; "UnknownPort {uid}"),
+        BuildFault::BadLiteral { uid } => format!(in alloc; "BadLiteral {uid}"),
+        BuildFault::BadScript { uid, fault } => format!(in alloc; "BadScript {uid} {fault:?}"),
+        BuildFault::TooMuchWork => format!(in alloc; "TooMuchWork"),
+    }
+}
+
+/// What a file is understood as.
+fn file_text(alloc: Global, file: &[u8], main: Option<&str>) -> Result<String, AllocError> {
+    if file.len() > 1_048_576 {
+        return format!(in alloc; "too long");
+    }
+    let Ok(elements) = read_elements(alloc, file) else {
+        return format!(in alloc; "no elements");
+    };
+    let Ok(models) = manifest_of(alloc, &elements) else {
+        return format!(in alloc; "no models");
+    };
+    let asked = match main {
+        Some(id) => Some(Name::of(Vec::from_slice(alloc, id.as_bytes())?)),
+        None => None,
+    };
+    match build(alloc, &elements, &models, asked.as_ref()) {
+        Ok(Tree { main, term }) => {
+            format!(in alloc; "{}: {}", text(&main), term_text(alloc, &term)?)
+        }
+        Err(Stop::Fault(fault)) => fault_text(alloc, &fault),
+        Err(Stop::NoMemory) => format!(in alloc; "no memory"),
+    }
+}
+
+#[test]
+fn files(rt: HostRuntime) -> Result<(), Fail> {
+    let alloc = rt.alloc();
+    for (file, main, wanted) in [
+        ("<tree/>", None, "NotRoot 0"),
+        ("<root BTCPP_format=\"5\"><a/></root>", None, "NotRoot 23"),
+        ("<root BTCPP_format=\"5\"/>", None, "Format"),
+        ("<root/>", None, "Format"),
+        ("<root BTCPP_format=\"4\"/>", None, "NoMain"),
+        (
+            "<root BTCPP_format=\"4\"><BehaviorTree/><BehaviorTree ID=\"\"/></root>",
+            None,
+            "DoubleTree ''",
+        ),
+        (
+            "<root BTCPP_format=\"4\"><BehaviorTree ID=\"A\"/><BehaviorTree ID=\"B\"/></root>",
+            None,
+            "NoMain",
+        ),
+        (
+            "<root BTCPP_format=\"4\" main_tree_to_execute=\"C\"><BehaviorTree ID=\"A\"/></root>",
+            None,
+            "NoTree 'C'",
+        ),
+        (
+            "<root BTCPP_format=\"4\" main_tree_to_execute=\"C\"><BehaviorTree ID=\"A\"><X/></BehaviorTree></root>",
+            Some("A"),
+            "A: Leaf X X",
+        ),
+        (
+            "<root BTCPP_format=\"4\" main_tree_to_execute=\"\"><BehaviorTree><X/></BehaviorTree><BehaviorTree ID=\"B\"/></root>",
+            None,
+            ": Leaf X X",
+        ),
+        ("<root BTCPP_format=\"4\"><BehaviorTree ID=\"M\"/></root>", None, "ChildCount 0"),
+        (
+            "<root BTCPP_format=\"4\"><BehaviorTree ID=\"M\"><SubTree ID=\"M\"/></BehaviorTree></root>",
+            None,
+            "Recursive 'M'",
+        ),
+        (
+            "<root BTCPP_format=\"4\" main_tree_to_execute=\"M\"><BehaviorTree ID=\"M\"><Sequence><A/><SubTree ID=\"S\"/></Sequence></BehaviorTree><BehaviorTree ID=\"S\"/></root>",
+            None,
+            "ChildCount 3",
+        ),
+        (
+            "<root BTCPP_format=\"4\" main_tree_to_execute=\"M\"><BehaviorTree ID=\"M\"><Sequence><SubTree ID=\"S\" a=\"{b}\" c=\"{=}\" d=\"7\" _autoremap=\"1\" name=\"n\"/><A/></Sequence></BehaviorTree><BehaviorTree ID=\"S\"><Inverter><B/></Inverter></BehaviorTree></root>",
+            None,
+            "M: Sequence Sequence Sequence (SubTree S n a={b} c={c} d=7 autoremap (Inverter Inverter Inverter (Leaf B B))) (Leaf A A)",
+        ),
+        (
+            "<root BTCPP_format=\"4\"><BehaviorTree ID=\"M\"><A b=\"1\" _x=\"2\"/></BehaviorTree><TreeNodesModel><Action ID=\"A\"><input_port name=\"c\" default=\"{=}\"/><output_port name=\"b\" default=\"5\"/><inout_port name=\"d\"/></Action></TreeNodesModel></root>",
+            None,
+            "M: Leaf A A b=1 c={c}",
+        ),
+        (
+            "<root BTCPP_format=\"4\"><BehaviorTree ID=\"M\"><A e=\"1\"/></BehaviorTree><TreeNodesModel><Action ID=\"A\"><input_port name=\"c\" default=\"{}\"/></Action></TreeNodesModel></root>",
+            None,
+            "UnknownPort 1",
+        ),
+        (
+            "<root BTCPP_format=\"4\"><BehaviorTree ID=\"M\"><A/></BehaviorTree><TreeNodesModel><Action ID=\"A\"><input_port name=\"c\" default=\"{}\"/></Action></TreeNodesModel></root>",
+            None,
+            "BadLiteral 1",
+        ),
+    ] {
+        assert_eq!(rt; file_text(alloc, file.as_bytes(), main)?.as_str(), wanted, "{file}");
+    }
+    Ok(())
+}
+
+#[test]
+fn nodes(rt: HostRuntime) -> Result<(), Fail> {
+    let alloc = rt.alloc();
+    for (node, wanted) in [
+        ("<Sequence/>", "ChildCount 1"),
+        ("<Control ID=\"Sequence\" name=\"s\"><A/></Control>", "M: Sequence Sequence s (Leaf A A)"),
+        ("<Decorator ID=\"Sequence\"><A/></Decorator>", "UnknownNode 1"),
+        ("<Sequence ID=\"X\"><A/></Sequence>", "M: Sequence Sequence Sequence (Leaf A A)"),
+        ("<Sequence x=\"1\"><A/></Sequence>", "UnknownPort 1"),
+        ("<Action/>", "UnknownNode 1"),
+        ("<Action ID=\"root\"/>", "M: Leaf root root"),
+        ("<Condition ID=\"A\" name=\"n\" p=\"{q}\"/>", "M: Leaf A n p={q}"),
+        ("<Action ID=\"A\"><B/></Action>", "UnknownNode 1"),
+        ("<Action ID=\"AlwaysSuccess\"><B/></Action>", "ChildCount 1"),
+        ("<Control ID=\"A\"/>", "UnknownNode 1"),
+        ("<root/>", "UnknownNode 1"),
+        ("<A><B/></A>", "UnknownNode 1"),
+        ("<N x=\"{}\"/>", "BadLiteral 1"),
+        ("<N x=\"{a b}\"/>", "BadLiteral 1"),
+        ("<N a.b=\"{=}\"/>", "BadLiteral 1"),
+        ("<N x=\"-0\" y=\"-7\" z=\"9223372036854775808\"/>", "M: Leaf N N x='-0' y=-7 z='9223372036854775808'"),
+        ("<Parallel failure_count=\"{f}\"><A/></Parallel>", "M: Parallel Parallel Parallel failure_count={f} success_count=-1 (Leaf A A)"),
+        ("<Switch2 variable=\"{v}\" case_2=\"b\" case_1=\"1\"><A/><B/><C/></Switch2>", "M: Switch(2) Switch2 Switch2 variable={v} case_2='b' case_1=1 (Leaf A A) (Leaf B B) (Leaf C C)"),
+        ("<Switch2 variable=\"{v}\" case_1=\"1\"><A/><B/><C/></Switch2>", "BadLiteral 1"),
+        ("<Switch2 case_3=\"c\"><A/><B/><C/></Switch2>", "UnknownPort 1"),
+        ("<Switch2 variable=\"\" case_1=\"\" case_2=\"\"><A/><B/></Switch2>", "ChildCount 1"),
+        ("<IfThenElse><A/></IfThenElse>", "ChildCount 1"),
+        ("<RetryUntilSuccessful num_attempts=\"0\"><A/></RetryUntilSuccessful>", "BadLiteral 1"),
+        ("<RetryUntilSuccessful num_attempts=\"-1\"><A/></RetryUntilSuccessful>", "M: Retry RetryUntilSuccessful RetryUntilSuccessful num_attempts=-1 (Leaf A A)"),
+        ("<Repeat num_cycles=\"1001\"><A/></Repeat>", "BadLiteral 1"),
+        ("<Timeout msec=\"4294967296\"><A/></Timeout>", "BadLiteral 1"),
+        ("<Delay><A/></Delay>", "BadLiteral 1"),
+        ("<RunOnce><A/></RunOnce>", "M: RunOnce RunOnce RunOnce then_skip='true' (Leaf A A)"),
+        ("<RunOnce then_skip=\"2\"><A/></RunOnce>", "BadLiteral 1"),
+        ("<Script/>", "BadLiteral 1"),
+        ("<Script code=\"x:=1; y=2\"/>", "M: ScriptNode Script Script code:2"),
+        ("<Script code=\"1.5\" _post=\"(\"/>", "BadScript 1 RealNumber { place: 0 }"),
+        ("<ScriptCondition code=\"x\" _while=\"x\" _skipIf=\"1;2\"/>", "M: ScriptCondition ScriptCondition ScriptCondition code:1 skip_if:2 while_true:1"),
+        ("<A _onHalted=\")\" _failureIf=\"\"/>", "BadScript 1 Syntax { place: 0 }"),
+        ("<A _post=\"1.5\" _while=\"(\"/>", "BadScript 1 Syntax { place: 1 }"),
+        ("<Script x=\"{}\"/>", "UnknownPort 1"),
+        ("<N x=\"{}\" _post=\"(\"/>", "BadLiteral 1"),
+        ("<SubTree ID=\"S\" a.b=\"{}\"/>", "NoTree 'S'"),
+        ("<Repeat num_cycles=\"1000\"><Repeat num_cycles=\"{k}\"><A/></Repeat></Repeat>", "TooMuchWork"),
+        ("<Sequence><A/><Inverter><B x=\"{}\"/></Inverter><Sequence/></Sequence>", "BadLiteral 4"),
+    ] {
+        let file = format!(in alloc; "<root BTCPP_format=\"4\"><BehaviorTree ID=\"M\">{node}</BehaviorTree></root>")?;
+        assert_eq!(rt; file_text(alloc, file.as_bytes(), None)?.as_str(), wanted, "{node}");
+    }
+    Ok(())
+}

@@ -1,0 +1,89 @@
+//! Which models the files of trees have, and the first fault of each.
+
+use bt_elements::read_elements;
+use bt_manifest::{ManifestFault, NodeModel, manifest_of, model};
+use bt_script::{Name, Stop};
+use std::alloc::{AllocError, Global};
+use std::test::Fail;
+
+fn text(name: &Name) -> &str {
+    str::from_utf8(name.list()).unwrap_or("?")
+}
+
+fn model_text(alloc: Global, model: Option<&NodeModel>) -> Result<String, AllocError> {
+    let Some(model) = model else {
+        return format!(in alloc; "none");
+    };
+    let mut all = format!(in alloc; "{}", text(&model.id))?;
+    for port in model.ports.list() {
+        all.push_str(format!(in alloc; " {}", text(&port.name))?.as_str())?;
+        if let Some(fallback) = &port.fallback {
+            all.push_str(format!(in alloc; "='{}'", text(fallback))?.as_str())?;
+        }
+    }
+    Ok(all)
+}
+
+/// The model of the ID `A` in a file, or the file's fault.
+fn file_text(alloc: Global, file: &[u8]) -> Result<String, AllocError> {
+    if file.len() > 1_048_576 {
+        return format!(in alloc; "too long");
+    }
+    let Ok(elements) = read_elements(alloc, file) else {
+        return format!(in alloc; "no elements");
+    };
+    let id = Name::of(Vec::from_slice(alloc, b"A")?);
+    match manifest_of(alloc, &elements) {
+        Ok(models) => model_text(alloc, model(&models, &id)),
+        Err(Stop::Fault(ManifestFault::DoubleModel { place })) => format!(in alloc; "DoubleModel {place}"),
+        Err(Stop::Fault(ManifestFault::BadModel { place })) => format!(in alloc; "BadModel {place}"),
+        Err(Stop::NoMemory) => format!(in alloc; "no memory"),
+    }
+}
+
+#[test]
+fn files(rt: HostRuntime) -> Result<(), Fail> {
+    let alloc = rt.alloc();
+    for (file, wanted) in [
+        ("<root/>", "none"),
+        ("<x><TreeNodesModel/><TreeNodesModel/></x>", "DoubleModel 20"),
+        ("<x><TreeNodesModel><Action/></TreeNodesModel></x>", "BadModel 19"),
+        ("<x><TreeNodesModel><Control/><Action ID=\"A\"/></TreeNodesModel></x>", "A"),
+        (
+            "<x><TreeNodesModel><Action ID=\"A\"><input_port name=\"p\"/><output_port name=\"q\" default=\"3\"/><inout_port name=\"r\" default=\"\"/><other/></Action></TreeNodesModel></x>",
+            "A p q='3' r=''",
+        ),
+        (
+            "<x><TreeNodesModel><Action ID=\"A\"><input_port name=\"name\"/><input_port name=\"_p\"/><input_port name=\"1\"/><input_port name=\"ID\"/><input_port name=\"a.b\"/></Action></TreeNodesModel></x>",
+            "A a.b",
+        ),
+        ("<x><TreeNodesModel><Action ID=\"A\"><input_port/></Action></TreeNodesModel></x>", "BadModel 34"),
+        (
+            "<x><TreeNodesModel><Action ID=\"A\"><input_port name=\"p\"/><output_port name=\"p\"/></Action></TreeNodesModel></x>",
+            "BadModel 55",
+        ),
+        (
+            "<x><TreeNodesModel><Action ID=\"A\"><input_port name=\"\"/><output_port name=\"\"/></Action></TreeNodesModel></x>",
+            "BadModel 54",
+        ),
+        (
+            "<x><TreeNodesModel><Action ID=\"A\"/><Condition ID=\"A\"><input_port/></Condition></TreeNodesModel></x>",
+            "DoubleModel 35",
+        ),
+        (
+            "<x><TreeNodesModel><Action ID=\"A\"><input_port/></Action><Condition ID=\"A\"/></TreeNodesModel></x>",
+            "BadModel 34",
+        ),
+        (
+            "<x><TreeNodesModel><Action ID=\"Script\"><input_port/></Action><Action ID=\"Script\"/></TreeNodesModel></x>",
+            "none",
+        ),
+        (
+            "<x><y><TreeNodesModel><Action/></TreeNodesModel></y><TreeNodesModel><Action ID=\"B\"/></TreeNodesModel></x>",
+            "none",
+        ),
+    ] {
+        assert_eq!(rt; file_text(alloc, file.as_bytes())?.as_str(), wanted, "{file}");
+    }
+    Ok(())
+}
