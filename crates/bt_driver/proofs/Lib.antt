@@ -1,6 +1,7 @@
 pub mod Keeping
 pub mod Missing
 pub mod Outputs
+pub mod Padding
 pub mod Placing
 pub mod Preparing
 pub mod Quiet

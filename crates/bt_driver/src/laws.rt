@@ -4,7 +4,7 @@ ghost use Rattle.bt_model.specs.declared.leaf.Instance.{Instance};
 ghost use Rattle.bt_model.specs.declared.leaf.Phase.{Phase};
 ghost use Rattle.bt_model.specs.declared.world.Fact.{Fact};
 ghost use Rattle.bt_model.specs.declared.world.Row.{Row};
-ghost use Rattle.bt_model.specs.Leaf.{Rule, rule_answer, since_after, start_of};
+ghost use Rattle.bt_model.specs.Leaf.{Rule, leaf_rule, padded, rule_answer, since_after, start_of};
 ghost use Rattle.bt_model.specs.Worlds.{IsValidRow};
 ghost use Rattle.bt_driver.specs.Places.{CanBeReady};
 
@@ -15,6 +15,12 @@ pub fn calls_keep()
         (rule_answer rule phase instance inputs facts now).instance.since ≡ since_after (rule_answer rule phase instance inputs facts now).reply (start_of phase instance now) instance.since }
     ensures facts { (rule : Rule) (phase : Phase) (instance : Instance) (inputs : List Seen) (facts : List ℤ) (now : ℕ) →
         length (rule_answer rule phase instance inputs facts now).facts ≡ length facts }
+{}
+
+/// Inputs behind the last port may be left out: they are absent.
+pub fn inputs_may_be_left_out()
+    ensures { (names : List Fact) (row : Row) (phase : Phase) (instance : Instance) (inputs : List Seen) (facts : List ℤ) (now : ℕ) →
+        leaf_rule names row phase instance (padded inputs) facts now ≡ leaf_rule names row phase instance inputs facts now }
 {}
 
 /// Each valid row of a world can be made ready.

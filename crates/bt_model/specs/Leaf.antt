@@ -29,9 +29,13 @@ use Rattle.bt_model.specs.declared.world.Set.{Set}
 
 -- ---- What a row's expressions see
 
--- the inputs of all eight places, absent where none is given, and behind them the facts
+-- the inputs of all eight places, absent where none is given
+abbrev pub padded : List Seen → List Seen
+padded inputs = inputs ++ replicate (8 - length inputs) seen.Absent
+
+-- the inputs, and behind them the facts
 abbrev pub sights : List Seen → List ℤ → List Seen
-sights inputs facts = (inputs ++ replicate (8 - length inputs) seen.Absent) ++ map (λ n. seen.Int n) facts
+sights inputs facts = padded inputs ++ map (λ n. seen.Int n) facts
 
 -- the place of the first of these names that is this one, where the first of them has this place; else another place
 abbrev pub place_from : ℕ → List (List ℕ) → List ℕ → ℕ → ℕ

@@ -15,7 +15,7 @@ loop-out-preserved c = record {
         c.loop-out-test.true c.out-item.is c.in_ok-ready_expr.ensures.number c.loop-out.invariant.numbers;
   reach = λ n below.
       let Within = λ (e : ReadyExpr). expr_reach e ≤ n in
-      subst (All Within) (sym c.in_ok-push.ensures.items)
+      subst (All Within) (sym {A = List ReadyExpr} c.in_ok-push.ensures.items)
       (All-append Within c.loop-out.exprs.items (c.in_ok-ready_expr.field-0 ∷ []) (c.loop-out.invariant.reach n below)
        (All-cons Within c.in_ok-ready_expr.field-0 [] (c.in_ok-ready_expr.ensures.reach n below) (All-nil Within)));
 }
