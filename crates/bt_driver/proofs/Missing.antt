@@ -1,5 +1,5 @@
 -- Only an input can be missing from what a row's expression sees.
-use Rattle.std.proofs.Common.{◌≡◌, ℕ, ◌+◌, ◌-◌, ◌<◌, ◌≤◌, max, ◌^◌, true, false, if◌then◌else◌, ◌&&◌, nat_le, ℤ, pos, negsuc, neg_ℤ, ◌+ℤ◌, ◌-ℤ◌, ◌*ℤ◌, int_le, int_div, int_rem, List, length, ◌++◌, get_or, Result, Ok, Err, refl, sym, subst, ap, ◌∙◌, inl, inr, arith}
+use Rattle.std.proofs.Common.{◌≡◌, ℕ, ◌+◌, ◌-◌, ◌<◌, ◌≤◌, ◌^◌, true, false, if◌then◌else◌, ◌&&◌, nat_le, ℤ, pos, negsuc, neg_ℤ, ◌+ℤ◌, ◌-ℤ◌, ◌*ℤ◌, int_le, int_div, int_rem, List, length, ◌++◌, get_or, Result, Ok, Err, sym, subst, ap, ◌∙◌, inl, inr, arith}
 use Rattle.std.proofs.lemmas.Bool.{cases_lt}
 use Rattle.std.specs.Ordering.{int_eq}
 use Rattle.bt_script.specs.declared.cells.Seen.{Seen}
@@ -22,7 +22,7 @@ use Rattle.bt_script_code.specs.declared.codes.ExprCode.{ExprCode}
 use Rattle.bt_script_code.specs.Codes.{formula}
 use Rattle.bt_script_code.specs.Programs.{Formula, formula_of}
 use Rattle.bt_script_code.specs.Sources.{reach_step, reach_of}
-use Rattle.bt_model.specs.Leaf.{sights, fact_at}
+use Rattle.bt_model.specs.Leaf.{sights}
 use Rattle.bt_driver.proofs.Sights.{fact_seen}
 
 -- a fault that says of a place that nothing is there says it of one of the first eight

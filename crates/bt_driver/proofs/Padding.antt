@@ -15,7 +15,7 @@ use Rattle.bt_model.specs.declared.world.Out.{Out}
 use Rattle.bt_model.specs.declared.world.Row.{Row}
 use Rattle.bt_model.specs.declared.world.RowSort.{RowSort}
 use Rattle.bt_model.specs.declared.world.RowSort.TheVariants as sort
-use Rattle.bt_model.specs.Leaf.{Rule, answer_by, as_number, completed, decided, finished, held, judged, lasting, leaf_rule, let_go, number_of, outcome_at, outputs_of, padded, place_of, replied, rule_by, sights, start_of, test_of, timed_end, truth_of, way_of, with_output}
+use Rattle.bt_model.specs.Leaf.{answer_by, as_number, completed, decided, finished, held, judged, lasting, leaf_rule, let_go, number_of, outcome_at, outputs_of, padded, place_of, replied, rule_by, sights, start_of, test_of, timed_end, truth_of, way_of, with_output}
 
 no_more : (inputs : List Seen) (n : ℕ) → n ≡ 0 → inputs ++ replicate n seen.Absent ≡ inputs
 no_more inputs n none = ap (λ k. inputs ++ replicate k seen.Absent) none ∙ append-nil inputs

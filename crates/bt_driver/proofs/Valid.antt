@@ -1,6 +1,5 @@
 -- Each valid row of a world can be made ready.
-use Rattle.std.proofs.Common.{ℕ, ◌≤◌, List, Option, Some, None, length, map, arith}
-use Rattle.std.specs.Prelude.{IfSome}
+use Rattle.std.proofs.Common.{ℕ, ◌≤◌, List, length, arith}
 use Rattle.std.proofs.lemmas.List.{length-map}
 use Rattle.bt_model.specs.declared.world.Fact.{Fact}
 use Rattle.bt_model.specs.declared.world.Out.{Out}

@@ -1,6 +1,5 @@
 -- Rows made ready, as the rules that they stand for, and the facts that they look at.
-use Rattle.std.specs.Prelude.{ℕ, ◌+◌, ℤ, List, [], ◌∷◌, Option, Some, None, option_map}
-use Rattle.bt_script.specs.declared.cells.Seen.{Seen}
+use Rattle.std.specs.Prelude.{ℕ, ◌+◌, Option, Some, None, option_map}
 use Rattle.bt_script.specs.Entries.{look_of}
 use Rattle.bt_script_code.specs.Codes.{formula}
 use Rattle.bt_model.specs.Leaf.{Number, Test, Way, Tests, Lasts, Replays, Waits, sights, as_number, truth_of, comparison}

@@ -17,11 +17,7 @@ use bt_script_code::compile_expr;
 use std::alloc::Global;
 
 /// Adds the input ports at the places from 0 on.
-fn add_ports(
-    alloc: Global,
-    ports: &[Name],
-    places: &mut Vec<(Name, u32)>,
-) -> Result<(), NoMemory>
+fn add_ports(alloc: Global, ports: &[Name], places: &mut Vec<(Name, u32)>) -> Result<(), NoMemory>
     requires { length ports.now ≤ 8 }
     ensures { OnOk result (places.new.items ≡ places.old.items ++ placed 0 ports.now) }
 {
@@ -34,11 +30,7 @@ fn add_ports(
 }
 
 /// Adds the facts at the places behind the eight inputs.
-fn add_facts(
-    alloc: Global,
-    facts: &[Fact],
-    places: &mut Vec<(Name, u32)>,
-) -> Result<(), NoMemory>
+fn add_facts(alloc: Global, facts: &[Fact], places: &mut Vec<(Name, u32)>) -> Result<(), NoMemory>
     requires { length facts.now ≤ 1024 }
     ensures { OnOk result (places.new.items ≡ places.old.items ++ placed 8 (names_of_facts facts.now)) }
 {
@@ -51,11 +43,7 @@ fn add_facts(
 }
 
 /// The names that a row's expressions look at, with their places.
-fn places_of(
-    alloc: Global,
-    ports: &[Name],
-    facts: &[Fact],
-) -> Result<Vec<(Name, u32)>, NoMemory>
+fn places_of(alloc: Global, ports: &[Name], facts: &[Fact]) -> Result<Vec<(Name, u32)>, NoMemory>
     requires ports { length ports.now ≤ 8 }
     requires facts { length facts.now ≤ 1024 }
     ensures { IfOk result (λ places. places.items ≡ row_places ports.now facts.now) }
@@ -67,11 +55,7 @@ fn places_of(
 }
 
 /// An expression made ready over names with these places.
-fn ready_expr(
-    alloc: Global,
-    e: &Expr,
-    places: &[(Name, u32)],
-) -> Result<ReadyExpr, NoMemory>
+fn ready_expr(alloc: Global, e: &Expr, places: &[(Name, u32)]) -> Result<ReadyExpr, NoMemory>
     requires { IsReadable places.now e.now }
     ensures number { IfOk result (λ r. ready_number r ≡ number_of (slot_of places.now) e.now) }
     ensures reach { (n : ℕ) → All (λ pair. pair.1 < n) places.now → IfOk result (λ r. expr_reach r ≤ n) }
@@ -97,11 +81,7 @@ fn ready_fails(
 }
 
 /// How a row answers, made ready.
-fn ready_sort(
-    alloc: Global,
-    sort: &RowSort,
-    places: &[(Name, u32)],
-) -> Result<ReadySort, NoMemory>
+fn ready_sort(alloc: Global, sort: &RowSort, places: &[(Name, u32)]) -> Result<ReadySort, NoMemory>
     requires { IsReadableSort places.now sort.now }
     ensures way { IfOk result (λ s. ready_way s ≡ way_of (slot_of places.now) sort.now) }
     ensures reach { (n : ℕ) → All (λ pair. pair.1 < n) places.now → comparison_reach sort.now ≤ n → IfOk result (λ s. sort_reach s ≤ n) }

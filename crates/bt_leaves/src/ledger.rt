@@ -61,7 +61,10 @@ fn held_among(table: &[Instance]) -> u32
     requires { length table.now < 2 ^ 32 }
     ensures { result ≡ count_by is_held table.now }
 {
-    table.iter().filter(|instance| instance.since.is_some()).count() as u32
+    table
+        .iter()
+        .filter(|instance| instance.since.is_some())
+        .count() as u32
 }
 
 /// This many instances that were never held.

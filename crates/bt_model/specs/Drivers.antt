@@ -1,5 +1,5 @@
 -- Drivers, seen from outside: what each keeps, and what a call leaves of one and of a whole roster.
-use Rattle.std.specs.Prelude.{◌≡◌, ℕ, ◌+◌, ◌-◌, ◌*◌, ◌%◌, ◌^◌, ◌<◌, ◌≤◌, min, ℤ, Bool, true, false, if◌then◌else◌, List, [], ◌∷◌, map, length, replicate, slice_index_or, slice_set, count_by, Option, Some, None, is_some, option_map, IsSome, MatchOption}
+use Rattle.std.specs.Prelude.{◌≡◌, ℕ, ◌+◌, ◌-◌, ◌*◌, ◌%◌, ◌^◌, ◌<◌, ◌≤◌, min, ℤ, Bool, true, false, if◌then◌else◌, List, [], ◌∷◌, length, replicate, slice_index_or, slice_set, count_by, Option, Some, None, is_some, option_map, MatchOption}
 use Rattle.bt_script.specs.declared.cells.Seen.{Seen}
 use Rattle.bt_model.specs.declared.leaf.DriverKind.{DriverKind}
 use Rattle.bt_model.specs.declared.leaf.DriverKind.TheVariants as driver

@@ -45,9 +45,15 @@ invariant_of-result c =
           subst (All (λ (set : Set). set.fact < length facts)) (sym (c.of.ensures ∙ c.in_ok-sets.ensures.items ∙ c.list-2.ensures))
           c.requires.effects;
       few =
-          omega (arith, c.requires.few_outs, ap length c.of-2.ensures, ap length c.list-3.ensures, ap length c.in_ok-outs.ensures.numbers,
-                 length-map c.in_ok-outs.outs.items ready_number,
-                 length-map c.list-3.result.now (λ (out : Out). number_of (slot_of c.as_slice-2.result.now) out.expr));
+          omega (
+            arith,
+            c.requires.few_outs,
+            ap length c.of-2.ensures,
+            ap length c.list-3.ensures,
+            ap length c.in_ok-outs.ensures.numbers,
+            length-map c.in_ok-outs.outs.items ready_number,
+            length-map c.list-3.result.now (λ (out : Out). number_of (slot_of c.as_slice-2.result.now) out.expr),
+          );
       outputs =
           subst (All (λ (e : ReadyExpr). expr_reach e ≤ 8 + length facts)) (sym c.of-2.ensures)
           (c.in_ok-outs.ensures.reach (8 + length facts) (subst Below (sym (c.as_slice-2.ensures.value ∙ c.in_ok-places.ensures ∙ ports)) below));

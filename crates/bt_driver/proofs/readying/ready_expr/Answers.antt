@@ -1,4 +1,4 @@
-use Rattle.std.proofs.Common.{◌≡◌, ◌∙◌, ap}
+use Rattle.std.proofs.Common.{◌∙◌, ap}
 use Rattle.bt_script_code.specs.Programs.{Formula}
 use Rattle.bt_script_code.specs.Sources.{slot_of}
 use Rattle.bt_driver.proofs.Missing.{only_inputs_missing}

@@ -1,4 +1,4 @@
-use Rattle.std.proofs.Common.{◌≡◌, ◌∙◌, Some, ap, sym}
+use Rattle.std.proofs.Common.{◌∙◌, Some, ap, sym}
 use Rattle.std.specs.Prelude.{option_map}
 use Rattle.bt_script_code.specs.Sources.{slot_of}
 use Rattle.bt_model.specs.Leaf.{Test, test_of}

@@ -1,4 +1,4 @@
-use Rattle.std.proofs.Common.{◌≡◌, ◌∙◌, ap, sym}
+use Rattle.std.proofs.Common.{◌∙◌, ap, sym}
 use Rattle.bt_script_code.specs.Sources.{slot_of}
 use Rattle.bt_model.specs.Leaf.{Tests, Waits, way_of}
 use Rattle.bt_driver.proofs.Tests.{same_test}
