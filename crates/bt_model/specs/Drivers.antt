@@ -138,8 +138,8 @@ roster_halted ds place instance = slice_set ds place (after_halted (driver_at ds
 
 -- the drivers, of which the first have as many instances as is said, none of them ever held
 abbrev pub roster_prepared : List DriverState → List ℕ → List DriverState
-roster_prepared [] counts = []
-roster_prepared (d ∷ ds) [] = d ∷ ds
+roster_prepared ds [] = ds
+roster_prepared [] (count ∷ counts) = []
 roster_prepared (d ∷ ds) (count ∷ counts) = prepared d count ∷ roster_prepared ds counts
 
 -- there is this instance of the driver at this place
@@ -149,6 +149,11 @@ IsThere ds place instance = (place < length ds) × (instance < length (driver_at
 -- no driver holds an instance
 abbrev pub NothingHeld : List DriverState → Type 0
 NothingHeld ds = (place : ℕ) → HoldsNothing (driver_at ds place)
+
+-- how many instances are held by all drivers together
+abbrev pub total_held : List DriverState → ℕ
+total_held [] = 0
+total_held (d ∷ ds) = held_count d + total_held ds
 
 -- what a call of `start` or `running` leaves by this rule of an instance of the driver at a place
 abbrev pub roster_answer : List DriverState → ℕ → ℕ → Rule → Phase → List Seen → List ℤ → ℕ → Answered

@@ -12,7 +12,7 @@ use Rattle.bt_script.specs.declared.value.Value.{Value}
 use Rattle.bt_script.specs.declared.value.Value.TheVariants.{Int, Text}
 use Rattle.bt_script.specs.Entries.{look_of}
 use Rattle.bt_script.specs.Evaluation.{eval_of}
-use Rattle.bt_script.specs.Operators.{is_true, truth, compares}
+use Rattle.bt_script.specs.Operators.{is_true, compares}
 use Rattle.bt_model.specs.declared.fault.Cause.{Cause}
 use Rattle.bt_model.specs.declared.fault.Cause.TheVariants.{NoInput, Overflow, ZeroDivisor, NotWhole, Mixed, TextTooLong}
 use Rattle.bt_model.specs.declared.leaf.Instance.{Instance}
@@ -29,9 +29,13 @@ use Rattle.bt_model.specs.declared.world.Set.{Set}
 
 -- ---- What a row's expressions see
 
--- the inputs of all eight places, absent where none is given, and behind them the facts
+-- the inputs of all eight places, absent where none is given
+abbrev pub padded : List Seen → List Seen
+padded inputs = inputs ++ replicate (8 - length inputs) seen.Absent
+
+-- the inputs, and behind them the facts
 abbrev pub sights : List Seen → List ℤ → List Seen
-sights inputs facts = (inputs ++ replicate (8 - length inputs) seen.Absent) ++ map (λ n. seen.Int n) facts
+sights inputs facts = padded inputs ++ map (λ n. seen.Int n) facts
 
 -- the place of the first of these names that is this one, where the first of them has this place; else another place
 abbrev pub place_from : ℕ → List (List ℕ) → List ℕ → ℕ → ℕ
@@ -52,7 +56,7 @@ cause_of exec.NotWhole = NotWhole
 cause_of exec.Mixed = Mixed
 cause_of exec.TextTooLong = TextTooLong
 
--- a value as a number
+-- a value as a number; no expression of a row gives a text
 abbrev pub as_number : Result Value ExecFault → Result ℤ Cause
 as_number (Ok (Int n)) = Ok n
 as_number (Ok (Text t)) = Err Mixed
@@ -64,16 +68,25 @@ as_number (Err fault) = Err (cause_of fault)
 abbrev pub Number : Type 0
 Number = List Seen → List ℤ → Result ℤ Cause
 
--- how a row answers; a number is true where it is not 0
+-- whether something is true over the inputs and the facts, or the cause of a fault
+abbrev pub Test : Type 0
+Test = List Seen → List ℤ → Result Bool Cause
+
+-- a number is true where it is not 0
+abbrev pub truth_of : Result ℤ Cause → Result Bool Cause
+truth_of (Ok n) = Ok (is_true n)
+truth_of (Err cause) = Err cause
+
+-- how a row answers
 pub data Way : Type 0 where
   -- a condition answers at once
-  Tests : (test : Number) → Way
+  Tests : (test : Test) → Way
   -- an action lasts some milliseconds, and then fails where this is true
-  Lasts : (ms : ℕ) (fails : Option Number) → Way
+  Lasts : (ms : ℕ) (fails : Option Test) → Way
   -- an action lasts some milliseconds, and then has its next outcome
   Replays : (ms : ℕ) (outcomes : List Bool) → Way
   -- an action waits until this is true
-  Waits : (test : Number) → Way
+  Waits : (test : Test) → Way
 
 pub record Rule : Type 0 where
   pub way : Way
@@ -86,21 +99,25 @@ pub record Rule : Type 0 where
 abbrev pub fact_at : List ℤ → ℕ → ℤ
 fact_at facts fact = slice_index_or facts fact (pos 0)
 
--- whether a fact compares so, as a number
-abbrev pub comparison : ℕ → Cmp → ℤ → Number
-comparison fact op value inputs facts = Ok (truth (compares op (int_cmp (fact_at facts fact) value)))
+-- whether a fact compares so
+abbrev pub comparison : ℕ → Cmp → ℤ → Test
+comparison fact op value inputs facts = Ok (compares op (int_cmp (fact_at facts fact) value))
 
 -- what an expression gives, where its names have these places
 abbrev pub number_of : (List ℕ → ℕ) → Expr → Number
 number_of places e inputs facts = as_number (eval_of (λ name. look_of (sights inputs facts) (places name)) e)
 
+-- whether an expression is true
+abbrev pub test_of : (List ℕ → ℕ) → Expr → Test
+test_of places e inputs facts = truth_of (number_of places e inputs facts)
+
 -- how a row answers, by its sort
 abbrev pub way_of : (List ℕ → ℕ) → RowSort → Way
 way_of places (Is fact op value) = Tests (comparison fact op value)
-way_of places (When test) = Tests (number_of places test)
-way_of places (Timed ms fails) = Lasts ms (option_map (number_of places) fails)
+way_of places (When test) = Tests (test_of places test)
+way_of places (Timed ms fails) = Lasts ms (option_map (test_of places) fails)
 way_of places (Replay ms outcomes) = Replays ms outcomes
-way_of places (Gate test) = Waits (number_of places test)
+way_of places (Gate test) = Waits (test_of places test)
 
 -- the rule of a row whose names have these places
 abbrev pub rule_by : (List ℕ → ℕ) → Row → Rule
@@ -146,10 +163,10 @@ pub record Answered : Type 0 where
   pub reply : Reply
   pub instance : Instance
   pub facts : List ℤ
-  -- those of a completion, in order; other calls give none
+  -- of a completion, in order; no other call gives any
   pub outputs : List ℤ
 
--- the outputs that stand after a call: those of a completion, else those that stood before
+-- the outputs that stand after a call: on SUCCESS those that it gives, else those that stood before
 abbrev pub outputs_left : Reply → List ℤ → List ℤ → List ℤ
 outputs_left Success given before = given
 outputs_left _ given before = before
@@ -157,13 +174,20 @@ outputs_left _ given before = before
 abbrev pub outputs_after : Answered → List ℤ → List ℤ
 outputs_after a before = outputs_left a.reply a.outputs before
 
+-- the moment since which an instance is held after a reply to a leaf that began at this moment: it
+-- is held while the leaf runs; a fault changes nothing
+abbrev pub since_after : Reply → ℕ → Option ℕ → Option ℕ
+since_after Running start before = Some start
+since_after (Broken cause) start before = before
+since_after _ start before = None
+
 -- a reply that changes the instance at most
 abbrev pub replied : Reply → Instance → List ℤ → Answered
 replied reply instance facts = record { reply = reply; instance = instance; facts = facts; outputs = [] }
 
--- goes on by the truth of a number; a fault is the reply, and changes nothing
-abbrev pub judged : Result ℤ Cause → Instance → List ℤ → (Bool → Answered) → Answered
-judged (Ok n) instance facts go = go (is_true n)
+-- goes on by what is true; a fault is the reply, and changes nothing
+abbrev pub judged : Result Bool Cause → Instance → List ℤ → (Bool → Answered) → Answered
+judged (Ok b) instance facts go = go b
 judged (Err cause) instance facts go = replied (Broken cause) instance facts
 
 -- one more output in front of the others; the first fault counts
@@ -197,7 +221,7 @@ decided true rule before after inputs facts = completion rule before after input
 decided false rule before after inputs facts = replied Failure after facts
 
 -- the end of an action whose time is over
-abbrev pub timed_end : Option Number → Rule → Instance → List Seen → List ℤ → Answered
+abbrev pub timed_end : Option Test → Rule → Instance → List Seen → List ℤ → Answered
 timed_end None rule instance inputs facts = completion rule instance (let_go instance) inputs facts
 timed_end (Some fails) rule instance inputs facts =
     judged (fails inputs facts) instance facts (λ b. decided (not b) rule instance (let_go instance) inputs facts)

@@ -1,0 +1,10 @@
+pub mod Keeping
+pub mod Missing
+pub mod Outputs
+pub mod Padding
+pub mod Placing
+pub mod Preparing
+pub mod Quiet
+pub mod Sights
+pub mod Tests
+pub mod Valid

@@ -1,0 +1,24 @@
+//! What stands behind the leaves of a tree: the trait of drivers, the roster of a run, the table of
+//! facts, and rows made ready for the calls.
+#![tactic(auto)]
+
+mod driver;
+mod expression;
+mod facts;
+pub mod laws;
+mod looks;
+mod outs;
+mod readying;
+mod roster;
+mod row;
+mod sort;
+
+pub use bt_model::{DriverKind, Reply, Totals};
+pub use driver::Driver;
+pub use expression::{Inputs, ReadyExpr};
+pub use facts::{FactTable, facts_of};
+pub use outs::Outs;
+pub use readying::{kind_of, ready};
+pub use roster::Drivers;
+pub use row::ReadyRow;
+pub use sort::ReadySort;

@@ -1,0 +1,322 @@
+ghost use Rattle.std.specs.Prelude.{◌≡◌, ◌<◌, ◌≤◌, ◌↔◌, ℕ, List, length, map, take, None, IsSome, IsTrue, OnOk, OnErr};
+ghost use Rattle.bt_model.specs.declared.leaf.Phase.TheVariants as phase;
+ghost use Rattle.bt_model.specs.Drivers.{DriverState, HoldsNothing, IsHeldBy, IsThere, NothingHeld, after_call, after_halted, driver_answer, driver_at, held_count, instance_at, instance_of, kind_of_way, place_of_kind, prepared, roster_answer, roster_called, roster_halted, roster_prepared, total_held};
+ghost use Rattle.bt_model.specs.Leaf.{outputs_after};
+ghost use Rattle.bt_driver.specs.Rules.{rule};
+
+use crate::driver::Driver;
+use crate::expression::Inputs;
+use crate::facts::FactTable;
+use crate::outs::Outs;
+use crate::row::ReadyRow;
+use bt_model::{DriverKind, Reply, Totals};
+use bt_script::NoMemory;
+
+/// The drivers of a run, each at its place. No call but `prepare` takes memory, and none changes how
+/// many they are or their order.
+pub trait Drivers {
+    /// All that they keep, by their place.
+    ghost states: { Self → List DriverState };
+
+    /// How many drivers there are.
+    fn count(&self) -> usize
+        ensures { result ≡ length (states self.now) };
+
+    /// The place of the first driver of a kind, which serves that kind.
+    fn place_of(&self, kind: DriverKind) -> Option<usize>
+        ensures { result ≡ place_of_kind (states self.now) kind };
+
+    /// How often the driver at a place was called.
+    fn totals(&self, place: usize) -> Totals
+        requires { place < length (states self.now) }
+        ensures { result ≡ (driver_at (states self.now) place).totals };
+
+    /// Whether no driver holds an instance.
+    fn holds_nothing(&self) -> bool
+        ensures { IsTrue result ↔ NothingHeld (states self.now) };
+
+    /// Prepares the drivers in order, the first for the first of these numbers of instances. Refused,
+    /// those before the one that wanted memory are prepared, and the others are as before.
+    fn prepare(&mut self, counts: &[u32]) -> Result<(), NoMemory>
+        requires counts { length counts.now ≤ length (states self.old) }
+        requires quiet { NothingHeld (states self.old) }
+        ensures ok { OnOk result (states self.new ≡ roster_prepared (states self.old) counts.now) }
+        ensures err { OnErr result ((done : ℕ) × (states self.new ≡ roster_prepared (states self.old) (take done counts.now))) }
+        ensures quiet { NothingHeld (states self.new) };
+
+    /// Begins at an instance of the driver at a place.
+    fn start(
+        &mut self,
+        place: usize,
+        instance: u32,
+        row: &ReadyRow,
+        inputs: &Inputs,
+        facts: &mut FactTable,
+        outs: &mut Outs,
+        now: u64,
+    ) -> Reply
+        requires there { IsThere (states self.old) place instance }
+        requires free { (instance_at (states self.old) place instance).since ≡ None }
+        requires kind { kind_of_way (rule row.now).way ≡ (driver_at (states self.old) place).kind }
+        requires table { length facts.old ≡ row.now.facts }
+        ensures reply { result ≡ (roster_answer (states self.old) place instance (rule row.now) phase.Start inputs.now facts.old now).reply }
+        ensures states { states self.new ≡ roster_called (states self.old) place phase.Start instance (roster_answer (states self.old) place instance (rule row.now) phase.Start inputs.now facts.old now).instance }
+        ensures facts { facts.new ≡ (roster_answer (states self.old) place instance (rule row.now) phase.Start inputs.now facts.old now).facts }
+        ensures outs { outs.new ≡ outputs_after (roster_answer (states self.old) place instance (rule row.now) phase.Start inputs.now facts.old now) outs.old };
+
+    /// Goes on at an instance of the driver at a place.
+    fn running(
+        &mut self,
+        place: usize,
+        instance: u32,
+        row: &ReadyRow,
+        inputs: &Inputs,
+        facts: &mut FactTable,
+        outs: &mut Outs,
+        now: u64,
+    ) -> Reply
+        requires there { IsThere (states self.old) place instance }
+        requires held { IsHeldBy (instance_at (states self.old) place instance) now }
+        requires kind { kind_of_way (rule row.now).way ≡ (driver_at (states self.old) place).kind }
+        requires table { length facts.old ≡ row.now.facts }
+        ensures reply { result ≡ (roster_answer (states self.old) place instance (rule row.now) phase.Running inputs.now facts.old now).reply }
+        ensures states { states self.new ≡ roster_called (states self.old) place phase.Running instance (roster_answer (states self.old) place instance (rule row.now) phase.Running inputs.now facts.old now).instance }
+        ensures facts { facts.new ≡ (roster_answer (states self.old) place instance (rule row.now) phase.Running inputs.now facts.old now).facts }
+        ensures outs { outs.new ≡ outputs_after (roster_answer (states self.old) place instance (rule row.now) phase.Running inputs.now facts.old now) outs.old };
+
+    /// Lets go of an instance of the driver at a place.
+    fn halted(&mut self, place: usize, instance: u32)
+        requires there { IsThere (states self.old) place instance }
+        requires held { IsSome (instance_at (states self.old) place instance).since }
+        ensures { states self.new ≡ roster_halted (states self.old) place instance };
+}
+
+/// The kind of one driver.
+fn kind_of(driver: &Box<dyn Driver>) -> DriverKind
+    ensures { result ≡ (state driver.now).kind }
+{
+    driver.kind()
+}
+
+/// How often one driver was called.
+fn totals_of(driver: &Box<dyn Driver>) -> Totals
+    ensures { result ≡ (state driver.now).totals }
+{
+    driver.totals()
+}
+
+/// How many instances one driver holds.
+fn held_of(driver: &Box<dyn Driver>) -> u32
+    ensures { result ≡ held_count (state driver.now) }
+{
+    driver.held()
+}
+
+/// Prepares one driver.
+fn prepare_one(driver: &mut Box<dyn Driver>, count: u32) -> Result<(), NoMemory>
+    requires { HoldsNothing (state driver.old) }
+    ensures ok { OnOk result (state driver.new ≡ prepared (state driver.old) count) }
+    ensures err { OnErr result (state driver.new ≡ state driver.old) }
+{
+    driver.prepare(count)
+}
+
+/// Calls `start` of one driver.
+fn start_one(
+    driver: &mut Box<dyn Driver>,
+    instance: u32,
+    row: &ReadyRow,
+    inputs: &Inputs,
+    facts: &mut FactTable,
+    outs: &mut Outs,
+    now: u64,
+) -> Reply
+    requires there { instance < length (state driver.old).table }
+    requires free { (instance_of (state driver.old) instance).since ≡ None }
+    requires kind { kind_of_way (rule row.now).way ≡ (state driver.old).kind }
+    requires table { length facts.old ≡ row.now.facts }
+    ensures reply { result ≡ (driver_answer (state driver.old) instance (rule row.now) phase.Start inputs.now facts.old now).reply }
+    ensures state { state driver.new ≡ after_call (state driver.old) phase.Start instance (driver_answer (state driver.old) instance (rule row.now) phase.Start inputs.now facts.old now).instance }
+    ensures facts { facts.new ≡ (driver_answer (state driver.old) instance (rule row.now) phase.Start inputs.now facts.old now).facts }
+    ensures outs { outs.new ≡ outputs_after (driver_answer (state driver.old) instance (rule row.now) phase.Start inputs.now facts.old now) outs.old }
+{
+    driver.start(instance, row, inputs, facts, outs, now)
+}
+
+/// Calls `running` of one driver.
+fn run_one(
+    driver: &mut Box<dyn Driver>,
+    instance: u32,
+    row: &ReadyRow,
+    inputs: &Inputs,
+    facts: &mut FactTable,
+    outs: &mut Outs,
+    now: u64,
+) -> Reply
+    requires there { instance < length (state driver.old).table }
+    requires held { IsHeldBy (instance_of (state driver.old) instance) now }
+    requires kind { kind_of_way (rule row.now).way ≡ (state driver.old).kind }
+    requires table { length facts.old ≡ row.now.facts }
+    ensures reply { result ≡ (driver_answer (state driver.old) instance (rule row.now) phase.Running inputs.now facts.old now).reply }
+    ensures state { state driver.new ≡ after_call (state driver.old) phase.Running instance (driver_answer (state driver.old) instance (rule row.now) phase.Running inputs.now facts.old now).instance }
+    ensures facts { facts.new ≡ (driver_answer (state driver.old) instance (rule row.now) phase.Running inputs.now facts.old now).facts }
+    ensures outs { outs.new ≡ outputs_after (driver_answer (state driver.old) instance (rule row.now) phase.Running inputs.now facts.old now) outs.old }
+{
+    driver.running(instance, row, inputs, facts, outs, now)
+}
+
+/// Calls `halted` of one driver.
+fn halt_one(driver: &mut Box<dyn Driver>, instance: u32)
+    requires there { instance < length (state driver.old).table }
+    requires held { IsSome (instance_of (state driver.old) instance).since }
+    ensures { state driver.new ≡ after_halted (state driver.old) instance }
+{
+    driver.halted(instance)
+}
+
+/// The place of the first of these drivers of a kind.
+fn find_kind(roster: &[Box<dyn Driver>], kind: DriverKind) -> Option<usize>
+    ensures { result ≡ place_of_kind (map (λ b. state b) roster.now) kind }
+{
+    for (place, driver) in roster.iter().enumerate() {
+        if kind_of(driver) == kind {
+            return Some(place);
+        }
+    }
+    None
+}
+
+/// Whether none of these drivers holds an instance.
+fn hold_nothing(roster: &[Box<dyn Driver>]) -> bool
+    ensures { IsTrue result ↔ (total_held (map (λ b. state b) roster.now) ≡ 0) }
+{
+    for driver in roster {
+        if held_of(driver) != 0 {
+            return false;
+        }
+    }
+    true
+}
+
+/// Prepares these drivers in order.
+fn prepare_all(roster: &mut Vec<Box<dyn Driver>>, counts: &[u32]) -> Result<(), NoMemory>
+    requires counts { length counts.now ≤ length (map (λ b. state b) roster.old.items) }
+    requires quiet { NothingHeld (map (λ b. state b) roster.old.items) }
+    ensures ok { OnOk result (map (λ b. state b) roster.new.items ≡ roster_prepared (map (λ b. state b) roster.old.items) counts.now) }
+    ensures err { OnErr result ((done : ℕ) × (map (λ b. state b) roster.new.items ≡ roster_prepared (map (λ b. state b) roster.old.items) (take done counts.now))) }
+    ensures quiet { NothingHeld (map (λ b. state b) roster.new.items) }
+{
+    for (place, count) in counts.iter().enumerate() {
+        prepare_one(&mut roster[place], *count)?;
+    }
+    Ok(())
+}
+
+/// Calls `start` of the driver at a place.
+fn start_at(
+    roster: &mut Vec<Box<dyn Driver>>,
+    place: usize,
+    instance: u32,
+    row: &ReadyRow,
+    inputs: &Inputs,
+    facts: &mut FactTable,
+    outs: &mut Outs,
+    now: u64,
+) -> Reply
+    requires there { IsThere (map (λ b. state b) roster.old.items) place instance }
+    requires free { (instance_at (map (λ b. state b) roster.old.items) place instance).since ≡ None }
+    requires kind { kind_of_way (rule row.now).way ≡ (driver_at (map (λ b. state b) roster.old.items) place).kind }
+    requires table { length facts.old ≡ row.now.facts }
+    ensures reply { result ≡ (roster_answer (map (λ b. state b) roster.old.items) place instance (rule row.now) phase.Start inputs.now facts.old now).reply }
+    ensures states { map (λ b. state b) roster.new.items ≡ roster_called (map (λ b. state b) roster.old.items) place phase.Start instance (roster_answer (map (λ b. state b) roster.old.items) place instance (rule row.now) phase.Start inputs.now facts.old now).instance }
+    ensures facts { facts.new ≡ (roster_answer (map (λ b. state b) roster.old.items) place instance (rule row.now) phase.Start inputs.now facts.old now).facts }
+    ensures outs { outs.new ≡ outputs_after (roster_answer (map (λ b. state b) roster.old.items) place instance (rule row.now) phase.Start inputs.now facts.old now) outs.old }
+{
+    start_one(&mut roster[place], instance, row, inputs, facts, outs, now)
+}
+
+/// Calls `running` of the driver at a place.
+fn run_at(
+    roster: &mut Vec<Box<dyn Driver>>,
+    place: usize,
+    instance: u32,
+    row: &ReadyRow,
+    inputs: &Inputs,
+    facts: &mut FactTable,
+    outs: &mut Outs,
+    now: u64,
+) -> Reply
+    requires there { IsThere (map (λ b. state b) roster.old.items) place instance }
+    requires held { IsHeldBy (instance_at (map (λ b. state b) roster.old.items) place instance) now }
+    requires kind { kind_of_way (rule row.now).way ≡ (driver_at (map (λ b. state b) roster.old.items) place).kind }
+    requires table { length facts.old ≡ row.now.facts }
+    ensures reply { result ≡ (roster_answer (map (λ b. state b) roster.old.items) place instance (rule row.now) phase.Running inputs.now facts.old now).reply }
+    ensures states { map (λ b. state b) roster.new.items ≡ roster_called (map (λ b. state b) roster.old.items) place phase.Running instance (roster_answer (map (λ b. state b) roster.old.items) place instance (rule row.now) phase.Running inputs.now facts.old now).instance }
+    ensures facts { facts.new ≡ (roster_answer (map (λ b. state b) roster.old.items) place instance (rule row.now) phase.Running inputs.now facts.old now).facts }
+    ensures outs { outs.new ≡ outputs_after (roster_answer (map (λ b. state b) roster.old.items) place instance (rule row.now) phase.Running inputs.now facts.old now) outs.old }
+{
+    run_one(&mut roster[place], instance, row, inputs, facts, outs, now)
+}
+
+/// Calls `halted` of the driver at a place.
+fn halt_at(roster: &mut Vec<Box<dyn Driver>>, place: usize, instance: u32)
+    requires there { IsThere (map (λ b. state b) roster.old.items) place instance }
+    requires held { IsSome (instance_at (map (λ b. state b) roster.old.items) place instance).since }
+    ensures { map (λ b. state b) roster.new.items ≡ roster_halted (map (λ b. state b) roster.old.items) place instance }
+{
+    halt_one(&mut roster[place], instance)
+}
+
+impl Drivers for Vec<Box<dyn Driver>> {
+    ghost states = { λ roster. map (λ b. (Driver-box b).state b.value) roster.items };
+
+    fn count(&self) -> usize {
+        self.len()
+    }
+
+    fn place_of(&self, kind: DriverKind) -> Option<usize> {
+        find_kind(self, kind)
+    }
+
+    fn totals(&self, place: usize) -> Totals {
+        totals_of(&self[place])
+    }
+
+    fn holds_nothing(&self) -> bool {
+        hold_nothing(self)
+    }
+
+    fn prepare(&mut self, counts: &[u32]) -> Result<(), NoMemory> {
+        prepare_all(self, counts)
+    }
+
+    fn start(
+        &mut self,
+        place: usize,
+        instance: u32,
+        row: &ReadyRow,
+        inputs: &Inputs,
+        facts: &mut FactTable,
+        outs: &mut Outs,
+        now: u64,
+    ) -> Reply {
+        start_at(self, place, instance, row, inputs, facts, outs, now)
+    }
+
+    fn running(
+        &mut self,
+        place: usize,
+        instance: u32,
+        row: &ReadyRow,
+        inputs: &Inputs,
+        facts: &mut FactTable,
+        outs: &mut Outs,
+        now: u64,
+    ) -> Reply {
+        run_at(self, place, instance, row, inputs, facts, outs, now)
+    }
+
+    fn halted(&mut self, place: usize, instance: u32) {
+        halt_at(self, place, instance)
+    }
+}

@@ -1,0 +1,81 @@
+ghost use Rattle.std.specs.Prelude.{◌+◌, ◌<◌, ◌≤◌, length};
+ghost use Rattle.std.specs.List.{All};
+ghost use Rattle.bt_driver.specs.Ready.{expr_reach, sort_reach};
+
+use crate::expression::{Inputs, ReadyExpr};
+use crate::facts::FactTable;
+use crate::outs::Outs;
+use crate::sort::ReadySort;
+use bt_model::{Cause, Instance, Reply, Set};
+use bt_script::Items;
+
+/// A row of a world, made ready for the calls of drivers. Contracts see its `rule`.
+#[derive(Debug, Drop)]
+pub struct ReadyRow {
+    pub sort: ReadySort,
+    /// The effects of a completion.
+    pub sets: Items<Set>,
+    /// The outputs of a completion.
+    pub outs: Items<ReadyExpr>,
+    /// How many facts the world has.
+    pub facts: u32,
+    pub ghost sees: { sort_reach sort ≤ 8 + facts },
+    pub ghost effects: { All (λ set. set.fact < facts) sets },
+    pub ghost few: { length outs ≤ 8 },
+    pub ghost outputs: { All (λ e. expr_reach e ≤ 8 + facts) outs },
+}
+
+impl ReadyRow {
+    ghost use Rattle.std.specs.Prelude.{◌≡◌};
+    ghost use Rattle.bt_model.specs.Leaf.{completion, outputs_after, outputs_of, with_effects};
+    ghost use Rattle.bt_driver.specs.Rules.{rule};
+
+    /// The outputs over these inputs and facts, in order, or the first fault.
+    fn outputs(&self, inputs: &Inputs, facts: &FactTable) -> Result<Outs, Cause>
+        requires { length facts.now ≡ self.now.facts }
+        ensures { result ≡ outputs_of (rule self.now).outs inputs.now facts.now }
+    {
+        let mut outs = Outs::new();
+        for e in self.outs.list() {
+            outs.push(e.value(inputs, facts)?);
+        }
+        Ok(outs)
+    }
+
+    /// Applies the effects, in order.
+    fn apply(&self, facts: &mut FactTable)
+        requires { length facts.old ≡ self.now.facts }
+        ensures { facts.new ≡ with_effects facts.old self.now.sets }
+    {
+        for set in self.sets.list() {
+            facts.put(set.fact, set.value);
+        }
+    }
+
+    /// Completes: the outputs over the facts before the effects, and then the effects. It gives the
+    /// reply, and the instance that it leaves: `after`, or `before` where an output has a fault, which
+    /// changes nothing.
+    pub fn complete(
+        &self,
+        before: Instance,
+        after: Instance,
+        inputs: &Inputs,
+        facts: &mut FactTable,
+        outs: &mut Outs,
+    ) -> (Reply, Instance)
+        requires { length facts.old ≡ self.now.facts }
+        ensures reply { result.0 ≡ (completion (rule self.now) before after inputs.now facts.old).reply }
+        ensures instance { result.1 ≡ (completion (rule self.now) before after inputs.now facts.old).instance }
+        ensures facts { facts.new ≡ (completion (rule self.now) before after inputs.now facts.old).facts }
+        ensures outs { outs.new ≡ outputs_after (completion (rule self.now) before after inputs.now facts.old) outs.old }
+    {
+        match self.outputs(inputs, facts) {
+            Ok(made) => {
+                *outs = made;
+                self.apply(facts);
+                (Reply::Success, after)
+            }
+            Err(cause) => (Reply::Broken(cause), before),
+        }
+    }
+}

@@ -1,0 +1,44 @@
+ghost use Rattle.std.specs.Prelude.{◌≡◌};
+ghost use Rattle.bt_model.specs.Leaf as leaf;
+
+use bt_model::Instance;
+
+/// An instance that was never held.
+pub fn fresh() -> Instance
+    ensures { result ≡ leaf.fresh }
+{
+    Instance {
+        since: None,
+        completions: 0,
+    }
+}
+
+/// The instance, held since this moment.
+pub fn held(since: u64, instance: Instance) -> Instance
+    ensures { result ≡ leaf.held since instance }
+{
+    Instance {
+        since: Some(since),
+        completions: instance.completions,
+    }
+}
+
+/// The instance, not held.
+pub fn let_go(instance: Instance) -> Instance
+    ensures { result ≡ leaf.let_go instance }
+{
+    Instance {
+        since: None,
+        completions: instance.completions,
+    }
+}
+
+/// The instance, not held and completed once more; completions are counted up to 64.
+pub fn completed(instance: Instance) -> Instance
+    ensures { result ≡ leaf.completed instance }
+{
+    Instance {
+        since: None,
+        completions: instance.completions.saturating_add(1).min(64),
+    }
+}

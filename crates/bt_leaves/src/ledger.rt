@@ -1,0 +1,150 @@
+ghost use Rattle.std.specs.Prelude.{◌≡◌, ◌<◌, ◌^◌, IfOk, OnOk, OnErr, length, replicate, count_by};
+ghost use Rattle.bt_model.specs.Drivers.{after_call, after_halted, counted, held_count, instance_of, is_held, new_driver, prepared};
+ghost use Rattle.bt_model.specs.Leaf as leaf;
+
+use crate::instances::{fresh, let_go};
+use bt_model::{DriverKind, Instance, Phase, Totals};
+use bt_script::NoMemory;
+use std::alloc::Global;
+use std::marker::Model;
+
+/// All that a driver keeps: its kind and its mark, its instances by their number, and its totals.
+#[derive(Debug, Drop)]
+pub struct Ledger {
+    kind: DriverKind,
+    mark: u64,
+    table: Vec<Instance>,
+    totals: Totals,
+}
+
+impl Model for Ledger {
+    ghost use Rattle.std.specs.Prelude.{◌<◌, ◌^◌, length};
+    ghost use Rattle.bt_model.specs.Drivers.{DriverState};
+
+    ghost Value = { DriverState };
+
+    ghost view = { λ ledger. record { kind = ledger.kind; mark = ledger.mark; table = ledger.table.items; totals = ledger.totals } };
+
+    ghost invariant = { λ ledger. length ledger.table.items < 2 ^ 32 };
+}
+
+/// The totals after a call for an instance.
+fn count(totals: &Totals, phase: Phase, instance: u32) -> Totals
+    ensures { result ≡ counted totals.now phase instance }
+{
+    let trail = totals.trail.wrapping_mul(1_000_003);
+    let place = 3 * u64::from(instance);
+    match phase {
+        Phase::Start => Totals {
+            starts: totals.starts.saturating_add(1),
+            runnings: totals.runnings,
+            haltings: totals.haltings,
+            trail: trail.wrapping_add(place + 1),
+        },
+        Phase::Running => Totals {
+            starts: totals.starts,
+            runnings: totals.runnings.saturating_add(1),
+            haltings: totals.haltings,
+            trail: trail.wrapping_add(place + 2),
+        },
+        Phase::Halted => Totals {
+            starts: totals.starts,
+            runnings: totals.runnings,
+            haltings: totals.haltings.saturating_add(1),
+            trail: trail.wrapping_add(place + 3),
+        },
+    }
+}
+
+/// How many of these instances are held.
+fn held_among(table: &[Instance]) -> u32
+    requires { length table.now < 2 ^ 32 }
+    ensures { result ≡ count_by is_held table.now }
+{
+    table
+        .iter()
+        .filter(|instance| instance.since.is_some())
+        .count() as u32
+}
+
+/// This many instances that were never held.
+fn fresh_table(alloc: Global, count: u32) -> Result<Vec<Instance>, NoMemory>
+    ensures { IfOk result (λ table. table.items ≡ replicate count leaf.fresh) }
+{
+    let table = vec![in alloc; fresh(); count as usize]?;
+    Ok(table)
+}
+
+impl Ledger {
+    /// Of a driver of this kind that was just made. It takes no memory.
+    pub fn new(alloc: Global, kind: DriverKind) -> Ledger
+        ensures { result ≡ new_driver kind }
+    {
+        Ledger {
+            kind,
+            mark: 0,
+            table: Vec::new(alloc),
+            totals: Totals {
+                starts: 0,
+                runnings: 0,
+                haltings: 0,
+                trail: 0,
+            },
+        }
+    }
+
+    pub fn kind(&self) -> DriverKind
+        ensures { result ≡ self.now.kind }
+    {
+        self.kind
+    }
+
+    pub fn totals(&self) -> Totals
+        ensures { result ≡ self.now.totals }
+    {
+        self.totals
+    }
+
+    /// How many instances are held.
+    pub fn held(&self) -> u32
+        ensures { result ≡ held_count self.now }
+    {
+        held_among(self.table.as_slice())
+    }
+
+    /// Makes this many instances in place of those that were there.
+    pub fn prepare(&mut self, count: u32) -> Result<(), NoMemory>
+        ensures ok { OnOk result (self.new ≡ prepared self.old count) }
+        ensures err { OnErr result (self.new ≡ self.old) }
+    {
+        let alloc = *self.table.allocator();
+        self.table = fresh_table(alloc, count)?;
+        Ok(())
+    }
+
+    /// The instance of this number.
+    pub fn instance(&self, instance: u32) -> Instance
+        requires { instance < length self.now.table }
+        ensures { result ≡ instance_of self.now instance }
+    {
+        self.table[instance as usize]
+    }
+
+    /// Takes a call of an instance into the totals, with what it leaves of the instance.
+    pub fn record_call(&mut self, phase: Phase, instance: u32, left: Instance)
+        requires { instance < length self.old.table }
+        ensures { self.new ≡ after_call self.old phase instance left }
+    {
+        self.totals = count(&self.totals, phase, instance);
+        self.table[instance as usize] = left;
+    }
+
+    /// Takes a call of `halted`, after which the instance is not held.
+    pub fn halted(&mut self, instance: u32)
+        requires { instance < length self.old.table }
+        ensures { self.new ≡ after_halted self.old instance }
+    {
+        let left = let_go(self.instance(instance));
+        self.record_call(Phase::Halted, instance, left);
+    }
+}
