@@ -121,6 +121,13 @@ fn slot_among(cells: &[Cell], scope: u32, key: &Name) -> u32
     }
 }
 
+/// The slot of the cell that a scope owns, and the number of slots where it has none.
+pub(crate) fn own_slot(slots: &Slots, scope: u32, key: &Name) -> u32
+    ensures { result ≡ slot_in slots.now.cells (owner scope key.now) }
+{
+    slot_among(&slots.cells, scope, key)
+}
+
 /// The cells of what is named, in order.
 fn cells_of(alloc: Global, namings: &[Naming]) -> Result<Vec<Cell>, NoMemory>
     ensures { IfOk result (λ cells. cells.items ≡ in_order (map (λ n. n.cell) namings.now)) }
