@@ -1,4 +1,4 @@
-pub mod Cells
+pub mod CellOrder
 pub mod Named
 pub mod Openings
 pub mod Ordered

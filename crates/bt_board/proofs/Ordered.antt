@@ -1,7 +1,6 @@
 -- Lists that are put in order, each item once.
-use Rattle.std.proofs.Common.{◌≡◌, List, [], ◌∷◌, Bool, true, false, cond, ◌||◌, true≢false, Result, Ok, Err, IfOk, refl, sym, ap, ◌∙◌}
+use Rattle.std.proofs.Common.{◌≡◌, List, [], ◌∷◌, Bool, true, false, cond, ◌||◌, true≢false, Result, Ok, Err, IfOk, refl, ap, ◌∙◌}
 use Rattle.std.specs.List.{list_any, dedup, dedup_from}
-use Rattle.std.specs.Cmp.{IsEquivalence}
 
 -- a test that takes equal items alike
 abbrev pub TakesAlike : {X : Type 0} → (X → X → Bool) → (X → Bool) → Type 0

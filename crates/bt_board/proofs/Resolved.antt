@@ -1,6 +1,5 @@
 -- The entries of a tree's names are its table of slots, and the table gives the slot of each of its names.
-use Rattle.std.proofs.Common.{◌≡◌, ℕ, zero, suc, ◌+◌, ◌<◌, List, [], ◌∷◌, Bool, true, false, cond, ◌||◌, Option, Some, None, map, length, get_or, find, if◌then◌else◌, refl, sym, ap, subst, ◌∙◌, arith}
-use Rattle.std.proofs.lemmas.Simd.{map-map}
+use Rattle.std.proofs.Common.{◌≡◌, ℕ, zero, suc, ◌<◌, List, [], ◌∷◌, Bool, true, false, cond, ◌||◌, Option, Some, None, map, length, get_or, find, if◌then◌else◌, refl, sym, ap, subst, ◌∙◌, arith}
 use Rattle.std.specs.List.{All, AllByRecursion, Contains, list_any}
 use Rattle.std.specs.List.Sorted.{IsStrictlySortedBy}
 use Rattle.std.specs.Option.{option_map}
@@ -8,10 +7,10 @@ use Rattle.std.specs.declared.cmp.Ordering.TheVariants.{Less}
 use Rattle.bt_model.specs.declared.cell.Cell.{Cell}
 use Rattle.bt_model.specs.declared.cell.Naming.{Naming}
 use Rattle.bt_model.specs.declared.term.Tree.{Tree}
-use Rattle.bt_model.specs.Boards.{SlotTable, slot_table, slots, slot_in, slot_of, scope_of, is_named, named_keys, namings, owner, same_cell, cell_order}
+use Rattle.bt_model.specs.Boards.{slot_table, slots, slot_in, slot_of, scope_of, named_keys, namings, owner, same_cell, cell_order}
 use Rattle.bt_board.specs.declared.slots.Entry.{Entry}
 use Rattle.bt_board.specs.Slots.{entry_of, entry_order, table}
-use Rattle.bt_board.proofs.Cells.{in_order_is, in_order_any}
+use Rattle.bt_board.proofs.CellOrder.{in_order_is, in_order_any}
 use Rattle.bt_board.proofs.Searched.{same_decides}
 use Rattle.bt_board.proofs.Sound.{namings_sound, IsTrue_cell}
 
@@ -61,12 +60,12 @@ entries_are_table tree cells all entries is_cells is_all ascend same from =
     let named = λ (e : Entry). e.named in
     let all_is : all ≡ map (entry_of (slots tree)) (namings tree) = is_all ∙ ap (λ cs. map (entry_of cs) (namings tree)) is_cells in
     let keys : map named entries ≡ named_keys tree = in_order_is (map named entries) (map (λ (n : Naming). owner n.number n.key) (namings tree)) (named_ascend entries ascend)
-          (λ p. list_any-map p named entries ∙ same (λ e. p e.named) (λ x y tie. ap p (same_decides x.named y.named tie))
-            ∙ ap (list_any (λ (e : Entry). p e.named)) all_is ∙ list_any-map (λ (e : Entry). p e.named) (entry_of (slots tree)) (namings tree)
-            ∙ sym (list_any-map p (λ (n : Naming). owner n.number n.key) (namings tree))) in
+    (λ p. list_any-map p named entries ∙ same (λ e. p e.named) (λ x y tie. ap p (same_decides x.named y.named tie))
+    ∙ ap (list_any (λ (e : Entry). p e.named)) all_is ∙ list_any-map (λ (e : Entry). p e.named) (entry_of (slots tree)) (namings tree)
+    ∙ sym (list_any-map p (λ (n : Naming). owner n.number n.key) (namings tree))) in
     let right : (e : Entry) → Contains entries e → e.slot ≡ slot_for tree e.named = λ e has.
-          let place = subst (λ xs. Contains xs e) all_is (from e has) in
-          subst (λ (x : Entry). x.slot ≡ slot_for tree x.named) place.2 (all_at _ _ (all_entries tree (namings tree) (namings_sound tree)) place.0 e place.1) in
+    let place = subst (λ xs. Contains xs e) all_is (from e has) in
+    subst (λ (x : Entry). x.slot ≡ slot_for tree x.named) place.2 (all_at _ _ (all_entries tree (namings tree) (namings_sound tree)) place.0 e place.1) in
     let rows = as_table tree entries right ∙ ap (map {B = Cell × ℕ} (λ (k : Cell). (k, slot_for tree k))) keys in
     λ i. record { cells = is_cells i; named = rows i }
 
@@ -80,8 +79,8 @@ found_row : (tree : Tree) (cell : Cell) (keys : List Cell)
 found_row tree cell [] = refl
 found_row tree cell (k ∷ keys) =
     elim (same_cell k cell) as (λ b. same_cell k cell ≡ b
-        → option_map (λ (row : Cell × ℕ). row.1) (cond b (Some (k, slot_for tree k)) (find (λ (row : Cell × ℕ). same_cell row.0 cell) (map {B = Cell × ℕ} (λ (k : Cell). (k, slot_for tree k)) keys)))
-          ≡ (if b || list_any (λ k. same_cell k cell) keys then Some (slot_for tree cell) else None)) [
+    → option_map (λ (row : Cell × ℕ). row.1) (cond b (Some (k, slot_for tree k)) (find (λ (row : Cell × ℕ). same_cell row.0 cell) (map {B = Cell × ℕ} (λ (k : Cell). (k, slot_for tree k)) keys)))
+    ≡ (if b || list_any (λ k. same_cell k cell) keys then Some (slot_for tree cell) else None)) [
       | true ↦ λ tie. ap (λ c. Some (slot_for tree c)) (same_decides k cell tie)
       | false ↦ λ _. found_row tree cell keys
     ] refl
@@ -91,8 +90,8 @@ pub slot_of_row : (tree : Tree) (number : ℕ) (key : List ℕ) → slot_by (slo
 slot_of_row tree number key =
     found_row tree (owner number key) (named_keys tree)
     ∙ ap (λ b. if b then Some (slot_for tree (owner number key)) else None)
-      (in_order_any (λ k. same_cell k (owner number key)) (map (λ (n : Naming). owner n.number n.key) (namings tree))
-       ∙ list_any-map (λ k. same_cell k (owner number key)) (λ (n : Naming). owner n.number n.key) (namings tree))
+    (in_order_any (λ k. same_cell k (owner number key)) (map (λ (n : Naming). owner n.number n.key) (namings tree))
+    ∙ list_any-map (λ k. same_cell k (owner number key)) (λ (n : Naming). owner n.number n.key) (namings tree))
 
 -- rows are found as their entries are
 pub slot_by_entries : (cell : Cell) (entries : List Entry)
@@ -100,7 +99,7 @@ pub slot_by_entries : (cell : Cell) (entries : List Entry)
 slot_by_entries cell [] = refl
 slot_by_entries cell (e ∷ entries) =
     elim (same_cell e.named cell) as (λ b. option_map (λ (row : Cell × ℕ). row.1) (cond b (Some (e.named, e.slot)) (find (λ (row : Cell × ℕ). same_cell row.0 cell) (map {B = Cell × ℕ} (λ (x : Entry). (x.named, x.slot)) entries)))
-        ≡ option_map (λ (x : Entry). x.slot) (cond b (Some e) (find (λ (x : Entry). same_cell x.named cell) entries))) [
+    ≡ option_map (λ (x : Entry). x.slot) (cond b (Some e) (find (λ (x : Entry). same_cell x.named cell) entries))) [
       | true ↦ refl
       | false ↦ slot_by_entries cell entries
     ]

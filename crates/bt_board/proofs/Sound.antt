@@ -1,7 +1,5 @@
 -- The cell of each key that a tree names is the one that its scope's number leads to.
-use Rattle.std.proofs.Common.{◌≡◌, ℕ, zero, suc, ◌+◌, ◌<◌, ◌≤◌, List, [], ◌∷◌, ◌++◌, Bool, true, false, cond, ◌&&◌, nat_eq, Option, Some, None, map, sum, length, length-append, find, if◌then◌else◌, refl, sym, ap, subst, ◌∙◌, arith}
-use Rattle.std.proofs.lemmas.List.{map-append}
-use Rattle.std.proofs.lemmas.List.Sums.{sum_by-cons}
+use Rattle.std.proofs.Common.{◌≡◌, ℕ, ◌+◌, ◌<◌, List, [], ◌∷◌, ◌++◌, Bool, true, false, cond, ◌&&◌, nat_eq, Option, Some, None, map, length, find, if◌then◌else◌, refl, sym, ap, subst, ◌∙◌, arith}
 use Rattle.std.proofs.lemmas.Bool.Decides.{nat_tests}
 use Rattle.std.specs.List.{AllByRecursion, flat_map}
 use Rattle.bt_model.specs.declared.cell.Naming.{Naming}
@@ -11,8 +9,6 @@ use Rattle.bt_model.specs.declared.term.Port.{Port}
 use Rattle.bt_model.specs.declared.term.Term.{Term, Term-F, ind-Term, fold-roll-Term}
 use Rattle.bt_model.specs.declared.term.Tree.{Tree}
 use Rattle.bt_model.specs.Boards.{Scope, Standing, main_scope, standing, standing_step, standing_from, standing_all, children_scope, children_scope_number, scope_below, scope_made, scope_of, makes_scope, namings, namings_at, named_in, keys_named}
-use Rattle.bt_model.specs.Terms.{node_count}
-use Rattle.bt_board.proofs.Standings.{standing_count}
 
 -- ---- uids are places in pre-order
 
@@ -43,7 +39,7 @@ numbered : (t : Term) → IsNumbered t
 numbered = ind-Term IsNumbered (λ x y is uid number scope.
     let inner = children_scope x.kind uid x.ports x.autoremap scope in
     let children = subst (λ (z : Term-F Term). Numbered (uid + 1) (standing_all (map standing_from z.children) (uid + 1) (children_scope_number x.kind uid number) inner)) is
-        (all_numbered y.children (uid + 1) (children_scope_number x.kind uid number) inner) in
+    (all_numbered y.children (uid + 1) (children_scope_number x.kind uid number) inner) in
     subst (λ (walk : Walk). Numbered uid (walk uid number scope)) (sym (fold-roll-Term Walk standing_step x)) (refl, children))
 
 -- ---- the node that makes a scope is found by its uid
@@ -88,11 +84,12 @@ here node is = ap (λ b. b && nat_eq node.uid node.uid) is ∙ grind (arith, nat
 
 all_found : (n : ℕ) (nodes : List Standing) → Numbered n nodes → AllByRecursion (IsFound nodes) nodes
 all_found n [] h = tt
-all_found n (node ∷ nodes) h =
-    ( (λ is. ap (λ b. cond b (Some node) (find (makes node.uid) nodes)) (here node is)),
-      all_both (IsFound nodes) (λ later. node.uid < later.uid) (IsFound (node ∷ nodes))
-        (λ later found below is. ap (λ b. cond b (Some node) (find (makes later.uid) nodes)) (past (makes_scope node.kind) node later below) ∙ found is)
-        nodes (all_found (n + 1) nodes h.1) (all_above node.uid (n + 1) nodes (omega (arith, h.0)) h.1) )
+all_found n (node ∷ nodes) h = (
+  (λ is. ap (λ b. cond b (Some node) (find (makes node.uid) nodes)) (here node is)),
+  all_both (IsFound nodes) (λ later. node.uid < later.uid) (IsFound (node ∷ nodes))
+      (λ later found below is. ap (λ b. cond b (Some node) (find (makes later.uid) nodes)) (past (makes_scope node.kind) node later below) ∙ found is)
+      nodes (all_found (n + 1) nodes h.1) (all_above node.uid (n + 1) nodes (omega (arith, h.0)) h.1),
+)
 
 -- ---- each node stands in the scope to which its number leads
 
@@ -130,8 +127,8 @@ sound whole = ind-Term (IsSound whole) (λ x y is uid number scope found leads.
     let inner_number = children_scope_number x.kind uid number in
     let inner_is = inner_leads whole x.kind uid number x.ports x.autoremap scope _ found_here.0 refl leads in
     let children = subst (λ (z : Term-F Term). AllByRecursion (IsFound whole) (standing_all (map standing_from z.children) (uid + 1) inner_number inner)
-            → AllByRecursion (StandsThere whole) (standing_all (map standing_from z.children) (uid + 1) inner_number inner)) is
-        (λ found. all_sound whole y.children (uid + 1) inner_number inner found inner_is) in
+    → AllByRecursion (StandsThere whole) (standing_all (map standing_from z.children) (uid + 1) inner_number inner)) is
+    (λ found. all_sound whole y.children (uid + 1) inner_number inner found inner_is) in
     subst (λ (walk : Walk). AllByRecursion (StandsThere whole) (walk uid number scope)) (sym unrolled) (leads, children found_here.1))
 
 -- ---- what is named has the cell to which its number leads
@@ -155,7 +152,7 @@ module _ (tree : Tree) where
       all_append (IsTrue_cell tree) (map (named_in node.number node.scope) (keys_named node)) _
       (all_named (IsTrue_cell tree) node.number node.scope (λ key. ap (λ (s : Scope). s key) (sym stands)) (keys_named node))
       (elim (makes_scope node.kind) as (λ b. (b ≡ true → find (makes node.uid) (standing tree) ≡ Some node)
-          → AllByRecursion (IsTrue_cell tree) (if b then map (λ (port : Port). named_in node.uid (scope_below node.uid node.ports node.autoremap node.scope) port.name) node.ports else [])) [
+      → AllByRecursion (IsTrue_cell tree) (if b then map (λ (port : Port). named_in node.uid (scope_below node.uid node.ports node.autoremap node.scope) port.name) node.ports else [])) [
         | true ↦ λ is_found. all_ports (IsTrue_cell tree) node.uid (scope_below node.uid node.ports node.autoremap node.scope)
             (λ key. ap (λ (o : Option Standing). scope_made o key) (sym (is_found refl))) node.ports
         | false ↦ λ _. tt

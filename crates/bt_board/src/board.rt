@@ -1,9 +1,10 @@
-ghost use Rattle.std.specs.Prelude.{◌≡◌, ℕ, ◌+◌, ◌<◌, ◌^◌, length, map, replicate, sum, None, IfOk, OnOk};
+ghost use Rattle.std.specs.Prelude.{◌≡◌, ℕ, ◌+◌, length, map, replicate, sum, None, IfOk, OnOk};
 ghost use Rattle.std.specs.List.{flat_map};
 ghost use Rattle.bt_model.specs.Boards.{Scope, literals_at, opening_board, slot_table, standing_all, standing_from, value_literals, with_literals};
 ghost use Rattle.bt_model.specs.Terms.{node_count};
 ghost use Rattle.bt_board.specs.Openings.{node_literals};
 
+use crate::naming::uid_after;
 use crate::slots::{Slots, own_slot, slot_count};
 use bt_model::{Kind, Port, PortValue, Term, Tree};
 use bt_script::{Cells, NoMemory, Txt, Value};
@@ -101,12 +102,12 @@ fn open_term(
     slots: &Slots,
     entries: &mut Vec<Option<Value>>,
 ) -> Result<u32, NoMemory>
-    requires { uid + node_count term.now < 2 ^ 32 }
     ensures next { IfOk result (λ next. next ≡ uid + node_count term.now) }
     ensures put { OnOk result ((number : ℕ) (scope : Scope) → entries.new.items ≡ with_literals slots.now.cells (flat_map literals_at (standing_from term.now uid number scope)) entries.old.items) }
 {
+    let first = uid_after(uid)?;
     open_node(alloc, term, uid, slots, entries)?;
-    open_terms(alloc, term.children.list(), uid + 1, slots, entries)
+    open_terms(alloc, term.children.list(), first, slots, entries)
 }
 
 /// The same for some terms, one after the other.
@@ -118,7 +119,6 @@ fn open_terms(
     slots: &Slots,
     entries: &mut Vec<Option<Value>>,
 ) -> Result<u32, NoMemory>
-    requires { uid + sum (map node_count terms.now) < 2 ^ 32 }
     ensures next { IfOk result (λ next. next ≡ uid + sum (map node_count terms.now)) }
     ensures put { OnOk result ((number : ℕ) (scope : Scope) → entries.new.items ≡ with_literals slots.now.cells (flat_map literals_at (standing_all (map standing_from terms.now) uid number scope)) entries.old.items) }
 {
@@ -143,9 +143,9 @@ fn empty_entries(alloc: Global, count: u32) -> Result<Vec<Option<Value>>, NoMemo
 /// The board of a tree before the first event, over its slots: it holds the literals of the SubTree
 /// nodes and nothing else.
 pub fn board_of(alloc: Global, tree: &Tree, slots: &Slots) -> Result<Board, NoMemory>
-    requires nodes { node_count tree.now.term < 2 ^ 31 }
-    requires slots { slots.now ≡ slot_table tree.now }
-    ensures { IfOk result (λ board. board ≡ opening_board tree.now) }
+    requires { slots.now ≡ slot_table tree.now }
+    ensures board { IfOk result (λ board. board ≡ opening_board tree.now) }
+    ensures size { IfOk result (λ board. length board ≡ length slots.now.cells) }
 {
     let mut entries = empty_entries(alloc, slot_count(slots))?;
     open_term(alloc, &tree.term, 1, slots, &mut entries)?;

@@ -5,7 +5,7 @@ use Rattle.std.specs.declared.cmp.Ordering.TheVariants.{Equal}
 use Rattle.std.specs.Option.{option_map}
 use Rattle.bt_model.specs.Boards.{owner, same_cell, cell_order, SlotTable}
 use Rattle.bt_board.specs.declared.slots.Entry.{Entry}
-use Rattle.bt_board.proofs.Cells.{cells_exact}
+use Rattle.bt_board.proofs.CellOrder.{cells_exact}
 use Rattle.bt_board.proofs.Resolved.{slot_by, slot_by_entries, none_found, slot_of_row}
 use Rattle.bt_board.proofs.Searched.{apart, lies, find_found}
 use Rattle.bt_board.proofs.slots.slot.Goals as goal

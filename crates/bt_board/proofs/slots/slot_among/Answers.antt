@@ -2,7 +2,7 @@ use Rattle.std.proofs.Common.{rules, sym}
 use Rattle.std.proofs.lemmas.Fn.{always_returns_same}
 use Rattle.bt_model.specs.Boards.{owner}
 use Rattle.bt_model.specs.declared.cell.Cell.{Cell}
-use Rattle.bt_board.proofs.Cells.{cells_exact}
+use Rattle.bt_board.proofs.CellOrder.{cells_exact}
 use Rattle.bt_board.proofs.Searched.{apart, lies, slot_found, slot_absent}
 use Rattle.bt_board.proofs.slots.slot_among.Goals as goal
 
