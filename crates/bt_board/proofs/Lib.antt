@@ -1,5 +1,9 @@
-pub mod Cells
+pub mod CellOrder
 pub mod Named
+pub mod Openings
 pub mod Ordered
+pub mod Resolved
 pub mod Scoping
+pub mod Searched
+pub mod Sound
 pub mod Standings

@@ -1,7 +1,6 @@
 -- Lists that are put in order, each item once.
-use Rattle.std.proofs.Common.{◌≡◌, List, [], ◌∷◌, Bool, true, false, cond, ◌||◌, true≢false, refl, sym, ap, ◌∙◌}
+use Rattle.std.proofs.Common.{◌≡◌, List, [], ◌∷◌, Bool, true, false, cond, ◌||◌, true≢false, Result, Ok, Err, IfOk, refl, ap, ◌∙◌}
 use Rattle.std.specs.List.{list_any, dedup, dedup_from}
-use Rattle.std.specs.Cmp.{IsEquivalence}
 
 -- a test that takes equal items alike
 abbrev pub TakesAlike : {X : Type 0} → (X → X → Bool) → (X → Bool) → Type 0
@@ -24,3 +23,8 @@ list_any-dedup_from E p alike x (y ∷ ys) =
 pub list_any-dedup : {X : Type 0} (E : X → X → Bool) (p : X → Bool) → TakesAlike E p → (xs : List X) → list_any p (dedup E xs) ≡ list_any p xs
 list_any-dedup E p alike [] = refl
 list_any-dedup E p alike (x ∷ xs) = list_any-dedup_from E p alike x xs
+
+-- what follows from two clauses on an answer
+pub if_ok_both : {X E : Type 0} (r : Result X E) (P Q R : X → Type 0) → ((x : X) → P x → Q x → R x) → IfOk r P → IfOk r Q → IfOk r R
+if_ok_both (Ok x) P Q R f p q = f x p q
+if_ok_both (Err e) P Q R f p q = tt

@@ -1,13 +1,8 @@
 -- How the ports of a SubTree node, taken one after the other, give the cells of its scope.
-use Rattle.std.proofs.Common.{◌≡◌, ℕ, ◌+◌, ◌<◌, List, [], ◌∷◌, Bool, true, false, Option, Some, None, drop, length, get_or, find, cond, refl, sym, ap, subst, ◌∙◌}
-use Rattle.std.proofs.lemmas.List.{drop_more}
-use Rattle.std.proofs.lemmas.Slice.Eq.{bytes_eq-Decides}
-use Rattle.std.specs.Option.{option_or}
-use Rattle.std.specs.Str.{bytes_eq}
+use Rattle.std.proofs.Common.{◌≡◌, ℕ, List, Bool, Option, Some, None}
 use Rattle.bt_model.specs.declared.cell.Cell.{Cell}
 use Rattle.bt_model.specs.declared.term.Port.{Port}
-use Rattle.bt_model.specs.Boards.{Scope, port_of, cell_by_port, cell_by_value, scope_below}
-use Rattle.bt_board.specs.Scopes.{cell_of_port}
+use Rattle.bt_model.specs.Boards.{Scope, scope_below}
 
 -- the cell that is found for a key, or else that of the ports which are left
 abbrev pub found_or : Option Cell → List Port → ℕ → Bool → Scope → Scope
@@ -17,4 +12,3 @@ found_or None ports uid autoremap outer key = scope_below uid ports autoremap ou
 -- what is found, and what is left, give the scope of all the ports
 abbrev pub Gives : (List ℕ → Option Cell) → List Port → ℕ → Bool → Scope → Scope → Type 0
 Gives found ports uid autoremap outer whole = (key : List ℕ) → found_or (found key) ports uid autoremap outer key ≡ whole key
-

@@ -1,6 +1,6 @@
 -- Going through the nodes of a term: how many they are, and what they name.
-use Rattle.std.proofs.Common.{◌≡◌, ℕ, ◌+◌, ◌<◌, List, [], ◌∷◌, ◌++◌, Bool, true, false, map, sum, length, drop, take, get_or, length-append, append_assoc, append-nil, if◌then◌else◌, refl, sym, ap, subst, ◌∙◌, arith}
-use Rattle.std.proofs.lemmas.Grind.{common_steps, flat_map-append}
+use Rattle.std.proofs.Common.{◌≡◌, ℕ, ◌+◌, ◌<◌, List, [], ◌∷◌, ◌++◌, map, sum, length, drop, get_or, length-append, append-nil, if◌then◌else◌, refl, sym, ap, subst, ◌∙◌, arith}
+use Rattle.std.proofs.lemmas.Grind.{flat_map-append}
 use Rattle.std.proofs.lemmas.List.{drop_more}
 use Rattle.std.proofs.lemmas.List.Sums.{sum_by-cons}
 use Rattle.std.proofs.lemmas.Simd.{map-map}
@@ -33,7 +33,7 @@ pub standing_count : (t : Term) (uid number : ℕ) (scope : Scope) → length (s
 standing_count = ind-Term IsCounted (λ x y is uid number scope.
     let inner = children_scope x.kind uid x.ports x.autoremap scope in
     let children = subst (λ (z : Term-F Term). length (standing_all (map standing_from z.children) (uid + 1) (children_scope_number x.kind uid number) inner) ≡ sum (map node_count z.children)) is
-        (all_counted y.children (uid + 1) (children_scope_number x.kind uid number) inner) in
+    (all_counted y.children (uid + 1) (children_scope_number x.kind uid number) inner) in
     ap (λ (walk : Walk). length (walk uid number scope)) (fold-roll-Term Walk standing_step x) ∙ omega (arith, children, fold-roll-Term ℕ (λ node. 1 + sum node.children) x))
 
 -- a term's own node, where it stands
@@ -51,13 +51,13 @@ standing_here t uid number scope = record {
 -- a term's node, and then its children
 pub standing_out : (t : Term) (uid number : ℕ) (scope : Scope) → standing_from t uid number scope
     ≡ standing_here t uid number scope ∷ standing_all (map standing_from (out-Term t).children) (uid + 1) (children_scope_number (out-Term t).kind uid number)
-        (children_scope (out-Term t).kind uid (out-Term t).ports (out-Term t).autoremap scope)
+    (children_scope (out-Term t).kind uid (out-Term t).ports (out-Term t).autoremap scope)
 standing_out t uid number scope = ap (λ (walk : Walk). walk uid number scope) (fold_out-Term Walk standing_step t)
 
 -- what a term names: its node, and then its children
 pub namings_out : (t : Term) (uid number : ℕ) (scope : Scope) → namings_of_term t uid number scope
     ≡ namings_at (standing_here t uid number scope) ++ namings_of_terms (out-Term t).children (uid + 1) (children_scope_number (out-Term t).kind uid number)
-        (children_scope (out-Term t).kind uid (out-Term t).ports (out-Term t).autoremap scope)
+    (children_scope (out-Term t).kind uid (out-Term t).ports (out-Term t).autoremap scope)
 namings_out t uid number scope = ap (flat_map namings_at) (standing_out t uid number scope)
 
 -- what some terms name: the first, and then the others
@@ -92,17 +92,17 @@ namings_by kind t uid number scope =
 pub subtree_namings : (t : Term) (uid number : ℕ) (scope : Scope) (inner_number : ℕ) (inner : Scope) → (out-Term t).kind ≡ SubTree → inner_number ≡ uid
     → ((key : List ℕ) → inner key ≡ scope_below uid (out-Term t).ports (out-Term t).autoremap scope key)
     → namings_of_term t uid number scope ≡ map (named_in number scope) (keys_of_node t) ++ map (named_in inner_number inner) (map (λ (port : Port). port.name) (out-Term t).ports)
-        ++ namings_of_terms (out-Term t).children (uid + 1) inner_number inner
+    ++ namings_of_terms (out-Term t).children (uid + 1) inner_number inner
 subtree_namings t uid number scope inner_number inner is_subtree is_uid is_inner =
     let made = scope_below uid (out-Term t).ports (out-Term t).autoremap scope in
     let same : inner ≡ made = λ i key. is_inner key i in
     subst (λ (kind : Kind). namings_of_term t uid number scope ≡ namings_by kind t uid number scope) is_subtree (namings_out t uid number scope)
     ∙ ap (λ (names : List Naming). map (named_in number scope) (keys_of_node t) ++ names ++ namings_of_terms (out-Term t).children (uid + 1) uid made)
-        (sym (map-map (named_in uid made) (λ (port : Port). port.name) (out-Term t).ports))
+    (sym (map-map (named_in uid made) (λ (port : Port). port.name) (out-Term t).ports))
     ∙ sym (ap (λ (n : ℕ). map (named_in number scope) (keys_of_node t) ++ map (named_in n inner) (map (λ (port : Port). port.name) (out-Term t).ports)
-        ++ namings_of_terms (out-Term t).children (uid + 1) n inner) is_uid
-      ∙ ap (λ (s : Scope). map (named_in number scope) (keys_of_node t) ++ map (named_in uid s) (map (λ (port : Port). port.name) (out-Term t).ports)
-        ++ namings_of_terms (out-Term t).children (uid + 1) uid s) same)
+    ++ namings_of_terms (out-Term t).children (uid + 1) n inner) is_uid
+    ∙ ap (λ (s : Scope). map (named_in number scope) (keys_of_node t) ++ map (named_in uid s) (map (λ (port : Port). port.name) (out-Term t).ports)
+    ++ namings_of_terms (out-Term t).children (uid + 1) uid s) same)
 
 -- any other node makes no scope
 other_by : (kind : Kind) (t : Term) (uid number : ℕ) (scope : Scope) → (kind ≡ SubTree → ⊥)

@@ -1,3 +1,4 @@
 pub mod Namings
+pub mod Openings
 pub mod Scopes
 pub mod Slots

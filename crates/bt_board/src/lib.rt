@@ -1,7 +1,13 @@
-//! Blackboards.
+//! Blackboards. Each key that a tree names, in the scope in which it is named, is resolved once to
+//! the slot of its cell. A board holds a value, or none, for each slot, and follows nothing at run
+//! time.
 #![tactic(auto)]
 
+mod board;
 mod naming;
 mod order;
 mod scope;
 mod slots;
+
+pub use board::{Board, board_of};
+pub use slots::{Slots, cells, slot, slot_count, slots_of};

@@ -1,4 +1,4 @@
-ghost use Rattle.std.specs.Prelude.{◌≡◌, ◌+◌, ◌<◌, ◌^◌, ◌∷◌, ◌++◌, [], map, sum, IfOk, OnOk};
+ghost use Rattle.std.specs.Prelude.{◌≡◌, ◌+◌, ◌∷◌, ◌++◌, [], map, sum, IfOk, OnOk};
 ghost use Rattle.std.specs.List.{flat_map};
 ghost use Rattle.bt_script.specs.Scripts.{names_of, stmt_names};
 ghost use Rattle.bt_model.specs.Boards.{given, scripts_of, value_keys, namings};
@@ -155,6 +155,16 @@ fn name_node(
     name_values(alloc, node.ports.list(), scope, namings)
 }
 
+/// The uid behind one. There are not so many nodes in memory that there is none.
+pub(crate) fn uid_after(uid: u32) -> Result<u32, NoMemory>
+    ensures { IfOk result (λ next. next ≡ uid + 1) }
+{
+    match uid.checked_add(1) {
+        Some(next) => Ok(next),
+        None => Err(NoMemory),
+    }
+}
+
 /// Adds what the nodes of a term name, from this uid on, and answers the uid behind them.
 #[cycle(terms)]
 fn name_term(
@@ -164,19 +174,19 @@ fn name_term(
     scope: &Scope,
     namings: &mut Vec<Naming>,
 ) -> Result<u32, NoMemory>
-    requires { uid + node_count term.now < 2 ^ 32 }
     ensures next { IfOk result (λ next. next ≡ uid + node_count term.now) }
     ensures named { OnOk result (namings.new.items ≡ namings.old.items ++ namings_of_term term.now uid (number_of scope.now) (cells_of scope.now)) }
 {
+    let first = uid_after(uid)?;
     name_node(alloc, term, scope, namings)?;
     if let Kind::SubTree = term.kind {
         let ports = term.ports.list();
         let mappings = mappings_of(alloc, uid, ports, term.autoremap, scope)?;
         let inner = Scope::Below(&mappings, &*scope);
         name_ports(alloc, ports, &inner, namings)?;
-        name_terms(alloc, term.children.list(), uid + 1, &inner, namings)
+        name_terms(alloc, term.children.list(), first, &inner, namings)
     } else {
-        name_terms(alloc, term.children.list(), uid + 1, scope, namings)
+        name_terms(alloc, term.children.list(), first, scope, namings)
     }
 }
 
@@ -189,7 +199,6 @@ fn name_terms(
     scope: &Scope,
     namings: &mut Vec<Naming>,
 ) -> Result<u32, NoMemory>
-    requires { uid + sum (map node_count terms.now) < 2 ^ 32 }
     ensures next { IfOk result (λ next. next ≡ uid + sum (map node_count terms.now)) }
     ensures named { OnOk result (namings.new.items ≡ namings.old.items ++ namings_of_terms terms.now uid (number_of scope.now) (cells_of scope.now)) }
 {
@@ -202,7 +211,6 @@ fn name_terms(
 
 /// All that a tree names.
 pub(crate) fn name_tree(alloc: Global, tree: &Tree) -> Result<Vec<Naming>, NoMemory>
-    requires { node_count tree.now.term < 2 ^ 31 }
     ensures { IfOk result (λ named. named.items ≡ namings tree.now) }
 {
     let mut named = Vec::new(alloc);

@@ -68,12 +68,7 @@ pub(crate) fn cell_in(alloc: Global, scope: &Scope, key: &Name) -> Result<Cell, 
 }
 
 /// The cell of a key that a port of a SubTree node names.
-fn mapped(
-    alloc: Global,
-    port: &Port,
-    uid: u32,
-    outer: &Scope,
-) -> Result<Cell, NoMemory>
+fn mapped(alloc: Global, port: &Port, uid: u32, outer: &Scope) -> Result<Cell, NoMemory>
     ensures { IfOk result (λ cell. cell ≡ cell_by_value port.now.value uid (cells_of outer.now) port.now.name) }
 {
     match &port.value {

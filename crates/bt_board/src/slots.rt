@@ -1,13 +1,11 @@
 ghost use Rattle.std.specs.Prelude.{◌≡◌, ◌<◌, ◌^◌, length, map, IfOk};
 ghost use Rattle.std.specs.List.Sorted.{IsStrictlySortedBy};
 ghost use Rattle.bt_model.specs.declared.term.Tree.{Tree};
-ghost use Rattle.bt_model.specs.Boards.{cell_order, owner, namings, slot_in, slot_of, slot_table, in_order};
-ghost use Rattle.bt_model.specs.Terms.{node_count};
+ghost use Rattle.bt_model.specs.Boards.{cell_order, owner, slot_in, slot_of, slot_table, in_order};
 ghost use Rattle.bt_board.specs.Slots.{entry_of};
 
 use crate::naming::name_tree;
 use crate::order;
-
 use bt_model::{Cell, Naming, Tree};
 use bt_script::{Name, NoMemory};
 use std::alloc::Global;
@@ -96,9 +94,9 @@ impl Model for Slots {
     ghost view = { λ s. table s.cells.items s.entries.items };
 
     ghost invariant = { λ s. record {
-        few : length s.cells.items < 2 ^ 32;
-        cells : IsStrictlySortedBy cell_order s.cells.items;
-        entries : IsStrictlySortedBy entry_order s.entries.items;
+      few : length s.cells.items < 2 ^ 32;
+      cells : IsStrictlySortedBy cell_order s.cells.items;
+      entries : IsStrictlySortedBy entry_order s.entries.items;
     } };
 }
 
@@ -121,6 +119,13 @@ fn slot_among(cells: &[Cell], scope: u32, key: &Name) -> u32
     }
 }
 
+/// The slot of the cell that a scope owns, and the number of slots where it has none.
+pub(crate) fn own_slot(slots: &Slots, scope: u32, key: &Name) -> u32
+    ensures { result ≡ slot_in slots.now.cells (owner scope key.now) }
+{
+    slot_among(&slots.cells, scope, key)
+}
+
 /// The cells of what is named, in order.
 fn cells_of(alloc: Global, namings: &[Naming]) -> Result<Vec<Cell>, NoMemory>
     ensures { IfOk result (λ cells. cells.items ≡ in_order (map (λ n. n.cell) namings.now)) }
@@ -133,11 +138,7 @@ fn cells_of(alloc: Global, namings: &[Naming]) -> Result<Vec<Cell>, NoMemory>
 }
 
 /// What is named, with the slots of its cells.
-fn entries_of(
-    alloc: Global,
-    namings: Vec<Naming>,
-    cells: &[Cell],
-) -> Result<Vec<Entry>, NoMemory>
+fn entries_of(alloc: Global, namings: Vec<Naming>, cells: &[Cell]) -> Result<Vec<Entry>, NoMemory>
     requires ascend { IsStrictlySortedBy cell_order cells.now }
     requires few { length cells.now < 2 ^ 32 }
     ensures { IfOk result (λ entries. entries.items ≡ map (entry_of cells.now) namings.items) }
@@ -154,14 +155,15 @@ fn entries_of(
     Ok(entries)
 }
 
-/// Resolves each key that a tree names, in its scope, to the slot of its cell. The tree has fewer
-/// than 2^31 nodes and names fewer than 2^32 keys.
+/// Resolves each key that a tree names, in its scope, to the slot of its cell. There is no memory
+/// for 2^32 nodes or names, so such a tree is answered by `NoMemory`.
 pub fn slots_of(alloc: Global, tree: &Tree) -> Result<Slots, NoMemory>
-    requires nodes { node_count tree.now.term < 2 ^ 31 }
-    requires few { length (namings tree.now) < 2 ^ 32 }
     ensures { IfOk result (λ slots. slots ≡ slot_table tree.now) }
 {
     let namings = name_tree(alloc, tree)?;
+    if namings.len() > u32::MAX as usize {
+        return Err(NoMemory);
+    }
     let cells = cells_of(alloc, &namings)?;
     let entries = order::in_order(entries_of(alloc, namings, &cells)?)?;
     Ok(Slots { cells, entries })

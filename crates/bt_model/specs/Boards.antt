@@ -1,6 +1,6 @@
 -- Blackboards: the cell of each key in each scope of a tree, the slots of the cells, and what a board
 -- holds at the beginning.
-use Rattle.std.specs.Prelude.{ℕ, ◌+◌, ◌&&◌, nat_eq, List, [], ◌∷◌, ◌++◌, Bool, true, false, if◌then◌else◌, Option, Some, None, find, length, map}
+use Rattle.std.specs.Prelude.{ℕ, ◌+◌, ◌&&◌, nat_eq, List, [], ◌∷◌, ◌++◌, Bool, true, false, if◌then◌else◌, Option, Some, None, find, length, map, replicate, slice_set}
 use Rattle.std.specs.Cmp.Lexicographic.{slice_cmp}
 use Rattle.std.specs.List.{flat_map, list_any}
 use Rattle.std.specs.Ordering.{nat_cmp, ordering_then}
@@ -216,11 +216,11 @@ literals_at node = if makes_scope node.kind then flat_map (λ (port : Port). val
 abbrev pub literals : Tree → List (Cell × Value)
 literals tree = flat_map literals_at (standing tree)
 
--- the value that a cell is given at the beginning
-abbrev pub opening_value : List (Cell × Value) → Cell → Option Value
-opening_value [] cell = None
-opening_value (literal ∷ rest) cell = if same_cell literal.0 cell then Some literal.1 else opening_value rest cell
+-- a board with these literals put in, each at the slot of its cell
+abbrev pub with_literals : List Cell → List (Cell × Value) → List (Option Value) → List (Option Value)
+with_literals cells [] entries = entries
+with_literals cells (literal ∷ rest) entries = with_literals cells rest (slice_set entries (slot_in cells literal.0) (Some literal.1))
 
 -- the board before the first event, by slot: the literals of the SubTree nodes, and nothing else
 abbrev pub opening_board : Tree → List (Option Value)
-opening_board tree = map (opening_value (literals tree)) (slots tree)
+opening_board tree = with_literals (slots tree) (literals tree) (replicate (length (slots tree)) None)

@@ -2,7 +2,6 @@ use Rattle.std.proofs.Common.{◌≡◌, ◌+◌, ◌++◌, map, sum, drop}
 use Rattle.bt_model.specs.Terms.{node_count}
 use Rattle.bt_board.specs.Namings.{namings_of_terms}
 use Rattle.bt_board.specs.Scopes.{number_of, cells_of}
-use Rattle.bt_board.proofs.Standings.{namings_cons}
 use Rattle.bt_board.proofs.naming.+terms.Given as goal
 
 abbrev pub invariant-name_terms-loop-term : goal.invariant-name_terms-loop-term

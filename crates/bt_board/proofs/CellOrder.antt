@@ -1,5 +1,5 @@
 -- Cells in order: `in_order` is the one list that ascends and has the same cells.
-use Rattle.std.proofs.Common.{◌≡◌, ℕ, List, [], ◌∷◌, Bool, true, false, ◌||◌, map, refl, sym, ap, subst, ◌∙◌}
+use Rattle.std.proofs.Common.{◌≡◌, List, [], ◌∷◌, Bool, true, false, ◌||◌, ◌+◌, ◌≤◌, length, refl, sym, ap, subst, ◌∙◌, arith}
 use Rattle.std.proofs.lemmas.Cmp.{then_total, on_total, nat_cmp_total, nat_list_cmp_total}
 use Rattle.std.proofs.lemmas.Map.Lookups.{exact_unsigned, exact_bytes, exact_pairs, btree_set_from_contains}
 use Rattle.std.specs.BTreeMap.{is_at}
@@ -9,7 +9,6 @@ use Rattle.std.specs.Cmp.Lexicographic.{slice_cmp}
 use Rattle.std.specs.List.{AllByRecursion, list_any}
 use Rattle.std.specs.List.Sorted.{IsStrictlySortedBy}
 use Rattle.std.specs.Ordering.{nat_cmp, ordering_reverse}
-use Rattle.std.specs.declared.cmp.Ordering.{Ordering}
 use Rattle.std.specs.declared.cmp.Ordering.TheVariants.{Less, Equal, Greater}
 use Rattle.bt_model.specs.declared.cell.Cell.{Cell}
 use Rattle.bt_model.specs.Boards.{cell_order, placed, placed_by, in_order}
@@ -83,3 +82,27 @@ in_order_is ordered cells ascends same =
     let t : BTreeSet Cell = record { keys = in_order cells } in
     btree_set_from_contains cells_total s t ascends (in_order_ascends cells)
     (λ q. same (is_at (cell_order q)) ∙ sym (in_order_any (is_at (cell_order q)) cells)) cells_exact
+
+placed_length : (cell : Cell) (cells : List Cell) → length (placed cell cells) ≤ 1 + length cells
+placed_length cell [] = omega arith
+placed_length cell (first ∷ rest) =
+    elim (cell_order cell first) as (λ o. length (placed_by o cell first rest (placed cell rest)) ≤ 1 + length (first ∷ rest)) [
+      | Less ↦ omega arith
+      | Equal ↦ omega arith
+      | Greater ↦ omega (arith, placed_length cell rest)
+    ]
+
+-- there are no more cells in order than there were
+pub in_order_length : (cells : List Cell) → length (in_order cells) ≤ length cells
+in_order_length [] = omega arith
+in_order_length (cell ∷ cells) = omega (arith, placed_length cell (in_order cells), in_order_length cells)
+
+-- what is known of a list that is some cells in order
+pub record AreInOrder (cells : List Cell) (of : List Cell) : Type 0 where
+  pub is : cells ≡ in_order of
+
+pub ascends_in_order : {cells of : List Cell} → AreInOrder cells of → IsStrictlySortedBy cell_order cells
+ascends_in_order {cells} {of} h = subst (IsStrictlySortedBy cell_order) (sym h.is) (in_order_ascends of)
+
+pub length_in_order : {cells of : List Cell} → AreInOrder cells of → length cells ≤ length of
+length_in_order {cells} {of} h = omega (arith, in_order_length of, ap (λ (cs : List Cell). length cs) h.is)

@@ -1,0 +1,153 @@
+ghost use Rattle.std.specs.Prelude.{◌≡◌, ℕ, ◌+◌, length, map, replicate, sum, None, IfOk, OnOk};
+ghost use Rattle.std.specs.List.{flat_map};
+ghost use Rattle.bt_model.specs.Boards.{Scope, literals_at, opening_board, slot_table, standing_all, standing_from, value_literals, with_literals};
+ghost use Rattle.bt_model.specs.Terms.{node_count};
+ghost use Rattle.bt_board.specs.Openings.{node_literals};
+
+use crate::naming::uid_after;
+use crate::slots::{Slots, own_slot, slot_count};
+use bt_model::{Kind, Port, PortValue, Term, Tree};
+use bt_script::{Cells, NoMemory, Txt, Value};
+use std::alloc::Global;
+use std::marker::Model;
+
+/// A blackboard: a value, or none, for each slot. Contracts see the list of them.
+#[derive(Debug, Drop)]
+pub struct Board {
+    entries: Vec<Option<Value>>,
+}
+
+impl Model for Board {
+    ghost use Rattle.std.specs.Prelude.{List, Option};
+    ghost use Rattle.bt_script.specs.declared.value.Value.{Value as Content};
+
+    ghost Value = { List (Option Content) };
+
+    ghost view = { λ board. board.entries.items };
+}
+
+impl Cells for Board {
+    ghost entries = { λ board. board };
+
+    fn get(&self, slot: u32) -> Option<&Value> {
+        self.entries[slot as usize].as_ref()
+    }
+
+    fn put_int(&mut self, slot: u32, n: i64) {
+        self.entries[slot as usize] = Some(Value::Int(n));
+    }
+
+    fn put_text(&mut self, slot: u32, text: Txt) {
+        self.entries[slot as usize] = Some(Value::Text(text));
+    }
+}
+
+/// Puts the literal of a SubTree node's port into its cell, where the port has one.
+fn put_literal(
+    alloc: Global,
+    port: &Port,
+    uid: u32,
+    slots: &Slots,
+    entries: &mut Vec<Option<Value>>,
+) -> Result<(), NoMemory>
+    ensures { OnOk result (entries.new.items ≡ with_literals slots.now.cells (value_literals port.now.value port.now.name uid) entries.old.items) }
+{
+    if let PortValue::Lit(value) = &port.value {
+        let slot = own_slot(slots, uid, &port.name) as usize;
+        if slot < entries.len() {
+            entries[slot] = Some(value.copy(alloc)?);
+        }
+    }
+    Ok(())
+}
+
+/// Puts in the literals of a SubTree node.
+fn put_literals(
+    alloc: Global,
+    ports: &[Port],
+    uid: u32,
+    slots: &Slots,
+    entries: &mut Vec<Option<Value>>,
+) -> Result<(), NoMemory>
+    ensures { OnOk result (entries.new.items ≡ with_literals slots.now.cells (flat_map (λ port. value_literals port.value port.name uid) ports.now) entries.old.items) }
+{
+    for port in ports {
+        put_literal(alloc, port, uid, slots, entries)?;
+    }
+    Ok(())
+}
+
+/// Puts in the literals of a node, where it is a SubTree node.
+fn open_node(
+    alloc: Global,
+    node: &Term,
+    uid: u32,
+    slots: &Slots,
+    entries: &mut Vec<Option<Value>>,
+) -> Result<(), NoMemory>
+    ensures { OnOk result (entries.new.items ≡ with_literals slots.now.cells (node_literals node.now uid) entries.old.items) }
+{
+    if let Kind::SubTree = node.kind {
+        put_literals(alloc, node.ports.list(), uid, slots, entries)?;
+    }
+    Ok(())
+}
+
+/// Puts in the literals of a term, whose first uid this is, and answers the uid behind it.
+#[cycle(terms)]
+fn open_term(
+    alloc: Global,
+    term: &Term,
+    uid: u32,
+    slots: &Slots,
+    entries: &mut Vec<Option<Value>>,
+) -> Result<u32, NoMemory>
+    ensures next { IfOk result (λ next. next ≡ uid + node_count term.now) }
+    ensures put { OnOk result ((number : ℕ) (scope : Scope) → entries.new.items ≡ with_literals slots.now.cells (flat_map literals_at (standing_from term.now uid number scope)) entries.old.items) }
+{
+    let first = uid_after(uid)?;
+    open_node(alloc, term, uid, slots, entries)?;
+    open_terms(alloc, term.children.list(), first, slots, entries)
+}
+
+/// The same for some terms, one after the other.
+#[cycle(terms)]
+fn open_terms(
+    alloc: Global,
+    terms: &[Term],
+    uid: u32,
+    slots: &Slots,
+    entries: &mut Vec<Option<Value>>,
+) -> Result<u32, NoMemory>
+    ensures next { IfOk result (λ next. next ≡ uid + sum (map node_count terms.now)) }
+    ensures put { OnOk result ((number : ℕ) (scope : Scope) → entries.new.items ≡ with_literals slots.now.cells (flat_map literals_at (standing_all (map standing_from terms.now) uid number scope)) entries.old.items) }
+{
+    let mut next = uid;
+    for term in terms {
+        next = open_term(alloc, term, next, slots, entries)?;
+    }
+    Ok(next)
+}
+
+/// A board without values.
+fn empty_entries(alloc: Global, count: u32) -> Result<Vec<Option<Value>>, NoMemory>
+    ensures { IfOk result (λ entries. entries.items ≡ replicate count None) }
+{
+    let mut entries = Vec::new(alloc);
+    for _ in 0..count {
+        entries.push(None)?;
+    }
+    Ok(entries)
+}
+
+/// The board of a tree before the first event, over its slots: it holds the literals of the SubTree
+/// nodes and nothing else.
+pub fn board_of(alloc: Global, tree: &Tree, slots: &Slots) -> Result<Board, NoMemory>
+    requires { slots.now ≡ slot_table tree.now }
+    ensures board { IfOk result (λ board. board ≡ opening_board tree.now) }
+    ensures size { IfOk result (λ board. length board ≡ length slots.now.cells) }
+{
+    let mut entries = empty_entries(alloc, slot_count(slots))?;
+    open_term(alloc, &tree.term, 1, slots, &mut entries)?;
+    Ok(Board { entries })
+}
