@@ -3,6 +3,7 @@
 
 #[cfg(test)]
 mod boards;
+mod moves;
 #[cfg(test)]
 mod outside;
 #[cfg(test)]

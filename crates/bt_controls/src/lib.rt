@@ -4,6 +4,7 @@
 
 mod choices;
 mod control;
+pub mod laws;
 mod parallels;
 mod rounds;
 mod steps;

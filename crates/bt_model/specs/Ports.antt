@@ -69,15 +69,15 @@ within r (Some n) = if fits r (Int n) then Some n else None
 within r None = None
 
 -- a count of n children: a negative one counts from n + 1 down, and it must lie in 1 to n
-abbrev pub count_of : ℕ → ℤ → ℤ
-count_of n c = if int_lt c (pos 0) then pos (n + 1) +ℤ c else c
+abbrev pub threshold_of : ℕ → ℤ → ℤ
+threshold_of n c = if int_lt c (pos 0) then pos (n + 1) +ℤ c else c
 
-abbrev pub count_within : ℕ → ℤ → Option ℕ
-count_within n c = if int_le (pos 1) c && int_le c (pos n) then Some (nat_abs c) else None
+abbrev pub threshold_within : ℕ → ℤ → Option ℕ
+threshold_within n c = if int_le (pos 1) c && int_le c (pos n) then Some (nat_abs c) else None
 
-abbrev pub count_by : ℕ → Option ℤ → Option ℕ
-count_by n (Some c) = count_within n (count_of n c)
-count_by n None = None
+abbrev pub threshold : ℕ → Option ℤ → Option ℕ
+threshold n (Some c) = threshold_within n (threshold_of n c)
+threshold n None = None
 
 abbrev pub is_negative : Option ℤ → Bool
 is_negative (Some c) = int_lt c (pos 0)
@@ -107,8 +107,8 @@ new_memo ReactiveSequence site memo s = Ok (Index 0 false)
 new_memo ReactiveFallback site memo s = Ok (Index 0 false)
 new_memo SequenceWithMemory site memo s = Ok (Index (index_of memo) false)
 new_memo Parallel site memo s =
-    parallel_start (count_by (length site.node.children) (number_at site s (codes "success_count"))) (is_negative (number_at site s (codes "success_count")))
-    (count_by (length site.node.children) (number_at site s (codes "failure_count")))
+    parallel_start (threshold (length site.node.children) (number_at site s (codes "success_count"))) (is_negative (number_at site s (codes "success_count")))
+    (threshold (length site.node.children) (number_at site s (codes "failure_count")))
 new_memo (Switch cases) site memo s = Ok (Chosen None)
 new_memo IfThenElse site memo s = Ok (Chosen None)
 new_memo Retry site memo s = turns_start port.NumAttempts (within range.Turns (number_at site s (codes "num_attempts")))
