@@ -3,6 +3,11 @@
 
 #[cfg(test)]
 mod boards;
+#[cfg(test)]
+mod build;
+#[cfg(test)]
+mod manifest;
+#[cfg(test)]
 mod moves;
 #[cfg(test)]
 mod outside;
