@@ -9,6 +9,7 @@ pub mod Moves
 pub mod Names
 pub mod Numbers
 pub mod Ports
+pub mod PrintedTree
 pub mod Rules
 pub mod Run
 pub mod Scripts

@@ -3,9 +3,11 @@
 
 mod block;
 mod line;
+mod mark;
 mod names;
 mod put;
 mod stop;
+mod tree;
 mod word;
 
 pub use block::{write_block, write_line};
@@ -13,3 +15,4 @@ pub use bt_model::{Block, Header};
 pub use names::{Names, names_of};
 pub use put::{put_bytes, put_number, put_quoted, put_signed};
 pub use stop::TextStop;
+pub use tree::write_tree;

@@ -1,0 +1,223 @@
+ghost use Rattle.std.specs.Prelude.{◌≡◌, ◌≤◌, OnOk, IfOk, IsErrOf, codes, map};
+ghost use Rattle.std.specs.List.{concat, list_any};
+ghost use Rattle.std.specs.Str.{bytes_eq};
+ghost use Rattle.bt_model.specs.PrintedTree.{opened_by, printed, tree_element, tree_lines, trees_of, with_tree, with_trees, written_below};
+ghost use Rattle.bt_model.specs.declared.term.Term.{out-Term};
+ghost use Rattle.bt_outside.specs.Appending.{Appended, AppendedFront};
+ghost use Rattle.bt_outside.specs.Counts.{Rose};
+ghost use Rattle.bt_text.specs.Trees.{end_mark, node_mark, start_mark, written};
+
+use crate::block::write_line;
+use crate::mark::{deeper, element_name, end_line, mark_line, node_line};
+use crate::stop::TextStop;
+use bt_model::{Kind, Term, Tree};
+use bt_outside::Sink;
+use bt_script::{Name, NoMemory};
+use std::alloc::Global;
+
+/// A tree of the printed file: its ID, and the nodes that stand in its element.
+#[derive(Clone, Copy)]
+struct WrittenTree<'a> {
+    id: &'a Name,
+    nodes: &'a [Term],
+}
+
+// Whether a tree of this ID is among these.
+fn has_tree(trees: &[WrittenTree], id: &Name) -> bool
+    ensures { result ≡ list_any (λ t. bytes_eq id.now t.id.now) trees.now }
+{
+    trees.iter().any(|tree| id == tree.id)
+}
+
+// The tree joins these, but for one whose ID stands there already. There are at most 256.
+fn add_tree<'a>(
+    trees: &mut Vec<WrittenTree<'a>>,
+    id: &'a Name,
+    nodes: &'a [Term],
+) -> Result<(), NoMemory>
+    ensures { OnOk result (map written trees.new.items
+        ≡ with_tree (map written trees.old.items) (id.now, map (λ node. (printed node).lines) nodes.now)) }
+{
+    if has_tree(trees, id) {
+        return Ok(());
+    }
+    trees.push(WrittenTree { id, nodes })?;
+    Ok(())
+}
+
+// The tree that the node opens itself joins these.
+fn add_own<'a>(trees: &mut Vec<WrittenTree<'a>>, term: &'a Term) -> Result<(), NoMemory>
+    ensures { OnOk result (map written trees.new.items ≡ with_trees (map written trees.old.items)
+        (opened_by (out-Term term.now).kind (out-Term term.now).id (map (λ c. (printed c).lines) (out-Term term.now).children))) }
+{
+    match term.kind {
+        Kind::SubTree => add_tree(trees, &term.id, term.children.list()),
+        _ => Ok(()),
+    }
+}
+
+// The trees that are opened in the term join these, in pre-order.
+fn add_opened<'a>(trees: &mut Vec<WrittenTree<'a>>, term: &'a Term) -> Result<(), NoMemory>
+    ensures { OnOk result (map written trees.new.items ≡ with_trees (map written trees.old.items) (printed term.now).opened) }
+{
+    add_own(trees, term)?;
+    for child in term.children.list() {
+        add_opened(trees, child)?;
+    }
+    Ok(())
+}
+
+// The main tree, and then every other one that is opened, once, in the order of their first openings.
+fn trees_of<'a>(alloc: Global, tree: &'a Tree) -> Result<Vec<WrittenTree<'a>>, NoMemory>
+    ensures { IfOk result (λ trees. map written trees.items ≡ trees_of tree.now) }
+{
+    let mut trees = Vec::new(alloc);
+    trees.push(WrittenTree {
+        id: &tree.main,
+        nodes: std::slice::from_ref(&tree.term),
+    })?;
+    add_opened(&mut trees, &tree.term)?;
+    Ok(trees)
+}
+
+// The nodes that are written in a node's element: the tree of a SubTree node is written apart.
+fn nodes_below(term: &Term) -> &[Term]
+    ensures { result.now ≡ written_below (out-Term term.now).kind (out-Term term.now).children }
+{
+    match term.kind {
+        Kind::SubTree => &[],
+        _ => term.children.list(),
+    }
+}
+
+// Writes the line of a node's mark, which ends with these bytes.
+fn write_node_line<K: Sink>(
+    alloc: Global,
+    out: &mut K,
+    blanks: &[u8],
+    term: &Term,
+    ending: &[u8],
+) -> Result<(), TextStop>
+    ensures whole { OnOk result (Appended (K.written out.old) (K.written out.new) (node_mark blanks.now term.now ending.now)) }
+    ensures front { AppendedFront (K.written out.old) (K.written out.new) (node_mark blanks.now term.now ending.now) }
+    ensures failed { IsErrOf result TextStop.WriteFault → Rose (K.faults out.old) (K.faults out.new) }
+    ensures count { K.faults out.old ≤ K.faults out.new }
+{
+    let line = node_line(alloc, blanks, term, ending)?;
+    write_line(out, line.as_slice())
+}
+
+// Writes the line of a mark with these attributes, which ends with these bytes.
+fn write_mark<K: Sink>(
+    alloc: Global,
+    out: &mut K,
+    blanks: &[u8],
+    name: &[u8],
+    attributes: &[(&[u8], &[u8])],
+    ending: &[u8],
+) -> Result<(), TextStop>
+    ensures whole { OnOk result (Appended (K.written out.old) (K.written out.new)
+        (start_mark blanks.now name.now (map (λ a. (a.0.now, a.1.now)) attributes.now) ending.now)) }
+    ensures front { AppendedFront (K.written out.old) (K.written out.new)
+        (start_mark blanks.now name.now (map (λ a. (a.0.now, a.1.now)) attributes.now) ending.now) }
+    ensures failed { IsErrOf result TextStop.WriteFault → Rose (K.faults out.old) (K.faults out.new) }
+    ensures count { K.faults out.old ≤ K.faults out.new }
+{
+    let line = mark_line(alloc, blanks, name, attributes, ending)?;
+    write_line(out, line.as_slice())
+}
+
+// Writes the line of an end mark.
+fn write_end<K: Sink>(
+    alloc: Global,
+    out: &mut K,
+    blanks: &[u8],
+    name: &[u8],
+) -> Result<(), TextStop>
+    ensures whole { OnOk result (Appended (K.written out.old) (K.written out.new) (end_mark blanks.now name.now)) }
+    ensures front { AppendedFront (K.written out.old) (K.written out.new) (end_mark blanks.now name.now) }
+    ensures failed { IsErrOf result TextStop.WriteFault → Rose (K.faults out.old) (K.faults out.new) }
+    ensures count { K.faults out.old ≤ K.faults out.new }
+{
+    let line = end_line(alloc, blanks, name)?;
+    write_line(out, line.as_slice())
+}
+
+// Writes the lines of a node and of all below it.
+#[tactic(auto, using(bt_outside::proofs::Appends::appending))]
+fn write_node<K: Sink>(
+    alloc: Global,
+    out: &mut K,
+    blanks: &[u8],
+    term: &Term,
+) -> Result<(), TextStop>
+    ensures whole { OnOk result
+        (Appended (K.written out.old) (K.written out.new) (concat ((printed term.now).lines blanks.now))) }
+    ensures front { AppendedFront (K.written out.old) (K.written out.new) (concat ((printed term.now).lines blanks.now)) }
+    ensures failed { IsErrOf result TextStop.WriteFault → Rose (K.faults out.old) (K.faults out.new) }
+    ensures count { K.faults out.old ≤ K.faults out.new }
+{
+    let nodes = nodes_below(term);
+    if nodes.is_empty() {
+        write_node_line(alloc, out, blanks, term, b"/>")?;
+        return Ok(());
+    }
+    let more = deeper(alloc, blanks)?;
+    write_node_line(alloc, out, blanks, term, b">")?;
+    for node in nodes {
+        write_node(alloc, out, more.as_slice(), node)?;
+    }
+    write_end(alloc, out, blanks, element_name(term))?;
+    Ok(())
+}
+
+// Writes the lines of a tree in its element, one level deep.
+#[tactic(auto, using(bt_outside::proofs::Appends::appending))]
+fn write_written<K: Sink>(
+    alloc: Global,
+    out: &mut K,
+    id: &Name,
+    nodes: &[Term],
+) -> Result<(), TextStop>
+    ensures whole { OnOk result (Appended (K.written out.old) (K.written out.new)
+        (concat (tree_element (id.now, map (λ node. (printed node).lines) nodes.now) (codes "  ")))) }
+    ensures front { AppendedFront (K.written out.old) (K.written out.new)
+        (concat (tree_element (id.now, map (λ node. (printed node).lines) nodes.now) (codes "  "))) }
+    ensures failed { IsErrOf result TextStop.WriteFault → Rose (K.faults out.old) (K.faults out.new) }
+    ensures count { K.faults out.old ≤ K.faults out.new }
+{
+    let attributes: [(&[u8], &[u8]); 1] = [(b"ID", id.list())];
+    if nodes.is_empty() {
+        write_mark(alloc, out, b"  ", b"BehaviorTree", &attributes, b"/>")?;
+        return Ok(());
+    }
+    write_mark(alloc, out, b"  ", b"BehaviorTree", &attributes, b">")?;
+    for node in nodes {
+        write_node(alloc, out, b"    ", node)?;
+    }
+    write_end(alloc, out, b"  ", b"BehaviorTree")?;
+    Ok(())
+}
+
+/// Writes the tree as a tree file that reads back as the same tree, each line by one write. After a
+/// stop some front of the lines was written. `TextStop::WriteFault` comes only where the sink's
+/// count of failures rose in this call.
+#[tactic(auto, using(bt_outside::proofs::Appends::appending))]
+pub fn write_tree<K: Sink>(alloc: Global, out: &mut K, tree: &Tree) -> Result<(), TextStop>
+    ensures whole { OnOk result (Appended (K.written out.old) (K.written out.new) (concat (tree_lines tree.now))) }
+    ensures front { AppendedFront (K.written out.old) (K.written out.new) (concat (tree_lines tree.now)) }
+    ensures failed { IsErrOf result TextStop.WriteFault → Rose (K.faults out.old) (K.faults out.new) }
+    ensures count { K.faults out.old ≤ K.faults out.new }
+{
+    let trees = trees_of(alloc, tree)?;
+    let attributes: [(&[u8], &[u8]); 2] = [
+        (b"BTCPP_format", b"4"),
+        (b"main_tree_to_execute", tree.main.list()),
+    ];
+    write_mark(alloc, out, b"", b"root", &attributes, b">")?;
+    for written in &trees {
+        write_written(alloc, out, written.id, written.nodes)?;
+    }
+    write_end(alloc, out, b"", b"root")?;
+    Ok(())
+}
