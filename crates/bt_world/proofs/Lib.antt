@@ -1,5 +1,5 @@
+pub mod Ascii
 pub mod Canonical
-pub mod Onward
-pub mod Refused
+pub mod Named
+pub mod Parts
 pub mod Rests
-pub mod Said

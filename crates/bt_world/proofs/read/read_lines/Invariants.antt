@@ -1,7 +1,0 @@
-use Rattle.std.proofs.Common.{◌≡◌, ◌+◌, drop, map}
-use Rattle.bt_model.specs.WorldFile.{with_lines}
-use Rattle.bt_world.proofs.read.read_lines.Given as goal
-
-abbrev pub invariant-loop-text : goal.invariant-loop-text
-invariant-loop-text l =
-    with_lines (l.text-index + 2) (map (λ text. text.now) (drop l.text-index l.lines)) l.reading ≡ with_lines 2 (map (λ text. text.now) l.lines) l.fn.reading
