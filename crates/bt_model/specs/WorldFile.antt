@@ -220,6 +220,17 @@ action_line text =
     else if bytes_eq (word 1 text) (codes "gate") then option_map (λ head. GateLine head (behind 2 text)) (head_in (word 0 text))
     else None
 
+-- what a line about goals, runners and events says, which begins with this word
+abbrev pub event_line : List ℕ → List ℕ → Option Line
+event_line kind text =
+    if bytes_eq kind (codes "goal") then name_line GoalLine text
+    else if bytes_eq kind (codes "runners") then number_line RunnersLine text
+    else if bytes_eq kind (codes "at") then number_line AtLine text
+    else if bytes_eq kind (codes "tick") then number_line TickLine text
+    else if bytes_eq kind (codes "halt") then number_line HaltLine text
+    else if bytes_eq kind (codes "set") then named_number SetLine text
+    else None
+
 -- what a line says that begins with this word, by what stands behind it
 abbrev pub line_by : List ℕ → List ℕ → Option Line
 line_by kind text =
@@ -230,13 +241,7 @@ line_by kind text =
     else if bytes_eq kind (codes "needs") then name_line NeedsLine text
     else if bytes_eq kind (codes "sets") then sets_line text
     else if bytes_eq kind (codes "out") then out_line text
-    else if bytes_eq kind (codes "goal") then name_line GoalLine text
-    else if bytes_eq kind (codes "runners") then number_line RunnersLine text
-    else if bytes_eq kind (codes "at") then number_line AtLine text
-    else if bytes_eq kind (codes "tick") then number_line TickLine text
-    else if bytes_eq kind (codes "halt") then number_line HaltLine text
-    else if bytes_eq kind (codes "set") then named_number SetLine text
-    else None
+    else event_line kind text
 
 -- what the content of a line says, if it has one of the forms
 abbrev pub line_in : List ℕ → Option Line
@@ -340,11 +345,17 @@ with_comparison id fact op value r =
     if is_taken r.rows id then Err DoubleName
     else numbered (fact_number r.facts fact) (λ n. with_row (plain_row id [] (Is n op value)) r)
 
+-- whether each name is known of the expression by which a row answers
+abbrev pub knows_sort : List (List ℕ) → List Fact → RowSort → Bool
+knows_sort ports facts (When e) = knows_all ports facts e
+knows_sort ports facts (Gate e) = knows_all ports facts e
+knows_sort ports facts _ = true
+
 -- a row of its own name, whose ports differ, and whose names are known
-abbrev pub with_head : Head → Bool → (Row → Reading → Result Reading WorldKind) → RowSort → Reading → Result Reading WorldKind
-with_head head known add sort r =
+abbrev pub with_head : Head → (Row → Reading → Result Reading WorldKind) → RowSort → Reading → Result Reading WorldKind
+with_head head add sort r =
     if is_taken r.rows head.id || repeats [] head.ports then Err DoubleName
-    else if not known then Err NoName
+    else if not (knows_sort head.ports r.facts sort) then Err NoName
     else if nat_lt 8 (length head.ports) then Err TooMany
     else add (plain_row head.id head.ports sort) r
 
@@ -436,10 +447,10 @@ pub record SaysOf (text : List ℕ) (rule : Expr → Result Reading WorldKind) (
 abbrev pub AfterLine : Reading → Line → Result Reading WorldKind → Type 0
 AfterLine r (FactLine name opening) said = said ≡ ranged (is_int opening) (with_fact name opening (closed r))
 AfterLine r (IsLine id fact op value) said = said ≡ ranged (is_int value) (with_comparison id fact op value (closed r))
-AfterLine r (WhenLine head expr) said = SaysOf expr (λ e. with_head head (knows_all head.ports r.facts e) with_row (When e) (closed r)) said
-AfterLine r (TimedLine head ms) said = said ≡ ranged (is_ms ms) (with_head head true with_action (Timed (nat_abs ms) None) (closed r))
-AfterLine r (ReplayLine head ms outcomes) said = said ≡ ranged (is_ms ms) (with_head head true with_action (Replay (nat_abs ms) outcomes) (closed r))
-AfterLine r (GateLine head expr) said = SaysOf expr (λ e. with_head head (knows_all head.ports r.facts e) with_action (Gate e) (closed r)) said
+AfterLine r (WhenLine head expr) said = SaysOf expr (λ e. with_head head with_row (When e) (closed r)) said
+AfterLine r (TimedLine head ms) said = said ≡ ranged (is_ms ms) (with_head head with_action (Timed (nat_abs ms) None) (closed r))
+AfterLine r (ReplayLine head ms outcomes) said = said ≡ ranged (is_ms ms) (with_head head with_action (Replay (nat_abs ms) outcomes) (closed r))
+AfterLine r (GateLine head expr) said = SaysOf expr (λ e. with_head head with_action (Gate e) (closed r)) said
 AfterLine r (FailsLine expr) said = SaysOf expr (λ e. with_open r.open_row r (row_with_fails r.facts e)) said
 AfterLine r (NeedsLine id) said =
     said ≡ placed (is_some r.open_row) (numbered (comparison_number r.rows id) (λ n. with_open r.open_row r (row_with_need n)))

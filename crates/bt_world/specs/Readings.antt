@@ -1,7 +1,9 @@
 -- What the calls of the reader give, against what the definition of a world script says.
-use Rattle.std.specs.Prelude.{◌≡◌, true, false, Bool, Option, Some, None, Result, Ok, Err}
+use Rattle.std.specs.Prelude.{◌≡◌, ℕ, true, false, Bool, Option, Some, None, Result, Ok, Err}
 use Rattle.bt_script.specs.declared.stop.Stop.{Stop}
 use Rattle.bt_script.specs.declared.stop.Stop.TheVariants as stop
+use Rattle.bt_model.specs.declared.world_fault.WorldFault.{WorldFault}
+use Rattle.bt_model.specs.declared.world_fault.WorldKind.{WorldKind}
 
 -- the value or the fault is one that is said; want of memory may come anywhere
 abbrev pub Gives : {X F : Type 0} → Result X (Stop F) → (Result X F → Type 0) → Type 0
@@ -19,3 +21,8 @@ Leaves (Err (stop.Fault f)) left IsSaid = IsSaid (Err f)
 abbrev pub Passes : {X Y : Type 0} → (Y → Bool) → (Y → X) → Y → Option X → Type 0
 Passes test seen number (Some x) = (test number ≡ true) × (x ≡ seen number)
 Passes test seen number None = test number ≡ false
+
+-- the fault of a line, with its number
+abbrev pub located : Stop WorldKind → ℕ → Stop WorldFault
+located stop.NoMemory line = stop.NoMemory
+located (stop.Fault kind) line = stop.Fault (record { line = line; kind = kind })

@@ -1,4 +1,5 @@
-ghost use Rattle.std.specs.Prelude.{◌≡◌, map, IfOk, option_map};
+ghost use Rattle.std.specs.Prelude.{◌≡◌, map, IfOk, IfSome, IsTrue, option_map};
+ghost use Rattle.bt_model.specs.Worlds as worlds;
 ghost use Rattle.bt_model.specs.WorldFile.{head_of, head_with, head_before};
 ghost use Rattle.bt_model.specs.WorldFile as file;
 ghost use Rattle.bt_world.specs.Heads.{seen_head};
@@ -17,7 +18,8 @@ pub struct Head<'a> {
 
 /// `ID`, or `ID(p,q)`.
 pub fn head_in(alloc: Global, word: &[u8]) -> Result<Option<Head<'_>>, NoMemory>
-    ensures { IfOk result (λ head. option_map seen_head head ≡ file.head_in word.now) }
+    ensures head { IfOk result (λ head. option_map seen_head head ≡ file.head_in word.now) }
+    ensures named { IfOk result (λ head. IfSome head (λ h. IsTrue (worlds.is_name h.id.now))) }
 {
     let pieces = parts(alloc, word, b'(')?;
     match pieces.as_slice() {
@@ -29,7 +31,8 @@ pub fn head_in(alloc: Global, word: &[u8]) -> Result<Option<Head<'_>>, NoMemory>
 
 /// An ID, with what stands behind its `(`.
 fn before_ports<'a>(alloc: Global, id: &'a [u8], rest: &[u8]) -> Result<Option<Head<'a>>, NoMemory>
-    ensures { IfOk result (λ head. option_map seen_head head ≡ head_before id.now rest.now) }
+    ensures head { IfOk result (λ head. option_map seen_head head ≡ head_before id.now rest.now) }
+    ensures named { IfOk result (λ head. IfSome head (λ h. IsTrue (worlds.is_name h.id.now))) }
 {
     match rest.strip_suffix(b")".as_slice()) {
         Some(list) => {
@@ -46,7 +49,8 @@ fn with_ports<'a>(
     id: &'a [u8],
     ports: &[&[u8]],
 ) -> Result<Option<Head<'a>>, NoMemory>
-    ensures { IfOk result (λ head. option_map seen_head head ≡ head_with id.now (map (λ port. port.now) ports.now)) }
+    ensures head { IfOk result (λ head. option_map seen_head head ≡ head_with id.now (map (λ port. port.now) ports.now)) }
+    ensures named { IfOk result (λ head. IfSome head (λ h. IsTrue (worlds.is_name h.id.now))) }
 {
     if !is_name(id) {
         return Ok(None);

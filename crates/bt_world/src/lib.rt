@@ -1,15 +1,22 @@
 //! The reader of world scripts: from the bytes of a file to the world that they describe.
 #![tactic(auto)]
 
-pub mod draft;
-pub mod events;
-pub mod exprs;
-pub mod facts;
-pub mod head;
-pub mod lines;
-pub mod names;
-pub mod numbers;
-pub mod ports;
-pub mod reading;
-pub mod rows;
-pub mod tables;
+mod actions;
+mod additions;
+mod draft;
+mod events;
+mod exprs;
+mod facts;
+mod forms;
+mod head;
+pub mod laws;
+mod lines;
+mod names;
+mod numbers;
+mod ports;
+mod read;
+mod reading;
+mod rows;
+mod tables;
+
+pub use read::read_world;

@@ -4,11 +4,14 @@ ghost use Rattle.bt_model.specs.Worlds.{is_name, ids_of_rows};
 ghost use Rattle.bt_model.specs.WorldFile as file;
 ghost use Rattle.bt_model.specs.WorldFile.{closed, is_taken, knows_all, nothing_read, plain_row, repeats, row_with_fails, row_with_need, row_with_effect, row_with_out, runners_of, with_action, with_event, with_fact, with_goal, with_moment, with_open, with_row, with_runners, world_of};
 ghost use Rattle.bt_world.specs.Readings.{Leaves};
-ghost use Rattle.bt_world.specs.Drafts.{row_of};
+ghost use Rattle.bt_world.specs.Drafts.{row_of, DraftSays};
+ghost use Rattle.bt_world.specs.Heads.{seen_head};
 
 use crate::draft::Draft;
-use crate::exprs;
+use crate::exprs::knows_all;
 use crate::facts::Facts;
+use crate::head::Head;
+use crate::names::name_of;
 use crate::ports::Ports;
 use crate::rows::Rows;
 use bt_model::{Event, Fact, Out, Row, RowSort, Set, What, World, WorldKind, is_reserved};
@@ -148,26 +151,37 @@ impl Reading {
         is_reserved(id) || self.rows.has(id)
     }
 
-    /// The ports of a row of this ID, or none where the ID or one of the ports stands twice.
-    pub fn free_ports(
-        &self,
-        alloc: Global,
-        id: &[u8],
-        names: Vec<Name>,
-    ) -> Result<Option<Ports>, NoMemory>
-        ensures { IfOk result (λ ports. MatchOption ports ((is_taken self.now.rows id.now || repeats [] names.items) ≡ true) (λ p. ((is_taken self.now.rows id.now || repeats [] names.items) ≡ false) × (p ≡ names.items))) }
+    /// Whether the names of the expression by which a row answers are its ports or facts.
+    fn knows_sort(&self, ports: &Ports, sort: &RowSort) -> bool
+        ensures { result ≡ file.knows_sort ports.now self.now.facts sort.now }
     {
-        if self.has_taken(id) {
-            return Ok(None);
+        match sort {
+            RowSort::When(e) => knows_all(&self.facts, ports, e),
+            RowSort::Gate(e) => knows_all(&self.facts, ports, e),
+            _ => true,
         }
-        Ports::of(alloc, names)
     }
 
-    /// Whether each name of the expression is one of the ports or a fact.
-    pub fn knows_all(&self, ports: &Ports, e: &Expr) -> bool
-        ensures { result ≡ file.knows_all ports.now self.now.facts e.now }
+    /// The row of this head, which may be added.
+    pub fn draft_of(&self, alloc: Global, head: Head<'_>, sort: RowSort) -> Result<Draft, Stop<WorldKind>>
+        requires { IsTrue (is_name head.id.now) }
+        ensures { DraftSays result (seen_head head.entry) sort self.now }
     {
-        exprs::knows_all(&self.facts, ports, e)
+        let Head { id, ports } = head;
+        if self.has_taken(id) {
+            return Err(Stop::Fault(WorldKind::DoubleName));
+        }
+        let Some(ports) = Ports::of(alloc, ports)? else {
+            return Err(Stop::Fault(WorldKind::DoubleName));
+        };
+        if !self.knows_sort(&ports, &sort) {
+            return Err(Stop::Fault(WorldKind::NoName));
+        }
+        if ports.len() > MOST_PORTS {
+            return Err(Stop::Fault(WorldKind::TooMany));
+        }
+        let id = name_of(alloc, id)?;
+        Ok(Draft::new(alloc, id, ports, sort))
     }
 
     /// Adds a fact.

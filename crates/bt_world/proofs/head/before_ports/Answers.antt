@@ -16,10 +16,10 @@ before id rest list ports closed is split =
 closed_by : (rest : List ℕ) → bytes_eq (drop (length rest - 1) rest) (codes ")") ≡ true → ends_with nat_eq rest (codes ")") ≡ true
 closed_by rest h = (bytes_eq-Decides (codes ")") (drop (length rest - 1) rest)).1 (sym ((bytes_eq-Decides (drop (length rest - 1) rest) (codes ")")).0 h))
 
-pub returns-in_ok-ports-in-Some : goal.returns-in_ok-ports-in-Some
-returns-in_ok-ports-in-Some c =
+pub returns-in_ok-ports-in-Some-clause-head : goal.returns-in_ok-ports-in-Some-clause-head
+returns-in_ok-ports-in-Some-clause-head c =
     let e = before c.args.id.now c.args.rest.now c.in-Some.list.now (map (λ part. part.now) c.in_ok-ports-in-Some.ports.items)
         (closed_by c.args.rest.now (rw c.as_slice.ensures at c.in-Some.ensures.cases.0)) (rw c.as_slice.ensures at c.in-Some.ensures.cases.1) c.in_ok-ports-in-Some.ensures in
     subst (λ (h : Option file.Head). IfOk c.with_ports.result (λ head. option_map seen_head head ≡ h))
     (ap (λ (ps : List _). head_with c.args.id.now (map (λ part. part.now) ps)) c.as_slice-in-Some.ensures.value ∙ e)
-    c.with_ports.ensures
+    c.with_ports.ensures.head
