@@ -13,6 +13,7 @@ use Rattle.bt_model.specs.declared.world.Row.{Row}
 use Rattle.bt_model.specs.declared.world.RowSort.{RowSort}
 use Rattle.bt_model.specs.declared.world.RowSort.TheVariants.{Is, When, Timed, Replay, Gate}
 use Rattle.bt_model.specs.declared.world.Event.{Event}
+use Rattle.bt_model.specs.declared.world.Out.{Out}
 use Rattle.bt_model.specs.declared.world.What.{What}
 use Rattle.bt_model.specs.declared.world.What.TheVariants.{Tick, Halt, Change}
 use Rattle.bt_model.specs.declared.world.World.{World}
@@ -20,7 +21,7 @@ use Rattle.bt_model.specs.declared.world_fault.WorldFault.{WorldFault}
 use Rattle.bt_model.specs.declared.world_fault.WorldKind.{WorldKind}
 use Rattle.bt_model.specs.declared.world_fault.WorldKind.TheVariants.{Header, BadLine, Range, DoubleName, NoName, MomentBack, TooMany}
 use Rattle.bt_model.specs.Names.{is_reserved}
-use Rattle.bt_model.specs.Worlds.{in_range, is_int, is_name, is_comparison, names_of_facts, ids_of_rows, facts_set, ports_written}
+use Rattle.bt_model.specs.Worlds.{in_range, is_int, is_name, is_comparison, names_of_facts, ids_of_rows}
 
 -- ---- Lines and words
 
@@ -219,6 +220,17 @@ action_line text =
     else if bytes_eq (word 1 text) (codes "gate") then option_map (λ head. GateLine head (behind 2 text)) (head_in (word 0 text))
     else None
 
+-- what a line about goals, runners and events says, which begins with this word
+abbrev pub event_line : List ℕ → List ℕ → Option Line
+event_line kind text =
+    if bytes_eq kind (codes "goal") then name_line GoalLine text
+    else if bytes_eq kind (codes "runners") then number_line RunnersLine text
+    else if bytes_eq kind (codes "at") then number_line AtLine text
+    else if bytes_eq kind (codes "tick") then number_line TickLine text
+    else if bytes_eq kind (codes "halt") then number_line HaltLine text
+    else if bytes_eq kind (codes "set") then named_number SetLine text
+    else None
+
 -- what a line says that begins with this word, by what stands behind it
 abbrev pub line_by : List ℕ → List ℕ → Option Line
 line_by kind text =
@@ -229,13 +241,7 @@ line_by kind text =
     else if bytes_eq kind (codes "needs") then name_line NeedsLine text
     else if bytes_eq kind (codes "sets") then sets_line text
     else if bytes_eq kind (codes "out") then out_line text
-    else if bytes_eq kind (codes "goal") then name_line GoalLine text
-    else if bytes_eq kind (codes "runners") then number_line RunnersLine text
-    else if bytes_eq kind (codes "at") then number_line AtLine text
-    else if bytes_eq kind (codes "tick") then number_line TickLine text
-    else if bytes_eq kind (codes "halt") then number_line HaltLine text
-    else if bytes_eq kind (codes "set") then named_number SetLine text
-    else None
+    else event_line kind text
 
 -- what the content of a line says, if it has one of the forms
 abbrev pub line_in : List ℕ → Option Line
@@ -328,20 +334,28 @@ with_row row r = if nat_le 1024 (length r.rows) then Err TooMany else Ok (record
 abbrev pub with_action : Row → Reading → Result Reading WorldKind
 with_action row r = if nat_le 1024 (length r.rows) then Err TooMany else Ok (record r { open_row = Some row })
 
--- a condition on the fact of this number
-abbrev pub with_comparison_on : Option ℕ → List ℕ → Cmp → ℤ → Reading → Result Reading WorldKind
-with_comparison_on None id op value r = Err NoName
-with_comparison_on (Some n) id op value r = with_row (plain_row id [] (Is n op value)) r
+-- what is said of the number that a name has; a name without one is not known
+abbrev pub numbered : {X : Type 0} → Option ℕ → (ℕ → Result X WorldKind) → Result X WorldKind
+numbered None said = Err NoName
+numbered (Some n) said = said n
 
+-- a condition that compares a fact
 abbrev pub with_comparison : List ℕ → List ℕ → Cmp → ℤ → Reading → Result Reading WorldKind
 with_comparison id fact op value r =
-    if is_taken r.rows id then Err DoubleName else with_comparison_on (fact_number r.facts fact) id op value r
+    if is_taken r.rows id then Err DoubleName
+    else numbered (fact_number r.facts fact) (λ n. with_row (plain_row id [] (Is n op value)) r)
+
+-- whether each name is known of the expression by which a row answers
+abbrev pub knows_sort : List (List ℕ) → List Fact → RowSort → Bool
+knows_sort ports facts (When e) = knows_all ports facts e
+knows_sort ports facts (Gate e) = knows_all ports facts e
+knows_sort ports facts _ = true
 
 -- a row of its own name, whose ports differ, and whose names are known
-abbrev pub with_head : Head → Bool → (Row → Reading → Result Reading WorldKind) → RowSort → Reading → Result Reading WorldKind
-with_head head known add sort r =
+abbrev pub with_head : Head → (Row → Reading → Result Reading WorldKind) → RowSort → Reading → Result Reading WorldKind
+with_head head add sort r =
     if is_taken r.rows head.id || repeats [] head.ports then Err DoubleName
-    else if not known then Err NoName
+    else if not (knows_sort head.ports r.facts sort) then Err NoName
     else if nat_lt 8 (length head.ports) then Err TooMany
     else add (plain_row head.id head.ports sort) r
 
@@ -360,33 +374,33 @@ abbrev pub row_with_fails : List Fact → Expr → Row → Result Row WorldKind
 row_with_fails facts e row = fails_by row.sort row (knows_all row.ports facts e) e
 
 -- a row with one more need, of the condition of this number
-abbrev pub row_with_need : Option ℕ → Row → Result Row WorldKind
-row_with_need None row = Err NoName
-row_with_need (Some n) row =
+abbrev pub row_with_need : ℕ → Row → Result Row WorldKind
+row_with_need n row =
     if list_any (nat_eq n) row.needs then Err DoubleName
     else if nat_le 16 (length row.needs) then Err TooMany
     else Ok (record row { needs = row.needs ++ n ∷ [] })
 
 -- a row with one more effect, on the fact of this number
-abbrev pub row_with_effect : Option ℕ → ℤ → Row → Result Row WorldKind
-row_with_effect None value row = Err NoName
-row_with_effect (Some n) value row =
-    if list_any (nat_eq n) (facts_set row.sets) then Err DoubleName
+abbrev pub row_with_effect : ℕ → ℤ → Row → Result Row WorldKind
+row_with_effect n value row =
+    if list_any (λ set. nat_eq n set.fact) row.sets then Err DoubleName
     else if nat_le 16 (length row.sets) then Err TooMany
     else Ok (record row { sets = row.sets ++ record { fact = n; value = value } ∷ [] })
 
--- a row with one more output
-abbrev pub row_with_out : List Fact → List ℕ → Expr → Row → Result Row WorldKind
-row_with_out facts port e row =
-    if list_any (bytes_eq port) (ports_written row.outs) then Err DoubleName
-    else if not (knows_all row.ports facts e) then Err NoName
+-- a row with one more output, whose names are known
+abbrev pub with_output : Out → Bool → Row → Result Row WorldKind
+with_output out known row =
+    if list_any (λ other. bytes_eq out.port other.port) row.outs then Err DoubleName
+    else if not known then Err NoName
     else if nat_le 8 (length row.outs) then Err TooMany
-    else Ok (record row { outs = row.outs ++ record { port = port; expr = e } ∷ [] })
+    else Ok (record row { outs = row.outs ++ out ∷ [] })
+
+abbrev pub row_with_out : List Fact → List ℕ → Expr → Row → Result Row WorldKind
+row_with_out facts port e row = with_output (record { port = port; expr = e }) (knows_all row.ports facts e) row
 
 -- one more goal, the condition of this number
-abbrev pub with_goal : Option ℕ → Reading → Result Reading WorldKind
-with_goal None r = Err NoName
-with_goal (Some n) r =
+abbrev pub with_goal : ℕ → Reading → Result Reading WorldKind
+with_goal n r =
     if list_any (nat_eq n) r.goals then Err DoubleName
     else if nat_le 64 (length r.goals) then Err TooMany
     else Ok (record r { goals = r.goals ++ n ∷ [] })
@@ -403,11 +417,6 @@ with_event what r =
     if nat_le 100000 (length r.events) then Err TooMany
     else Ok (record r { events = r.events ++ record { at = r.moment; what = what } ∷ [] })
 
--- a change of the fact of this number
-abbrev pub with_change : Option ℕ → ℤ → Reading → Result Reading WorldKind
-with_change None value r = Err NoName
-with_change (Some n) value r = with_event (Change n value) r
-
 -- what is said, where the number of the line stands in its range
 abbrev pub ranged : Bool → Result Reading WorldKind → Result Reading WorldKind
 ranged true said = said
@@ -418,10 +427,10 @@ abbrev pub placed : Bool → Result Reading WorldKind → Result Reading WorldKi
 placed true said = said
 placed false said = Err BadLine
 
--- what is said of the open action; where none is open, the line stands in a wrong place
-abbrev pub of_open : Option Row → (Row → Result Reading WorldKind) → Result Reading WorldKind
-of_open None said = Err BadLine
-of_open (Some row) said = said row
+-- what becomes of the open action; where none is open, the line stands in a wrong place
+abbrev pub with_open : Option Row → Reading → (Row → Result Row WorldKind) → Result Reading WorldKind
+with_open None r add = Err BadLine
+with_open (Some row) r add = with_open_row r (add row)
 
 -- what is said by what a text reads as, which is to be an expression
 abbrev pub by_expr : Option Expr → (Expr → Result Reading WorldKind) → Result Reading WorldKind
@@ -438,22 +447,23 @@ pub record SaysOf (text : List ℕ) (rule : Expr → Result Reading WorldKind) (
 abbrev pub AfterLine : Reading → Line → Result Reading WorldKind → Type 0
 AfterLine r (FactLine name opening) said = said ≡ ranged (is_int opening) (with_fact name opening (closed r))
 AfterLine r (IsLine id fact op value) said = said ≡ ranged (is_int value) (with_comparison id fact op value (closed r))
-AfterLine r (WhenLine head expr) said = SaysOf expr (λ e. with_head head (knows_all head.ports r.facts e) with_row (When e) (closed r)) said
-AfterLine r (TimedLine head ms) said = said ≡ ranged (is_ms ms) (with_head head true with_action (Timed (nat_abs ms) None) (closed r))
-AfterLine r (ReplayLine head ms outcomes) said = said ≡ ranged (is_ms ms) (with_head head true with_action (Replay (nat_abs ms) outcomes) (closed r))
-AfterLine r (GateLine head expr) said = SaysOf expr (λ e. with_head head (knows_all head.ports r.facts e) with_action (Gate e) (closed r)) said
-AfterLine r (FailsLine expr) said = SaysOf expr (λ e. of_open r.open_row (λ row. with_open_row r (row_with_fails r.facts e row))) said
-AfterLine r (NeedsLine id) said = said ≡ of_open r.open_row (λ row. with_open_row r (row_with_need (comparison_number r.rows id) row))
+AfterLine r (WhenLine head expr) said = SaysOf expr (λ e. with_head head with_row (When e) (closed r)) said
+AfterLine r (TimedLine head ms) said = said ≡ ranged (is_ms ms) (with_head head with_action (Timed (nat_abs ms) None) (closed r))
+AfterLine r (ReplayLine head ms outcomes) said = said ≡ ranged (is_ms ms) (with_head head with_action (Replay (nat_abs ms) outcomes) (closed r))
+AfterLine r (GateLine head expr) said = SaysOf expr (λ e. with_head head with_action (Gate e) (closed r)) said
+AfterLine r (FailsLine expr) said = SaysOf expr (λ e. with_open r.open_row r (row_with_fails r.facts e)) said
+AfterLine r (NeedsLine id) said =
+    said ≡ placed (is_some r.open_row) (numbered (comparison_number r.rows id) (λ n. with_open r.open_row r (row_with_need n)))
 AfterLine r (SetsLine fact value) said =
-    said ≡ of_open r.open_row (λ row. ranged (is_int value) (with_open_row r (row_with_effect (fact_number r.facts fact) value row)))
-AfterLine r (OutLine port expr) said = SaysOf expr (λ e. of_open r.open_row (λ row. with_open_row r (row_with_out r.facts port e row))) said
-AfterLine r (GoalLine id) said = said ≡ with_goal (comparison_number (closed r).rows id) (closed r)
+    said ≡ placed (is_some r.open_row) (ranged (is_int value) (numbered (fact_number r.facts fact) (λ n. with_open r.open_row r (row_with_effect n value))))
+AfterLine r (OutLine port expr) said = SaysOf expr (λ e. with_open r.open_row r (row_with_out r.facts port e)) said
+AfterLine r (GoalLine id) said = said ≡ numbered (comparison_number (closed r).rows id) (λ n. with_goal n (closed r))
 AfterLine r (RunnersLine count) said =
     said ≡ placed (length r.events == 0) (ranged (in_range (pos 1) (pos 16) count) (with_runners (nat_abs count) (closed r)))
 AfterLine r (AtLine ms) said = said ≡ ranged (is_ms ms) (with_moment (nat_abs ms) (closed r))
 AfterLine r (TickLine runner) said = said ≡ ranged (is_runner (runners_of r) runner) (with_event (Tick (nat_abs runner)) (closed r))
 AfterLine r (HaltLine runner) said = said ≡ ranged (is_runner (runners_of r) runner) (with_event (Halt (nat_abs runner)) (closed r))
-AfterLine r (SetLine fact value) said = said ≡ ranged (is_int value) (with_change (fact_number r.facts fact) value (closed r))
+AfterLine r (SetLine fact value) said = said ≡ ranged (is_int value) (numbered (fact_number r.facts fact) (λ n. with_event (Change n value) (closed r)))
 
 -- after what may be a line of one of the forms
 abbrev pub AfterForm : Reading → Option Line → Result Reading WorldKind → Type 0

@@ -1,7 +1,7 @@
 -- Valid worlds: what every world is that a world script describes.
-use Rattle.std.specs.Prelude.{◌≡◌, ℕ, ◌≤◌, ◌<◌, nat_le, nat_eq, Bool, true, false, ◌&&◌, IsTrue, List, [], ◌++◌, length, map, ℤ, pos, negsuc, int_le, IfSome, slice_get, bytes_eq}
+use Rattle.std.specs.Prelude.{◌≡◌, ℕ, ◌≤◌, ◌<◌, nat_le, nat_eq, Bool, true, false, ◌&&◌, IsTrue, List, [], ◌++◌, length, map, ℤ, pos, negsuc, int_le, IfSome, Some, slice_get, bytes_eq}
 use Rattle.std.specs.List.{All, Contains, IsDistinct}
-use Rattle.std.specs.List.Sorted.{IsNonDecreasing}
+use Rattle.std.specs.List.Sorted.{IsNonDecreasingBy}
 use Rattle.bt_script.specs.Grammar.{height}
 use Rattle.bt_script.specs.Identifiers.{is_identifier}
 use Rattle.bt_script.specs.declared.syntax.Expr.{Expr}
@@ -78,9 +78,13 @@ is_condition (Is fact op value) = true
 is_condition (When e) = true
 is_condition _ = false
 
+-- for each row whether it compares a fact, in the order of their numbers
+abbrev pub comparisons : List Row → List Bool
+comparisons rows = map (λ row. is_comparison row.sort) rows
+
 -- the number of a row that compares a fact
 abbrev pub IsComparisonIn : List Row → ℕ → Type 0
-IsComparisonIn rows number = IfSome (slice_get rows number) (λ row. IsTrue (is_comparison row.sort)) × (number < length rows)
+IsComparisonIn rows number = slice_get (comparisons rows) number ≡ Some true
 
 -- how a row answers: a condition that compares a fact has no ports
 abbrev pub IsValidSort : List Fact → List (List ℕ) → RowSort → Type 0
@@ -135,4 +139,4 @@ pub record IsValidWorld (w : World) : Type 0 where
   pub few_runners : w.runners ≤ 16
   pub few_events : length w.events ≤ 100000
   pub events : All (IsValidEvent w.facts w.runners) w.events
-  pub in_order : IsNonDecreasing (map (λ event. event.at) w.events)
+  pub in_order : IsNonDecreasingBy (λ event. event.at) w.events

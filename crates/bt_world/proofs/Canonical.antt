@@ -13,8 +13,9 @@ use Rattle.std.proofs.lemmas.Bool.{eqb-true}
 use borrow.Author.Tests.{ne_eqb}
 use mir.Syntax.{w64}
 use Rattle.bt_script.proofs.Bools.{both}
-use Rattle.bt_model.specs.WorldFile.{is_canonical, is_int, is_positive, number_in, without_minus}
-use Rattle.bt_world.specs.Readings.{kept}
+use Rattle.bt_model.specs.Worlds.{is_int}
+use Rattle.bt_model.specs.WorldFile.{is_canonical, is_positive, without_minus}
+use Rattle.bt_world.specs.Readings.{Passes}
 
 int_from_fits : (z : ℤ) → FitsSigned w64 z → is_int z ≡ true
 int_from_fits (pos n) h = let k : n < 2 ^ 63 = h.sfits in grind (arith, nat_tests)
@@ -65,16 +66,16 @@ numeral (b ∷ bs) h =
     ]
 
 -- what `parse` answers at a canonical number: the number, where 64 bits hold it
-parsed : {E : Type 0} (w : List ℕ) (r : Result ℤ E) → ParsesSigned w64 10 w r → IsNumeral 10 (without_leading_sign w) → result_ok r ≡ kept is_int (Some (signed_digits_value 10 w))
-parsed w (Ok z) h n = ap (λ (x : ℤ). Some x) h.1 ∙ sym (ap (λ (t : Bool). cond t (Some (signed_digits_value 10 w)) None) (int_from_fits _ h.0.1))
+parsed : {E : Type 0} (w : List ℕ) (r : Result ℤ E) → ParsesSigned w64 10 w r → IsNumeral 10 (without_leading_sign w) → Passes is_int (λ z. z) (signed_digits_value 10 w) (result_ok r)
+parsed w (Ok z) h n = (int_from_fits (signed_digits_value 10 w) h.0.1, h.1)
 parsed w (Err e) h n = refused (is_int (signed_digits_value 10 w)) refl
   where
-    refused : (t : Bool) → is_int (signed_digits_value 10 w) ≡ t → None ≡ cond t (Some (signed_digits_value 10 w)) None
+    refused : (t : Bool) → is_int (signed_digits_value 10 w) ≡ t → t ≡ false
     refused true k = absurd (h (n, fits_from_int _ k))
     refused false k = refl
 
-pub parsed_canonical : {E : Type 0} (w : List ℕ) (r : Result ℤ E) → is_canonical w ≡ true → ParsesSigned w64 10 w r → result_ok r ≡ kept is_int (number_in w)
-parsed_canonical w r c h = parsed w r h (numeral w c) ∙ ap (λ (t : Bool). kept is_int (cond t (Some (signed_digits_value 10 w)) None)) (sym c)
+pub parsed_canonical : {E : Type 0} (w : List ℕ) (r : Result ℤ E) → is_canonical w ≡ true → ParsesSigned w64 10 w r → Passes is_int (λ z. z) (signed_digits_value 10 w) (result_ok r)
+parsed_canonical w r c h = parsed w r h (numeral w c)
 
 ascii_digits : (ds : List ℕ) → AllDigits 10 ds → (i : ℕ) → get_or ds i 0 < 128
 ascii_digits [] d i = lit< tt

@@ -1,5 +1,12 @@
+pub mod Alone
+pub mod Ascii
 pub mod Canonical
+pub mod Grown
+pub mod Named
 pub mod Onward
-pub mod Refused
+pub mod Parts
 pub mod Rests
-pub mod Said
+pub mod Sound
+pub mod SoundRows
+pub mod Validity
+pub mod WellFormed

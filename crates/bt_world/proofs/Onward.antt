@@ -1,31 +1,20 @@
 -- One line after the other.
-use Rattle.std.proofs.Common.{◌≡◌, ℕ, ◌+◌, ◌<◌, List, map, length, drop, get_or, Result, Ok, Err, refl, sym, ◌∙◌, ap, subst, arith}
-use Rattle.std.specs.Prelude.{IsErr}
+use Rattle.std.proofs.Common.{◌≡◌, ℕ, ◌+◌, ◌<◌, List, ◌∷◌, map, length, drop, get_or, Result, Ok, Err, refl, sym, ◌∙◌, ap, subst, arith}
 use Rattle.std.proofs.lemmas.List.{drop_more}
-use Rattle.bt_script.specs.declared.stop.Stop.{Stop}
-use Rattle.bt_script.specs.declared.stop.Stop.TheVariants as stop
-use Rattle.bt_model.specs.WorldFile.{Reading, WorldFault, WorldKind, go_on, with_lines, with_text}
-use Rattle.bt_world.specs.Readings.{LeavesOrRefuses}
+use Rattle.bt_model.specs.declared.world_fault.WorldFault.{WorldFault}
+use Rattle.bt_model.specs.declared.world_fault.WorldKind.{WorldKind}
+use Rattle.bt_model.specs.WorldFile.{Reading, AfterLines, AfterText, GoesOn}
 
--- the next of the lines, and those behind it
-next_line : {X : Type 0} (f : X → List ℕ) (d : X) (xs : List X) (i : ℕ) (r : Reading) → i < length xs → with_lines (i + 2) (map f (drop i xs)) r ≡ go_on (i + 2) (λ next. with_lines (i + 2 + 1) (map f (drop (i + 1) xs)) next) (with_text r (f (get_or xs i d)))
-next_line f d xs i r h = ap (λ (ts : List _). with_lines (i + 2) (map f ts) r) (drop_more xs i d h)
+module _ {X : Type 0} (f : X → List ℕ) (d : X) (xs : List X) (i : ℕ) (r : Reading) (within : i < length xs) where
+  next_line : (n : ℕ) (said : Result Reading WorldFault) (next : Result Reading WorldKind) → AfterText r (f (get_or xs i d)) next → GoesOn n (λ left. AfterLines (n + 1) (map f (drop (i + 1) xs)) left said) said next → AfterLines n (map f (drop i xs)) r said
+  next_line n said next text on = subst (λ (ts : List X). AfterLines n (map f ts) r said) (sym (drop_more xs i d within)) (next, text, on)
 
--- after a line the next one is read
-pub goes_on : {X : Type 0} (f : X → List ℕ) (d : X) (xs : List X) (i : ℕ) (r next : Reading) (whole : Result Reading WorldFault) → i < length xs → with_lines (i + 2) (map f (drop i xs)) r ≡ whole → with_text r (f (get_or xs i d)) ≡ Ok next → with_lines (i + 1 + 2) (map f (drop (i + 1) xs)) next ≡ whole
-goes_on f d xs i r next whole h e said =
-    let number : i + 1 + 2 ≡ i + 2 + 1 = omega arith in
-    ap (λ (n : ℕ). with_lines n (map f (drop (i + 1) xs)) next) number
-    ∙ sym (ap (go_on (i + 2) (λ next. with_lines (i + 2 + 1) (map f (drop (i + 1) xs)) next)) said)
-    ∙ sym (next_line f d xs i r h) ∙ e
+  -- what is said of the rest is said of it behind this line
+  pub goes_on : (left : Reading) (said : Result Reading WorldFault) → AfterText r (f (get_or xs i d)) (Ok left) → AfterLines (i + 1 + 2) (map f (drop (i + 1) xs)) left said → AfterLines (i + 2) (map f (drop i xs)) r said
+  goes_on left said text rest =
+      let number : i + 1 + 2 ≡ i + 2 + 1 = omega arith in
+      next_line (i + 2) said (Ok left) text (subst (λ (n : ℕ). AfterLines n (map f (drop (i + 1) xs)) left said) number rest)
 
-stops_at : (n : ℕ) (rest : Reading → Result Reading WorldFault) (said : Result Reading WorldKind) → IsErr said → IsErr (go_on n rest said)
-stops_at n rest (Ok r) h = absurd (cc)
-stops_at n rest (Err k) h = refl
-
--- a refused line refuses the whole
-pub stops_here : {X U : Type 0} (f : X → List ℕ) (d : X) (xs : List X) (i : ℕ) (r left : Reading) (whole : Result Reading WorldFault) (s : Stop U) → i < length xs → with_lines (i + 2) (map f (drop i xs)) r ≡ whole → LeavesOrRefuses {A = Unit {0}} (Err s) left (with_text r (f (get_or xs i d))) → LeavesOrRefuses {A = Unit {0}} (Err s) left whole
-stops_here f d xs i r left whole stop.NoMemory h e said = tt
-stops_here f d xs i r left whole (stop.Fault u) h e said =
-    subst IsErr (sym (next_line f d xs i r h) ∙ e)
-    (stops_at (i + 2) (λ next. with_lines (i + 2 + 1) (map f (drop (i + 1) xs)) next) (with_text r (f (get_or xs i d))) said)
+  -- a faulty line is said at once
+  pub stops_here : (kind : WorldKind) → AfterText r (f (get_or xs i d)) (Err kind) → AfterLines (i + 2) (map f (drop i xs)) r (Err (record { line = i + 2; kind = kind }))
+  stops_here kind text = next_line (i + 2) (Err (record { line = i + 2; kind = kind })) (Err kind) text refl

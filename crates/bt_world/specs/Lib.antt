@@ -1,2 +1,5 @@
 pub mod Drafts
+pub mod Heads
 pub mod Readings
+pub mod Rows
+pub mod Tables

@@ -1,21 +1,28 @@
 -- What the calls of the reader give, against what the definition of a world script says.
-use Rattle.std.specs.Prelude.{◌≡◌, Bool, if◌then◌else◌, Option, Some, None, Result, Ok, Err, IsErr}
+use Rattle.std.specs.Prelude.{◌≡◌, ℕ, true, false, Bool, Option, Some, None, Result, Ok, Err}
 use Rattle.bt_script.specs.declared.stop.Stop.{Stop}
 use Rattle.bt_script.specs.declared.stop.Stop.TheVariants as stop
+use Rattle.bt_model.specs.declared.world_fault.WorldFault.{WorldFault}
+use Rattle.bt_model.specs.declared.world_fault.WorldKind.{WorldKind}
 
--- the value that is said, and a refusal exactly where a fault is said; want of memory may come anywhere
-abbrev pub GivesOrRefuses : {X U F : Type 0} → Result X (Stop U) → Result X F → Type 0
-GivesOrRefuses (Ok x) said = said ≡ Ok x
-GivesOrRefuses (Err stop.NoMemory) said = Unit {0}
-GivesOrRefuses (Err (stop.Fault u)) said = IsErr said
+-- the value or the fault is one that is said; want of memory may come anywhere
+abbrev pub Gives : {X F : Type 0} → Result X (Stop F) → (Result X F → Type 0) → Type 0
+Gives (Ok x) IsSaid = IsSaid (Ok x)
+Gives (Err stop.NoMemory) IsSaid = Unit {0}
+Gives (Err (stop.Fault f)) IsSaid = IsSaid (Err f)
 
 -- the same of a call that leaves this value behind
-abbrev pub LeavesOrRefuses : {A X U F : Type 0} → Result A (Stop U) → X → Result X F → Type 0
-LeavesOrRefuses (Ok a) left said = said ≡ Ok left
-LeavesOrRefuses (Err stop.NoMemory) left said = Unit {0}
-LeavesOrRefuses (Err (stop.Fault u)) left said = IsErr said
+abbrev pub Leaves : {A X F : Type 0} → Result A (Stop F) → X → (Result X F → Type 0) → Type 0
+Leaves (Ok a) left IsSaid = IsSaid (Ok left)
+Leaves (Err stop.NoMemory) left IsSaid = Unit {0}
+Leaves (Err (stop.Fault f)) left IsSaid = IsSaid (Err f)
 
--- the value where it passes the test
-abbrev pub kept : {X : Type 0} → (X → Bool) → Option X → Option X
-kept test None = None
-kept test (Some x) = if test x then Some x else None
+-- a number that passes the test of its range, and none where it does not pass
+abbrev pub Passes : {X Y : Type 0} → (Y → Bool) → (Y → X) → Y → Option X → Type 0
+Passes test seen number (Some x) = (test number ≡ true) × (x ≡ seen number)
+Passes test seen number None = test number ≡ false
+
+-- the fault of a line, with its number
+abbrev pub located : Stop WorldKind → ℕ → Stop WorldFault
+located stop.NoMemory line = stop.NoMemory
+located (stop.Fault kind) line = stop.Fault (record { line = line; kind = kind })

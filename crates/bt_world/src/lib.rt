@@ -1,13 +1,22 @@
 //! The reader of world scripts: from the bytes of a file to the world that they describe.
 #![tactic(auto)]
 
+mod actions;
+mod additions;
+mod draft;
+mod events;
+mod exprs;
+mod facts;
 mod forms;
+mod head;
+pub mod laws;
 mod lines;
 mod names;
 mod numbers;
+mod ports;
 mod read;
 mod reading;
-#[cfg(test)]
-mod tests;
+mod rows;
+mod tables;
 
-pub use read::{Unbuilt, read_world};
+pub use read::read_world;

@@ -1,6 +1,7 @@
-ghost use Rattle.std.specs.Prelude.{◌≡◌, ◌==◌, nat_lt, nat_eq, map, length, IfOk, bytes_eq};
-ghost use Rattle.std.specs.List.{list_all, slice_split};
-ghost use Rattle.bt_model.specs.WorldFile.{is_gap, is_line_byte, without_empty_rest, without_return, words_in};
+ghost use Rattle.std.specs.Prelude.{◌≡◌, ◌==◌, ◌≤◌, ◌-◌, ◌||◌, nat_eq, codes, map, length, take, IfOk, bytes_eq};
+ghost use Rattle.std.specs.List.{list_all, slice_split, starts_with, suffix_len, prefix_len, position_or_len};
+ghost use Rattle.bt_model.specs.WorldFile as file;
+ghost use Rattle.bt_model.specs.WorldFile.{is_gap, is_line_byte, without_empty_rest, without_return, behind_gap, before_gap, front_word, behind_word};
 
 use std::alloc::{AllocError, Global};
 
@@ -9,12 +10,6 @@ pub fn is(word: &[u8], text: &str) -> bool
     ensures { result ≡ bytes_eq word.now text.now }
 {
     word == text.as_bytes()
-}
-
-fn is_line_feed(byte: u8) -> bool
-    ensures { result ≡ (byte == 10) }
-{
-    byte == b'\n'
 }
 
 fn is_blank(byte: u8) -> bool
@@ -29,17 +24,11 @@ fn is_readable(byte: u8) -> bool
     byte == b'\t' || byte >= b' ' && byte <= b'~'
 }
 
-fn is_word(part: &[u8]) -> bool
-    ensures { result ≡ nat_lt 0 (length part.now) }
+/// What stands between the separators.
+pub fn parts(alloc: Global, bytes: &[u8], separator: u8) -> Result<Vec<&[u8]>, AllocError>
+    ensures { IfOk result (λ v. map (λ part. part.now) v.items ≡ slice_split (λ b. b == separator) bytes.now) }
 {
-    !part.is_empty()
-}
-
-/// What stands between the line feeds of a file.
-pub fn parts(alloc: Global, bytes: &[u8]) -> Result<Vec<&[u8]>, AllocError>
-    ensures { IfOk result (λ v. map (λ part. part.now) v.items ≡ slice_split (λ b. b == 10) bytes.now) }
-{
-    bytes.split(|b| is_line_feed(*b)).collect(alloc)
+    bytes.split(|b| *b == separator).collect(alloc)
 }
 
 /// The parts without an empty one at the end.
@@ -66,11 +55,56 @@ pub fn is_line(text: &[u8]) -> bool
     text.iter().all(|b| is_readable(*b))
 }
 
-/// The words of a line.
-pub fn words(alloc: Global, text: &[u8]) -> Result<Vec<&[u8]>, AllocError>
-    ensures { IfOk result (λ v. map (λ word. word.now) v.items ≡ words_in text.now) }
+fn gap_len(text: &[u8]) -> usize
+    ensures { result ≡ prefix_len is_gap text.now }
 {
-    text.split(|b| is_blank(*b))
-        .filter(|part| is_word(part))
-        .collect(alloc)
+    text.iter().take_while(|b| is_blank(**b)).count()
+}
+
+fn word_len(text: &[u8]) -> usize
+    ensures { result ≡ position_or_len is_gap text.now }
+{
+    text.iter().take_while(|b| !is_blank(**b)).count()
+}
+
+/// The text without the gap at its front.
+fn after_gap(text: &[u8]) -> &[u8]
+    ensures { result.now ≡ behind_gap text.now }
+{
+    let (_, rest) = text.split_at(gap_len(text));
+    rest
+}
+
+/// The text without the gap at its end.
+fn until_gap(text: &[u8]) -> &[u8]
+    ensures { result.now ≡ before_gap text.now }
+{
+    let mut len = text.len();
+    'gap: while len > 0 && is_blank(text[len - 1]) {
+        len -= 1;
+    }
+    &text[..len]
+}
+
+/// What a line holds, without the gaps round it.
+pub fn content(text: &[u8]) -> &[u8]
+    ensures { result.now ≡ file.content text.now }
+{
+    until_gap(after_gap(trimmed(text)))
+}
+
+/// Whether a line with this content is read over.
+pub fn is_read_over(content: &[u8]) -> bool
+    ensures { result ≡ file.is_read_over content.now }
+{
+    content.is_empty() || content.starts_with(b"#".as_slice())
+}
+
+/// The word at the front, and what stands behind it.
+pub fn cut(text: &[u8]) -> (&[u8], &[u8])
+    ensures front { result.0.now ≡ front_word text.now }
+    ensures rest { result.1.now ≡ behind_word text.now }
+{
+    let (word, rest) = text.split_at(word_len(text));
+    (word, after_gap(rest))
 }

@@ -1,21 +1,36 @@
-ghost use Rattle.std.specs.Prelude.{◌≡◌, IfOk, IsTrue};
-ghost use Rattle.bt_model.specs.WorldFile as file;
+ghost use Rattle.std.specs.Prelude.{◌≡◌, IfOk, IsTrue, MatchOption, false, true, map};
+ghost use Rattle.std.specs.List.{list_all};
+ghost use Rattle.bt_model.specs.Worlds as worlds;
 
 use bt_script::{Name, NoMemory, is_identifier};
 use std::alloc::Global;
 
-/// Whether the word may be a name or an ID.
+/// Whether the word may be a name, an ID or a port.
 pub fn is_name(word: &[u8]) -> bool
-    ensures { result ≡ file.is_name word.now }
+    ensures { result ≡ worlds.is_name word.now }
 {
     is_identifier(word) && word.len() <= 64
 }
 
 /// The name that the word is.
 pub fn name_of(alloc: Global, word: &[u8]) -> Result<Name, NoMemory>
-    requires { IsTrue (file.is_name word.now) }
+    requires { IsTrue (worlds.is_name word.now) }
     ensures { IfOk result (λ name. name ≡ word.now) }
 {
     let bytes = Vec::from_slice(alloc, word)?;
     Ok(Name::of(bytes))
+}
+
+/// The names that the words are, where each may be one.
+pub fn names_of(alloc: Global, words: &[&[u8]]) -> Result<Option<Vec<Name>>, NoMemory>
+    ensures { IfOk result (λ names. MatchOption names (list_all worlds.is_name (map (λ word. word.now) words.now) ≡ false) (λ v. (list_all worlds.is_name (map (λ word. word.now) words.now) ≡ true) × (v.items ≡ map (λ word. word.now) words.now))) }
+{
+    let mut names = Vec::new(alloc);
+    for word in words {
+        if !is_name(word) {
+            return Ok(None);
+        }
+        names.push(name_of(alloc, word)?)?;
+    }
+    Ok(Some(names))
 }

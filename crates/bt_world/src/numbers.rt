@@ -1,8 +1,11 @@
-ghost use Rattle.std.specs.Prelude.{◌≡◌, nat_abs, option_map};
+ghost use Rattle.std.specs.Prelude.{◌≡◌, ◌≤◌, nat_abs, pos, true};
 ghost use Rattle.std.specs.Char.{is_ascii_digit};
 ghost use Rattle.std.specs.List.{list_all};
-ghost use Rattle.bt_model.specs.WorldFile.{is_canonical, is_int, is_ms, is_positive, number_in, without_minus};
-ghost use Rattle.bt_world.specs.Readings.{kept};
+ghost use Rattle.std.specs.Str.Parse.{signed_digits_value};
+ghost use Rattle.bt_model.specs.Worlds.{in_range, is_int};
+ghost use Rattle.bt_model.specs.WorldFile.{is_ms, is_positive, is_runner, without_minus};
+ghost use Rattle.bt_model.specs.WorldFile as file;
+ghost use Rattle.bt_world.specs.Readings.{Passes};
 
 use crate::lines::is;
 use std::str;
@@ -34,19 +37,18 @@ fn positive(word: &[u8]) -> bool
     }
 }
 
-fn canonical(word: &[u8]) -> bool
-    ensures { result ≡ is_canonical word.now }
+/// Whether the word writes a number canonically.
+pub fn is_canonical(word: &[u8]) -> bool
+    ensures { result ≡ file.is_canonical word.now }
 {
     is(word, "0") || positive(unsigned(word))
 }
 
-/// The number that the word writes canonically, within 64 bits.
+/// The number that the word writes, within 64 bits.
 pub fn int(word: &[u8]) -> Option<i64>
-    ensures { result ≡ kept is_int (number_in word.now) }
+    requires { file.is_canonical word.now ≡ true }
+    ensures { Passes is_int (λ z. z) (signed_digits_value 10 word.now) result }
 {
-    if !canonical(word) {
-        return None;
-    }
     match str::from_utf8(word) {
         Ok(text) => text.parse().ok(),
         Err(_) => None,
@@ -55,10 +57,24 @@ pub fn int(word: &[u8]) -> Option<i64>
 
 /// The moment or duration that the word writes, in milliseconds.
 pub fn ms(word: &[u8]) -> Option<u64>
-    ensures { result ≡ option_map nat_abs (kept is_ms (number_in word.now)) }
+    requires { file.is_canonical word.now ≡ true }
+    ensures { Passes is_ms nat_abs (signed_digits_value 10 word.now) result }
 {
     let number = u64::try_from(int(word)?).ok()?;
     if number <= LAST_MOMENT {
+        Some(number)
+    } else {
+        None
+    }
+}
+
+/// The number that the word writes, from 1 to this one.
+pub fn one_of(word: &[u8], most: u8) -> Option<u8>
+    requires { file.is_canonical word.now ≡ true }
+    ensures { Passes (in_range (pos 1) (pos most)) nat_abs (signed_digits_value 10 word.now) result }
+{
+    let number = u8::try_from(int(word)?).ok()?;
+    if number >= 1 && number <= most {
         Some(number)
     } else {
         None

@@ -1,45 +1,76 @@
-ghost use Rattle.std.specs.Prelude.{◌≤◌, length, map};
-ghost use Rattle.bt_model.specs.WorldFile.{with_lines, world_in, world_of_lines};
-ghost use Rattle.bt_world.specs.Readings.{GivesOrRefuses, LeavesOrRefuses};
+ghost use Rattle.std.specs.Prelude.{◌≡◌, ◌≤◌, length, map, IfOk};
+ghost use Rattle.bt_model.specs.WorldFile.{AfterLines, LinesMake, LinesRead, ReadsWorld};
+ghost use Rattle.bt_model.specs.Worlds.{IsValidWorld};
+ghost use Rattle.bt_world.specs.Readings.{Gives, Leaves};
+ghost use Rattle.bt_world.specs.Readings as readings;
 
 use crate::lines::{is, parts, trimmed, without_rest};
 use crate::reading::Reading;
-use bt_model::World;
+use bt_model::{World, WorldFault, WorldKind};
 use bt_script::Stop;
 use std::alloc::Global;
 
-/// The file is no world script of the forms that are built.
-#[derive(Clone, Copy, Debug, PartialEq, Eq)]
-pub struct Unbuilt;
-
-/// The world that a world script describes. `Unbuilt` comes exactly where the file has a line of
-/// none of the forms that are built, or one that breaks a rule.
-pub fn read_world(alloc: Global, bytes: &[u8]) -> Result<World, Stop<Unbuilt>>
+/// The world that a world script describes, or its first faulty line. The world is valid.
+pub fn read_world(alloc: Global, bytes: &[u8]) -> Result<World, Stop<WorldFault>>
     requires { length bytes.now ≤ 1048576 }
-    ensures { GivesOrRefuses result (world_in bytes.now) }
+    ensures reads { Gives result (ReadsWorld bytes.now) }
+    ensures valid { IfOk result IsValidWorld }
 {
-    let parts = parts(alloc, bytes)?;
+    let parts = parts(alloc, bytes, b'\n')?;
     world_of(alloc, without_rest(parts.as_slice()))
 }
 
-fn world_of(alloc: Global, lines: &[&[u8]]) -> Result<World, Stop<Unbuilt>>
-    ensures { GivesOrRefuses result (world_of_lines (map (λ text. text.now) lines.now)) }
+fn world_of(alloc: Global, lines: &[&[u8]]) -> Result<World, Stop<WorldFault>>
+    requires { length lines.now ≤ 1048577 }
+    ensures { Gives result (LinesRead (map (λ text. text.now) lines.now)) }
 {
     match lines {
-        [first, rest @ ..] if is(trimmed(first), "bt-world 1") => {
-            let mut reading = Reading::new(alloc);
-            read_lines(alloc, &mut reading, rest)?;
-            Ok(reading.into_world(alloc)?)
-        }
-        _ => Err(Stop::Fault(Unbuilt)),
+        [first, rest @ ..] if is(trimmed(first), "bt-world 1") => world_behind(alloc, rest),
+        _ => Err(Stop::Fault(WorldFault {
+            line: 1,
+            kind: WorldKind::Header,
+        })),
     }
 }
 
-fn read_lines(alloc: Global, reading: &mut Reading, lines: &[&[u8]]) -> Result<(), Stop<Unbuilt>>
-    ensures { LeavesOrRefuses result reading.new (with_lines 2 (map (λ text. text.now) lines.now) reading.old) }
+/// The world of the lines behind the header.
+fn world_behind(alloc: Global, lines: &[&[u8]]) -> Result<World, Stop<WorldFault>>
+    requires { length lines.now ≤ 1048577 }
+    ensures { Gives result (LinesMake (map (λ text. text.now) lines.now)) }
 {
+    let mut reading = Reading::new(alloc);
+    match read_lines(alloc, &mut reading, lines) {
+        Ok(()) => {
+            reading.close(alloc)?;
+            Ok(reading.into_world(alloc)?)
+        }
+        Err(stop) => Err(stop),
+    }
+}
+
+fn located(stop: Stop<WorldKind>, line: u32) -> Stop<WorldFault>
+    ensures { result ≡ readings.located stop line }
+{
+    match stop {
+        Stop::Fault(kind) => Stop::Fault(WorldFault { line, kind }),
+        Stop::NoMemory => Stop::NoMemory,
+    }
+}
+
+fn read_lines(
+    alloc: Global,
+    reading: &mut Reading,
+    lines: &[&[u8]],
+) -> Result<(), Stop<WorldFault>>
+    requires { length lines.now ≤ 1048577 }
+    ensures { Leaves result reading.new (AfterLines 2 (map (λ text. text.now) lines.now) reading.old) }
+{
+    let mut line = 2;
     for text in lines {
-        reading.read_text(alloc, text)?;
+        if let Err(stop) = reading.read_text(alloc, text) {
+            return Err(located(stop, line));
+        }
+        line += 1;
     }
     Ok(())
 }

@@ -1,13 +1,21 @@
-ghost use Rattle.std.specs.Prelude.{◌≡◌, ◌<◌, ◌≤◌, ◌==◌, true, Some, None, pos, nat_abs, length, IfOk, OnOk, IsTrue, Option, option_map, bytes_eq};
+ghost use Rattle.std.specs.Prelude.{◌≡◌, ◌<◌, ◌≤◌, ◌==◌, ◌||◌, ◌++◌, ◌∷◌, [], true, false, Some, None, Err, pos, nat_abs, nat_lt, nat_eq, not, length, position, if◌then◌else◌, IfOk, OnOk, IsTrue, is_some, MatchOption, Option, option_map, bytes_eq};
 ghost use Rattle.std.specs.List.{list_any};
-ghost use Rattle.bt_model.specs.WorldFile.{closed, is_name, is_taken, nothing_read, of_open, plain_row, row_with_effect, with_action, with_change, with_condition, with_effect, with_event, with_fact, with_moment, world_of};
+ghost use Rattle.bt_model.specs.Worlds.{is_name, ids_of_rows};
 ghost use Rattle.bt_model.specs.WorldFile as file;
-ghost use Rattle.bt_world.specs.Readings.{LeavesOrRefuses};
+ghost use Rattle.bt_model.specs.WorldFile.{closed, is_taken, knows_all, nothing_read, plain_row, repeats, row_with_fails, row_with_need, row_with_effect, row_with_out, runners_of, with_action, with_event, with_fact, with_goal, with_moment, with_open, with_row, with_runners, world_of};
+ghost use Rattle.bt_world.specs.Readings.{Leaves};
+ghost use Rattle.bt_world.specs.Drafts.{row_of, DraftSays};
+ghost use Rattle.bt_world.specs.Heads.{seen_head};
 
+use crate::draft::Draft;
+use crate::exprs::knows_all;
+use crate::facts::Facts;
+use crate::head::Head;
 use crate::names::name_of;
-use crate::read::Unbuilt;
-use bt_model::{Event, Fact, Row, RowSort, Set, What, World, is_reserved};
-use bt_script::{Cmp, Items, Name, NoMemory, Stop};
+use crate::ports::Ports;
+use crate::rows::Rows;
+use bt_model::{Event, Fact, Out, Row, RowSort, Set, What, World, WorldKind, is_reserved};
+use bt_script::{Expr, Items, Name, NoMemory, Stop};
 use std::alloc::Global;
 use std::marker::Model;
 
@@ -15,33 +23,29 @@ const MOST_FACTS: usize = 1024;
 
 const MOST_ROWS: usize = 1024;
 
-const MOST_EFFECTS: usize = 16;
+const MOST_PORTS: usize = 8;
+
+const MOST_GOALS: usize = 64;
 
 const MOST_EVENTS: usize = 100_000;
 
-/// A row to which lines may still add effects.
-#[derive(Drop)]
-struct Draft {
-    id: Name,
-    sort: RowSort,
-    sets: Vec<Set>,
-}
-
-/// What the lines so far have made.
+/// What the lines so far have made. Facts and rows are numbered from 0 in the order of the file.
 #[derive(Drop)]
 pub struct Reading {
-    facts: Vec<Fact>,
-    rows: Vec<Row>,
+    facts: Facts,
+    rows: Rows,
     draft: Option<Draft>,
+    goals: Vec<u32>,
+    runners: Option<u8>,
     events: Vec<Event>,
     moment: u64,
 }
 
 impl Model for Reading {
-    ghost use Rattle.std.specs.Prelude.{◌≤◌, length, option_map};
+    ghost use Rattle.std.specs.Prelude.{option_map};
     ghost use Rattle.bt_model.specs.WorldFile.{Reading};
     ghost use Rattle.bt_script.specs.contracts.syntax.Expr as expr;
-    ghost use Rattle.bt_world.specs.Drafts.{row_of};
+    ghost use Rattle.bt_world.specs.Drafts.{row_of, HasRoom};
     ghost use Rattle.std.specs.Coded.{codes};
 
     ghost Value = { Reading };
@@ -49,77 +53,16 @@ impl Model for Reading {
     ghost coded = { Prim.hlevel (codes, expr.the_row.coded) };
 
     ghost view = { λ r. record {
-      facts = r.facts.items;
-      rows = r.rows.items;
+      facts = r.facts;
+      rows = r.rows;
       open_row = option_map row_of r.draft;
+      goals = r.goals.items;
+      runners = r.runners;
       events = r.events.items;
       moment = r.moment;
     } };
 
-    ghost invariant = { λ r. length r.facts.items ≤ 1024 };
-}
-
-fn is_named(fact: &Fact, name: &[u8]) -> bool
-    ensures { result ≡ bytes_eq fact.now.name name.now }
-{
-    fact.name.list() == name
-}
-
-fn place_of(facts: &[Fact], name: &[u8]) -> Option<usize>
-    ensures { result ≡ file.fact_number facts.now name.now }
-{
-    facts.iter().position(|fact| is_named(fact, name))
-}
-
-fn has_id(row: &Row, id: &[u8]) -> bool
-    ensures { result ≡ bytes_eq row.now.id id.now }
-{
-    row.id.list() == id
-}
-
-impl Draft {
-    ghost use Rattle.bt_world.specs.Drafts.{row_of};
-
-    fn new(alloc: Global, id: Name, sort: RowSort) -> Draft
-        ensures { row_of result ≡ plain_row id sort }
-    {
-        Draft {
-            id,
-            sort,
-            sets: Vec::new(alloc),
-        }
-    }
-
-    fn into_row(self, alloc: Global) -> Row
-        ensures { result ≡ row_of self }
-    {
-        let Draft { id, sort, sets } = self;
-        Row {
-            id,
-            ports: Items::of(Vec::new(alloc)),
-            sort,
-            needs: Items::of(Vec::new(alloc)),
-            sets: Items::of(sets),
-            outs: Items::of(Vec::new(alloc)),
-        }
-    }
-
-    fn has_set(&self, fact: u32) -> bool
-        ensures { result ≡ list_any (λ s. s.fact == fact) (row_of self.now).sets }
-    {
-        self.sets.iter().any(|set| set.fact == fact)
-    }
-
-    /// Adds an effect.
-    fn add_set(&mut self, set: Set) -> Result<(), Stop<Unbuilt>>
-        ensures { LeavesOrRefuses result (row_of self.new) (row_with_effect (Some set.fact) set.value (row_of self.old)) }
-    {
-        if self.has_set(set.fact) || self.sets.len() >= MOST_EFFECTS {
-            return Err(Stop::Fault(Unbuilt));
-        }
-        self.sets.push(set)?;
-        Ok(())
-    }
+    ghost invariant = { λ r. HasRoom r.rows r.draft };
 }
 
 impl Reading {
@@ -128,33 +71,37 @@ impl Reading {
         ensures { result ≡ nothing_read }
     {
         Reading {
-            facts: Vec::new(alloc),
-            rows: Vec::new(alloc),
+            facts: Facts::new(alloc),
+            rows: Rows::new(alloc),
             draft: None,
+            goals: Vec::new(alloc),
+            runners: None,
             events: Vec::new(alloc),
             moment: 0,
         }
     }
 
-    /// The world of all that was read.
+    /// The world of all that was read, where no action is open.
     pub fn into_world(self, alloc: Global) -> Result<World, NoMemory>
+        requires { self.open_row ≡ None }
         ensures { IfOk result (λ world. world ≡ world_of self) }
     {
         let Reading {
             facts,
-            mut rows,
-            draft,
+            rows,
+            draft: _,
+            goals,
+            runners,
             events,
             moment: _,
         } = self;
-        if let Some(draft) = draft {
-            rows.push(draft.into_row(alloc))?;
-        }
+        let facts = facts.into_items(alloc)?;
+        let rows = rows.into_items(alloc)?;
         Ok(World {
             facts: Items::of(facts),
             rows: Items::of(rows),
-            goals: Items::of(Vec::new(alloc)),
-            runners: 1,
+            goals: Items::of(goals),
+            runners: runners.unwrap_or(1),
             events: Items::of(events),
         })
     }
@@ -164,141 +111,220 @@ impl Reading {
         ensures { OnOk result (self.new ≡ closed self.old) }
     {
         if let Some(draft) = self.draft.take() {
-            self.rows.push(draft.into_row(alloc))?;
+            self.rows.add(alloc, draft.into_row())?;
         }
         Ok(())
     }
 
-    fn fact_number(&self, name: &[u8]) -> Option<u32>
+    /// How many runners there are.
+    pub fn runners(&self) -> u8
+        ensures { result ≡ runners_of self.now }
+    {
+        self.runners.unwrap_or(1)
+    }
+
+    /// Whether an event was read.
+    pub fn has_events(&self) -> bool
+        ensures { (length self.now.events == 0) ≡ not result }
+    {
+        !self.events.is_empty()
+    }
+
+    /// The number of the fact of this name.
+    pub fn fact_number(&self, name: &[u8]) -> Option<u32>
         ensures { result ≡ file.fact_number self.now.facts name.now }
     {
-        let place = place_of(self.facts.as_slice(), name)?;
-        Some(place as u32)
+        self.facts.number_of(name)
     }
 
-    fn names_fact(&self, name: &[u8]) -> bool
-        ensures { result ≡ list_any (λ f. bytes_eq f.name name.now) self.now.facts }
+    /// The number of the condition of this ID that compares a fact.
+    pub fn comparison_number(&self, id: &[u8]) -> Option<u32>
+        ensures { result ≡ file.comparison_number self.now.rows id.now }
     {
-        self.facts.iter().any(|fact| is_named(fact, name))
+        self.rows.comparison_number(id)
     }
 
-    fn names_row(&self, id: &[u8]) -> bool
-        ensures { result ≡ list_any (λ row. bytes_eq row.id id.now) self.now.rows }
-    {
-        self.rows.iter().any(|row| has_id(row, id))
-    }
-
-    fn has_taken(&self, id: &[u8]) -> bool
+    /// Whether no further row may have this ID.
+    pub fn has_taken(&self, id: &[u8]) -> bool
         ensures { result ≡ is_taken self.now.rows id.now }
     {
-        is_reserved(id) || self.names_row(id)
+        is_reserved(id) || self.rows.has(id)
+    }
+
+    /// Whether the names of the expression by which a row answers are its ports or facts.
+    fn knows_sort(&self, ports: &Ports, sort: &RowSort) -> bool
+        ensures { result ≡ file.knows_sort ports.now self.now.facts sort.now }
+    {
+        match sort {
+            RowSort::When(e) => knows_all(&self.facts, ports, e),
+            RowSort::Gate(e) => knows_all(&self.facts, ports, e),
+            _ => true,
+        }
+    }
+
+    /// The row of this head, which may be added.
+    pub fn draft_of(&self, alloc: Global, head: Head<'_>, sort: RowSort) -> Result<Draft, Stop<WorldKind>>
+        requires { IsTrue (is_name head.id.now) }
+        ensures { DraftSays result (seen_head head.entry) sort self.now }
+    {
+        let Head { id, ports } = head;
+        if self.has_taken(id) {
+            return Err(Stop::Fault(WorldKind::DoubleName));
+        }
+        let Some(ports) = Ports::of(alloc, ports)? else {
+            return Err(Stop::Fault(WorldKind::DoubleName));
+        };
+        if !self.knows_sort(&ports, &sort) {
+            return Err(Stop::Fault(WorldKind::NoName));
+        }
+        if ports.len() > MOST_PORTS {
+            return Err(Stop::Fault(WorldKind::TooMany));
+        }
+        let id = name_of(alloc, id)?;
+        Ok(Draft::new(alloc, id, ports, sort))
     }
 
     /// Adds a fact.
-    pub fn add_fact(
-        &mut self,
-        alloc: Global,
-        name: &[u8],
-        opening: i64,
-    ) -> Result<(), Stop<Unbuilt>>
+    pub fn add_fact(&mut self, alloc: Global, name: &[u8], opening: i64) -> Result<(), Stop<WorldKind>>
         requires { IsTrue (is_name name.now) }
-        ensures { LeavesOrRefuses result self.new (with_fact name.now opening self.old) }
+        ensures { Leaves result self.new (λ said. said ≡ with_fact name.now opening self.old) }
     {
-        if self.names_fact(name) || self.facts.len() >= MOST_FACTS {
-            return Err(Stop::Fault(Unbuilt));
+        if self.facts.has(name) {
+            return Err(Stop::Fault(WorldKind::DoubleName));
         }
-        let name = name_of(alloc, name)?;
-        self.facts.push(Fact { name, opening })?;
+        if self.facts.len() >= MOST_FACTS {
+            return Err(Stop::Fault(WorldKind::TooMany));
+        }
+        self.facts.add(alloc, name, opening)?;
         Ok(())
     }
 
-    /// Adds a condition that compares the fact.
-    pub fn add_condition(
-        &mut self,
-        alloc: Global,
-        id: &[u8],
-        fact: &[u8],
-        op: Cmp,
-        value: i64,
-    ) -> Result<(), Stop<Unbuilt>>
-        requires { IsTrue (is_name id.now) }
-        ensures { LeavesOrRefuses result self.new (with_condition id.now fact.now op value self.old) }
+    /// Adds a condition, of which nothing more is said.
+    pub fn add_condition(&mut self, alloc: Global, row: Row) -> Result<(), Stop<WorldKind>>
+        requires open { self.old.open_row ≡ None }
+        requires free { list_any (bytes_eq row.id) (ids_of_rows self.old.rows) ≡ false }
+        ensures { Leaves result self.new (λ said. said ≡ with_row row self.old) }
     {
-        if self.has_taken(id) || self.rows.len() >= MOST_ROWS {
-            return Err(Stop::Fault(Unbuilt));
+        if self.rows.len() >= MOST_ROWS {
+            return Err(Stop::Fault(WorldKind::TooMany));
         }
-        let Some(fact) = self.fact_number(fact) else {
-            return Err(Stop::Fault(Unbuilt));
-        };
-        let sort = RowSort::Is { fact, op, value };
-        let id = name_of(alloc, id)?;
-        self.rows.push(Draft::new(alloc, id, sort).into_row(alloc))?;
+        self.rows.add(alloc, row)?;
         Ok(())
     }
 
     /// Opens an action.
-    pub fn open_action(
-        &mut self,
-        alloc: Global,
-        id: &[u8],
-        sort: RowSort,
-    ) -> Result<(), Stop<Unbuilt>>
-        requires { IsTrue (is_name id.now) }
-        ensures { LeavesOrRefuses result self.new (with_action id.now sort self.old) }
+    pub fn open_action(&mut self, draft: Draft) -> Result<(), Stop<WorldKind>>
+        requires open { self.old.open_row ≡ None }
+        requires free { list_any (bytes_eq draft.id) (ids_of_rows self.old.rows) ≡ false }
+        ensures { Leaves result self.new (λ said. said ≡ with_action (row_of draft) self.old) }
     {
-        if self.has_taken(id) || self.rows.len() >= MOST_ROWS {
-            return Err(Stop::Fault(Unbuilt));
+        if self.rows.len() >= MOST_ROWS {
+            return Err(Stop::Fault(WorldKind::TooMany));
         }
-        let id = name_of(alloc, id)?;
-        self.draft = Some(Draft::new(alloc, id, sort));
+        self.draft = Some(draft);
         Ok(())
     }
 
-    /// Adds an effect to the open action.
-    pub fn add_effect(&mut self, fact: &[u8], value: i64) -> Result<(), Stop<Unbuilt>>
-        ensures { LeavesOrRefuses result self.new (of_open self.old.open_row (λ row. with_effect fact.now value row self.old)) }
+    /// Whether an action is open.
+    pub fn is_open(&self) -> bool
+        ensures { result ≡ is_some self.now.open_row }
     {
-        let Some(fact) = self.fact_number(fact) else {
-            return Err(Stop::Fault(Unbuilt));
-        };
+        self.draft.is_some()
+    }
+
+    /// Adds to the open action when it fails.
+    pub fn add_fails(&mut self, expr: Expr) -> Result<(), Stop<WorldKind>>
+        ensures { Leaves result self.new (λ said. said ≡ with_open self.old.open_row self.old (row_with_fails self.old.facts expr)) }
+    {
         match &mut self.draft {
-            Some(draft) => draft.add_set(Set { fact, value }),
-            None => Err(Stop::Fault(Unbuilt)),
+            Some(draft) => draft.add_fails(&self.facts, expr),
+            None => Err(Stop::Fault(WorldKind::BadLine)),
         }
     }
 
+    /// Adds to the open action the need of the condition of this number.
+    pub fn add_need(&mut self, number: u32) -> Result<(), Stop<WorldKind>>
+        ensures { Leaves result self.new (λ said. said ≡ with_open self.old.open_row self.old (row_with_need number)) }
+    {
+        match &mut self.draft {
+            Some(draft) => draft.add_need(number),
+            None => Err(Stop::Fault(WorldKind::BadLine)),
+        }
+    }
+
+    /// Adds an effect to the open action.
+    pub fn add_set(&mut self, set: Set) -> Result<(), Stop<WorldKind>>
+        ensures { Leaves result self.new (λ said. said ≡ with_open self.old.open_row self.old (row_with_effect set.fact set.value)) }
+    {
+        match &mut self.draft {
+            Some(draft) => draft.add_set(set),
+            None => Err(Stop::Fault(WorldKind::BadLine)),
+        }
+    }
+
+    /// Adds an output to the open action.
+    pub fn add_out(&mut self, out: Out) -> Result<(), Stop<WorldKind>>
+        ensures { Leaves result self.new (λ said. said ≡ with_open self.old.open_row self.old (row_with_out self.old.facts out.port out.expr)) }
+    {
+        match &mut self.draft {
+            Some(draft) => draft.add_out(&self.facts, out),
+            None => Err(Stop::Fault(WorldKind::BadLine)),
+        }
+    }
+
+    fn has_goal(&self, number: u32) -> bool
+        ensures { result ≡ list_any (nat_eq number) self.now.goals }
+    {
+        self.goals.iter().any(|goal| number == *goal)
+    }
+
+    /// Adds the goal of the condition of this number.
+    pub fn add_goal(&mut self, number: u32) -> Result<(), Stop<WorldKind>>
+        ensures { Leaves result self.new (λ said. said ≡ with_goal number self.old) }
+    {
+        if self.has_goal(number) {
+            return Err(Stop::Fault(WorldKind::DoubleName));
+        }
+        if self.goals.len() >= MOST_GOALS {
+            return Err(Stop::Fault(WorldKind::TooMany));
+        }
+        self.goals.push(number)?;
+        Ok(())
+    }
+
+    /// Says how many runners there are.
+    pub fn set_runners(&mut self, count: u8) -> Result<(), Stop<WorldKind>>
+        ensures { Leaves result self.new (λ said. said ≡ with_runners count self.old) }
+    {
+        if self.runners.is_some() {
+            return Err(Stop::Fault(WorldKind::DoubleName));
+        }
+        self.runners = Some(count);
+        Ok(())
+    }
+
     /// Goes to a moment, in milliseconds.
-    pub fn move_to(&mut self, ms: u64) -> Result<(), Stop<Unbuilt>>
-        ensures { LeavesOrRefuses result self.new (with_moment ms self.old) }
+    pub fn move_to(&mut self, ms: u64) -> Result<(), Stop<WorldKind>>
+        ensures { Leaves result self.new (λ said. said ≡ with_moment ms self.old) }
     {
         if ms < self.moment {
-            return Err(Stop::Fault(Unbuilt));
+            return Err(Stop::Fault(WorldKind::MomentBack));
         }
         self.moment = ms;
         Ok(())
     }
 
     /// Adds an event at the last moment.
-    pub fn add_event(&mut self, what: What) -> Result<(), Stop<Unbuilt>>
-        ensures { LeavesOrRefuses result self.new (with_event what self.old) }
+    pub fn add_event(&mut self, what: What) -> Result<(), Stop<WorldKind>>
+        ensures { Leaves result self.new (λ said. said ≡ with_event what self.old) }
     {
         if self.events.len() >= MOST_EVENTS {
-            return Err(Stop::Fault(Unbuilt));
+            return Err(Stop::Fault(WorldKind::TooMany));
         }
         self.events.push(Event {
             at: self.moment,
             what,
         })?;
         Ok(())
-    }
-
-    /// Adds a change of a fact.
-    pub fn add_change(&mut self, fact: &[u8], value: i64) -> Result<(), Stop<Unbuilt>>
-        ensures { LeavesOrRefuses result self.new (with_change fact.now value self.old) }
-    {
-        match self.fact_number(fact) {
-            Some(fact) => self.add_event(What::Change { fact, value }),
-            None => Err(Stop::Fault(Unbuilt)),
-        }
     }
 }

@@ -3,7 +3,7 @@ use Rattle.std.specs.Str.{IsUtf8}
 use Rattle.bt_script.specs.Identifiers.{is_identifier}
 use Rattle.bt_script.proofs.Bools.{both}
 use Rattle.bt_script.proofs.Identifiers.{IsUtf8-from_is_identifier}
-use Rattle.bt_model.specs.WorldFile.{is_name}
+use Rattle.bt_model.specs.Worlds.{is_name}
 use Rattle.bt_world.proofs.names.name_of.Goals as goal
 
 -- a name is UTF-8

@@ -1,14 +1,16 @@
 use Rattle.std.proofs.Common.{◌≡◌, true, sym, ◌∙◌, subst}
-use Rattle.std.specs.Str.Parse.{ParsesSigned}
+use Rattle.std.specs.Prelude.{Option, ℤ}
+use Rattle.std.specs.Str.Parse.{ParsesSigned, signed_digits_value}
 use mir.Syntax.{w64}
-use Rattle.bt_model.specs.WorldFile.{is_canonical}
+use Rattle.bt_model.specs.Worlds.{is_int}
+use Rattle.bt_world.specs.Readings.{Passes}
 use Rattle.bt_world.proofs.Canonical.{IsUtf8-from_is_canonical, parsed_canonical}
 use Rattle.bt_world.proofs.numbers.int.Goals as goal
 
 pub returns-in-Ok : goal.returns-in-Ok
 returns-in-Ok c =
-    let canonical : is_canonical c.args.word.now ≡ true = sym c.canonical.ensures ∙ c.if-not-canonical.false in
-    c.ok.ensures.value ∙ parsed_canonical c.args.word.now _ canonical (subst (λ bs. ParsesSigned w64 10 bs c.parse.result) c.in-Ok.ensures.cases.0 c.parse.ensures.value.0)
+    subst (λ (o : Option ℤ). Passes is_int (λ z. z) (signed_digits_value 10 c.args.word.now) o) (sym c.ok.ensures.value)
+    (parsed_canonical c.args.word.now _ c.requires (subst (λ bs. ParsesSigned w64 10 bs c.parse.result) c.in-Ok.ensures.cases.0 c.parse.ensures.value.0))
 
 pub returns-in-Err : goal.returns-in-Err
-returns-in-Err c = absurd (c.in-Err.ensures.cases.0 (IsUtf8-from_is_canonical c.args.word.now (sym c.canonical.ensures ∙ c.if-not-canonical.false)))
+returns-in-Err c = absurd (c.in-Err.ensures.cases.0 (IsUtf8-from_is_canonical c.args.word.now c.requires))

@@ -1,0 +1,246 @@
+ghost use Rattle.std.specs.Prelude.{◌≡◌, ◌==◌, ◌||◌, ◌&&◌, Some, true, nat_lt, nat_le, length, map, option_map, option_and_then, IfOk, IsTrue};
+ghost use Rattle.std.specs.List.{list_all};
+ghost use Rattle.bt_model.specs.Worlds as worlds;
+ghost use Rattle.bt_model.specs.WorldFile as file;
+ghost use Rattle.bt_model.specs.WorldFile.{AfterForm, GateLine, WhenLine, action_line, comparison_in, condition_line, is_line, is_line_byte, outcomes_in, replay_line, timed_line};
+ghost use Rattle.bt_world.specs.Drafts.{DraftSays};
+ghost use Rattle.bt_world.specs.Heads.{seen_head};
+ghost use Rattle.bt_world.specs.Readings.{Leaves};
+
+use crate::draft::Draft;
+use crate::exprs::numeric;
+use crate::head::{Head, head_in};
+use crate::lines::{cut, is};
+use crate::names::{is_name, name_of};
+use crate::numbers::{int, is_canonical, ms};
+use crate::ports::Ports;
+use crate::reading::Reading;
+use bt_model::{Row, RowSort, WorldKind, is_reserved};
+use bt_script::{Cmp, Items, NoMemory, Stop};
+use std::alloc::{AllocError, Global};
+
+/// The comparison that the word names.
+fn comparison(word: &[u8]) -> Option<Cmp>
+    ensures { result ≡ comparison_in word.now }
+{
+    if is(word, "==") {
+        Some(Cmp::Equal)
+    } else if is(word, "!=") {
+        Some(Cmp::Differ)
+    } else if is(word, "<") {
+        Some(Cmp::Less)
+    } else if is(word, "<=") {
+        Some(Cmp::AtMost)
+    } else if is(word, ">") {
+        Some(Cmp::More)
+    } else if is(word, ">=") {
+        Some(Cmp::AtLeast)
+    } else {
+        None
+    }
+}
+
+fn is_success(letter: u8) -> bool
+    ensures { result ≡ (letter == 83) }
+{
+    letter == b'S'
+}
+
+fn is_outcome(letter: u8) -> bool
+    ensures { result ≡ (letter == 83 || letter == 70) }
+{
+    is_success(letter) || letter == b'F'
+}
+
+fn all_outcomes(word: &[u8]) -> bool
+    ensures { result ≡ list_all (λ b. b == 83 || b == 70) word.now }
+{
+    word.iter().all(|letter| is_outcome(*letter))
+}
+
+fn are_outcomes(word: &[u8]) -> bool
+    ensures { result ≡ (nat_lt 0 (length word.now) && nat_le (length word.now) 64 && list_all (λ b. b == 83 || b == 70) word.now) }
+{
+    !word.is_empty() && word.len() <= 64 && all_outcomes(word)
+}
+
+/// The outcomes that the letters name: true for success.
+fn outcomes(alloc: Global, word: &[u8]) -> Result<Vec<bool>, AllocError>
+    ensures { IfOk result (λ v. v.items ≡ map (λ b. b == 83) word.now) }
+{
+    word.iter().map(|letter| is_success(*letter)).collect(alloc)
+}
+
+impl Reading {
+    /// `condition ROW is NAME OP INT`, or `condition ROW when EXPR`
+    pub fn read_condition(&mut self, alloc: Global, text: &[u8]) -> Result<(), Stop<WorldKind>>
+        requires { list_all is_line_byte text.now ≡ true }
+        ensures { Leaves result self.new (AfterForm self.old (condition_line text.now)) }
+    {
+        let (row, rest) = cut(text);
+        let (verb, rest) = cut(rest);
+        if is(verb, "is") {
+            self.read_comparison(alloc, row, rest)
+        } else if is(verb, "when") {
+            self.read_when(alloc, row, rest)
+        } else {
+            Err(Stop::Fault(WorldKind::BadLine))
+        }
+    }
+
+    /// `action ROW timed MS`, `action ROW replay MS OUTCOMES` or `action ROW gate EXPR`
+    pub fn read_action(&mut self, alloc: Global, text: &[u8]) -> Result<(), Stop<WorldKind>>
+        requires { list_all is_line_byte text.now ≡ true }
+        ensures { Leaves result self.new (AfterForm self.old (action_line text.now)) }
+    {
+        let (row, rest) = cut(text);
+        let (verb, rest) = cut(rest);
+        if is(verb, "timed") {
+            self.read_timed(alloc, row, rest)
+        } else if is(verb, "replay") {
+            self.read_replay(alloc, row, rest)
+        } else if is(verb, "gate") {
+            self.read_gate(alloc, row, rest)
+        } else {
+            Err(Stop::Fault(WorldKind::BadLine))
+        }
+    }
+
+    /// `NAME OP INT` of the condition of this ID
+    fn read_comparison(
+        &mut self,
+        alloc: Global,
+        id: &[u8],
+        text: &[u8],
+    ) -> Result<(), Stop<WorldKind>>
+        ensures { Leaves result self.new (AfterForm self.old (is_line id.now text.now)) }
+    {
+        let (fact, rest) = cut(text);
+        let (sign, rest) = cut(rest);
+        let (number, rest) = cut(rest);
+        if !is_name(id) || !is_name(fact) || !rest.is_empty() {
+            return Err(Stop::Fault(WorldKind::BadLine));
+        }
+        match comparison(sign) {
+            Some(op) if is_canonical(number) => {
+                self.close(alloc)?;
+                self.compare(alloc, id, fact, op, number)
+            }
+            _ => Err(Stop::Fault(WorldKind::BadLine)),
+        }
+    }
+
+    /// Adds a condition that compares the fact with a number.
+    fn compare(
+        &mut self,
+        alloc: Global,
+        id: &[u8],
+        fact: &[u8],
+        op: Cmp,
+        number: &[u8],
+    ) -> Result<(), Stop<WorldKind>>
+        requires named { IsTrue (worlds.is_name id.now) }
+        requires canonical { file.is_canonical number.now ≡ true }
+        requires open { self.old.open_row ≡ None }
+        ensures { Leaves result self.new (λ said. said ≡ ranged (is_int (signed_digits_value 10 number.now)) (with_comparison id.now fact.now op (signed_digits_value 10 number.now) self.old)) }
+    {
+        let Some(value) = int(number) else {
+            return Err(Stop::Fault(WorldKind::Range));
+        };
+        if self.has_taken(id) {
+            return Err(Stop::Fault(WorldKind::DoubleName));
+        }
+        let Some(fact) = self.fact_number(fact) else {
+            return Err(Stop::Fault(WorldKind::NoName));
+        };
+        let id = name_of(alloc, id)?;
+        self.add_condition(alloc, Row {
+            id,
+            ports: Items::of(Vec::new(alloc)),
+            sort: RowSort::Is { fact, op, value },
+            needs: Items::of(Vec::new(alloc)),
+            sets: Items::of(Vec::new(alloc)),
+            outs: Items::of(Vec::new(alloc)),
+        })
+    }
+
+    /// `EXPR` of the condition of this head
+    fn read_when(&mut self, alloc: Global, row: &[u8], text: &[u8]) -> Result<(), Stop<WorldKind>>
+        requires { list_all is_line_byte text.now ≡ true }
+        ensures { Leaves result self.new (AfterForm self.old (option_map (λ head. WhenLine head text.now) (file.head_in row.now))) }
+    {
+        let Some(head) = head_in(alloc, row)? else {
+            return Err(Stop::Fault(WorldKind::BadLine));
+        };
+        let Some(expr) = numeric(alloc, text)? else {
+            return Err(Stop::Fault(WorldKind::BadLine));
+        };
+        self.close(alloc)?;
+        match self.draft_of(alloc, head, RowSort::When(expr)) {
+            Ok(draft) => self.add_condition(alloc, draft.into_row()),
+            Err(stop) => Err(stop),
+        }
+    }
+
+    /// `EXPR` of the gate of this head
+    fn read_gate(&mut self, alloc: Global, row: &[u8], text: &[u8]) -> Result<(), Stop<WorldKind>>
+        requires { list_all is_line_byte text.now ≡ true }
+        ensures { Leaves result self.new (AfterForm self.old (option_map (λ head. GateLine head text.now) (file.head_in row.now))) }
+    {
+        let Some(head) = head_in(alloc, row)? else {
+            return Err(Stop::Fault(WorldKind::BadLine));
+        };
+        let Some(expr) = numeric(alloc, text)? else {
+            return Err(Stop::Fault(WorldKind::BadLine));
+        };
+        self.close(alloc)?;
+        match self.draft_of(alloc, head, RowSort::Gate(expr)) {
+            Ok(draft) => self.open_action(draft),
+            Err(stop) => Err(stop),
+        }
+    }
+
+    /// `MS` of the action of this head
+    fn read_timed(&mut self, alloc: Global, row: &[u8], text: &[u8]) -> Result<(), Stop<WorldKind>>
+        ensures { Leaves result self.new (AfterForm self.old (option_and_then (timed_line text.now) (file.head_in row.now))) }
+    {
+        let Some(head) = head_in(alloc, row)? else {
+            return Err(Stop::Fault(WorldKind::BadLine));
+        };
+        let (number, rest) = cut(text);
+        if !rest.is_empty() || !is_canonical(number) {
+            return Err(Stop::Fault(WorldKind::BadLine));
+        }
+        self.close(alloc)?;
+        let Some(ms) = ms(number) else {
+            return Err(Stop::Fault(WorldKind::Range));
+        };
+        match self.draft_of(alloc, head, RowSort::Timed { ms, fails: None }) {
+            Ok(draft) => self.open_action(draft),
+            Err(stop) => Err(stop),
+        }
+    }
+
+    /// `MS OUTCOMES` of the action of this head
+    fn read_replay(&mut self, alloc: Global, row: &[u8], text: &[u8]) -> Result<(), Stop<WorldKind>>
+        ensures { Leaves result self.new (AfterForm self.old (option_and_then (replay_line text.now) (file.head_in row.now))) }
+    {
+        let Some(head) = head_in(alloc, row)? else {
+            return Err(Stop::Fault(WorldKind::BadLine));
+        };
+        let (number, rest) = cut(text);
+        let (letters, rest) = cut(rest);
+        if !rest.is_empty() || !is_canonical(number) || !are_outcomes(letters) {
+            return Err(Stop::Fault(WorldKind::BadLine));
+        }
+        self.close(alloc)?;
+        let Some(ms) = ms(number) else {
+            return Err(Stop::Fault(WorldKind::Range));
+        };
+        let outcomes = Items::of(outcomes(alloc, letters)?);
+        match self.draft_of(alloc, head, RowSort::Replay { ms, outcomes }) {
+            Ok(draft) => self.open_action(draft),
+            Err(stop) => Err(stop),
+        }
+    }
+}
