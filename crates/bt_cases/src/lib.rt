@@ -6,6 +6,8 @@ mod boards;
 #[cfg(test)]
 mod build;
 #[cfg(test)]
+mod elements;
+#[cfg(test)]
 mod manifest;
 #[cfg(test)]
 mod moves;
