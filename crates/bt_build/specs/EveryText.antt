@@ -32,15 +32,18 @@ led_on s u t ts h o k = ap (λ (x : Option Spot). then_spot x (run (bare ts))) h
 behind : (s u : Spot) (t : Placed) (ts : List Placed) → step s t.token ≡ Some u → Found u ts → Found s (t ∷ ts)
 behind s u t ts h (verdict.Whole, l) = (verdict.Whole, record { spot = l.spot; led = led_on s u t ts h (Some l.spot) l.led; ends = l.ends })
 behind s u t ts h (verdict.Unfinished, l) = (verdict.Unfinished, record { spot = l.spot; led = led_on s u t ts h (Some l.spot) l.led; ends = l.ends })
-behind s u t ts h (verdict.Stuck place, l) = (verdict.Stuck place, record {
-  front = t ∷ l.front;
-  token = l.token;
-  rest = l.rest;
-  spot = l.spot;
-  at = ap (λ (x : List Placed). t ∷ x) l.at;
-  led = led_on s u t l.front h (Some l.spot) l.led;
-  stuck = l.stuck;
-})
+behind s u t ts h (verdict.Stuck place, l) = (
+  verdict.Stuck place,
+  record {
+    front = t ∷ l.front;
+    token = l.token;
+    rest = l.rest;
+    spot = l.spot;
+    at = ap (λ (x : List Placed). t ∷ x) l.at;
+    led = led_on s u t l.front h (Some l.spot) l.led;
+    stuck = l.stuck;
+  },
+)
 
 next : (s : Spot) (t : Placed) (ts : List Placed) → ((u : Spot) → Found u ts) → (o : Option Spot) → step s t.token ≡ o → Found s (t ∷ ts)
 next s t ts rest None h = (verdict.Stuck t.place, record { front = []; token = t.token; rest = ts; spot = s; at = refl; led = refl; stuck = h })
