@@ -180,7 +180,7 @@ fn boards_begin_with_literals(rt: HostRuntime) -> Result<(), Fail> {
     for (text, want) in [
         ("x := 1", "None "),
         ("a=7|x := a", "Some(Int(7)) None "),
-        ("a={b} c=2|c := b\nc=-3 *|x := c", "None None Some(Int(2)) None Some(Int(-3)) "),
+        ("a={b} c=2|c := b\nc=-3 *|x := c", "None None None Some(Int(2)) Some(Int(-3)) "),
     ] {
         let tree = a_tree(alloc, text)?;
         let slots = slots_of(alloc, &tree)?;
