@@ -19,3 +19,5 @@ mod script;
 mod script_code;
 #[cfg(test)]
 mod text;
+#[cfg(test)]
+mod worlds;

@@ -6,6 +6,7 @@ pub mod Named
 pub mod Onward
 pub mod Parts
 pub mod Rests
+pub mod Saying
 pub mod Sound
 pub mod SoundRows
 pub mod Validity

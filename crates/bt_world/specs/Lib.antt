@@ -3,3 +3,4 @@ pub mod Heads
 pub mod Readings
 pub mod Rows
 pub mod Tables
+pub mod Today

@@ -18,5 +18,7 @@ mod read;
 mod reading;
 mod rows;
 mod tables;
+mod today;
 
 pub use read::read_world;
+pub use today::needs_engine;
