@@ -1,6 +1,6 @@
 -- What the attributes of a node say fits its kind.
-use Rattle.std.proofs.Common.{◌≡◌, inl, inr, ℕ, Bool, true, false, List, Option, Some, None, Result, Ok, Err, refl, ap, sym, subst}
-use Rattle.std.specs.Prelude.{not, if◌then◌else◌}
+use Rattle.std.proofs.Common.{◌≡◌, inl, inr, ℕ, Bool, true, false, List, Option, Some, None, Ok, refl, sym, subst}
+use Rattle.std.specs.Prelude.{not}
 use Rattle.bt_script.specs.declared.syntax.Script.{Script}
 use Rattle.bt_model.specs.declared.term.Guards.{Guards}
 use Rattle.bt_model.specs.declared.term.Kind.{Kind}
@@ -13,9 +13,8 @@ use Rattle.bt_manifest.specs.Attributes.{Attributes}
 use Rattle.bt_manifest.specs.Models.{Models, model_of}
 use Rattle.bt_manifest.specs.Steps.{go_on}
 use Rattle.bt_build.specs.declared.content.Content.{Content}
-use Rattle.bt_build.specs.declared.fault.BuildFault.{BuildFault}
 use Rattle.bt_build.specs.declared.head.Head.{Head}
-use Rattle.bt_build.specs.Content.{Rules, BuiltIn, all_known, autoremap_in, code_text, content_in, guards_in, known_in, model_rules, ports_in, rest_in, rules_of, script_of, scripts_in}
+use Rattle.bt_build.specs.Content.{Rules, all_known, autoremap_in, code_text, content_in, guards_in, known_in, model_rules, ports_in, rest_in, rules_of, script_of, scripts_in}
 use Rattle.bt_build.proofs.HeadFits.{HeadFits}
 use Rattle.bt_build.proofs.KindFits.{fine}
 use Rattle.bt_build.proofs.PortLists.{any_fit, built_fit, key_fit, model_fit}

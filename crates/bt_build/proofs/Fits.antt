@@ -20,12 +20,12 @@ use Rattle.bt_manifest.specs.Models.{Models, attributes_of, children_of, name_of
 use Rattle.bt_manifest.specs.Steps.{go_on}
 use Rattle.bt_build.specs.declared.content.Content.{Content}
 use Rattle.bt_build.specs.declared.fault.BuildFault.{BuildFault}
-use Rattle.bt_build.specs.declared.fault.BuildFault.TheVariants.{Format, TooManyNodes, TooDeep, Recursive, TooManyScopes, ChildCount, TooMuchWork}
+use Rattle.bt_build.specs.declared.fault.BuildFault.TheVariants.{TooManyNodes, TooDeep, Recursive, TooManyScopes, ChildCount, TooMuchWork}
 use Rattle.bt_build.specs.declared.head.Head.{Head}
 use Rattle.bt_build.specs.declared.tree.Numbers.{Numbers}
 use Rattle.bt_build.specs.Content.{content_in}
 use Rattle.bt_build.specs.Heads.{head_of}
-use Rattle.bt_build.specs.Reads.{File, Reader, is_subtree, known, main_of, main_read, most_levels, named_read, no_numbers, node_in, node_of, node_with, nodes_by, not_root, one_node_more, one_scope_more, opened_by, plain_by, read_node, read_root, reads, refused_if, root_faults, root_read, roots_read, says_format, term_of, tree_of, trees_read, with_first, with_trees, within_work}
+use Rattle.bt_build.specs.Reads.{File, Reader, is_subtree, known, main_of, main_read, most_levels, named_read, no_numbers, node_in, node_of, node_with, nodes_by, not_root, one_node_more, one_scope_more, opened_by, plain_by, read_node, read_root, reads, refused_if, root_read, roots_read, says_format, term_of, tree_of, trees_read, with_first, with_trees, within_work}
 use Rattle.bt_build.proofs.ContentFits.{Fitting, content_fits}
 use Rattle.bt_build.proofs.HeadFits.{HeadFits, head_fits}
 use Rattle.bt_build.proofs.Sizes.{both_same, faultless, not_refused, reads_within, same_ok, went}

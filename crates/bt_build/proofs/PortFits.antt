@@ -1,7 +1,7 @@
 -- The ports that are read fit their node.
-use Rattle.std.proofs.Common.{◌≡◌, ℕ, ℤ, Bool, true, false, List, [], ◌∷◌, ◌++◌, map, Option, Some, None, Result, Ok, Err, refl, ap, sym, ◌∙◌, subst}
+use Rattle.std.proofs.Common.{◌≡◌, ℕ, ℤ, Bool, true, false, List, [], ◌∷◌, ◌++◌, Option, Some, None, Ok, refl, ap, sym, ◌∙◌, subst}
 use Rattle.std.specs.Prelude.{not, is_some, option_map, ◌&&◌, ◌||◌, if◌then◌else◌}
-use Rattle.std.specs.List.{list_all, list_any, AllByRecursion}
+use Rattle.std.specs.List.{list_all}
 use Rattle.std.specs.Option.{option_map_or}
 use Rattle.std.specs.Str.{bytes_eq}
 use Rattle.bt_script.specs.declared.value.Value.{Value}
@@ -18,11 +18,8 @@ use Rattle.bt_model.specs.Names.{is_among}
 use Rattle.bt_model.specs.Numbers.{int_in}
 use Rattle.bt_model.specs.Trees.{is_one_of, names_of}
 use Rattle.bt_model.specs.Values.{in_braces, is_plain, key_said, key_value, literal, literal_value, value_fits, value_in}
-use Rattle.bt_manifest.specs.declared.models.ModelPort.{ModelPort}
-use Rattle.bt_manifest.specs.Attributes.{Attributes, value_of}
-use Rattle.bt_build.specs.declared.fault.BuildFault.{BuildFault}
-use Rattle.bt_build.specs.Content.{Rules, AnyPort, AnyKey, Modelled, BuiltIn, is_modelled, is_port, name_fits, or_bad, port_of, ports_in, range_among, range_of, with_absent, with_attribute, with_default, with_fallback, with_model, with_modelled, with_port, with_ranged, with_rule, with_rules, with_written}
-use Rattle.bt_build.proofs.Sizes.{same_ok, went}
+use Rattle.bt_build.specs.Content.{Rules, AnyPort, AnyKey, Modelled, BuiltIn, is_modelled, name_fits, or_bad, port_of, range_among, range_of, with_port}
+use Rattle.bt_build.proofs.Sizes.{same_ok}
 
 pub some_same : {X : Type 0} (x y : X) → ◌≡◌ {A = Option X} (Some x) (Some y) → x ≡ y
 some_same x y h = cc

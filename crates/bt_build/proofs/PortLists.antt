@@ -1,5 +1,5 @@
 -- All ports of a node fit it, and none of those that it must have is absent.
-use Rattle.std.proofs.Common.{◌≡◌, ◌⊎◌, inl, inr, ℕ, Bool, true, false, List, [], ◌∷◌, ◌++◌, Option, Some, None, Result, Ok, Err, refl, ap, sym, ◌∙◌, subst}
+use Rattle.std.proofs.Common.{◌≡◌, ℕ, Bool, true, false, List, [], ◌∷◌, Option, Some, None, Ok, refl, ap, sym, ◌∙◌, subst}
 use Rattle.std.specs.Prelude.{is_some, bytes_eq, if◌then◌else◌}
 use Rattle.std.specs.List.{list_all, AllByRecursion}
 use Rattle.std.proofs.lemmas.Slice.Eq.{bytes_eq-Decides}
@@ -13,9 +13,8 @@ use Rattle.bt_model.specs.Trees.{is_one_of, names_of}
 use Rattle.bt_model.specs.Values.{value_fits}
 use Rattle.bt_manifest.specs.declared.models.ModelPort.{ModelPort}
 use Rattle.bt_manifest.specs.Attributes.{Attributes, value_of}
-use Rattle.bt_build.specs.declared.fault.BuildFault.{BuildFault}
-use Rattle.bt_build.specs.Content.{Rules, AnyPort, AnyKey, Modelled, BuiltIn, is_port, name_fits, port_of, ports_in, range_of, with_absent, with_attribute, with_default, with_fallback, with_model, with_modelled, with_port, with_ranged, with_rule, with_rules, with_written}
-use Rattle.bt_build.proofs.PortFits.{Added, Grows, added, among_last, both_true, grows_by, grows_on, port_fits, ranged, stays}
+use Rattle.bt_build.specs.Content.{Rules, AnyPort, AnyKey, Modelled, BuiltIn, is_port, name_fits, port_of, ports_in, range_of, with_absent, with_attribute, with_default, with_fallback, with_model, with_modelled, with_ranged, with_rule, with_rules, with_written}
+use Rattle.bt_build.proofs.PortFits.{Grows, added, among_last, both_true, grows_by, grows_on, port_fits, ranged, stays}
 use Rattle.bt_build.proofs.Sizes.{same_ok, went}
 
 -- ---- The ports that are written
