@@ -1,11 +1,9 @@
 -- A tree that is read is within the limits.
 use Rattle.std.proofs.Common.{◌≡◌, ℕ, zero, suc, ◌+◌, ◌≤◌, ◌<◌, Bool, true, false, List, [], ◌∷◌, ◌++◌, map, length, sum, codes, Option, Some, None, Result, Ok, Err, refl, ap, sym, ◌∙◌, subst, arith}
-use Rattle.std.specs.Prelude.{not, ◌&&◌, nat_eq, nat_le, if◌then◌else◌, IfOk}
+use Rattle.std.specs.Prelude.{not, ◌&&◌, nat_eq, nat_le, if◌then◌else◌}
 use Rattle.std.proofs.lemmas.Bool.{leb-true, leb-false}
 use Rattle.std.proofs.lemmas.List.Sums.{sum-map, sum_by-cons}
 use Rattle.bt_script.specs.Numbers.{greatest}
-use Rattle.bt_script.specs.Stops.{Gives}
-use Rattle.bt_script.specs.declared.stop.Stop.{Stop}
 use Rattle.bt_elements.specs.declared.element.Element.{Element}
 use Rattle.bt_model.specs.declared.term.Kind.{Kind}
 use Rattle.bt_model.specs.declared.term.Kind.TheVariants.{SubTree}
@@ -56,10 +54,10 @@ pub record AllSized (left : ℕ) (n m : Numbers) (ts : List Term) : Type 0 where
 abbrev pub Sizes : ℕ → Reader → Type 0
 Sizes left reader = (e : Element) (opened : List (List ℕ)) (n m : Numbers) (t : Term) → reader e opened n ≡ Ok (t, m) → Sized left n m t
 
-same_ok : {X : Type 0} (x y : X) → ◌≡◌ {A = Result X BuildFault} (Ok x) (Ok y) → x ≡ y
+pub same_ok : {X : Type 0} (x y : X) → ◌≡◌ {A = Result X BuildFault} (Ok x) (Ok y) → x ≡ y
 same_ok x y h = cc
 
-both_same : {A B : Type 0} (a c : A) (b d : B) → ◌≡◌ {A = Result (A × B) BuildFault} (Ok (a, b)) (Ok (c, d)) → (a ≡ c) × (b ≡ d)
+pub both_same : {A B : Type 0} (a c : A) (b d : B) → ◌≡◌ {A = Result (A × B) BuildFault} (Ok (a, b)) (Ok (c, d)) → (a ≡ c) × (b ≡ d)
 both_same {A} {B} a c b d h =
     let p = same_ok {X = A × B} (a, b) (c, d) h in (ap (λ (x : A × B). x.0) p, ap (λ (x : A × B). x.1) p)
 
@@ -208,7 +206,7 @@ of_named : (file : File) (o : Option (List ℕ)) (t : Tree) → named_read file 
 of_named file None t h = absurd (cc)
 of_named file (Some id) t h = of_main file id (tree_of id file.trees) t h
 
-faultless : (o : Option ℕ) (format : Bool) (r : Result Tree BuildFault) (t : Tree) → root_faults o format r ≡ Ok t → r ≡ Ok t
+pub faultless : (o : Option ℕ) (format : Bool) (r : Result Tree BuildFault) (t : Tree) → root_faults o format r ≡ Ok t → r ≡ Ok t
 faultless (Some place) format r t h = absurd (cc)
 faultless None format r t h = (not_refused (not format) Format r t h).1
 
@@ -219,7 +217,3 @@ reads_within models asked root t h =
     let read = go_on (trees_read models asked (attributes_of root)) trees in
     let w = went (trees_read models asked (attributes_of root)) trees t (faultless (not_root root) (says_format (value_of (codes "BTCPP_format") (attributes_of root))) read t h) in
     of_named (record { trees = w.0; models = models }) (main_of asked (attributes_of root) w.0) t w.2
-
-pub gives_within : (r : Result Tree (Stop BuildFault)) (models : Models) (asked : Option (List ℕ)) (root : Element) → Gives r (reads models asked root) → IfOk r IsWithinLimits
-gives_within (Ok t) models asked root h = reads_within models asked root t h
-gives_within (Err e) models asked root h = tt

@@ -1,5 +1,5 @@
 -- Every text reads as a script by the grammar, or has a fault.
-use Rattle.std.specs.Prelude.{◌≡◌, ℕ, ◌≤◌, ◌<◌, ◌⊎◌, List, [], ◌∷◌, ◌++◌, length, Bool, true, false, nat_le, Option, Some, None, Result, Ok, Err, refl}
+use Rattle.std.specs.Prelude.{◌≡◌, ℕ, ◌≤◌, ◌⊎◌, List, [], ◌∷◌, length, Bool, true, false, nat_le, Option, Some, None, refl}
 use Rattle.std.proofs.Common.{inl, inr, ap, ◌∙◌}
 use Rattle.std.proofs.lemmas.Bool.{leb-true, leb-false}
 use Rattle.bt_script.specs.declared.check.Verdict.{Verdict}
@@ -12,7 +12,7 @@ use Rattle.bt_script.specs.declared.syntax.Stmt.{Stmt}
 use Rattle.bt_script.specs.declared.token.Placed.{Placed}
 use Rattle.bt_script.specs.Grammar.{IsStmts, kept}
 use Rattle.bt_script.specs.Reading.{ReadsScript, StmtsFault, bare, high_stmt, token_fault, tokens_of}
-use Rattle.bt_script.specs.Spots.{Checked, Leads, LeadsNowhere, Spot, may_end, refused, run, step, then_spot}
+use Rattle.bt_script.specs.Spots.{Checked, Spot, may_end, refused, run, step, then_spot}
 use Rattle.bt_script.proofs.Readings.{script-clean, script-read, script-refused}
 
 -- what a text is: a script, or faulty

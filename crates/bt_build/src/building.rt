@@ -1,7 +1,7 @@
 ghost use Rattle.std.specs.Prelude.{◌≡◌, Ok, IfOk};
 ghost use Rattle.std.specs.Option.{option_copied};
 ghost use Rattle.bt_script.specs.Stops.{Gives};
-ghost use Rattle.bt_model.specs.Trees.{IsWithinLimits};
+ghost use Rattle.bt_model.specs.Trees.{IsValid};
 ghost use Rattle.bt_manifest.specs.Models.{manifest_in};
 ghost use Rattle.bt_build.specs.Reads.{main_of, main_read, most_levels, only_id, read_root, reads, root_read, tree_of, trees_read, within_work};
 ghost use Rattle.bt_build.specs.Seen.{file_seen, trees_seen};
@@ -164,7 +164,7 @@ pub fn build(
 ) -> Result<Tree, Stop<BuildFault>>
     requires { manifest_in elements.now.root ≡ Ok models.now }
     ensures reads { Gives result (reads models.now (option_copied main.entry) elements.now.root) }
-    ensures limits { IfOk result IsWithinLimits }
+    ensures valid { IfOk result IsValid }
 {
     file_read(alloc, &elements.root, models, main)
 }

@@ -1,11 +1,11 @@
-use Rattle.std.proofs.Common.{◌≡◌, ◌<◌, ℕ, length, Result, true, false, ap, sym, ◌∙◌, subst, arith}
+use Rattle.std.proofs.Common.{◌≡◌, ◌<◌, length, Result, ap, sym, ◌∙◌, subst, arith}
 use Rattle.std.proofs.lemmas.Bool.Decides.{nat_tests}
 use Rattle.std.proofs.lemmas.Result.{err_from_is_err_and}
 use Rattle.bt_script.specs.Stops.{Gives}
 use Rattle.bt_model.specs.declared.term.Term.{Term}
 use Rattle.bt_build.specs.declared.fault.BuildFault.{BuildFault}
 use Rattle.bt_build.specs.declared.tree.Numbers.{Numbers}
-use Rattle.bt_build.specs.Reads.{node_by, node_of, nodes_by, opened_by, read_node}
+use Rattle.bt_build.specs.Reads.{node_of, nodes_by, read_node}
 use Rattle.bt_build.specs.Seen.{file_seen, ids_seen}
 use Rattle.bt_build.proofs.Nodes.{behind_more, behind_fault}
 use Rattle.bt_build.proofs.Walk.{passed, read_some, node_plain, node_opened, node_fault}
