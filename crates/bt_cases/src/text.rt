@@ -51,7 +51,10 @@ fn a_tree(alloc: Global) -> Result<Tree, NoMemory> {
 
 /// A world of the facts `charge` and `door`, and of a row for `A`.
 fn a_world(alloc: Global) -> Result<World, NoMemory> {
-    match read_world(alloc, b"bt-world 1\nfact charge 0\nfact door 0\naction A(p,q) timed 5\n") {
+    match read_world(
+        alloc,
+        b"bt-world 1\nfact charge 0\nfact door 0\naction A(p,q) timed 5\n",
+    ) {
         Ok(world) => Ok(world),
         Err(_) => Err(NoMemory),
     }
@@ -238,7 +241,10 @@ fn entries_have_their_lines(rt: HostRuntime) -> Result<(), Fail> {
     let text = entry_text(alloc, 1, Value::Int(-7))?;
     assert_eq!(rt; text.as_str(), "Ok(()) tick 1 at 0\nboard 1 0 load -7\n");
     let text = entry_text(alloc, 2, Value::Text(quote))?;
-    assert_eq!(rt; text.as_str(), "Ok(()) tick 2 at 0\nboard 2 0 load 'it\\'s'\n");
+    assert_eq!(rt;
+        text.as_str(),
+        "Ok(()) tick 2 at 0\nboard 2 0 load 'it\\'s'\n"
+    );
     Ok(())
 }
 
