@@ -17,3 +17,5 @@ mod script;
 mod script_code;
 #[cfg(test)]
 mod text;
+#[cfg(test)]
+mod trees;
