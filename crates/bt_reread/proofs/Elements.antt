@@ -5,7 +5,8 @@ use Rattle.std.proofs.lemmas.Grind.{flat_map-append}
 use Rattle.std.proofs.lemmas.List.Folds.{concat-append, list_all-append}
 use Rattle.std.proofs.lemmas.Simd.{map-map}
 use Rattle.std.specs.List.{concat, flat_map, list_all, AllByRecursion}
-use Rattle.std.specs.Str.{IsUtf8}
+use Rattle.std.specs.Str.{IsUtf8, is_utf8}
+use Rattle.std.proofs.lemmas.Str.{IsUtf8-append, IsUtf8-from_is_utf8, IsUtf8-nil}
 use Rattle.bt_script.proofs.Bools.{both}
 use Rattle.bt_script.specs.Identifiers.{is_white}
 use Rattle.bt_elements.specs.declared.element.Element.{Element, Element-F, roll-Element, fold-roll-Element, ind-Element}
@@ -13,8 +14,9 @@ use Rattle.bt_elements.specs.Elements.{Tag, Begin, Ending, is_models, joined, ta
 use Rattle.bt_elements.specs.Marks.{Attribute as Written, Opening, Mark, Start, Empty, End, IsAttribute, IsOpening, attribute_written, opening_written, mark_written, pairs_of, is_name, is_not_zero, is_value_byte, no_name_twice}
 use Rattle.bt_elements.specs.References.{decoded}
 use Rattle.bt_model.specs.PrintedTree.{Attribute, Lines, attribute_text, deeper, element_lines, escaped_byte, indented, opening_text}
-use Rattle.bt_reread.specs.Printed.{lines_step, lines_of, unplaced_step, unplaced, can_stand, writes_step, can_be_written}
-use Rattle.bt_reread.proofs.Values.{value_says, value_stands}
+use Rattle.bt_reread.specs.Printed.{lines_step, lines_of, unplaced_step, unplaced, can_stand, name_stands, value_stands, writes_step, can_be_written}
+use Rattle.bt_reread.proofs.Utf8.{utf8_low, utf8_white, value_utf8}
+use Rattle.bt_reread.proofs.Values.{value_between, value_says}
 
 -- ---- Attributes and marks
 
@@ -40,16 +42,41 @@ attributes_valid : (attributes : List Attribute) → list_all can_stand attribut
 attributes_valid [] h = tt
 attributes_valid (a ∷ more) h =
     let t = both (can_stand a) (list_all can_stand more) h in
-    let one = both (is_name a.0) (list_all is_not_zero a.1) t.0 in
-    let valid : IsAttribute (written a) = record { gap = refl; apart = refl; name = one.0; before = refl; after = refl; quote = refl; value = value_stands a.1 one.1 } in
+    let one = both (name_stands a.0) (value_stands a.1) t.0 in
+    let name = both (is_name a.0) (is_utf8 a.0) one.0 in
+    let value = both (list_all is_not_zero a.1) (is_utf8 a.1) one.1 in
+    let valid : IsAttribute (written a) =
+    record { gap = refl; apart = refl; name = name.0; before = refl; after = refl; quote = refl; value = value_between a.1 value.0 } in
     (valid, attributes_valid more t.1)
 
 pairs_again : (attributes : List Attribute) → list_all can_stand attributes ≡ true → pairs_of (map written attributes) ≡ attributes
 pairs_again [] h = refl
 pairs_again (a ∷ more) h =
     let t = both (can_stand a) (list_all can_stand more) h in
-    let one = both (is_name a.0) (list_all is_not_zero a.1) t.0 in
-    ap (λ (v : List ℕ). (a.0, v) ∷ pairs_of (map written more)) (value_says a.1 one.1) ∙ ap (λ (z : List Attribute). a ∷ z) (pairs_again more t.1)
+    let one = both (name_stands a.0) (value_stands a.1) t.0 in
+    let value = both (list_all is_not_zero a.1) (is_utf8 a.1) one.1 in
+    ap (λ (v : List ℕ). (a.0, v) ∷ pairs_of (map written more)) (value_says a.1 value.0) ∙ ap (λ (z : List Attribute). a ∷ z) (pairs_again more t.1)
+
+attribute_utf8 : (a : Attribute) → can_stand a ≡ true → IsUtf8 (attribute_text a)
+attribute_utf8 a h =
+    let one = both (name_stands a.0) (value_stands a.1) h in
+    let name = both (is_name a.0) (is_utf8 a.0) one.0 in
+    let value = both (list_all is_not_zero a.1) (is_utf8 a.1) one.1 in
+    let before = IsUtf8-append (codes " ") a.0 (utf8_low (codes " ") refl) (IsUtf8-from_is_utf8 a.0 name.1) in
+    let equal = IsUtf8-append (codes " " ++ a.0) (codes "=\"") before (utf8_low (codes "=\"") refl) in
+    let said = IsUtf8-append (codes " " ++ a.0 ++ codes "=\"") (flat_map escaped_byte a.1) equal (value_utf8 a.1 (IsUtf8-from_is_utf8 a.1 value.1)) in
+    IsUtf8-append (codes " " ++ a.0 ++ codes "=\"" ++ flat_map escaped_byte a.1) (codes "\"") said (utf8_low (codes "\"") refl)
+
+attributes_utf8 : (attributes : List Attribute) → list_all can_stand attributes ≡ true → IsUtf8 (flat_map attribute_text attributes)
+attributes_utf8 [] h = IsUtf8-nil
+attributes_utf8 (a ∷ more) h =
+    let t = both (can_stand a) (list_all can_stand more) h in
+    IsUtf8-append (attribute_text a) (flat_map attribute_text more) (attribute_utf8 a t.0) (attributes_utf8 more t.1)
+
+line_utf8 : (blanks front name text back : List ℕ) → IsUtf8 blanks → IsUtf8 front → IsUtf8 name → IsUtf8 text → IsUtf8 back → IsUtf8 (indented blanks (front ++ (name ++ text) ++ back))
+line_utf8 blanks front name text back b f n t e =
+    let mark = IsUtf8-append (front ++ (name ++ text)) back (IsUtf8-append front (name ++ text) f (IsUtf8-append name text n t)) e in
+    IsUtf8-append (blanks ++ (front ++ (name ++ text) ++ back)) (codes "\n") (IsUtf8-append blanks (front ++ (name ++ text) ++ back) b mark) (utf8_low (codes "\n") refl)
 
 -- ---- White space
 
@@ -75,6 +102,7 @@ or_true false b h = h
 record Spelling (e : Element) (blanks before : List ℕ) : Type 0 where
   rest : List ℕ
   begins : concat (lines_of e blanks) ≡ blanks ++ 60 ∷ rest
+  utf8 : IsUtf8 (concat (lines_of e blanks))
   pieces : List Piece
   valid : AllByRecursion IsPiece pieces
   text : before ++ concat (lines_of e blanks) ≡ pieces_written pieces ++ 10 ∷ []
@@ -94,6 +122,7 @@ record Spellings (es : List Element) (blanks : List ℕ) : Type 0 where
   pieces : List Piece
   valid : AllByRecursion IsPiece pieces
   text : 10 ∷ texts_of es blanks ≡ pieces_written pieces ++ 10 ∷ []
+  utf8 : IsUtf8 (texts_of es blanks)
   placed : ℕ → List Element
   same : (at : ℕ) → map unplaced (placed at) ≡ map unplaced es
   deep : (at : ℕ) → map depth_of (placed at) ≡ map depth_of es
@@ -105,6 +134,7 @@ no_spellings blanks =
       pieces = [];
       valid = tt;
       text = refl;
+      utf8 = IsUtf8-nil;
       placed = λ at. [];
       same = λ at. refl;
       deep = λ at. refl;
@@ -134,6 +164,8 @@ more_spellings e es blanks s t =
           ∙ ap (λ (z : List ℕ). first ++ z) t.text
           ∙ sym (append_assoc first others (10 ∷ []))
           ∙ ap (λ (z : List ℕ). z ++ 10 ∷ []) (sym all);
+      utf8 =
+          subst IsUtf8 (sym (concat-append (lines_of e blanks) (flat_map (λ (below : Lines). below blanks) (map lines_of es)))) (IsUtf8-append one more s.utf8 t.utf8);
       placed = λ at. s.placed at ∷ t.placed (at + length first);
       same = λ at. ap (λ (z : Element). z ∷ map unplaced (t.placed (at + length first))) (s.same at) ∙ ap (λ (z : List Element). unplaced e ∷ z) (t.same (at + length first));
       deep = λ at. ap (λ (z : ℕ). z ∷ map depth_of (t.placed (at + length first))) (s.deep at) ∙ ap (λ (z : List ℕ). depth_of e ∷ z) (t.deep (at + length first));
@@ -182,6 +214,7 @@ empty_text before blanks text = simp (append_assoc, append-nil)
 
 record Form (name : List ℕ) (attributes : List Attribute) (blanks before : List ℕ) : Type 0 where
   named : is_name name ≡ true
+  spelt : IsUtf8 name
   stand : list_all can_stand attributes ≡ true
   single : no_name_twice attributes ≡ true
   white : list_all is_white blanks ≡ true
@@ -196,12 +229,17 @@ spell_empty name attributes place blanks before f =
     let text = opening_text name attributes in
     let p : Piece = record { text = before ++ blanks; mark = Empty o } in
     let white = white_both before blanks f.behind f.white in
-    let begins : concat (lines_of (rolled name attributes [] place) blanks) ≡ blanks ++ 60 ∷ ((text ++ codes "/>") ++ codes "\n") =
-    ap concat (lines_rolled (record { name = name; attributes = attributes; children = []; place = place }) blanks) 
-    ∙ append-nil (indented blanks (codes "<" ++ text ++ codes "/>")) ∙ empty_line blanks text in
+    let line : concat (lines_of (rolled name attributes [] place) blanks) ≡ indented blanks (codes "<" ++ text ++ codes "/>") =
+    ap concat (lines_rolled (record { name = name; attributes = attributes; children = []; place = place }) blanks)
+    ∙ append-nil (indented blanks (codes "<" ++ text ++ codes "/>")) in
+    let begins = line ∙ empty_line blanks text in
+    let utf8 =
+    line_utf8 blanks (codes "<") name (flat_map attribute_text attributes) (codes "/>") (utf8_white blanks f.white) (utf8_low (codes "<") refl) f.spelt
+        (attributes_utf8 attributes f.stand) (utf8_low (codes "/>") refl) in
     record {
       rest = (text ++ codes "/>") ++ codes "\n";
       begins = begins;
+      utf8 = subst IsUtf8 (sym line) utf8;
       pieces = p ∷ [];
       valid = (record { text = all_text (before ++ blanks) white; mark = opening_valid name attributes blanks before f }, tt);
       text =
@@ -261,10 +299,18 @@ spell_filled name attributes child children place blanks before f t =
     let white = white_both before blanks f.behind f.white in
     let ending = indented blanks (codes "</" ++ name ++ codes ">") in
     let rest = ((text ++ codes ">") ++ codes "\n") ++ (texts ++ ending) in
-    let begins : concat (lines_of (rolled name attributes (child ∷ children) place) blanks) ≡ blanks ++ 60 ∷ rest =
+    let start_line = indented blanks (codes "<" ++ text ++ codes ">") in
+    let lines : concat (lines_of (rolled name attributes (child ∷ children) place) blanks) ≡ start_line ++ (texts ++ ending) =
     ap concat (lines_rolled (record { name = name; attributes = attributes; children = child ∷ children; place = place }) blanks)
-    ∙ ap (λ (z : List ℕ). indented blanks (codes "<" ++ text ++ codes ">") ++ z) (end_rest (flat_map (λ (below : Lines). below (deeper blanks)) (map lines_of (child ∷ children))) ending)
-    ∙ start_rest blanks text (texts ++ ending) in
+    ∙ ap (λ (z : List ℕ). start_line ++ z) (end_rest (flat_map (λ (below : Lines). below (deeper blanks)) (map lines_of (child ∷ children))) ending) in
+    let begins = lines ∙ start_rest blanks text (texts ++ ending) in
+    let indentation = utf8_white blanks f.white in
+    let start_utf8 =
+    line_utf8 blanks (codes "<") name (flat_map attribute_text attributes) (codes ">") indentation (utf8_low (codes "<") refl) f.spelt (attributes_utf8 attributes f.stand)
+        (utf8_low (codes ">") refl) in
+    let end_utf8 : IsUtf8 ending =
+    subst (λ (z : List ℕ). IsUtf8 (indented blanks (codes "</" ++ z ++ codes ">"))) (append-nil name)
+    (line_utf8 blanks (codes "</") name [] (codes ">") indentation (utf8_low (codes "</") refl) f.spelt IsUtf8-nil (utf8_low (codes ">") refl)) in
     let first = piece_written p in
     let inner = pieces_written t.pieces in
     let last = piece_written q in
@@ -274,6 +320,7 @@ spell_filled name attributes child children place blanks before f t =
     record {
       rest = rest;
       begins = begins;
+      utf8 = subst IsUtf8 (sym lines) (IsUtf8-append start_line (texts ++ ending) start_utf8 (IsUtf8-append texts ending t.utf8 end_utf8));
       pieces = p ∷ (t.pieces ++ q ∷ []);
       valid = (
         record { text = all_text (before ++ blanks) white; mark = opening_valid name attributes blanks before f },
@@ -353,19 +400,20 @@ spell_node name attributes (e ∷ es) place blanks before f h =
 whole_spelled : (y : Element-F ((e : Element) × Spelled e)) → Spelled (roll-Element (parts y))
 whole_spelled y blanks before can white behind =
     let written = sym (fold-roll-Element Bool writes_step (parts y)) ∙ can in
-    let one = both (is_name y.name) (list_all can_stand y.attributes && (no_name_twice y.attributes && list_all (λ (child : Bool). child) (map can_be_written (bare y.children)))) written in
+    let one = both (name_stands y.name) (list_all can_stand y.attributes && (no_name_twice y.attributes && list_all (λ (child : Bool). child) (map can_be_written (bare y.children)))) written in
     let two = both (list_all can_stand y.attributes) (no_name_twice y.attributes && list_all (λ (child : Bool). child) (map can_be_written (bare y.children))) one.1 in
     let three = both (no_name_twice y.attributes) (list_all (λ (child : Bool). child) (map can_be_written (bare y.children))) two.1 in
-    spell_node y.name y.attributes y.children y.place blanks before (record { named = one.0; stand = two.0; single = three.0; white = white; behind = behind }) three.1
+    let name = both (is_name y.name) (is_utf8 y.name) one.0 in
+    spell_node y.name y.attributes y.children y.place blanks before (record { named = name.0; spelt = IsUtf8-from_is_utf8 y.name name.1; stand = two.0; single = three.0; white = white; behind = behind }) three.1
 
 spelled : (e : Element) → Spelled e
 spelled = ind-Element Spelled (λ x y is. subst (λ (z : Element-F Element). Spelled (roll-Element z)) is (whole_spelled y))
 
 -- the bytes of a printed element spell it, at the places that it has there
 pub element_spelled :
-    (e : Element) → can_be_written e ≡ true → depth_of e ≤ 258 → IsUtf8 (concat (lines_of e [])) →
+    (e : Element) → can_be_written e ≡ true → depth_of e ≤ 258 →
     (f : Element) × Spells (concat (lines_of e [])) f × (unplaced f ≡ unplaced e)
-element_spelled e can deep utf8 =
+element_spelled e can deep =
     let bytes = concat (lines_of e []) in
     let s = spelled e [] [] can refl refl in
     let unmarked : order_mark_len bytes ≡ 0 = ap order_mark_len s.begins in
@@ -377,7 +425,7 @@ element_spelled e can deep utf8 =
       record {
         pieces = s.pieces;
         last = 10 ∷ [];
-        utf8 = utf8;
+        utf8 = s.utf8;
         valid = s.valid;
         blank = refl;
         written = ap (λ (n : ℕ). drop n bytes) unmarked ∙ s.text;

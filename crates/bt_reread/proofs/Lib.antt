@@ -1,3 +1,4 @@
 pub mod Elements
 pub mod Trees
+pub mod Utf8
 pub mod Values

@@ -105,7 +105,7 @@ plain_says : (c : ℕ) (rest : List ℕ) → (c == 38) ≡ false → decoded (c 
 plain_says c rest h =
     ap (λ (t : Bool). if not t then c ∷ decoded_from 0 rest else (elim (reference_of rest) as (λ _. List ℕ) [ Some r ↦ encode_utf8 r.0 ++ decoded_from r.1 rest | None ↦ c ∷ decoded_from 0 rest ])) h
 
-abbrev escaped_by : ℕ → Bool → Bool → Bool → Bool → List ℕ
+abbrev pub escaped_by : ℕ → Bool → Bool → Bool → Bool → List ℕ
 escaped_by c ampersand less quote low =
     if ampersand then codes "&amp;"
     else if less then codes "&lt;"
@@ -161,9 +161,9 @@ byte_stands : (c : ℕ) → (c == 0) ≡ false → list_all (is_value_byte 34) (
 byte_stands c some = stands_by c (c == 38) (c == 60) (c == 34) (nat_lt c 32) some refl refl refl refl
 
 -- a printed value may stand between two `"`
-pub value_stands : (value : List ℕ) → list_all is_not_zero value ≡ true → list_all (is_value_byte 34) (flat_map escaped_byte value) ≡ true
-value_stands [] h = refl
-value_stands (c ∷ cs) h =
+pub value_between : (value : List ℕ) → list_all is_not_zero value ≡ true → list_all (is_value_byte 34) (flat_map escaped_byte value) ≡ true
+value_between [] h = refl
+value_between (c ∷ cs) h =
     let t = both (is_not_zero c) (list_all is_not_zero cs) h in
     list_all-append (is_value_byte 34) (escaped_byte c) (flat_map escaped_byte cs)
-    ∙ and_true (list_all (is_value_byte 34) (escaped_byte c)) (list_all (is_value_byte 34) (flat_map escaped_byte cs)) (byte_stands c (not_false (c == 0) t.0)) (value_stands cs t.1)
+    ∙ and_true (list_all (is_value_byte 34) (escaped_byte c)) (list_all (is_value_byte 34) (flat_map escaped_byte cs)) (byte_stands c (not_false (c == 0) t.0)) (value_between cs t.1)
