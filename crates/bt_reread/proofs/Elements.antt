@@ -1,5 +1,5 @@
 -- The bytes of a printed element spell it.
-use Rattle.std.proofs.Common.{◌≡◌, ℕ, ◌+◌, ◌≤◌, max, Bool, true, false, ◌&&◌, ◌||◌, not, ◌==◌, List, [], ◌∷◌, ◌++◌, map, length, drop, refl, ap, sym, ◌∙◌, subst, append_assoc, append-nil, arith, length-append, codes, IsTrue}
+use Rattle.std.proofs.Common.{◌≡◌, ℕ, ◌+◌, ◌≤◌, Bool, true, false, ◌&&◌, ◌||◌, List, [], ◌∷◌, ◌++◌, map, length, drop, refl, ap, sym, ◌∙◌, subst, append_assoc, append-nil, arith, length-append, codes}
 use Rattle.std.proofs.lemmas.Bool.Decides.{nat_tests}
 use Rattle.std.proofs.lemmas.Grind.{flat_map-append}
 use Rattle.std.proofs.lemmas.List.Folds.{concat-append, list_all-append}
@@ -10,9 +10,8 @@ use Rattle.std.proofs.lemmas.Str.{IsUtf8-append, IsUtf8-from_is_utf8, IsUtf8-nil
 use Rattle.bt_script.proofs.Bools.{both}
 use Rattle.bt_script.specs.Identifiers.{is_white}
 use Rattle.bt_elements.specs.declared.element.Element.{Element, Element-F, roll-Element, fold-roll-Element, ind-Element}
-use Rattle.bt_elements.specs.Elements.{Tag, Begin, Ending, is_models, joined, tags_step, tags_of, greatest, depth_step, depth_of, Piece, piece_written, pieces_written, is_text_byte, IsPiece, tags_of_mark, inside_before, HaveTags, order_mark_len, Spells}
-use Rattle.bt_elements.specs.Marks.{Attribute as Written, Opening, Mark, Start, Empty, End, IsAttribute, IsOpening, attribute_written, opening_written, mark_written, pairs_of, is_name, is_not_zero, is_value_byte, no_name_twice}
-use Rattle.bt_elements.specs.References.{decoded}
+use Rattle.bt_elements.specs.Elements.{Tag, Begin, Ending, is_models, joined, tags_step, tags_of, greatest, depth_step, depth_of, Piece, piece_written, pieces_written, is_text_byte, IsPiece, HaveTags, order_mark_len, Spells}
+use Rattle.bt_elements.specs.Marks.{Attribute as Written, Opening, Start, Empty, End, IsAttribute, IsOpening, attribute_written, opening_written, pairs_of, is_name, is_not_zero, no_name_twice}
 use Rattle.bt_model.specs.PrintedTree.{Attribute, Lines, attribute_text, deeper, element_lines, escaped_byte, indented, opening_text}
 use Rattle.bt_reread.specs.Printed.{lines_step, lines_of, unplaced_step, unplaced, can_stand, name_stands, value_stands, writes_step, can_be_written}
 use Rattle.bt_reread.proofs.Utf8.{utf8_low, utf8_white, value_utf8}
@@ -235,7 +234,7 @@ spell_empty name attributes place blanks before f =
     let begins = line ∙ empty_line blanks text in
     let utf8 =
     line_utf8 blanks (codes "<") name (flat_map attribute_text attributes) (codes "/>") (utf8_white blanks f.white) (utf8_low (codes "<") refl) f.spelt
-        (attributes_utf8 attributes f.stand) (utf8_low (codes "/>") refl) in
+    (attributes_utf8 attributes f.stand) (utf8_low (codes "/>") refl) in
     record {
       rest = (text ++ codes "/>") ++ codes "\n";
       begins = begins;
@@ -307,7 +306,7 @@ spell_filled name attributes child children place blanks before f t =
     let indentation = utf8_white blanks f.white in
     let start_utf8 =
     line_utf8 blanks (codes "<") name (flat_map attribute_text attributes) (codes ">") indentation (utf8_low (codes "<") refl) f.spelt (attributes_utf8 attributes f.stand)
-        (utf8_low (codes ">") refl) in
+    (utf8_low (codes ">") refl) in
     let end_utf8 : IsUtf8 ending =
     subst (λ (z : List ℕ). IsUtf8 (indented blanks (codes "</" ++ z ++ codes ">"))) (append-nil name)
     (line_utf8 blanks (codes "</") name [] (codes ">") indentation (utf8_low (codes "</") refl) f.spelt IsUtf8-nil (utf8_low (codes ">") refl)) in
@@ -419,8 +418,7 @@ element_spelled e can deep =
     let unmarked : order_mark_len bytes ≡ 0 = ap order_mark_len s.begins in
     let nested = s.nested 0 false [] [] refl in
     let f = s.placed 0 in
-    let depth : depth_of f ≤ 258 = omega (arith, deep, s.deep 0) in
-    (
+    let depth : depth_of f ≤ 258 = omega (arith, deep, s.deep 0) in (
       f,
       record {
         pieces = s.pieces;

@@ -1,5 +1,5 @@
 -- What is printed between two `"` says what it was printed of.
-use Rattle.std.proofs.Common.{◌≡◌, ℕ, zero, suc, ◌+◌, ◌<◌, ◌^◌, Bool, true, false, cond, ◌&&◌, not, ◌==◌, nat_lt, List, [], ◌∷◌, ◌++◌, length, take, drop, Option, Some, None, refl, ap, sym, ◌∙◌, subst, append_assoc, arith, length-append, if◌then◌else◌, codes, decimal}
+use Rattle.std.proofs.Common.{◌≡◌, ℕ, ◌+◌, ◌<◌, ◌^◌, Bool, true, false, ◌&&◌, not, ◌==◌, nat_lt, List, [], ◌∷◌, ◌++◌, length, take, drop, Option, Some, None, refl, ap, sym, ◌∙◌, append_assoc, arith, length-append, if◌then◌else◌, codes, decimal}
 use Rattle.std.proofs.lemmas.Bool.Decides.{nat_tests}
 use Rattle.std.proofs.lemmas.Fmt.{decimal_is_IsNumeral}
 use Rattle.std.proofs.lemmas.List.Folds.{list_all-append}
@@ -10,7 +10,7 @@ use Rattle.std.specs.List.{prefix_len, list_all, flat_map}
 use Rattle.std.specs.Str.Parse.{AllDigits, digits_value}
 use Rattle.bt_script.proofs.Bools.{both}
 use Rattle.bt_elements.specs.Marks.{is_not_zero, is_value_byte}
-use Rattle.bt_elements.specs.References.{begins_with, is_character, numeric, reference_of, is_plain_byte, decoded_from, decoded}
+use Rattle.bt_elements.specs.References.{begins_with, is_character, numeric, reference_of, decoded_from, decoded}
 use Rattle.bt_elements.proofs.Fronts.{eq_from_test, span_seam, taken_seam, left_seam}
 use Rattle.bt_elements.proofs.References.{decoded_past}
 use Rattle.bt_model.specs.PrintedTree.{escaped_byte}
