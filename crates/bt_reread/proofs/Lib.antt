@@ -1,3 +1,4 @@
+pub mod Depths
 pub mod Elements
 pub mod Trees
 pub mod Utf8

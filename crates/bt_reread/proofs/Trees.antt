@@ -1,5 +1,5 @@
 -- The lines of a printed tree are those of its element.
-use Rattle.std.proofs.Common.{◌≡◌, ◌≤◌, ℕ, Bool, ◌||◌, if◌then◌else◌, List, [], ◌∷◌, ◌++◌, map, refl, ap, sym, ◌∙◌, subst, codes, true, false}
+use Rattle.std.proofs.Common.{◌≡◌, ◌≤◌, ℕ, Bool, ◌||◌, if◌then◌else◌, List, [], ◌∷◌, ◌++◌, map, refl, ap, sym, ◌∙◌, subst, arith, codes, true, false}
 use Rattle.std.proofs.lemmas.List.{map-append}
 use Rattle.std.specs.List.{concat, flat_map, list_any}
 use Rattle.std.specs.Str.{bytes_eq}
@@ -9,7 +9,9 @@ use Rattle.bt_model.specs.declared.term.Kind.TheVariants.{SubTree}
 use Rattle.bt_model.specs.declared.term.Term.{Term, Term-F, roll-Term, fold-roll-Term, ind-Term}
 use Rattle.bt_model.specs.declared.term.Tree.{Tree}
 use Rattle.bt_model.specs.PrintedTree.{Attribute, Lines, Printed, WrittenTree, element_lines, element_name, node_attributes, opened_by, printed, printed_node, root_attributes, tree_element, tree_lines, trees_of, with_tree, with_trees, written_below}
-use Rattle.bt_elements.specs.Elements.{Spells, depth_of}
+use Rattle.bt_elements.specs.Elements.{Spells}
+use Rattle.bt_model.specs.Terms.{depth_of as term_depth}
+use Rattle.bt_reread.proofs.Depths.{tree_within}
 use Rattle.bt_reread.proofs.Elements.{element_spelled}
 use Rattle.bt_reread.specs.Printed.{can_be_written, lines_of, lines_step, unplaced}
 use Rattle.bt_reread.specs.TreeElements.{Said, Subtree, element, element_of, own_tree, said, said_node, subtree_element, subtrees_of, with_subtree, with_subtrees}
@@ -121,8 +123,8 @@ tree_shown tree =
 
 -- the bytes of a printed tree spell its element
 pub tree_spelled :
-    (tree : Tree) → can_be_written (element_of tree) ≡ true → depth_of (element_of tree) ≤ 258 →
+    (tree : Tree) → can_be_written (element_of tree) ≡ true → term_depth tree.term ≤ 256 →
     (f : Element) × Spells (concat (tree_lines tree)) f × (unplaced f ≡ unplaced (element_of tree))
 tree_spelled tree can deep =
     let e = element_of tree in
-    subst (λ (z : List (List ℕ)). (f : Element) × Spells (concat z) f × (unplaced f ≡ unplaced e)) (sym (tree_shown tree)) (element_spelled e can deep)
+    subst (λ (z : List (List ℕ)). (f : Element) × Spells (concat z) f × (unplaced f ≡ unplaced e)) (sym (tree_shown tree)) (element_spelled e can (omega (arith, deep, tree_within tree)))

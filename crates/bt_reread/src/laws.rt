@@ -5,6 +5,7 @@ ghost use Rattle.bt_elements.specs.Marks.{is_not_zero, is_value_byte};
 ghost use Rattle.bt_elements.specs.References.{decoded};
 ghost use Rattle.bt_elements.specs.declared.element.Element.{Element};
 ghost use Rattle.bt_model.specs.PrintedTree.{escaped_byte, tree_lines};
+ghost use Rattle.bt_model.specs.Terms.{depth_of as term_depth};
 ghost use Rattle.bt_model.specs.declared.term.Tree.{Tree};
 ghost use Rattle.bt_reread.specs.Printed.{can_be_written, lines_of, unplaced};
 ghost use Rattle.bt_reread.specs.TreeElements.{element_of};
@@ -22,8 +23,9 @@ pub fn printed_elements_read_back()
         → (f : Element) × Spells (concat (lines_of e [])) f × (unplaced f ≡ unplaced e) }
 {}
 
-/// The bytes that are printed of a tree spell its element, where this can be written.
+/// The bytes that are printed of a tree of the greatest depth or less spell its element, where this
+/// can be written.
 pub fn printed_trees_spell_their_elements()
-    ensures { (tree : Tree) → IsTrue (can_be_written (element_of tree)) → depth_of (element_of tree) ≤ 258
+    ensures { (tree : Tree) → IsTrue (can_be_written (element_of tree)) → term_depth tree.term ≤ 256
         → (f : Element) × Spells (concat (tree_lines tree)) f × (unplaced f ≡ unplaced (element_of tree)) }
 {}
