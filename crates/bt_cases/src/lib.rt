@@ -20,4 +20,6 @@ mod script_code;
 #[cfg(test)]
 mod text;
 #[cfg(test)]
+mod trees;
+#[cfg(test)]
 mod worlds;
