@@ -1,5 +1,7 @@
 pub mod Depths
 pub mod Elements
+pub mod Marks
 pub mod Trees
 pub mod Utf8
 pub mod Values
+pub mod Writable

@@ -121,10 +121,10 @@ tree_shown tree =
     ∙ ap (λ (ls : List Lines). element_lines (codes "root") (root_attributes tree) ls []) (elements_shown (subtrees_of tree))
     ∙ ap (λ (ls : Lines). ls []) (sym (lines_element (codes "root") (root_attributes tree) (map subtree_element (subtrees_of tree))))
 
--- the bytes of a printed tree spell its element
-pub tree_spelled :
+-- the bytes of a printed tree spell its element, where this can be written
+pub element_of_spelled :
     (tree : Tree) → can_be_written (element_of tree) ≡ true → term_depth tree.term ≤ 256 →
     (f : Element) × Spells (concat (tree_lines tree)) f × (unplaced f ≡ unplaced (element_of tree))
-tree_spelled tree can deep =
+element_of_spelled tree can deep =
     let e = element_of tree in
     subst (λ (z : List (List ℕ)). (f : Element) × Spells (concat z) f × (unplaced f ≡ unplaced e)) (sym (tree_shown tree)) (element_spelled e can (omega (arith, deep, tree_within tree)))

@@ -15,7 +15,7 @@ use Rattle.bt_reread.proofs.Values.{escaped_by}
 
 -- ---- ASCII
 
-abbrev is_low : ℕ → Bool
+abbrev pub is_low : ℕ → Bool
 is_low c = nat_lt c 128
 
 byte_utf8 : (c : ℕ) → c < 128 → IsUtf8 (c ∷ [])

@@ -20,7 +20,7 @@ use Rattle.bt_model.specs.PrintedTree.{escaped_byte}
 abbrev is_decimal : ℕ → Bool
 is_decimal c = is_digit c 10
 
-and_true : (a b : Bool) → a ≡ true → b ≡ true → (a && b) ≡ true
+pub and_true : (a b : Bool) → a ≡ true → b ≡ true → (a && b) ≡ true
 and_true true b p q = q
 and_true false b p q = p
 
