@@ -1,5 +1,13 @@
+pub mod ContentFits
+pub mod Fits
+pub mod HeadFits
+pub mod KindFits
 pub mod Nodes
+pub mod PortFits
+pub mod PortLists
 pub mod ScriptAnswers
+pub mod ScriptFits
+pub mod Sizes
 pub mod Tables
 pub mod Walk
 pub mod WorkLimits

@@ -1,5 +1,5 @@
 -- Every text reads as a script by the grammar, or has a fault.
-use Rattle.std.specs.Prelude.{◌≡◌, ℕ, ◌≤◌, ◌<◌, ◌⊎◌, List, [], ◌∷◌, ◌++◌, length, Bool, true, false, nat_le, Option, Some, None, Result, Ok, Err, refl}
+use Rattle.std.specs.Prelude.{◌≡◌, ℕ, ◌≤◌, ◌⊎◌, List, [], ◌∷◌, length, Bool, true, false, nat_le, Option, Some, None, refl}
 use Rattle.std.proofs.Common.{inl, inr, ap, ◌∙◌}
 use Rattle.std.proofs.lemmas.Bool.{leb-true, leb-false}
 use Rattle.bt_script.specs.declared.check.Verdict.{Verdict}
@@ -12,7 +12,7 @@ use Rattle.bt_script.specs.declared.syntax.Stmt.{Stmt}
 use Rattle.bt_script.specs.declared.token.Placed.{Placed}
 use Rattle.bt_script.specs.Grammar.{IsStmts, kept}
 use Rattle.bt_script.specs.Reading.{ReadsScript, StmtsFault, bare, high_stmt, token_fault, tokens_of}
-use Rattle.bt_script.specs.Spots.{Checked, Leads, LeadsNowhere, Spot, may_end, refused, run, step, then_spot}
+use Rattle.bt_script.specs.Spots.{Checked, Spot, may_end, refused, run, step, then_spot}
 use Rattle.bt_script.proofs.Readings.{script-clean, script-read, script-refused}
 
 -- what a text is: a script, or faulty
@@ -32,15 +32,18 @@ led_on s u t ts h o k = ap (λ (x : Option Spot). then_spot x (run (bare ts))) h
 behind : (s u : Spot) (t : Placed) (ts : List Placed) → step s t.token ≡ Some u → Found u ts → Found s (t ∷ ts)
 behind s u t ts h (verdict.Whole, l) = (verdict.Whole, record { spot = l.spot; led = led_on s u t ts h (Some l.spot) l.led; ends = l.ends })
 behind s u t ts h (verdict.Unfinished, l) = (verdict.Unfinished, record { spot = l.spot; led = led_on s u t ts h (Some l.spot) l.led; ends = l.ends })
-behind s u t ts h (verdict.Stuck place, l) = (verdict.Stuck place, record {
-  front = t ∷ l.front;
-  token = l.token;
-  rest = l.rest;
-  spot = l.spot;
-  at = ap (λ (x : List Placed). t ∷ x) l.at;
-  led = led_on s u t l.front h (Some l.spot) l.led;
-  stuck = l.stuck;
-})
+behind s u t ts h (verdict.Stuck place, l) = (
+  verdict.Stuck place,
+  record {
+    front = t ∷ l.front;
+    token = l.token;
+    rest = l.rest;
+    spot = l.spot;
+    at = ap (λ (x : List Placed). t ∷ x) l.at;
+    led = led_on s u t l.front h (Some l.spot) l.led;
+    stuck = l.stuck;
+  },
+)
 
 next : (s : Spot) (t : Placed) (ts : List Placed) → ((u : Spot) → Found u ts) → (o : Option Spot) → step s t.token ≡ o → Found s (t ∷ ts)
 next s t ts rest None h = (verdict.Stuck t.place, record { front = []; token = t.token; rest = ts; spot = s; at = refl; led = refl; stuck = h })

@@ -1,12 +1,11 @@
 -- The tree that the document element of a tree file reads as, or the first fault.
-use Rattle.std.specs.Prelude.{ℕ, zero, suc, ◌+◌, List, [], ◌∷◌, ◌++◌, length, map, codes, Bool, true, false, not, is_some, ◌&&◌, ◌||◌, nat_eq, nat_le, if◌then◌else◌, Option, Some, None, unwrap_or, Result, Ok, Err}
-use Rattle.std.specs.List.{list_any}
+use Rattle.std.specs.Prelude.{ℕ, zero, suc, ◌+◌, List, [], ◌∷◌, ◌++◌, length, codes, Bool, true, false, not, is_some, ◌&&◌, ◌||◌, nat_eq, nat_le, if◌then◌else◌, Option, Some, None, unwrap_or, Result, Ok, Err}
 use Rattle.std.specs.Map.{lookup}
 use Rattle.std.specs.Str.{bytes_eq}
 use Rattle.bt_elements.specs.declared.element.Element.{Element}
 use Rattle.bt_model.specs.declared.term.Kind.{Kind}
 use Rattle.bt_model.specs.declared.term.Kind.TheVariants.{SubTree}
-use Rattle.bt_model.specs.declared.term.Term.{Term, roll-Term}
+use Rattle.bt_model.specs.declared.term.Term.{Term, Term-F, roll-Term}
 use Rattle.bt_model.specs.declared.term.Tree.{Tree}
 use Rattle.bt_model.specs.BuiltIns.{takes}
 use Rattle.bt_model.specs.Names.{is_among}
@@ -64,8 +63,8 @@ abbrev pub name_in : Attributes → List ℕ → List ℕ
 name_in attributes id = unwrap_or (value_of (codes "name") attributes) id
 
 -- a node of all that was read
-abbrev pub term_of : Head → Attributes → Content → List Term → Term
-term_of head attributes content children = roll-Term (record {
+abbrev pub node_in : Head → Attributes → Content → List Term → Term-F Term
+node_in head attributes content children = record {
   kind = head.kind;
   id = head.id;
   name = name_in attributes head.id;
@@ -74,7 +73,10 @@ term_of head attributes content children = roll-Term (record {
   guards = content.guards;
   autoremap = content.autoremap;
   children = children;
-})
+}
+
+abbrev pub term_of : Head → Attributes → Content → List Term → Term
+term_of head attributes content children = roll-Term (node_in head attributes content children)
 
 abbrev pub node_with : Head → Attributes → Content → List Term × Numbers → Result (Term × Numbers) BuildFault
 node_with head attributes content below = Ok (term_of head attributes content below.0, below.1)

@@ -1,6 +1,7 @@
-ghost use Rattle.std.specs.Prelude.{◌≡◌, Ok};
+ghost use Rattle.std.specs.Prelude.{◌≡◌, Ok, IfOk};
 ghost use Rattle.std.specs.Option.{option_copied};
 ghost use Rattle.bt_script.specs.Stops.{Gives};
+ghost use Rattle.bt_model.specs.Trees.{IsValid};
 ghost use Rattle.bt_manifest.specs.Models.{manifest_in};
 ghost use Rattle.bt_build.specs.Reads.{main_of, main_read, most_levels, only_id, read_root, reads, root_read, tree_of, trees_read, within_work};
 ghost use Rattle.bt_build.specs.Seen.{file_seen, trees_seen};
@@ -66,7 +67,10 @@ fn read_root(
 ) -> Result<(Term, Numbers), Stop<BuildFault>>
     ensures { Gives result (read_root (file_seen file.now) root.now id.now) }
 {
-    let numbers = Numbers { nodes: 0, scopes: 1 };
+    let numbers = Numbers {
+        nodes: 0,
+        scopes: 1,
+    };
     let opened = [id];
     read_node(alloc, file, most_levels(), root, opened.as_slice(), numbers)
 }
@@ -130,18 +134,15 @@ fn trees_read(
     }
 }
 
-/// The tree that the elements of a file read as, with the main tree that is asked for, or the first
-/// fault.
-pub fn build(
+/// The tree that the elements of a file read as, or the first fault.
+fn file_read(
     alloc: Global,
-    elements: &Elements,
+    root: &Element,
     models: &Manifest,
-    main: Option<&Name>,
+    asked: Option<&Name>,
 ) -> Result<Tree, Stop<BuildFault>>
-    requires { manifest_in elements.now.root ≡ Ok models.now }
-    ensures reads { Gives result (reads models.now (option_copied main.entry) elements.now.root) }
+    ensures { Gives result (reads models.now (option_copied asked.entry) root.now) }
 {
-    let root = &elements.root;
     let attributes = root.attributes.list();
     if let Some(place) = not_root(root) {
         return Err(Stop::Fault(BuildFault::NotRoot { place }));
@@ -150,5 +151,20 @@ pub fn build(
         return Err(Stop::Fault(BuildFault::Format));
     }
     let trees = trees_of(alloc, root.children.list())?;
-    trees_read(alloc, models, main, attributes, trees)
+    trees_read(alloc, models, asked, attributes, trees)
+}
+
+/// The tree that the elements of a file read as, with the main tree that is asked for, or the first
+/// fault. The models are those of the file.
+pub fn build(
+    alloc: Global,
+    elements: &Elements,
+    models: &Manifest,
+    main: Option<&Name>,
+) -> Result<Tree, Stop<BuildFault>>
+    requires { manifest_in elements.now.root ≡ Ok models.now }
+    ensures reads { Gives result (reads models.now (option_copied main.entry) elements.now.root) }
+    ensures valid { IfOk result IsValid }
+{
+    file_read(alloc, &elements.root, models, main)
 }

@@ -25,7 +25,11 @@ pub struct Content {
 }
 
 /// The script of the text, if there is one.
-fn script_of(alloc: Global, uid: u32, text: Option<&Name>) -> Result<Option<Script>, Stop<BuildFault>>
+fn script_of(
+    alloc: Global,
+    uid: u32,
+    text: Option<&Name>,
+) -> Result<Option<Script>, Stop<BuildFault>>
     ensures { Gives result (script_of uid (option_copied text.entry)) }
 {
     let Some(text) = text else {
@@ -51,7 +55,11 @@ fn guard_in(
 }
 
 /// The guards of a node.
-fn guards_in(alloc: Global, uid: u32, attributes: &[(Name, Name)]) -> Result<Guards, Stop<BuildFault>>
+fn guards_in(
+    alloc: Global,
+    uid: u32,
+    attributes: &[(Name, Name)],
+) -> Result<Guards, Stop<BuildFault>>
     ensures { Gives result (guards_in uid attributes.now) }
 {
     let failure_if = guard_in(alloc, uid, attributes, b"_failureIf")?;

@@ -179,7 +179,17 @@ fn opened_by(
         scopes: numbers.scopes + 1,
     };
     let attributes = element.attributes.list();
-    node_of(alloc, file, left, head, attributes, inner.as_slice(), roots, numbers, uid)
+    node_of(
+        alloc,
+        file,
+        left,
+        head,
+        attributes,
+        inner.as_slice(),
+        roots,
+        numbers,
+        uid,
+    )
 }
 
 /// A node by its kind.
@@ -209,7 +219,9 @@ fn node_by(
         scopes: numbers.scopes,
     };
     let attributes = element.attributes.list();
-    node_of(alloc, file, left, head, attributes, opened, children, numbers, uid)
+    node_of(
+        alloc, file, left, head, attributes, opened, children, numbers, uid,
+    )
 }
 
 /// A node, where so many levels are left for it and for all below it.

@@ -10,13 +10,7 @@ fn turns_given(value: &PortValue) -> u64
 {
     match value {
         PortValue::Key(_) => 1000,
-        PortValue::Lit(Value::Int(n)) => {
-            if *n == -1 {
-                1
-            } else {
-                n.unsigned_abs()
-            }
-        }
+        PortValue::Lit(Value::Int(n)) => { if *n == -1 { 1 } else { n.unsigned_abs() } }
         PortValue::Lit(Value::Text(_)) => 1,
     }
 }

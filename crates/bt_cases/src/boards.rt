@@ -94,7 +94,14 @@ fn a_tree(alloc: Global, text: &str) -> Result<Tree, NoMemory> {
         }
         children.push(term)?;
     }
-    let term = node(alloc, Kind::Sequence, Vec::new(alloc), None, false, children)?;
+    let term = node(
+        alloc,
+        Kind::Sequence,
+        Vec::new(alloc),
+        None,
+        false,
+        children,
+    )?;
     let main = name(alloc, "M")?;
     Ok(Tree { main, term })
 }
@@ -145,7 +152,8 @@ fn cells_are_in_order(rt: HostRuntime) -> Result<(), Fail> {
 }
 
 /// The tree of the last row above.
-const MIXED: &str = "b := 5; c := 1; _p := 9\na={b} d={b} lit=7 *|a := a + 1; c := 2; _p := 3; m := d";
+const MIXED: &str =
+    "b := 5; c := 1; _p := 9\na={b} d={b} lit=7 *|a := a + 1; c := 2; _p := 3; m := d";
 
 #[test]
 fn names_have_the_slots_of_their_cells(rt: HostRuntime) -> Result<(), Fail> {
@@ -180,7 +188,10 @@ fn boards_begin_with_literals(rt: HostRuntime) -> Result<(), Fail> {
     for (text, want) in [
         ("x := 1", "None "),
         ("a=7|x := a", "Some(Int(7)) None "),
-        ("a={b} c=2|c := b\nc=-3 *|x := c", "None None Some(Int(2)) None Some(Int(-3)) "),
+        (
+            "a={b} c=2|c := b\nc=-3 *|x := c",
+            "None None None Some(Int(2)) Some(Int(-3)) ",
+        ),
     ] {
         let tree = a_tree(alloc, text)?;
         let slots = slots_of(alloc, &tree)?;

@@ -144,7 +144,11 @@ fn files(rt: HostRuntime) -> Result<(), Fail> {
             None,
             ": Leaf X X",
         ),
-        ("<root BTCPP_format=\"4\"><BehaviorTree ID=\"M\"/></root>", None, "ChildCount 0"),
+        (
+            "<root BTCPP_format=\"4\"><BehaviorTree ID=\"M\"/></root>",
+            None,
+            "ChildCount 0",
+        ),
         (
             "<root BTCPP_format=\"4\"><BehaviorTree ID=\"M\"><SubTree ID=\"M\"/></BehaviorTree></root>",
             None,
@@ -176,7 +180,11 @@ fn files(rt: HostRuntime) -> Result<(), Fail> {
             "BadLiteral 1",
         ),
     ] {
-        assert_eq!(rt; file_text(alloc, file.as_bytes(), main)?.as_str(), wanted, "{file}");
+        assert_eq!(rt;
+            file_text(alloc, file.as_bytes(), main)?.as_str(),
+            wanted,
+            "{file}"
+        );
     }
     Ok(())
 }
@@ -186,13 +194,25 @@ fn nodes(rt: HostRuntime) -> Result<(), Fail> {
     let alloc = rt.alloc();
     for (node, wanted) in [
         ("<Sequence/>", "ChildCount 1"),
-        ("<Control ID=\"Sequence\" name=\"s\"><A/></Control>", "M: Sequence Sequence s (Leaf A A)"),
-        ("<Decorator ID=\"Sequence\"><A/></Decorator>", "UnknownNode 1"),
-        ("<Sequence ID=\"X\"><A/></Sequence>", "M: Sequence Sequence Sequence (Leaf A A)"),
+        (
+            "<Control ID=\"Sequence\" name=\"s\"><A/></Control>",
+            "M: Sequence Sequence s (Leaf A A)",
+        ),
+        (
+            "<Decorator ID=\"Sequence\"><A/></Decorator>",
+            "UnknownNode 1",
+        ),
+        (
+            "<Sequence ID=\"X\"><A/></Sequence>",
+            "M: Sequence Sequence Sequence (Leaf A A)",
+        ),
         ("<Sequence x=\"1\"><A/></Sequence>", "UnknownPort 1"),
         ("<Action/>", "UnknownNode 1"),
         ("<Action ID=\"root\"/>", "M: Leaf root root"),
-        ("<Condition ID=\"A\" name=\"n\" p=\"{q}\"/>", "M: Leaf A n p={q}"),
+        (
+            "<Condition ID=\"A\" name=\"n\" p=\"{q}\"/>",
+            "M: Leaf A n p={q}",
+        ),
         ("<Action ID=\"A\"><B/></Action>", "UnknownNode 1"),
         ("<Action ID=\"AlwaysSuccess\"><B/></Action>", "ChildCount 1"),
         ("<Control ID=\"A\"/>", "UnknownNode 1"),
@@ -200,35 +220,91 @@ fn nodes(rt: HostRuntime) -> Result<(), Fail> {
         ("<A><B/></A>", "UnknownNode 1"),
         ("<N x=\"{}\"/>", "BadLiteral 1"),
         ("<N x=\"{a b}\"/>", "BadLiteral 1"),
-        ("<N a.b=\"{=}\"/>", "BadLiteral 1"),
-        ("<N x=\"-0\" y=\"-7\" z=\"9223372036854775808\"/>", "M: Leaf N N x='-0' y=-7 z='9223372036854775808'"),
-        ("<Parallel failure_count=\"{f}\"><A/></Parallel>", "M: Parallel Parallel Parallel failure_count={f} success_count=-1 (Leaf A A)"),
-        ("<Switch2 variable=\"{v}\" case_2=\"b\" case_1=\"1\"><A/><B/><C/></Switch2>", "M: Switch(2) Switch2 Switch2 variable={v} case_2='b' case_1=1 (Leaf A A) (Leaf B B) (Leaf C C)"),
-        ("<Switch2 variable=\"{v}\" case_1=\"1\"><A/><B/><C/></Switch2>", "BadLiteral 1"),
-        ("<Switch2 case_3=\"c\"><A/><B/><C/></Switch2>", "UnknownPort 1"),
-        ("<Switch2 variable=\"\" case_1=\"\" case_2=\"\"><A/><B/></Switch2>", "ChildCount 1"),
+        (
+            "<N x=\"-0\" y=\"-7\" z=\"9223372036854775808\"/>",
+            "M: Leaf N N x='-0' y=-7 z='9223372036854775808'",
+        ),
+        (
+            "<Parallel failure_count=\"{f}\"><A/></Parallel>",
+            "M: Parallel Parallel Parallel failure_count={f} success_count=-1 (Leaf A A)",
+        ),
+        (
+            "<Switch2 variable=\"{v}\" case_2=\"b\" case_1=\"1\"><A/><B/><C/></Switch2>",
+            "M: Switch(2) Switch2 Switch2 variable={v} case_2='b' case_1=1 (Leaf A A) (Leaf B B) (Leaf C C)",
+        ),
+        (
+            "<Switch2 variable=\"{v}\" case_1=\"1\"><A/><B/><C/></Switch2>",
+            "BadLiteral 1",
+        ),
+        (
+            "<Switch2 case_3=\"c\"><A/><B/><C/></Switch2>",
+            "UnknownPort 1",
+        ),
+        (
+            "<Switch2 variable=\"\" case_1=\"\" case_2=\"\"><A/><B/></Switch2>",
+            "ChildCount 1",
+        ),
         ("<IfThenElse><A/></IfThenElse>", "ChildCount 1"),
-        ("<RetryUntilSuccessful num_attempts=\"0\"><A/></RetryUntilSuccessful>", "BadLiteral 1"),
-        ("<RetryUntilSuccessful num_attempts=\"-1\"><A/></RetryUntilSuccessful>", "M: Retry RetryUntilSuccessful RetryUntilSuccessful num_attempts=-1 (Leaf A A)"),
+        (
+            "<RetryUntilSuccessful num_attempts=\"0\"><A/></RetryUntilSuccessful>",
+            "BadLiteral 1",
+        ),
+        (
+            "<RetryUntilSuccessful num_attempts=\"-1\"><A/></RetryUntilSuccessful>",
+            "M: Retry RetryUntilSuccessful RetryUntilSuccessful num_attempts=-1 (Leaf A A)",
+        ),
         ("<Repeat num_cycles=\"1001\"><A/></Repeat>", "BadLiteral 1"),
-        ("<Timeout msec=\"4294967296\"><A/></Timeout>", "BadLiteral 1"),
+        (
+            "<Timeout msec=\"4294967296\"><A/></Timeout>",
+            "BadLiteral 1",
+        ),
         ("<Delay><A/></Delay>", "BadLiteral 1"),
-        ("<RunOnce><A/></RunOnce>", "M: RunOnce RunOnce RunOnce then_skip='true' (Leaf A A)"),
+        (
+            "<RunOnce><A/></RunOnce>",
+            "M: RunOnce RunOnce RunOnce then_skip='true' (Leaf A A)",
+        ),
         ("<RunOnce then_skip=\"2\"><A/></RunOnce>", "BadLiteral 1"),
         ("<Script/>", "BadLiteral 1"),
-        ("<Script code=\"x:=1; y=2\"/>", "M: ScriptNode Script Script code:2"),
-        ("<Script code=\"1.5\" _post=\"(\"/>", "BadScript 1 RealNumber { place: 0 }"),
-        ("<ScriptCondition code=\"x\" _while=\"x\" _skipIf=\"1;2\"/>", "M: ScriptCondition ScriptCondition ScriptCondition code:1 skip_if:2 while_true:1"),
-        ("<A _onHalted=\")\" _failureIf=\"\"/>", "BadScript 1 Syntax { place: 0 }"),
-        ("<A _post=\"1.5\" _while=\"(\"/>", "BadScript 1 Syntax { place: 1 }"),
+        (
+            "<Script code=\"x:=1; y=2\"/>",
+            "M: ScriptNode Script Script code:2",
+        ),
+        (
+            "<Script code=\"1.5\" _post=\"(\"/>",
+            "BadScript 1 RealNumber { place: 0 }",
+        ),
+        (
+            "<ScriptCondition code=\"x\" _while=\"x\" _skipIf=\"1;2\"/>",
+            "M: ScriptCondition ScriptCondition ScriptCondition code:1 skip_if:2 while_true:1",
+        ),
+        (
+            "<A _onHalted=\")\" _failureIf=\"\"/>",
+            "BadScript 1 Syntax { place: 0 }",
+        ),
+        (
+            "<A _post=\"1.5\" _while=\"(\"/>",
+            "BadScript 1 Syntax { place: 1 }",
+        ),
         ("<Script x=\"{}\"/>", "UnknownPort 1"),
         ("<N x=\"{}\" _post=\"(\"/>", "BadLiteral 1"),
-        ("<SubTree ID=\"S\" a.b=\"{}\"/>", "NoTree 'S'"),
-        ("<Repeat num_cycles=\"1000\"><Repeat num_cycles=\"{k}\"><A/></Repeat></Repeat>", "TooMuchWork"),
-        ("<Sequence><A/><Inverter><B x=\"{}\"/></Inverter><Sequence/></Sequence>", "BadLiteral 4"),
+        ("<SubTree ID=\"S\" x=\"{}\"/>", "NoTree 'S'"),
+        (
+            "<Repeat num_cycles=\"1000\"><Repeat num_cycles=\"{k}\"><A/></Repeat></Repeat>",
+            "TooMuchWork",
+        ),
+        (
+            "<Sequence><A/><Inverter><B x=\"{}\"/></Inverter><Sequence/></Sequence>",
+            "BadLiteral 4",
+        ),
     ] {
-        let file = format!(in alloc; "<root BTCPP_format=\"4\"><BehaviorTree ID=\"M\">{node}</BehaviorTree></root>")?;
-        assert_eq!(rt; file_text(alloc, file.as_bytes(), None)?.as_str(), wanted, "{node}");
+        let file = format!(in alloc;
+            "<root BTCPP_format=\"4\"><BehaviorTree ID=\"M\">{node}</BehaviorTree></root>"
+        )?;
+        assert_eq!(rt;
+            file_text(alloc, file.as_bytes(), None)?.as_str(),
+            wanted,
+            "{node}"
+        );
     }
     Ok(())
 }

@@ -6,6 +6,8 @@ mod boards;
 #[cfg(test)]
 mod build;
 #[cfg(test)]
+mod elements;
+#[cfg(test)]
 mod manifest;
 #[cfg(test)]
 mod moves;
@@ -17,5 +19,7 @@ mod script;
 mod script_code;
 #[cfg(test)]
 mod text;
+#[cfg(test)]
+mod trees;
 #[cfg(test)]
 mod worlds;

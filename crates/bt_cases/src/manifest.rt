@@ -35,8 +35,12 @@ fn file_text(alloc: Global, file: &[u8]) -> Result<String, AllocError> {
     let id = Name::of(Vec::from_slice(alloc, b"A")?);
     match manifest_of(alloc, &elements) {
         Ok(models) => model_text(alloc, model(&models, &id)),
-        Err(Stop::Fault(ManifestFault::DoubleModel { place })) => format!(in alloc; "DoubleModel {place}"),
-        Err(Stop::Fault(ManifestFault::BadModel { place })) => format!(in alloc; "BadModel {place}"),
+        Err(Stop::Fault(ManifestFault::DoubleModel { place })) => format!(in alloc;
+            "DoubleModel {place}"
+        ),
+        Err(Stop::Fault(ManifestFault::BadModel { place })) => format!(in alloc;
+            "BadModel {place}"
+        ),
         Err(Stop::NoMemory) => format!(in alloc; "no memory"),
     }
 }
@@ -46,9 +50,18 @@ fn files(rt: HostRuntime) -> Result<(), Fail> {
     let alloc = rt.alloc();
     for (file, wanted) in [
         ("<root/>", "none"),
-        ("<x><TreeNodesModel/><TreeNodesModel/></x>", "DoubleModel 20"),
-        ("<x><TreeNodesModel><Action/></TreeNodesModel></x>", "BadModel 19"),
-        ("<x><TreeNodesModel><Control/><Action ID=\"A\"/></TreeNodesModel></x>", "A"),
+        (
+            "<x><TreeNodesModel/><TreeNodesModel/></x>",
+            "DoubleModel 20",
+        ),
+        (
+            "<x><TreeNodesModel><Action/></TreeNodesModel></x>",
+            "BadModel 19",
+        ),
+        (
+            "<x><TreeNodesModel><Control/><Action ID=\"A\"/></TreeNodesModel></x>",
+            "A",
+        ),
         (
             "<x><TreeNodesModel><Action ID=\"A\"><input_port name=\"p\"/><output_port name=\"q\" default=\"3\"/><inout_port name=\"r\" default=\"\"/><other/></Action></TreeNodesModel></x>",
             "A p q='3' r=''",
@@ -57,14 +70,17 @@ fn files(rt: HostRuntime) -> Result<(), Fail> {
             "<x><TreeNodesModel><Action ID=\"A\"><input_port name=\"name\"/><input_port name=\"_p\"/><input_port name=\"1\"/><input_port name=\"ID\"/><input_port name=\"a.b\"/></Action></TreeNodesModel></x>",
             "A a.b",
         ),
-        ("<x><TreeNodesModel><Action ID=\"A\"><input_port/></Action></TreeNodesModel></x>", "BadModel 34"),
+        (
+            "<x><TreeNodesModel><Action ID=\"A\"><input_port/></Action></TreeNodesModel></x>",
+            "BadModel 34",
+        ),
         (
             "<x><TreeNodesModel><Action ID=\"A\"><input_port name=\"p\"/><output_port name=\"p\"/></Action></TreeNodesModel></x>",
-            "BadModel 55",
+            "BadModel 56",
         ),
         (
             "<x><TreeNodesModel><Action ID=\"A\"><input_port name=\"\"/><output_port name=\"\"/></Action></TreeNodesModel></x>",
-            "BadModel 54",
+            "BadModel 55",
         ),
         (
             "<x><TreeNodesModel><Action ID=\"A\"/><Condition ID=\"A\"><input_port/></Condition></TreeNodesModel></x>",
@@ -83,7 +99,11 @@ fn files(rt: HostRuntime) -> Result<(), Fail> {
             "none",
         ),
     ] {
-        assert_eq!(rt; file_text(alloc, file.as_bytes())?.as_str(), wanted, "{file}");
+        assert_eq!(rt;
+            file_text(alloc, file.as_bytes())?.as_str(),
+            wanted,
+            "{file}"
+        );
     }
     Ok(())
 }

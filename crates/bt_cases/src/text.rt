@@ -1,10 +1,12 @@
 //! The lines of blocks, and texts in quotes.
 
+use bt_board::slots_of;
 use bt_model::{
-    Answer, Block, Cause, Guards, Header, Kind, Note, PortId, Status, Term, Tree, World,
+    Answer, Block, Cause, Guards, Header, Kind, Note, Port, PortId, PortValue, Status, Term, Tree,
+    World,
 };
 use bt_outside::{MemSink, SureSink};
-use bt_script::{Items, Name, NoMemory};
+use bt_script::{Items, Name, NoMemory, Txt, Value};
 use bt_text::{
     Names, TextStop, names_of, put_number, put_quoted, put_signed, write_block, write_line,
 };
@@ -12,7 +14,11 @@ use bt_world::read_world;
 use std::alloc::Global;
 use std::test::Fail;
 
-/// A tree of one leaf.
+fn a_name(alloc: Global, text: &str) -> Result<Name, NoMemory> {
+    Ok(Name::of(Vec::from_slice(alloc, text.as_bytes())?))
+}
+
+/// A tree of one leaf `A`, of which a port names the key `load`.
 fn a_tree(alloc: Global) -> Result<Tree, NoMemory> {
     let guards = Guards {
         failure_if: None,
@@ -24,11 +30,16 @@ fn a_tree(alloc: Global) -> Result<Tree, NoMemory> {
         post: None,
         on_halted: None,
     };
+    let mut ports = Vec::new(alloc);
+    ports.push(Port {
+        name: a_name(alloc, "p")?,
+        value: PortValue::Key(a_name(alloc, "load")?),
+    })?;
     let term = Term {
         kind: Kind::Leaf,
-        id: Name::of(Vec::new(alloc)),
-        name: Name::of(Vec::new(alloc)),
-        ports: Items::of(Vec::new(alloc)),
+        id: a_name(alloc, "A")?,
+        name: a_name(alloc, "A")?,
+        ports: Items::of(ports),
         code: None,
         guards,
         autoremap: false,
@@ -38,16 +49,21 @@ fn a_tree(alloc: Global) -> Result<Tree, NoMemory> {
     Ok(Tree { main, term })
 }
 
-/// A world of the facts `charge` and `door`.
+/// A world of the facts `charge` and `door`, and of a row for `A`.
 fn a_world(alloc: Global) -> Result<World, NoMemory> {
-    match read_world(alloc, b"bt-world 1\nfact charge 0\nfact door 0\n") {
+    match read_world(
+        alloc,
+        b"bt-world 1\nfact charge 0\nfact door 0\naction A(p,q) timed 5\n",
+    ) {
         Ok(world) => Ok(world),
         Err(_) => Err(NoMemory),
     }
 }
 
 fn some_names(alloc: Global) -> Result<Names, NoMemory> {
-    names_of(alloc, &a_tree(alloc)?, &a_world(alloc)?)
+    let tree = a_tree(alloc)?;
+    let slots = slots_of(alloc, &tree)?;
+    names_of(alloc, &tree, &a_world(alloc)?, &slots)
 }
 
 /// What the block is as lines to a sink of which these calls fail, and the answer to it.
@@ -64,9 +80,14 @@ fn block_text(
         facts: Items::of(Vec::from_slice(alloc, facts)?),
         entries: Items::of(Vec::new(alloc)),
     };
+    text_of(alloc, &block, fails)
+}
+
+/// The block as lines to a sink of which these calls fail, and the answer to it.
+fn text_of(alloc: Global, block: &Block, fails: &[(u64, u64)]) -> Result<String, NoMemory> {
     let mut sink = MemSink::new(alloc, Vec::from_slice(alloc, fails)?);
     let names = some_names(alloc)?;
-    let answer = write_block(alloc, &mut sink, &block, &names);
+    let answer = write_block(alloc, &mut sink, block, &names);
     let text = str::from_utf8(sink.list()).unwrap_or("?");
     Ok(format!(in alloc; "{answer:?} {text}")?)
 }
@@ -177,6 +198,8 @@ fn notes_have_their_lines(rt: HostRuntime) -> Result<(), Fail> {
 fn faults_have_their_lines(rt: HostRuntime) -> Result<(), Fail> {
     let alloc = rt.alloc();
     for (runner, uid, cause, line) in [
+        (1, 1, Cause::NoEntry { slot: 0 }, "fault 1 1 NoEntry 0 load"),
+        (1, 1, Cause::NoInput { place: 1 }, "fault 1 1 NoInput q"),
         (1, 7, Cause::Overflow, "fault 1 7 Overflow"),
         (2, 8, Cause::ZeroDivisor, "fault 2 8 ZeroDivisor"),
         (3, 9, Cause::NotWhole, "fault 3 9 NotWhole"),
@@ -195,6 +218,33 @@ fn faults_have_their_lines(rt: HostRuntime) -> Result<(), Fail> {
         let text = note_text(alloc, Note::Faulted { runner, uid, cause })?;
         assert_eq!(rt; text, want, "{line}");
     }
+    Ok(())
+}
+
+/// The lines of a tick after which a runner's entry of this slot has this value.
+fn entry_text(alloc: Global, runner: u8, value: Value) -> Result<String, NoMemory> {
+    let mut entries = Vec::new(alloc);
+    entries.push((runner, 0, value))?;
+    let block = Block {
+        header: Header::Tick { runner, at: 0 },
+        notes: Items::of(Vec::new(alloc)),
+        facts: Items::of(Vec::new(alloc)),
+        entries: Items::of(entries),
+    };
+    text_of(alloc, &block, &[])
+}
+
+#[test]
+fn entries_have_their_lines(rt: HostRuntime) -> Result<(), Fail> {
+    let alloc = rt.alloc();
+    let quote = Txt::of(Vec::from_slice(alloc, b"it's")?);
+    let text = entry_text(alloc, 1, Value::Int(-7))?;
+    assert_eq!(rt; text.as_str(), "Ok(()) tick 1 at 0\nboard 1 0 load -7\n");
+    let text = entry_text(alloc, 2, Value::Text(quote))?;
+    assert_eq!(rt;
+        text.as_str(),
+        "Ok(()) tick 2 at 0\nboard 2 0 load 'it\\'s'\n"
+    );
     Ok(())
 }
 

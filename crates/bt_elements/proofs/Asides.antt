@@ -1,6 +1,5 @@
 -- What an instruction or a comment holds up to its end is read over, and what was read over stood there.
-use Rattle.std.proofs.Common.{◌≡◌, ℕ, Bool, true, false, not, ◌==◌, ◌&&◌, ◌||◌, List, [], ◌∷◌, ◌++◌, length, ◌<◌, drop, Option, Some, None, refl, ap, sym, ◌∙◌, subst, append_assoc, arith, if◌then◌else◌}
-use Rattle.std.specs.Prelude.{nat_eq}
+use Rattle.std.proofs.Common.{◌≡◌, ℕ, Bool, true, false, not, ◌==◌, ◌||◌, List, [], ◌∷◌, ◌++◌, length, ◌<◌, drop, Some, None, refl, ap, sym, ◌∙◌, subst, append_assoc, arith, if◌then◌else◌}
 use Rattle.std.proofs.lemmas.Bool.Decides.{nat_tests, Decides-eqb}
 use Rattle.std.proofs.lemmas.Slice.Eq.{starts_is}
 use Rattle.std.specs.Cmp.Derive.{both_true}
@@ -113,10 +112,6 @@ found_if word c cs rest false false e f ih h = one_passed word c cs rest e f (ih
 pub body_found : (word bytes rest : List ℕ) → behind_first word bytes ≡ Some rest → BodyFound word bytes rest
 body_found word [] rest h = absurd (cc)
 body_found word (c ∷ cs) rest h = found_if word c cs rest (begins_with word (c ∷ cs)) (c == 0) refl refl (body_found word cs rest) h
-
--- one byte more is read over
-pub passed_over : (word : List ℕ) (c : ℕ) (cs : List ℕ) → begins_with word (c ∷ cs) ≡ false → (c == 0) ≡ false → behind_first word (c ∷ cs) ≡ behind_first word cs
-passed_over word c cs b z = passed word c cs b (not_false (c == 0) z)
 
 here_if : (word : List ℕ) (c : ℕ) (cs : List ℕ) → begins_with word (c ∷ cs) ≡ true → behind_first word (c ∷ cs) ≡ Some (drop (length word) (c ∷ cs))
 here_if word c cs h = ap (λ (t : Bool). if t then Some (drop (length word) (c ∷ cs)) else (if c == 0 then None else behind_first word cs)) h

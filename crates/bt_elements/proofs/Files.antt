@@ -1,8 +1,7 @@
 -- A file is read piece by piece: pieces that are written are read, and what was read stood there as pieces.
-use Rattle.std.proofs.Common.{◌≡◌, ℕ, zero, suc, ◌+◌, ◌-◌, ◌<◌, ◌≤◌, Bool, true, false, ◌==◌, List, [], ◌∷◌, ◌++◌, length, take, drop, Option, Some, None, Result, Ok, Err, refl, ap, sym, ◌∙◌, subst, append_assoc, append-nil, arith, if◌then◌else◌}
+use Rattle.std.proofs.Common.{◌≡◌, ℕ, zero, suc, ◌+◌, ◌-◌, ◌<◌, ◌≤◌, Bool, true, false, ◌==◌, List, [], ◌∷◌, ◌++◌, length, take, drop, Option, Some, None, Result, Ok, Err, refl, ap, sym, ◌∙◌, subst, append_assoc, arith, if◌then◌else◌}
 use Rattle.std.proofs.lemmas.List.{take-append-drop, length-append, length-drop}
 use Rattle.std.proofs.lemmas.Bool.Decides.{nat_tests}
-use Rattle.std.specs.Cmp.Derive.{both_true}
 use Rattle.std.specs.List.{prefix_len, list_all, AllByRecursion}
 use Rattle.bt_script.specs.Identifiers.{is_white}
 use Rattle.std.specs.Str.{IsUtf8}
@@ -19,7 +18,7 @@ use Rattle.bt_elements.specs.Elements.{Piece, piece_written, pieces_written, is_
 use Rattle.bt_elements.specs.Reading.{GivesAs, ◌>=>◌, begins, mark_of, mark_at, State, may_stand, step, finished, text_len, read_from, read_rest}
 use Rattle.bt_elements.proofs.Fronts.{taken, left, taken_seam, left_seam}
 use Rattle.bt_elements.proofs.Marks.{said, mark_again}
-use Rattle.bt_elements.proofs.Found.{mark_found, mark_shrinks, mark_length}
+use Rattle.bt_elements.proofs.Found.{mark_found, mark_shrinks}
 use Rattle.bt_elements.proofs.Nesting.{piece_step, run, run_one}
 use Rattle.bt_elements.proofs.Cuts.{cut_behind}
 use Rattle.bt_elements.proofs.Outcomes.{ok_inj}
@@ -194,7 +193,7 @@ pub record Found (at total : ℕ) (st : State) (bytes : List ℕ) (r : Result El
   pub runs : run at st pieces ≡ Ok last
   pub ends : Ends (at + length (pieces_written pieces)) total last text rest r
 
-angle : (c : ℕ) → is_text_byte c ≡ false → c ≡ 60
+pub angle : (c : ℕ) → is_text_byte c ≡ false → c ≡ 60
 angle c h = grind (arith, nat_tests)
 
 -- reading that ends before a further mark

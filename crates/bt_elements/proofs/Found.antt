@@ -2,10 +2,9 @@
 use Rattle.std.proofs.Common.{◌≡◌, ℕ, zero, suc, ◌<◌, ◌≤◌, Bool, true, false, not, ◌==◌, List, [], ◌∷◌, ◌++◌, length, take, drop, Option, Some, None, refl, ap, sym, ◌∙◌, subst, append_assoc, arith, if◌then◌else◌}
 use Rattle.std.proofs.lemmas.List.{take-append-drop, length-append, length-drop}
 use Rattle.std.proofs.lemmas.Bool.Decides.{nat_tests}
-use Rattle.std.specs.Cmp.Derive.{both_true}
 use Rattle.std.specs.List.{prefix_len, list_all, flat_map, AllByRecursion}
 use Rattle.std.specs.Option.{option_map}
-use Rattle.bt_script.specs.Identifiers.{is_white, is_identifier_start, is_identifier_continue}
+use Rattle.bt_script.specs.Identifiers.{is_white}
 use Rattle.bt_script.proofs.Bools.{both}
 use Rattle.bt_elements.specs.declared.mark.Front.{Front}
 use Rattle.bt_elements.specs.declared.mark.Mark.{Mark}

@@ -11,7 +11,7 @@ use Rattle.bt_script.specs.Identifiers.{is_white}
 use Rattle.bt_script.proofs.Bools.{both}
 use Rattle.bt_elements.specs.References.{decoded}
 use Rattle.bt_elements.specs.Marks.{is_name, is_name_first, is_name_rest, is_quote, is_value_byte}
-use Rattle.bt_elements.specs.Reading.{◌>>=◌, after_white, begins, behind, name_of, value_of}
+use Rattle.bt_elements.specs.Reading.{◌>>=◌, after_white, begins, name_of, value_of}
 
 pub ruleset fronts = prefix_len-le-length
 
@@ -103,9 +103,6 @@ begins_name (c ∷ cs) more h = (both (is_name_first c) (list_all is_name_rest (
 pub name_again : (name more : List ℕ) → is_name name ≡ true → begins is_name_rest more ≡ false → name_of (name ++ more) ≡ Some (name, more)
 name_again name more is e =
     rw (begins_name name more is, taken_seam is_name_rest name more (name_rest_all name is) e, left_seam is_name_rest name more (name_rest_all name is) e) refl
-
-pub behind_again : (c : ℕ) (more : List ℕ) → behind c (c ∷ more) ≡ Some more
-behind_again c more = rw (test_same c) refl
 
 quote_ends_value : (quote : ℕ) → is_value_byte quote quote ≡ false
 quote_ends_value quote = grind (arith, nat_tests)

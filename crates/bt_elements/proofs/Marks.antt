@@ -12,7 +12,7 @@ use Rattle.bt_elements.specs.declared.mark.Mark.TheVariants as read
 use Rattle.bt_elements.specs.References.{decoded}
 use Rattle.bt_elements.specs.Marks as written
 use Rattle.bt_elements.specs.Marks.{is_name, is_name_first, is_name_rest, is_quote, Attribute, attribute_written, Opening, opening_written, Start, Empty, End, Instruction, Comment, instruction_end, comment_end, mark_written, pairs_of, IsAttribute, IsOpening, IsMark}
-use Rattle.bt_elements.specs.Reading.{◌>>=◌, begins, attribute_of, attribute_begins, attributes_of, front_of, closing, opening_of, end_of, aside_of, mark_of}
+use Rattle.bt_elements.specs.Reading.{begins, attribute_of, attribute_begins, attributes_of, front_of, opening_of, end_of, aside_of, mark_of}
 use Rattle.bt_elements.proofs.Fronts.{white_ends_name, begins_gap, begins_name_not_white, begins_name, name_again, value_again, after_white_again}
 use Rattle.bt_elements.proofs.Asides.{instruction_again, comment_again}
 
@@ -150,7 +150,6 @@ mark_again (End name gap) more i =
       name_again name (gap ++ (62 ∷ more)) i.0 (begins_gap is_name_rest gap 62 more white_ends_name i.1 refl),
       after_white_again gap (62 ∷ more) i.1 refl,
     ) refl
-
 mark_again (Instruction body) more i =
     ap (aside_of instruction_end) (append_assoc body instruction_end more) ∙ rw (instruction_again body more i.0 i.1) refl
 mark_again (Comment body) more i =

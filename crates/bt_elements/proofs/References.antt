@@ -1,5 +1,5 @@
 -- Digits, and what a value says part by part.
-use Rattle.std.proofs.Common.{◌≡◌, ℕ, zero, suc, ◌+◌, ◌*◌, ◌<◌, ◌≤◌, Bool, true, false, ◌&&◌, not, ◌==◌, List, [], ◌∷◌, ◌++◌, length, get_or, take, drop, Option, Some, None, refl, ap, sym, ◌∙◌, subst, append_assoc, append-nil, arith, if◌then◌else◌}
+use Rattle.std.proofs.Common.{◌≡◌, ℕ, zero, suc, ◌+◌, ◌*◌, ◌<◌, ◌≤◌, Bool, true, false, ◌&&◌, List, [], ◌∷◌, ◌++◌, length, get_or, take, drop, Option, Some, None, refl, ap, sym, ◌∙◌, subst, append_assoc, append-nil, arith, if◌then◌else◌}
 use Rattle.std.specs.Prelude.{codes}
 use Rattle.std.proofs.lemmas.Bool.Decides.{nat_tests}
 use Rattle.std.proofs.lemmas.List.{take-append-drop, length-append, length-drop, get_or-drop}
@@ -151,8 +151,8 @@ named front c cs o r ok false e h more = more h
 character_scalar : (n : ℕ) → is_character n ≡ true → IsScalar n
 character_scalar n h = grind (arith, nat_tests)
 
-first_is : (word cs : List ℕ) → begins_with (59 ∷ []) cs ≡ true → (0 < length cs) × (get_or cs 0 0 ≡ 59)
-first_is word cs h =
+first_is : (cs : List ℕ) → begins_with (59 ∷ []) cs ≡ true → (0 < length cs) × (get_or cs 0 0 ≡ 59)
+first_is cs h =
     let is = begins_is (59 ∷ []) cs h in
     (subst (λ (z : List ℕ). 0 < length z) (sym is) (omega arith), ap (λ (z : List ℕ). get_or z 0 0) is)
 
@@ -163,7 +163,7 @@ numeric_ends base before cs r h =
     let c = digits_value base (take n ds) in
     let t = if_some (begins_with (59 ∷ []) (drop n ds) && is_character c) (Some (c, before + n + 1)) r h in
     let u = both (begins_with (59 ∷ []) (drop n ds)) (is_character c) t.0 in
-    let first = first_is ds (drop n ds) u.0 in
+    let first = first_is (drop n ds) u.0 in
     let within : before + n < length cs = omega (arith, first.0, length-drop n ds, length-drop before cs) in
     let same : get_or cs (before + n) 0 ≡ get_or (drop n ds) 0 0 = ap (λ (m : ℕ). get_or cs m 0) (let e : before + n ≡ before + (n + 0) = omega arith in e) ∙ sym (get_or-drop before cs (n + 0) 0) ∙ sym (get_or-drop n ds 0 0) in
     subst (ReferenceEnds cs) (some_inj (c, before + n + 1) r t.1)

@@ -6,15 +6,14 @@ use Rattle.std.specs.Cmp.Derive.{both_true}
 use Rattle.std.specs.List.{prefix_len, list_all, list_any}
 use Rattle.std.specs.Str.{bytes_eq}
 use Rattle.bt_script.specs.Identifiers.{is_white}
-use Rattle.bt_script.proofs.Bools.{both}
 use Rattle.bt_elements.specs.declared.element.Element.{Element}
 use Rattle.bt_elements.specs.declared.element.ElementFault.{ElementFault}
 use Rattle.bt_elements.specs.declared.element.ElementFault.TheVariants.{Unmatched, DoubleAttribute, StrayText, TooDeep}
 use Rattle.bt_elements.specs.declared.nest.Open.{Open}
-use Rattle.bt_elements.specs.Marks.{Mark, Opening, Start, Empty, End, Instruction, Comment, pairs_of, no_name_twice, is_single}
+use Rattle.bt_elements.specs.Marks.{Mark, Opening, Start, Empty, End, Instruction, Comment, pairs_of, no_name_twice}
 use Rattle.bt_elements.specs.Elements.{is_models, Piece, piece_written}
 use Rattle.bt_elements.specs.Faults.{Standing, In, Behind, ended_in, behind_mark, behind_pieces, may_hold, nesting_fault, mark_fault, Marked, next_fault, faultless}
-use Rattle.bt_elements.specs.Reading.{◌>=>◌, State, inside_of, may_stand, element_of, attach, opened, begun, close, step}
+use Rattle.bt_elements.specs.Reading.{◌>=>◌, State, inside_of, may_stand, element_of, attach, opened, begun, step}
 use Rattle.bt_elements.proofs.Marks.{said, front_said}
 use Rattle.bt_elements.proofs.Outcomes.{ok_inj, bind_ok, if_ok}
 use Rattle.bt_elements.proofs.Nesting.{piece_step, run, run_one, within, IsNest, IsState, step_good}

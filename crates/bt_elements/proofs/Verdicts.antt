@@ -1,5 +1,5 @@
 -- A file is read exactly as the element that it spells, and refused exactly with its fault.
-use Rattle.std.proofs.Common.{◌≡◌, ℕ, suc, ◌+◌, ◌-◌, ◌<◌, ◌≤◌, ◌⊎◌, Bool, true, false, ◌&&◌, ◌||◌, List, [], ◌∷◌, ◌++◌, length, take, drop, Option, Some, None, Result, Ok, Err, refl, ap, sym, ◌∙◌, subst, append-nil, arith, inl, inr, if◌then◌else◌}
+use Rattle.std.proofs.Common.{◌≡◌, ℕ, suc, ◌+◌, ◌-◌, ◌⊎◌, Bool, true, false, ◌&&◌, ◌||◌, List, [], ◌∷◌, ◌++◌, length, take, drop, Option, Some, None, Result, Ok, Err, refl, ap, sym, ◌∙◌, subst, append-nil, arith, inl, inr, if◌then◌else◌}
 use Rattle.std.specs.Prelude.{is_none}
 use Rattle.std.proofs.lemmas.List.{length-append, length-drop}
 use Rattle.std.proofs.lemmas.Bool.Decides.{nat_tests}
@@ -22,15 +22,15 @@ use Rattle.bt_elements.specs.declared.mark.Mark.TheVariants as read_as
 use Rattle.bt_elements.specs.declared.nest.Open.{Open}
 use Rattle.bt_elements.specs.References.{begins_with}
 use Rattle.bt_elements.specs.Marks.{Mark, Start, Empty, End, Instruction, Comment, mark_written, IsMark}
-use Rattle.bt_elements.specs.Elements.{Tag, tags_of, depth_of, Piece, piece_written, pieces_written, is_text_byte, IsPiece, tags_of_mark, HaveTags, order_mark_len, Spells}
-use Rattle.bt_elements.specs.Faults.{Standing, In, Behind, behind_pieces, may_hold, mark_fault, last_fault, Next, Marked, Unmarked, Over, IsNext, fault_behind, next_fault, FirstFault, ElementFaultOf, WhenFault}
-use Rattle.bt_elements.specs.Reading.{◌>=>◌, begins, mark_of, State, start, may_stand, step, ended_by, finished, text_len, read_rest, read}
+use Rattle.bt_elements.specs.Elements.{Tag, tags_of, Piece, piece_written, pieces_written, is_text_byte, IsPiece, tags_of_mark, HaveTags, order_mark_len, Spells}
+use Rattle.bt_elements.specs.Faults.{Standing, may_hold, mark_fault, last_fault, Next, Marked, Unmarked, Over, IsNext, fault_behind, next_fault, FirstFault, ElementFaultOf, WhenFault}
+use Rattle.bt_elements.specs.Reading.{◌>=>◌, begins, mark_of, State, start, may_stand, step, ended_by, text_len, read_rest, read}
 use Rattle.bt_elements.proofs.Asides.{begins_is}
 use Rattle.bt_elements.proofs.Fronts.{some_inj}
 use Rattle.bt_elements.proofs.Marks.{said, mark_again}
 use Rattle.bt_elements.proofs.Found.{mark_found}
 use Rattle.bt_elements.proofs.Nesting.{run, run_aside, run_good, element_runs, IsState}
-use Rattle.bt_elements.proofs.Files.{mark_cons, mark_no_text, text_before, behind_text, read_stray, read_last, read_unmarked, read_marked, pieces_again, Ends, Stray, Last, Bad, Faulty, Found, pieces_found}
+use Rattle.bt_elements.proofs.Files.{angle, mark_cons, mark_no_text, text_before, behind_text, read_stray, read_last, read_unmarked, read_marked, pieces_again, Ends, Stray, Last, Bad, Faulty, Found, pieces_found}
 use Rattle.bt_elements.proofs.Standings.{standing, holds_same, Agrees, mark_agrees, run_faultless, faultless_run}
 
 -- the byte order mark and the rest are the file
@@ -157,9 +157,6 @@ some_next_if inner None e = (Unmarked, ((inner, refl), no_mark_there inner e))
 some_next_if inner (Some m) e =
     let found = mark_found inner m e in
     (Marked found.0, (found.1, (m.1, found.3)))
-
-angle : (c : ℕ) → is_text_byte c ≡ false → c ≡ 60
-angle c h = grind (arith, nat_tests)
 
 -- something stands behind each text
 some_next : (rest : List ℕ) → begins is_text_byte rest ≡ false → (next : Next) × IsNext rest next

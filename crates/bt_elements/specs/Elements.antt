@@ -1,5 +1,6 @@
 -- What a tree file spells: a list of marks with text between them, which nest to an element.
-use Rattle.std.specs.Prelude.{◌≡◌, ℕ, ◌+◌, ◌≤◌, max, Bool, false, not, ◌==◌, ◌||◌, List, [], ◌∷◌, ◌++◌, map, length, drop, codes, IsTrue, if◌then◌else◌}
+pub use Rattle.bt_script.specs.Numbers.{greatest}
+use Rattle.std.specs.Prelude.{◌≡◌, ℕ, ◌+◌, ◌≤◌, Bool, false, not, ◌==◌, ◌||◌, List, [], ◌∷◌, ◌++◌, map, length, drop, codes, IsTrue, if◌then◌else◌}
 use Rattle.std.specs.List.{list_all, flat_map, AllByRecursion}
 use Rattle.std.specs.Str.{bytes_eq, IsUtf8}
 use Rattle.bt_script.specs.Identifiers.{is_white}
@@ -31,11 +32,6 @@ tags_step f inside =
 -- the tags of an element, by whether it stands inside of models
 abbrev pub tags_of : Element → Bool → List Tag
 tags_of = fold-Element (Bool → List Tag) tags_step
-
--- the greatest of some numbers, or 0
-abbrev pub greatest : List ℕ → ℕ
-greatest [] = 0
-greatest (n ∷ ns) = max n (greatest ns)
 
 -- one more than the deepest child
 abbrev pub depth_step : Element-F ℕ → ℕ

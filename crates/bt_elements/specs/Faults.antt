@@ -1,5 +1,5 @@
 -- The fault of a tree file that spells no element: the first along the file, and of one mark the first by its kind.
-use Rattle.std.specs.Prelude.{◌≡◌, ℕ, ◌+◌, ◌⊎◌, Bool, true, ◌&&◌, ◌||◌, nat_lt, List, [], ◌∷◌, ◌++◌, map, length, drop, Option, Some, None, is_none, Result, Ok, Err, IsTrue, if◌then◌else◌}
+use Rattle.std.specs.Prelude.{◌≡◌, ℕ, ◌+◌, ◌⊎◌, Bool, true, ◌&&◌, ◌||◌, nat_lt, List, [], ◌∷◌, ◌++◌, length, drop, Option, Some, None, is_none, Result, Ok, Err, IsTrue, if◌then◌else◌}
 use Rattle.std.specs.List.{prefix_len, list_all, list_any, AllByRecursion}
 use Rattle.std.specs.Str.{bytes_eq, IsUtf8}
 use Rattle.std.specs.Str.Lossy.{utf8_valid_len}
@@ -8,7 +8,7 @@ use Rattle.bt_script.specs.declared.stop.Stop.{Stop}
 use Rattle.bt_script.specs.declared.stop.Stop.TheVariants as stop
 use Rattle.bt_elements.specs.declared.element.ElementFault.{ElementFault}
 use Rattle.bt_elements.specs.declared.element.ElementFault.TheVariants.{NotUtf8, BadMark, Unmatched, DoubleAttribute, StrayText, TooDeep}
-use Rattle.bt_elements.specs.Marks.{Mark, Opening, Start, Empty, End, Instruction, Comment, mark_written, is_single, IsMark}
+use Rattle.bt_elements.specs.Marks.{Mark, Start, Empty, End, mark_written, is_single, IsMark}
 use Rattle.bt_elements.specs.Elements.{is_models, Piece, piece_written, pieces_written, is_text_byte, IsPiece, order_mark_len}
 
 -- where marks and texts stand: in these elements, which are named the innermost first, or behind the document element

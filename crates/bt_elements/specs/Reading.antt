@@ -1,5 +1,7 @@
 -- The reading of marks and of a file as functions on lists, for the contracts of private functions alone: what the scanner does.
-use Rattle.std.specs.Prelude.{◌≡◌, ℕ, zero, suc, ◌+◌, ◌-◌, Bool, false, not, ◌==◌, ◌&&◌, ◌||◌, nat_lt, List, [], ◌∷◌, ◌++◌, length, take, drop, Option, Some, None, Result, Ok, Err, if◌then◌else◌, is_none, reverse}
+pub use Rattle.bt_script.specs.Options.{◌>>=◌}
+pub use Rattle.bt_script.specs.Results.{◌>>=◌ as ◌>=>◌}
+use Rattle.std.specs.Prelude.{◌≡◌, ℕ, zero, suc, ◌+◌, ◌-◌, Bool, false, ◌==◌, ◌&&◌, ◌||◌, nat_lt, List, [], ◌∷◌, ◌++◌, length, take, drop, Option, Some, None, Result, Ok, Err, if◌then◌else◌, is_none, reverse}
 use Rattle.std.specs.List.{prefix_len, list_all}
 use Rattle.std.specs.Option.{option_map}
 use Rattle.std.specs.Str.{bytes_eq}
@@ -31,16 +33,6 @@ abbrev pub GivesAs : {X Y F : Type 0} → (X → Y) → Result X (Stop F) → Re
 GivesAs view (Ok x) said = said ≡ Ok (view x)
 GivesAs view (Err stop.NoMemory) said = Unit {0}
 GivesAs view (Err (stop.Fault fault)) said = said ≡ Err fault
-
-infixl 10 ◌>>=◌
-abbrev pub ◌>>=◌ : {A B : Type 0} → Option A → (A → Option B) → Option B
-None >>= f = None
-(Some x) >>= f = f x
-
-infixl 10 ◌>=>◌
-abbrev pub ◌>=>◌ : {A B F : Type 0} → Result A F → (A → Result B F) → Result B F
-(Err fault) >=> f = Err fault
-(Ok x) >=> f = f x
 
 abbrev pub after_white : List ℕ → List ℕ
 after_white bytes = drop (prefix_len is_white bytes) bytes

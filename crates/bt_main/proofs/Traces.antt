@@ -6,7 +6,7 @@ use Rattle.bt_model.specs.declared.leaf.Instance.{Instance}
 use Rattle.bt_model.specs.declared.memory.Memory.{Memory}
 use Rattle.bt_model.specs.declared.world.Event.{Event}
 use Rattle.bt_model.specs.declared.world.Row.{Row}
-use Rattle.bt_model.specs.Lines.{lines_of}
+use Rattle.bt_model.specs.Lines.{LineNames, lines_of}
 use Rattle.bt_tick.specs.Run.{RunState, Stepped, Trace, finish, finishes, run_from, step, then_rest}
 use Rattle.bt_tick.specs.Visit.{Meaning}
 use Rattle.bt_main.specs.Output.{text_of}
@@ -44,13 +44,13 @@ rest_whole a b all whole r e = subst (Appended a b) (sym (append-nil r.so_far) �
 
 -- a step that ended in no fault, and what the rest of the run writes
 text_step :
-    (names : List (List ℕ)) (m : Memory) (i : List Instance) (facts : List ℤ) (last : ℕ) (block : Block) (taken : Stepped) (rest : RunState → Trace) →
+    (names : LineNames) (m : Memory) (i : List Instance) (facts : List ℤ) (last : ℕ) (block : Block) (taken : Stepped) (rest : RunState → Trace) →
     after_step m i facts last block ≡ taken → text_of names (then_rest taken rest).blocks ≡ concat (lines_of names block) ++ text_of names (rest (one_runner m i facts last)).blocks
 text_step names m i facts last block taken rest e = ap (λ (t : Stepped). text_of names (then_rest t rest).blocks) (sym e)
 
 -- the event that comes next
 pub text_event :
-    (names : List (List ℕ)) (root : Meaning) (rows : List Row) (runners : ℕ) (events : List Event) (at : ℕ) (event : Event) (s : RunState) (m : Memory) (i : List Instance) (facts : List ℤ) (last : ℕ) (block : Block) →
+    (names : LineNames) (root : Meaning) (rows : List Row) (runners : ℕ) (events : List Event) (at : ℕ) (event : Event) (s : RunState) (m : Memory) (i : List Instance) (facts : List ℤ) (last : ℕ) (block : Block) →
     drop at events ≡ event ∷ drop (at + 1) events → after_step m i facts last block ≡ step root rows event s →
     text_of names (run_from root rows runners (drop at events) s).blocks ≡ concat (lines_of names block) ++ text_of names (run_from root rows runners (drop (at + 1) events) (one_runner m i facts last)).blocks
 text_event names root rows runners events at event s m i facts last block here taken =
@@ -59,7 +59,7 @@ text_event names root rows runners events at event s m i facts last block here t
 
 -- behind the last event
 pub text_finish :
-    (names : List (List ℕ)) (root : Meaning) (rows : List Row) (runners : ℕ) (events : List Event) (s : RunState) (m : Memory) (i : List Instance) (facts : List ℤ) (last : ℕ) (block : Block) →
+    (names : LineNames) (root : Meaning) (rows : List Row) (runners : ℕ) (events : List Event) (s : RunState) (m : Memory) (i : List Instance) (facts : List ℤ) (last : ℕ) (block : Block) →
     runners ≡ 1 → events ≡ [] → after_step m i facts last block ≡ finish root 1 s →
     text_of names (run_from root rows runners events s).blocks ≡ concat (lines_of names block) ++ []
 text_finish names root rows runners events s m i facts last block one none taken =

@@ -12,7 +12,7 @@ use Rattle.bt_main.specs.Words as words
 use Rattle.bt_model.specs.declared.block.Block.{Block}
 use Rattle.bt_model.specs.declared.term.Tree.{Tree}
 use Rattle.bt_model.specs.declared.world.World.{World}
-use Rattle.bt_model.specs.Lines.{fact_names, lines_of, quoted}
+use Rattle.bt_model.specs.Lines.{LineNames, line_names, lines_of, quoted}
 use Rattle.bt_tick.specs.Run.{run}
 use Rattle.bt_model.specs.Terms.{leaf_ids}
 use Rattle.bt_tick.specs.Visit.{row_of}
@@ -59,7 +59,7 @@ ReadsTree bytes (Some tree) = SpellsTree bytes tree
 ReadsTree bytes None = (tree : Tree) → SpellsTree bytes tree → ⊥
 
 -- the lines of blocks, one after another
-abbrev pub text_of : List (List ℕ) → List Block → List ℕ
+abbrev pub text_of : LineNames → List Block → List ℕ
 text_of names [] = []
 text_of names (block ∷ blocks) = concat (lines_of names block) ++ text_of names blocks
 
@@ -71,7 +71,7 @@ ReadsAs (Err (stop.Fault u)) bytes = (tree : Tree) → SpellsTree bytes tree →
 
 -- the trace of a run
 abbrev pub run_output : Tree → World → Output
-run_output tree world = record { bytes = text_of (fact_names world) (run tree world).blocks; exit = exit.Done }
+run_output tree world = record { bytes = text_of (line_names tree world) (run tree world).blocks; exit = exit.Done }
 
 -- the first leaf in pre-order whose ID has no row
 abbrev pub rowless : Tree → World → Option (List ℕ)

@@ -7,6 +7,7 @@ ghost use Rattle.bt_outside.specs.Counts.{Rose};
 
 use crate::exit::Exit;
 use crate::run::{finish_runner, runs_of, take_event};
+use bt_board::slots_of;
 use bt_model::{Tree, World};
 use bt_outside::Sink;
 use bt_text::{TextStop, names_of, write_block};
@@ -24,7 +25,8 @@ fn run<K: Sink>(alloc: Global, tree: &Tree, world: &World, out: &mut K) -> Resul
     ensures failed { IsErrOf result TextStop.WriteFault → Rose (K.faults out.old) (K.faults out.new) }
     ensures count { K.faults out.old ≤ K.faults out.new }
 {
-    let names = names_of(alloc, tree, world)?;
+    let slots = slots_of(alloc, tree)?;
+    let names = names_of(alloc, tree, world, &slots)?;
     let mut runs = runs_of(alloc, tree, world)?;
     for event in world.events.list() {
         let block = take_event(alloc, &mut runs, world.rows.list(), *event)?;

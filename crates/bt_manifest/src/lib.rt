@@ -8,7 +8,6 @@ mod names;
 mod ports;
 mod read;
 
-
 pub use attributes::attribute;
 pub use fault::ManifestFault;
 pub use models::{Manifest, ModelPort, NodeModel, model};

@@ -44,14 +44,21 @@ impl Manifest {
     }
 
     /// The models with that of this element, which has this ID.
-    fn with_id(self, alloc: Global, element: &Element, id: &Name) -> Result<Manifest, Stop<ManifestFault>>
+    fn with_id(
+        self,
+        alloc: Global,
+        element: &Element,
+        id: &Name,
+    ) -> Result<Manifest, Stop<ManifestFault>>
         ensures { Gives result (with_model_of self element.now (Some id.now)) }
     {
         if kind_named(id.list()).is_some() {
             return Ok(self);
         }
         if self.has(id) {
-            return Err(Stop::Fault(ManifestFault::DoubleModel { place: element.place }));
+            return Err(Stop::Fault(ManifestFault::DoubleModel {
+                place: element.place,
+            }));
         }
         let ports = ports_of(alloc, element.children.list())?;
         Ok(self.with(alloc, id, ports)?)
@@ -66,7 +73,9 @@ impl Manifest {
         }
         match attribute(element.attributes.list(), b"ID") {
             Some(id) => self.with_id(alloc, element, id),
-            None => Err(Stop::Fault(ManifestFault::BadModel { place: element.place })),
+            None => Err(Stop::Fault(ManifestFault::BadModel {
+                place: element.place,
+            })),
         }
     }
 }
@@ -101,7 +110,9 @@ fn alone(manifest: Manifest, elements: &[Element]) -> Result<Manifest, Stop<Mani
 {
     for element in elements {
         if holds_models(element.name.list()) {
-            return Err(Stop::Fault(ManifestFault::DoubleModel { place: element.place }));
+            return Err(Stop::Fault(ManifestFault::DoubleModel {
+                place: element.place,
+            }));
         }
     }
     Ok(manifest)

@@ -1,6 +1,6 @@
 -- Which trees are valid: what the readers of trees give, and what each call that takes a tree needs.
 use Rattle.std.specs.Prelude.{◌≡◌, ℕ, ◌+◌, ◌≤◌, List, [], ◌∷◌, length, map, Bool, true, false, not, ◌&&◌, if◌then◌else◌, IsTrue, Option, Some, None}
-use Rattle.std.specs.List.{list_all, AllByRecursion}
+use Rattle.std.specs.List.{list_all, flat_map, AllByRecursion}
 use Rattle.std.specs.Str.{bytes_eq}
 use Rattle.bt_script.specs.declared.syntax.Script.{Script}
 use Rattle.bt_script.specs.Identifiers.{is_identifier}
@@ -10,12 +10,12 @@ use Rattle.bt_model.specs.declared.term.Guards.{Guards}
 use Rattle.bt_model.specs.declared.term.Kind.{Kind}
 use Rattle.bt_model.specs.declared.term.Kind.TheVariants.{SubTree, Leaf}
 use Rattle.bt_model.specs.declared.term.Port.{Port}
-use Rattle.bt_model.specs.declared.term.Term.{Term, Term-F, rec-Term}
+use Rattle.bt_model.specs.declared.term.Term.{Term, Term-F, fold-Term}
 use Rattle.bt_model.specs.declared.term.Tree.{Tree}
 use Rattle.bt_model.specs.BuiltIns.{PortRule, has_code, kind_named, ports_of, takes}
 use Rattle.bt_model.specs.Names.{is_among}
 use Rattle.bt_model.specs.Terms.{depth_of, node_count, scope_count, work_of}
-use Rattle.bt_model.specs.Values.{is_port_name, value_fits}
+use Rattle.bt_model.specs.Values.{value_fits}
 
 -- a built-in node has its own name as its ID, and a leaf has none of these names
 abbrev pub IdFits : Kind → List ℕ → Type 0
@@ -27,11 +27,6 @@ IdFits kind id = kind_named id ≡ Some kind
 abbrev pub names_of : List Port → List (List ℕ)
 names_of ports = map (λ port. port.name) ports
 
--- whether no name stands twice
-abbrev pub all_differ : List (List ℕ) → Bool
-all_differ [] = true
-all_differ (name ∷ names) = not (is_among name names) && all_differ names
-
 -- whether a port is one of these, with a value of its range
 abbrev pub is_one_of : List PortRule → Port → Bool
 is_one_of [] port = false
@@ -40,8 +35,8 @@ is_one_of (rule ∷ rules) port = if bytes_eq port.name rule.name then value_fit
 -- A SubTree's ports are identifiers, and a leaf's may have any name. Every other node has each of its own ports, and no
 -- other.
 abbrev pub ports_fit : Kind → List Port → Bool
-ports_fit SubTree ports = list_all (λ port. is_port_name port.name && is_identifier port.name && value_fits AnyValue port.value) ports
-ports_fit Leaf ports = list_all (λ port. is_port_name port.name && value_fits AnyValue port.value) ports
+ports_fit SubTree ports = list_all (λ port. is_identifier port.name && value_fits AnyValue port.value) ports
+ports_fit Leaf ports = list_all (λ port. value_fits AnyValue port.value) ports
 ports_fit kind ports =
     list_all (is_one_of (ports_of kind)) ports && list_all (λ rule. is_among rule.name (names_of ports)) (ports_of kind)
 
@@ -72,31 +67,48 @@ abbrev pub autoremap_fits : Kind → Bool → Bool
 autoremap_fits SubTree autoremap = true
 autoremap_fits kind autoremap = not autoremap
 
+-- a node with the number of its children in their place
+pub record Node : Type 0 where
+  pub kind : Kind
+  pub id : List ℕ
+  pub ports : List Port
+  pub code : Option Script
+  pub guards : Guards
+  pub autoremap : Bool
+  pub children : ℕ
+
+abbrev pub nodes_step : Term-F (List Node) → List Node
+nodes_step node = (record {
+  kind = node.kind;
+  id = node.id;
+  ports = node.ports;
+  code = node.code;
+  guards = node.guards;
+  autoremap = node.autoremap;
+  children = length node.children;
+}) ∷ flat_map (λ nodes. nodes) node.children
+
+-- the nodes of a term in pre-order
+abbrev pub nodes_of : Term → List Node
+nodes_of = fold-Term (List Node) nodes_step
+
 -- a node has the children, the ports and the scripts that its kind asks
-pub record NodeFits {X : Type 0} (node : Term-F X) : Type 0 where
-  pub children : IsTrue (takes node.kind (length node.children))
+pub record NodeFits (node : Node) : Type 0 where
+  pub children : IsTrue (takes node.kind node.children)
   pub id : IdFits node.kind node.id
   pub ports : IsTrue (ports_fit node.kind node.ports)
-  pub alone : IsTrue (all_differ (names_of node.ports))
   pub code : CodeFits (has_code node.kind) node.code
   pub guards : GuardsFit node.guards
   pub autoremap : IsTrue (autoremap_fits node.kind node.autoremap)
 
-abbrev pub node_and_below : (X : Type 0) → (X → Term) → (X → Type 0) → Term-F X → Type 0
-node_and_below X term below node = NodeFits node × AllByRecursion below node.children
-
--- this is so of each node of a term
-abbrev pub AllFit : Term → Type 0
-AllFit = rec-Term (Type 0) node_and_below
-
--- The nodes of a tree fit, and so do their number, their depth and the number of the scopes, the main one counted.
-pub record IsSound (tree : Tree) : Type 0 where
-  pub fit : AllFit tree.term
+-- The nodes of a tree, their depth, the scopes, the main one counted, and the visits that a visit of the root may make are not too many.
+pub record IsWithinLimits (tree : Tree) : Type 0 where
   pub nodes : node_count tree.term ≤ 4096
   pub depth : depth_of tree.term ≤ 256
   pub scopes : 1 + scope_count tree.term ≤ 256
-
--- A valid tree is sound, and a visit of its root makes no more visits than the limit of work.
-pub record IsValid (tree : Tree) : Type 0 where
-  pub sound : IsSound tree
   pub work : work_of tree.term ≤ 100000
+
+-- A tree is valid where it is within the limits and each of its nodes fits.
+pub record IsValid (tree : Tree) : Type 0 where
+  pub limits : IsWithinLimits tree
+  pub fit : AllByRecursion NodeFits (nodes_of tree.term)

@@ -4,7 +4,7 @@ use Rattle.std.proofs.lemmas.List.{take_more, drop_more, take-append-drop, map-a
 use Rattle.std.proofs.lemmas.List.Folds.{concat-append}
 use Rattle.std.specs.List.{concat}
 use Rattle.bt_model.specs.declared.block.Block.{Block}
-use Rattle.bt_model.specs.Lines.{fact_line, header_line, lines_of, note_line}
+use Rattle.bt_model.specs.Lines.{LineNames, entry_line, fact_line, header_line, lines_of, note_line}
 use Rattle.bt_outside.specs.Appending.{Appended, AppendedFront}
 use Rattle.bt_outside.proofs.Appends.{Appended-trans, AppendedFront-whole, AppendedFront-longer, AppendedFront-after}
 
@@ -54,38 +54,61 @@ AppendedFront-map_next f xs i d a b c h p q =
 
 -- the lines of a block were written
 pub Appended-lines_of :
-    (names : List (List ℕ)) (block : Block) (a b c d : Option (List ℕ)) →
-    Appended a b (header_line names block.header) → Appended b c (concat (map note_line block.notes)) →
-    Appended c d (concat (map (fact_line names) block.facts)) → Appended a d (concat (lines_of names block))
-Appended-lines_of names block a b c d p q r =
+    (names : LineNames) (block : Block) (a b c d e : Option (List ℕ)) →
+    Appended a b (header_line names block.header) → Appended b c (concat (map (note_line names) block.notes)) →
+    Appended c d (concat (map (fact_line names) block.facts)) → Appended d e (concat (map (entry_line names) block.entries)) →
+    Appended a e (concat (lines_of names block))
+Appended-lines_of names block a b c d e p q r s =
     let header = header_line names block.header in
-    let notes = map note_line block.notes in
+    let notes = map (note_line names) block.notes in
     let facts = map (fact_line names) block.facts in
-    let rest = Appended-trans b c d (concat notes) (concat facts) q r in
-    Appended-trans a b d header (concat (notes ++ facts)) p (subst (Appended b d) (sym (concat-append notes facts)) rest)
+    let entries = map (entry_line names) block.entries in
+    let first = subst (Appended b d) (sym (concat-append notes facts)) (Appended-trans b c d (concat notes) (concat facts) q r) in
+    let rest = subst (Appended b e) (sym (concat-append (notes ++ facts) entries)) (Appended-trans b d e (concat (notes ++ facts)) (concat entries) first s) in
+    Appended-trans a b e header (concat (notes ++ facts ++ entries)) p rest
 
 -- the header of a block was written, and a front of its notes
 pub AppendedFront-lines_of_notes :
-    (names : List (List ℕ)) (block : Block) (a b c : Option (List ℕ)) →
-    Appended a b (header_line names block.header) → AppendedFront b c (concat (map note_line block.notes)) →
+    (names : LineNames) (block : Block) (a b c : Option (List ℕ)) →
+    Appended a b (header_line names block.header) → AppendedFront b c (concat (map (note_line names) block.notes)) →
     AppendedFront a c (concat (lines_of names block))
 AppendedFront-lines_of_notes names block a b c p q =
     let header = header_line names block.header in
-    let notes = map note_line block.notes in
+    let notes = map (note_line names) block.notes in
     let facts = map (fact_line names) block.facts in
-    let rest = AppendedFront-longer b c (concat notes) (concat facts) q in
-    AppendedFront-after a b c header (concat (notes ++ facts)) p
-    (subst (AppendedFront b c) (sym (concat-append notes facts)) rest)
+    let entries = map (entry_line names) block.entries in
+    let more = subst (AppendedFront b c) (sym (concat-append notes facts)) (AppendedFront-longer b c (concat notes) (concat facts) q) in
+    let rest = AppendedFront-longer b c (concat (notes ++ facts)) (concat entries) more in
+    AppendedFront-after a b c header (concat (notes ++ facts ++ entries)) p
+    (subst (AppendedFront b c) (sym (concat-append (notes ++ facts) entries)) rest)
 
 -- the header and the notes of a block were written, and a front of its facts
 pub AppendedFront-lines_of_facts :
-    (names : List (List ℕ)) (block : Block) (a b c d : Option (List ℕ)) →
-    Appended a b (header_line names block.header) → Appended b c (concat (map note_line block.notes)) →
+    (names : LineNames) (block : Block) (a b c d : Option (List ℕ)) →
+    Appended a b (header_line names block.header) → Appended b c (concat (map (note_line names) block.notes)) →
     AppendedFront c d (concat (map (fact_line names) block.facts)) → AppendedFront a d (concat (lines_of names block))
 AppendedFront-lines_of_facts names block a b c d p q r =
     let header = header_line names block.header in
-    let notes = map note_line block.notes in
+    let notes = map (note_line names) block.notes in
     let facts = map (fact_line names) block.facts in
-    let rest = AppendedFront-after b c d (concat notes) (concat facts) q r in
-    AppendedFront-after a b d header (concat (notes ++ facts)) p
-    (subst (AppendedFront b d) (sym (concat-append notes facts)) rest)
+    let entries = map (entry_line names) block.entries in
+    let more = subst (AppendedFront b d) (sym (concat-append notes facts)) (AppendedFront-after b c d (concat notes) (concat facts) q r) in
+    let rest = AppendedFront-longer b d (concat (notes ++ facts)) (concat entries) more in
+    AppendedFront-after a b d header (concat (notes ++ facts ++ entries)) p
+    (subst (AppendedFront b d) (sym (concat-append (notes ++ facts) entries)) rest)
+
+-- the header, the notes and the facts of a block were written, and a front of its entries
+pub AppendedFront-lines_of_entries :
+    (names : LineNames) (block : Block) (a b c d e : Option (List ℕ)) →
+    Appended a b (header_line names block.header) → Appended b c (concat (map (note_line names) block.notes)) →
+    Appended c d (concat (map (fact_line names) block.facts)) → AppendedFront d e (concat (map (entry_line names) block.entries)) →
+    AppendedFront a e (concat (lines_of names block))
+AppendedFront-lines_of_entries names block a b c d e p q r s =
+    let header = header_line names block.header in
+    let notes = map (note_line names) block.notes in
+    let facts = map (fact_line names) block.facts in
+    let entries = map (entry_line names) block.entries in
+    let first = subst (Appended b d) (sym (concat-append notes facts)) (Appended-trans b c d (concat notes) (concat facts) q r) in
+    let rest = AppendedFront-after b d e (concat (notes ++ facts)) (concat entries) first s in
+    AppendedFront-after a b e header (concat (notes ++ facts ++ entries)) p
+    (subst (AppendedFront b e) (sym (concat-append (notes ++ facts) entries)) rest)

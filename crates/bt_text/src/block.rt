@@ -1,18 +1,19 @@
 ghost use Rattle.std.specs.Prelude.{◌≡◌, ◌≤◌, OnOk, IsErrOf, map};
 ghost use Rattle.std.specs.List.{concat};
-ghost use Rattle.bt_model.specs.Lines.{fact_line, lines_of, note_line};
+ghost use Rattle.bt_model.specs.Lines.{entry_line, fact_line, lines_of, note_line};
 ghost use Rattle.bt_outside.specs.Appending.{Appended, AppendedFront};
 ghost use Rattle.bt_outside.specs.Counts.{Rose};
 
-use crate::line::{fact_line, header_line, note_line};
+use crate::line::{entry_line, fact_line, header_line, note_line};
 use crate::names::Names;
 use crate::stop::TextStop;
 use bt_model::{Block, Note};
 use bt_outside::Sink;
+use bt_script::Value;
 use std::alloc::Global;
 
-/// Writes the lines of the block, each by one write: its event, what happened, and the facts that
-/// changed. After a stop some front of them was written. `TextStop::WriteFault` comes only where
+/// Writes the lines of the block, each by one write: its event, what happened, and the facts and
+/// the entries that changed. After a stop some front of them was written. `TextStop::WriteFault` comes only where
 /// the sink's count of failures rose in this call.
 #[tactic(auto, using(bt_outside::proofs::Appends::appending))]
 pub fn write_block<K: Sink>(
@@ -29,8 +30,9 @@ pub fn write_block<K: Sink>(
 {
     let event = header_line(alloc, block.header, names)?;
     write_line(out, event.as_slice())?;
-    write_notes(alloc, out, block.notes.list())?;
+    write_notes(alloc, out, block.notes.list(), names)?;
     write_facts(alloc, out, block.facts.list(), names)?;
+    write_entries(alloc, out, block.entries.list(), names)?;
     Ok(())
 }
 
@@ -47,15 +49,20 @@ pub fn write_line<K: Sink>(out: &mut K, line: &[u8]) -> Result<(), TextStop>
 }
 
 #[tactic(auto, using(bt_outside::proofs::Appends::appending))]
-fn write_notes<K: Sink>(alloc: Global, out: &mut K, notes: &[Note]) -> Result<(), TextStop>
+fn write_notes<K: Sink>(
+    alloc: Global,
+    out: &mut K,
+    notes: &[Note],
+    names: &Names,
+) -> Result<(), TextStop>
     ensures whole { OnOk result
-        (Appended (K.written out.old) (K.written out.new) (concat (map note_line notes.now))) }
-    ensures front { AppendedFront (K.written out.old) (K.written out.new) (concat (map note_line notes.now)) }
+        (Appended (K.written out.old) (K.written out.new) (concat (map (note_line names.now) notes.now))) }
+    ensures front { AppendedFront (K.written out.old) (K.written out.new) (concat (map (note_line names.now) notes.now)) }
     ensures failed { IsErrOf result TextStop.WriteFault → Rose (K.faults out.old) (K.faults out.new) }
     ensures count { K.faults out.old ≤ K.faults out.new }
 {
     for note in notes {
-        let line = note_line(alloc, *note)?;
+        let line = note_line(alloc, *note, names)?;
         write_line(out, line.as_slice())?;
     }
     Ok(())
@@ -76,6 +83,26 @@ fn write_facts<K: Sink>(
 {
     for fact in facts {
         let line = fact_line(alloc, *fact, names)?;
+        write_line(out, line.as_slice())?;
+    }
+    Ok(())
+}
+
+#[tactic(auto, using(bt_outside::proofs::Appends::appending))]
+fn write_entries<K: Sink>(
+    alloc: Global,
+    out: &mut K,
+    entries: &[(u8, u32, Value)],
+    names: &Names,
+) -> Result<(), TextStop>
+    ensures whole { OnOk result
+        (Appended (K.written out.old) (K.written out.new) (concat (map (entry_line names.now) entries.now))) }
+    ensures front { AppendedFront (K.written out.old) (K.written out.new) (concat (map (entry_line names.now) entries.now)) }
+    ensures failed { IsErrOf result TextStop.WriteFault → Rose (K.faults out.old) (K.faults out.new) }
+    ensures count { K.faults out.old ≤ K.faults out.new }
+{
+    for entry in entries {
+        let line = entry_line(alloc, entry, names)?;
         write_line(out, line.as_slice())?;
     }
     Ok(())

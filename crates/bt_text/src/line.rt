@@ -1,11 +1,11 @@
 ghost use Rattle.std.specs.Prelude.{◌≡◌, ◌++◌, IfOk, OnOk, codes, decimal};
-ghost use Rattle.bt_model.specs.Lines.{answer_word, fact_line, header_line, note_line};
+ghost use Rattle.bt_model.specs.Lines.{answer_word, entry_line, fact_line, header_line, note_line};
 
 use crate::names::Names;
 use crate::put::{put_bytes, put_number, put_signed};
-use crate::word::{answer_word, put_cause, status_word};
+use crate::word::{answer_word, put_cause, put_value, status_word};
 use bt_model::{Answer, Header, Note};
-use bt_script::NoMemory;
+use bt_script::{NoMemory, Value};
 use std::alloc::Global;
 
 /// The line of the event.
@@ -49,16 +49,16 @@ fn put_runner_event(out: &mut Vec<u8>, event: &[u8], runner: u8, at: u64) -> Res
 }
 
 /// The line of the note.
-pub fn note_line(alloc: Global, note: Note) -> Result<Vec<u8>, NoMemory>
-    ensures { IfOk result (λ line. line.items ≡ note_line note) }
+pub fn note_line(alloc: Global, note: Note, names: &Names) -> Result<Vec<u8>, NoMemory>
+    ensures { IfOk result (λ line. line.items ≡ note_line names.now note) }
 {
     let mut line = Vec::new(alloc);
-    put_note(&mut line, note)?;
+    put_note(&mut line, note, names)?;
     Ok(line)
 }
 
-fn put_note(out: &mut Vec<u8>, note: Note) -> Result<(), NoMemory>
-    ensures { OnOk result (out.new.items ≡ out.old.items ++ note_line note) }
+fn put_note(out: &mut Vec<u8>, note: Note, names: &Names) -> Result<(), NoMemory>
+    ensures { OnOk result (out.new.items ≡ out.old.items ++ note_line names.now note) }
 {
     match note {
         Note::Changed { uid, old, new } => {
@@ -90,7 +90,7 @@ fn put_note(out: &mut Vec<u8>, note: Note) -> Result<(), NoMemory>
             put_bytes(out, b" ")?;
             put_number(out, u64::from(uid))?;
             put_bytes(out, b" ")?;
-            put_cause(out, cause)?;
+            put_cause(out, uid, cause, names)?;
             put_bytes(out, b"\n")
         }
         Note::Quenched { runner, uid } => {
@@ -125,6 +125,26 @@ pub fn fact_line(alloc: Global, fact: (u32, i64), names: &Names) -> Result<Vec<u
     put_bytes(&mut line, names.fact_name(number))?;
     put_bytes(&mut line, b" ")?;
     put_signed(&mut line, value)?;
+    put_bytes(&mut line, b"\n")?;
+    Ok(line)
+}
+
+/// The line of an entry of a runner's board that changed or is new, with its new value.
+pub fn entry_line(
+    alloc: Global,
+    entry: &(u8, u32, Value),
+    names: &Names,
+) -> Result<Vec<u8>, NoMemory>
+    ensures { IfOk result (λ line. line.items ≡ entry_line names.now entry.now) }
+{
+    let (runner, slot, value) = entry;
+    let mut line = Vec::new(alloc);
+    put_bytes(&mut line, b"board ")?;
+    put_number(&mut line, u64::from(*runner))?;
+    put_bytes(&mut line, b" ")?;
+    names.put_cell(&mut line, *slot)?;
+    put_bytes(&mut line, b" ")?;
+    put_value(&mut line, value)?;
     put_bytes(&mut line, b"\n")?;
     Ok(line)
 }

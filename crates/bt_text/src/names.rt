@@ -1,45 +1,157 @@
-ghost use Rattle.std.specs.Prelude.{◌≡◌, IfOk};
-ghost use Rattle.bt_model.specs.Lines.{fact_name, fact_names};
+ghost use Rattle.std.specs.Prelude.{◌≡◌, ◌++◌, IfOk, OnOk};
+ghost use Rattle.std.specs.Option.{option_copied};
+ghost use Rattle.bt_model.specs.declared.term.Term.{out-Term};
+ghost use Rattle.bt_model.specs.Boards.{slot_table};
+ghost use Rattle.bt_model.specs.Leaves.{row_of};
+ghost use Rattle.bt_model.specs.Lines.{cell_at, cell_words, fact_name, fact_names, input_name, inputs_of, line_names, own_inputs};
 
-use bt_model::{Tree, World};
-use bt_script::{Name, NoMemory};
+use crate::put::{put_bytes, put_number};
+use bt_board::{Slots, cells};
+use bt_model::{Cell, Kind, Row, Term, Tree, World};
+use bt_script::{Items, Name, NoMemory};
 use std::alloc::Global;
 use std::marker::Model;
 
-/// The names that the lines of a trace need. Contracts see the names of the facts, in the order of
-/// their numbers.
+/// The names that the lines of a trace need. Contracts see those of the facts in the order of
+/// their numbers, the cells by slot, and the inputs of each node in pre-order.
 #[derive(Debug, Drop)]
 pub struct Names {
     facts: Vec<Name>,
+    cells: Vec<Cell>,
+    inputs: Vec<Items<Name>>,
 }
 
 impl Model for Names {
-    ghost use Rattle.std.specs.Prelude.{List, ℕ};
+    ghost use Rattle.bt_model.specs.Lines.{LineNames};
 
-    ghost Value = { List (List ℕ) };
+    ghost Value = { LineNames };
 
-    ghost view = { λ names. names.facts.items };
+    ghost view = { λ names. record { facts = names.facts.items; cells = names.cells.items; inputs = names.inputs.items } };
 }
 
 impl Names {
     /// The name of the fact of this number, or nothing where it has none.
     pub fn fact_name(&self, number: u32) -> &[u8]
-        ensures { result.now ≡ fact_name self.now number }
+        ensures { result.now ≡ fact_name self.now.facts number }
     {
         match self.facts.get(number as usize) {
             Some(name) => name.list(),
             None => b"",
         }
     }
+
+    /// The name of the input at this place of the node of this uid, or nothing where it has none.
+    pub fn input_name(&self, uid: u32, place: u8) -> &[u8]
+        ensures { result.now ≡ input_name self.now uid place }
+    {
+        match self.inputs.get(uid.saturating_sub(1) as usize) {
+            Some(inputs) => match inputs.list().get(place as usize) {
+                Some(name) => name.list(),
+                None => b"",
+            },
+            None => b"",
+        }
+    }
+
+    /// Puts the scope and the key of the cell of a slot at the end, or scope 0 and an empty key
+    /// where the slot has none.
+    pub fn put_cell(&self, out: &mut Vec<u8>, slot: u32) -> Result<(), NoMemory>
+        ensures { OnOk result (out.new.items ≡ out.old.items ++ cell_words (cell_at self.now slot)) }
+    {
+        match self.cells.get(slot as usize) {
+            Some(cell) => {
+                put_number(out, u64::from(cell.scope))?;
+                put_bytes(out, b" ")?;
+                put_bytes(out, cell.key.list())
+            }
+            None => {
+                put_number(out, 0)?;
+                put_bytes(out, b" ")
+            }
+        }
+    }
 }
 
-/// The names that the lines of a run of this tree over this world need.
-pub fn names_of(alloc: Global, _tree: &Tree, world: &World) -> Result<Names, NoMemory>
-    ensures { IfOk result (λ names. names ≡ fact_names world.now) }
+/// Equal names.
+fn copies(alloc: Global, names: &[Name]) -> Result<Vec<Name>, NoMemory>
+    ensures { IfOk result (λ copies. copies.items ≡ names.now) }
+{
+    let mut copies = Vec::new(alloc);
+    for name in names {
+        copies.push(name.copy(alloc)?)?;
+    }
+    Ok(copies)
+}
+
+/// The names of the facts.
+fn names_of_facts(alloc: Global, world: &World) -> Result<Vec<Name>, NoMemory>
+    ensures { IfOk result (λ names. names.items ≡ fact_names world.now) }
 {
     let mut facts = Vec::new(alloc);
     for fact in world.facts.list() {
         facts.push(fact.name.copy(alloc)?)?;
     }
-    Ok(Names { facts })
+    Ok(facts)
+}
+
+/// Equal cells.
+fn copies_of_cells(alloc: Global, cells: &[Cell]) -> Result<Vec<Cell>, NoMemory>
+    ensures { IfOk result (λ copies. copies.items ≡ cells.now) }
+{
+    let mut copies = Vec::new(alloc);
+    for cell in cells {
+        copies.push(cell.copy(alloc)?)?;
+    }
+    Ok(copies)
+}
+
+/// The row of an ID.
+fn find_row<'a>(rows: &'a [Row], id: &Name) -> Option<&'a Row>
+    ensures { option_copied result ≡ row_of rows.now id.now }
+{
+    rows.iter().find(|row| row.id == *id)
+}
+
+/// The inputs of a node: those of its row, where it is a leaf.
+fn inputs_of_node(alloc: Global, node: &Term, rows: &[Row]) -> Result<Items<Name>, NoMemory>
+    ensures { IfOk result (λ inputs. inputs ≡ own_inputs rows.now (out-Term node.now).kind (out-Term node.now).id) }
+{
+    if let Kind::Leaf = node.kind {
+        if let Some(row) = find_row(rows, &node.id) {
+            return Ok(Items::of(copies(alloc, row.ports.list())?));
+        }
+    }
+    Ok(Items::of(Vec::new(alloc)))
+}
+
+/// Adds the inputs of the nodes of a term, in pre-order.
+fn add_inputs(
+    alloc: Global,
+    term: &Term,
+    rows: &[Row],
+    inputs: &mut Vec<Items<Name>>,
+) -> Result<(), NoMemory>
+    ensures { OnOk result (inputs.new.items ≡ inputs.old.items ++ inputs_of rows.now term.now) }
+{
+    inputs.push(inputs_of_node(alloc, term, rows)?)?;
+    for child in term.children.list() {
+        add_inputs(alloc, child, rows, inputs)?;
+    }
+    Ok(())
+}
+
+/// The names that the lines of a run of this tree over this world need. The slots are the tree's.
+pub fn names_of(alloc: Global, tree: &Tree, world: &World, slots: &Slots) -> Result<Names, NoMemory>
+    requires { slots.now ≡ slot_table tree.now }
+    ensures { IfOk result (λ names. names ≡ line_names tree.now world.now) }
+{
+    let facts = names_of_facts(alloc, world)?;
+    let cells = copies_of_cells(alloc, cells(slots))?;
+    let mut inputs = Vec::new(alloc);
+    add_inputs(alloc, &tree.term, world.rows.list(), &mut inputs)?;
+    Ok(Names {
+        facts,
+        cells,
+        inputs,
+    })
 }

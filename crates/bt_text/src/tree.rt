@@ -199,9 +199,8 @@ fn write_written<K: Sink>(
     Ok(())
 }
 
-/// Writes the tree as a tree file that reads back as the same tree, each line by one write. After a
-/// stop some front of the lines was written. `TextStop::WriteFault` comes only where the sink's
-/// count of failures rose in this call.
+/// Writes the tree as a tree file, each line by one write. After a stop some front of the lines was
+/// written. `TextStop::WriteFault` comes only where the sink's count of failures rose in this call.
 #[tactic(auto, using(bt_outside::proofs::Appends::appending))]
 pub fn write_tree<K: Sink>(alloc: Global, out: &mut K, tree: &Tree) -> Result<(), TextStop>
     ensures whole { OnOk result (Appended (K.written out.old) (K.written out.new) (concat (tree_lines tree.now))) }

@@ -1,9 +1,10 @@
 ghost use Rattle.std.specs.Prelude.{◌≡◌, ◌++◌, OnOk};
-ghost use Rattle.bt_model.specs.Lines.{answer_word, cause_words, port_word, status_word};
+ghost use Rattle.bt_model.specs.Lines.{answer_word, cause_words, port_word, status_word, value_words};
 
-use crate::put::put_bytes;
+use crate::names::Names;
+use crate::put::{put_bytes, put_quoted, put_signed};
 use bt_model::{Answer, Cause, PortId, Status};
-use bt_script::NoMemory;
+use bt_script::{NoMemory, Value};
 
 /// The word of the status.
 pub fn status_word(status: Status) -> &'static [u8]
@@ -44,13 +45,19 @@ pub fn port_word(port: PortId) -> &'static [u8]
     }
 }
 
-/// Puts the words of the cause at the end.
-pub fn put_cause(out: &mut Vec<u8>, cause: Cause) -> Result<(), NoMemory>
-    ensures { OnOk result (out.new.items ≡ out.old.items ++ cause_words cause) }
+/// Puts the words of the cause of a fault of the node of this uid at the end.
+pub fn put_cause(out: &mut Vec<u8>, uid: u32, cause: Cause, names: &Names) -> Result<(), NoMemory>
+    ensures { OnOk result (out.new.items ≡ out.old.items ++ cause_words names.now uid cause) }
 {
     match cause {
-        Cause::NoEntry { .. } => put_bytes(out, b"NoEntry"),
-        Cause::NoInput { .. } => put_bytes(out, b"NoInput"),
+        Cause::NoEntry { slot } => {
+            put_bytes(out, b"NoEntry ")?;
+            names.put_cell(out, slot)
+        }
+        Cause::NoInput { place } => {
+            put_bytes(out, b"NoInput ")?;
+            put_bytes(out, names.input_name(uid, place))
+        }
         Cause::Overflow => put_bytes(out, b"Overflow"),
         Cause::ZeroDivisor => put_bytes(out, b"ZeroDivisor"),
         Cause::NotWhole => put_bytes(out, b"NotWhole"),
@@ -60,5 +67,15 @@ pub fn put_cause(out: &mut Vec<u8>, cause: Cause) -> Result<(), NoMemory>
             put_bytes(out, b"BadPort ")?;
             put_bytes(out, port_word(port))
         }
+    }
+}
+
+/// Puts the value at the end: a number in decimal, or a text in quotes.
+pub fn put_value(out: &mut Vec<u8>, value: &Value) -> Result<(), NoMemory>
+    ensures { OnOk result (out.new.items ≡ out.old.items ++ value_words value.now) }
+{
+    match value {
+        Value::Int(n) => put_signed(out, *n),
+        Value::Text(text) => put_quoted(out, text.list()),
     }
 }

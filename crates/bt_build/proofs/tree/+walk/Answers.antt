@@ -1,11 +1,11 @@
-use Rattle.std.proofs.Common.{◌≡◌, ◌<◌, ℕ, length, Result, true, false, ap, sym, ◌∙◌, subst, arith}
+use Rattle.std.proofs.Common.{◌≡◌, ◌<◌, length, Result, ap, sym, ◌∙◌, subst, arith}
 use Rattle.std.proofs.lemmas.Bool.Decides.{nat_tests}
 use Rattle.std.proofs.lemmas.Result.{err_from_is_err_and}
 use Rattle.bt_script.specs.Stops.{Gives}
 use Rattle.bt_model.specs.declared.term.Term.{Term}
 use Rattle.bt_build.specs.declared.fault.BuildFault.{BuildFault}
 use Rattle.bt_build.specs.declared.tree.Numbers.{Numbers}
-use Rattle.bt_build.specs.Reads.{node_by, node_of, nodes_by, opened_by, read_node}
+use Rattle.bt_build.specs.Reads.{node_of, nodes_by, read_node}
 use Rattle.bt_build.specs.Seen.{file_seen, ids_seen}
 use Rattle.bt_build.proofs.Nodes.{behind_more, behind_fault}
 use Rattle.bt_build.proofs.Walk.{passed, read_some, node_plain, node_opened, node_fault}
@@ -25,8 +25,8 @@ pub node_by-returns : goal.node_by-returns
 node_by-returns t c =
     let file = file_seen c.args.file.now in
     let e = node_plain file (read_node file c.args.left) c.args.head.now c.args.element.now (ids_seen c.args.opened.now) c.args.numbers
-      c.list-attributes.result.now c.list-children.result.now c.list-attributes.ensures c.list-children.ensures
-      (sym c.is_subtree.ensures ∙ c.if-is_subtree.false) (sym c.takes.ensures ∙ c.if-not-takes.false) in
+    c.list-attributes.result.now c.list-children.result.now c.list-attributes.ensures c.list-children.ensures
+    (sym c.is_subtree.ensures ∙ c.if-is_subtree.false) (sym c.takes.ensures ∙ c.if-not-takes.false) in
     subst (λ (r : Read). Gives c.node_of.result r) (sym e) c.node_of.ensures
 
 pub opened_by-returns : goal.opened_by-returns
@@ -36,8 +36,8 @@ opened_by-returns t c =
     let none : length c.list.result.now ≡ 0 = grind (arith, nat_tests) in
     let one : length c.list-roots.result.now ≡ 1 = omega arith in
     let e = node_opened file (read_node file c.args.left) c.args.head.now c.args.element.now c.in-Some.tree.now (ids_seen c.args.opened.now) (ids_seen c.as_slice.result.now) c.args.numbers
-      c.list-attributes.result.now c.list.result.now c.list-roots.result.now c.list-attributes.ensures c.list.ensures c.list-roots.ensures
-      c.in-Some.ensures (sym c.is_opened.ensures ∙ c.if-is_opened.false) few none one (ap ids_seen c.as_slice.ensures.value ∙ c.in_ok-inner.ensures) in
+    c.list-attributes.result.now c.list.result.now c.list-roots.result.now c.list-attributes.ensures c.list.ensures c.list-roots.ensures
+    c.in-Some.ensures (sym c.is_opened.ensures ∙ c.if-is_opened.false) few none one (ap ids_seen c.as_slice.ensures.value ∙ c.in_ok-inner.ensures) in
     subst (λ (r : Read). Gives c.node_of.result r) (sym e) c.node_of.ensures
 
 pub node_of-returns-in_err-terms : goal.node_of-returns-in_err-terms
@@ -47,10 +47,10 @@ node_of-returns-in_err-terms t c =
     let below = read_node (file_seen c.args.file.now) c.args.left in
     let opened = ids_seen c.args.opened.now in
     rw (p.1, p.2) (passed c.in_err-terms.field-0.0
-      (nodes_by below opened c.args.children.now c.args.numbers)
-      (node_of models below c.args.head.now c.args.attributes.now opened c.args.children.now c.args.numbers c.args.uid)
-      c.in_err-terms.ensures
-      (λ f h. node_fault models below c.args.head.now c.args.attributes.now opened c.args.children.now c.args.numbers c.args.uid c.in_ok-content.content f c.in_ok-content.ensures h))
+    (nodes_by below opened c.args.children.now c.args.numbers)
+    (node_of models below c.args.head.now c.args.attributes.now opened c.args.children.now c.args.numbers c.args.uid)
+    c.in_err-terms.ensures
+    (λ f h. node_fault models below c.args.head.now c.args.attributes.now opened c.args.children.now c.args.numbers c.args.uid c.in_ok-content.content f c.in_ok-content.ensures h))
 
 pub nodes_by-loop-element-preserved : goal.nodes_by-loop-element-preserved
 nodes_by-loop-element-preserved t c =
@@ -67,7 +67,7 @@ nodes_by-returns-in_err-term t c =
     let opened = ids_seen c.args.opened.now in
     let within : c.loop-element.element-index < length c.args.elements.now = omega arith in
     rw (p.1, p.2) (passed c.in_err-term.field-0.0
-      (below c.element-item.result opened c.loop-element.so_far)
-      (nodes_by below opened c.args.elements.now c.args.numbers)
-      c.in_err-term.ensures
-      (λ f h. sym c.loop-element.invariant ∙ behind_fault below opened c.args.elements.now c.loop-element.element-index c.element-item.result c.loop-element.so_far c.loop-element.terms.items f within c.element-item.is h))
+    (below c.element-item.result opened c.loop-element.so_far)
+    (nodes_by below opened c.args.elements.now c.args.numbers)
+    c.in_err-term.ensures
+    (λ f h. sym c.loop-element.invariant ∙ behind_fault below opened c.args.elements.now c.loop-element.element-index c.element-item.result c.loop-element.so_far c.loop-element.terms.items f within c.element-item.is h))

@@ -1,4 +1,4 @@
-use Rattle.std.proofs.Common.{◌≡◌, ℕ, List, [], ◌∷◌, map, ap, ◌∙◌, Bor}
+use Rattle.std.proofs.Common.{ℕ, List, [], ◌∷◌, ap, ◌∙◌, Bor}
 use Rattle.std.specs.Prelude.{bytes_eq}
 use Rattle.std.proofs.lemmas.List.{map-append}
 use Rattle.indexmap.proofs.CallerLemmas.{insert_entry-new}

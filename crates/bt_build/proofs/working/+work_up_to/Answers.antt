@@ -1,4 +1,4 @@
-use Rattle.std.proofs.Common.{◌≡◌, ◌+◌, ◌*◌, ◌≤◌, ℕ, List, length, map, min, sum, ap, sym, ◌∙◌, arith, drop_of_length-le}
+use Rattle.std.proofs.Common.{◌+◌, ◌*◌, ◌≤◌, ℕ, List, length, map, min, sum, ap, sym, ◌∙◌, arith, drop_of_length-le}
 use Rattle.bt_model.specs.declared.term.Term.{Term, out-Term}
 use Rattle.bt_model.specs.Terms.{times_of, work_of}
 use Rattle.bt_build.proofs.WorkLimits.{limited, work_of-term}

@@ -1,4 +1,4 @@
-use Rattle.std.proofs.Common.{◌≡◌, true, List, ℕ, ◌∷◌, [], drop, ap, sym, ◌∙◌}
+use Rattle.std.proofs.Common.{◌≡◌, true, List, ℕ, ◌∷◌, [], ap, sym, ◌∙◌}
 use Rattle.bt_elements.specs.References.{begins_with}
 use Rattle.bt_elements.proofs.Asides.{begins_is}
 use Rattle.bt_elements.proofs.Cuts.{cut_order_mark}

@@ -1,4 +1,4 @@
-use Rattle.std.proofs.Common.{◌≡◌, ℕ, Bor, Ok, Err, true, false, ◌+◌, ◌-◌, ◌∷◌, length, take, drop, ap, sym, ◌∙◌, subst, List, arith, [], ◌≤◌}
+use Rattle.std.proofs.Common.{◌≡◌, ℕ, Bor, Ok, Err, true, false, ◌+◌, ◌-◌, ◌∷◌, length, take, drop, ap, sym, ◌∙◌, subst, List, arith, []}
 use Rattle.std.proofs.lemmas.List.{length-drop}
 use Rattle.std.proofs.lemmas.Result.{err_from_is_err_and}
 use Rattle.std.specs.List.{prefix_len}
@@ -6,7 +6,7 @@ use Rattle.bt_script.specs.Identifiers.{is_white}
 use Rattle.bt_script.specs.Stops.{Gives}
 use Rattle.bt_elements.specs.declared.element.ElementFault.TheVariants.{StrayText}
 use Rattle.bt_elements.specs.declared.mark.Mark.{Mark}
-use Rattle.bt_elements.specs.Reading.{GivesAs, mark_at, step, may_stand, seen, text_len, finished, read}
+use Rattle.bt_elements.specs.Reading.{GivesAs, mark_at, step, may_stand, seen, text_len, finished}
 use Rattle.bt_elements.proofs.Files.{read_stray, read_last, read_on, mark_stops, step_stops, cut_mark}
 use Rattle.bt_elements.proofs.References.{empty_from}
 use Rattle.bt_elements.proofs.read.document.Goals as goal
@@ -67,7 +67,7 @@ returns-in_err-take c =
     let mark = subst (λ (n : ℕ). mark_at n inner ≡ Ok (c.in_ok-mark.mark, c.in_ok-mark.next.now)) there c.in_ok-mark.ensures.read in
     let faulty = subst (λ (n : ℕ). GivesAs (λ (x : Unit {0}). seen c.take.new.self) (Err stop) (step st n c.in_ok-mark.mark)) there c.in_err-take.ensures in
     rw (p.1, p.2) (subst (Gives (Err stop)) c.marks.invariant.read
-      (step_stops (λ (x : Unit {0}). seen c.take.new.self) stop (length bytes) st rest first inner c.in_ok-mark.mark c.in_ok-mark.next.now stands is mark faulty))
+    (step_stops (λ (x : Unit {0}). seen c.take.new.self) stop (length bytes) st rest first inner c.in_ok-mark.mark c.in_ok-mark.next.now stands is mark faulty))
 
 pub marks-preserved : goal.marks-preserved
 marks-preserved c =

@@ -1,4 +1,4 @@
-use Rattle.std.proofs.Common.{◌≡◌, ℕ, Bool, List, true, take, ap, sym, ◌∙◌, subst}
+use Rattle.std.proofs.Common.{◌≡◌, ℕ, List, true, take, ap, sym, ◌∙◌, subst}
 use Rattle.std.specs.Char.{is_digit}
 use Rattle.std.specs.List.{list_all, prefix_len}
 use Rattle.bt_elements.proofs.Fronts.{taken}

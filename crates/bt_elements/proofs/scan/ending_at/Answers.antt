@@ -1,4 +1,4 @@
-use Rattle.std.proofs.Common.{◌≡◌, true, Some, length, drop, subst, sym, ◌∙◌}
+use Rattle.std.proofs.Common.{◌≡◌, true, length, drop, subst, sym, ◌∙◌}
 use Rattle.std.specs.Str.{IsUtf8}
 use Rattle.bt_elements.specs.References.{begins_with}
 use Rattle.bt_elements.proofs.Asides.{here_found, behind_utf8}

@@ -1,5 +1,5 @@
 use Rattle.std.proofs.Common.{◌≡◌, ◌≤◌, length, drop}
-use Rattle.bt_model.specs.Lines.{fact_names}
+use Rattle.bt_model.specs.Lines.{line_names}
 use Rattle.bt_tick.specs.Run.{run_from}
 use Rattle.bt_tick.specs.Visit.{meaning}
 use Rattle.bt_main.specs.Output.{run_output, text_of}
@@ -16,5 +16,5 @@ invariant-loop-event g l =
       term : l.runs.plain.term.now ≡ l.tree.term;
       few : length l.runs.facts.items ≡ length l.world.facts;
       count : faults l.fn.out ≤ faults l.out;
-      rest : Rest (written l.fn.out) (written l.out) (text_of (fact_names l.world) (run_from (meaning l.tree.term) l.world.rows l.world.runners (drop l.event-index l.event-items) (one_runner l.runs.plain.memory l.runs.plain.instances.items l.runs.facts.items l.runs.last)).blocks) (run_output l.tree l.world).bytes;
+      rest : Rest (written l.fn.out) (written l.out) (text_of (line_names l.tree l.world) (run_from (meaning l.tree.term) l.world.rows l.world.runners (drop l.event-index l.event-items) (one_runner l.runs.plain.memory l.runs.plain.instances.items l.runs.facts.items l.runs.last)).blocks) (run_output l.tree l.world).bytes;
     }

@@ -1,5 +1,5 @@
 use Rattle.std.proofs.Common.{◌∙◌}
-use Rattle.bt_text.proofs.Lines.{Appended-lines_of, AppendedFront-lines_of_facts, AppendedFront-lines_of_notes}
+use Rattle.bt_text.proofs.Lines.{Appended-lines_of, AppendedFront-lines_of_entries, AppendedFront-lines_of_facts, AppendedFront-lines_of_notes}
 use Rattle.bt_outside.proofs.Appends.{AppendedFront-whole}
 use Rattle.bt_text.proofs.block.write_block.Goals as goal
 
@@ -16,12 +16,21 @@ returns-in_err-write_facts-clause-front g c =
     let facts = rw c.list-2.ensures at c.in_err-write_facts.ensures.front in
     AppendedFront-lines_of_facts c.args.names.now c.args.block.now _ _ _ _ event notes facts
 
+pub returns-in_err-write_entries-clause-front : goal.returns-in_err-write_entries-clause-front
+returns-in_err-write_entries-clause-front g c =
+    let event = rw (c.as_slice.ensures.value ∙ c.in_ok-event.ensures) at c.in_ok-write_line.ensures.whole in
+    let notes = rw c.list.ensures at c.in_ok-write_notes.ensures.whole in
+    let facts = rw c.list-2.ensures at c.in_ok-write_facts.ensures.whole in
+    let entries = rw c.list-3.ensures at c.in_err-write_entries.ensures.front in
+    AppendedFront-lines_of_entries c.args.names.now c.args.block.now _ _ _ _ _ event notes facts entries
+
 pub returns-clause-whole : goal.returns-clause-whole
 returns-clause-whole g c =
     let event = rw (c.as_slice.ensures.value ∙ c.in_ok-event.ensures) at c.in_ok-write_line.ensures.whole in
     let notes = rw c.list.ensures at c.in_ok-write_notes.ensures.whole in
     let facts = rw c.list-2.ensures at c.in_ok-write_facts.ensures.whole in
-    Appended-lines_of c.args.names.now c.args.block.now _ _ _ _ event notes facts
+    let entries = rw c.list-3.ensures at c.in_ok-write_entries.ensures.whole in
+    Appended-lines_of c.args.names.now c.args.block.now _ _ _ _ _ event notes facts entries
 
 pub returns-clause-front : goal.returns-clause-front
 returns-clause-front g c = AppendedFront-whole _ _ _ (returns-clause-whole g c)

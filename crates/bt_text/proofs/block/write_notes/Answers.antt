@@ -5,19 +5,19 @@ use Rattle.bt_text.proofs.block.write_notes.Goals as goal
 
 pub returns-in_err-line-clause-front : goal.returns-in_err-line-clause-front
 returns-in_err-line-clause-front g c =
-    AppendedFront-map_some note_line c.args.notes.now c.loop-note.note-index _ _ c.loop-note.invariant.text
+    AppendedFront-map_some (note_line c.args.names.now) c.args.notes.now c.loop-note.note-index _ _ c.loop-note.invariant.text
 
 pub returns-in_err-write_line-clause-front : goal.returns-in_err-write_line-clause-front
 returns-in_err-write_line-clause-front g c =
     let within : c.loop-note.note-index < length c.args.notes.now = omega arith in
     let front = rw (c.as_slice.ensures.value ∙ c.in_ok-line.ensures) at c.in_err-write_line.ensures.front in
-    AppendedFront-map_next note_line c.args.notes.now c.loop-note.note-index _ _ _ _ within c.loop-note.invariant.text front
+    AppendedFront-map_next (note_line c.args.names.now) c.args.notes.now c.loop-note.note-index _ _ _ _ within c.loop-note.invariant.text front
 
 pub loop-note-preserved : goal.loop-note-preserved
 loop-note-preserved g c =
     let within : c.loop-note.note-index < length c.args.notes.now = omega arith in
     let whole = rw (c.as_slice.ensures.value ∙ c.in_ok-line.ensures) at c.in_ok-write_line.ensures.whole in
     record {
-      text = Appended-map_more note_line c.args.notes.now c.loop-note.note-index _ _ _ _ within c.loop-note.invariant.text whole;
+      text = Appended-map_more (note_line c.args.names.now) c.args.notes.now c.loop-note.note-index _ _ _ _ within c.loop-note.invariant.text whole;
       count = omega arith;
     }

@@ -9,6 +9,6 @@ invariant-loop-note g l =
     let written = g.K.Sink.written in
     let faults = g.K.Sink.faults in
     record {
-      text : Appended (written l.fn.out) (written l.out) (concat (map note_line (take l.note-index l.notes)));
+      text : Appended (written l.fn.out) (written l.out) (concat (map (note_line l.names) (take l.note-index l.notes)));
       count : faults l.fn.out ≤ faults l.out;
     }

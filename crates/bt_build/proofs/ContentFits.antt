@@ -1,0 +1,91 @@
+-- What the attributes of a node say fits its kind.
+use Rattle.std.proofs.Common.{◌≡◌, inl, inr, ℕ, Bool, true, false, List, Option, Some, None, Ok, refl, sym, subst}
+use Rattle.std.specs.Prelude.{not}
+use Rattle.bt_script.specs.declared.syntax.Script.{Script}
+use Rattle.bt_model.specs.declared.term.Guards.{Guards}
+use Rattle.bt_model.specs.declared.term.Kind.{Kind}
+use Rattle.bt_model.specs.declared.term.Kind.TheVariants.{SubTree, Leaf}
+use Rattle.bt_model.specs.declared.term.Port.{Port}
+use Rattle.bt_model.specs.BuiltIns.{has_code, kind_named, ports_of}
+use Rattle.bt_model.specs.Trees.{CodeFits, GuardsFit, IdFits, autoremap_fits, ports_fit}
+use Rattle.bt_manifest.specs.declared.models.NodeModel.{NodeModel}
+use Rattle.bt_manifest.specs.Attributes.{Attributes}
+use Rattle.bt_manifest.specs.Models.{Models, model_of}
+use Rattle.bt_manifest.specs.Steps.{go_on}
+use Rattle.bt_build.specs.declared.content.Content.{Content}
+use Rattle.bt_build.specs.declared.head.Head.{Head}
+use Rattle.bt_build.specs.Content.{Rules, all_known, autoremap_in, code_text, content_in, guards_in, known_in, model_rules, ports_in, rest_in, rules_of, script_of, scripts_in}
+use Rattle.bt_build.proofs.HeadFits.{HeadFits}
+use Rattle.bt_build.proofs.KindFits.{fine}
+use Rattle.bt_build.proofs.PortLists.{any_fit, built_fit, key_fit, model_fit}
+use Rattle.bt_build.proofs.ScriptFits.{code_fits, guards_fit, text_fits}
+use Rattle.bt_build.proofs.Sizes.{same_ok, went}
+
+-- what was read of a node
+pub record Parts (uid : ℕ) (kind : Kind) (rules : Rules) (attributes : Attributes) (content : Content) : Type 0 where
+  pub ports : ports_in uid (has_code kind) rules attributes ≡ Ok content.ports
+  pub code : CodeFits (has_code kind) content.code
+  pub guards : GuardsFit content.guards
+  pub autoremap : autoremap_in uid kind attributes ≡ Ok content.autoremap
+
+parts_by : (uid : ℕ) (kind : Kind) (rules : Rules) (attributes : Attributes) (content : Content) (b : Bool) → known_in uid b kind rules attributes ≡ Ok content → Parts uid kind rules attributes content
+parts_by uid kind rules attributes content false h = absurd (cc)
+parts_by uid kind rules attributes content true h =
+    let p = went (rest_in uid kind attributes) (ports_in uid (has_code kind) rules attributes) content h in
+    let t = went (λ (text : Option (List ℕ)). go_on (λ autoremap. scripts_in uid p.0 text autoremap attributes) (autoremap_in uid kind attributes)) (code_text uid (has_code kind) attributes) content p.2 in
+    let a = went (λ (autoremap : Bool). scripts_in uid p.0 t.0 autoremap attributes) (autoremap_in uid kind attributes) content t.2 in
+    let c = went (λ (code : Option Script). go_on (λ guards. Ok (record { ports = p.0; code = code; guards = guards; autoremap = a.0 })) (guards_in uid attributes)) (script_of uid t.0) content a.2 in
+    let g = went (λ (guards : Guards). Ok (record { ports = p.0; code = c.0; guards = guards; autoremap = a.0 })) (guards_in uid attributes) content c.2 in
+    subst (λ (x : Content). Parts uid kind rules attributes x) (same_ok (record { ports = p.0; code = c.0; guards = g.0; autoremap = a.0 }) content g.2)
+    (record {
+      ports = p.1;
+      code = code_fits uid (has_code kind) t.0 c.0 (text_fits uid (has_code kind) attributes t.0 t.1) c.1;
+      guards = guards_fit uid attributes g.0 g.1;
+      autoremap = a.1;
+    })
+
+pub parts : (uid : ℕ) (models : Models) (kind : Kind) (id : List ℕ) (attributes : Attributes) (content : Content) → content_in uid models kind id attributes ≡ Ok content →
+    Parts uid kind (rules_of models kind id) attributes content
+parts uid models kind id attributes content h = parts_by uid kind (rules_of models kind id) attributes content (all_known (has_code kind) (rules_of models kind id) attributes) h
+
+autoremap_said : (uid : ℕ) (kind : Kind) (attributes : Attributes) (b : Bool) → autoremap_in uid kind attributes ≡ Ok b → autoremap_fits kind b ≡ true
+autoremap_said uid SubTree attributes b h = refl
+autoremap_said uid _ attributes b h = subst (λ (x : Bool). not x ≡ true) (same_ok false b h) refl
+
+leaf_ports : (uid : ℕ) (attributes : Attributes) (ports : List Port) (o : Option NodeModel) → ports_in uid false (model_rules o) attributes ≡ Ok ports → ports_fit Leaf ports ≡ true
+leaf_ports uid attributes ports None h = any_fit uid false attributes ports h
+leaf_ports uid attributes ports (Some model) h = model_fit uid false model.ports attributes ports h
+
+-- what a node says fits its kind and its ID
+pub record Fitting (kind : Kind) (node_id : List ℕ) (content : Content) : Type 0 where
+  pub id : IdFits kind node_id
+  pub ports : ports_fit kind content.ports ≡ true
+  pub code : CodeFits (has_code kind) content.code
+  pub guards : GuardsFit content.guards
+  pub autoremap : autoremap_fits kind content.autoremap ≡ true
+
+subtree_fits : (uid : ℕ) (models : Models) (id : List ℕ) (attributes : Attributes) (content : Content) → content_in uid models SubTree id attributes ≡ Ok content → Fitting SubTree id content
+subtree_fits uid models id attributes content h =
+    let p = parts uid models SubTree id attributes content h in
+    record { id = tt; ports = key_fit uid false attributes content.ports p.ports; code = p.code; guards = p.guards; autoremap = refl }
+
+leaf_fits : (uid : ℕ) (models : Models) (id : List ℕ) (attributes : Attributes) (content : Content) → kind_named id ≡ None → content_in uid models Leaf id attributes ≡ Ok content → Fitting Leaf id content
+leaf_fits uid models id attributes content none h =
+    let p = parts uid models Leaf id attributes content h in
+    record { id = none; ports = leaf_ports uid attributes content.ports (model_of id models) p.ports; code = p.code; guards = p.guards; autoremap = autoremap_said uid Leaf attributes content.autoremap p.autoremap }
+
+built_fits : (uid : ℕ) (models : Models) (kind : Kind) (id : List ℕ) (attributes : Attributes) (content : Content) → kind_named id ≡ Some kind → content_in uid models kind id attributes ≡ Ok content → Fitting kind id content
+built_fits uid models kind id attributes content named h =
+    let f = fine id kind named in
+    let p = parts uid models kind id attributes content h in
+    let q = built_fit uid (has_code kind) (ports_of kind) attributes content.ports f.own f.written
+    (subst (λ (r : Rules). ports_in uid (has_code kind) r attributes ≡ Ok content.ports) (f.rules models id) p.ports) in
+    record { id = f.id id named; ports = f.fit content.ports q.0 q.1; code = p.code; guards = p.guards; autoremap = autoremap_said uid kind attributes content.autoremap p.autoremap }
+
+pub content_fits : (uid : ℕ) (models : Models) (head : Head) (attributes : Attributes) (content : Content) → HeadFits head → content_in uid models head.kind head.id attributes ≡ Ok content →
+    Fitting head.kind head.id content
+content_fits uid models head attributes content (inl subtree) h =
+    subst (λ (k : Kind). Fitting k head.id content) (sym subtree) (subtree_fits uid models head.id attributes content (subst (λ (k : Kind). content_in uid models k head.id attributes ≡ Ok content) subtree h))
+content_fits uid models head attributes content (inr (inl leaf)) h =
+    subst (λ (k : Kind). Fitting k head.id content) (sym leaf.0) (leaf_fits uid models head.id attributes content leaf.1 (subst (λ (k : Kind). content_in uid models k head.id attributes ≡ Ok content) leaf.0 h))
+content_fits uid models head attributes content (inr (inr named)) h = built_fits uid models head.kind head.id attributes content named h

@@ -1,0 +1,116 @@
+-- The scripts that are read fit their node.
+use Rattle.std.proofs.Common.{◌≡◌, ℕ, Bool, true, false, List, codes, Option, Some, None, Result, Ok, Err, inl, inr, refl, sym, subst}
+use Rattle.std.specs.Prelude.{option_map}
+use Rattle.bt_script.specs.declared.fault.ScriptFault.{ScriptFault}
+use Rattle.bt_script.specs.declared.syntax.Script.{Script}
+use Rattle.bt_script.specs.Reading.{ReadsScript}
+use Rattle.bt_model.specs.declared.term.Guards.{Guards}
+use Rattle.bt_model.specs.Trees.{CodeFits, GuardsFit, ScriptFits}
+use Rattle.bt_manifest.specs.Attributes.{Attributes, value_of}
+use Rattle.bt_manifest.specs.Steps.{go_on}
+use Rattle.bt_build.specs.declared.fault.BuildFault.{BuildFault}
+use Rattle.bt_build.specs.Content.{code_text, guard_in, guards_in, or_bad, or_bad_script, script_of}
+use Rattle.bt_build.specs.EveryText.{Reading, every_text}
+use Rattle.bt_build.specs.Scripts.{script_in}
+use Rattle.bt_build.proofs.Sizes.{same_ok, went}
+
+ok_script : (s t : Script) → ◌≡◌ {A = Result Script ScriptFault} (Ok s) (Ok t) → s ≡ t
+ok_script s t h = cc
+
+chosen : (text : List ℕ) (s : Script) (r : Reading text) → elim r as (λ _. Result Script ScriptFault) [ inl t ↦ Ok t.0 | inr f ↦ Err f.0 ] ≡ Ok s → ReadsScript text s
+chosen text s (inl t) h = subst (λ (x : Script). ReadsScript text x) (ok_script t.0 s h) t.1
+chosen text s (inr f) h = absurd (cc)
+
+-- a script that is read is one that its text reads as
+pub script_in-reads : (text : List ℕ) (s : Script) → script_in text ≡ Ok s → ReadsScript text s
+unfolding script_in
+script_in-reads text s h = chosen text s (every_text text) h
+
+own_text : (text : List ℕ) (s : Script) → ReadsScript text s → ReadsScript s.text s
+own_text text s h = subst (λ (t : List ℕ). ReadsScript t s) (sym h.0) h
+
+read_by : (uid : ℕ) (text : List ℕ) (o : Option Script) (r : Result Script ScriptFault) → script_in text ≡ r → or_bad_script uid r ≡ Ok o → ScriptFits o
+read_by uid text o (Ok s) e h = subst ScriptFits (same_ok (Some s) o h) (own_text text s (script_in-reads text s e))
+read_by uid text o (Err f) e h = absurd (cc)
+
+pub script_fits : (uid : ℕ) (text : Option (List ℕ)) (o : Option Script) → script_of uid text ≡ Ok o → ScriptFits o
+script_fits uid None o h = let none : ScriptFits None = tt in subst ScriptFits (same_ok None o h) none
+script_fits uid (Some text) o h = read_by uid text o (script_in text) refl h
+
+is_there : (uid : ℕ) (text : List ℕ) (o : Option Script) (r : Result Script ScriptFault) → script_in text ≡ r → or_bad_script uid r ≡ Ok o → CodeFits true o
+is_there uid text o (Ok s) e h = subst (CodeFits true) (same_ok (Some s) o h) (own_text text s (script_in-reads text s e))
+is_there uid text o (Err f) e h = absurd (cc)
+
+-- the code of a node is there exactly where it has one
+abbrev pub TextFits : Bool → Option (List ℕ) → Type 0
+TextFits true None = ⊥
+TextFits true (Some text) = Unit {0}
+TextFits false None = Unit {0}
+TextFits false (Some text) = ⊥
+
+text_by : (uid : ℕ) (o : Option (List ℕ)) (text : Option (List ℕ)) → or_bad uid (option_map Some o) ≡ Ok text → TextFits true text
+text_by uid None text h = absurd (cc)
+text_by uid (Some t) text h = let there : TextFits true (Some t) = tt in subst (TextFits true) (same_ok (Some t) text h) there
+
+pub text_fits : (uid : ℕ) (with_code : Bool) (attributes : Attributes) (text : Option (List ℕ)) → code_text uid with_code attributes ≡ Ok text → TextFits with_code text
+text_fits uid true attributes text h = text_by uid (value_of (codes "code") attributes) text h
+text_fits uid false attributes text h = let none : TextFits false None = tt in subst (TextFits false) (same_ok None text h) none
+
+pub code_fits : (uid : ℕ) (with_code : Bool) (text : Option (List ℕ)) (o : Option Script) → TextFits with_code text → script_of uid text ≡ Ok o → CodeFits with_code o
+code_fits uid true None o t h = absurd t
+code_fits uid true (Some text) o t h = is_there uid text o (script_in text) refl h
+code_fits uid false None o t h = let none : CodeFits false None = tt in subst (CodeFits false) (same_ok None o h) none
+code_fits uid false (Some text) o t h = absurd t
+
+abbrev Read : Type 0
+Read = Result Guards BuildFault
+
+abbrev tail_8 : ℕ → Attributes → Option Script → Option Script → Option Script → Option Script → Option Script → Option Script → Option Script → Option Script → Read
+tail_8 uid attributes failure_if success_if skip_if while_true on_success on_failure post on_halted = Ok (record { failure_if = failure_if; success_if = success_if; skip_if = skip_if; while_true = while_true; on_success = on_success; on_failure = on_failure; post = post; on_halted = on_halted })
+
+abbrev tail_7 : ℕ → Attributes → Option Script → Option Script → Option Script → Option Script → Option Script → Option Script → Option Script → Read
+tail_7 uid attributes failure_if success_if skip_if while_true on_success on_failure post = go_on (tail_8 uid attributes failure_if success_if skip_if while_true on_success on_failure post) (guard_in uid attributes (codes "_onHalted"))
+
+abbrev tail_6 : ℕ → Attributes → Option Script → Option Script → Option Script → Option Script → Option Script → Option Script → Read
+tail_6 uid attributes failure_if success_if skip_if while_true on_success on_failure = go_on (tail_7 uid attributes failure_if success_if skip_if while_true on_success on_failure) (guard_in uid attributes (codes "_post"))
+
+abbrev tail_5 : ℕ → Attributes → Option Script → Option Script → Option Script → Option Script → Option Script → Read
+tail_5 uid attributes failure_if success_if skip_if while_true on_success = go_on (tail_6 uid attributes failure_if success_if skip_if while_true on_success) (guard_in uid attributes (codes "_onFailure"))
+
+abbrev tail_4 : ℕ → Attributes → Option Script → Option Script → Option Script → Option Script → Read
+tail_4 uid attributes failure_if success_if skip_if while_true = go_on (tail_5 uid attributes failure_if success_if skip_if while_true) (guard_in uid attributes (codes "_onSuccess"))
+
+abbrev tail_3 : ℕ → Attributes → Option Script → Option Script → Option Script → Read
+tail_3 uid attributes failure_if success_if skip_if = go_on (tail_4 uid attributes failure_if success_if skip_if) (guard_in uid attributes (codes "_while"))
+
+abbrev tail_2 : ℕ → Attributes → Option Script → Option Script → Read
+tail_2 uid attributes failure_if success_if = go_on (tail_3 uid attributes failure_if success_if) (guard_in uid attributes (codes "_skipIf"))
+
+abbrev tail_1 : ℕ → Attributes → Option Script → Read
+tail_1 uid attributes failure_if = go_on (tail_2 uid attributes failure_if) (guard_in uid attributes (codes "_successIf"))
+
+abbrev tail_0 : ℕ → Attributes → Read
+tail_0 uid attributes = go_on (tail_1 uid attributes) (guard_in uid attributes (codes "_failureIf"))
+
+-- the guards that are read
+pub guards_fit : (uid : ℕ) (attributes : Attributes) (guards : Guards) → guards_in uid attributes ≡ Ok guards → GuardsFit guards
+guards_fit uid attributes guards h =
+    let w0 = went (tail_1 uid attributes) (guard_in uid attributes (codes "_failureIf")) guards h in
+    let w1 = went (tail_2 uid attributes w0.0) (guard_in uid attributes (codes "_successIf")) guards w0.2 in
+    let w2 = went (tail_3 uid attributes w0.0 w1.0) (guard_in uid attributes (codes "_skipIf")) guards w1.2 in
+    let w3 = went (tail_4 uid attributes w0.0 w1.0 w2.0) (guard_in uid attributes (codes "_while")) guards w2.2 in
+    let w4 = went (tail_5 uid attributes w0.0 w1.0 w2.0 w3.0) (guard_in uid attributes (codes "_onSuccess")) guards w3.2 in
+    let w5 = went (tail_6 uid attributes w0.0 w1.0 w2.0 w3.0 w4.0) (guard_in uid attributes (codes "_onFailure")) guards w4.2 in
+    let w6 = went (tail_7 uid attributes w0.0 w1.0 w2.0 w3.0 w4.0 w5.0) (guard_in uid attributes (codes "_post")) guards w5.2 in
+    let w7 = went (tail_8 uid attributes w0.0 w1.0 w2.0 w3.0 w4.0 w5.0 w6.0) (guard_in uid attributes (codes "_onHalted")) guards w6.2 in
+    subst GuardsFit (same_ok (record { failure_if = w0.0; success_if = w1.0; skip_if = w2.0; while_true = w3.0; on_success = w4.0; on_failure = w5.0; post = w6.0; on_halted = w7.0 }) guards w7.2)
+    (record {
+      failure_if = script_fits uid (value_of (codes "_failureIf") attributes) w0.0 w0.1;
+      success_if = script_fits uid (value_of (codes "_successIf") attributes) w1.0 w1.1;
+      skip_if = script_fits uid (value_of (codes "_skipIf") attributes) w2.0 w2.1;
+      while_true = script_fits uid (value_of (codes "_while") attributes) w3.0 w3.1;
+      on_success = script_fits uid (value_of (codes "_onSuccess") attributes) w4.0 w4.1;
+      on_failure = script_fits uid (value_of (codes "_onFailure") attributes) w5.0 w5.1;
+      post = script_fits uid (value_of (codes "_post") attributes) w6.0 w6.1;
+      on_halted = script_fits uid (value_of (codes "_onHalted") attributes) w7.0 w7.1;
+    })

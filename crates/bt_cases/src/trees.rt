@@ -1,0 +1,131 @@
+//! Trees as they are printed: each printed file is printed as itself.
+
+use bt_build::build;
+use bt_elements::read_elements;
+use bt_manifest::manifest_of;
+use bt_outside::SureSink;
+use bt_text::write_tree;
+use std::alloc::{AllocError, Global};
+use std::test::Fail;
+
+/// What the tree of a file is printed as.
+fn printed(alloc: Global, file: &str) -> Result<String, AllocError> {
+    if file.len() > 1_048_576 {
+        return format!(in alloc; "too long");
+    }
+    let Ok(elements) = read_elements(alloc, file.as_bytes()) else {
+        return format!(in alloc; "no elements");
+    };
+    let Ok(models) = manifest_of(alloc, &elements) else {
+        return format!(in alloc; "no models");
+    };
+    let Ok(tree) = build(alloc, &elements, &models, None) else {
+        return format!(in alloc; "no tree");
+    };
+    let mut sink = SureSink::new(alloc);
+    if write_tree(alloc, &mut sink, &tree).is_err() {
+        return format!(in alloc; "not written");
+    }
+    format!(in alloc; "{}", str::from_utf8(sink.list()).unwrap_or("?"))
+}
+
+/// A file as Groot2 saves it, and its printed form.
+const SAVED: (&str, &str) = (
+    r#"<?xml version="1.0" encoding="UTF-8"?>
+<root BTCPP_format="4" main_tree_to_execute="Main">
+  <BehaviorTree ID="Main">
+    <Sequence name="top" _description="go">
+      <SaySomething message="hello"/>
+    </Sequence>
+  </BehaviorTree>
+  <!-- Description of Node Models (used by Groot) -->
+  <TreeNodesModel>
+    <Action ID="SaySomething">
+      <input_port name="message" type="std::string">text to say</input_port>
+      <input_port name="level" default="3"/>
+    </Action>
+  </TreeNodesModel>
+</root>
+"#,
+    r#"<root BTCPP_format="4" main_tree_to_execute="Main">
+  <BehaviorTree ID="Main">
+    <Sequence name="top">
+      <SaySomething message="hello" level="3"/>
+    </Sequence>
+  </BehaviorTree>
+</root>
+"#,
+);
+
+/// Trees that are opened twice, one in another, and one that is not opened.
+const TREES: (&str, &str) = (
+    r#"<root BTCPP_format="4" main_tree_to_execute="Main">
+  <BehaviorTree ID="Low"><Leaf/></BehaviorTree>
+  <BehaviorTree ID="Idle"><Leaf/></BehaviorTree>
+  <BehaviorTree ID="High"><Inverter><SubTree ID="Low" to="{=}"/></Inverter></BehaviorTree>
+  <BehaviorTree ID="Main">
+    <Sequence>
+      <SubTree ID="High" name="first" _autoremap="1" key="{other}" n="-7"/>
+      <SubTree ID="Low"/>
+      <SubTree ID="High"/>
+    </Sequence>
+  </BehaviorTree>
+</root>"#,
+    r#"<root BTCPP_format="4" main_tree_to_execute="Main">
+  <BehaviorTree ID="Main">
+    <Sequence>
+      <SubTree ID="High" name="first" _autoremap="true" key="{other}" n="-7"/>
+      <SubTree ID="Low"/>
+      <SubTree ID="High"/>
+    </Sequence>
+  </BehaviorTree>
+  <BehaviorTree ID="High">
+    <Inverter>
+      <SubTree ID="Low" to="{to}"/>
+    </Inverter>
+  </BehaviorTree>
+  <BehaviorTree ID="Low">
+    <Leaf/>
+  </BehaviorTree>
+</root>
+"#,
+);
+
+/// Explicit and compact nodes, defaults, scripts, guards in another order, and references.
+const NODES: (&str, &str) = (
+    r#"<root BTCPP_format="4">
+  <BehaviorTree ID="a &amp; &quot;b&quot;">
+    <Control ID="Parallel" failure_count="2">
+      <Decorator ID="RunOnce"><Action ID="open-door" tool='&apos;&#x9;"' name="open &lt;"/></Decorator>
+      <Action ID="Sequence_2" name="Sequence_2"/>
+      <Condition ID="root" text="{=}"/>
+      <Action ID="AlwaysSuccess" _post="y := 2" _failureIf="x &lt; 1&#10;"/>
+      <Script code="x := 'a>b'" _onHalted="z" _while="true"/>
+    </Control>
+  </BehaviorTree>
+</root>"#,
+    r#"<root BTCPP_format="4" main_tree_to_execute="a &amp; &quot;b&quot;">
+  <BehaviorTree ID="a &amp; &quot;b&quot;">
+    <Parallel failure_count="2" success_count="-1">
+      <RunOnce then_skip="true">
+        <Action ID="open-door" name="open &lt;" tool="'&#9;&quot;"/>
+      </RunOnce>
+      <Sequence_2/>
+      <Action ID="root" text="{text}"/>
+      <AlwaysSuccess _failureIf="x &lt; 1&#10;" _post="y := 2"/>
+      <Script code="x := 'a>b'" _while="true" _onHalted="z"/>
+    </Parallel>
+  </BehaviorTree>
+</root>
+"#,
+);
+
+#[test]
+fn printed_trees(rt: HostRuntime) -> Result<(), Fail> {
+    let alloc = rt.alloc();
+    for (file, wanted) in [SAVED, TREES, NODES] {
+        assert_eq!(rt; printed(alloc, file)?.as_str(), wanted);
+        assert_eq!(rt; printed(alloc, wanted)?.as_str(), wanted);
+    }
+    Ok(())
+}

@@ -1,0 +1,31 @@
+ghost use Rattle.std.specs.Prelude.{◌≡◌, ◌≤◌, List, [], ℕ, IsTrue};
+ghost use Rattle.std.specs.List.{concat, flat_map, list_all};
+ghost use Rattle.bt_elements.specs.Elements.{Spells, depth_of};
+ghost use Rattle.bt_elements.specs.Marks.{is_not_zero, is_value_byte};
+ghost use Rattle.bt_elements.specs.References.{decoded};
+ghost use Rattle.bt_elements.specs.declared.element.Element.{Element};
+ghost use Rattle.bt_model.specs.PrintedTree.{escaped_byte, tree_lines};
+ghost use Rattle.bt_model.specs.Terms.{depth_of as term_depth};
+ghost use Rattle.bt_model.specs.declared.term.Tree.{Tree};
+ghost use Rattle.bt_reread.specs.Printed.{can_be_written, lines_of, unplaced};
+ghost use Rattle.bt_reread.specs.TreeElements.{element_of};
+
+/// A value without the byte 0 is printed as one that may stand between two `"`, and says itself.
+pub fn printed_values_read_back()
+    ensures stands { (value : List ℕ) → IsTrue (list_all is_not_zero value) → IsTrue (list_all (is_value_byte 34) (flat_map escaped_byte value)) }
+    ensures says { (value : List ℕ) → IsTrue (list_all is_not_zero value) → decoded (flat_map escaped_byte value) ≡ value }
+{}
+
+/// An element that can be written is spelled by the bytes that are printed of it, at the places that
+/// it has there.
+pub fn printed_elements_read_back()
+    ensures { (e : Element) → IsTrue (can_be_written e) → depth_of e ≤ 258
+        → (f : Element) × Spells (concat (lines_of e [])) f × (unplaced f ≡ unplaced e) }
+{}
+
+/// The bytes that are printed of a tree of the greatest depth or less spell its element, where this
+/// can be written.
+pub fn printed_trees_spell_their_elements()
+    ensures { (tree : Tree) → IsTrue (can_be_written (element_of tree)) → term_depth tree.term ≤ 256
+        → (f : Element) × Spells (concat (tree_lines tree)) f × (unplaced f ≡ unplaced (element_of tree)) }
+{}

@@ -1,0 +1,8 @@
+//! Laws: what is printed of a tree reads back.
+#![tactic(auto)]
+
+mod laws;
+
+pub use laws::{
+    printed_elements_read_back, printed_trees_spell_their_elements, printed_values_read_back,
+};
