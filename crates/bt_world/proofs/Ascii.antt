@@ -1,5 +1,5 @@
 -- The bytes of a line are ASCII, and so are those of each part of it.
-use Rattle.std.proofs.Common.{◌≡◌, ℕ, zero, suc, ◌<◌, true, List, [], ◌∷◌, drop, get_or, arith, lit<}
+use Rattle.std.proofs.Common.{◌≡◌, ℕ, zero, suc, ◌<◌, true, List, [], ◌∷◌, drop, get_or, sym, subst, arith, lit<}
 use Rattle.std.specs.Str.{IsUtf8}
 use Rattle.std.specs.List.{list_all, prefix_len, position_or_len}
 use Rattle.std.proofs.lemmas.Str.{IsUtf8-from_ascii}
@@ -7,7 +7,7 @@ use Rattle.std.proofs.lemmas.Bool.Decides.{nat_tests}
 use Rattle.std.proofs.lemmas.List.Elements.{All-drop}
 use Rattle.std.proofs.lemmas.List.Sums.{AllPass-from_list_all, list_all-from_AllPass}
 use Rattle.bt_script.proofs.Bools.{both}
-use Rattle.bt_model.specs.WorldFile.{behind, behind_word, is_gap, is_line_byte}
+use Rattle.bt_model.specs.WorldFile.{behind_word, is_gap, is_line_byte}
 
 small : (b : ℕ) → is_line_byte b ≡ true → b < 128
 small b h = grind (arith, nat_tests)
@@ -28,6 +28,5 @@ line-behind_word bs h =
     let rest = drop (position_or_len is_gap bs) bs in
     kept (prefix_len is_gap rest) rest (kept (position_or_len is_gap bs) bs h)
 
-pub line-behind : (n : ℕ) (bs : List ℕ) → list_all is_line_byte bs ≡ true → list_all is_line_byte (behind n bs) ≡ true
-line-behind zero bs h = h
-line-behind (suc n) bs h = line-behind n (behind_word bs) (line-behind_word bs h)
+pub line_once : (text rest : List ℕ) → rest ≡ behind_word text → list_all is_line_byte text ≡ true → list_all is_line_byte rest ≡ true
+line_once text rest is h = subst (λ (bs : List ℕ). list_all is_line_byte bs ≡ true) (sym is) (line-behind_word text h)

@@ -27,33 +27,7 @@ module _ {X : Type 0} (f : X → List ℕ) (d : X) (xs : List X) (i : ℕ) (r : 
       let number : i + 1 + 2 ≡ i + 2 + 1 = omega arith in
       next_line (i + 2) said (Ok left) text (subst (λ (n : ℕ). AfterLines n (map f (drop (i + 1) xs)) left said) number rest)
 
-  -- a faulty line is said at once
-  pub stops_here : (kind : WorldKind) → AfterText r (f (get_or xs i d)) (Err kind) → AfterLines (i + 2) (map f (drop i xs)) r (Err (record { line = i + 2; kind = kind }))
-  stops_here kind text = next_line (i + 2) (Err (record { line = i + 2; kind = kind })) (Err kind) text refl
-
 -- ---- The end of reading
-
--- the fault of a line is said of the file, with its number
-pub located_says :
-    {A B : Type 0} (s : Stop WorldKind) (line : ℕ) (left other : Reading) (text : List ℕ) (r : Reading) (whole : Result Reading WorldFault → Type 0) →
-    ((kind : WorldKind) → AfterText r text (Err kind) → whole (Err (record { line = line; kind = kind }))) →
-    Leaves {A = A} (Err s) left (AfterText r text) → Leaves {A = B} (Err (located s line)) other whole
-located_says stop.NoMemory line left other text r whole h says = tt
-located_says (stop.Fault kind) line left other text r whole h says = h kind says
-
-world_closed : (r : Reading) → world_of (closed r) ≡ world_of r
-world_closed r = ap (λ (rows : List Row). record (world_of r) { rows = rows }) (append-nil (r.rows ++ option_to_list r.open_row))
-
-pub makes_world : (texts : List (List ℕ)) (r now : Reading) (w : World) → AfterLines 2 texts nothing_read (Ok r) → now ≡ closed r → w ≡ world_of now → LinesMake texts (Ok w)
-makes_world texts r now w lines is world = record {
-  after = Ok r;
-  lines = lines;
-  is = ap (λ (x : World). Ok x) (world ∙ ap world_of is ∙ world_closed r);
-}
-
-pub makes_fault : {A : Type 0} (texts : List (List ℕ)) (s : Stop WorldFault) (left r : Reading) → r ≡ nothing_read → Leaves {A = A} (Err s) left (AfterLines 2 texts r) → Gives {X = World} (Err s) (LinesMake texts)
-makes_fault texts stop.NoMemory left r is h = tt
-makes_fault texts (stop.Fault fault) left r is h = record { after = Err fault; lines = subst (λ (q : Reading). AfterLines 2 texts q (Err fault)) is h; is = refl }
 
 shorter : (texts : List (List ℕ)) → length (without_empty_rest texts) ≤ length texts
 shorter [] = omega arith

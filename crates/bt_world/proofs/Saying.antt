@@ -1,16 +1,23 @@
 -- What a call leaves is what the definition says of a line of a row.
-use Rattle.std.proofs.Common.{◌≡◌, ℕ, ◌+◌, Bool, true, List, Option, Some, None, Result, Ok, Err, ℤ, refl, sym, ◌∙◌, ap, subst}
-use Rattle.std.specs.Prelude.{option_map, option_and_then}
+use Rattle.std.proofs.Common.{◌≡◌, ℕ, ◌+◌, Bool, true, false, not, ◌||◌, ◌&&◌, ◌==◌, List, [], map, length, Option, Some, None, Result, Ok, Err, ℤ, refl, sym, ◌∙◌, ap, subst, if◌then◌else◌}
+use Rattle.std.specs.Prelude.{bytes_eq, nat_abs, nat_le, nat_lt, option_map, option_and_then}
+use Rattle.std.specs.List.{list_all, list_any}
+use Rattle.std.specs.Str.Parse.{signed_digits_value}
 use Rattle.bt_script.specs.declared.stop.Stop.{Stop}
 use Rattle.bt_script.specs.declared.stop.Stop.TheVariants as stop
 use Rattle.bt_script.specs.declared.syntax.Expr.{Expr}
 use Rattle.bt_model.specs.declared.world.Row.{Row}
 use Rattle.bt_model.specs.declared.world.RowSort.{RowSort}
 use Rattle.bt_model.specs.declared.world_fault.WorldKind.{WorldKind}
-use Rattle.bt_model.specs.declared.world_fault.WorldKind.TheVariants.{BadLine, Range}
-use Rattle.bt_model.specs.WorldFile.{Line, AfterForm, Reading, ReadsNumeric, SaysOf, by_expr, closed, ranged, with_head}
+use Rattle.bt_model.specs.declared.world_fault.WorldKind.TheVariants.{Header, BadLine, Range, DoubleName, NoName, MomentBack, TooMany}
+use Rattle.bt_model.specs.Names.{is_reserved}
+use Rattle.bt_model.specs.Worlds.{ids_of_rows}
+use Rattle.bt_model.specs.WorldFile.{Line, TimedLine, ReplayLine, AfterForm, AfterLine, Reading, behind, ends_after, is_canonical, is_ms, number_in, outcomes_in, replay_line, timed_line, with_action, word, ReadsNumeric, SaysOf, by_expr, closed, is_taken, knows_sort, plain_row, ranged, repeats, with_head}
 use Rattle.bt_model.specs.WorldFile as file
-use Rattle.bt_world.specs.Readings.{Leaves}
+use Rattle.bt_world.specs.Drafts.{DraftSays, HeadChecked, is_double, row_of}
+use Rattle.bt_world.specs.Readings.{Leaves, Passes}
+use Rattle.bt_world.specs.declared.draft.Draft.{Draft}
+use Rattle.bt_world.proofs.Sound.{not_both}
 
 pub leaves_map : {A X F : Type 0} (result : Result A (Stop F)) (left : X) (P Q : Result X F → Type 0) → ((said : Result X F) → P said → Q said) → Leaves result left P → Leaves result left Q
 leaves_map (Ok a) left P Q h k = h (Ok left) k
@@ -21,25 +28,94 @@ leaves_map (Err (stop.Fault f)) left P Q h k = h (Err f) k
 pub says_some : (text : List ℕ) (e : Expr) (rule : Expr → Result Reading WorldKind) (said : Result Reading WorldKind) → ReadsNumeric text (Some e) → said ≡ rule e → SaysOf text rule said
 says_some text e rule said reads is = record { expr = Some e; reads = reads; is = is }
 
--- a text that is no expression makes a bad line
-pub says_none : (text : List ℕ) (rule : Expr → Result Reading WorldKind) → ReadsNumeric text None → SaysOf text rule (Err BadLine)
-says_none text rule reads = record { expr = None; reads = reads; is = refl }
-
 -- what is said of a head that was read
 pub of_head : {A : Type 0} (r left : Reading) (line : file.Head → Option Line) (head : file.Head) (word : List ℕ) (result : Result A (Stop WorldKind)) → Some head ≡ file.head_in word → Leaves result left (AfterForm r (line head)) → Leaves result left (AfterForm r (option_and_then line (file.head_in word)))
 of_head r left line head word result is h = subst (λ (o : Option file.Head). Leaves result left (AfterForm r (option_and_then line o))) is h
-
--- a word that is no head makes a bad line
-pub no_head : (r : Reading) (line : file.Head → Option Line) (word : List ℕ) → None ≡ file.head_in word → AfterForm r (option_and_then line (file.head_in word)) (Err BadLine)
-no_head r line word is = subst (λ (o : Option file.Head). AfterForm r (option_and_then line o) (Err BadLine)) is refl
 
 -- the same of a line that a head alone makes
 pub of_mapped : {A : Type 0} (r left : Reading) (line : file.Head → Line) (head : file.Head) (word : List ℕ) (result : Result A (Stop WorldKind)) → Some head ≡ file.head_in word → Leaves result left (AfterForm r (Some (line head))) → Leaves result left (AfterForm r (option_map line (file.head_in word)))
 of_mapped r left line head word result is h = subst (λ (o : Option file.Head). Leaves result left (AfterForm r (option_map line o))) is h
 
-pub none_mapped : (r : Reading) (line : file.Head → Line) (word : List ℕ) → None ≡ file.head_in word → AfterForm r (option_map line (file.head_in word)) (Err BadLine)
-none_mapped r line word is = subst (λ (o : Option file.Head). AfterForm r (option_map line o) (Err BadLine)) is refl
+-- ---- Heads
 
--- a line that is no expression, whatever its head is
-pub no_expr_mapped : (r : Reading) (line : file.Head → Line) (head : file.Head) (word : List ℕ) → Some head ≡ file.head_in word → AfterForm r (Some (line head)) (Err BadLine) → AfterForm r (option_map line (file.head_in word)) (Err BadLine)
-no_expr_mapped r line head word is h = subst (λ (o : Option file.Head). AfterForm r (option_map line o) (Err BadLine)) is h
+module _ (head : file.Head) (sort : RowSort) (r : Reading) where
+  double : (t : Bool) → is_double r head.id head.ports ≡ t → (add : Row → Reading → Result Reading WorldKind) → with_head head add sort r ≡ (if t then Err DoubleName else (if not (knows_sort head.ports r.facts sort) then Err NoName else (if nat_lt 8 (length head.ports) then Err TooMany else add (plain_row head.id head.ports sort) r)))
+  double t h add = ap (λ (b : Bool). if b then Err DoubleName else (if not (knows_sort head.ports r.facts sort) then Err NoName else (if nat_lt 8 (length head.ports) then Err TooMany else add (plain_row head.id head.ports sort) r))) h
+
+  known : (k : Bool) → is_double r head.id head.ports ≡ false → knows_sort head.ports r.facts sort ≡ k → (add : Row → Reading → Result Reading WorldKind) → with_head head add sort r ≡ (if not k then Err NoName else (if nat_lt 8 (length head.ports) then Err TooMany else add (plain_row head.id head.ports sort) r))
+  known k single h add = double false single add ∙ ap (λ (b : Bool). if not b then Err NoName else (if nat_lt 8 (length head.ports) then Err TooMany else add (plain_row head.id head.ports sort) r)) h
+
+  many : (t : Bool) → is_double r head.id head.ports ≡ false → knows_sort head.ports r.facts sort ≡ true → nat_lt 8 (length head.ports) ≡ t → (add : Row → Reading → Result Reading WorldKind) → with_head head add sort r ≡ (if t then Err TooMany else add (plain_row head.id head.ports sort) r)
+  many t single knows h add = known true single knows add ∙ ap (λ (b : Bool). if b then Err TooMany else add (plain_row head.id head.ports sort) r) h
+
+  -- a head that was checked is the row's
+  pub draft_made : (d : Draft) (id : List ℕ) (ports : List (List ℕ)) → HeadChecked (Ok (id, ports)) head.id head.ports sort r → row_of d ≡ plain_row id ports sort → DraftSays (Ok d) head sort r
+  draft_made d id ports h is =
+      let same : row_of d ≡ plain_row head.id head.ports sort = is ∙ ap (λ (i : List ℕ). plain_row i ports sort) h.1.0 ∙ ap (λ (ps : List (List ℕ)). plain_row head.id ps sort) h.1.1 in
+      let single = not_both (is_taken r.rows head.id) (repeats [] head.ports) h.0 in
+      let own = not_both (is_reserved head.id) (list_any (bytes_eq head.id) (ids_of_rows r.rows)) single.0 in
+      (ap (λ (row : Row). list_any (bytes_eq row.id) (ids_of_rows r.rows)) same ∙ own.1, λ add. many false h.0 h.1.2 h.1.3 add ∙ ap (λ (row : Row). add row r) (sym same))
+
+  -- and its fault is the line's
+  pub draft_refused : (s : Stop WorldKind) → HeadChecked (Err s) head.id head.ports sort r → DraftSays (Err s) head sort r
+  draft_refused stop.NoMemory h = tt
+  draft_refused (stop.Fault DoubleName) h = double true h
+  draft_refused (stop.Fault NoName) h = known false h.0 h.1
+  draft_refused (stop.Fault TooMany) h = many true h.0 h.1.0 h.1.1
+  draft_refused (stop.Fault Header) h = absurd h.1
+  draft_refused (stop.Fault BadLine) h = absurd h.1
+  draft_refused (stop.Fault Range) h = absurd h.1
+  draft_refused (stop.Fault MomentBack) h = absurd h.1
+
+-- ---- Rows
+
+-- what is added is what is said of the head
+pub adds : {A : Type 0} (result : Result A (Stop WorldKind)) (left now : Reading) (head : file.Head) (sort : RowSort) (add : Row → Reading → Result Reading WorldKind) (d : Draft) (row : Row) → DraftSays (Ok d) head sort now → row ≡ row_of d → Leaves result left (λ said. said ≡ add row now) → Leaves result left (λ said. said ≡ with_head head add sort now)
+adds result left now head sort add d row h is = leaves_map result left (λ said. said ≡ add row now) (λ said. said ≡ with_head head add sort now) (λ said k. k ∙ ap (λ (w : Row). add w now) is ∙ sym (h.1 add))
+
+-- and so is its fault
+pub refuses : (s : Stop WorldKind) (left now : Reading) (head : file.Head) (sort : RowSort) (add : Row → Reading → Result Reading WorldKind) → DraftSays (Err s) head sort now → Leaves {A = Unit {0}} (Err s) left (λ said. said ≡ with_head head add sort now)
+refuses stop.NoMemory left now head sort add h = tt
+refuses (stop.Fault kind) left now head sort add h = sym (h add)
+
+-- a row that answers by an expression
+pub says_head :
+    {A : Type 0} (result : Result A (Stop WorldKind)) (left r now : Reading) (text : List ℕ) (e : Expr) (head : file.Head) (add : Row → Reading → Result Reading WorldKind) (sort : Expr → RowSort) →
+    now ≡ closed r → ReadsNumeric text (Some e) → Leaves result left (λ said. said ≡ with_head head add (sort e) now) → Leaves result left (SaysOf text (λ x. with_head head add (sort x) (closed r)))
+says_head result left r now text e head add sort is reads =
+    leaves_map result left (λ said. said ≡ with_head head add (sort e) now) (SaysOf text (λ x. with_head head add (sort x) (closed r)))
+    (λ said k. says_some text e (λ x. with_head head add (sort x) (closed r)) said reads (k ∙ ap (λ (q : Reading). with_head head add (sort e) q) is))
+
+ranged_is : (t : Bool) (said : Result Reading WorldKind) → t ≡ true → said ≡ ranged t said
+ranged_is true said h = refl
+ranged_is false said h = absurd (cc)
+
+number_is : (w text : List ℕ) → w ≡ word 0 text → is_canonical w ≡ true → number_in (word 0 text) ≡ Some (signed_digits_value 10 w)
+number_is w text is canonical = ap number_in (sym is) ∙ ap (λ (t : Bool). if t then Some (signed_digits_value 10 w) else None) canonical
+
+-- a row that lasts
+pub lasts :
+    {A : Type 0} (result : Result A (Stop WorldKind)) (left r now : Reading) (line : Option Line) (z : ℤ) (ms : ℕ) (head : file.Head) (sort : ℕ → RowSort) (form : ℤ → Line) →
+    ((x : ℤ) (said : Result Reading WorldKind) → said ≡ ranged (is_ms x) (with_head head with_action (sort (nat_abs x)) (closed r)) → AfterLine r (form x) said) →
+    now ≡ closed r → line ≡ Some (form z) → Passes is_ms nat_abs z (Some ms) → Leaves result left (λ said. said ≡ with_head head with_action (sort ms) now) → Leaves result left (AfterForm r line)
+lasts result left r now line z ms head sort form after is said_line passes =
+    leaves_map result left (λ said. said ≡ with_head head with_action (sort ms) now) (AfterForm r line)
+    (λ said k. subst (λ (o : Option Line). AfterForm r o said) (sym said_line)
+      (after z said (k ∙ ap (λ (n : ℕ). with_head head with_action (sort n) now) passes.1 ∙ ap (λ (q : Reading). with_head head with_action (sort (nat_abs z)) q) is ∙ ranged_is (is_ms z) (with_head head with_action (sort (nat_abs z)) (closed r)) passes.0)))
+
+ends_is : (text rest : List ℕ) (n : ℕ) → rest ≡ behind n text → (length rest == 0) ≡ true → ends_after n text ≡ true
+ends_is text rest n is h = ap (λ (bs : List ℕ). length bs == 0) (sym is) ∙ h
+
+pub timed_is : (text w rest : List ℕ) (head : file.Head) → w ≡ word 0 text → rest ≡ behind 1 text → (length rest == 0) ≡ true → is_canonical w ≡ true → timed_line text head ≡ Some (TimedLine head (signed_digits_value 10 w))
+timed_is text w rest head is is_rest none canonical =
+    ap (λ (t : Bool). if t then option_map (TimedLine head) (number_in (word 0 text)) else None) (ends_is text rest 1 is_rest none)
+    ∙ ap (option_map (TimedLine head)) (number_is w text is canonical)
+
+pub replay_is :
+    (text w letters rest : List ℕ) (head : file.Head) → w ≡ word 0 text → letters ≡ word 1 text → rest ≡ behind 2 text → (length rest == 0) ≡ true → is_canonical w ≡ true →
+    (nat_lt 0 (length letters) && nat_le (length letters) 64 && list_all (λ b. b == 83 || b == 70) letters) ≡ true →
+    replay_line text head ≡ Some (ReplayLine head (signed_digits_value 10 w) (map (λ b. b == 83) letters))
+replay_is text w letters rest head is is_letters is_rest none canonical all =
+    ap (λ (t : Bool). if t then option_and_then (λ ms. option_map (ReplayLine head ms) (outcomes_in (word 1 text))) (number_in (word 0 text)) else None) (ends_is text rest 2 is_rest none)
+    ∙ ap (option_and_then (λ ms. option_map (ReplayLine head ms) (outcomes_in (word 1 text)))) (number_is w text is canonical)
+    ∙ ap (option_map (ReplayLine head (signed_digits_value 10 w))) (ap outcomes_in (sym is_letters) ∙ ap (λ (t : Bool). if t then Some (map (λ b. b == 83) letters) else None) all)

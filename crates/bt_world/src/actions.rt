@@ -1,10 +1,10 @@
 ghost use Rattle.std.specs.Prelude.{◌≡◌, ◌==◌, ◌||◌, ◌&&◌, Some, true, nat_lt, nat_le, length, map, option_map, option_and_then, IfOk, IsTrue};
 ghost use Rattle.std.specs.List.{list_all};
+ghost use Rattle.std.specs.Str.Parse.{signed_digits_value};
 ghost use Rattle.bt_model.specs.Worlds as worlds;
+ghost use Rattle.bt_model.specs.Worlds.{is_int};
 ghost use Rattle.bt_model.specs.WorldFile as file;
-ghost use Rattle.bt_model.specs.WorldFile.{AfterForm, GateLine, WhenLine, action_line, comparison_in, condition_line, is_line, is_line_byte, outcomes_in, replay_line, timed_line};
-ghost use Rattle.bt_world.specs.Drafts.{DraftSays};
-ghost use Rattle.bt_world.specs.Heads.{seen_head};
+ghost use Rattle.bt_model.specs.WorldFile.{AfterForm, GateLine, WhenLine, action_line, ranged, with_comparison, comparison_in, condition_line, is_line, is_line_byte, outcomes_in, replay_line, timed_line};
 ghost use Rattle.bt_world.specs.Readings.{Leaves};
 
 use crate::draft::Draft;
@@ -176,7 +176,7 @@ impl Reading {
             return Err(Stop::Fault(WorldKind::BadLine));
         };
         self.close(alloc)?;
-        match self.draft_of(alloc, head, RowSort::When(expr)) {
+        match self.draft_of(alloc, head.id, head.ports, RowSort::When(expr)) {
             Ok(draft) => self.add_condition(alloc, draft.into_row()),
             Err(stop) => Err(stop),
         }
@@ -194,7 +194,7 @@ impl Reading {
             return Err(Stop::Fault(WorldKind::BadLine));
         };
         self.close(alloc)?;
-        match self.draft_of(alloc, head, RowSort::Gate(expr)) {
+        match self.draft_of(alloc, head.id, head.ports, RowSort::Gate(expr)) {
             Ok(draft) => self.open_action(draft),
             Err(stop) => Err(stop),
         }
@@ -215,7 +215,7 @@ impl Reading {
         let Some(ms) = ms(number) else {
             return Err(Stop::Fault(WorldKind::Range));
         };
-        match self.draft_of(alloc, head, RowSort::Timed { ms, fails: None }) {
+        match self.draft_of(alloc, head.id, head.ports, RowSort::Timed { ms, fails: None }) {
             Ok(draft) => self.open_action(draft),
             Err(stop) => Err(stop),
         }
@@ -238,7 +238,7 @@ impl Reading {
             return Err(Stop::Fault(WorldKind::Range));
         };
         let outcomes = Items::of(outcomes(alloc, letters)?);
-        match self.draft_of(alloc, head, RowSort::Replay { ms, outcomes }) {
+        match self.draft_of(alloc, head.id, head.ports, RowSort::Replay { ms, outcomes }) {
             Ok(draft) => self.open_action(draft),
             Err(stop) => Err(stop),
         }

@@ -4,13 +4,11 @@ ghost use Rattle.bt_model.specs.Worlds.{is_name, ids_of_rows};
 ghost use Rattle.bt_model.specs.WorldFile as file;
 ghost use Rattle.bt_model.specs.WorldFile.{closed, is_taken, knows_all, nothing_read, plain_row, repeats, row_with_fails, row_with_need, row_with_effect, row_with_out, runners_of, with_action, with_event, with_fact, with_goal, with_moment, with_open, with_row, with_runners, world_of};
 ghost use Rattle.bt_world.specs.Readings.{Leaves};
-ghost use Rattle.bt_world.specs.Drafts.{row_of, DraftSays};
-ghost use Rattle.bt_world.specs.Heads.{seen_head};
+ghost use Rattle.bt_world.specs.Drafts.{row_of, Allowed, DraftSays, HeadChecked};
 
 use crate::draft::Draft;
 use crate::exprs::knows_all;
 use crate::facts::Facts;
-use crate::head::Head;
 use crate::names::name_of;
 use crate::ports::Ports;
 use crate::rows::Rows;
@@ -162,26 +160,62 @@ impl Reading {
         }
     }
 
-    /// The row of this head, which may be added.
-    pub fn draft_of(&self, alloc: Global, head: Head<'_>, sort: RowSort) -> Result<Draft, Stop<WorldKind>>
-        requires { IsTrue (is_name head.id.now) }
-        ensures { DraftSays result (seen_head head.entry) sort self.now }
+    /// The ID and the ports of a new row, where its names are known and its ports are not too many.
+    fn allowed(
+        &self,
+        alloc: Global,
+        id: &[u8],
+        ports: Ports,
+        sort: &RowSort,
+    ) -> Result<(Name, Ports), Stop<WorldKind>>
+        requires { IsTrue (is_name id.now) }
+        ensures { Allowed result id.now ports sort.now self.now }
     {
-        let Head { id, ports } = head;
-        if self.has_taken(id) {
-            return Err(Stop::Fault(WorldKind::DoubleName));
-        }
-        let Some(ports) = Ports::of(alloc, ports)? else {
-            return Err(Stop::Fault(WorldKind::DoubleName));
-        };
-        if !self.knows_sort(&ports, &sort) {
+        if !self.knows_sort(&ports, sort) {
             return Err(Stop::Fault(WorldKind::NoName));
         }
         if ports.len() > MOST_PORTS {
             return Err(Stop::Fault(WorldKind::TooMany));
         }
         let id = name_of(alloc, id)?;
-        Ok(Draft::new(alloc, id, ports, sort))
+        Ok((id, ports))
+    }
+
+    /// The ID and the ports of a row that may be added.
+    fn checked_head(
+        &self,
+        alloc: Global,
+        id: &[u8],
+        names: Vec<Name>,
+        sort: &RowSort,
+    ) -> Result<(Name, Ports), Stop<WorldKind>>
+        requires { IsTrue (is_name id.now) }
+        ensures { HeadChecked result id.now names.items sort.now self.now }
+    {
+        if self.has_taken(id) {
+            return Err(Stop::Fault(WorldKind::DoubleName));
+        }
+        match Ports::of(alloc, names)? {
+            Some(ports) => self.allowed(alloc, id, ports, sort),
+            None => Err(Stop::Fault(WorldKind::DoubleName)),
+        }
+    }
+
+    /// The row of this ID and these ports, which may be added.
+    pub fn draft_of(
+        &self,
+        alloc: Global,
+        id: &[u8],
+        names: Vec<Name>,
+        sort: RowSort,
+    ) -> Result<Draft, Stop<WorldKind>>
+        requires { IsTrue (is_name id.now) }
+        ensures { DraftSays result (record { id = id.now; ports = names.items }) sort self.now }
+    {
+        match self.checked_head(alloc, id, names, &sort) {
+            Ok((id, ports)) => Ok(Draft::new(alloc, id, ports, sort)),
+            Err(stop) => Err(stop),
+        }
     }
 
     /// Adds a fact.

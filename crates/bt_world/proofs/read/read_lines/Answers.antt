@@ -1,0 +1,15 @@
+use Rattle.std.proofs.Common.{◌≡◌, ◌<◌, ◌≤◌, ◌+◌, ℕ, List, length, map, drop, Ok, Err, Result, refl, sym, ap, subst, arith}
+use Rattle.std.proofs.lemmas.List.{drop_all}
+use Rattle.bt_model.specs.declared.world_fault.WorldFault.{WorldFault}
+use Rattle.bt_model.specs.WorldFile.{AfterLines, Reading}
+use Rattle.bt_world.proofs.Onward.{goes_on}
+use Rattle.bt_world.proofs.read.read_lines.Goals as goal
+
+pub loop-text-preserved : goal.loop-text-preserved
+loop-text-preserved c =
+    let within : c.loop-text.text-index < length c.args.lines.now = omega arith in
+    record {
+      line = omega arith;
+      said = λ said rest. c.loop-text.invariant.said said
+          (goes_on (λ text. text.now) _ c.args.lines.now c.loop-text.text-index c.loop-text.reading within c.read_text.new.self said c.in_default.ensures rest);
+    }
