@@ -1,26 +1,22 @@
 -- A valid world stays valid as it grows.
-use Rattle.std.proofs.Common.{◌≡◌, ℕ, zero, suc, ◌+◌, ◌-◌, ◌<◌, ◌≤◌, Bool, true, false, not, List, [], ◌∷◌, ◌++◌, map, length, get_or, ℤ, Option, Some, None, refl, sym, ap, ◌∙◌, subst, arith}
+use Rattle.std.proofs.Common.{◌≡◌, ℕ, zero, suc, ◌-◌, ◌<◌, ◌≤◌, Bool, true, false, List, [], ◌∷◌, ◌++◌, length, Option, Some, None, sym, ap, ◌∙◌, subst, arith}
 use Rattle.std.specs.Prelude.{IsTrue, IfSome, bytes_eq, nat_eq, slice_get}
-use Rattle.std.specs.List.{All, Contains, IsDistinct, list_any}
-use Rattle.std.specs.List.Sorted.{IsNonDecreasingBy}
+use Rattle.std.specs.List.{All, Contains, list_any}
 use Rattle.std.proofs.lemmas.Cmp.{nat_eq_equiv, nat_list_eq_equiv}
-use Rattle.std.proofs.lemmas.List.{append-nil, append_assoc, length_push, map-append, length-map}
-use Rattle.std.proofs.lemmas.List.Elements.{All-push, All-weaker, All-nil, All-cons, All-head, All-tail, All-append, Contains-append_left, All-get_or}
+use Rattle.std.proofs.lemmas.List.{append_assoc, length_push, map-append, length-map}
+use Rattle.std.proofs.lemmas.List.Elements.{All-push, All-weaker, All-nil, All-cons, All-head, All-tail, Contains-append_left, All-get_or}
 use Rattle.std.proofs.lemmas.List.Sorted.{IsNonDecreasingBy-push}
 use Rattle.std.proofs.lemmas.Map.Keys.{IsDistinct-push}
 use Rattle.bt_script.specs.declared.syntax.Expr.{Expr}
 use Rattle.bt_script.specs.Scripts.{names_of}
 use Rattle.bt_model.specs.declared.world.Event.{Event}
 use Rattle.bt_model.specs.declared.world.Fact.{Fact}
-use Rattle.bt_model.specs.declared.world.Out.{Out}
 use Rattle.bt_model.specs.declared.world.Row.{Row}
 use Rattle.bt_model.specs.declared.world.RowSort.{RowSort}
 use Rattle.bt_model.specs.declared.world.RowSort.TheVariants.{Is, When, Timed, Replay, Gate}
-use Rattle.bt_model.specs.declared.world.Set.{Set}
 use Rattle.bt_model.specs.declared.world.What.{What}
 use Rattle.bt_model.specs.declared.world.What.TheVariants.{Tick, Halt, Change}
 use Rattle.bt_model.specs.declared.world.World.{World}
-use Rattle.bt_model.specs.Names.{is_reserved}
 use Rattle.bt_model.specs.Worlds.{AreNames, AreNumbers, IsComparisonIn, IsExprOver, IsValidEvent, IsValidRow, IsValidSet, IsValidSort, IsValidWhat, IsValidWorld, comparisons, ids_of_rows, is_comparison, is_int, is_name, names_of_facts}
 
 -- ---- Lists
@@ -174,8 +170,8 @@ world_with_row w row h valid named free room =
     with_rows w all h
     (subst (AreNames 1024) (sym (map-append (λ r. r.id) w.rows (row ∷ []))) (names-push 1024 (ids_of_rows w.rows) row.id h.ids named free (omega (arith, length-map w.rows (λ r. r.id)))))
     (All-push (IsValidRow w.facts all) w.rows row
-      (All-weaker (IsValidRow w.facts w.rows) (IsValidRow w.facts all) (λ r. row_among w.facts w.rows all r (kept_more w.rows row)) w.rows h.rows)
-      (row_among w.facts w.rows all row (kept_more w.rows row) valid))
+    (All-weaker (IsValidRow w.facts w.rows) (IsValidRow w.facts all) (λ r. row_among w.facts w.rows all r (kept_more w.rows row)) w.rows h.rows)
+    (row_among w.facts w.rows all row (kept_more w.rows row) valid))
     (kept_more w.rows row)
 
 pub world_with_last : (w : World) (rows : List Row) (old new : Row) → w.rows ≡ rows ++ old ∷ [] → IsValidWorld w → new.id ≡ old.id → is_comparison old.sort ≡ is_comparison new.sort → (IsValidRow w.facts (rows ++ old ∷ []) old → IsValidRow w.facts (rows ++ old ∷ []) new) → IsValidWorld (record w { rows = rows ++ new ∷ [] })
@@ -187,8 +183,8 @@ world_with_last w rows old new is h id same valid =
     with_rows (record w { rows = before }) all given
     (subst (AreNames 1024) (map-append (λ r. r.id) rows (old ∷ []) ∙ ap (λ (n : List ℕ). ids_of_rows rows ++ n ∷ []) (sym id) ∙ sym (map-append (λ r. r.id) rows (new ∷ []))) given.ids)
     (All-push (IsValidRow w.facts all) rows new
-      (All-weaker (IsValidRow w.facts before) (IsValidRow w.facts all) (λ r. row_among w.facts before all r kept) rows (all-front (IsValidRow w.facts before) rows (old ∷ []) given.rows))
-      (row_among w.facts before all new kept (valid (all-last (IsValidRow w.facts before) rows old given.rows))))
+    (All-weaker (IsValidRow w.facts before) (IsValidRow w.facts all) (λ r. row_among w.facts before all r kept) rows (all-front (IsValidRow w.facts before) rows (old ∷ []) given.rows))
+    (row_among w.facts before all new kept (valid (all-last (IsValidRow w.facts before) rows old given.rows))))
     kept
 
 -- ---- One more goal or event, and other runners before any event

@@ -1,8 +1,8 @@
 -- Tests of names in maps, sets and lists.
-use Rattle.std.proofs.Common.{◌≡◌, ℕ, ◌+◌, ◌<◌, ◌≤◌, Bool, true, false, not, cond, ◌||◌, ◌&&◌, List, [], ◌∷◌, ◌++◌, map, length, take, drop, get_or, Option, Some, None, Vec, refl, sym, ap, ◌∙◌, subst, arith}
+use Rattle.std.proofs.Common.{◌≡◌, ℕ, ◌+◌, ◌<◌, Bool, true, false, not, cond, ◌||◌, List, [], ◌∷◌, ◌++◌, map, length, take, drop, get_or, Option, Some, None, Vec, refl, sym, ap, ◌∙◌}
 use Rattle.std.specs.Prelude.{position, nat_lt, is_some, bytes_eq}
 use Rattle.std.specs.Global.{Global}
-use Rattle.std.specs.List.{list_any, list_all, prefix_len, position_or_len}
+use Rattle.std.specs.List.{list_any, position_or_len}
 use Rattle.std.specs.Map.{keys_of, values_of, lookup}
 use Rattle.std.proofs.lemmas.List.{length-map, map-append, drop_more, take_more}
 use Rattle.std.proofs.lemmas.Map.Made.{is_some-lookup}

@@ -1,20 +1,17 @@
 -- One line after the other, and the world at the end.
-use Rattle.std.proofs.Common.{◌≡◌, ℕ, ◌+◌, ◌<◌, ◌≤◌, ◌==◌, List, [], ◌∷◌, ◌++◌, map, length, drop, get_or, Result, Ok, Err, refl, sym, ◌∙◌, ap, subst, arith}
+use Rattle.std.proofs.Common.{◌≡◌, ℕ, ◌+◌, ◌<◌, ◌≤◌, ◌==◌, List, [], ◌∷◌, map, length, drop, get_or, Result, Ok, Err, sym, subst, arith}
 use Rattle.std.specs.Prelude.{IfOk}
 use Rattle.std.specs.List.{slice_split}
-use Rattle.std.specs.Option.{option_to_list}
-use Rattle.std.proofs.lemmas.List.{append-nil, drop_more}
+use Rattle.std.proofs.lemmas.List.{drop_more}
 use Rattle.std.proofs.lemmas.List.Splits.{length-slice_split}
 use Rattle.std.proofs.lemmas.List.Sums.{count_by-le-length}
 use Rattle.bt_script.specs.declared.stop.Stop.{Stop}
-use Rattle.bt_script.specs.declared.stop.Stop.TheVariants as stop
-use Rattle.bt_model.specs.declared.world.Row.{Row}
 use Rattle.bt_model.specs.declared.world.World.{World}
 use Rattle.bt_model.specs.declared.world_fault.WorldFault.{WorldFault}
 use Rattle.bt_model.specs.declared.world_fault.WorldKind.{WorldKind}
 use Rattle.bt_model.specs.Worlds.{IsValidWorld}
-use Rattle.bt_model.specs.WorldFile.{Reading, AfterLines, AfterText, GoesOn, LinesMake, ReadsWorld, closed, lines_in, nothing_read, without_empty_rest, world_after, world_of}
-use Rattle.bt_world.specs.Readings.{Gives, Leaves, located}
+use Rattle.bt_model.specs.WorldFile.{Reading, AfterLines, AfterText, GoesOn, ReadsWorld, lines_in, without_empty_rest}
+use Rattle.bt_world.specs.Readings.{Gives}
 use Rattle.bt_world.proofs.Validity.{valid_world}
 
 module _ {X : Type 0} (f : X → List ℕ) (d : X) (xs : List X) (i : ℕ) (r : Reading) (within : i < length xs) where

@@ -1,5 +1,5 @@
 -- What a call leaves is what the definition says of a line of a row.
-use Rattle.std.proofs.Common.{◌≡◌, ℕ, ◌+◌, Bool, true, false, not, ◌||◌, ◌&&◌, ◌==◌, List, [], map, length, Option, Some, None, Result, Ok, Err, ℤ, refl, sym, ◌∙◌, ap, subst, if◌then◌else◌}
+use Rattle.std.proofs.Common.{◌≡◌, ℕ, Bool, true, false, not, ◌||◌, ◌&&◌, ◌==◌, List, [], map, length, Option, Some, None, Result, Ok, Err, ℤ, refl, sym, ◌∙◌, ap, subst, if◌then◌else◌}
 use Rattle.std.specs.Prelude.{bytes_eq, nat_abs, nat_le, nat_lt, option_map, option_and_then}
 use Rattle.std.specs.List.{list_all, list_any}
 use Rattle.std.specs.Str.Parse.{signed_digits_value}
@@ -101,7 +101,7 @@ pub lasts :
 lasts result left r now line z ms head sort form after is said_line passes =
     leaves_map result left (λ said. said ≡ with_head head with_action (sort ms) now) (AfterForm r line)
     (λ said k. subst (λ (o : Option Line). AfterForm r o said) (sym said_line)
-      (after z said (k ∙ ap (λ (n : ℕ). with_head head with_action (sort n) now) passes.1 ∙ ap (λ (q : Reading). with_head head with_action (sort (nat_abs z)) q) is ∙ ranged_is (is_ms z) (with_head head with_action (sort (nat_abs z)) (closed r)) passes.0)))
+    (after z said (k ∙ ap (λ (n : ℕ). with_head head with_action (sort n) now) passes.1 ∙ ap (λ (q : Reading). with_head head with_action (sort (nat_abs z)) q) is ∙ ranged_is (is_ms z) (with_head head with_action (sort (nat_abs z)) (closed r)) passes.0)))
 
 ends_is : (text rest : List ℕ) (n : ℕ) → rest ≡ behind n text → (length rest == 0) ≡ true → ends_after n text ≡ true
 ends_is text rest n is h = ap (λ (bs : List ℕ). length bs == 0) (sym is) ∙ h

@@ -1,11 +1,11 @@
 -- The world that lines make is valid after each of them.
-use Rattle.std.proofs.Common.{◌≡◌, ℕ, zero, suc, ◌+◌, ◌<◌, ◌≤◌, Bool, true, false, not, ◌&&◌, ◌||◌, ◌==◌, cond, List, [], ◌∷◌, ◌++◌, map, length, get_or, ℤ, pos, negsuc, Option, Some, None, Result, Ok, Err, refl, sym, ap, ◌∙◌, subst, arith, if◌then◌else◌}
+use Rattle.std.proofs.Common.{◌≡◌, ℕ, ◌<◌, ◌≤◌, Bool, true, false, not, ◌||◌, ◌==◌, List, [], ◌∷◌, ◌++◌, length, ℤ, pos, negsuc, Option, Some, None, Result, Ok, Err, refl, sym, ap, ◌∙◌, subst, arith, if◌then◌else◌}
 use Rattle.std.specs.Prelude.{IsTrue, IfSome, bytes_eq, nat_eq, nat_le, nat_lt, nat_abs, is_some, option_and_then, option_map, position, slice_get}
 use Rattle.std.specs.Option.{option_to_list}
-use Rattle.std.specs.List.{All, Contains, IsDistinct, list_all, list_any}
+use Rattle.std.specs.List.{All, Contains, IsDistinct, list_any}
 use Rattle.std.proofs.lemmas.Cmp.{nat_list_eq_equiv}
 use Rattle.std.proofs.lemmas.Bool.Decides.{nat_tests}
-use Rattle.std.proofs.lemmas.List.{append-nil, append_assoc, length-map, map-append}
+use Rattle.std.proofs.lemmas.List.{append-nil, append_assoc, length-map}
 use Rattle.std.proofs.lemmas.List.Elements.{All-push, All-weaker, All-nil}
 use Rattle.std.proofs.lemmas.List.Folds.{list_any-append}
 use Rattle.std.proofs.lemmas.List.Quantifiers.{position-Some}
@@ -17,28 +17,20 @@ use Rattle.std.proofs.lemmas.Slice.Eq.{bytes_eq-Decides}
 use Rattle.bt_script.proofs.Bools.{both}
 use Rattle.bt_script.proofs.Alone.{stmt-not_rest}
 use Rattle.bt_script.specs.Grammar.{fits, height, spelled}
-use Rattle.bt_script.specs.Reading.{ReadsExpr, bare, first_place, high_expr, tokens_of}
-use Rattle.bt_script.specs.declared.syntax.Cmp.{Cmp}
+use Rattle.bt_script.specs.Reading.{ReadsExpr, first_place, tokens_of}
 use Rattle.bt_script.specs.declared.syntax.Expr.{Expr}
 use Rattle.bt_script.specs.declared.syntax.Stmt.TheVariants.{Plain}
 use Rattle.bt_script.specs.declared.token.Placed.{Placed}
 use Rattle.bt_script.specs.declared.token.Token.{Token}
-use Rattle.bt_script.specs.Scripts.{names_of, texts_of}
+use Rattle.bt_script.specs.Scripts.{names_of}
 use Rattle.bt_model.specs.declared.world.Event.{Event}
 use Rattle.bt_model.specs.declared.world.Fact.{Fact}
 use Rattle.bt_model.specs.declared.world.Row.{Row}
-use Rattle.bt_model.specs.declared.world.RowSort.{RowSort}
-use Rattle.bt_model.specs.declared.world.RowSort.TheVariants.{Is, When, Timed, Replay, Gate}
 use Rattle.bt_model.specs.declared.world.What.{What}
-use Rattle.bt_model.specs.declared.world.What.TheVariants.{Tick, Halt, Change}
-use Rattle.bt_model.specs.declared.world.World.{World}
-use Rattle.bt_model.specs.declared.world_fault.WorldFault.{WorldFault}
 use Rattle.bt_model.specs.declared.world_fault.WorldKind.{WorldKind}
-use Rattle.bt_model.specs.Names.{is_reserved}
-use Rattle.bt_model.specs.Worlds.{AreNames, AreNumbers, IsComparisonIn, IsExprOver, IsValidEvent, IsValidRow, IsValidSet, IsValidSort, IsValidWhat, IsValidWorld, comparisons, facts_set, ids_of_rows, in_range, is_comparison, is_condition, is_int, is_name, names_of_facts, ports_written}
-use Rattle.bt_model.specs.WorldFile.{Reading, Head, ReadsNumeric, closed, comparison_number, fact_number, fails_by, is_known, is_ms, is_runner, is_taken, knows_all, knows_sort, nothing_read, numbered, plain_row, placed, ranged, repeats, row_with_effect, row_with_fails, row_with_need, row_with_out, runners_of, where_compares, with_action, with_comparison, with_event, with_fact, with_goal, with_head, with_moment, with_open, with_open_row, with_row, with_runners, world_of}
-use Rattle.bt_world.proofs.WellFormed.{NamedHead}
-use Rattle.bt_world.proofs.Grown.{all-last, get-front, names-push, numbers-push, world_with_event, world_with_fact, world_with_goal, world_with_last, world_with_row, world_with_runners}
+use Rattle.bt_model.specs.Worlds.{AreNames, AreNumbers, IsComparisonIn, IsExprOver, IsValidWhat, IsValidWorld, ids_of_rows, in_range, is_comparison, is_condition, is_int, is_name, names_of_facts}
+use Rattle.bt_model.specs.WorldFile.{Reading, ReadsNumeric, closed, comparison_number, fact_number, is_known, is_ms, knows_all, numbered, placed, ranged, repeats, runners_of, where_compares, with_event, with_fact, with_goal, with_moment, with_runners, world_of}
+use Rattle.bt_world.proofs.Grown.{world_with_event, world_with_fact, world_with_goal, world_with_runners}
 
 -- the world so far is valid
 pub record Sound (r : Reading) : Type 0 where

@@ -1,6 +1,6 @@
 -- The world that lines make is valid after each line of a row.
-use Rattle.std.proofs.Common.{◌≡◌, ℕ, ◌+◌, ◌<◌, ◌≤◌, Bool, true, false, not, ◌&&◌, ◌||◌, List, [], ◌∷◌, ◌++◌, map, length, ℤ, Option, Some, None, Result, Ok, Err, refl, sym, ap, ◌∙◌, subst, arith, if◌then◌else◌}
-use Rattle.std.specs.Prelude.{IsTrue, IfSome, bytes_eq, nat_eq, nat_le, nat_lt, slice_get}
+use Rattle.std.proofs.Common.{◌≡◌, ℕ, ◌<◌, ◌≤◌, Bool, true, false, not, ◌||◌, List, [], ◌∷◌, ◌++◌, length, ℤ, Option, Some, None, Result, Ok, Err, refl, sym, ap, ◌∙◌, subst, arith, if◌then◌else◌}
+use Rattle.std.specs.Prelude.{IfSome, bytes_eq, nat_eq, nat_le, nat_lt}
 use Rattle.std.specs.Option.{option_to_list}
 use Rattle.std.specs.List.{All, list_all, list_any}
 use Rattle.std.proofs.lemmas.List.{append-nil, length-map, map-append}
@@ -12,14 +12,13 @@ use Rattle.bt_model.specs.declared.world.Fact.{Fact}
 use Rattle.bt_model.specs.declared.world.Row.{Row}
 use Rattle.bt_model.specs.declared.world.RowSort.{RowSort}
 use Rattle.bt_model.specs.declared.world.RowSort.TheVariants.{Is, When, Timed, Replay, Gate}
-use Rattle.bt_model.specs.declared.world.World.{World}
 use Rattle.bt_model.specs.declared.world_fault.WorldKind.{WorldKind}
 use Rattle.bt_model.specs.Names.{is_reserved}
-use Rattle.bt_model.specs.Worlds.{IsComparisonIn, IsExprOver, AreNames, AreNumbers, IsValidRow, IsValidSet, IsValidSort, IsValidWorld, comparisons, facts_set, ids_of_rows, is_comparison, is_condition, is_int, is_name, names_of_facts, ports_written}
-use Rattle.bt_model.specs.WorldFile.{Reading, Head, ReadsNumeric, closed, fact_number, fails_by, is_taken, knows_all, knows_sort, plain_row, repeats, row_with_effect, row_with_fails, row_with_need, row_with_out, with_action, with_comparison, with_head, with_open, with_open_row, with_row, world_of}
+use Rattle.bt_model.specs.Worlds.{IsComparisonIn, IsExprOver, AreNames, AreNumbers, IsValidRow, IsValidSet, IsValidSort, IsValidWorld, facts_set, ids_of_rows, is_comparison, is_condition, is_int, is_name, names_of_facts, ports_written}
+use Rattle.bt_model.specs.WorldFile.{Reading, Head, ReadsNumeric, fact_number, fails_by, is_taken, knows_all, knows_sort, plain_row, repeats, row_with_effect, row_with_fails, row_with_need, row_with_out, with_action, with_comparison, with_head, with_open, with_open_row, with_row, world_of}
 use Rattle.bt_world.proofs.WellFormed.{NamedHead}
 use Rattle.bt_world.proofs.Named.{any-map}
-use Rattle.bt_world.proofs.Grown.{all-last, get-front, names-push, numbers-push, world_with_last, world_with_row}
+use Rattle.bt_world.proofs.Grown.{all-last, names-push, numbers-push, world_with_last, world_with_row}
 use Rattle.bt_world.proofs.Sound.{Sound, Stays, at_most, below, distinct_ports, fact_there, no_names, no_numbers, not_both, not_not, nothing_distinct, stays_else, stays_numbered, valid_expr}
 
 -- ---- One more row
@@ -131,8 +130,8 @@ stays_open r add h adds = by r.open_row refl
     by None is = tt
     by (Some row) is =
         let valid : IsValidRow r.facts (r.rows ++ row ∷ []) row =
-            all-last (IsValidRow r.facts (r.rows ++ row ∷ [])) r.rows row
-            (subst (λ (rows : List Row). All (IsValidRow r.facts rows) rows) (ap (λ (o : Option Row). r.rows ++ option_to_list o) is) h.world.rows) in
+        all-last (IsValidRow r.facts (r.rows ++ row ∷ [])) r.rows row
+        (subst (λ (rows : List Row). All (IsValidRow r.facts rows) rows) (ap (λ (o : Option Row). r.rows ++ option_to_list o) is) h.world.rows) in
         stays_open_row r row (add row) is h (adds row (subst (λ (o : Option Row). IfSome o (λ w. is_condition w.sort ≡ false)) is h.action) valid)
 
 never_bare : (row : Row) (P : Type 0) → is_condition row.sort ≡ false → is_condition row.sort ≡ true → P
@@ -141,76 +140,92 @@ never_bare row P action h = absurd (cc)
 pub adds_need : (facts : List Fact) (rows : List Row) (row : Row) (n : ℕ) → is_condition row.sort ≡ false → IsValidRow facts rows row → IsComparisonIn rows n → Adds facts rows row (row_with_need n row)
 adds_need facts rows row n action h there =
     adds_else facts rows row (list_any (nat_eq n) row.needs) _ _ (λ free.
-    adds_else facts rows row (nat_le 16 (length row.needs)) _ _ (λ room.
-    (refl, refl, action, record {
-      own = h.own;
-      ports = h.ports;
-      sort = h.sort;
-      needs = numbers-push 16 row.needs n h.needs free (below 16 (length row.needs) room);
-      needed = All-push (IsComparisonIn rows) row.needs n h.needed there;
-      sets = h.sets;
-      effects = h.effects;
-      outs = h.outs;
-      outputs = h.outputs;
-      bare = never_bare row _ action;
-    })))
+    adds_else facts rows row (nat_le 16 (length row.needs)) _ _ (λ room. (
+      refl,
+      refl,
+      action,
+      record {
+        own = h.own;
+        ports = h.ports;
+        sort = h.sort;
+        needs = numbers-push 16 row.needs n h.needs free (below 16 (length row.needs) room);
+        needed = All-push (IsComparisonIn rows) row.needs n h.needed there;
+        sets = h.sets;
+        effects = h.effects;
+        outs = h.outs;
+        outputs = h.outputs;
+        bare = never_bare row _ action;
+      },
+    )))
 
 pub adds_effect : (facts : List Fact) (rows : List Row) (row : Row) (n : ℕ) (value : ℤ) → is_condition row.sort ≡ false → IsValidRow facts rows row → n < length facts → is_int value ≡ true → Adds facts rows row (row_with_effect n value row)
 adds_effect facts rows row n value action h there int =
     adds_else facts rows row (list_any (λ set. nat_eq n set.fact) row.sets) _ _ (λ free.
     adds_else facts rows row (nat_le 16 (length row.sets)) _ _ (λ room.
-    let fewer : length (facts_set row.sets) < 16 = omega (arith, length-map row.sets (λ set. set.fact), below 16 (length row.sets) room) in
-    (refl, refl, action, record {
-      own = h.own;
-      ports = h.ports;
-      sort = h.sort;
-      needs = h.needs;
-      needed = h.needed;
-      sets = subst (AreNumbers 16) (sym (map-append (λ set. set.fact) row.sets (record { fact = n; value = value } ∷ [])))
-          (numbers-push 16 (facts_set row.sets) n h.sets (any-map (nat_eq n) (λ set. set.fact) row.sets ∙ free) fewer);
-      effects = All-push (IsValidSet facts) row.sets (record { fact = n; value = value }) h.effects (there, int);
-      outs = h.outs;
-      outputs = h.outputs;
-      bare = never_bare row _ action;
-    })))
+    let fewer : length (facts_set row.sets) < 16 = omega (arith, length-map row.sets (λ set. set.fact), below 16 (length row.sets) room) in (
+      refl,
+      refl,
+      action,
+      record {
+        own = h.own;
+        ports = h.ports;
+        sort = h.sort;
+        needs = h.needs;
+        needed = h.needed;
+        sets = subst (AreNumbers 16) (sym (map-append (λ set. set.fact) row.sets (record { fact = n; value = value } ∷ [])))
+            (numbers-push 16 (facts_set row.sets) n h.sets (any-map (nat_eq n) (λ set. set.fact) row.sets ∙ free) fewer);
+        effects = All-push (IsValidSet facts) row.sets (record { fact = n; value = value }) h.effects (there, int);
+        outs = h.outs;
+        outputs = h.outputs;
+        bare = never_bare row _ action;
+      },
+    )))
 
 pub adds_out : (facts : List Fact) (rows : List Row) (row : Row) (text port : List ℕ) (e : Expr) → is_condition row.sort ≡ false → IsValidRow facts rows row → is_name port ≡ true → ReadsNumeric text (Some e) → Adds facts rows row (row_with_out facts port e row)
 adds_out facts rows row text port e action h named reads =
     adds_else facts rows row (list_any (λ out. bytes_eq port out.port) row.outs) _ _ (λ free.
     adds_else facts rows row (not (knows_all row.ports facts e)) _ _ (λ known.
     adds_else facts rows row (nat_le 8 (length row.outs)) _ _ (λ room.
-    let fewer : length (ports_written row.outs) < 8 = omega (arith, length-map row.outs (λ out. out.port), below 8 (length row.outs) room) in
-    (refl, refl, action, record {
-      own = h.own;
-      ports = h.ports;
-      sort = h.sort;
-      needs = h.needs;
-      needed = h.needed;
-      sets = h.sets;
-      effects = h.effects;
-      outs = subst (AreNames 8) (sym (map-append (λ out. out.port) row.outs (record { port = port; expr = e } ∷ [])))
-          (names-push 8 (ports_written row.outs) port h.outs named (any-map (bytes_eq port) (λ out. out.port) row.outs ∙ free) fewer);
-      outputs = All-push (λ out. IsExprOver row.ports (names_of_facts facts) out.expr) row.outs (record { port = port; expr = e }) h.outputs
-          (valid_expr text row.ports facts e reads (not_not (knows_all row.ports facts e) known));
-      bare = never_bare row _ action;
-    }))))
+    let fewer : length (ports_written row.outs) < 8 = omega (arith, length-map row.outs (λ out. out.port), below 8 (length row.outs) room) in (
+      refl,
+      refl,
+      action,
+      record {
+        own = h.own;
+        ports = h.ports;
+        sort = h.sort;
+        needs = h.needs;
+        needed = h.needed;
+        sets = h.sets;
+        effects = h.effects;
+        outs = subst (AreNames 8) (sym (map-append (λ out. out.port) row.outs (record { port = port; expr = e } ∷ [])))
+            (names-push 8 (ports_written row.outs) port h.outs named (any-map (bytes_eq port) (λ out. out.port) row.outs ∙ free) fewer);
+        outputs = All-push (λ out. IsExprOver row.ports (names_of_facts facts) out.expr) row.outs (record { port = port; expr = e }) h.outputs
+            (valid_expr text row.ports facts e reads (not_not (knows_all row.ports facts e) known));
+        bare = never_bare row _ action;
+      },
+    ))))
 
 fails_known : (facts : List Fact) (rows : List Row) (row : Row) (text : List ℕ) (e : Expr) (ms : ℕ) (t : Bool) → row.sort ≡ Timed ms None → IsValidRow facts rows row → ReadsNumeric text (Some e) → knows_all row.ports facts e ≡ t → Adds facts rows row (fails_by (Timed ms None) row t e)
 fails_known facts rows row text e ms false is h reads known = tt
 fails_known facts rows row text e ms true is h reads known =
-    let timed : IsValidSort facts row.ports (Timed ms None) = subst (IsValidSort facts row.ports) is h.sort in
-    (refl, ap is_comparison is, refl, record {
-      own = h.own;
-      ports = h.ports;
-      sort = (timed.0, valid_expr text row.ports facts e reads known);
-      needs = h.needs;
-      needed = h.needed;
-      sets = h.sets;
-      effects = h.effects;
-      outs = h.outs;
-      outputs = h.outputs;
-      bare = λ k. absurd (cc);
-    })
+    let timed : IsValidSort facts row.ports (Timed ms None) = subst (IsValidSort facts row.ports) is h.sort in (
+      refl,
+      ap is_comparison is,
+      refl,
+      record {
+        own = h.own;
+        ports = h.ports;
+        sort = (timed.0, valid_expr text row.ports facts e reads known);
+        needs = h.needs;
+        needed = h.needed;
+        sets = h.sets;
+        effects = h.effects;
+        outs = h.outs;
+        outputs = h.outputs;
+        bare = λ k. absurd (cc);
+      },
+    )
 
 fails_sort : (facts : List Fact) (rows : List Row) (row : Row) (text : List ℕ) (e : Expr) (sort : RowSort) → row.sort ≡ sort → IsValidRow facts rows row → ReadsNumeric text (Some e) → Adds facts rows row (fails_by sort row (knows_all row.ports facts e) e)
 fails_sort facts rows row text e (Timed ms None) is h reads = fails_known facts rows row text e ms (knows_all row.ports facts e) is h reads refl

@@ -1,7 +1,6 @@
 -- A world that a file reads as is valid.
-use Rattle.std.proofs.Common.{◌≡◌, ℕ, ◌+◌, ◌≤◌, Bool, true, false, List, [], ◌∷◌, ◌++◌, length, ℤ, pos, Option, Some, None, Result, Ok, Err, refl, sym, ap, ◌∙◌, subst, arith}
+use Rattle.std.proofs.Common.{◌≡◌, ℕ, ◌+◌, ◌≤◌, Bool, true, false, List, [], ◌∷◌, ◌++◌, length, pos, Option, Some, None, Result, Ok, Err, refl, sym, subst, arith}
 use Rattle.std.specs.Prelude.{IsTrue, MatchBool, bytes_eq, codes, nat_abs, ◌==◌}
-use Rattle.std.specs.List.{All}
 use Rattle.std.proofs.lemmas.List.{append-nil}
 use Rattle.std.proofs.lemmas.List.Elements.{All-nil}
 use Rattle.std.proofs.lemmas.List.Sorted.{IsNonDecreasingBy-short}
@@ -9,15 +8,15 @@ use Rattle.bt_script.specs.declared.syntax.Expr.{Expr}
 use Rattle.bt_model.specs.declared.world.Event.{Event}
 use Rattle.bt_model.specs.declared.world.Fact.{Fact}
 use Rattle.bt_model.specs.declared.world.Row.{Row}
-use Rattle.bt_model.specs.declared.world.RowSort.TheVariants.{Is, When, Timed, Replay, Gate}
+use Rattle.bt_model.specs.declared.world.RowSort.TheVariants.{When, Timed, Replay, Gate}
 use Rattle.bt_model.specs.declared.world.What.TheVariants.{Tick, Halt, Change}
 use Rattle.bt_model.specs.declared.world.World.{World}
 use Rattle.bt_model.specs.declared.world_fault.WorldFault.{WorldFault}
 use Rattle.bt_model.specs.declared.world_fault.WorldKind.{WorldKind}
-use Rattle.bt_model.specs.Worlds.{IsComparisonIn, IsValidEvent, IsValidRow, IsValidWorld, comparisons, in_range, is_comparison, is_int}
+use Rattle.bt_model.specs.Worlds.{IsComparisonIn, IsValidEvent, IsValidRow, IsValidWorld, in_range, is_int}
 use Rattle.bt_model.specs.WorldFile.{Line, FactLine, IsLine, WhenLine, TimedLine, ReplayLine, GateLine, FailsLine, NeedsLine, SetsLine, OutLine, GoalLine, RunnersLine, AtLine, TickLine, HaltLine, SetLine, AfterForm, AfterLine, AfterLines, AfterText, GoesOn, LinesMake, LinesRead, Reading, ReadsNumeric, ReadsWorld, SaysOf, by_expr, closed, comparison_number, content, fact_number, is_ms, is_read_over, is_runner, line_in, lines_in, no_header, nothing_read, plain_row, row_with_effect, row_with_fails, row_with_need, row_with_out, runners_of, with_action, with_row, without_return, world_after, world_of}
 use Rattle.bt_world.proofs.WellFormed.{AreWell, WellFormed, line_well}
-use Rattle.bt_world.proofs.Grown.{get-front, kept_more}
+use Rattle.bt_world.proofs.Grown.{kept_more}
 use Rattle.bt_world.proofs.Sound.{Sound, Stays, comparison_there, fact_there, ms_most, no_names, no_numbers, runner_within, sound_closed, stays_event, stays_fact, stays_goal, stays_moment, stays_numbered, stays_placed, stays_ranged, stays_runners, valid_expr}
 use Rattle.bt_world.proofs.SoundRows.{adds_effect, adds_fails, adds_need, adds_out, stays_action, stays_comparison, stays_head, stays_open, stays_row}
 
@@ -35,16 +34,16 @@ stays_line r (IsLine id fact op value) said w h k =
     subst Stays (sym k) (stays_ranged (is_int value) _ (λ int. stays_comparison (closed r) id fact op value refl (sound_closed r h) w int))
 stays_line r (WhenLine head expr) said w h k =
     stays_says expr _ said k (λ e reads. stays_head (closed r) head with_row (When e) w (λ known. valid_expr expr head.ports r.facts e reads known)
-      (λ may. stays_row (closed r) (plain_row head.id head.ports (When e)) refl (sound_closed r h) may))
+    (λ may. stays_row (closed r) (plain_row head.id head.ports (When e)) refl (sound_closed r h) may))
 stays_line r (TimedLine head ms) said w h k =
     subst Stays (sym k) (stays_ranged (is_ms ms) _ (λ m. stays_head (closed r) head with_action (Timed (nat_abs ms) None) w (λ known. (ms_most ms m, tt))
-      (λ may. stays_action (closed r) (plain_row head.id head.ports (Timed (nat_abs ms) None)) refl refl (sound_closed r h) may)))
+    (λ may. stays_action (closed r) (plain_row head.id head.ports (Timed (nat_abs ms) None)) refl refl (sound_closed r h) may)))
 stays_line r (ReplayLine head ms outcomes) said w h k =
     subst Stays (sym k) (stays_ranged (is_ms ms) _ (λ m. stays_head (closed r) head with_action (Replay (nat_abs ms) outcomes) w.0 (λ known. (ms_most ms m, w.1, w.2))
-      (λ may. stays_action (closed r) (plain_row head.id head.ports (Replay (nat_abs ms) outcomes)) refl refl (sound_closed r h) may)))
+    (λ may. stays_action (closed r) (plain_row head.id head.ports (Replay (nat_abs ms) outcomes)) refl refl (sound_closed r h) may)))
 stays_line r (GateLine head expr) said w h k =
     stays_says expr _ said k (λ e reads. stays_head (closed r) head with_action (Gate e) w (λ known. valid_expr expr head.ports r.facts e reads known)
-      (λ may. stays_action (closed r) (plain_row head.id head.ports (Gate e)) refl refl (sound_closed r h) may))
+    (λ may. stays_action (closed r) (plain_row head.id head.ports (Gate e)) refl refl (sound_closed r h) may))
 stays_line r (FailsLine expr) said w h k =
     stays_says expr _ said k (λ e reads. stays_open r (row_with_fails r.facts e) h (λ row action valid. adds_fails r.facts (r.rows ++ row ∷ []) row expr e valid reads))
 stays_line r (NeedsLine id) said w h k =

@@ -1,13 +1,13 @@
 -- What the words of a line say is well formed.
-use Rattle.std.proofs.Common.{◌≡◌, ℕ, ◌≤◌, Bool, true, false, ◌&&◌, cond, List, [], ◌∷◌, ◌-◌, map, length, take, codes, ℤ, Option, Some, None, refl, sym, ap, ◌∙◌, arith, if◌then◌else◌}
-use Rattle.std.specs.Prelude.{nat_eq, IsTrue, MatchOption, option_map, option_and_then, bytes_eq, nat_lt, nat_le, ◌==◌, ◌||◌}
+use Rattle.std.proofs.Common.{◌≡◌, ℕ, ◌≤◌, Bool, true, false, ◌&&◌, List, [], ◌∷◌, ◌-◌, map, length, take, codes, ℤ, Option, Some, None, refl, arith, if◌then◌else◌}
+use Rattle.std.specs.Prelude.{nat_eq, option_map, option_and_then, bytes_eq, nat_lt, nat_le, ◌==◌, ◌||◌}
 use Rattle.std.specs.List.{list_all, slice_split, ends_with}
 use Rattle.std.proofs.lemmas.List.{length-map}
 use Rattle.std.proofs.lemmas.Bool.Decides.{nat_tests}
 use Rattle.bt_script.proofs.Bools.{both}
 use Rattle.bt_script.specs.declared.syntax.Cmp.{Cmp}
 use Rattle.bt_model.specs.Worlds.{is_name}
-use Rattle.bt_model.specs.WorldFile.{Line, FactLine, IsLine, WhenLine, TimedLine, ReplayLine, GateLine, FailsLine, NeedsLine, SetsLine, OutLine, GoalLine, RunnersLine, AtLine, TickLine, HaltLine, SetLine, Head, head_with, head_before, head_of, head_in, comparison_in, outcomes_in, name_line, number_line, named_number, sets_line, out_line, is_line, condition_line, timed_line, replay_line, action_line, event_line, line_by, line_in, number_in, word, behind, ends_after, is_line_byte}
+use Rattle.bt_model.specs.WorldFile.{Line, FactLine, IsLine, WhenLine, TimedLine, ReplayLine, GateLine, FailsLine, NeedsLine, SetsLine, OutLine, GoalLine, RunnersLine, AtLine, TickLine, HaltLine, SetLine, Head, head_with, head_of, head_in, comparison_in, outcomes_in, name_line, number_line, named_number, sets_line, out_line, is_line, condition_line, timed_line, replay_line, action_line, event_line, line_by, line_in, number_in, word, behind, ends_after, is_line_byte}
 
 pub record NamedHead (head : Head) : Type 0 where
   pub id : is_name head.id ≡ true
@@ -67,12 +67,12 @@ outcomes_well : (word : List ℕ) → AreWell HasOutcomes (outcomes_in word)
 outcomes_well word =
     pick HasOutcomes (nat_lt 0 (length word) && nat_le (length word) 64 && list_all (λ b. b == 83 || b == 70) word) (Some (map (λ b. b == 83) word)) None
     (λ h.
-      let all = both (nat_lt 0 (length word) && nat_le (length word) 64) (list_all (λ b. b == 83 || b == 70) word) h in
-      let counted = both (nat_lt 0 (length word)) (nat_le (length word) 64) all.0 in
-      let e : length (map (λ b. b == 83) word) ≡ length word = length-map word (λ b. b == 83) in
-      let low : nat_lt 0 (length word) ≡ true = counted.0 in
-      let high : nat_le (length word) 64 ≡ true = counted.1 in
-      (grind (arith, nat_tests), grind (arith, nat_tests))) tt
+    let all = both (nat_lt 0 (length word) && nat_le (length word) 64) (list_all (λ b. b == 83 || b == 70) word) h in
+    let counted = both (nat_lt 0 (length word)) (nat_le (length word) 64) all.0 in
+    let e : length (map (λ b. b == 83) word) ≡ length word = length-map word (λ b. b == 83) in
+    let low : nat_lt 0 (length word) ≡ true = counted.0 in
+    let high : nat_le (length word) 64 ≡ true = counted.1 in
+    (grind (arith, nat_tests), grind (arith, nat_tests))) tt
 
 name_well : (line : List ℕ → Line) (text : List ℕ) → ((w : List ℕ) → is_name w ≡ true → WellFormed (line w)) → AreWell WellFormed (name_line line text)
 name_well line text h = pick WellFormed (is_name (word 0 text) && ends_after 1 text) (Some (line (word 0 text))) None (λ k. h (word 0 text) (both (is_name (word 0 text)) (ends_after 1 text) k).0) tt
@@ -100,9 +100,9 @@ is_well id text =
     pick WellFormed (is_name id && is_name (word 0 text) && ends_after 3 text)
     (option_and_then (λ op. option_map (IsLine id (word 0 text) op) (number_in (word 2 text))) (comparison_in (word 1 text))) None
     (λ k.
-      let named = (both (is_name id) (is_name (word 0 text)) (both (is_name id && is_name (word 0 text)) (ends_after 3 text) k).0).0 in
-      chained (λ (op : Cmp). Unit {0}) WellFormed (λ op. option_map (IsLine id (word 0 text) op) (number_in (word 2 text))) (comparison_in (word 1 text)) (any (comparison_in (word 1 text)))
-      (λ op u. mapped WellFormed (IsLine id (word 0 text) op) (number_in (word 2 text)) (λ z. named))) tt
+    let named = (both (is_name id) (is_name (word 0 text)) (both (is_name id && is_name (word 0 text)) (ends_after 3 text) k).0).0 in
+    chained (λ (op : Cmp). Unit {0}) WellFormed (λ op. option_map (IsLine id (word 0 text) op) (number_in (word 2 text))) (comparison_in (word 1 text)) (any (comparison_in (word 1 text)))
+    (λ op u. mapped WellFormed (IsLine id (word 0 text) op) (number_in (word 2 text)) (λ z. named))) tt
   where
     any : (o : Option Cmp) → AreWell (λ op. Unit {0}) o
     any None = tt
@@ -118,7 +118,7 @@ replay_well : (text : List ℕ) (head : Head) → NamedHead head → AreWell Wel
 replay_well text head h =
     pick WellFormed (ends_after 2 text) (option_and_then (λ ms. option_map (ReplayLine head ms) (outcomes_in (word 1 text))) (number_in (word 0 text))) None
     (λ k. chained (λ (z : ℤ). Unit {0}) WellFormed (λ ms. option_map (ReplayLine head ms) (outcomes_in (word 1 text))) (number_in (word 0 text)) (any (number_in (word 0 text)))
-      (λ z u. mapped_by HasOutcomes WellFormed (ReplayLine head z) (outcomes_in (word 1 text)) (outcomes_well (word 1 text)) (λ l o. (h, o.0, o.1)))) tt
+    (λ z u. mapped_by HasOutcomes WellFormed (ReplayLine head z) (outcomes_in (word 1 text)) (outcomes_well (word 1 text)) (λ l o. (h, o.0, o.1)))) tt
   where
     any : (o : Option ℤ) → AreWell (λ z. Unit {0}) o
     any None = tt

@@ -1,6 +1,5 @@
 -- What the reader keeps: facts and rows under their names, and a row that is not finished.
-use Rattle.std.specs.Prelude.{◌≡◌, ◌≤◌, ◌<◌, false, ℕ, List, length, bytes_eq, Vec, Option, IfSome}
-use Rattle.std.specs.List.{list_any}
+use Rattle.std.specs.Prelude.{◌≡◌, ◌≤◌, ℕ, length, Vec}
 use Rattle.std.specs.Global.{Global}
 use Rattle.indexmap.specs.IndexMap.{IndexMap, values}
 use Rattle.bt_model.specs.Worlds.{names_of_facts, ids_of_rows}

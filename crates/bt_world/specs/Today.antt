@@ -1,12 +1,11 @@
 -- The worlds that today's tick does not run. This goes with it, when the engine comes that runs every world.
-use Rattle.std.specs.Prelude.{ℕ, Bool, true, false, not, ◌||◌, ◌==◌, length, Option, Some, None}
+use Rattle.std.specs.Prelude.{Bool, true, false, not, ◌||◌, ◌==◌, length, Some, None}
 use Rattle.std.specs.List.{list_any}
-use Rattle.bt_model.specs.declared.world.Event.{Event}
 use Rattle.bt_model.specs.declared.world.Row.{Row}
 use Rattle.bt_model.specs.declared.world.RowSort.{RowSort}
 use Rattle.bt_model.specs.declared.world.RowSort.TheVariants.{Is, When, Timed, Replay, Gate}
 use Rattle.bt_model.specs.declared.world.What.{What}
-use Rattle.bt_model.specs.declared.world.What.TheVariants.{Tick, Halt, Change}
+use Rattle.bt_model.specs.declared.world.What.TheVariants.{Halt}
 use Rattle.bt_model.specs.declared.world.World.{World}
 
 -- whether a row answers by an expression

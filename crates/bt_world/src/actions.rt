@@ -154,14 +154,17 @@ impl Reading {
             return Err(Stop::Fault(WorldKind::NoName));
         };
         let id = name_of(alloc, id)?;
-        self.add_condition(alloc, Row {
-            id,
-            ports: Items::of(Vec::new(alloc)),
-            sort: RowSort::Is { fact, op, value },
-            needs: Items::of(Vec::new(alloc)),
-            sets: Items::of(Vec::new(alloc)),
-            outs: Items::of(Vec::new(alloc)),
-        })
+        self.add_condition(
+            alloc,
+            Row {
+                id,
+                ports: Items::of(Vec::new(alloc)),
+                sort: RowSort::Is { fact, op, value },
+                needs: Items::of(Vec::new(alloc)),
+                sets: Items::of(Vec::new(alloc)),
+                outs: Items::of(Vec::new(alloc)),
+            },
+        )
     }
 
     /// `EXPR` of the condition of this head
@@ -215,7 +218,12 @@ impl Reading {
         let Some(ms) = ms(number) else {
             return Err(Stop::Fault(WorldKind::Range));
         };
-        match self.draft_of(alloc, head.id, head.ports, RowSort::Timed { ms, fails: None }) {
+        match self.draft_of(
+            alloc,
+            head.id,
+            head.ports,
+            RowSort::Timed { ms, fails: None },
+        ) {
             Ok(draft) => self.open_action(draft),
             Err(stop) => Err(stop),
         }

@@ -57,11 +57,7 @@ fn located(stop: Stop<WorldKind>, line: u32) -> Stop<WorldFault>
     }
 }
 
-fn read_lines(
-    alloc: Global,
-    reading: &mut Reading,
-    lines: &[&[u8]],
-) -> Result<(), Stop<WorldFault>>
+fn read_lines(alloc: Global, reading: &mut Reading, lines: &[&[u8]]) -> Result<(), Stop<WorldFault>>
     requires { length lines.now ≤ 1048577 }
     ensures { Leaves result reading.new (AfterLines 2 (map (λ text. text.now) lines.now) reading.old) }
 {

@@ -219,7 +219,12 @@ impl Reading {
     }
 
     /// Adds a fact.
-    pub fn add_fact(&mut self, alloc: Global, name: &[u8], opening: i64) -> Result<(), Stop<WorldKind>>
+    pub fn add_fact(
+        &mut self,
+        alloc: Global,
+        name: &[u8],
+        opening: i64,
+    ) -> Result<(), Stop<WorldKind>>
         requires { IsTrue (is_name name.now) }
         ensures { Leaves result self.new (λ said. said ≡ with_fact name.now opening self.old) }
     {

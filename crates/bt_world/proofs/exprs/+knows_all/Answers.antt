@@ -1,4 +1,4 @@
-use Rattle.std.proofs.Common.{ℕ, List, Bool, ◌∙◌, ◌&&◌}
+use Rattle.std.proofs.Common.{ℕ, List, Bool, ◌∙◌}
 use Rattle.bt_model.specs.WorldFile.{is_known}
 use Rattle.bt_world.proofs.Parts.{passes, passes-Group, passes-Unary, binary-no, binary-yes, choose-no, choose-then, both-no, both-yes}
 use Rattle.bt_world.proofs.exprs.+knows_all.Goals as goal

@@ -1,4 +1,4 @@
-use Rattle.std.proofs.Common.{◌≡◌, ◌<◌, ℕ, ap, subst, arith}
+use Rattle.std.proofs.Common.{◌≡◌, ◌<◌, subst, arith}
 use Rattle.bt_script.specs.declared.syntax.Expr.{Expr}
 use Rattle.bt_script.specs.Scripts.{texts_of}
 use Rattle.bt_script.proofs.Exclusive.{one-expr, no-expr_fault}

@@ -1,4 +1,4 @@
-use Rattle.std.proofs.Common.{◌≡◌, ℕ, ◌-◌, ◌==◌, eqb, Bool, true, List, Option, cond, None, map, length, take, drop, codes, subst, sym, ap, ◌∙◌}
+use Rattle.std.proofs.Common.{◌≡◌, ℕ, ◌-◌, ◌==◌, Bool, true, List, Option, cond, None, map, length, take, drop, codes, subst, sym, ap, ◌∙◌}
 use Rattle.std.specs.Prelude.{IfOk, option_map, nat_eq}
 use Rattle.std.specs.Str.{bytes_eq}
 use Rattle.std.proofs.lemmas.Slice.Eq.{bytes_eq-Decides}
@@ -19,7 +19,7 @@ closed_by rest h = (bytes_eq-Decides (codes ")") (drop (length rest - 1) rest)).
 pub returns-in_ok-ports-in-Some-clause-head : goal.returns-in_ok-ports-in-Some-clause-head
 returns-in_ok-ports-in-Some-clause-head c =
     let e = before c.args.id.now c.args.rest.now c.in-Some.list.now (map (λ part. part.now) c.in_ok-ports-in-Some.ports.items)
-        (closed_by c.args.rest.now (rw c.as_slice.ensures at c.in-Some.ensures.cases.0)) (rw c.as_slice.ensures at c.in-Some.ensures.cases.1) c.in_ok-ports-in-Some.ensures in
+    (closed_by c.args.rest.now (rw c.as_slice.ensures at c.in-Some.ensures.cases.0)) (rw c.as_slice.ensures at c.in-Some.ensures.cases.1) c.in_ok-ports-in-Some.ensures in
     subst (λ (h : Option file.Head). IfOk c.with_ports.result (λ head. option_map seen_head head ≡ h))
     (ap (λ (ps : List _). head_with c.args.id.now (map (λ part. part.now) ps)) c.as_slice-in-Some.ensures.value ∙ e)
     c.with_ports.ensures.head

@@ -1,4 +1,4 @@
-use Rattle.std.proofs.Common.{◌≡◌, true, sym, ◌∙◌, subst}
+use Rattle.std.proofs.Common.{sym, subst}
 use Rattle.std.specs.Prelude.{Option, ℤ}
 use Rattle.std.specs.Str.Parse.{ParsesSigned, signed_digits_value}
 use mir.Syntax.{w64}

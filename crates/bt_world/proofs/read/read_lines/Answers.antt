@@ -1,7 +1,4 @@
-use Rattle.std.proofs.Common.{◌≡◌, ◌<◌, ◌≤◌, ◌+◌, ℕ, List, length, map, drop, Ok, Err, Result, refl, sym, ap, subst, arith}
-use Rattle.std.proofs.lemmas.List.{drop_all}
-use Rattle.bt_model.specs.declared.world_fault.WorldFault.{WorldFault}
-use Rattle.bt_model.specs.WorldFile.{AfterLines, Reading}
+use Rattle.std.proofs.Common.{◌<◌, length, arith}
 use Rattle.bt_world.proofs.Onward.{goes_on}
 use Rattle.bt_world.proofs.read.read_lines.Goals as goal
 

@@ -8,12 +8,12 @@ use Rattle.bt_world.proofs.read.read_world.Goals as goal
 pub world_of-requires : goal.world_of-requires
 world_of-requires c =
     let lines : map (λ part. part.now) c.without_rest.result.now ≡ lines_in c.args.bytes.now =
-        c.without_rest.ensures ∙ ap without_empty_rest (ap (map (λ part. part.now)) c.as_slice.ensures.value ∙ c.in_ok-parts.ensures) in
+    c.without_rest.ensures ∙ ap without_empty_rest (ap (map (λ part. part.now)) c.as_slice.ensures.value ∙ c.in_ok-parts.ensures) in
     let same = length-map c.without_rest.result.now (λ part. part.now) in
     omega (arith, same, ap (λ (ls : List (List ℕ)). length ls) lines, few_lines c.args.bytes.now)
 
 pub returns-clause-valid : goal.returns-clause-valid
 returns-clause-valid c =
     let lines : map (λ part. part.now) c.without_rest.result.now ≡ lines_in c.args.bytes.now =
-        c.without_rest.ensures ∙ ap without_empty_rest (ap (map (λ part. part.now)) c.as_slice.ensures.value ∙ c.in_ok-parts.ensures) in
+    c.without_rest.ensures ∙ ap without_empty_rest (ap (map (λ part. part.now)) c.as_slice.ensures.value ∙ c.in_ok-parts.ensures) in
     valid_if_read c.args.bytes.now c.world_of.result (subst (λ (ls : List (List ℕ)). Gives c.world_of.result (LinesRead ls)) lines c.world_of.ensures)

@@ -11,7 +11,7 @@ returns-then-not-branch c =
     let names = c.args.names.items in
     let within : i < length names = omega (arith, ap length c.as_slice-name-items.ensures.value) in
     let is : c.in_ok-key.key.items ≡ get_or names i name =
-        c.in_ok-key.ensures.items ∙ c.list.ensures.bytes ∙ c.name-item.is ∙ ap (λ (ns : List (List ℕ)). get_or ns i name) c.as_slice-name-items.ensures.value in
+    c.in_ok-key.ensures.items ∙ c.list.ensures.bytes ∙ c.name-item.is ∙ ap (λ (ns : List (List ℕ)). get_or ns i name) c.as_slice-name-items.ensures.value in
     twice c.loop-name.set c.in_ok-key.key names i name within is c.loop-name.invariant.held (repeats [] names) c.in_ok-insert.field-0
     c.loop-name.invariant.rest c.in_ok-insert.ensures.added c.if-not-branch.true
 
@@ -22,7 +22,7 @@ loop-name-preserved c =
     let names = c.args.names.items in
     let within : i < length names = omega (arith, ap length c.as_slice-name-items.ensures.value) in
     let is : c.in_ok-key.key.items ≡ get_or names i name =
-        c.in_ok-key.ensures.items ∙ c.list.ensures.bytes ∙ c.name-item.is ∙ ap (λ (ns : List (List ℕ)). get_or ns i name) c.as_slice-name-items.ensures.value in
+    c.in_ok-key.ensures.items ∙ c.list.ensures.bytes ∙ c.name-item.is ∙ ap (λ (ns : List (List ℕ)). get_or ns i name) c.as_slice-name-items.ensures.value in
     record {
       held = holds_more c.loop-name.set c.in_ok-key.key names i name within is c.loop-name.invariant.held c.insert.new.self c.in_ok-insert.field-0
           c.in_ok-insert.ensures.keys c.in_ok-insert.ensures.added c.if-not-branch.false;

@@ -1,4 +1,4 @@
-use Rattle.std.proofs.Common.{Some, Result, Err, refl, sym, ap, subst, ◌∙◌, ◌≡◌}
+use Rattle.std.proofs.Common.{Some, Err, refl, sym, ap, subst, ◌∙◌}
 use Rattle.std.specs.Prelude.{option_map}
 use Rattle.bt_model.specs.WorldFile.{GateLine, ReadsNumeric, with_action}
 use Rattle.bt_model.specs.declared.world.RowSort.TheVariants.{Gate}

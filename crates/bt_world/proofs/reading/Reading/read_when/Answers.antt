@@ -1,8 +1,7 @@
-use Rattle.std.proofs.Common.{Some, Result, Err, refl, sym, ap, subst, ◌∙◌, ◌≡◌}
+use Rattle.std.proofs.Common.{Some, Err, sym, ap, subst, ◌∙◌}
 use Rattle.std.specs.Prelude.{option_map}
 use Rattle.bt_model.specs.WorldFile.{WhenLine, ReadsNumeric, with_row}
 use Rattle.bt_model.specs.declared.world.RowSort.TheVariants.{When}
-use Rattle.bt_world.specs.Drafts.{row_of}
 use Rattle.bt_world.specs.Heads.{seen_head}
 use Rattle.bt_world.proofs.Saying.{adds, of_mapped, refuses, says_head}
 use Rattle.bt_world.proofs.reading.Reading.read_when.Goals as goal
