@@ -1,6 +1,8 @@
-ghost use Rattle.std.specs.Prelude.{◌≡◌, ◌↔◌, IfOk, MatchOption, Some, None};
+ghost use Rattle.std.specs.Prelude.{◌≡◌, ◌↔◌, IfOk, map, option_map};
 ghost use Rattle.std.specs.IoError.{error_kind};
-ghost use Rattle.bt_main.specs.Words.{command_of};
+ghost use Rattle.std.specs.Option.{option_copied};
+ghost use Rattle.bt_main.specs.Commands.{command_seen};
+ghost use Rattle.bt_main.specs.Words.{are_options, check_of, command_of, tick_of, value_of};
 
 use bt_script::{Name, NoMemory};
 use std::alloc::{AllocFailed, Global};
@@ -8,21 +10,98 @@ use std::env::Env;
 use std::io::ErrorKind;
 use std::{env, io};
 
-/// The files that a command names.
+/// A command: the files that it names, and the ID of the main tree where it names one.
 #[derive(Clone, Copy)]
-pub struct Command<'a> {
-    pub tree: &'a Name,
-    pub world: &'a Name,
+pub enum Command<'a> {
+    /// `tick TREE WORLD [--main ID]`
+    Tick {
+        tree: &'a Name,
+        world: &'a Name,
+        main: Option<&'a Name>,
+    },
+    /// `check TREE [--main ID]`
+    Check {
+        tree: &'a Name,
+        main: Option<&'a Name>,
+    },
+}
+
+/// The value that options, each a name and a value behind it, give to this name.
+fn value_of<'a>(options: &'a [Name], name: &[u8]) -> Option<&'a Name>
+    ensures { option_copied result ≡ value_of name.now options.now }
+{
+    match options {
+        [other, value, rest @ ..] => {
+            if other.list() == name {
+                Some(value)
+            } else {
+                value_of(rest, name)
+            }
+        }
+        _ => None,
+    }
+}
+
+/// Whether the words are options of these names in any order, each at most once.
+fn are_options(options: &[Name], names: &[&[u8]]) -> bool
+    ensures { result ≡ are_options (map (λ name. name.now) names.now) options.now }
+{
+    match options {
+        [] => true,
+        [name, _value, rest @ ..] => {
+            names.iter().any(|n| name.list() == *n)
+                && value_of(rest, name.list()).is_none()
+                && are_options(rest, names)
+        }
+        _ => false,
+    }
+}
+
+/// The options of the commands that read a tree file.
+const TREE_OPTIONS: [&[u8]; 1] = [b"--main"];
+
+/// The command `tick` with these words behind it.
+fn read_tick<'a>(words: &'a [Name]) -> Option<Command<'a>>
+    ensures { option_map command_seen result ≡ tick_of words.now }
+{
+    match words {
+        [tree, world, options @ ..] if are_options(options, TREE_OPTIONS.as_slice()) => {
+            Some(Command::Tick {
+                tree,
+                world,
+                main: value_of(options, b"--main"),
+            })
+        }
+        _ => None,
+    }
+}
+
+/// The command `check` with these words behind it.
+fn read_check<'a>(words: &'a [Name]) -> Option<Command<'a>>
+    ensures { option_map command_seen result ≡ check_of words.now }
+{
+    match words {
+        [tree, options @ ..] if are_options(options, TREE_OPTIONS.as_slice()) => {
+            Some(Command::Check {
+                tree,
+                main: value_of(options, b"--main"),
+            })
+        }
+        _ => None,
+    }
 }
 
 /// The command that the words are.
 pub fn read_command<'a>(words: &'a [Name]) -> Option<Command<'a>>
-    ensures { MatchOption result (command_of words.now ≡ None)
-        (λ c. command_of words.now ≡ Some (record { tree = c.tree.now; world = c.world.now })) }
+    ensures { option_map command_seen result ≡ command_of words.now }
 {
-    match words {
-        [word, tree, world] if word.list() == b"tick".as_slice() => Some(Command { tree, world }),
-        _ => None,
+    let (word, words) = words.split_first()?;
+    if word.list() == b"tick" {
+        read_tick(words)
+    } else if word.list() == b"check" {
+        read_check(words)
+    } else {
+        None
     }
 }
 
