@@ -101,15 +101,18 @@ abbrev pub world_output : Result World WorldFault → Tree → Output
 world_output (Ok world) tree = joined_output (rowless tree world) tree world
 world_output (Err fault) tree = world_refused fault
 
--- a tree that the engine does not run yet
-abbrev pub plain_output : Bool → Result World WorldFault → Tree → Output
-plain_output true world tree = world_output world tree
-plain_output false world tree = tree_unbuilt
+-- ---- Files
 
--- what the tree file reads as, with what the world file reads as
-abbrev pub tick_output : Result Tree TreeFault → Result World WorldFault → Output
-tick_output (Ok tree) world = plain_output (is_plain tree.term) world tree
-tick_output (Err fault) world = tree_refused fault
+-- the output of a tree over the bytes of a world file: first whether the engine runs such a tree yet
+abbrev pub PlainGives : Bool → Tree → List ℕ → Output → Type 0
+PlainGives true tree world output =
+    (described : Result World WorldFault) × ReadsWorld world described × (output ≡ world_output described tree)
+PlainGives false tree world output = output ≡ tree_unbuilt
+
+-- the output of what a tree file reads as over the bytes of a world file
+abbrev pub TreeGives : Result Tree TreeFault → List ℕ → Output → Type 0
+TreeGives (Ok tree) world output = PlainGives (is_plain tree.term) tree world output
+TreeGives (Err fault) world output = output ≡ tree_refused fault
 
 -- ---- Commands
 
@@ -122,8 +125,7 @@ abbrev pub TickGives : Option (List ℕ) → List ℕ → List ℕ → Output �
 TickGives main tree world output =
     OrTooLong tree tree_too_long output
     (OrTooLong world world_too_long output
-    ((read : Result Tree TreeFault) × (described : Result World WorldFault)
-    × TreeReads main tree read × ReadsWorld world described × (output ≡ tick_output read described)))
+    ((read : Result Tree TreeFault) × TreeReads main tree read × TreeGives read world output))
 
 -- the output of `check` over the bytes of its file
 abbrev pub CheckGives : Option (List ℕ) → List ℕ → Output → Type 0

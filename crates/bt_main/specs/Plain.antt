@@ -1,5 +1,5 @@
 -- Which trees today's engine runs.
-use Rattle.std.specs.Prelude.{Bool, true, false, ◌&&◌, Option, is_none}
+use Rattle.std.specs.Prelude.{Bool, true, false, ◌&&◌, Option, is_none, length, nat_eq}
 use Rattle.std.specs.List.{list_all}
 use Rattle.bt_model.specs.declared.term.Guards.{Guards}
 use Rattle.bt_model.specs.declared.term.Kind.{Kind}
@@ -20,7 +20,7 @@ is_unguarded g =
     && is_none g.on_success && is_none g.on_failure && is_none g.post && is_none g.on_halted
 
 abbrev pub is_plain_node : Term-F Bool → Bool
-is_plain_node node = runs node.kind && is_empty_list node.ports && is_unguarded node.guards && list_all (λ below. below) node.children
+is_plain_node node = runs node.kind && nat_eq (length node.ports) 0 && is_unguarded node.guards && list_all (λ below. below) node.children
 
 -- a tree of Sequences, Fallbacks and leaves, without ports and guards
 abbrev pub is_plain : Term → Bool
