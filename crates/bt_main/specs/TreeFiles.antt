@@ -31,3 +31,9 @@ abbrev pub TreeReads : Option (List ℕ) → List ℕ → Result Tree TreeFault 
 TreeReads main bytes read =
     ((e : Element) × Spells bytes e × (read ≡ element_read main e))
     ⊎ ((f : ElementFault) × ElementFaultOf bytes f × (read ≡ Err (fault.Elements f)))
+
+-- what a call answers of a tree file is what its bytes read as; want of memory may come anywhere
+abbrev pub ReadsAs : Result Tree (Stop TreeFault) → Option (List ℕ) → List ℕ → Type 0
+ReadsAs (Ok tree) main bytes = TreeReads main bytes (Ok tree)
+ReadsAs (Err (stop.Fault f)) main bytes = TreeReads main bytes (Err f)
+ReadsAs (Err stop.NoMemory) main bytes = Unit {0}

@@ -1,7 +1,6 @@
 ghost use Rattle.std.specs.Prelude.{◌≡◌, ◌≤◌, IfOk, length};
 ghost use Rattle.std.specs.Option.{option_copied};
-ghost use Rattle.bt_main.specs.TreeFiles.{TreeReads};
-ghost use Rattle.bt_script.specs.Stops.{WhenRead};
+ghost use Rattle.bt_main.specs.TreeFiles.{ReadsAs};
 ghost use Rattle.bt_model.specs.Trees.{IsValid};
 
 use bt_build::{BuildFault, build};
@@ -25,7 +24,7 @@ pub enum TreeFault {
 /// The tree that the bytes of a tree file read as, or their first fault. `main` asks for a main tree.
 pub fn read_tree(alloc: Global, bytes: &[u8], main: Option<&Name>) -> Result<Tree, Stop<TreeFault>>
     requires { length bytes.now ≤ 1048576 }
-    ensures reads { WhenRead result (λ read. TreeReads (option_copied main) bytes.now read) }
+    ensures reads { ReadsAs result (option_copied main) bytes.now }
     ensures valid { IfOk result (λ tree. IsValid tree) }
 {
     let elements = match read_elements(alloc, bytes) {
