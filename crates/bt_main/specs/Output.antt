@@ -4,17 +4,18 @@ use Rattle.std.specs.List.{concat}
 use Rattle.bt_main.specs.declared.exit.Exit.{Exit}
 use Rattle.bt_main.specs.declared.exit.Exit.TheVariants as exit
 use Rattle.bt_main.specs.declared.tree_file.TreeFault.{TreeFault}
-use Rattle.bt_main.specs.Plain.{is_plain}
+use Rattle.bt_main.specs.Plain.{is_plain, is_small}
 use Rattle.bt_main.specs.Refusals.{tree_words, world_words}
 use Rattle.bt_main.specs.TreeFiles.{TreeReads}
 use Rattle.bt_main.specs.Words.{Command, Tick, Check, File, TreeFile, WorldFile}
 use Rattle.bt_model.specs.declared.block.Block.{Block}
 use Rattle.bt_model.specs.declared.term.Tree.{Tree}
 use Rattle.bt_model.specs.declared.world.World.{World}
+use Rattle.bt_model.specs.declared.world_fault.WorldFault.{WorldFault}
 use Rattle.bt_model.specs.Lines.{LineNames, line_names, lines_of, quoted}
 use Rattle.bt_model.specs.PrintedTree.{tree_lines}
 use Rattle.bt_model.specs.Terms.{leaf_ids, node_count, work_of}
-use Rattle.bt_model.specs.WorldFile.{WorldFault, ReadsWorld}
+use Rattle.bt_model.specs.WorldFile.{ReadsWorld}
 use Rattle.bt_tick.specs.Run.{run}
 use Rattle.bt_tick.specs.Visit.{row_of}
 

@@ -9,6 +9,9 @@ use Rattle.bt_main.specs.declared.tree_file.TreeFault.TheVariants as fault
 use Rattle.bt_manifest.specs.declared.fault.ManifestFault.{ManifestFault}
 use Rattle.bt_manifest.specs.declared.fault.ManifestFault.TheVariants as manifest
 use Rattle.bt_model.specs.Lines.{quoted}
+use Rattle.bt_model.specs.declared.world_fault.WorldFault.{WorldFault}
+use Rattle.bt_model.specs.declared.world_fault.WorldKind.{WorldKind}
+use Rattle.bt_model.specs.declared.world_fault.WorldKind.TheVariants as world
 use Rattle.bt_script.specs.declared.fault.ScriptFault.{ScriptFault}
 use Rattle.bt_script.specs.declared.fault.ScriptFault.TheVariants as script
 
@@ -61,3 +64,16 @@ abbrev pub tree_words : TreeFault → List ℕ
 tree_words (fault.Elements f) = element_words f
 tree_words (fault.Manifest f) = manifest_words f
 tree_words (fault.Build f) = build_words f
+
+abbrev pub kind_word : WorldKind → List ℕ
+kind_word world.Header = codes "Header"
+kind_word world.BadLine = codes "BadLine"
+kind_word world.Range = codes "Range"
+kind_word world.DoubleName = codes "DoubleName"
+kind_word world.NoName = codes "NoName"
+kind_word world.MomentBack = codes "MomentBack"
+kind_word world.TooMany = codes "TooMany"
+
+-- the words of a world script's fault: what is wrong, and the line
+abbrev pub world_words : WorldFault → List ℕ
+world_words fault = numbered (kind_word fault.kind) fault.line

@@ -1,17 +1,22 @@
-ghost use Rattle.std.specs.Prelude.{◌≡◌, ◌+◌, ◌<◌, ◌≤◌, ◌^◌, ◌++◌, IfOk, codes, find, is_none, is_some, length};
+ghost use Rattle.std.specs.Prelude.{◌≡◌, ◌≤◌, ◌++◌, IfOk, codes, find, is_none, is_some, length, true};
 ghost use Rattle.std.specs.Option.{option_copied};
 ghost use Rattle.bt_main.specs.Answers.{Answers, Gave, IsSpoken};
-ghost use Rattle.bt_main.specs.Output.{joined_output, row_missing, rowless, world_output};
+ghost use Rattle.bt_main.specs.Output.{PlainGives, built_output, joined_output, row_missing, rowless, tree_refused, world_refused};
+ghost use Rattle.bt_main.specs.Plain.{is_plain, is_small};
 ghost use Rattle.bt_model.specs.Lines.{quoted};
-ghost use Rattle.bt_model.specs.Terms.{leaf_ids, node_count, own_leaf_id};
-ghost use Rattle.bt_tick.specs.Visit.{row_of};
-ghost use Rattle.bt_model.specs.WorldFile.{world_in};
+ghost use Rattle.bt_model.specs.Terms.{leaf_ids, own_leaf_id};
+ghost use Rattle.bt_model.specs.Trees.{IsValid};
+ghost use Rattle.bt_model.specs.Worlds.{IsValidWorld};
 ghost use Rattle.bt_model.specs.declared.term.Term.{out-Term};
 ghost use Rattle.bt_outside.specs.Counts.{Rose};
+ghost use Rattle.bt_tick.specs.Visit.{row_of};
 
 use crate::exit::Exit;
+use crate::plain::{is_plain, is_small};
+use crate::refusal::{tree_refusal, world_refusal};
 use crate::trace::write_run;
-use bt_model::{Kind, Row, Term, Tree, World};
+use crate::tree_file::TreeFault;
+use bt_model::{Kind, Row, Term, Tree, World, WorldFault};
 use bt_outside::Sink;
 use bt_script::{Name, NoMemory, Stop};
 use bt_text::{TextStop, put_bytes, put_quoted, write_line};

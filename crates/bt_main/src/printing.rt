@@ -1,19 +1,32 @@
-ghost use Rattle.std.specs.Prelude.{◌≡◌, ◌≤◌, ◌++◌, IfOk, OnOk, IsErrOf};
+ghost use Rattle.std.specs.Prelude.{◌≡◌, ◌<◌, ◌≤◌, ◌^◌, ◌++◌, IfOk, OnOk, IsErrOf};
 ghost use Rattle.std.specs.List.{concat};
 ghost use Rattle.bt_main.specs.Answers.{Gave};
 ghost use Rattle.bt_main.specs.Output.{check_output, count_line};
 ghost use Rattle.bt_model.specs.PrintedTree.{tree_lines};
+ghost use Rattle.bt_model.specs.Terms.{node_count};
 ghost use Rattle.bt_model.specs.Trees.{IsValid};
 ghost use Rattle.bt_outside.specs.Appending.{Appended, AppendedFront};
 ghost use Rattle.bt_outside.specs.Counts.{Rose};
 
 use crate::exit::Exit;
 use bt_build::work;
-use bt_model::{Tree, node_count};
+use bt_model::{Term, Tree};
 use bt_outside::Sink;
 use bt_script::NoMemory;
 use bt_text::{TextStop, put_bytes, put_number, write_line, write_tree};
 use std::alloc::Global;
+
+// The number of nodes of a term.
+fn nodes_of(term: &Term) -> u32
+    requires { node_count term.now < 2 ^ 32 }
+    ensures { result ≡ node_count term.now }
+{
+    let mut count = 1;
+    for child in term.children.list() {
+        count += nodes_of(child);
+    }
+    count
+}
 
 // The last line of a check.
 fn count_line(alloc: Global, tree: &Tree) -> Result<Vec<u8>, NoMemory>
@@ -22,7 +35,7 @@ fn count_line(alloc: Global, tree: &Tree) -> Result<Vec<u8>, NoMemory>
 {
     let mut line = Vec::new(alloc);
     put_bytes(&mut line, b"<!-- nodes ")?;
-    put_number(&mut line, u64::from(node_count(&tree.term)))?;
+    put_number(&mut line, u64::from(nodes_of(&tree.term)))?;
     put_bytes(&mut line, b" work ")?;
     put_number(&mut line, u64::from(work(tree)))?;
     put_bytes(&mut line, b" -->\n")?;

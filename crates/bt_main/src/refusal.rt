@@ -1,10 +1,11 @@
 ghost use Rattle.std.specs.Prelude.{◌≡◌, ◌++◌, IfOk, OnOk, codes, decimal};
-ghost use Rattle.bt_main.specs.Refusals.{build_words, element_words, manifest_words, named, numbered, script_words, tree_words};
+ghost use Rattle.bt_main.specs.Refusals.{build_words, element_words, kind_word, manifest_words, named, numbered, script_words, tree_words, world_words};
 
 use crate::tree_file::TreeFault;
 use bt_build::BuildFault;
 use bt_elements::ElementFault;
 use bt_manifest::ManifestFault;
+use bt_model::{WorldFault, WorldKind};
 use bt_script::{Name, NoMemory, ScriptFault};
 use bt_text::{put_bytes, put_number, put_quoted};
 use std::alloc::Global;
@@ -109,6 +110,31 @@ pub fn tree_refusal(alloc: Global, fault: &TreeFault) -> Result<Vec<u8>, NoMemor
     let mut line = Vec::new(alloc);
     put_bytes(&mut line, b"refused tree ")?;
     put_tree_fault(&mut line, fault)?;
+    put_bytes(&mut line, b"\n")?;
+    Ok(line)
+}
+
+fn kind_word(kind: WorldKind) -> &'static [u8]
+    ensures { result.now ≡ kind_word kind }
+{
+    match kind {
+        WorldKind::Header => b"Header",
+        WorldKind::BadLine => b"BadLine",
+        WorldKind::Range => b"Range",
+        WorldKind::DoubleName => b"DoubleName",
+        WorldKind::NoName => b"NoName",
+        WorldKind::MomentBack => b"MomentBack",
+        WorldKind::TooMany => b"TooMany",
+    }
+}
+
+/// The line that refuses a world script.
+pub fn world_refusal(alloc: Global, fault: WorldFault) -> Result<Vec<u8>, NoMemory>
+    ensures { IfOk result (λ line. line.items ≡ codes "refused world " ++ world_words fault ++ codes "\n") }
+{
+    let mut line = Vec::new(alloc);
+    put_bytes(&mut line, b"refused world ")?;
+    put_numbered(&mut line, kind_word(fault.kind), fault.line)?;
     put_bytes(&mut line, b"\n")?;
     Ok(line)
 }
