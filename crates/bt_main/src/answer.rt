@@ -12,7 +12,7 @@ use crate::join::{refuse_tree, run_plain, write_last};
 use crate::printing::print_tree;
 use crate::tree_file::read_tree;
 use crate::words::{Command, read_command};
-use bt_elements::laws::{element_or_fault, one_element};
+use bt_elements::{element_or_fault, one_element};
 use bt_outside::{Shelf, ShelfFault, Sink};
 use bt_script::{Name, Stop};
 use bt_world::laws::worlds_read_one_way;
