@@ -4,7 +4,7 @@ use Rattle.std.specs.List.{concat}
 use Rattle.bt_main.specs.declared.exit.Exit.{Exit}
 use Rattle.bt_main.specs.declared.exit.Exit.TheVariants as exit
 use Rattle.bt_main.specs.declared.tree_file.TreeFault.{TreeFault}
-use Rattle.bt_main.specs.Plain.{is_plain, is_small}
+use Rattle.bt_main.specs.Plain.{is_plain}
 use Rattle.bt_main.specs.Refusals.{tree_words, world_words}
 use Rattle.bt_main.specs.TreeFiles.{TreeReads}
 use Rattle.bt_main.specs.Words.{Command, Tick, Check, File, TreeFile, WorldFile}
@@ -18,6 +18,7 @@ use Rattle.bt_model.specs.Terms.{leaf_ids, node_count, work_of}
 use Rattle.bt_model.specs.WorldFile.{ReadsWorld}
 use Rattle.bt_tick.specs.Run.{run}
 use Rattle.bt_tick.specs.Visit.{row_of}
+use Rattle.bt_world.specs.Today.{needs_engine}
 
 -- the bytes that are written, and the exit
 pub record Output : Type 0 where
@@ -80,10 +81,10 @@ text_of names (block ∷ blocks) = concat (lines_of names block) ++ text_of name
 abbrev pub run_output : Tree → World → Output
 run_output tree world = record { bytes = text_of (line_names tree world) (run tree world).blocks; exit = exit.Done }
 
--- a world that the engine does not run yet
+-- a world that needs the engine that is still to come
 abbrev pub built_output : Bool → Tree → World → Output
-built_output true tree world = run_output tree world
-built_output false tree world = world_unbuilt
+built_output true tree world = world_unbuilt
+built_output false tree world = run_output tree world
 
 -- the first leaf in pre-order whose ID has no row
 abbrev pub rowless : Tree → World → Option (List ℕ)
@@ -94,7 +95,7 @@ row_missing id = refused (codes "refused world NoRow " ++ quoted id) exit.World
 
 -- a tree and a world run where every leaf has a row
 abbrev pub joined_output : Option (List ℕ) → Tree → World → Output
-joined_output None tree world = built_output (is_small world) tree world
+joined_output None tree world = built_output (needs_engine world) tree world
 joined_output (Some id) tree world = row_missing id
 
 -- a tree with what the world file reads as

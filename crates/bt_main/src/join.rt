@@ -2,7 +2,7 @@ ghost use Rattle.std.specs.Prelude.{◌≡◌, ◌≤◌, ◌++◌, IfOk, codes,
 ghost use Rattle.std.specs.Option.{option_copied};
 ghost use Rattle.bt_main.specs.Answers.{Answers, Gave, IsSpoken};
 ghost use Rattle.bt_main.specs.Output.{PlainGives, built_output, joined_output, row_missing, rowless, tree_refused, world_refused};
-ghost use Rattle.bt_main.specs.Plain.{is_plain, is_small};
+ghost use Rattle.bt_main.specs.Plain.{is_plain};
 ghost use Rattle.bt_model.specs.Lines.{quoted};
 ghost use Rattle.bt_model.specs.Terms.{leaf_ids, own_leaf_id};
 ghost use Rattle.bt_model.specs.Trees.{IsValid};
@@ -10,9 +10,10 @@ ghost use Rattle.bt_model.specs.Worlds.{IsValidWorld};
 ghost use Rattle.bt_model.specs.declared.term.Term.{out-Term};
 ghost use Rattle.bt_outside.specs.Counts.{Rose};
 ghost use Rattle.bt_tick.specs.Visit.{row_of};
+ghost use Rattle.bt_world.specs.Today.{needs_engine};
 
 use crate::exit::Exit;
-use crate::plain::{is_plain, is_small};
+use crate::plain::is_plain;
 use crate::refusal::{tree_refusal, world_refusal};
 use crate::trace::write_run;
 use crate::tree_file::TreeFault;
@@ -21,7 +22,7 @@ use bt_outside::Sink;
 use bt_script::{Name, NoMemory, Stop};
 use bt_text::{TextStop, put_bytes, put_quoted, write_line};
 use bt_tick::row_with;
-use bt_world::read_world;
+use bt_world::{needs_engine, read_world};
 use std::alloc::Global;
 
 /// Writes a line that ends the program with this exit.
@@ -110,14 +111,14 @@ fn run_joined<K: Sink>(alloc: Global, tree: &Tree, world: &World, out: &mut K) -
 fn run_small<K: Sink>(alloc: Global, tree: &Tree, world: &World, out: &mut K) -> Exit
     requires valid { IsValid tree.now }
     requires world { IsValidWorld world.now }
-    ensures gave { Gave (built_output (is_small world.now) tree.now world.now) result
+    ensures gave { Gave (built_output (needs_engine world.now) tree.now world.now) result
         (Rose (K.faults out.old) (K.faults out.new)) (K.written out.old) (K.written out.new) }
     ensures count { K.faults out.old ≤ K.faults out.new }
 {
-    if is_small(world) {
-        write_run(alloc, tree, world, out)
-    } else {
+    if needs_engine(world) {
         write_last(out, b"refused world Unbuilt\n", Exit::World)
+    } else {
+        write_run(alloc, tree, world, out)
     }
 }
 

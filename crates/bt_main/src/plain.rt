@@ -1,7 +1,7 @@
 ghost use Rattle.std.specs.Prelude.{◌≡◌};
-ghost use Rattle.bt_main.specs.Plain.{is_halt, is_plain, is_small, is_small_row, is_unguarded, runs, runs_sort};
+ghost use Rattle.bt_main.specs.Plain.{is_plain, is_unguarded, runs};
 
-use bt_model::{Event, Guards, Kind, Row, RowSort, Term, What, World};
+use bt_model::{Guards, Kind, Term};
 
 fn runs(kind: Kind) -> bool
     ensures { result ≡ runs kind }
@@ -30,36 +30,4 @@ pub fn is_plain(term: &Term) -> bool
         && term.ports.list().is_empty()
         && is_unguarded(&term.guards)
         && term.children.list().iter().all(is_plain)
-}
-
-fn runs_sort(sort: &RowSort) -> bool
-    ensures { result ≡ runs_sort sort.now }
-{
-    match sort {
-        RowSort::Is { .. } | RowSort::Replay { .. } => true,
-        RowSort::Timed { ms: _, fails } => fails.is_none(),
-        _ => false,
-    }
-}
-
-fn is_small_row(row: &Row) -> bool
-    ensures { result ≡ is_small_row row.now }
-{
-    runs_sort(&row.sort) && row.ports.list().is_empty() && row.outs.list().is_empty()
-}
-
-fn is_halt(event: &Event) -> bool
-    ensures { result ≡ is_halt event.now.what }
-{
-    matches!(event.what, What::Halt(_))
-}
-
-/// Whether today's engine runs the world: one runner that is never halted, and no expressions, input
-/// ports and outputs.
-pub fn is_small(world: &World) -> bool
-    ensures { result ≡ is_small world.now }
-{
-    world.runners == 1
-        && world.rows.list().iter().all(is_small_row)
-        && !world.events.list().iter().any(is_halt)
 }

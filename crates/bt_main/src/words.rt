@@ -30,16 +30,14 @@ pub enum Command<'a> {
 fn value_of<'a>(options: &'a [Name], name: &[u8]) -> Option<&'a Name>
     ensures { option_copied result ≡ value_of name.now options.now }
 {
-    match options {
-        [other, value, rest @ ..] => {
-            if other.list() == name {
-                Some(value)
-            } else {
-                value_of(rest, name)
-            }
+    let mut rest = options;
+    while let [other, value, more @ ..] = rest {
+        if other.list() == name {
+            return Some(value);
         }
-        _ => None,
+        rest = more;
     }
+    None
 }
 
 /// Whether the words are options of these names in any order, each at most once.
@@ -96,9 +94,9 @@ pub fn read_command<'a>(words: &'a [Name]) -> Option<Command<'a>>
     ensures { option_map command_seen result ≡ command_of words.now }
 {
     let (word, words) = words.split_first()?;
-    if word.list() == b"tick" {
+    if word.list() == b"tick".as_slice() {
         read_tick(words)
-    } else if word.list() == b"check" {
+    } else if word.list() == b"check".as_slice() {
         read_check(words)
     } else {
         None
