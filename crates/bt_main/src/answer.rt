@@ -31,7 +31,7 @@ fn answer_files<K: Sink>(
 ) -> Exit
     requires tree { length tree.now ≤ 1048576 }
     requires world { length world.now ≤ 1048576 }
-    ensures answers { Answers (TickGives (option_copied main) tree.now world.now) result
+    ensures answers { Answers (TickGives (option_copied main.entry) tree.now world.now) result
         (Rose (K.faults out.old) (K.faults out.new)) (K.written out.old) (K.written out.new) }
     ensures count { K.faults out.old ≤ K.faults out.new }
 {
@@ -45,7 +45,7 @@ fn answer_files<K: Sink>(
 /// Prints the tree of a tree file.
 fn answer_check<K: Sink>(alloc: Global, tree: &[u8], main: Option<&Name>, out: &mut K) -> Exit
     requires { length tree.now ≤ 1048576 }
-    ensures answers { Answers (CheckGives (option_copied main) tree.now) result
+    ensures answers { Answers (CheckGives (option_copied main.entry) tree.now) result
         (Rose (K.faults out.old) (K.faults out.new)) (K.written out.old) (K.written out.new) }
     ensures count { K.faults out.old ≤ K.faults out.new }
 {
@@ -65,9 +65,9 @@ fn check<S: Shelf, K: Sink>(
     out: &mut K,
 ) -> Exit
     ensures answers { ReadFailed (Rose (S.faults shelf.old) (S.faults shelf.new))
-        (Unread S.read_gives (S.holds shelf.old) (Check tree.now (option_copied main)) shelf.old shelf.new)
+        (Unread S.read_gives (S.holds shelf.old) (Check tree.now (option_copied main.entry)) shelf.old shelf.new)
         result (Rose (K.faults out.old) (K.faults out.new)) (K.written out.old) (K.written out.new)
-        ⊎ FilesAnswered (S.holds shelf.old) (Check tree.now (option_copied main))
+        ⊎ FilesAnswered (S.holds shelf.old) (Check tree.now (option_copied main.entry))
         result (Rose (K.faults out.old) (K.faults out.new)) (K.written out.old) (K.written out.new) }
     ensures read_count { S.faults shelf.old ≤ S.faults shelf.new }
     ensures count { K.faults out.old ≤ K.faults out.new }
@@ -91,9 +91,9 @@ fn tick<S: Shelf, K: Sink>(
     out: &mut K,
 ) -> Exit
     ensures answers { ReadFailed (Rose (S.faults shelf.old) (S.faults shelf.new))
-        (Unread S.read_gives (S.holds shelf.old) (Tick tree.now world.now (option_copied main)) shelf.old shelf.new)
+        (Unread S.read_gives (S.holds shelf.old) (Tick tree.now world.now (option_copied main.entry)) shelf.old shelf.new)
         result (Rose (K.faults out.old) (K.faults out.new)) (K.written out.old) (K.written out.new)
-        ⊎ FilesAnswered (S.holds shelf.old) (Tick tree.now world.now (option_copied main))
+        ⊎ FilesAnswered (S.holds shelf.old) (Tick tree.now world.now (option_copied main.entry))
         result (Rose (K.faults out.old) (K.faults out.new)) (K.written out.old) (K.written out.new) }
     ensures read_count { S.faults shelf.old ≤ S.faults shelf.new }
     ensures count { K.faults out.old ≤ K.faults out.new }
@@ -120,7 +120,7 @@ fn answer_world<S: Shelf, K: Sink>(
     ensures answers { ReadFailed (Rose (S.faults shelf.old) (S.faults shelf.new))
         (λ file. (file ≡ WorldFile) × S.read_gives shelf.old world.now (Err ShelfFault.Failed) shelf.new)
         result (Rose (K.faults out.old) (K.faults out.new)) (K.written out.old) (K.written out.new)
-        ⊎ WorldAnswered (S.holds shelf.old) (option_copied main) tree.now world.now result
+        ⊎ WorldAnswered (S.holds shelf.old) (option_copied main.entry) tree.now world.now result
         (Rose (K.faults out.old) (K.faults out.new)) (K.written out.old) (K.written out.new) }
     ensures read_count { S.faults shelf.old ≤ S.faults shelf.new }
     ensures count { K.faults out.old ≤ K.faults out.new }
@@ -142,9 +142,9 @@ fn answer_command<S: Shelf, K: Sink>(
     out: &mut K,
 ) -> Exit
     ensures answers { ReadFailed (Rose (S.faults shelf.old) (S.faults shelf.new))
-        (Unread S.read_gives (S.holds shelf.old) (command_seen command) shelf.old shelf.new)
+        (Unread S.read_gives (S.holds shelf.old) (command_seen command.entry) shelf.old shelf.new)
         result (Rose (K.faults out.old) (K.faults out.new)) (K.written out.old) (K.written out.new)
-        ⊎ FilesAnswered (S.holds shelf.old) (command_seen command)
+        ⊎ FilesAnswered (S.holds shelf.old) (command_seen command.entry)
         result (Rose (K.faults out.old) (K.faults out.new)) (K.written out.old) (K.written out.new) }
     ensures read_count { S.faults shelf.old ≤ S.faults shelf.new }
     ensures count { K.faults out.old ≤ K.faults out.new }

@@ -3,13 +3,15 @@ ghost use Rattle.bt_main.specs.Plain.{is_plain, is_unguarded, runs};
 
 use bt_model::{Guards, Kind, Term};
 
-fn runs(kind: Kind) -> bool
+/// Whether the engine runs nodes of the kind.
+pub fn runs(kind: Kind) -> bool
     ensures { result ≡ runs kind }
 {
     matches!(kind, Kind::Sequence | Kind::Fallback | Kind::Leaf)
 }
 
-fn is_unguarded(guards: &Guards) -> bool
+/// Whether there is no guard.
+pub fn is_unguarded(guards: &Guards) -> bool
     ensures { result ≡ is_unguarded guards.now }
 {
     guards.failure_if.is_none()
@@ -26,8 +28,13 @@ fn is_unguarded(guards: &Guards) -> bool
 pub fn is_plain(term: &Term) -> bool
     ensures { result ≡ is_plain term.now }
 {
-    runs(term.kind)
-        && term.ports.list().is_empty()
-        && is_unguarded(&term.guards)
-        && term.children.list().iter().all(is_plain)
+    if !(runs(term.kind) && term.ports.list().is_empty() && is_unguarded(&term.guards)) {
+        return false;
+    }
+    for child in term.children.list() {
+        if !is_plain(child) {
+            return false;
+        }
+    }
+    true
 }

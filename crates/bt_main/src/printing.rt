@@ -43,6 +43,7 @@ fn count_line(alloc: Global, tree: &Tree) -> Result<Vec<u8>, NoMemory>
 }
 
 // Writes the tree and then its counts.
+#[tactic(auto, using(bt_outside::proofs::Appends::appending))]
 fn write_check<K: Sink>(alloc: Global, tree: &Tree, out: &mut K) -> Result<(), TextStop>
     requires { IsValid tree.now }
     ensures whole { OnOk result (Appended

@@ -24,7 +24,7 @@ pub enum TreeFault {
 /// The tree that the bytes of a tree file read as, or their first fault. `main` asks for a main tree.
 pub fn read_tree(alloc: Global, bytes: &[u8], main: Option<&Name>) -> Result<Tree, Stop<TreeFault>>
     requires { length bytes.now ≤ 1048576 }
-    ensures reads { ReadsAs result (option_copied main) bytes.now }
+    ensures reads { ReadsAs result (option_copied main.entry) bytes.now }
     ensures valid { IfOk result (λ tree. IsValid tree) }
 {
     let elements = match read_elements(alloc, bytes) {

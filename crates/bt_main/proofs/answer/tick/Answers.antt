@@ -1,0 +1,13 @@
+use Rattle.std.proofs.Common.{◌∙◌, Err, ap, inr}
+use Rattle.std.specs.Option.{option_copied}
+use Rattle.bt_main.specs.Words.{Tick}
+use Rattle.bt_main.proofs.Clauses.{long_tree, tree_out_of_memory}
+use Rattle.bt_main.proofs.answer.tick.Goals as goal
+
+pub returns-in-Err-TooLong-clause-answers : goal.returns-in-Err-TooLong-clause-answers
+returns-in-Err-TooLong-clause-answers g c =
+    let too_long = c.in-Err-TooLong.is ∙ ap Err c.in-Err-TooLong.field-0-is in
+    inr (long_tree (g.S.Shelf.holds c.args.shelf.now) (Tick c.args.tree.now c.args.world.now (option_copied c.args.main)) c.read.new.bytes.items _ _ _ _ (c.read.ensures.past too_long) (c.read.ensures.longer too_long) c.write_last-in-Err-TooLong.ensures.gave)
+
+pub returns-clause-answers : goal.returns-clause-answers
+returns-clause-answers g c = inr (tree_out_of_memory (g.S.Shelf.holds c.args.shelf.now) (Tick c.args.tree.now c.args.world.now (option_copied c.args.main)) _ _)
