@@ -9,16 +9,18 @@ use Rattle.bt_main.specs.declared.exit.Exit.{Exit}
 use Rattle.bt_main.specs.declared.exit.Exit.TheVariants as exit
 use Rattle.bt_main.specs.declared.tree_file.TreeFault.{TreeFault}
 use Rattle.bt_main.specs.declared.tree_file.TreeFault.TheVariants as fault
-use Rattle.bt_main.specs.Answers.{Answers, EachOutput, FilesAnswered, Gave, IsGiven, ReadFailed, ToldIfNamed, WholeOutput, WorldAnswered}
-use Rattle.bt_main.specs.Output.{CheckGives, CommandGives, FilesGive, Output, PlainGives, TickGives, TreeGives, check_output, held_by, is_too_long, tree_name, tree_too_long, words_refused, world_name, world_output, world_too_long}
+use Rattle.bt_main.specs.Answers.{Answers, EachOutput, FilesAnswered, Gave, IsGiven, ReadFailed, Reading, ToldIfNamed, Unread, WholeOutput, WorldAnswered}
+use Rattle.bt_main.specs.Output.{CheckGives, CommandGives, FilesGive, Output, PlainGives, TickGives, TreeGives, check_output, held_by, is_too_long, tree_name, tree_too_long, unread, words_refused, world_name, world_output, world_too_long}
 use Rattle.bt_main.specs.TreeFiles.{TreeReads, element_read}
-use Rattle.bt_main.specs.Words.{Command, File, Tick, Check}
+use Rattle.bt_main.specs.Words.{Command, File, Tick, Check, WorldFile}
 use Rattle.bt_model.specs.declared.term.Tree.{Tree}
 use Rattle.bt_model.specs.declared.world.World.{World}
 use Rattle.bt_model.specs.declared.world_fault.WorldFault.{WorldFault}
 use Rattle.bt_model.specs.WorldFile.{ReadsWorld}
 use Rattle.bt_outside.specs.Appending.{Appended, AppendedFront}
+use Rattle.bt_outside.specs.Counts.{Rose}
 use Rattle.bt_outside.specs.Files.{Told}
+use Rattle.bt_outside.specs.declared.shelf.ShelfFault.TheVariants as shelf_fault
 use Rattle.bt_outside.proofs.Appends.{AppendedFront-nothing}
 
 -- each file reads in one way: its bytes spell one element or have one fault, and never both, and they describe one world
@@ -231,3 +233,26 @@ long_tree holds c room result rose a b e h gave =
       is_world = (named_contents holds (world_name c)).told;
       answers = inl (tree_too_long, long_gives c f.bytes (named_contents holds (world_name c)).bytes f.long, gave);
     }
+
+-- a tree file that was read, with what a check of it was answered
+pub check_ends : (holds : Option (List ℕ → List ℕ)) (main : Option (List ℕ)) (tree bytes : List ℕ) (result : Exit) (rose : Type 0) (a b : Option (List ℕ)) → Told holds tree (λ file. bytes ≡ file)
+    → Answers (CheckGives main bytes) result rose a b → FilesAnswered holds (Check tree main) result rose a b
+check_ends holds main tree bytes result rose a b told answers = record { tree = bytes; world = []; is_tree = told; is_world = tt; answers = answers }
+
+-- a file that is told is as long as its bytes
+told_short : (holds : Option (List ℕ → List ℕ)) (name bytes : List ℕ) → Told holds name (λ file. bytes ≡ file) → length bytes ≤ 1048576 → Told holds name (λ file. length file ≤ 1048576)
+told_short None name bytes told short = tt
+told_short (Some h) name bytes told short = subst (λ (file : List ℕ). length file ≤ 1048576) told short
+
+-- a count that rose later rose from before
+rose_before : (old between new : ℕ) → old ≤ between → Rose between new → Rose old new
+rose_before old between new less rose = grind (arith, common_steps)
+
+-- a tree file that was read, with what a run of it was answered, the world file being read behind it
+module _ {Shelf : Type 0} (read_gives : Reading Shelf) (holds : Option (List ℕ → List ℕ)) (main : Option (List ℕ)) (tree world bytes : List ℕ) (old between new : Shelf) (fell rose last : ℕ) (result : Exit) (sink : Type 0) (a b : Option (List ℕ)) where
+  pub tick_ends : fell ≤ rose → read_gives old tree (Ok tt) between → Told holds tree (λ file. bytes ≡ file) → length bytes ≤ 1048576
+      → ReadFailed (Rose rose last) (λ file. (file ≡ WorldFile) × read_gives between world (Err shelf_fault.Failed) new) result sink a b ⊎ WorldAnswered holds main bytes world result sink a b
+      → ReadFailed (Rose fell last) (Unread read_gives holds (Tick tree world main) old new) result sink a b ⊎ FilesAnswered holds (Tick tree world main) result sink a b
+  tick_ends less read told short (inl r) =
+      inl (rose_before fell rose last less r.0, WorldFile, (between, read, told_short holds tree bytes told short, r.2.1), subst (λ (f : File). Gave (unread f) result sink a b) r.2.0 r.3)
+  tick_ends less read told short (inr w) = inr (record { tree = bytes; world = w.world; is_tree = told; is_world = w.is_world; answers = w.answers })

@@ -1,6 +1,5 @@
 -- The words of the command line.
-use Rattle.std.specs.Prelude.{ℕ, List, [], ◌∷◌, codes, Bool, true, false, not, ◌&&◌, Option, Some, None, is_none, option_and_then, option_map, if◌then◌else◌}
-use Rattle.std.specs.List.{list_any}
+use Rattle.std.specs.Prelude.{ℕ, List, [], ◌∷◌, codes, Bool, true, false, ◌&&◌, Option, Some, None, is_none, option_and_then, option_map, if◌then◌else◌}
 use Rattle.std.specs.Str.{bytes_eq}
 use Rattle.bt_main.specs.declared.exit.Exit.{Exit}
 use Rattle.bt_main.specs.declared.exit.Exit.TheVariants as exit
@@ -13,12 +12,11 @@ value_of name [] = None
 value_of name (one ∷ []) = None
 value_of name (other ∷ value ∷ options) = if bytes_eq other name then Some value else value_of name options
 
--- whether words are options of these names in any order, each at most once
-abbrev pub are_options : List (List ℕ) → List (List ℕ) → Bool
-are_options names [] = true
-are_options names (one ∷ []) = false
-are_options names (name ∷ value ∷ options) =
-    list_any (bytes_eq name) names && is_none (value_of name options) && are_options names options
+-- whether words are options in any order, whose names pass this test, each at most once
+abbrev pub are_options : (List ℕ → Bool) → List (List ℕ) → Bool
+are_options is_name [] = true
+are_options is_name (one ∷ []) = false
+are_options is_name (name ∷ value ∷ options) = is_name name && is_none (value_of name options) && are_options is_name options
 
 -- ---- Commands
 
@@ -27,19 +25,19 @@ pub data Command : Type 0 where
   Tick : (tree world : List ℕ) (main : Option (List ℕ)) → Command
   Check : (tree : List ℕ) (main : Option (List ℕ)) → Command
 
--- the options of both
-abbrev pub tree_options : List (List ℕ)
-tree_options = codes "--main" ∷ []
+-- the options of both: the ID of the main tree
+abbrev pub is_tree_option : List ℕ → Bool
+is_tree_option name = bytes_eq name (codes "--main")
 
 -- `TREE WORLD [--main ID]`
 abbrev pub tick_of : List (List ℕ) → Option Command
 tick_of (tree ∷ world ∷ options) =
-    if are_options tree_options options then Some (Tick tree world (value_of (codes "--main") options)) else None
+    if are_options is_tree_option options then Some (Tick tree world (value_of (codes "--main") options)) else None
 tick_of _ = None
 
 -- `TREE [--main ID]`
 abbrev pub check_of : List (List ℕ) → Option Command
-check_of (tree ∷ options) = if are_options tree_options options then Some (Check tree (value_of (codes "--main") options)) else None
+check_of (tree ∷ options) = if are_options is_tree_option options then Some (Check tree (value_of (codes "--main") options)) else None
 check_of _ = None
 
 -- the commands by their first words, each with what it makes of the words behind it

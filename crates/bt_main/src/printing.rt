@@ -55,7 +55,8 @@ fn write_check<K: Sink>(alloc: Global, tree: &Tree, out: &mut K) -> Result<(), T
 {
     write_tree(alloc, out, tree)?;
     let line = count_line(alloc, tree)?;
-    write_line(out, line.as_slice())
+    write_line(out, line.as_slice())?;
+    Ok(())
 }
 
 /// Prints the tree as it was read.

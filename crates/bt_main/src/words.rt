@@ -1,8 +1,8 @@
-ghost use Rattle.std.specs.Prelude.{◌≡◌, ◌↔◌, IfOk, map, option_map};
+ghost use Rattle.std.specs.Prelude.{◌≡◌, ◌↔◌, IfOk, MatchOption, Some, None, codes, is_none};
 ghost use Rattle.std.specs.IoError.{error_kind};
 ghost use Rattle.std.specs.Option.{option_copied};
 ghost use Rattle.bt_main.specs.Commands.{command_seen};
-ghost use Rattle.bt_main.specs.Words.{are_options, check_of, command_of, tick_of, value_of};
+ghost use Rattle.bt_main.specs.Words.{are_options, check_of, command_of, is_tree_option, tick_of, value_of};
 
 use bt_script::{Name, NoMemory};
 use std::alloc::{AllocFailed, Global};
@@ -40,60 +40,80 @@ fn value_of<'a>(options: &'a [Name], name: &[u8]) -> Option<&'a Name>
     None
 }
 
-/// Whether the words are options of these names in any order, each at most once.
-fn are_options(options: &[Name], names: &[&[u8]]) -> bool
-    ensures { result ≡ are_options (map (λ name. name.now) names.now) options.now }
+/// Whether no option has this name.
+fn is_unset(options: &[Name], name: &[u8]) -> bool
+    ensures { result ≡ is_none (value_of name.now options.now) }
+{
+    value_of(options, name).is_none()
+}
+
+/// Whether this is the name of an option of the commands that read a tree file.
+fn is_tree_option(name: &[u8]) -> bool
+    ensures { result ≡ is_tree_option name.now }
+{
+    name == b"--main".as_slice()
+}
+
+/// Whether the words are options of the commands that read a tree file, each at most once.
+fn are_tree_options(options: &[Name]) -> bool
+    ensures { result ≡ are_options is_tree_option options.now }
 {
     match options {
         [] => true,
         [name, _value, rest @ ..] => {
-            names.iter().any(|n| name.list() == *n)
-                && value_of(rest, name.list()).is_none()
-                && are_options(rest, names)
+            is_tree_option(name.list()) && is_unset(rest, name.list()) && are_tree_options(rest)
         }
         _ => false,
     }
 }
 
-/// The options of the commands that read a tree file.
-const TREE_OPTIONS: [&[u8]; 1] = [b"--main"];
+/// The ID of the main tree, where options name one.
+fn main_of<'a>(options: &'a [Name]) -> Option<&'a Name>
+    ensures { option_copied result ≡ value_of (codes "--main") options.now }
+{
+    value_of(options, b"--main")
+}
 
 /// The command `tick` with these words behind it.
 fn read_tick<'a>(words: &'a [Name]) -> Option<Command<'a>>
-    ensures { option_map command_seen result ≡ tick_of words.now }
+    ensures { MatchOption result (tick_of words.now ≡ None) (λ c. tick_of words.now ≡ Some (command_seen c)) }
 {
-    match words {
-        [tree, world, options @ ..] if are_options(options, TREE_OPTIONS.as_slice()) => {
-            Some(Command::Tick {
-                tree,
-                world,
-                main: value_of(options, b"--main"),
-            })
-        }
-        _ => None,
+    let [tree, world, options @ ..] = words else {
+        return None;
+    };
+    if !are_tree_options(options) {
+        return None;
     }
+    Some(Command::Tick {
+        tree,
+        world,
+        main: main_of(options),
+    })
 }
 
 /// The command `check` with these words behind it.
 fn read_check<'a>(words: &'a [Name]) -> Option<Command<'a>>
-    ensures { option_map command_seen result ≡ check_of words.now }
+    ensures { MatchOption result (check_of words.now ≡ None) (λ c. check_of words.now ≡ Some (command_seen c)) }
 {
-    match words {
-        [tree, options @ ..] if are_options(options, TREE_OPTIONS.as_slice()) => {
-            Some(Command::Check {
-                tree,
-                main: value_of(options, b"--main"),
-            })
-        }
-        _ => None,
+    let [tree, options @ ..] = words else {
+        return None;
+    };
+    if !are_tree_options(options) {
+        return None;
     }
+    Some(Command::Check {
+        tree,
+        main: main_of(options),
+    })
 }
 
 /// The command that the words are.
 pub fn read_command<'a>(words: &'a [Name]) -> Option<Command<'a>>
-    ensures { option_map command_seen result ≡ command_of words.now }
+    ensures { MatchOption result (command_of words.now ≡ None) (λ c. command_of words.now ≡ Some (command_seen c)) }
 {
-    let (word, words) = words.split_first()?;
+    let [word, words @ ..] = words else {
+        return None;
+    };
     if word.list() == b"tick".as_slice() {
         read_tick(words)
     } else if word.list() == b"check".as_slice() {
