@@ -9,10 +9,10 @@ use Rattle.bt_main.specs.declared.exit.Exit.{Exit}
 use Rattle.bt_main.specs.declared.exit.Exit.TheVariants as exit
 use Rattle.bt_main.specs.declared.tree_file.TreeFault.{TreeFault}
 use Rattle.bt_main.specs.declared.tree_file.TreeFault.TheVariants as fault
-use Rattle.bt_main.specs.Answers.{Answers, EachOutput, FilesAnswered, Gave, IsGiven, ReadFailed, Reading, ToldIfNamed, Unread, WholeOutput, WorldAnswered}
-use Rattle.bt_main.specs.Output.{CheckGives, CommandGives, FilesGive, Output, PlainGives, TickGives, TreeGives, check_output, held_by, is_too_long, tree_name, tree_too_long, unread, words_refused, world_name, world_output, world_too_long}
+use Rattle.bt_main.specs.Answers.{Answers, EachOutput, FilesAnswered, Gave, IsGiven, ReadFailed, Reading, ToldIfNamed, Unread, UnreadLine, WholeOutput, WorldAnswered}
+use Rattle.bt_main.specs.Output.{CheckGives, CommandGives, FilesGive, Output, PlainGives, TickGives, TreeGives, built_output, check_output, held_by, is_too_long, joined_output, rowless, tree_name, tree_refused, tree_too_long, tree_unbuilt, unread, words_refused, world_name, world_output, world_too_long}
 use Rattle.bt_main.specs.TreeFiles.{TreeReads, element_read}
-use Rattle.bt_main.specs.Words.{Command, File, Tick, Check, WorldFile}
+use Rattle.bt_main.specs.Words.{Command, File, Tick, Check, TreeFile, WorldFile}
 use Rattle.bt_model.specs.declared.term.Tree.{Tree}
 use Rattle.bt_model.specs.declared.world.World.{World}
 use Rattle.bt_model.specs.declared.world_fault.WorldFault.{WorldFault}
@@ -22,6 +22,8 @@ use Rattle.bt_outside.specs.Counts.{Rose}
 use Rattle.bt_outside.specs.Files.{Told}
 use Rattle.bt_outside.specs.declared.shelf.ShelfFault.TheVariants as shelf_fault
 use Rattle.bt_outside.proofs.Appends.{AppendedFront-nothing}
+use Rattle.bt_outside.proofs.Rises.{Rose-after}
+use Rattle.bt_world.specs.Today.{needs_engine}
 
 -- each file reads in one way: its bytes spell one element or have one fault, and never both, and they describe one world
 -- or have one fault
@@ -244,15 +246,92 @@ told_short : (holds : Option (List ℕ → List ℕ)) (name bytes : List ℕ) �
 told_short None name bytes told short = tt
 told_short (Some h) name bytes told short = subst (λ (file : List ℕ). length file ≤ 1048576) told short
 
--- a count that rose later rose from before
-rose_before : (old between new : ℕ) → old ≤ between → Rose between new → Rose old new
-rose_before old between new less rose = grind (arith, common_steps)
-
 -- a tree file that was read, with what a run of it was answered, the world file being read behind it
 module _ {Shelf : Type 0} (read_gives : Reading Shelf) (holds : Option (List ℕ → List ℕ)) (main : Option (List ℕ)) (tree world bytes : List ℕ) (old between new : Shelf) (fell rose last : ℕ) (result : Exit) (sink : Type 0) (a b : Option (List ℕ)) where
   pub tick_ends : fell ≤ rose → read_gives old tree (Ok tt) between → Told holds tree (λ file. bytes ≡ file) → length bytes ≤ 1048576
       → ReadFailed (Rose rose last) (λ file. (file ≡ WorldFile) × read_gives between world (Err shelf_fault.Failed) new) result sink a b ⊎ WorldAnswered holds main bytes world result sink a b
       → ReadFailed (Rose fell last) (Unread read_gives holds (Tick tree world main) old new) result sink a b ⊎ FilesAnswered holds (Tick tree world main) result sink a b
   tick_ends less read told short (inl r) =
-      inl (rose_before fell rose last less r.0, WorldFile, (between, read, told_short holds tree bytes told short, r.2.1), subst (λ (f : File). Gave (unread f) result sink a b) r.2.0 r.3)
+      inl (Rose-after fell rose last less r.0, WorldFile, (between, read, told_short holds tree bytes told short, r.2.1), subst (λ (f : File). Gave (unread f) result sink a b) r.2.0 r.3)
   tick_ends less read told short (inr w) = inr (record { tree = bytes; world = w.world; is_tree = told; is_world = w.is_world; answers = w.answers })
+
+-- no output of files has the exit of a failed read
+read_exit : (o z : Output) → o ≡ z → o.exit ≡ exit.Read → z.exit ≡ exit.Read
+read_exit o z p e = sym (ap (λ (x : Output). x.exit) p) ∙ e
+
+unread_built : (b : Bool) (tree : Tree) (world : World) → (built_output b tree world).exit ≡ exit.Read → ⊥
+unread_built true tree world e = cc
+unread_built false tree world e = cc
+
+unread_joined : (id : Option (List ℕ)) (tree : Tree) (world : World) → (joined_output id tree world).exit ≡ exit.Read → ⊥
+unread_joined None tree world e = unread_built (needs_engine world) tree world e
+unread_joined (Some id) tree world e = cc
+
+unread_world : (r : Result World WorldFault) (tree : Tree) → (world_output r tree).exit ≡ exit.Read → ⊥
+unread_world (Ok world) tree e = unread_joined (rowless tree world) tree world e
+unread_world (Err f) tree e = cc
+
+unread_check : (r : Result Tree TreeFault) → (check_output r).exit ≡ exit.Read → ⊥
+unread_check (Ok tree) e = cc
+unread_check (Err f) e = cc
+
+unread_plain : (b : Bool) (tree : Tree) (world : List ℕ) (o : Output) → PlainGives b tree world o → o.exit ≡ exit.Read → ⊥
+unread_plain true tree world o p e = unread_world p.0 tree (read_exit o _ p.2 e)
+unread_plain false tree world o p e = let x = read_exit o tree_unbuilt p e in cc
+
+unread_tree : (r : Result Tree TreeFault) (world : List ℕ) (o : Output) → TreeGives r world o → o.exit ≡ exit.Read → ⊥
+unread_tree (Ok tree) world o p e = unread_plain _ tree world o p e
+unread_tree (Err f) world o p e = let x = read_exit o (tree_refused f) p e in cc
+
+unread_if : (b : Bool) (o z : Output) (P : Type 0) → (z.exit ≡ exit.Read → ⊥) → MatchBool b (o ≡ z) P → (P → o.exit ≡ exit.Read → ⊥) → o.exit ≡ exit.Read → ⊥
+unread_if true o z P nz p k e = nz (read_exit o z p e)
+unread_if false o z P nz p k e = k p e
+
+long_tree_read : tree_too_long.exit ≡ exit.Read → ⊥
+long_tree_read e = cc
+
+long_world_read : world_too_long.exit ≡ exit.Read → ⊥
+long_world_read e = cc
+
+unread_files : (c : Command) (tree world : List ℕ) (o : Output) → FilesGive c tree world o → o.exit ≡ exit.Read → ⊥
+unread_files (Tick t w main) tree world o p e =
+    unread_if (is_too_long tree) o tree_too_long _ long_tree_read p
+    (λ p1 e1. unread_if (is_too_long world) o world_too_long _ long_world_read p1 (λ p2 e2. unread_tree p2.0 world o p2.2 e2) e1) e
+unread_files (Check t main) tree world o p e =
+    unread_if (is_too_long tree) o tree_too_long _ long_tree_read p (λ p1 e1. unread_check p1.0 (read_exit o _ p1.2 e1)) e
+
+-- the bytes of the answer are those that the shelf tells
+told_files : (h : List ℕ → List ℕ) (c : Command) (tree world : List ℕ) (o : Output) → tree ≡ h (tree_name c) → ToldIfNamed (Some h) (world_name c) (λ file. world ≡ file)
+    → FilesGive c tree world o → FilesGive c (h (tree_name c)) (held_by h (world_name c)) o
+told_files h (Tick t w main) tree world o is_tree is_world p =
+    subst (λ (z : List ℕ). TickGives main z (h w) o) is_tree (subst (λ (z : List ℕ). TickGives main tree z o) is_world p)
+told_files h (Check t main) tree world o is_tree is_world p = subst (λ (z : List ℕ). CheckGives main z o) is_tree p
+
+not_given : (f : File) → IsGiven (unread f).exit → ⊥
+not_given TreeFile x = x
+not_given WorldFile x = x
+
+-- what was given whole, and what a failed read gave
+module _ (c : Command) (result : Exit) (shelf : Type 0) (IsUnread : File → Type 0) (sink : Type 0) (a b : Option (List ℕ)) where
+  whole_answered : (h : List ℕ → List ℕ) (f : FilesAnswered (Some h) c result sink a b) → IsGiven result → Answers (FilesGive c f.tree f.world) result sink a b → WholeOutput (Some h) (Some c) result a b
+  whole_answered h f given (inl x) =
+      let w = whole_given x.0 result sink a b given x.2 in
+      (x.0, told_files h c f.tree f.world x.0 f.is_tree f.is_world x.1, w.0, w.1)
+  whole_answered h f given (inr y) = absurd (subst IsGiven y.0 given)
+
+  pub whole_clause : (holds : Option (List ℕ → List ℕ)) → ReadFailed shelf IsUnread result sink a b ⊎ FilesAnswered holds c result sink a b → IsGiven result → WholeOutput holds (Some c) result a b
+  whole_clause None x given = tt
+  whole_clause (Some h) (inl r) given = absurd (not_given r.1 (subst IsGiven (sym (whole_given (unread r.1) result sink a b given r.3).0) given))
+  whole_clause (Some h) (inr f) given = whole_answered h f given f.answers
+
+  read_answered : (tree world : List ℕ) → result ≡ exit.Read → Answers (FilesGive c tree world) result sink a b → ⊥
+  read_answered tree world is (inl x) =
+      let gave : Gave x.0 exit.Read sink a b = subst (λ (e : Exit). Gave x.0 e sink a b) is x.2 in
+      unread_files c tree world x.0 x.1 gave.0
+  read_answered tree world is (inr y) = let e : exit.Memory ≡ exit.Read = sym y.0 ∙ is in cc
+
+  pub read_clause : (holds : Option (List ℕ → List ℕ)) → ReadFailed shelf IsUnread result sink a b ⊎ FilesAnswered holds c result sink a b → result ≡ exit.Read → shelf × UnreadLine IsUnread a b
+  read_clause holds (inl r) is =
+      let gave : Gave (unread r.1) exit.Read sink a b = subst (λ (e : Exit). Gave (unread r.1) e sink a b) is r.3 in
+      (r.0, r.1, r.2, gave.1)
+  read_clause holds (inr f) is = absurd (read_answered f.tree f.world is f.answers)

@@ -61,7 +61,13 @@ fn are_tree_options(options: &[Name]) -> bool
     match options {
         [] => true,
         [name, _value, rest @ ..] => {
-            is_tree_option(name.list()) && is_unset(rest, name.list()) && are_tree_options(rest)
+            if !is_tree_option(name.list()) {
+                return false;
+            }
+            if !is_unset(rest, name.list()) {
+                return false;
+            }
+            are_tree_options(rest)
         }
         _ => false,
     }

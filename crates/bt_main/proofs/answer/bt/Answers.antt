@@ -1,4 +1,4 @@
-use Rattle.bt_main.proofs.Clauses.{complete_clause, each_clause, none_complete, none_each, none_whole}
+use Rattle.bt_main.proofs.Clauses.{complete_clause, each_clause, none_complete, none_each, none_whole, read_clause, whole_clause}
 use Rattle.bt_main.proofs.answer.bt.Goals as goal
 
 pub returns-in-Some-clause-each : goal.returns-in-Some-clause-each
@@ -18,3 +18,9 @@ returns-in-None-clause-each g c = rw c.in-None.ensures (none_each _ _ _ _ _ _ c.
 
 pub returns-in-None-clause-complete : goal.returns-in-None-clause-complete
 returns-in-None-clause-complete g c = rw c.in-None.ensures (none_complete _ _ (λ _. Unit {0}) _ _ _ c.write_last.ensures.gave (g.S.Shelf.holds c.args.shelf.now))
+
+pub returns-in-Some-clause-whole : goal.returns-in-Some-clause-whole
+returns-in-Some-clause-whole g c = rw c.in-Some.ensures (λ given. whole_clause _ _ _ _ _ _ _ (g.S.Shelf.holds c.args.shelf.now) c.answer_command.ensures.answers given)
+
+pub returns-in-Some-clause-read : goal.returns-in-Some-clause-read
+returns-in-Some-clause-read g c = rw c.in-Some.ensures (λ is. read_clause _ _ _ _ _ _ _ (g.S.Shelf.holds c.args.shelf.now) c.answer_command.ensures.answers is)
