@@ -333,5 +333,5 @@ module _ (c : Command) (result : Exit) (shelf : Type 0) (IsUnread : File → Typ
   pub read_clause : (holds : Option (List ℕ → List ℕ)) → ReadFailed shelf IsUnread result sink a b ⊎ FilesAnswered holds c result sink a b → result ≡ exit.Read → shelf × UnreadLine IsUnread a b
   read_clause holds (inl r) is =
       let gave : Gave (unread r.1) exit.Read sink a b = subst (λ (e : Exit). Gave (unread r.1) e sink a b) is r.3 in
-      (r.0, r.1, r.2, gave.1)
+      (r.0, (r.1, r.2, gave.1))
   read_clause holds (inr f) is = absurd (read_answered f.tree f.world is f.answers)

@@ -12,11 +12,15 @@ value_of name [] = None
 value_of name (one ∷ []) = None
 value_of name (other ∷ value ∷ options) = if bytes_eq other name then Some value else value_of name options
 
+-- whether no option has this name
+unfoldable pub is_unset : List ℕ → List (List ℕ) → Bool
+is_unset name options = is_none (value_of name options)
+
 -- whether words are options in any order, whose names pass this test, each at most once
 abbrev pub are_options : (List ℕ → Bool) → List (List ℕ) → Bool
 are_options is_name [] = true
 are_options is_name (one ∷ []) = false
-are_options is_name (name ∷ value ∷ options) = is_name name && is_none (value_of name options) && are_options is_name options
+are_options is_name (name ∷ value ∷ options) = is_name name && is_unset name options && are_options is_name options
 
 -- ---- Commands
 
@@ -26,7 +30,7 @@ pub data Command : Type 0 where
   Check : (tree : List ℕ) (main : Option (List ℕ)) → Command
 
 -- the options of both: the ID of the main tree
-abbrev pub is_tree_option : List ℕ → Bool
+unfoldable pub is_tree_option : List ℕ → Bool
 is_tree_option name = bytes_eq name (codes "--main")
 
 -- `TREE WORLD [--main ID]`

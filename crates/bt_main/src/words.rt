@@ -1,8 +1,8 @@
-ghost use Rattle.std.specs.Prelude.{◌≡◌, ◌↔◌, IfOk, MatchOption, Some, None, codes, is_none};
+ghost use Rattle.std.specs.Prelude.{◌≡◌, ◌↔◌, IfOk, MatchOption, Some, None, codes};
 ghost use Rattle.std.specs.IoError.{error_kind};
 ghost use Rattle.std.specs.Option.{option_copied};
 ghost use Rattle.bt_main.specs.Commands.{command_seen};
-ghost use Rattle.bt_main.specs.Words.{are_options, check_of, command_of, is_tree_option, tick_of, value_of};
+ghost use Rattle.bt_main.specs.Words.{are_options, check_of, command_of, is_tree_option, is_unset, tick_of, value_of};
 
 use bt_script::{Name, NoMemory};
 use std::alloc::{AllocFailed, Global};
@@ -41,36 +41,36 @@ fn value_of<'a>(options: &'a [Name], name: &[u8]) -> Option<&'a Name>
 }
 
 /// Whether no option has this name.
-fn is_unset(options: &[Name], name: &[u8]) -> bool
-    ensures { result ≡ is_none (value_of name.now options.now) }
+#[tactic(auto, unfolding(crate::specs::Words::is_unset))]
+fn is_unset(options: &[Name], name: &Name) -> bool
+    ensures { result ≡ is_unset name.now options.now }
 {
-    value_of(options, name).is_none()
+    value_of(options, name.list()).is_none()
 }
 
 /// Whether this is the name of an option of the commands that read a tree file.
-fn is_tree_option(name: &[u8]) -> bool
+#[tactic(auto, unfolding(crate::specs::Words::is_tree_option))]
+fn is_tree_option(name: &Name) -> bool
     ensures { result ≡ is_tree_option name.now }
 {
-    name == b"--main".as_slice()
+    name.list() == b"--main".as_slice()
 }
 
 /// Whether the words are options of the commands that read a tree file, each at most once.
 fn are_tree_options(options: &[Name]) -> bool
     ensures { result ≡ are_options is_tree_option options.now }
 {
-    match options {
-        [] => true,
-        [name, _value, rest @ ..] => {
-            if !is_tree_option(name.list()) {
-                return false;
-            }
-            if !is_unset(rest, name.list()) {
-                return false;
-            }
-            are_tree_options(rest)
+    let mut rest = options;
+    while let [name, _value, more @ ..] = rest {
+        if !is_tree_option(name) {
+            return false;
         }
-        _ => false,
+        if !is_unset(more, name) {
+            return false;
+        }
+        rest = more;
     }
+    rest.is_empty()
 }
 
 /// The ID of the main tree, where options name one.
