@@ -7,8 +7,6 @@ use Rattle.bt_model.specs.declared.term.Term.{Term}
 use Rattle.bt_model.specs.declared.term.Tree.{Tree}
 use Rattle.bt_model.specs.declared.world.World.{World}
 use Rattle.bt_model.specs.Terms.{leaf_ids}
-use Rattle.bt_model.specs.WorldFile.{WorldFault}
-use Rattle.bt_main.specs.Output.{world_output, world_unbuilt}
 
 module _ {X : Type 0} (p : X → Bool) where
   found_if : (b : Bool) (z : X) (o q : Option X) (x : X) → cond b (Some z) o ≡ Some x → (o ≡ Some x → q ≡ Some x) → cond b (Some z) q ≡ Some x
@@ -34,8 +32,3 @@ pub leaves_here : (cs : List Term) (i : ℕ) (c : Term) → i < length cs → c 
     flat_map (λ ids. ids) (map leaf_ids (drop i cs)) ≡ leaf_ids c ++ flat_map (λ ids. ids) (map leaf_ids (drop (i + 1) cs))
 leaves_here cs i c within is_c =
     ap (λ (ts : List Term). flat_map (λ (ids : List (List ℕ)). ids) (map leaf_ids ts)) (drop_more cs i c within ∙ ap (λ (x : Term). x ∷ drop (i + 1) cs) (sym is_c))
-
--- a world file that is refused
-pub refused_world : (r : Result World WorldFault) (tree : Tree) → IsErr r → world_unbuilt ≡ world_output r tree
-refused_world (Ok w) tree e = absurd (cc)
-refused_world (Err f) tree e = refl

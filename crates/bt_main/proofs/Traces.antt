@@ -66,3 +66,7 @@ text_finish names root rows runners events s m i facts last block one none taken
     ap (λ (es : List Event). text_of names (run_from root rows runners es s).blocks) none
     ∙ ap (λ (n : ℕ). text_of names (run_from root rows n [] s).blocks) one
     ∙ text_step names m i facts last block (finish root 1 s) (finishes root 2 0) taken
+
+-- the lines of a block, with the names under another name
+pub named : (shown names : LineNames) (block : Block) (whole rest : List ℕ) → names ≡ shown → whole ≡ concat (lines_of shown block) ++ rest → whole ≡ concat (lines_of names block) ++ rest
+named shown names block whole rest e h = h ∙ ap (λ (n : LineNames). concat (lines_of n block) ++ rest) (sym e)

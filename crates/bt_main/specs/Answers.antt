@@ -2,8 +2,8 @@
 use Rattle.std.specs.Prelude.{ℕ, ◌≡◌, ◌≤◌, ◌⊎◌, List, length, Option, Some, None, Result, Ok, Err}
 use Rattle.bt_main.specs.declared.exit.Exit.{Exit}
 use Rattle.bt_main.specs.declared.exit.Exit.TheVariants as exit
-use Rattle.bt_main.specs.Output.{Output, CommandGives, FilesGive, unread, words_refused}
-use Rattle.bt_main.specs.Words.{Command, File, Tree, World}
+use Rattle.bt_main.specs.Output.{Output, CommandGives, FilesGive, TickGives, tree_name, unread, words_refused, world_name}
+use Rattle.bt_main.specs.Words.{Command, File, TreeFile, WorldFile}
 use Rattle.bt_outside.specs.Appending.{Appended, AppendedFront}
 use Rattle.bt_outside.specs.Files.{Told}
 use Rattle.bt_outside.specs.declared.shelf.ShelfFault.{ShelfFault}
@@ -38,14 +38,19 @@ Answers IsOutput result rose old new =
 abbrev pub Reading : Type 0 → Type 1
 Reading Shelf = Shelf → List ℕ → Result (Unit {0}) ShelfFault → Shelf → Type 0
 
--- The read of this file of a command failed. The world file is read where the tree file was, which is
--- then within the limit, where the shelf tells it.
+-- the read of a world file that may be named failed, behind that of the tree file, which is then within the limit, where
+-- the shelf tells it
+abbrev pub WorldUnread : {Shelf : Type 0} → Reading Shelf → Option (List ℕ → List ℕ) → List ℕ → Option (List ℕ) → Shelf → Shelf → Type 0
+WorldUnread read_gives holds tree None old new = ⊥
+WorldUnread {Shelf} read_gives holds tree (Some world) old new =
+    (between : Shelf) × read_gives old tree (Ok tt) between
+    × Told holds tree (λ file. length file ≤ 1048576)
+    × read_gives between world (Err fault.Failed) new
+
+-- the read of this file of a command failed
 abbrev pub Unread : {Shelf : Type 0} → Reading Shelf → Option (List ℕ → List ℕ) → Command → Shelf → Shelf → File → Type 0
-Unread read_gives holds command old new Tree = read_gives old command.tree (Err fault.Failed) new
-Unread {Shelf} read_gives holds command old new World =
-    (between : Shelf) × read_gives old command.tree (Ok tt) between
-    × Told holds command.tree (λ file. length file ≤ 1048576)
-    × read_gives between command.world (Err fault.Failed) new
+Unread read_gives holds command old new TreeFile = read_gives old (tree_name command) (Err fault.Failed) new
+Unread read_gives holds command old new WorldFile = WorldUnread read_gives holds (tree_name command) (world_name command) old new
 
 -- the same of words, of which those that are no command name no file
 abbrev pub WordsUnread : {Shelf : Type 0} → Reading Shelf → Option (List ℕ → List ℕ) → Option Command → Shelf → Shelf → File → Type 0
@@ -57,15 +62,20 @@ abbrev pub ReadFailed : Type 0 → (File → Type 0) → Exit → Type 0 → Opt
 ReadFailed shelf_rose IsUnread result sink_rose old new =
     shelf_rose × (file : File) × IsUnread file × Gave (unread file) result sink_rose old new
 
--- the output of these bytes of the two files, which are those that the shelf tells
+-- what a shelf tells of a file that may be named
+abbrev pub ToldIfNamed : Option (List ℕ → List ℕ) → Option (List ℕ) → (List ℕ → Type 0) → Type 0
+ToldIfNamed holds None P = Unit {0}
+ToldIfNamed holds (Some name) P = Told holds name P
+
+-- the output of these bytes of the files that a command names, which are those that the shelf tells
 pub record FilesAnswered (holds : Option (List ℕ → List ℕ)) (command : Command) (result : Exit) (rose : Type 0) (old new : Option (List ℕ)) : Type 0 where
   pub tree : List ℕ
   pub world : List ℕ
-  pub is_tree : Told holds command.tree (λ file. tree ≡ file)
-  pub is_world : Told holds command.world (λ file. world ≡ file)
-  pub answers : Answers (FilesGive tree world) result rose old new
+  pub is_tree : Told holds (tree_name command) (λ file. tree ≡ file)
+  pub is_world : ToldIfNamed holds (world_name command) (λ file. world ≡ file)
+  pub answers : Answers (FilesGive command tree world) result rose old new
 
--- What words were answered, also by a shelf that tells nothing: the output of some bytes of the two files was given,
+-- What words were answered, also by a shelf that tells nothing: the output of some bytes of its files was given,
 -- or the line of a file whose read failed; or the words are no command.
 abbrev pub CommandAnswered : Option Command → Option (List ℕ → List ℕ) → Type 0 → (File → Type 0) → Exit → Type 0 → Option (List ℕ) → Option (List ℕ) → Type 0
 CommandAnswered None holds shelf_rose IsUnread result sink_rose old new = Gave words_refused result sink_rose old new
@@ -87,8 +97,8 @@ abbrev pub EachOutput : Option (List ℕ → List ℕ) → Option Command → (O
 EachOutput None command P = Unit {0}
 EachOutput (Some holds) command P = (o : Output) → CommandGives command holds o → P o
 
--- the output of the bytes of a tree file and of a world file, which are those that the shelf tells
-pub record WorldAnswered (holds : Option (List ℕ → List ℕ)) (tree name : List ℕ) (result : Exit) (rose : Type 0) (old new : Option (List ℕ)) : Type 0 where
+-- the output of `tick` over the bytes of a tree file and of a world file, which are those that the shelf tells
+pub record WorldAnswered (holds : Option (List ℕ → List ℕ)) (main : Option (List ℕ)) (tree name : List ℕ) (result : Exit) (rose : Type 0) (old new : Option (List ℕ)) : Type 0 where
   pub world : List ℕ
   pub is_world : Told holds name (λ file. world ≡ file)
-  pub answers : Answers (FilesGive tree world) result rose old new
+  pub answers : Answers (TickGives main tree world) result rose old new

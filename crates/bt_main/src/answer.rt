@@ -1,98 +1,157 @@
-ghost use Rattle.std.specs.Prelude.{◌≡◌, ◌+◌, ◌<◌, ◌≤◌, ◌^◌, ◌⊎◌, List, ℕ, IfOk, Option, None, Some, Err, length};
+ghost use Rattle.std.specs.Prelude.{◌≡◌, ◌≤◌, ◌⊎◌, List, ℕ, Option, None, Some, Err, length};
+ghost use Rattle.std.specs.Option.{option_copied};
 ghost use Rattle.bt_main.specs.Answers.{Answers, CommandAnswered, EachOutput, FilesAnswered, Gave, IsGiven, ReadFailed, Unread, UnreadLine, WholeOutput, WordsUnread, WorldAnswered};
-ghost use Rattle.bt_main.specs.Output.{CommandGives, FilesGive, Output, ReadsTree, ReadsAs, words_refused, tree_output};
-ghost use Rattle.bt_main.specs.Words.{Command, World, command_of};
-ghost use Rattle.bt_model.specs.Terms.{node_count};
+ghost use Rattle.bt_main.specs.Commands.{command_seen};
+ghost use Rattle.bt_main.specs.Output.{CheckGives, CommandGives, TickGives, words_refused};
+ghost use Rattle.bt_main.specs.Words.{Check, Tick, WorldFile, command_of};
 ghost use Rattle.bt_outside.specs.Appending.{Appended};
 ghost use Rattle.bt_outside.specs.Counts.{Rose};
 
 use crate::exit::Exit;
-use crate::join::{run_world, write_last};
+use crate::join::{refuse_tree, run_plain, write_last};
+use crate::printing::print_tree;
+use crate::tree_file::read_tree;
 use crate::words::{Command, read_command};
-use bt_build::{Unbuilt, build};
-use bt_elements::{one_element, read_elements};
-use bt_model::Tree;
+use bt_elements::{element_or_fault, one_element};
 use bt_outside::{Shelf, ShelfFault, Sink};
 use bt_script::{Name, Stop};
+use bt_world::laws::worlds_read_one_way;
 use std::alloc::Global;
 
 /// The most bytes of a file.
 const MOST_BYTES: u64 = 1_048_576;
 
-/// The tree that the bytes of a tree file spell. `Unbuilt` says that they spell none.
-fn read_tree(alloc: Global, bytes: &[u8]) -> Result<Tree, Stop<Unbuilt>>
-    requires { length bytes.now ≤ 1048576 }
-    ensures reads { ReadsAs result bytes.now }
-    ensures nodes { IfOk result (λ tree. node_count tree.term ≤ 4096) }
-{
-    one_element();
-    let elements = read_elements(alloc, bytes)?;
-    let tree = build(alloc, &elements.root)?;
-    Ok(tree)
-}
-
 /// Runs the tree of a tree file over the world of a world file.
-fn answer_files<K: Sink>(alloc: Global, tree: &[u8], world: &[u8], out: &mut K) -> Exit
+fn answer_files<K: Sink>(
+    alloc: Global,
+    tree: &[u8],
+    world: &[u8],
+    main: Option<&Name>,
+    out: &mut K,
+) -> Exit
     requires tree { length tree.now ≤ 1048576 }
     requires world { length world.now ≤ 1048576 }
-    ensures answers { Answers (FilesGive tree.now world.now) result
+    ensures answers { Answers (TickGives (option_copied main.entry) tree.now world.now) result
         (Rose (K.faults out.old) (K.faults out.new)) (K.written out.old) (K.written out.new) }
     ensures count { K.faults out.old ≤ K.faults out.new }
 {
-    match read_tree(alloc, tree) {
-        Ok(tree) => run_world(alloc, &tree, world, out),
-        Err(Stop::Fault(_)) => write_last(out, b"refused tree Unbuilt\n", Exit::Tree),
+    match read_tree(alloc, tree, main) {
+        Ok(tree) => run_plain(alloc, &tree, world, out),
+        Err(Stop::Fault(fault)) => refuse_tree(alloc, &fault, out),
         Err(Stop::NoMemory) => Exit::Memory,
     }
 }
 
-/// Reads both files of a command and answers them.
-fn answer_command<S: Shelf, K: Sink>(
+/// Prints the tree of a tree file.
+fn answer_check<K: Sink>(alloc: Global, tree: &[u8], main: Option<&Name>, out: &mut K) -> Exit
+    requires { length tree.now ≤ 1048576 }
+    ensures answers { Answers (CheckGives (option_copied main.entry) tree.now) result
+        (Rose (K.faults out.old) (K.faults out.new)) (K.written out.old) (K.written out.new) }
+    ensures count { K.faults out.old ≤ K.faults out.new }
+{
+    match read_tree(alloc, tree, main) {
+        Ok(tree) => print_tree(alloc, &tree, out),
+        Err(Stop::Fault(fault)) => refuse_tree(alloc, &fault, out),
+        Err(Stop::NoMemory) => Exit::Memory,
+    }
+}
+
+/// Reads the tree file of a check and answers it.
+fn check<S: Shelf, K: Sink>(
     alloc: Global,
-    command: &Command,
+    tree: &Name,
+    main: Option<&Name>,
     shelf: &mut S,
     out: &mut K,
 ) -> Exit
     ensures answers { ReadFailed (Rose (S.faults shelf.old) (S.faults shelf.new))
-        (Unread S.read_gives (S.holds shelf.old) (record { tree = command.now.tree.now; world = command.now.world.now }) shelf.old shelf.new)
+        (Unread S.read_gives (S.holds shelf.old) (Check tree.now (option_copied main.entry)) shelf.old shelf.new)
         result (Rose (K.faults out.old) (K.faults out.new)) (K.written out.old) (K.written out.new)
-        ⊎ FilesAnswered (S.holds shelf.old) (record { tree = command.now.tree.now; world = command.now.world.now })
+        ⊎ FilesAnswered (S.holds shelf.old) (Check tree.now (option_copied main.entry))
         result (Rose (K.faults out.old) (K.faults out.new)) (K.written out.old) (K.written out.new) }
     ensures read_count { S.faults shelf.old ≤ S.faults shelf.new }
     ensures count { K.faults out.old ≤ K.faults out.new }
 {
-    let mut tree = Vec::new(alloc);
-    match shelf.read(command.tree, &mut tree, MOST_BYTES) {
-        Ok(()) => answer_world(alloc, tree.as_slice(), command, shelf, out),
+    let mut bytes = Vec::new(alloc);
+    match shelf.read(tree, &mut bytes, MOST_BYTES) {
+        Ok(()) => answer_check(alloc, bytes.as_slice(), main, out),
         Err(ShelfFault::Failed) => write_last(out, b"refused read tree\n", Exit::Read),
-        Err(ShelfFault::TooLong) => write_last(out, b"refused tree Unbuilt\n", Exit::Tree),
+        Err(ShelfFault::TooLong) => write_last(out, b"refused tree TooLong\n", Exit::Tree),
         Err(ShelfFault::NoMemory) => Exit::Memory,
     }
 }
 
-/// Reads the world file of a command, whose tree file was read, and answers both.
+/// Reads both files of a run and answers them.
+fn tick<S: Shelf, K: Sink>(
+    alloc: Global,
+    tree: &Name,
+    world: &Name,
+    main: Option<&Name>,
+    shelf: &mut S,
+    out: &mut K,
+) -> Exit
+    ensures answers { ReadFailed (Rose (S.faults shelf.old) (S.faults shelf.new))
+        (Unread S.read_gives (S.holds shelf.old) (Tick tree.now world.now (option_copied main.entry)) shelf.old shelf.new)
+        result (Rose (K.faults out.old) (K.faults out.new)) (K.written out.old) (K.written out.new)
+        ⊎ FilesAnswered (S.holds shelf.old) (Tick tree.now world.now (option_copied main.entry))
+        result (Rose (K.faults out.old) (K.faults out.new)) (K.written out.old) (K.written out.new) }
+    ensures read_count { S.faults shelf.old ≤ S.faults shelf.new }
+    ensures count { K.faults out.old ≤ K.faults out.new }
+{
+    let mut bytes = Vec::new(alloc);
+    match shelf.read(tree, &mut bytes, MOST_BYTES) {
+        Ok(()) => answer_world(alloc, bytes.as_slice(), world, main, shelf, out),
+        Err(ShelfFault::Failed) => write_last(out, b"refused read tree\n", Exit::Read),
+        Err(ShelfFault::TooLong) => write_last(out, b"refused tree TooLong\n", Exit::Tree),
+        Err(ShelfFault::NoMemory) => Exit::Memory,
+    }
+}
+
+/// Reads the world file of a run, whose tree file was read, and answers both.
 fn answer_world<S: Shelf, K: Sink>(
     alloc: Global,
     tree: &[u8],
-    command: &Command,
+    world: &Name,
+    main: Option<&Name>,
     shelf: &mut S,
     out: &mut K,
 ) -> Exit
     requires { length tree.now ≤ 1048576 }
     ensures answers { ReadFailed (Rose (S.faults shelf.old) (S.faults shelf.new))
-        (λ file. (file ≡ World) × S.read_gives shelf.old command.now.world.now (Err ShelfFault.Failed) shelf.new)
+        (λ file. (file ≡ WorldFile) × S.read_gives shelf.old world.now (Err ShelfFault.Failed) shelf.new)
         result (Rose (K.faults out.old) (K.faults out.new)) (K.written out.old) (K.written out.new)
-        ⊎ WorldAnswered (S.holds shelf.old) tree.now command.now.world.now result
+        ⊎ WorldAnswered (S.holds shelf.old) (option_copied main.entry) tree.now world.now result
         (Rose (K.faults out.old) (K.faults out.new)) (K.written out.old) (K.written out.new) }
     ensures read_count { S.faults shelf.old ≤ S.faults shelf.new }
     ensures count { K.faults out.old ≤ K.faults out.new }
 {
-    let mut world = Vec::new(alloc);
-    match shelf.read(command.world, &mut world, MOST_BYTES) {
-        Ok(()) => answer_files(alloc, tree, world.as_slice(), out),
+    let mut bytes = Vec::new(alloc);
+    match shelf.read(world, &mut bytes, MOST_BYTES) {
+        Ok(()) => answer_files(alloc, tree, bytes.as_slice(), main, out),
         Err(ShelfFault::Failed) => write_last(out, b"refused read world\n", Exit::Read),
-        Err(ShelfFault::TooLong) => write_last(out, b"refused world Unbuilt\n", Exit::World),
+        Err(ShelfFault::TooLong) => write_last(out, b"refused world TooLong\n", Exit::World),
         Err(ShelfFault::NoMemory) => Exit::Memory,
+    }
+}
+
+/// Runs a command over its files.
+fn answer_command<S: Shelf, K: Sink>(
+    alloc: Global,
+    command: Command,
+    shelf: &mut S,
+    out: &mut K,
+) -> Exit
+    ensures answers { ReadFailed (Rose (S.faults shelf.old) (S.faults shelf.new))
+        (Unread S.read_gives (S.holds shelf.old) (command_seen command.entry) shelf.old shelf.new)
+        result (Rose (K.faults out.old) (K.faults out.new)) (K.written out.old) (K.written out.new)
+        ⊎ FilesAnswered (S.holds shelf.old) (command_seen command.entry)
+        result (Rose (K.faults out.old) (K.faults out.new)) (K.written out.old) (K.written out.new) }
+    ensures read_count { S.faults shelf.old ≤ S.faults shelf.new }
+    ensures count { K.faults out.old ≤ K.faults out.new }
+{
+    match command {
+        Command::Tick { tree, world, main } => tick(alloc, tree, world, main, shelf, out),
+        Command::Check { tree, main } => check(alloc, tree, main, shelf, out),
     }
 }
 
@@ -117,7 +176,7 @@ pub fn bt<S: Shelf, K: Sink>(alloc: Global, words: &[Name], shelf: &mut S, out: 
         (WordsUnread S.read_gives (S.holds shelf.old) (command_of words.now) shelf.old shelf.new)
         result (Rose (K.faults out.old) (K.faults out.new)) (K.written out.old) (K.written out.new)) }
 
-    // Also where the shelf tells nothing: this is so of the output of some bytes of the two files.
+    // Also where the shelf tells nothing: this is so of the output of some bytes of its files.
     ensures any_shelf { CommandAnswered (command_of words.now) (S.holds shelf.old) (Rose (S.faults shelf.old) (S.faults shelf.new))
         (WordsUnread S.read_gives (S.holds shelf.old) (command_of words.now) shelf.old shelf.new)
         result (Rose (K.faults out.old) (K.faults out.new)) (K.written out.old) (K.written out.new) }
@@ -139,8 +198,10 @@ pub fn bt<S: Shelf, K: Sink>(alloc: Global, words: &[Name], shelf: &mut S, out: 
     ensures count { K.faults out.old ≤ K.faults out.new }
 {
     one_element();
+    element_or_fault();
+    worlds_read_one_way();
     match read_command(words) {
-        Some(command) => answer_command(alloc, &command, shelf, out),
+        Some(command) => answer_command(alloc, command, shelf, out),
         None => write_last(out, b"refused words\n", Exit::Words),
     }
 }

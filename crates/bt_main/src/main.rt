@@ -4,10 +4,14 @@
 mod answer;
 mod exit;
 mod join;
+mod plain;
+mod printing;
+mod refusal;
 mod run;
 #[cfg(test)]
 mod tests;
 mod trace;
+mod tree_file;
 mod words;
 
 use crate::answer::bt;

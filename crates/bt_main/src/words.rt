@@ -1,6 +1,8 @@
-ghost use Rattle.std.specs.Prelude.{◌≡◌, ◌↔◌, IfOk, MatchOption, Some, None};
+ghost use Rattle.std.specs.Prelude.{◌≡◌, ◌↔◌, IfOk, MatchOption, Some, None, codes};
 ghost use Rattle.std.specs.IoError.{error_kind};
-ghost use Rattle.bt_main.specs.Words.{command_of};
+ghost use Rattle.std.specs.Option.{option_copied};
+ghost use Rattle.bt_main.specs.Commands.{command_seen};
+ghost use Rattle.bt_main.specs.Words.{are_options, check_of, command_of, is_tree_option, is_unset, tick_of, value_of};
 
 use bt_script::{Name, NoMemory};
 use std::alloc::{AllocFailed, Global};
@@ -8,21 +10,122 @@ use std::env::Env;
 use std::io::ErrorKind;
 use std::{env, io};
 
-/// The files that a command names.
+/// A command: the files that it names, and the ID of the main tree where it names one.
 #[derive(Clone, Copy)]
-pub struct Command<'a> {
-    pub tree: &'a Name,
-    pub world: &'a Name,
+pub enum Command<'a> {
+    /// `tick TREE WORLD [--main ID]`
+    Tick {
+        tree: &'a Name,
+        world: &'a Name,
+        main: Option<&'a Name>,
+    },
+    /// `check TREE [--main ID]`
+    Check {
+        tree: &'a Name,
+        main: Option<&'a Name>,
+    },
+}
+
+/// The value that options, each a name and a value behind it, give to this name.
+fn value_of<'a>(options: &'a [Name], name: &[u8]) -> Option<&'a Name>
+    ensures { option_copied result ≡ value_of name.now options.now }
+{
+    let mut rest = options;
+    while let [other, value, more @ ..] = rest {
+        if other.list() == name {
+            return Some(value);
+        }
+        rest = more;
+    }
+    None
+}
+
+/// Whether no option has this name.
+#[tactic(auto, unfolding(crate::specs::Words::is_unset))]
+fn is_unset(options: &[Name], name: &Name) -> bool
+    ensures { result ≡ is_unset name.now options.now }
+{
+    value_of(options, name.list()).is_none()
+}
+
+/// Whether this is the name of an option of the commands that read a tree file.
+#[tactic(auto, unfolding(crate::specs::Words::is_tree_option))]
+fn is_tree_option(name: &Name) -> bool
+    ensures { result ≡ is_tree_option name.now }
+{
+    name.list() == b"--main".as_slice()
+}
+
+/// Whether the words are options of the commands that read a tree file, each at most once.
+fn are_tree_options(options: &[Name]) -> bool
+    ensures { result ≡ are_options is_tree_option options.now }
+{
+    let mut rest = options;
+    while let [name, _value, more @ ..] = rest {
+        if !is_tree_option(name) {
+            return false;
+        }
+        if !is_unset(more, name) {
+            return false;
+        }
+        rest = more;
+    }
+    rest.is_empty()
+}
+
+/// The ID of the main tree, where options name one.
+fn main_of<'a>(options: &'a [Name]) -> Option<&'a Name>
+    ensures { option_copied result ≡ value_of (codes "--main") options.now }
+{
+    value_of(options, b"--main")
+}
+
+/// The command `tick` with these words behind it.
+fn read_tick<'a>(words: &'a [Name]) -> Option<Command<'a>>
+    ensures { MatchOption result (tick_of words.now ≡ None) (λ c. tick_of words.now ≡ Some (command_seen c)) }
+{
+    let [tree, world, options @ ..] = words else {
+        return None;
+    };
+    if !are_tree_options(options) {
+        return None;
+    }
+    Some(Command::Tick {
+        tree,
+        world,
+        main: main_of(options),
+    })
+}
+
+/// The command `check` with these words behind it.
+fn read_check<'a>(words: &'a [Name]) -> Option<Command<'a>>
+    ensures { MatchOption result (check_of words.now ≡ None) (λ c. check_of words.now ≡ Some (command_seen c)) }
+{
+    let [tree, options @ ..] = words else {
+        return None;
+    };
+    if !are_tree_options(options) {
+        return None;
+    }
+    Some(Command::Check {
+        tree,
+        main: main_of(options),
+    })
 }
 
 /// The command that the words are.
 pub fn read_command<'a>(words: &'a [Name]) -> Option<Command<'a>>
-    ensures { MatchOption result (command_of words.now ≡ None)
-        (λ c. command_of words.now ≡ Some (record { tree = c.tree.now; world = c.world.now })) }
+    ensures { MatchOption result (command_of words.now ≡ None) (λ c. command_of words.now ≡ Some (command_seen c)) }
 {
-    match words {
-        [word, tree, world] if word.list() == b"tick".as_slice() => Some(Command { tree, world }),
-        _ => None,
+    let [word, words @ ..] = words else {
+        return None;
+    };
+    if word.list() == b"tick".as_slice() {
+        read_tick(words)
+    } else if word.list() == b"check".as_slice() {
+        read_check(words)
+    } else {
+        None
     }
 }
 

@@ -1,11 +1,12 @@
 use Rattle.std.proofs.Common.{◌∙◌, Err, ap, inr}
-use Rattle.bt_main.proofs.Clauses.{world_out_of_memory, world_too_long}
+use Rattle.std.specs.Option.{option_copied}
+use Rattle.bt_main.proofs.Clauses.{long_world, world_out_of_memory}
 use Rattle.bt_main.proofs.answer.answer_world.Goals as goal
 
 pub returns-in-Err-TooLong-clause-answers : goal.returns-in-Err-TooLong-clause-answers
 returns-in-Err-TooLong-clause-answers g c =
     let too_long = c.in-Err-TooLong.is ∙ ap Err c.in-Err-TooLong.field-0-is in
-    inr (world_too_long (g.S.Shelf.holds c.args.shelf.now) c.args.tree.now c.args.command.now.world.now c.read.new.room.items _ _ _ _ c.requires (c.read.ensures.past too_long) (c.read.ensures.longer too_long) c.write_last-in-Err-TooLong.ensures.gave)
+    inr (long_world (g.S.Shelf.holds c.args.shelf.now) (option_copied c.args.main) c.args.tree.now c.args.world.now c.read.new.room.items _ _ _ _ c.requires (c.read.ensures.past too_long) (c.read.ensures.longer too_long) c.write_last-in-Err-TooLong.ensures.gave)
 
 pub returns-clause-answers : goal.returns-clause-answers
-returns-clause-answers g c = inr (world_out_of_memory (g.S.Shelf.holds c.args.shelf.now) c.args.tree.now c.args.command.now.world.now _ _)
+returns-clause-answers g c = inr (world_out_of_memory (g.S.Shelf.holds c.args.shelf.now) (option_copied c.args.main) c.args.tree.now c.args.world.now _ _)

@@ -1,14 +1,14 @@
-use Rattle.bt_main.proofs.Clauses.{complete_clause, each_clause, none_complete, none_each, none_whole}
+use Rattle.bt_main.proofs.Clauses.{complete_clause, each_clause, none_complete, none_each, none_whole, read_clause, whole_clause}
 use Rattle.bt_main.proofs.answer.bt.Goals as goal
 
 pub returns-in-Some-clause-each : goal.returns-in-Some-clause-each
-returns-in-Some-clause-each g c = rw c.in-Some.ensures (each_clause c.one_element.ensures _ _ _ _ _ _ _ (g.S.Shelf.holds c.args.shelf.now) c.answer_command.ensures.answers)
+returns-in-Some-clause-each g c = rw c.in-Some.ensures (each_clause (record { element = c.one_element.ensures; fault = c.element_or_fault.ensures.once; not_both = c.element_or_fault.ensures.not_both; world = c.worlds_read_one_way.ensures }) _ _ _ _ _ _ _ (g.S.Shelf.holds c.args.shelf.now) c.answer_command.ensures.answers)
 
 pub returns-in-Some-clause-any_shelf : goal.returns-in-Some-clause-any_shelf
 returns-in-Some-clause-any_shelf g c = rw c.in-Some.ensures c.answer_command.ensures.answers
 
 pub returns-in-Some-clause-complete : goal.returns-in-Some-clause-complete
-returns-in-Some-clause-complete g c = rw c.in-Some.ensures (complete_clause c.one_element.ensures _ _ _ _ _ _ _ (g.S.Shelf.holds c.args.shelf.now) c.answer_command.ensures.answers)
+returns-in-Some-clause-complete g c = rw c.in-Some.ensures (complete_clause (record { element = c.one_element.ensures; fault = c.element_or_fault.ensures.once; not_both = c.element_or_fault.ensures.not_both; world = c.worlds_read_one_way.ensures }) _ _ _ _ _ _ _ (g.S.Shelf.holds c.args.shelf.now) c.answer_command.ensures.answers)
 
 pub returns-in-None-clause-whole : goal.returns-in-None-clause-whole
 returns-in-None-clause-whole g c = rw c.in-None.ensures (none_whole _ (Unit {0}) (λ _. Unit {0}) _ _ _ c.write_last.ensures.gave (g.S.Shelf.holds c.args.shelf.now))
@@ -18,3 +18,9 @@ returns-in-None-clause-each g c = rw c.in-None.ensures (none_each _ _ _ _ _ _ c.
 
 pub returns-in-None-clause-complete : goal.returns-in-None-clause-complete
 returns-in-None-clause-complete g c = rw c.in-None.ensures (none_complete _ _ (λ _. Unit {0}) _ _ _ c.write_last.ensures.gave (g.S.Shelf.holds c.args.shelf.now))
+
+pub returns-in-Some-clause-whole : goal.returns-in-Some-clause-whole
+returns-in-Some-clause-whole g c = rw c.in-Some.ensures (λ given. whole_clause _ _ _ _ _ _ _ (g.S.Shelf.holds c.args.shelf.now) c.answer_command.ensures.answers given)
+
+pub returns-in-Some-clause-read : goal.returns-in-Some-clause-read
+returns-in-Some-clause-read g c = rw c.in-Some.ensures (λ is. read_clause _ _ _ _ _ _ _ (g.S.Shelf.holds c.args.shelf.now) c.answer_command.ensures.answers is)

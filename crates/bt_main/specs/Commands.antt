@@ -1,0 +1,10 @@
+-- What contracts see of the commands that the code reads.
+use Rattle.std.specs.Option.{option_copied}
+use Rattle.bt_main.specs.Words.{Command, Tick, Check}
+use Rattle.bt_main.specs.declared.words.Command.{Command as Read}
+use Rattle.bt_main.specs.declared.words.Command.TheVariants as read
+
+-- the command with its names
+abbrev pub command_seen : Read → Command
+command_seen (read.Tick tree world main) = Tick tree.now world.now (option_copied main)
+command_seen (read.Check tree main) = Check tree.now (option_copied main)

@@ -1,0 +1,79 @@
+-- The lines of refusals.
+use Rattle.std.specs.Prelude.{ℕ, List, ◌++◌, codes, decimal}
+use Rattle.bt_build.specs.declared.fault.BuildFault.{BuildFault}
+use Rattle.bt_build.specs.declared.fault.BuildFault.TheVariants as build
+use Rattle.bt_elements.specs.declared.element.ElementFault.{ElementFault}
+use Rattle.bt_elements.specs.declared.element.ElementFault.TheVariants as element
+use Rattle.bt_main.specs.declared.tree_file.TreeFault.{TreeFault}
+use Rattle.bt_main.specs.declared.tree_file.TreeFault.TheVariants as fault
+use Rattle.bt_manifest.specs.declared.fault.ManifestFault.{ManifestFault}
+use Rattle.bt_manifest.specs.declared.fault.ManifestFault.TheVariants as manifest
+use Rattle.bt_model.specs.Lines.{quoted}
+use Rattle.bt_model.specs.declared.world_fault.WorldFault.{WorldFault}
+use Rattle.bt_model.specs.declared.world_fault.WorldKind.{WorldKind}
+use Rattle.bt_model.specs.declared.world_fault.WorldKind.TheVariants as world
+use Rattle.bt_script.specs.declared.fault.ScriptFault.{ScriptFault}
+use Rattle.bt_script.specs.declared.fault.ScriptFault.TheVariants as script
+
+-- a fault's name with a number behind it: a place, a uid or a line
+abbrev pub numbered : List ℕ → ℕ → List ℕ
+numbered name number = name ++ codes " " ++ decimal number
+
+-- a fault's name with an ID behind it
+abbrev pub named : List ℕ → List ℕ → List ℕ
+named name id = name ++ codes " " ++ quoted id
+
+abbrev pub element_words : ElementFault → List ℕ
+element_words (element.NotUtf8 place) = numbered (codes "NotUtf8") place
+element_words (element.BadMark place) = numbered (codes "BadMark") place
+element_words (element.Unmatched place) = numbered (codes "Unmatched") place
+element_words (element.DoubleAttribute place) = numbered (codes "DoubleAttribute") place
+element_words (element.StrayText place) = numbered (codes "StrayText") place
+element_words (element.TooDeep place) = numbered (codes "TooDeep") place
+
+abbrev pub manifest_words : ManifestFault → List ℕ
+manifest_words (manifest.DoubleModel place) = numbered (codes "DoubleModel") place
+manifest_words (manifest.BadModel place) = numbered (codes "BadModel") place
+
+abbrev pub script_words : ScriptFault → List ℕ
+script_words script.TooLong = codes "TooLong"
+script_words (script.Syntax place) = numbered (codes "Syntax") place
+script_words (script.RealNumber place) = numbered (codes "RealNumber") place
+script_words (script.NumberTooWide place) = numbered (codes "NumberTooWide") place
+script_words (script.TooNested place) = numbered (codes "TooNested") place
+
+abbrev pub build_words : BuildFault → List ℕ
+build_words (build.NotRoot place) = numbered (codes "NotRoot") place
+build_words build.Format = codes "Format"
+build_words (build.DoubleTree id) = named (codes "DoubleTree") id
+build_words build.NoMain = codes "NoMain"
+build_words (build.NoTree id) = named (codes "NoTree") id
+build_words build.TooManyNodes = codes "TooManyNodes"
+build_words (build.TooDeep uid) = numbered (codes "TooDeep") uid
+build_words (build.UnknownNode uid) = numbered (codes "UnknownNode") uid
+build_words (build.Recursive id) = named (codes "Recursive") id
+build_words build.TooManyScopes = codes "TooManyScopes"
+build_words (build.ChildCount uid) = numbered (codes "ChildCount") uid
+build_words (build.UnknownPort uid) = numbered (codes "UnknownPort") uid
+build_words (build.BadLiteral uid) = numbered (codes "BadLiteral") uid
+build_words (build.BadScript uid f) = numbered (codes "BadScript") uid ++ codes " " ++ script_words f
+build_words build.TooMuchWork = codes "TooMuchWork"
+
+-- the words of a tree file's fault
+abbrev pub tree_words : TreeFault → List ℕ
+tree_words (fault.Elements f) = element_words f
+tree_words (fault.Manifest f) = manifest_words f
+tree_words (fault.Build f) = build_words f
+
+abbrev pub kind_word : WorldKind → List ℕ
+kind_word world.Header = codes "Header"
+kind_word world.BadLine = codes "BadLine"
+kind_word world.Range = codes "Range"
+kind_word world.DoubleName = codes "DoubleName"
+kind_word world.NoName = codes "NoName"
+kind_word world.MomentBack = codes "MomentBack"
+kind_word world.TooMany = codes "TooMany"
+
+-- the words of a world script's fault: what is wrong, and the line
+abbrev pub world_words : WorldFault → List ℕ
+world_words fault = numbered (kind_word fault.kind) fault.line

@@ -1,0 +1,140 @@
+ghost use Rattle.std.specs.Prelude.{◌≡◌, ◌++◌, IfOk, OnOk, codes, decimal};
+ghost use Rattle.bt_main.specs.Refusals.{build_words, element_words, kind_word, manifest_words, named, numbered, script_words, tree_words, world_words};
+
+use crate::tree_file::TreeFault;
+use bt_build::BuildFault;
+use bt_elements::ElementFault;
+use bt_manifest::ManifestFault;
+use bt_model::{WorldFault, WorldKind};
+use bt_script::{Name, NoMemory, ScriptFault};
+use bt_text::{put_bytes, put_number, put_quoted};
+use std::alloc::Global;
+
+// A fault's name with a number behind it.
+fn put_numbered(out: &mut Vec<u8>, name: &[u8], number: u32) -> Result<(), NoMemory>
+    ensures { OnOk result (out.new.items ≡ out.old.items ++ numbered name.now number) }
+{
+    put_bytes(out, name)?;
+    put_bytes(out, b" ")?;
+    put_number(out, u64::from(number))
+}
+
+// A fault's name with an ID behind it.
+fn put_named(out: &mut Vec<u8>, name: &[u8], id: &Name) -> Result<(), NoMemory>
+    ensures { OnOk result (out.new.items ≡ out.old.items ++ named name.now id.now) }
+{
+    put_bytes(out, name)?;
+    put_bytes(out, b" ")?;
+    put_quoted(out, id.list())
+}
+
+fn put_element_fault(out: &mut Vec<u8>, fault: ElementFault) -> Result<(), NoMemory>
+    ensures { OnOk result (out.new.items ≡ out.old.items ++ element_words fault) }
+{
+    match fault {
+        ElementFault::NotUtf8 { place } => put_numbered(out, b"NotUtf8", place),
+        ElementFault::BadMark { place } => put_numbered(out, b"BadMark", place),
+        ElementFault::Unmatched { place } => put_numbered(out, b"Unmatched", place),
+        ElementFault::DoubleAttribute { place } => put_numbered(out, b"DoubleAttribute", place),
+        ElementFault::StrayText { place } => put_numbered(out, b"StrayText", place),
+        ElementFault::TooDeep { place } => put_numbered(out, b"TooDeep", place),
+    }
+}
+
+fn put_manifest_fault(out: &mut Vec<u8>, fault: ManifestFault) -> Result<(), NoMemory>
+    ensures { OnOk result (out.new.items ≡ out.old.items ++ manifest_words fault) }
+{
+    match fault {
+        ManifestFault::DoubleModel { place } => put_numbered(out, b"DoubleModel", place),
+        ManifestFault::BadModel { place } => put_numbered(out, b"BadModel", place),
+    }
+}
+
+fn put_script_fault(out: &mut Vec<u8>, fault: ScriptFault) -> Result<(), NoMemory>
+    ensures { OnOk result (out.new.items ≡ out.old.items ++ script_words fault) }
+{
+    match fault {
+        ScriptFault::TooLong => put_bytes(out, b"TooLong"),
+        ScriptFault::Syntax { place } => put_numbered(out, b"Syntax", place),
+        ScriptFault::RealNumber { place } => put_numbered(out, b"RealNumber", place),
+        ScriptFault::NumberTooWide { place } => put_numbered(out, b"NumberTooWide", place),
+        ScriptFault::TooNested { place } => put_numbered(out, b"TooNested", place),
+    }
+}
+
+fn put_bad_script(out: &mut Vec<u8>, uid: u32, fault: ScriptFault) -> Result<(), NoMemory>
+    ensures { OnOk result (out.new.items
+        ≡ out.old.items ++ (numbered (codes "BadScript") uid ++ codes " " ++ script_words fault)) }
+{
+    put_numbered(out, b"BadScript", uid)?;
+    put_bytes(out, b" ")?;
+    put_script_fault(out, fault)
+}
+
+fn put_build_fault(out: &mut Vec<u8>, fault: &BuildFault) -> Result<(), NoMemory>
+    ensures { OnOk result (out.new.items ≡ out.old.items ++ build_words fault.now) }
+{
+    match fault {
+        BuildFault::NotRoot { place } => put_numbered(out, b"NotRoot", *place),
+        BuildFault::Format => put_bytes(out, b"Format"),
+        BuildFault::DoubleTree { id } => put_named(out, b"DoubleTree", id),
+        BuildFault::NoMain => put_bytes(out, b"NoMain"),
+        BuildFault::NoTree { id } => put_named(out, b"NoTree", id),
+        BuildFault::TooManyNodes => put_bytes(out, b"TooManyNodes"),
+        BuildFault::TooDeep { uid } => put_numbered(out, b"TooDeep", *uid),
+        BuildFault::UnknownNode { uid } => put_numbered(out, b"UnknownNode", *uid),
+        BuildFault::Recursive { id } => put_named(out, b"Recursive", id),
+        BuildFault::TooManyScopes => put_bytes(out, b"TooManyScopes"),
+        BuildFault::ChildCount { uid } => put_numbered(out, b"ChildCount", *uid),
+        BuildFault::UnknownPort { uid } => put_numbered(out, b"UnknownPort", *uid),
+        BuildFault::BadLiteral { uid } => put_numbered(out, b"BadLiteral", *uid),
+        BuildFault::BadScript { uid, fault } => put_bad_script(out, *uid, *fault),
+        BuildFault::TooMuchWork => put_bytes(out, b"TooMuchWork"),
+    }
+}
+
+fn put_tree_fault(out: &mut Vec<u8>, fault: &TreeFault) -> Result<(), NoMemory>
+    ensures { OnOk result (out.new.items ≡ out.old.items ++ tree_words fault.now) }
+{
+    match fault {
+        TreeFault::Elements(fault) => put_element_fault(out, *fault),
+        TreeFault::Manifest(fault) => put_manifest_fault(out, *fault),
+        TreeFault::Build(fault) => put_build_fault(out, fault),
+    }
+}
+
+/// The line that refuses a tree file.
+pub fn tree_refusal(alloc: Global, fault: &TreeFault) -> Result<Vec<u8>, NoMemory>
+    ensures { IfOk result (λ line. line.items ≡ codes "refused tree " ++ tree_words fault.now ++ codes "\n") }
+{
+    let mut line = Vec::new(alloc);
+    put_bytes(&mut line, b"refused tree ")?;
+    put_tree_fault(&mut line, fault)?;
+    put_bytes(&mut line, b"\n")?;
+    Ok(line)
+}
+
+fn kind_word(kind: WorldKind) -> &'static [u8]
+    ensures { result.now ≡ kind_word kind }
+{
+    match kind {
+        WorldKind::Header => b"Header",
+        WorldKind::BadLine => b"BadLine",
+        WorldKind::Range => b"Range",
+        WorldKind::DoubleName => b"DoubleName",
+        WorldKind::NoName => b"NoName",
+        WorldKind::MomentBack => b"MomentBack",
+        WorldKind::TooMany => b"TooMany",
+    }
+}
+
+/// The line that refuses a world script.
+pub fn world_refusal(alloc: Global, fault: WorldFault) -> Result<Vec<u8>, NoMemory>
+    ensures { IfOk result (λ line. line.items ≡ codes "refused world " ++ world_words fault ++ codes "\n") }
+{
+    let mut line = Vec::new(alloc);
+    put_bytes(&mut line, b"refused world ")?;
+    put_numbered(&mut line, kind_word(fault.kind), fault.line)?;
+    put_bytes(&mut line, b"\n")?;
+    Ok(line)
+}
