@@ -274,10 +274,61 @@ fn runs_have_their_traces(rt: HostRuntime) -> Result<(), Fail> {
 #[test]
 fn trees_and_worlds_are_refused(rt: HostRuntime) -> Result<(), Fail> {
     for (nodes, lines, want) in [
-        ("<Sequence/>", "tick 1", "refused tree Unbuilt\nTree"),
+        ("<Sequence/>", "tick 1", "refused tree ChildCount 1\nTree"),
+        (
+            "<Inverter><A/></Inverter>",
+            "x",
+            "refused tree Unbuilt\nTree",
+        ),
+        ("<A x=\"1\"/>", "tick 1", "refused tree Unbuilt\nTree"),
+        ("<A _skipIf=\"1\"/>", "tick 1", "refused tree Unbuilt\nTree"),
         (
             "<A/>",
             "condition A is x == 0",
+            "refused world NoName 2\nWorld",
+        ),
+        (
+            "<A/>",
+            "fact x 1\nfact x 2",
+            "refused world DoubleName 3\nWorld",
+        ),
+        ("<A/>", "at 5\nat 4", "refused world MomentBack 3\nWorld"),
+        ("<A/>", "goal G", "refused world NoName 2\nWorld"),
+        (
+            "<A/>",
+            "fact x 9223372036854775808",
+            "refused world Range 2\nWorld",
+        ),
+        (
+            "<A/>",
+            "condition B when 1",
+            "refused world NoRow 'A'\nWorld",
+        ),
+        ("<A/>", "condition A when 1", "refused world Unbuilt\nWorld"),
+        ("<A/>", "action A gate 1", "refused world Unbuilt\nWorld"),
+        (
+            "<A/>",
+            "action A timed 1\nfails 1",
+            "refused world Unbuilt\nWorld",
+        ),
+        (
+            "<A/>",
+            "action A(p) timed 1",
+            "refused world Unbuilt\nWorld",
+        ),
+        (
+            "<A/>",
+            "action A timed 1\nout p = 1",
+            "refused world Unbuilt\nWorld",
+        ),
+        (
+            "<A/>",
+            "action A timed 1\nhalt 1",
+            "refused world Unbuilt\nWorld",
+        ),
+        (
+            "<A/>",
+            "runners 2\naction A timed 1",
             "refused world Unbuilt\nWorld",
         ),
         (
@@ -292,17 +343,44 @@ fn trees_and_worlds_are_refused(rt: HostRuntime) -> Result<(), Fail> {
     Ok(())
 }
 
+const TWO_CHECKS_PRINTED: &str = "\
+<root BTCPP_format=\"4\" main_tree_to_execute=\"M\">
+  <BehaviorTree ID=\"M\">
+    <Sequence>
+      <A/>
+      <B/>
+    </Sequence>
+  </BehaviorTree>
+</root>
+<!-- nodes 3 work 3 -->
+Done";
+
 #[test]
 fn words_are_commands_or_refused(rt: HostRuntime) -> Result<(), Fail> {
-    let table: [(&[&str], &str); 8] = [
+    let table: [(&[&str], &str); 17] = [
+        (&["check"], "refused words\nWords"),
+        (&["check", "T", "W"], "refused words\nWords"),
+        (&["check", "T", "--mian", "M"], "refused words\nWords"),
+        (&["tick", "T", "W", "--main"], "refused words\nWords"),
+        (
+            &["check", "T", "--main", "M", "--main", "M"],
+            "refused words\nWords",
+        ),
+        (&["check", "T"], TWO_CHECKS_PRINTED),
+        (&["check", "T", "--main", "M"], TWO_CHECKS_PRINTED),
+        (&["tick", "T", "W", "--main", "M"], TWO_CHECKS_TRACE),
+        (
+            &["check", "T", "--main", "N"],
+            "refused tree NoTree 'N'\nTree",
+        ),
         (&[], "refused words\nWords"),
         (&["tick"], "refused words\nWords"),
         (&["tick", "T"], "refused words\nWords"),
         (&["tick", "T", "W", "X"], "refused words\nWords"),
         (&["Tick", "T", "W"], "refused words\nWords"),
         (&["tick", "T", "W"], TWO_CHECKS_TRACE),
-        (&["tick", "none", "W"], "refused tree Unbuilt\nTree"),
-        (&["tick", "T", "none"], "refused world Unbuilt\nWorld"),
+        (&["tick", "none", "W"], "refused tree Unmatched 0\nTree"),
+        (&["tick", "T", "none"], "refused world Header 1\nWorld"),
     ];
     for (words, want) in table {
         let text = answered(rt.alloc(), words, TWO_CHECKS, &[TWO_CONDITIONS], &[])?;
@@ -315,11 +393,12 @@ fn words_are_commands_or_refused(rt: HostRuntime) -> Result<(), Fail> {
 fn files_are_refused(rt: HostRuntime) -> Result<(), Fail> {
     let alloc = rt.alloc();
     let long = vec![in alloc; b' '; 1_048_577]?;
-    let table: [(&[u8], &[u8], &str); 4] = [
-        (b"<!-- a --><root/>", b"", "refused tree Unbuilt\nTree"),
-        (b"\xff", b"bt-world 1", "refused tree Unbuilt\nTree"),
-        (long.as_slice(), b"bt-world 1", "refused tree Unbuilt\nTree"),
-        (b"", long.as_slice(), "refused world Unbuilt\nWorld"),
+    let table: [(&[u8], &[u8], &str); 5] = [
+        (b"<!-- a --><root/>", b"", "refused tree Format\nTree"),
+        (b"\xff", b"bt-world 1", "refused tree NotUtf8 0\nTree"),
+        (long.as_slice(), b"bt-world 1", "refused tree TooLong\nTree"),
+        (b"", long.as_slice(), "refused world TooLong\nWorld"),
+        (b"", b"", "refused tree Unmatched 0\nTree"),
     ];
     for (tree, world, want) in table {
         assert_eq!(rt; given(alloc, &TICK, tree, world, &[])?.as_str(), want);
@@ -393,6 +472,90 @@ fn a_write_that_fails_leaves_a_front(rt: HostRuntime) -> Result<(), Fail> {
     for (lines, trace, last, taken) in table {
         let wrong = first_wrong(rt.alloc(), lines, trace, last, taken)?;
         assert_eq!(rt; wrong, None, "{taken} of {lines}");
+    }
+    Ok(())
+}
+
+/// A file as Groot2 saves it.
+const SAVED: &str = "\
+<?xml version=\"1.0\" encoding=\"UTF-8\"?>
+<root BTCPP_format=\"4\" main_tree_to_execute=\"Main\">
+  <BehaviorTree ID=\"Main\">
+    <Sequence name=\"top\" _description=\"go\">
+      <SaySomething message=\"hello\"/>
+    </Sequence>
+  </BehaviorTree>
+  <!-- Description of Node Models (used by Groot) -->
+  <TreeNodesModel>
+    <Action ID=\"SaySomething\">
+      <input_port name=\"message\" type=\"std::string\">text to say</input_port>
+      <input_port name=\"level\" default=\"3\"/>
+    </Action>
+  </TreeNodesModel>
+</root>
+";
+
+const SAVED_PRINTED: &str = "\
+<root BTCPP_format=\"4\" main_tree_to_execute=\"Main\">
+  <BehaviorTree ID=\"Main\">
+    <Sequence name=\"top\">
+      <SaySomething message=\"hello\" level=\"3\"/>
+    </Sequence>
+  </BehaviorTree>
+</root>
+<!-- nodes 2 work 2 -->
+Done";
+
+#[test]
+fn whole_files_are_printed_or_refused(rt: HostRuntime) -> Result<(), Fail> {
+    for (file, want) in [
+        (SAVED, SAVED_PRINTED),
+        ("", "refused tree Unmatched 0\nTree"),
+        ("<root BTCPP_f", "refused tree BadMark 0\nTree"),
+        (
+            "<root a=\"1\" a=\"2\"/>",
+            "refused tree DoubleAttribute 0\nTree",
+        ),
+        (
+            "<root BTCPP_format=\"4\">",
+            "refused tree Unmatched 23\nTree",
+        ),
+        ("<!-- x", "refused tree BadMark 0\nTree"),
+        ("<!DOCTYPE root><root/>", "refused tree BadMark 0\nTree"),
+        ("<root a=\"1<2\"/>", "refused tree BadMark 0\nTree"),
+        ("<root/><root/>", "refused tree Unmatched 7\nTree"),
+        ("<root></Root>", "refused tree Unmatched 6\nTree"),
+        ("<root>x</root>", "refused tree StrayText 6\nTree"),
+        ("<root BTCPP_format=\"5\"/>", "refused tree Format\nTree"),
+        ("<root BTCPP_format=\"4\"/>", "refused tree NoMain\nTree"),
+        (
+            "<root BTCPP_format=\"4\"><BehaviorTree ID=\"M\"/></root>",
+            "refused tree ChildCount 0\nTree",
+        ),
+    ] {
+        let text = given(rt.alloc(), &["check", "T"], file.as_bytes(), b"", &[])?;
+        assert_eq!(rt; text.as_str(), want, "{file}");
+    }
+    Ok(())
+}
+
+#[test]
+fn trees_are_refused(rt: HostRuntime) -> Result<(), Fail> {
+    for (nodes, want) in [
+        ("<SubTree ID=\"M\"/>", "refused tree Recursive 'M'\nTree"),
+        ("<N x=\"{}\"/>", "refused tree BadLiteral 1\nTree"),
+        ("<Sequence/>", "refused tree ChildCount 1\nTree"),
+        (
+            "<Script code=\"x := 1.5\"/>",
+            "refused tree BadScript 1 RealNumber 5\nTree",
+        ),
+        (
+            "<Repeat num_cycles=\"1000\"><Repeat num_cycles=\"100\"><A/></Repeat></Repeat>",
+            "refused tree TooMuchWork\nTree",
+        ),
+    ] {
+        let text = answered(rt.alloc(), &["check", "T"], nodes, &[], &[])?;
+        assert_eq!(rt; text.as_str(), want, "{nodes}");
     }
     Ok(())
 }
