@@ -6,6 +6,11 @@ use bt_script::{Name, Stop};
 use std::alloc::{AllocError, Global};
 use std::test::Fail;
 
+fn name(alloc: Global, text: &str) -> Result<Name, AllocError> {
+    let bytes = Vec::from_slice(alloc, text.as_bytes())?;
+    Ok(Name::of(bytes))
+}
+
 fn text(name: &Name) -> &str {
     str::from_utf8(name.list()).unwrap_or("?")
 }
@@ -32,7 +37,7 @@ fn file_text(alloc: Global, file: &[u8]) -> Result<String, AllocError> {
     let Ok(elements) = read_elements(alloc, file) else {
         return format!(in alloc; "no elements");
     };
-    let id = Name::of(Vec::from_slice(alloc, b"A")?);
+    let id = name(alloc, "A")?;
     match manifest_of(alloc, &elements) {
         Ok(models) => model_text(alloc, model(&models, &id)),
         Err(Stop::Fault(ManifestFault::DoubleModel { place })) => format!(in alloc;
