@@ -15,10 +15,11 @@ pub record State : Type 0 where
   pub instances : List Instance
   pub moment : ℕ
 
--- a call of a leaf's driver
+-- a call of a leaf's driver, with what it leaves of the leaf's instance
 pub record Call : Type 0 where
   pub uid : ℕ
   pub phase : Phase
+  pub left : Instance
 
 -- what a part of an event leaves: its answer or its fault, the memory, the state, the notes that it made
 -- and the calls of drivers, in order

@@ -99,7 +99,7 @@ replied site row phase ms s a = record {
   memory = ms;
   state = record { board = reply_board site row a s.board a.reply; facts = a.facts; instances = slice_set s.instances site.uid a.instance; moment = s.moment };
   notes = reply_notes phase site.uid a.reply;
-  calls = record { uid = site.uid; phase = phase } ∷ [];
+  calls = record { uid = site.uid; phase = phase; left = a.instance } ∷ [];
 }
 
 -- one call of the driver of a leaf with this status; a leaf without a row, which no run has, is passed over

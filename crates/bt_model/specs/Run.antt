@@ -95,23 +95,29 @@ root_reset tree view m s = (meaning tree.term).reset view 1 m s
 
 -- ---- Quench
 
--- the uids of the instances that are held, of instances of which the first has this uid
-abbrev pub held_uids : ℕ → List Instance → List ℕ
-held_uids uid [] = []
-held_uids uid (i ∷ instances) = if is_some i.since then uid ∷ held_uids (uid + 1) instances else held_uids (uid + 1) instances
+-- the calls that let go of all instances that are held, by uid, of instances of which the first has this uid
+abbrev pub letting_go : ℕ → List Instance → List Call
+letting_go uid [] = []
+letting_go uid (i ∷ instances) =
+    if is_some i.since then record { uid = uid; phase = phase.Halted; left = let_go i } ∷ letting_go (uid + 1) instances else letting_go (uid + 1) instances
+
+-- the notes of such calls
+abbrev pub quenched_notes : ℕ → List Call → List Note
+quenched_notes runner calls = map (λ (c : Call). Quenched runner c.uid) calls
+
+-- the calls of a runner's leaves
+abbrev pub runner_calls : ℕ → List Call → List RunnerCall
+runner_calls runner calls = map (λ (c : Call). let call : RunnerCall = record { runner = runner; call = c } in call) calls
 
 -- each held leaf of each runner is called `halted`, by runner and uid, of runners of which the first has this
 -- number
 abbrev pub quench_notes : ℕ → List Runner → List Note
 quench_notes runner [] = []
-quench_notes runner (r ∷ runners) = map (λ uid. Quenched runner uid) (held_uids 0 r.instances) ++ quench_notes (runner + 1) runners
-
-abbrev pub halted_call : ℕ → ℕ → RunnerCall
-halted_call runner uid = record { runner = runner; call = record { uid = uid; phase = phase.Halted } }
+quench_notes runner (r ∷ runners) = quenched_notes runner (letting_go 0 r.instances) ++ quench_notes (runner + 1) runners
 
 abbrev pub quench_calls : ℕ → List Runner → List RunnerCall
 quench_calls runner [] = []
-quench_calls runner (r ∷ runners) = map (λ uid. halted_call runner uid) (held_uids 0 r.instances) ++ quench_calls (runner + 1) runners
+quench_calls runner (r ∷ runners) = runner_calls runner (letting_go 0 r.instances) ++ quench_calls (runner + 1) runners
 
 -- all nodes become IDLE and their memos are cleared, and every instance is let go; no script runs
 abbrev pub quenched_runner : Tree → Runner → Runner
@@ -162,9 +168,6 @@ block_of header notes s after = record {
 
 abbrev pub stepped : Header → List Note → List RunnerCall → Option RunFault → RunState → RunState → Stepped
 stepped header notes calls fault s after = record { state = after; block = block_of header notes s after; calls = calls; fault = fault }
-
-abbrev pub runner_calls : ℕ → List Call → List RunnerCall
-runner_calls runner calls = map (λ (c : Call). let call : RunnerCall = record { runner = runner; call = c } in call) calls
 
 -- an event of one runner, of which its part has left this state; a fault adds its note and a quench of all runners
 abbrev pub told : {A : Type 0} → Result A NodeFault → Header → Tree → ℕ → List Note → List Call → RunState → RunState → Stepped

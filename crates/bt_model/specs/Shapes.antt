@@ -148,7 +148,7 @@ RunningShape Repeat ports row moment (Turned t) ss = IsTurned t ports (codes "nu
 RunningShape Timeout ports row moment (Begun since) ss = IsBegun since moment ports (codes "msec") × NoneCompleted ss
 RunningShape Delay ports row moment (Begun since) ss = IsBegun since moment ports (codes "delay_msec") × NoneCompleted ss
 RunningShape RunOnce ports row moment (Finished None) ss = NoneCompleted ss
-RunningShape Leaf ports row moment Nothing ss = RowLasts row
+RunningShape Leaf ports row moment Nothing ss = RowLasts row × AllIdle ss
 RunningShape _ ports row moment memo ss = ⊥
 
 -- a mark is SUCCESS or FAILURE

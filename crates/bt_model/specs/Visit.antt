@@ -57,15 +57,15 @@ abbrev pub halt_notes : Kind → ℕ → List Note
 halt_notes Leaf uid = Halted uid ∷ []
 halt_notes _ uid = []
 
-abbrev pub halt_calls : Kind → ℕ → List Call
-halt_calls Leaf uid = record { uid = uid; phase = phase.Halted } ∷ []
-halt_calls _ uid = []
+abbrev pub halt_calls : Kind → ℕ → State → List Call
+halt_calls Leaf uid s = record { uid = uid; phase = phase.Halted; left = let_go (instance_at s uid) } ∷ []
+halt_calls _ uid s = []
 
 -- the end of a halt: the memo is cleared, a leaf's driver is called, the status becomes IDLE, and then
 -- `_onHalted` runs
 abbrev pub halted : Site → Memory → State → Done (Unit {0}) Memory
 halted site idle s =
-    behind (halt_notes site.node.kind site.uid ++ Changed site.uid Running Idle ∷ []) (halt_calls site.node.kind site.uid)
+    behind (halt_notes site.node.kind site.uid ++ Changed site.uid Running Idle ∷ []) (halt_calls site.node.kind site.uid s)
     (follow (script_if_there site site.node.guards.on_halted (halt_state site.node.kind site.uid s)) (λ _. idle) (λ _ _ s1. done tt idle s1))
 
 -- a halt of a RUNNING node: its children are reset in order first
