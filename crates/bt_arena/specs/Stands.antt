@@ -1,5 +1,5 @@
 -- That a term stands in an arena, and what its nodes keep there.
-use Rattle.std.specs.Prelude.{ℕ, ◌+◌, ◌<◌, ◌≤◌, ◌≡◌, List, [], ◌∷◌, length, map, sum_by}
+use Rattle.std.specs.Prelude.{ℕ, ◌+◌, ◌<◌, ◌≤◌, ◌≡◌, List, [], ◌∷◌, length, map, sum_by, take}
 use Rattle.bt_model.specs.declared.memory.Memory.{Memory}
 use Rattle.bt_model.specs.declared.term.Term.{Term, Term-F, fold-Term, rec-Term}
 use Rattle.bt_model.specs.Boards.{children_scope}
@@ -78,6 +78,14 @@ memory_of term = (reading term).memory
 
 abbrev pub memories_of : List Term → ℕ → List Kept → List Memory
 memories_of terms = memories (map reading terms)
+
+-- the uid of the term at a place, of terms of which the first has this uid
+abbrev pub uid_of : List Term → ℕ → ℕ → ℕ
+uid_of terms uid place = uid + sizes (map meaning (take place terms))
+
+-- these nodes keep the same
+abbrev pub IsKeptAlike : ℕ → ℕ → List Kept → List Kept → Type 0
+IsKeptAlike uid size before after = (p : ℕ) → uid ≤ p → p < uid + size → kept_at before p ≡ kept_at after p
 
 -- the nodes beside these keep what they kept
 pub record Beside (uid size : ℕ) (before after : List Kept) : Type 0 where
