@@ -8,6 +8,7 @@ mod joining;
 pub mod laws;
 mod nodes;
 mod notes;
+mod resolving;
 mod source;
 
 pub use arena::{
