@@ -3,6 +3,7 @@ pub mod Compilable
 pub mod Compiled
 pub mod Called
 pub mod Framed
+pub mod Indexed
 pub mod Named
 pub mod Opened
 pub mod Parts
