@@ -4,6 +4,7 @@ pub mod Compiled
 pub mod Called
 pub mod Framed
 pub mod Indexed
+pub mod Joined
 pub mod Named
 pub mod Opened
 pub mod Parts

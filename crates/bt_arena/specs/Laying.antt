@@ -1,19 +1,19 @@
 -- The nodes of a term while they are laid into an arena.
-use Rattle.std.specs.Prelude.{◌≡◌, ℕ, ◌+◌, List, [], ◌∷◌, ◌++◌, length, map, Bool, true, Option, Some, None, slice_index_or}
+use Rattle.std.specs.Prelude.{◌≡◌, ℕ, ◌+◌, List, [], ◌∷◌, ◌++◌, length, map, sum, Bool, true, Option, Some, None, slice_index_or}
 use Rattle.std.specs.List.{AllByRecursion, flat_map}
-use Rattle.bt_model.specs.declared.term.Term.{Term, out-Term}
+use Rattle.bt_model.specs.declared.term.Term.{Term, Term-F}
 use Rattle.bt_model.specs.declared.term.Tree.{Tree}
 use Rattle.bt_model.specs.declared.world.World.{World}
 use Rattle.bt_model.specs.Boards.{Standing, keys_named, makes_scope, scope_below, scope_of, standing_all, standing_from}
 use Rattle.bt_model.specs.Drivers.{DriverState, kind_of_way, place_of_kind}
 use Rattle.bt_model.specs.Leaves.{row_of}
-use Rattle.bt_model.specs.Terms.{leaf_ids}
+use Rattle.bt_model.specs.Terms.{leaf_ids, node_count}
 use Rattle.bt_model.specs.Trees.{NodeFits, nodes_of}
 use Rattle.bt_driver.specs.Rules.{rule}
 use Rattle.bt_arena.specs.declared.nodes.Node.{Node}
 use Rattle.bt_arena.specs.declared.nodes.ReadyLeaf.{ReadyLeaf}
 use Rattle.bt_arena.specs.Joins.{first_lack, place_by}
-use Rattle.bt_arena.specs.Resolving.{AreNamed, view_in}
+use Rattle.bt_arena.specs.Resolving.{AreNamed, GuardsAreNamed, names_if_there, port_keys, view_in}
 use Rattle.bt_arena.specs.Rows.{counted_at}
 use Rattle.bt_arena.specs.Stands.{StandAll, Stands}
 
@@ -25,6 +25,12 @@ pub record StandsIn (tree : Tree) (node : Standing) : Type 0 where
   pub scope : scope_of tree node.number ≡ node.scope
   pub made : makes_scope node.kind ≡ true → scope_of tree node.uid ≡ scope_below node.uid node.ports node.autoremap node.scope
   pub named : AreNamed tree node.number (keys_named node)
+
+-- a tree names what a node of it names, in the scope of a number
+pub record NodeIsNamed {X : Type 0} (tree : Tree) (number : ℕ) (node : Term-F X) : Type 0 where
+  pub code : AreNamed tree number (names_if_there node.code)
+  pub guards : GuardsAreNamed tree number node.guards
+  pub ports : AreNamed tree number (port_keys node.ports)
 
 -- some terms of a tree, of which the first has this uid, in the scope of a number: each node stands in the tree, is a
 -- valid one, and lacks nothing
@@ -65,6 +71,7 @@ counted_all world drivers (id ∷ ids) counts = counted_all world drivers ids (c
 pub record AreLaid (tree : Tree) (world : World) (drivers : List DriverState) (ts : List Term) (number : ℕ) (old new : List Node) (next left : List ℕ) : Type 0 where
   pub added : List Node
   pub is : new ≡ old ++ added
+  pub size : length added ≡ sum (map node_count ts)
   pub stand : StandAll ts new (view_in tree world number) (length old)
   pub next_ones : AreNext drivers next added
   pub behind : left ≡ next_behind added next

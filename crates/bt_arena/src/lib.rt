@@ -6,6 +6,8 @@ mod arena;
 mod join_fault;
 mod joining;
 pub mod laws;
+mod laying;
+mod leaves;
 mod nodes;
 mod notes;
 mod ports;

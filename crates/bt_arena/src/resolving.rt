@@ -13,13 +13,15 @@ use bt_board::{Slots, slot};
 use bt_model::{Guards, Port, PortValue, Tree, World};
 use bt_script::{Expr, Name, NoMemory, Script, Stmt};
 use bt_script_code::{Code, compile};
+use indexmap::IndexMap;
 use std::alloc::Global;
 
-/// A tree with its slots, and a world.
+/// A tree with its slots, and a world with the numbers of its rows by their IDs.
 pub(crate) struct Setting<'a> {
     pub(crate) tree: &'a Tree,
     pub(crate) slots: &'a Slots,
     pub(crate) world: &'a World,
+    pub(crate) rows: &'a IndexMap<Name, u32>,
     pub(crate) ghost table: { slots.now ≡ slot_table tree.now },
 }
 
