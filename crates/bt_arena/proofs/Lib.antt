@@ -5,6 +5,9 @@ pub mod Called
 pub mod Framed
 pub mod Indexed
 pub mod Joined
+pub mod Laid
 pub mod Named
 pub mod Opened
 pub mod Parts
+pub mod Static
+pub mod Whole

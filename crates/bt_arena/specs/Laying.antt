@@ -1,20 +1,24 @@
 -- The nodes of a term while they are laid into an arena.
 use Rattle.std.specs.Prelude.{◌≡◌, ℕ, ◌+◌, List, [], ◌∷◌, ◌++◌, length, map, sum, Bool, true, Option, Some, None, slice_index_or}
-use Rattle.std.specs.List.{AllByRecursion, flat_map}
+use Rattle.std.specs.List.{All, AllByRecursion, flat_map}
 use Rattle.bt_model.specs.declared.term.Term.{Term, Term-F}
 use Rattle.bt_model.specs.declared.term.Tree.{Tree}
 use Rattle.bt_model.specs.declared.world.World.{World}
 use Rattle.bt_model.specs.Boards.{Standing, keys_named, makes_scope, scope_below, scope_of, standing_all, standing_from}
+use Rattle.bt_model.specs.BuiltIns.{PortRule, ports_of}
 use Rattle.bt_model.specs.Drivers.{DriverState, kind_of_way, place_of_kind}
 use Rattle.bt_model.specs.Leaves.{row_of}
+use Rattle.bt_model.specs.Sites.{View}
 use Rattle.bt_model.specs.Terms.{leaf_ids, node_count}
-use Rattle.bt_model.specs.Trees.{NodeFits, nodes_of}
+use Rattle.bt_model.specs.Trees.{Node as TreeNode, NodeFits, nodes_of}
 use Rattle.bt_driver.specs.Rules.{rule}
 use Rattle.bt_arena.specs.declared.nodes.Node.{Node}
 use Rattle.bt_arena.specs.declared.nodes.ReadyLeaf.{ReadyLeaf}
 use Rattle.bt_arena.specs.Joins.{first_lack, place_by}
+use Rattle.bt_arena.specs.Nodes.{AreCompiled, IsCompiled}
 use Rattle.bt_arena.specs.Resolving.{AreNamed, GuardsAreNamed, names_if_there, port_keys, view_in}
 use Rattle.bt_arena.specs.Rows.{counted_at}
+use Rattle.bt_arena.specs.Sources.{IsSourceOf, source_at}
 use Rattle.bt_arena.specs.Stands.{StandAll, Stands}
 
 -- ---- What is asked of a term
@@ -39,6 +43,18 @@ pub record CanBeLaid (tree : Tree) (world : World) (drivers : List DriverState) 
   pub fit : AllByRecursion NodeFits (flat_map (λ nodes. nodes) (map nodes_of ts))
   pub joined : first_lack world.rows drivers (flat_map (λ ids. ids) (map leaf_ids ts)) ≡ None
 
+-- ---- Nodes
+
+-- a node of an arena is this node of a term, but for its size and its leaf
+pub record IsBareNode (view : View) (written : TreeNode) (node : Node) : Type 0 where
+  pub kind : node.kind ≡ written.kind
+  pub size : node.size ≡ 0
+  pub children : node.children ≡ written.children
+  pub code : IsCompiled view written.code node.code
+  pub guards : AreCompiled view written.guards node.guards
+  pub ports : node.ports ≡ map (λ (port : PortRule). source_at view written.ports port.name) (ports_of written.kind)
+  pub slots : All (IsSourceOf (length view.slots)) node.ports
+
 -- ---- Instances
 
 abbrev pub driver_of : Option ReadyLeaf → Option ℕ
@@ -46,7 +62,7 @@ driver_of (Some leaf) = Some leaf.driver
 driver_of None = None
 
 -- a leaf has the first driver of its row's kind, and the next instance there
-abbrev pub IsNext : List DriverState → List ℕ → Option ReadyLeaf → Type 0
+unfoldable pub IsNext : List DriverState → List ℕ → Option ReadyLeaf → Type 0
 IsNext drivers next None = Unit {0}
 IsNext drivers next (Some leaf) = (place_of_kind drivers (kind_of_way (rule leaf.row).way) ≡ Some leaf.driver) × (leaf.instance ≡ slice_index_or next leaf.driver 0)
 

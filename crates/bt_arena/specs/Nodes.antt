@@ -100,7 +100,7 @@ is_leaf Leaf = true
 is_leaf _ = false
 
 -- a node of the kind Leaf, and no other, is a leaf with a driver, and follows the row of its ID
-abbrev pub LeafStands : View → TreeNode → Option ReadyLeaf → Type 0
+unfoldable pub LeafStands : View → TreeNode → Option ReadyLeaf → Type 0
 LeafStands view node None = is_leaf node.kind ≡ false
 LeafStands view node (Some leaf) = (node.kind ≡ Leaf) × MatchOption (row_of view.rows node.id) ⊥ (IsLeafOf view node.ports leaf)
 

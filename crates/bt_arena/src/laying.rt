@@ -4,12 +4,12 @@ ghost use Rattle.indexmap.specs.IndexMap.{get};
 ghost use Rattle.bt_model.specs.declared.term.Term.{out-Term};
 ghost use Rattle.bt_model.specs.Boards.{children_scope_number};
 ghost use Rattle.bt_model.specs.Terms.{own_leaf_id};
-ghost use Rattle.bt_model.specs.Trees.{NodeFits};
+ghost use Rattle.bt_model.specs.Trees.{GuardsFit, ScriptFits};
 ghost use Rattle.bt_model.specs.Worlds.{IsValidWorld};
 ghost use Rattle.bt_arena.specs.Joins.{first_lack};
-ghost use Rattle.bt_arena.specs.Laying.{AreLaid, CanBeLaid, IsNext, NodeIsNamed, driver_of};
+ghost use Rattle.bt_arena.specs.Laying.{AreLaid, CanBeLaid, IsBareNode, IsNext, driver_of};
 ghost use Rattle.bt_arena.specs.Nodes.{IsNode, node_at};
-ghost use Rattle.bt_arena.specs.Resolving.{view_in};
+ghost use Rattle.bt_arena.specs.Resolving.{AreNamed, GuardsAreNamed, names_if_there, port_keys, view_in};
 ghost use Rattle.bt_arena.specs.Rows.{Finds, counted_at};
 ghost use Rattle.bt_arena.specs.Stands.{written};
 
@@ -42,6 +42,35 @@ fn scope_under(kind: Kind, uid: u32, scope: u32) -> u32
     }
 }
 
+/// The node of a term, all but its size and its leaf.
+fn bare_node(
+    alloc: Global,
+    term: &Term,
+    setting: &Setting,
+    scope: u32,
+) -> Result<Node, NoMemory>
+    requires code_fits { ScriptFits (out-Term term.now).code }
+    requires guards_fit { GuardsFit (out-Term term.now).guards }
+    requires code { AreNamed setting.now.tree.now scope (names_if_there (out-Term term.now).code) }
+    requires guards { GuardsAreNamed setting.now.tree.now scope (out-Term term.now).guards }
+    requires ports { AreNamed setting.now.tree.now scope (port_keys (out-Term term.now).ports) }
+    ensures { IfOk result (λ node. IsBareNode (view_in setting.now.tree.now setting.now.world.now scope) (written (out-Term term.now)) node) }
+{
+    let children = narrow(term.children.list().len())?;
+    let ports = kind_sources(alloc, term.kind, term.ports.list(), setting, scope)?;
+    let code = ready_script(alloc, &term.code, setting, scope)?;
+    let guards = ready_guards(alloc, &term.guards, setting, scope)?;
+    Ok(Node {
+        kind: term.kind,
+        size: 0,
+        children,
+        code,
+        guards,
+        ports: Items::of(ports),
+        leaf: None,
+    })
+}
+
 /// The node of a term, all but its size.
 fn node_of<D: Drivers>(
     alloc: Global,
@@ -51,8 +80,11 @@ fn node_of<D: Drivers>(
     drivers: &D,
     next: &mut [u32],
 ) -> Result<Node, NoMemory>
-    requires fits { NodeFits (written (out-Term term.now)) }
-    requires named { NodeIsNamed setting.now.tree.now scope (out-Term term.now) }
+    requires code_fits { ScriptFits (out-Term term.now).code }
+    requires guards_fit { GuardsFit (out-Term term.now).guards }
+    requires code { AreNamed setting.now.tree.now scope (names_if_there (out-Term term.now).code) }
+    requires guards { GuardsAreNamed setting.now.tree.now scope (out-Term term.now).guards }
+    requires ports { AreNamed setting.now.tree.now scope (port_keys (out-Term term.now).ports) }
     requires joined { first_lack setting.now.world.now.rows (D.states drivers.now) (own_leaf_id (out-Term term.now).kind (out-Term term.now).id) ≡ None }
     requires world { IsValidWorld setting.now.world.now }
     requires found { Finds setting.now.world.now.rows (get bytes_eq setting.now.rows.now) }
@@ -61,17 +93,9 @@ fn node_of<D: Drivers>(
     ensures is_next { IfOk result (λ node. IsNext (D.states drivers.now) next.old node.leaf) }
     ensures next { IfOk result (λ node. next.new ≡ counted_at (driver_of node.leaf) next.old) }
 {
-    let leaf = leaf_of(alloc, term, setting, scope, drivers, next)?;
-    let ports = kind_sources(alloc, term.kind, term.ports.list(), setting, scope)?;
-    Ok(Node {
-        kind: term.kind,
-        size: 0,
-        children: narrow(term.children.list().len())?,
-        code: ready_script(alloc, &term.code, setting, scope)?,
-        guards: ready_guards(alloc, &term.guards, setting, scope)?,
-        ports: Items::of(ports),
-        leaf,
-    })
+    let mut node = bare_node(alloc, term, setting, scope)?;
+    node.leaf = leaf_of(alloc, term, setting, scope, drivers, next)?;
+    Ok(node)
 }
 
 /// Gives the node at this place its size: it and all that stands behind it.

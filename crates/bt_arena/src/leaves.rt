@@ -69,6 +69,7 @@ fn leaf_with(
 
 /// What a node has that is a leaf: its driver is the first of its row's kind, and its instance the next
 /// one there.
+#[tactic(auto, unfolding(crate::specs::Nodes::LeafStands, crate::specs::Laying::IsNext))]
 pub(crate) fn leaf_of<D: Drivers>(
     alloc: Global,
     node: &Term,
