@@ -1,5 +1,5 @@
 -- Laying terms into an arena, one behind the other: what is asked of each part, and what the whole leaves.
-use Rattle.std.proofs.Common.{◌≡◌, ℕ, ◌+◌, ◌-◌, ◌<◌, ◌≤◌, List, [], ◌∷◌, ◌++◌, Bool, true, false, Option, Some, None, map, length, get_or, set, sum, drop, refl, sym, ap, subst, ◌∙◌, append-nil, append_assoc, length-append, arith}
+use Rattle.std.proofs.Common.{◌≡◌, ℕ, zero, suc, ◌+◌, ◌-◌, ◌<◌, ◌≤◌, List, [], ◌∷◌, ◌++◌, Bool, true, false, Option, Some, None, map, length, get_or, set, sum, drop, refl, sym, ap, subst, ◌∙◌, append-nil, append_assoc, length-append, arith}
 use Rattle.std.specs.List.{All, AllByRecursion, flat_map}
 use Rattle.std.specs.Option.{option_or}
 use Rattle.std.specs.Prelude.{MatchOption}
@@ -186,3 +186,13 @@ module _ (tree : Tree) (world : World) (drivers : List DriverState) where
 -- the terms from one on
 pub terms_here : (ts : List Term) (i : ℕ) (t : Term) → i < length ts → t ≡ get_or ts i t → drop i ts ≡ t ∷ drop (i + 1) ts
 terms_here ts i t within is_t = drop_more ts i t within ∙ ap (λ (x : Term). x ∷ drop (i + 1) ts) (sym is_t)
+
+-- a term has more nodes than its children
+pub counts_below : (t : Term) → node_count t ≡ 1 + sum (map node_count (out-Term t).children)
+counts_below t = fold_out-Term ℕ (λ node. 1 + sum node.children) t
+
+-- one of some terms has no more nodes than all
+pub counts_within : (ts : List Term) (i : ℕ) (t : Term) → i < length ts → t ≡ get_or ts i t → node_count t ≤ sum (map node_count ts)
+counts_within [] i t within is_t = absurd (omega (arith, within))
+counts_within (x ∷ ts) zero t within is_t = omega (arith, ap node_count is_t, sum_by-cons (λ (k : ℕ). k) (node_count x) (map node_count ts))
+counts_within (x ∷ ts) (suc i) t within is_t = omega (arith, counts_within ts i t (omega (arith, within)) is_t, sum_by-cons (λ (k : ℕ). k) (node_count x) (map node_count ts))

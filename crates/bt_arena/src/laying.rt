@@ -43,12 +43,7 @@ fn scope_under(kind: Kind, uid: u32, scope: u32) -> u32
 }
 
 /// The node of a term, all but its size and its leaf.
-fn bare_node(
-    alloc: Global,
-    term: &Term,
-    setting: &Setting,
-    scope: u32,
-) -> Result<Node, NoMemory>
+fn bare_node(alloc: Global, term: &Term, setting: &Setting, scope: u32) -> Result<Node, NoMemory>
     requires code_fits { ScriptFits (out-Term term.now).code }
     requires guards_fit { GuardsFit (out-Term term.now).guards }
     requires code { AreNamed setting.now.tree.now scope (names_if_there (out-Term term.now).code) }
@@ -129,7 +124,15 @@ fn lay_term<D: Drivers>(
     let uid = narrow(place)?;
     nodes.push(node_of(alloc, term, setting, scope, drivers, next)?)?;
     let inner = scope_under(term.kind, uid, scope);
-    lay_terms(alloc, term.children.list(), setting, inner, drivers, next, nodes)?;
+    lay_terms(
+        alloc,
+        term.children.list(),
+        setting,
+        inner,
+        drivers,
+        next,
+        nodes,
+    )?;
     close(nodes, place)
 }
 

@@ -93,9 +93,7 @@ pub(crate) fn leaf_of<D: Drivers>(
                 Some(driver) => {
                     let instance = next_instance(next, driver)?;
                     let ports = node.ports.list();
-                    Ok(Some(leaf_with(
-                        alloc, ports, row, driver, instance, setting, scope,
-                    )?))
+                    Ok(Some(leaf_with(alloc, ports, row, driver, instance, setting, scope)?))
                 }
                 None => unreachable!(),
             },

@@ -1,4 +1,4 @@
-use Rattle.std.proofs.Common.{rules, ◌≡◌, ◌+◌, ◌<◌, ℕ, List, [], ◌∷◌, length, drop, length-append, refl, sym, ap, subst, ◌∙◌, arith}
+use Rattle.std.proofs.Common.{rules, ◌≡◌, ◌+◌, ◌<◌, ℕ, List, [], ◌∷◌, length, map, sum, drop, length-append, refl, sym, ap, subst, ◌∙◌, arith}
 use Rattle.std.proofs.lemmas.List.{drop_all}
 use Rattle.std.proofs.lemmas.Result.{on_ok_weaker}
 use Rattle.std.proofs.lemmas.List.Sums.{sum_by-cons}
@@ -8,7 +8,7 @@ use Rattle.bt_model.specs.Boards.{children_scope_number}
 use Rattle.bt_model.specs.Terms.{node_count}
 use Rattle.bt_arena.specs.declared.nodes.Node.{Node}
 use Rattle.bt_arena.specs.Laying.{AreLaid, CanBeLaid, driver_of}
-use Rattle.bt_arena.proofs.Laid.{can_as, can_below, can_first, can_rest, code_fits, code_named_here, fits_here, guards_named_here, joined_here, ports_named_here, terms_here}
+use Rattle.bt_arena.proofs.Laid.{can_as, can_below, can_first, can_rest, code_fits, code_named_here, counts_below, counts_within, fits_here, guards_named_here, joined_here, ports_named_here, terms_here}
 use Rattle.bt_arena.proofs.Whole.{laid_length, laid_more, next_length, nothing_laid, term_laid}
 use Rattle.bt_arena.proofs.laying.+laying.Goals as goal
 
@@ -42,7 +42,7 @@ lay_term-lay_terms-requires g t c = λ κs lives.
     (c.scope_under-inner.ensures ∙ ap (λ u. children_scope_number (out-Term c.args.term.now).kind u c.args.scope) (c.in_ok-uid.ensures ∙ place))
     (can_below _ _ _ c.args.term.now uid c.args.scope c.requires.can) in
     let places = next_length (driver_of c.in_ok-node_of.field-0.leaf) c.args.next.now c.node_of.new.next c.in_ok-node_of.ensures.next ∙ c.requires.places in
-    (search rules, (search rules, (can, (c.requires.world, (c.requires.found, places)))))
+    (omega (arith, counts_below c.args.term.now, ap (λ (ts : List Term). sum (map node_count ts)) c.list.ensures, c.decreases), (λ a is. lives a is, (can, (c.requires.world, (c.requires.found, places)))))
 
 pub lay_term-close-requires : goal.lay_term-close-requires
 lay_term-close-requires g t c =
@@ -52,13 +52,13 @@ lay_term-close-requires g t c =
 pub lay_term-returns : goal.lay_term-returns
 lay_term-returns g t c =
     let place : c.len-place.result ≡ length c.args.nodes.now.items = omega (arith, c.len-place.ensures, c.args.nodes.now.ok.0) in record {
-  laid = on_ok_weaker c.close.result
-      (λ is. term_laid _ _ _ c.args.term.now c.args.scope c.args.nodes.now.items c.push.new.self.items c.lay_terms.new.nodes.items c.close.new.nodes.items c.in_ok-node_of.field-0
-      c.args.next.now c.node_of.new.next c.lay_terms.new.next c.len-place.result c.in_ok-uid.uid c.list.result.now c.scope_under-inner.result
-      place c.in_ok-uid.ensures c.in_ok-push.ensures.items c.list.ensures c.scope_under-inner.ensures
-      c.requires.can c.in_ok-node_of.ensures.node c.in_ok-node_of.ensures.is_next c.in_ok-node_of.ensures.next c.in_ok-lay_terms.ensures.laid is)
-      c.close.ensures;
-}
+      laid = on_ok_weaker c.close.result
+          (λ is. term_laid _ _ _ c.args.term.now c.args.scope c.args.nodes.now.items c.push.new.self.items c.lay_terms.new.nodes.items c.close.new.nodes.items c.in_ok-node_of.field-0
+          c.args.next.now c.node_of.new.next c.lay_terms.new.next c.len-place.result c.in_ok-uid.uid c.list.result.now c.scope_under-inner.result
+          place c.in_ok-uid.ensures c.in_ok-push.ensures.items c.list.ensures c.scope_under-inner.ensures
+          c.requires.can c.in_ok-node_of.ensures.node c.in_ok-node_of.ensures.is_next c.in_ok-node_of.ensures.next c.in_ok-lay_terms.ensures.laid is)
+          c.close.ensures;
+    }
 
 pub lay_terms-lay_term-requires : goal.lay_terms-lay_term-requires
 lay_terms-lay_term-requires g t c = λ κs lives.
@@ -66,7 +66,7 @@ lay_terms-lay_term-requires g t c = λ κs lives.
     let here = terms_here c.args.terms.now i c.term-item.result c.loop-term-test.true c.term-item.is in
     let can = can_first c.args.setting.now.tree.now c.args.setting.now.world.now (g.D.Drivers.states c.args.drivers.now) c.term-item.result (drop (i + 1) c.args.terms.now) (length c.loop-term.nodes.items) c.args.scope
     (subst (λ (ts : List Term). CanBeLaid c.args.setting.now.tree.now c.args.setting.now.world.now (g.D.Drivers.states c.args.drivers.now) ts (length c.loop-term.nodes.items) c.args.scope) here c.loop-term.invariant.can) in
-    (search rules, (search rules, (can, (c.requires.world, (c.requires.found, c.loop-term.invariant.places)))))
+    (omega (arith, counts_within c.args.terms.now i c.term-item.result c.loop-term-test.true c.term-item.is, c.decreases), (λ a is. lives a is, (can, (c.requires.world, (c.requires.found, c.loop-term.invariant.places)))))
 
 pub lay_terms-returns : goal.lay_terms-returns
 lay_terms-returns g t c =
