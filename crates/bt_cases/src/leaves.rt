@@ -1,6 +1,6 @@
 //! What the drivers of the modelled world answer, call by call, and what the calls leave.
 ghost use Rattle.std.specs.Prelude.{◌≡◌, ◌<◌, ◌≤◌, IfOk, None, Some, length, slice_index_or};
-ghost use Rattle.bt_model.specs.Drivers.{IsHeldBy, NothingHeld, instance_at, kind_of_way};
+ghost use Rattle.bt_model.specs.Drivers.{NothingHeld, kind_of_way};
 ghost use Rattle.bt_model.specs.Leaf as leaf;
 ghost use Rattle.bt_model.specs.Worlds.{IsValidWorld};
 ghost use Rattle.bt_driver.specs.Rules.{rule};
@@ -91,7 +91,7 @@ fn stage_of<D: Drivers>(
 
 /// The moment since which an instance is held after a reply to a leaf that began at this moment.
 fn since_after(reply: Reply, start: u64, before: Option<u64>) -> Option<u64>
-    ensures { result ≡ leaf.since_after reply start before.entry }
+    ensures { result ≡ leaf.since_after reply start before }
 {
     match reply {
         Reply::Running => Some(start),
