@@ -1,0 +1,9 @@
+pub mod Parts
+pub mod Children
+pub mod Seats
+pub mod Acts
+pub mod Resting
+pub mod Leading
+pub mod Nodes
+pub mod Rounds
+pub mod Beginnings
