@@ -7,3 +7,7 @@ pub mod Leading
 pub mod Nodes
 pub mod Rounds
 pub mod Beginnings
+pub mod Parallels
+pub mod Choices
+pub mod Decorators
+pub mod Turning
