@@ -1,12 +1,12 @@
 -- With which memo and children the rule of a node with children can begin: those of its shape while it is RUNNING, and
 -- those of its start.
-use Rattle.std.specs.Prelude.{ℕ, ◌+◌, List, codes, Option, Some, None}
+use Rattle.std.specs.Prelude.{ℕ, ◌+◌, List, codes, Bool, true, false, Option, Some, None}
 use Rattle.bt_model.specs.declared.memory.Memo.{Memo}
 use Rattle.bt_model.specs.declared.memory.Memo.TheVariants.{Nothing, Index, Chosen, Finished, Counts as Counted, Turns as Turned, Since as Begun}
 use Rattle.bt_model.specs.declared.memory.Memory.{Memory}
 use Rattle.bt_model.specs.declared.status.Status.{Status}
 use Rattle.bt_model.specs.declared.term.Kind.{Kind}
-use Rattle.bt_model.specs.declared.term.Kind.TheVariants.{Sequence, SequenceWithMemory, ReactiveSequence, Fallback, ReactiveFallback, Parallel, Switch, IfThenElse, WhileDoElse, Inverter, ForceSuccess, ForceFailure, KeepRunningUntilFailure, Retry, Repeat, Timeout, Delay, RunOnce, SubTree}
+use Rattle.bt_model.specs.declared.term.Kind.TheVariants.{Sequence, SequenceWithMemory, ReactiveSequence, Fallback, ReactiveFallback, Parallel, Switch, IfThenElse, WhileDoElse, Inverter, ForceSuccess, ForceFailure, KeepRunningUntilFailure, Retry, Repeat, Timeout, Delay, RunOnce, SubTree, AlwaysSuccess, AlwaysFailure, ScriptNode, ScriptCondition, Leaf}
 use Rattle.bt_model.specs.declared.term.Port.{Port}
 use Rattle.bt_model.specs.declared.term.Term.{Term-F}
 use Rattle.bt_model.specs.declared.term.Term.TheFolds.{map-Term}
@@ -19,6 +19,15 @@ use Rattle.bt_model.specs.Steps.{Given}
 use Rattle.bt_model.specs.Visit.{site_of, status_of}
 use Rattle.bt_laws.proofs.Children.{Family, SoundAll, size_all}
 use Rattle.bt_laws.proofs.Rounds.{StartsAt}
+
+-- whether a node of this kind follows a rule over its children
+abbrev pub has_rule : Kind → Bool
+has_rule AlwaysSuccess = false
+has_rule AlwaysFailure = false
+has_rule ScriptNode = false
+has_rule ScriptCondition = false
+has_rule Leaf = false
+has_rule kind = true
 
 abbrev pub Begins : Kind → List Port → ℕ → Memo → List Status → Type 0
 Begins Sequence ports moment (Index at seen) ss = StartsAt at ss

@@ -11,3 +11,5 @@ pub mod Parallels
 pub mod Choices
 pub mod Decorators
 pub mod Turning
+pub mod Starts
+pub mod KindRules
