@@ -13,3 +13,4 @@ pub mod Decorators
 pub mod Turning
 pub mod Starts
 pub mod KindRules
+pub mod Whole
