@@ -14,3 +14,4 @@ pub mod Turning
 pub mod Starts
 pub mod KindRules
 pub mod Instances
+pub mod Whole
