@@ -15,3 +15,4 @@ pub mod Starts
 pub mod KindRules
 pub mod Instances
 pub mod Whole
+pub mod Halts
