@@ -16,3 +16,5 @@ pub mod KindRules
 pub mod Instances
 pub mod Whole
 pub mod Halts
+pub mod Induction
+pub mod Keeping
