@@ -14,3 +14,4 @@ pub mod Turning
 pub mod Starts
 pub mod KindRules
 pub mod Whole
+pub mod Scripts
