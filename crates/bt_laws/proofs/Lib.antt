@@ -13,5 +13,6 @@ pub mod Decorators
 pub mod Turning
 pub mod Starts
 pub mod KindRules
+pub mod Instances
 pub mod Whole
 pub mod Scripts
