@@ -18,3 +18,4 @@ pub mod Whole
 pub mod Halts
 pub mod Induction
 pub mod Keeping
+pub mod Scripts
