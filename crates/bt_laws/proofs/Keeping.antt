@@ -15,7 +15,7 @@ use Rattle.bt_laws.proofs.Halts.{here_settles, reset_leaves}
 use Rattle.bt_laws.proofs.Induction.{every_term, node_means}
 
 -- a view of some rows; the rules of states look at nothing else of it
-abbrev only_rows : List Row → View
+abbrev pub only_rows : List Row → View
 only_rows rows = record { rows = rows; facts = []; slots = []; scope = main_scope }
 
 -- terms that keep their rules

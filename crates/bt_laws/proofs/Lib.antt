@@ -19,3 +19,4 @@ pub mod Halts
 pub mod Induction
 pub mod Keeping
 pub mod Scripts
+pub mod Quenches
