@@ -20,3 +20,5 @@ pub mod Induction
 pub mod Keeping
 pub mod Scripts
 pub mod Quenches
+pub mod Runners
+pub mod Events
