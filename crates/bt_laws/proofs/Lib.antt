@@ -22,3 +22,4 @@ pub mod Scripts
 pub mod Quenches
 pub mod Runners
 pub mod Events
+pub mod Runs
