@@ -23,3 +23,5 @@ pub mod Quenches
 pub mod Runners
 pub mod Events
 pub mod Runs
+pub mod Making
+pub mod Spending

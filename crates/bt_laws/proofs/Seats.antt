@@ -1,5 +1,5 @@
 -- A child at its place among the children: what happens to it happens to one of them.
-use Rattle.std.proofs.Common.{◌≡◌, ℕ, zero, suc, ◌+◌, ◌<◌, ◌≤◌, List, [], ◌∷◌, map, length, slice_set, Option, None, refl, ap, subst, ◌∙◌, arith, ◌⊎◌, inl, inr, ⊎_elim}
+use Rattle.std.proofs.Common.{◌≡◌, ℕ, zero, suc, ◌+◌, ◌<◌, ◌≤◌, List, [], ◌∷◌, map, length, slice_get, slice_set, Option, Some, None, refl, ap, subst, ◌∙◌, arith, ◌⊎◌, inl, inr, ⊎_elim}
 use Rattle.bt_model.specs.declared.memory.Memory.{Memory}
 use Rattle.bt_model.specs.declared.world.Row.{Row}
 use Rattle.bt_model.specs.Done.{State}
@@ -60,6 +60,7 @@ module _ (F : Family) (rows : List Row) where
 -- the child at a place, where there is one
 pub record Sits (F : Family) (view : View) (cs : List F.Child) (uid place index : ℕ) (child : Child) : Type 0 where
   pub who : F.Child
+  pub which : slice_get cs place ≡ Some who
   pub at : ℕ
   pub seat : Seat F view.rows cs uid place who at
   pub is_child : child ≡ child_of view (F.meaning who) at index
@@ -71,6 +72,7 @@ pub sits : (F : Family) (view : View) (cs : List F.Child) (uid first place : ℕ
 sits F view [] uid first place = inr (omega arith, refl)
 sits F view (c ∷ cs) uid first zero = inl (record {
   who = c;
+  which = refl;
   at = uid;
   seat = first_seat F view.rows c cs uid;
   is_child = ap (λ k. child_of view (F.meaning c) uid k) (let e : first ≡ first + 0 = omega arith in e);
@@ -79,6 +81,7 @@ sits F view (c ∷ cs) uid first (suc place) =
     ⊎_elim
     (λ s. inl (record {
       who = s.who;
+      which = s.which;
       at = s.at;
       seat = later_seat F view.rows c cs uid s.who place s.at s.seat;
       is_child = s.is_child ∙ ap (λ k. child_of view (F.meaning s.who) s.at k) (let e : first + 1 + place ≡ first + suc place = omega arith in e);
