@@ -69,11 +69,11 @@ running_begins _ ports row moment _ ss e shape = absurd shape
 -- ---- From a start
 
 -- the children of a node that rests are IDLE, but for those of a SequenceWithMemory
-abbrev rests_whole : Kind → Bool
+abbrev pub rests_whole : Kind → Bool
 rests_whole SequenceWithMemory = false
 rests_whole kind = true
 
-rests_idle : (memo : Memo) (kind : Kind) (ss : List Status) → rests_whole kind ≡ true → RestingShape memo kind ss → AllIdle ss
+pub rests_idle : (memo : Memo) (kind : Kind) (ss : List Status) → rests_whole kind ≡ true → RestingShape memo kind ss → AllIdle ss
 rests_idle Nothing kind ss e shape = shape
 rests_idle (Index at false) SequenceWithMemory ss e shape = cc
 rests_idle (Finished (Some a)) RunOnce ss e shape = shape.1

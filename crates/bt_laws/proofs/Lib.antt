@@ -16,3 +16,4 @@ pub mod KindRules
 pub mod Instances
 pub mod Whole
 pub mod Scripts
+pub mod LeafCalls

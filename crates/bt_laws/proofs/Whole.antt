@@ -13,11 +13,12 @@ use Rattle.bt_model.specs.declared.term.Kind.TheVariants.{Timeout, Delay}
 use Rattle.bt_model.specs.declared.term.Port.{Port}
 use Rattle.bt_model.specs.declared.term.Term.{Term-F}
 use Rattle.bt_model.specs.declared.world.Row.{Row}
-use Rattle.bt_model.specs.Done.{State}
+use Rattle.bt_model.specs.Done.{Done, State}
 use Rattle.bt_model.specs.Leaves.{row_of}
 use Rattle.bt_model.specs.Shapes.{IsBegun, RunningShape, Shape}
 use Rattle.bt_model.specs.Sites.{View, remembered}
-use Rattle.bt_model.specs.Sound.{NodeRule, OffPath}
+use Rattle.bt_model.specs.Sound.{Leaves, NodeRule, OffPath}
+use Rattle.bt_model.specs.Steps.{Given}
 use Rattle.bt_model.specs.Visit.{status_of}
 use Rattle.bt_laws.proofs.Parts.{Same}
 use Rattle.bt_laws.proofs.Children.{Family, SoundAll, all_move, size_all, status_in}
@@ -86,3 +87,9 @@ module _ (F : Family) (node : Term-F F.Child) (view : View) (uid : ℕ) where
     (λ off. node_moves st memo ms s s1 sound.0 (λ p a b. same p a (omega (arith, b))) later),
     all_move F view.rows node.children (Some f) (uid + 1) ms s s1 sound.1 (λ p a b. same p (omega (arith, a)) (omega (arith, b))) later,
   )
+
+  -- what the rule of the node leaves, as one of this kind: the rules of its children, and its own at the status that is next
+  abbrev pub RuledAs : Kind → State → Done Given (List Memory) → Type 0
+  RuledAs kind s d =
+      Leaves (λ f ms s1. SoundAll F view.rows node.children f (uid + 1) ms s1)
+      (λ g ms s1. NodeRule kind node.ports (row_of view.rows node.id) uid (status_of g.answer) g.memo ms s1) uid size_here s d
