@@ -17,3 +17,4 @@ pub mod Instances
 pub mod Whole
 pub mod Scripts
 pub mod LeafCalls
+pub mod AfterScripts
