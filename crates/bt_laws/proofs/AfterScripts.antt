@@ -8,11 +8,11 @@ use Rattle.bt_model.specs.declared.term.Term.{Term-F}
 use Rattle.bt_model.specs.Done.{Done, State, follow}
 use Rattle.bt_model.specs.Sites.{View}
 use Rattle.bt_model.specs.Sound.{Leaves, held_at}
-use Rattle.bt_laws.proofs.Parts.{Same, follow_leaves}
+use Rattle.bt_laws.proofs.Parts.{follow_leaves}
 use Rattle.bt_laws.proofs.Children.{Family, SoundAll, all_move}
 use Rattle.bt_laws.proofs.Beginnings.{site_here}
 use Rattle.bt_laws.proofs.Scripts.{Runs}
-use Rattle.bt_laws.proofs.Whole.{Fields, fields_move, size_here}
+use Rattle.bt_laws.proofs.Whole.{Fields, fields_move, held_same, size_here}
 
 -- the instances and the moment are as they were
 pub record Still (s s1 : State) : Type 0 where
@@ -24,7 +24,7 @@ module _ {s s1 : State} (still : Still s s1) where
   still_there p = ap (λ (is : List Instance). slice_get is p) still.instances
 
   pub still_held : (uid : ℕ) → held_at s1 uid ≡ held_at s uid
-  still_held uid = ap (λ (is : List Instance). held_at (record s { instances = is }) uid) still.instances
+  still_held uid = held_same s s1 uid (still_there uid)
 
   module _ (F : Family) (node : Term-F F.Child) (view : View) (uid : ℕ) where
     pub children_still : (fault : Option ℕ) (ms : List Memory) → SoundAll F view.rows node.children None (uid + 1) ms s → SoundAll F view.rows node.children fault (uid + 1) ms s1

@@ -18,3 +18,4 @@ pub mod Whole
 pub mod Scripts
 pub mod LeafCalls
 pub mod AfterScripts
+pub mod NodeRules
