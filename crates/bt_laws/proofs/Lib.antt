@@ -19,3 +19,4 @@ pub mod Scripts
 pub mod LeafCalls
 pub mod AfterScripts
 pub mod NodeRules
+pub mod Visits

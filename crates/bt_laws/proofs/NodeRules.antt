@@ -37,7 +37,7 @@ rests_free status.Success kind rests = refl
 rests_free status.Failure kind rests = refl
 
 -- .. and none of a node with children
-rule_free : (st : Status) (kind : Kind) → has_rule kind ≡ true → is_held st kind ≡ false
+pub rule_free : (st : Status) (kind : Kind) → has_rule kind ≡ true → is_held st kind ≡ false
 rule_free status.Running Leaf ruled = cc
 rule_free status.Running _ ruled = refl
 rule_free status.Idle kind ruled = refl
