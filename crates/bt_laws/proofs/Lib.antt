@@ -13,3 +13,5 @@ pub mod Decorators
 pub mod Turning
 pub mod Starts
 pub mod KindRules
+pub mod Shares
+pub mod Spending
