@@ -15,3 +15,6 @@ pub mod Starts
 pub mod KindRules
 pub mod Shares
 pub mod Spending
+pub mod TurnLimits
+pub mod Working
+pub mod KindWork

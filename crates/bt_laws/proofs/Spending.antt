@@ -1,5 +1,5 @@
 -- How many calls of start and running the words of rules make.
-use Rattle.std.proofs.Common.{◌≡◌, ℕ, zero, suc, ◌+◌, ◌≤◌, Bool, true, false, List, [], ◌∷◌, ◌++◌, length, map, Option, None, Result, Ok, Err, refl, sym, ap, subst, ◌∙◌, arith, ⊎_elim}
+use Rattle.std.proofs.Common.{◌≡◌, ℕ, suc, ◌+◌, ◌≤◌, List, [], ◌∷◌, ◌++◌, Option, None, Result, Ok, Err, sym, ap, subst, ◌∙◌, arith, ⊎_elim}
 use Rattle.std.proofs.lemmas.Bool.{cond_both}
 use Rattle.bt_model.specs.declared.fault.NodeFault.{NodeFault}
 use Rattle.bt_model.specs.declared.memory.Memo.{Memo}
@@ -11,8 +11,8 @@ use Rattle.bt_model.specs.declared.status.Answer.{Answer}
 use Rattle.bt_model.specs.declared.status.Answer.TheVariants as answer
 use Rattle.bt_model.specs.Done.{Call, Done, State, carried, done, follow}
 use Rattle.bt_model.specs.Rules.Answers.{pass_on}
-use Rattle.bt_model.specs.Sites.{Meaning, View, memory_at}
-use Rattle.bt_model.specs.Sound.{Left, begins, begun_calls}
+use Rattle.bt_model.specs.Sites.{View, memory_at}
+use Rattle.bt_model.specs.Sound.{Left, begun_calls}
 use Rattle.bt_model.specs.Steps.{Child, Rule, child_at, is_completed, keep, over, reset, reset_within, resets, spans, visit, visit_or_pass}
 use Rattle.bt_laws.proofs.Children.{Family, size_all}
 use Rattle.bt_laws.proofs.Acts.{All, children_here, visit_at}
