@@ -20,3 +20,8 @@ pub mod LeafCalls
 pub mod AfterScripts
 pub mod NodeRules
 pub mod Visits
+pub mod Shares
+pub mod Spending
+pub mod TurnLimits
+pub mod Working
+pub mod KindWork
