@@ -23,5 +23,12 @@ pub mod Quenches
 pub mod Runners
 pub mod Events
 pub mod Runs
-pub mod Making
 pub mod Spending
+pub mod LeafCalls
+pub mod AfterScripts
+pub mod NodeRules
+pub mod Visits
+pub mod Shares
+pub mod TurnLimits
+pub mod Working
+pub mod KindWork

@@ -13,6 +13,7 @@ pub record Seat (F : Family) (rows : List Row) (cs : List F.Child) (uid place : 
   pub low : uid ≤ at
   pub high : at + (F.meaning c).size ≤ uid + size_all F cs
   pub there : place < length cs
+  pub is : slice_get cs place ≡ Some c
   pub sound : (ms : List Memory) (s : State) → SoundAll F rows cs None uid ms s → F.rules c rows None at (memory_at ms place) s
   pub back : (fault : Option ℕ) (ms : List Memory) (m : Memory) (s s1 : State) →
       SoundAll F rows cs None uid ms s → Within at (F.meaning c).size s s1 → F.rules c rows fault at m s1 → SoundAll F rows cs fault uid (slice_set ms place m) s1
@@ -35,7 +36,7 @@ module _ (F : Family) (rows : List Row) where
     first_back fault (old ∷ ms) m s s1 all w here = (here, all_move F rows cs fault (uid + (F.meaning c).size) ms s s1 all.1 (λ p a b. w.above p a) (no_time_back w))
 
     first_seat : Seat F rows (c ∷ cs) uid zero c uid
-    first_seat = record { low = omega arith; high = omega (arith, size_cons F c cs); there = omega arith; sound = first_sound; back = first_back }
+    first_seat = record { low = omega arith; high = omega (arith, size_cons F c cs); there = omega arith; is = refl; sound = first_sound; back = first_back }
 
     module _ (d : F.Child) (place at : ℕ) (seat : Seat F rows cs (uid + (F.meaning c).size) place d at) where
       later_sound : (ms : List Memory) (s : State) → All (c ∷ cs) None uid ms s → F.rules d rows None at (memory_at ms (suc place)) s
@@ -53,6 +54,7 @@ module _ (F : Family) (rows : List Row) where
         low = omega (arith, seat.low);
         high = omega (arith, seat.high, size_cons F c cs);
         there = omega (arith, seat.there);
+        is = seat.is;
         sound = later_sound;
         back = later_back;
       }
@@ -60,7 +62,6 @@ module _ (F : Family) (rows : List Row) where
 -- the child at a place, where there is one
 pub record Sits (F : Family) (view : View) (cs : List F.Child) (uid place index : ℕ) (child : Child) : Type 0 where
   pub who : F.Child
-  pub which : slice_get cs place ≡ Some who
   pub at : ℕ
   pub seat : Seat F view.rows cs uid place who at
   pub is_child : child ≡ child_of view (F.meaning who) at index
@@ -72,7 +73,6 @@ pub sits : (F : Family) (view : View) (cs : List F.Child) (uid first place : ℕ
 sits F view [] uid first place = inr (omega arith, refl)
 sits F view (c ∷ cs) uid first zero = inl (record {
   who = c;
-  which = refl;
   at = uid;
   seat = first_seat F view.rows c cs uid;
   is_child = ap (λ k. child_of view (F.meaning c) uid k) (let e : first ≡ first + 0 = omega arith in e);
@@ -81,7 +81,6 @@ sits F view (c ∷ cs) uid first (suc place) =
     ⊎_elim
     (λ s. inl (record {
       who = s.who;
-      which = s.which;
       at = s.at;
       seat = later_seat F view.rows c cs uid s.who place s.at s.seat;
       is_child = s.is_child ∙ ap (λ k. child_of view (F.meaning s.who) s.at k) (let e : first + 1 + place ≡ first + suc place = omega arith in e);
