@@ -1,5 +1,5 @@
 -- How many calls of start and running the words of rules make.
-use Rattle.std.proofs.Common.{◌≡◌, ℕ, suc, ◌+◌, ◌≤◌, List, [], ◌∷◌, ◌++◌, Option, None, Result, Ok, Err, sym, ap, subst, ◌∙◌, arith, ⊎_elim}
+use Rattle.std.proofs.Common.{◌≡◌, ℕ, suc, ◌+◌, ◌≤◌, List, [], ◌∷◌, ◌++◌, Option, Some, None, slice_get, Result, Ok, Err, sym, ap, subst, ◌∙◌, arith, ⊎_elim}
 use Rattle.std.proofs.lemmas.Bool.{cond_both}
 use Rattle.bt_model.specs.declared.fault.NodeFault.{NodeFault}
 use Rattle.bt_model.specs.declared.memory.Memo.{Memo}
@@ -50,13 +50,14 @@ module _ {A M B N : Type 0} where
   pub follow_free : (d : Done A M) (place : M → N) (go : A → M → State → Done B N) → Spends 0 d → ((a : A) → Spends 0 (go a d.memory d.state)) → Spends 0 (follow d place go)
   follow_free d = carried_free d.answer d
 
--- a bound for each child of a family: a visit makes at most so many calls, and a reset none
-pub record Labour (F : Family) : Type 0 where
+-- a bound for each of some children: a visit makes at most so many calls, and a reset none
+pub record Labour (F : Family) (cs : List F.Child) : Type 0 where
   pub work : F.Child → ℕ
-  pub visit : (c : F.Child) (view : View) (uid : ℕ) (m : Memory) (s : State) → F.rules c view.rows None uid m s → Spends (work c) ((F.meaning c).visit view uid m s)
+  pub visit : (place : ℕ) (c : F.Child) → slice_get cs place ≡ Some c → (view : View) (uid : ℕ) (m : Memory) (s : State) → F.rules c view.rows None uid m s →
+      Spends (work c) ((F.meaning c).visit view uid m s)
   pub reset : (c : F.Child) (view : View) (uid : ℕ) (m : Memory) (s : State) → Spends 0 ((F.meaning c).reset view uid m s)
 
-module _ (F : Family) (L : Labour F) (view : View) (cs : List F.Child) (uid : ℕ) where
+module _ (F : Family) (cs : List F.Child) (L : Labour F cs) (view : View) (uid : ℕ) where
   abbrev here : List Child
   here = children_here F view cs uid
 
@@ -71,7 +72,7 @@ module _ (F : Family) (L : Labour F) (view : View) (cs : List F.Child) (uid : �
   visit_spends place ms s all =
       let Goal : Child → Type 0 = λ child. Spends (share L.work cs place) (child.visit ms s) in
       ⊎_elim
-      (λ there. subst Goal (sym there.is_child) (let spent : Spends (L.work there.who) ((F.meaning there.who).visit view there.at (memory_at ms place) s) = L.visit there.who view there.at (memory_at ms place) s (there.seat.sound ms s all) in omega (arith, spent, share_of L.work cs place there.who there.seat.is)))
+      (λ there. subst Goal (sym there.is_child) (let spent : Spends (L.work there.who) ((F.meaning there.who).visit view there.at (memory_at ms place) s) = L.visit place there.who there.seat.is view there.at (memory_at ms place) s (there.seat.sound ms s all) in omega (arith, spent, share_of L.work cs place there.who there.seat.is)))
       (λ none. subst Goal (sym none.1) (omega arith))
       (seated F view cs uid place)
 
