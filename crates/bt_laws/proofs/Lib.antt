@@ -32,3 +32,5 @@ pub mod Shares
 pub mod TurnLimits
 pub mod Working
 pub mod KindWork
+pub mod VisitWork
+pub mod TermWork

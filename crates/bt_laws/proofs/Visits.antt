@@ -47,7 +47,7 @@ shape_rests status.Success kind ports row moment memo ss rests shape = shape
 shape_rests status.Failure kind ports row moment memo ss rests shape = shape
 
 -- a node that starts has children
-starts_with_rule : (kind : Kind) (memo : Memo) → starts kind memo ≡ true → has_rule kind ≡ true
+pub starts_with_rule : (kind : Kind) (memo : Memo) → starts kind memo ≡ true → has_rule kind ≡ true
 starts_with_rule Leaf memo e = cc
 starts_with_rule ScriptNode memo e = cc
 starts_with_rule ScriptCondition memo e = cc
@@ -82,7 +82,7 @@ module _ (F : Family) (node : Term-F F.Child) (view : View) (uid : ℕ) where
   Visited s d = Leaves Whole (Answers F node view uid) uid size s d
 
   -- another status that is not RUNNING does as well
-  rests_as_well : (st st1 : Status) (memo : Memo) (ms : List Memory) (s : State) → is_running st ≡ false → is_running st1 ≡ false → Keeps st memo ms s → Keeps st1 memo ms s
+  pub rests_as_well : (st st1 : Status) (memo : Memo) (ms : List Memory) (s : State) → is_running st ≡ false → is_running st1 ≡ false → Keeps st memo ms s → Keeps st1 memo ms s
   rests_as_well st st1 memo ms s rests rests1 own = record {
     shape = shape_rests st1 node.kind node.ports row s.moment memo (statuses ms) rests1 (resting_shape st node.kind node.ports row s.moment memo (statuses ms) rests own.shape);
     held = own.held ∙ ap Some (rests_free st node.kind rests ∙ sym (rests_free st1 node.kind rests1));
@@ -114,13 +114,38 @@ module _ (F : Family) (node : Term-F F.Child) (view : View) (uid : ℕ) where
 
   -- ---- From a node that is not RUNNING
 
+  -- the rule can begin with a new memo, ..
+  pub ready_new : (memo : Memo) (m : Memory) (s : State) → has_rule node.kind ≡ true → Begins node.kind node.ports s.moment memo (statuses (out-Memory m).children) →
+      Keeps status.Idle (out-Memory m).memo (out-Memory m).children s → Ready F node view uid node.kind status.Running memo (out-Memory m).children s
+  ready_new memo m s has begins own =
+      record { begins = λ e. begins; shape = λ e. absurd (not_both has e); held = own.held ∙ ap Some (sym (rule_free status.Running node.kind has)) }
+
+  -- .. with the memo of a node that does not start, ..
+  pub ready_kept : (m : Memory) (s : State) → starts node.kind (out-Memory m).memo ≡ false → is_running (status_in m) ≡ false → Whole None m s →
+      Ready F node view uid node.kind (status_in m) (out-Memory m).memo (out-Memory m).children s
+  ready_kept m s is rests sound = record {
+    begins = λ e. kept_begins node.kind node.ports s.moment (out-Memory m).memo (statuses (out-Memory m).children) e is
+        (resting_shape (status_in m) node.kind node.ports row s.moment (out-Memory m).memo (statuses (out-Memory m).children) rests sound.0.shape);
+    shape = λ e. sound.0.shape;
+    held = sound.0.held;
+  }
+
+  -- .. and with that of a RUNNING one
+  pub ready_running : (m : Memory) (s : State) → status_in m ≡ status.Running → Whole None m s → Ready F node view uid node.kind status.Running (out-Memory m).memo (out-Memory m).children s
+  ready_running m s is sound =
+      let own : Keeps status.Running (out-Memory m).memo (out-Memory m).children s = subst (λ (st : Status). Keeps st (out-Memory m).memo (out-Memory m).children s) is sound.0 in
+      record {
+        begins = λ e. running_begins node.kind node.ports row s.moment (out-Memory m).memo (statuses (out-Memory m).children) e own.shape;
+        shape = λ e. own.shape;
+        held = own.held;
+      }
+
   -- a memo that is new, or a bad port
   started_by : (m : Memory) (s : State) (r : Result Memo PortId) → has_rule node.kind ≡ true → IfOk r (λ memo. Begins node.kind node.ports s.moment memo (statuses (out-Memory m).children)) →
       Keeps status.Idle (out-Memory m).memo (out-Memory m).children s → All None (out-Memory m).children s →
       Visited s (follow (ends (or_bad_port uid r) (out-Memory m).children s) (λ ms. remembered status.Running (out-Memory m).memo ms) (λ memo ms s1. ruled here status.Running memo ms s1))
   started_by m s (Ok memo) has begins own all =
-      ruled_leaves status.Running memo (out-Memory m).children s
-      (record { begins = λ e. begins; shape = λ e. absurd (not_both has e); held = own.held ∙ ap Some (sym (rule_free status.Running node.kind has)) }) all
+      ruled_leaves status.Running memo (out-Memory m).children s (ready_new memo m s has begins own) all
   started_by m s (Err port) has begins own all = record {
     sound = on_path F node view uid uid status.Running (out-Memory m).memo (out-Memory m).children s (omega arith) (omega arith)
         (all_move F view.rows node.children (Some uid) (uid + 1) (out-Memory m).children s s all (λ p a b. refl) (omega arith));
@@ -131,22 +156,21 @@ module _ (F : Family) (node : Term-F F.Child) (view : View) (uid : ℕ) where
   as_many_children : (ms : List Memory) (s : State) → All None ms s → length here.node.children ≡ length (statuses ms)
   as_many_children ms s all = length-map node.children F.meaning ∙ sym (as_many_statuses F view node.children (uid + 1) ms s all)
 
+  -- a new memo is one with which the rule can begin
+  pub new_begins : (m : Memory) (s : State) → has_rule node.kind ≡ true → Keeps status.Idle (out-Memory m).memo (out-Memory m).children s → All None (out-Memory m).children s →
+      IfOk (new_memo node.kind here (out-Memory m).memo s) (λ memo. Begins node.kind node.ports s.moment memo (statuses (out-Memory m).children))
+  new_begins m s has own all = starts_begin here (out-Memory m).memo s (statuses (out-Memory m).children) (as_many_children (out-Memory m).children s all) node.kind has own.shape
+
   started_leaves : (m : Memory) (s : State) → starts node.kind (out-Memory m).memo ≡ true → Keeps status.Idle (out-Memory m).memo (out-Memory m).children s → All None (out-Memory m).children s → Visited s (started here m s)
   started_leaves m s begins own all =
       let has : has_rule node.kind ≡ true = starts_with_rule node.kind (out-Memory m).memo begins in
       started_by m s (new_memo node.kind here (out-Memory m).memo s) has
-      (starts_begin here (out-Memory m).memo s (statuses (out-Memory m).children) (as_many_children (out-Memory m).children s all) node.kind has own.shape) own all
+      (new_begins m s has own all) own all
 
   begun_leaves : (b : Bool) (m : Memory) (s : State) → starts node.kind (out-Memory m).memo ≡ b → is_running (status_in m) ≡ false → Whole None m s → Visited s (begun b here m s)
   begun_leaves true m s is rests sound = started_leaves m s is (rests_as_well (status_in m) status.Idle (out-Memory m).memo (out-Memory m).children s rests refl sound.0) sound.1
   begun_leaves false m s is rests sound =
-      ruled_leaves (status_in m) (out-Memory m).memo (out-Memory m).children s
-      (record {
-        begins = λ e. kept_begins node.kind node.ports s.moment (out-Memory m).memo (statuses (out-Memory m).children) e is
-            (resting_shape (status_in m) node.kind node.ports row s.moment (out-Memory m).memo (statuses (out-Memory m).children) rests sound.0.shape);
-        shape = λ e. sound.0.shape;
-        held = sound.0.held;
-      }) sound.1
+      ruled_leaves (status_in m) (out-Memory m).memo (out-Memory m).children s (ready_kept m s is rests sound) sound.1
 
   guarded_leaves : (o : Option Answer) (m : Memory) (s : State) → Rests here o → is_running (status_in m) ≡ false → Whole None m s → Visited s (guarded o here m s)
   guarded_leaves None m s guard rests sound = begun_leaves (starts node.kind (out-Memory m).memo) m s refl rests sound
@@ -168,13 +192,7 @@ module _ (F : Family) (node : Term-F F.Child) (view : View) (uid : ℕ) where
   module _ (halts : (m : Memory) (s : State) → status_in m ≡ status.Running → Whole None m s → Leaves Whole (λ _ m1 s1. status_in m1 ≡ status.Idle) uid size s (halt here m s)) where
     continued_leaves : (b : Bool) (m : Memory) (s : State) → status_in m ≡ status.Running → Whole None m s → Visited s (continued b here m s)
     continued_leaves true m s is sound =
-        let own : Keeps status.Running (out-Memory m).memo (out-Memory m).children s = subst (λ (st : Status). Keeps st (out-Memory m).memo (out-Memory m).children s) is sound.0 in
-        ruled_leaves status.Running (out-Memory m).memo (out-Memory m).children s
-        (record {
-          begins = λ e. running_begins node.kind node.ports row s.moment (out-Memory m).memo (statuses (out-Memory m).children) e own.shape;
-          shape = λ e. own.shape;
-          held = own.held;
-        }) sound.1
+        ruled_leaves status.Running (out-Memory m).memo (out-Memory m).children s (ready_running m s is sound) sound.1
     continued_leaves false m s is sound =
         let d : Done (Unit {0}) Memory = halt here m s in
         follow_leaves {rules = Whole} {fits = λ _ m1 s1. status_in m1 ≡ status.Idle} {rules2 = Whole} {fits2 = Answers F node view uid}
