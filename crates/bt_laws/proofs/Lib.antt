@@ -34,3 +34,4 @@ pub mod Working
 pub mod KindWork
 pub mod VisitWork
 pub mod TermWork
+pub mod Quiet

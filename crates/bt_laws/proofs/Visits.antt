@@ -34,7 +34,7 @@ use Rattle.bt_laws.proofs.NodeRules.{Ready, node_rule_leaves, rests_free, rule_f
 
 -- ---- A node that is not RUNNING
 
-resting_shape : (st : Status) (kind : Kind) (ports : List Port) (row : Option Row) (moment : ℕ) (memo : Memo) (ss : List Status) → is_running st ≡ false → Shape st kind ports row moment memo ss → RestingShape memo kind ss
+pub resting_shape : (st : Status) (kind : Kind) (ports : List Port) (row : Option Row) (moment : ℕ) (memo : Memo) (ss : List Status) → is_running st ≡ false → Shape st kind ports row moment memo ss → RestingShape memo kind ss
 resting_shape status.Running kind ports row moment memo ss rests shape = cc
 resting_shape status.Idle kind ports row moment memo ss rests shape = shape
 resting_shape status.Success kind ports row moment memo ss rests shape = shape

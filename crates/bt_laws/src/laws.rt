@@ -9,8 +9,8 @@ ghost use Rattle.bt_model.specs.declared.world.Event.{Event};
 ghost use Rattle.bt_model.specs.declared.world.Row.{Row};
 ghost use Rattle.bt_model.specs.declared.world.World.{World};
 ghost use Rattle.bt_model.specs.Done.{State};
-ghost use Rattle.bt_model.specs.Run.{RunState, Runner, finish, later, opening, quenched, root_reset, run_over, settled, step, ticked};
-ghost use Rattle.bt_model.specs.Shapes.{AllIdle};
+ghost use Rattle.bt_model.specs.Run.{RunState, Runner, finish, later, opening, quenched, run_over, settled, step, ticked};
+ghost use Rattle.bt_model.specs.Shapes.{AllIdle, is_running};
 ghost use Rattle.bt_model.specs.Sites.{View};
 ghost use Rattle.bt_model.specs.Sound.{Leaves, RunSteady, Sound, begun_calls, held_at, statuses};
 ghost use Rattle.bt_model.specs.Terms.{work_of};
@@ -45,19 +45,14 @@ pub fn a_halt_keeps_the_rules()
         uid (meaning t).size s ((meaning t).reset view uid m s) }
 {}
 
-/// A tick's visit of the root with the root's own end, and a reset of the root, keep them as well, and
-/// leave the root IDLE or RUNNING.
-pub fn the_root_keeps_the_rules()
-    ensures tick { (tree : Tree) (view : View) (runner : ℕ) (m : Memory) (s : State) →
+/// A tick's visit of the root, with the root's own end, keeps them as well, and leaves the root IDLE or
+/// RUNNING. A halt and a finish of a runner reset the root.
+pub fn a_tick_keeps_the_rules()
+    ensures { (tree : Tree) (view : View) (runner : ℕ) (m : Memory) (s : State) →
         Sound tree.term view.rows None 1 m s →
         Leaves (λ fault m1 s1. Sound tree.term view.rows fault 1 m1 s1)
         (λ _ m1 s1. settled (out-Memory m1).status ≡ (out-Memory m1).status)
         1 (meaning tree.term).size s (ticked tree view runner m s) }
-    ensures reset { (tree : Tree) (view : View) (m : Memory) (s : State) →
-        Sound tree.term view.rows None 1 m s →
-        Leaves (λ fault m1 s1. Sound tree.term view.rows fault 1 m1 s1)
-        (λ _ m1 s1. settled (out-Memory m1).status ≡ (out-Memory m1).status)
-        1 (meaning tree.term).size s (root_reset tree view m s) }
 {}
 
 /// A term that is IDLE, with none of its instances held, keeps the rules. So does each runner after a
@@ -89,6 +84,13 @@ pub fn an_event_keeps_the_rules()
 pub fn a_run_keeps_the_rules()
     ensures { (tree : Tree) (world : World) (events : List Event) → IsNonDecreasingBy (λ event. event.at) events →
         RunSteady tree.term world.rows (run_over tree world events).state }
+{}
+
+/// Where the rules hold, no instance is held of a node that is not RUNNING, nor of any below it.
+pub fn what_rests_holds_nothing()
+    ensures { (t : Term) (rows : List Row) (uid : ℕ) (m : Memory) (s : State) →
+        Sound t rows None uid m s → is_running (out-Memory m).status ≡ false →
+        (p : ℕ) → uid ≤ p → p < uid + (meaning t).size → held_at s p ≡ Some false }
 {}
 
 /// A visit of a term whose nodes fit, from a state that keeps the rules, makes at most as many calls of
