@@ -22,7 +22,7 @@ use Rattle.bt_model.specs.Sound.{Leaves, Left, RunSteady, Sound, Steady}
 use Rattle.bt_model.specs.Visit.{meaning, status_of}
 use Rattle.bt_laws.proofs.Parts.{follow_leaves, left_into, within_same}
 use Rattle.bt_laws.proofs.Children.{status_in, status_kept}
-use Rattle.bt_laws.proofs.Runners.{mapped_entry, set_entry}
+use Rattle.bt_laws.proofs.Entries.{mapped_entry, set_entry}
 use Rattle.bt_laws.proofs.Keeping.{term_keeps}
 use Rattle.bt_laws.proofs.Quenches.{quench_steady}
 

@@ -41,17 +41,17 @@ term_keeps = every_term (λ t c rules. Keeps c rules) node_keeps
 -- ---- Halts
 
 -- a reset of a RUNNING term is a halt
-abbrev pub Halts : Term → Meaning → States → Type 0
-Halts t c rules =
+abbrev pub HaltKeeps : Term → Meaning → States → Type 0
+HaltKeeps t c rules =
     (view : View) (uid : ℕ) (m : Memory) (s : State) → rules view.rows None uid m s → status_in m ≡ Running →
     Leaves (λ f m1 s1. rules view.rows f uid m1 s1) (λ _ m1 s1. IsHalted m1) uid c.size s (c.reset view uid m s)
 
-node_halts : (X : Type 0) (term : X → Term) (node : Term-F X) → Halts (above term node) (node_means term node) (states_of_node X term (λ c. Sound (term c)) node)
+node_halts : (X : Type 0) (term : X → Term) (node : Term-F X) → HaltKeeps (above term node) (node_means term node) (states_of_node X term (λ c. Sound (term c)) node)
 node_halts X term node =
     let F : Family = family term (λ c. term_keeps (term c)) in
     λ view uid m s sound is.
     let own : NodeKeeps F node view uid Running (out-Memory m).memo (out-Memory m).children s = subst (λ (st : Status). NodeKeeps F node view uid st (out-Memory m).memo (out-Memory m).children s) is sound.0 in
     subst (λ (st : Status). Leaves (λ f m1 s1. Own F node view uid f m1 s1) (λ _ m1 s1. IsHalted m1) uid (size_here F node view uid) s (reset_by st (site_here F node view uid) m s)) (sym is) (halt_leaves F node view uid m s own sound.1)
 
-pub term_halts : (t : Term) → Halts t (meaning t) (Sound t)
-term_halts = every_term Halts (λ X term halts node. node_halts X term node)
+pub term_halts : (t : Term) → HaltKeeps t (meaning t) (Sound t)
+term_halts = every_term HaltKeeps (λ X term halts node. node_halts X term node)

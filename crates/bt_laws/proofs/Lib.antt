@@ -20,7 +20,7 @@ pub mod Induction
 pub mod Keeping
 pub mod Scripts
 pub mod Quenches
-pub mod Runners
+pub mod Entries
 pub mod Events
 pub mod Runs
 pub mod Spending
