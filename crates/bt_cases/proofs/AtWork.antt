@@ -12,7 +12,7 @@ use Rattle.bt_model.specs.declared.leaf.Phase.TheVariants as phase
 use Rattle.bt_model.specs.declared.leaf.Reply.{Reply}
 use Rattle.bt_model.specs.Leaf.{Answered, Rule, fresh, since_after, start_of}
 use Rattle.bt_model.specs.Drivers.{DriverState, IsThere, after_call, driver_at, instance_at, new_driver, place_of_kind, prepared, roster_answer, roster_called, roster_prepared, same_kind}
-use Rattle.bt_driver.proofs.Keeping.{held_while_running}
+use Rattle.bt_model.proofs.Calls.{held_while_running}
 use Rattle.bt_driver.proofs.Preparing.{length_prepared}
 use Rattle.bt_cases.specs.Stages.{IsAtWork}
 

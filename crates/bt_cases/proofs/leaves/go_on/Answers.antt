@@ -2,7 +2,7 @@ use Rattle.std.proofs.Common.{length, ap, ◌∙◌}
 use Rattle.bt_model.specs.declared.leaf.Phase.TheVariants as phase
 use Rattle.bt_model.specs.Drivers.{instance_at, kind_of_way}
 use Rattle.bt_driver.specs.Rules.{rule}
-use Rattle.bt_driver.proofs.Keeping.{as_many_facts}
+use Rattle.bt_model.proofs.Calls.{as_many_facts}
 use Rattle.bt_cases.proofs.AtWork.{gone_on}
 use Rattle.bt_cases.proofs.leaves.go_on.Goals as goal
 
