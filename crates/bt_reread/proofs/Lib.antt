@@ -1,6 +1,8 @@
 pub mod Depths
 pub mod Elements
 pub mod Marks
+pub mod Openings
+pub mod ReadBack
 pub mod ReadContent
 pub mod ReadHeads
 pub mod ReadNodes

@@ -159,7 +159,14 @@ Read = Result (Option Script) BuildFault
 
 eight : (r1 r2 r3 r4 r5 r6 r7 r8 : Read) (o1 o2 o3 o4 o5 o6 o7 o8 : Option Script) → r1 ≡ Ok o1 → r2 ≡ Ok o2 → r3 ≡ Ok o3 → r4 ≡ Ok o4 → r5 ≡ Ok o5 → r6 ≡ Ok o6 → r7 ≡ Ok o7 → r8 ≡ Ok o8 →
     ◌≡◌ {A = Result Guards BuildFault} (go_on (λ failure_if. go_on (λ success_if. go_on (λ skip_if. go_on (λ while_true. go_on (λ on_success. go_on (λ on_failure. go_on (λ post. go_on (λ on_halted. Ok (record {
-      failure_if = failure_if; success_if = success_if; skip_if = skip_if; while_true = while_true; on_success = on_success; on_failure = on_failure; post = post; on_halted = on_halted;
+      failure_if = failure_if;
+      success_if = success_if;
+      skip_if = skip_if;
+      while_true = while_true;
+      on_success = on_success;
+      on_failure = on_failure;
+      post = post;
+      on_halted = on_halted;
     })) r8) r7) r6) r5) r4) r3) r2) r1)
     (Ok (record { failure_if = o1; success_if = o2; skip_if = o3; while_true = o4; on_success = o5; on_failure = o6; post = o7; on_halted = o8 }))
 eight r1 r2 r3 r4 r5 r6 r7 r8 o1 o2 o3 o4 o5 o6 o7 o8 h1 h2 h3 h4 h5 h6 h7 h8 = rw (h1, h2, h3, h4, h5, h6, h7, h8) refl
