@@ -6,26 +6,25 @@ use Rattle.std.specs.List.{flat_map, list_all, list_any}
 use Rattle.std.proofs.lemmas.Bool.Decides.{same_from_decides}
 use Rattle.std.specs.Char.{is_ascii_digit}
 use Rattle.std.specs.Prelude.{◌==◌, nat_eq, nat_le, slice_index}
-use Rattle.std.proofs.lemmas.Str.{is_utf8-from_IsUtf8}
 use Rattle.bt_reread.proofs.Values.{and_true}
-use Rattle.bt_reread.proofs.Utf8.{is_low, utf8_low}
+use Rattle.bt_elements.proofs.Ascii.{literal, literal_value}
 use Rattle.std.specs.Str.{bytes_eq, is_utf8}
 use Rattle.bt_script.proofs.Bools.{both}
 use Rattle.bt_script.specs.Identifiers.{is_identifier, is_identifier_start, is_identifier_continue}
+use Rattle.bt_script.specs.Texts.{name_stands, value_stands}
 use Rattle.bt_script.specs.declared.syntax.Script.{Script}
 use Rattle.bt_elements.specs.Marks.{is_name, is_name_first, is_name_rest, is_not_zero, no_name_twice}
+use Rattle.bt_elements.specs.Written.{can_stand}
 use Rattle.bt_model.specs.BuiltIns.{kind_among, kind_named, named_kinds, PortRule, has_code}
 use Rattle.bt_model.specs.Names.{is_among, is_reserved}
 use Rattle.bt_model.specs.PrintedTree.{Attribute, attribute_if, element_name, guard_attributes, is_compact, node_attributes, port_attribute, port_text, script_attribute}
-use Rattle.bt_model.specs.Trees.{CodeFits, IdFits, is_one_of, names_of, ports_fit}
+use Rattle.bt_model.specs.Trees.{CodeFits, IdFits, all_differ, guards_stand, is_one_of, names_of, port_stands, ports_fit, script_stands}
 use Rattle.bt_model.specs.Values.{is_port_name}
 use Rattle.bt_model.specs.declared.term.Guards.{Guards}
 use Rattle.bt_model.specs.declared.term.Kind.{Kind}
 use Rattle.bt_model.specs.declared.term.Kind.TheVariants.{Leaf, ScriptCondition, ScriptNode, SubTree}
 use Rattle.bt_model.specs.declared.term.Port.{Port}
 use Rattle.bt_model.specs.declared.term.Term.{Term-F}
-use Rattle.bt_reread.specs.Printed.{can_stand, name_stands, value_stands}
-use Rattle.bt_reread.specs.Texts.{guards_stand, port_stands, script_stands}
 
 -- ---- Names of elements
 
@@ -41,13 +40,6 @@ rest_true false false false x y z h = absurd (cc)
 identifier_rest : (c : ℕ) → is_identifier_continue c ≡ true → is_name_rest c ≡ true
 identifier_rest c h = rest_true (is_identifier_start c) (nat_le 128 c) (is_ascii_digit c) (c == 45) (c == 46) (c == 58) h
 
--- a name and a value in ASCII
-pub literal : (name : List ℕ) → is_name name ≡ true → list_all is_low name ≡ true → name_stands name ≡ true
-literal name is low = and_true (is_name name) (is_utf8 name) is (is_utf8-from_IsUtf8 name (utf8_low name low))
-
-pub literal_value : (value : List ℕ) → list_all is_not_zero value ≡ true → list_all is_low value ≡ true → value_stands value ≡ true
-literal_value value some low = and_true (list_all is_not_zero value) (is_utf8 value) some (is_utf8-from_IsUtf8 value (utf8_low value low))
-
 identifier_all : (cs : List ℕ) → list_all is_identifier_continue cs ≡ true → list_all is_name_rest cs ≡ true
 identifier_all [] h = refl
 identifier_all (c ∷ cs) h =
@@ -62,21 +54,22 @@ identifier_is_name (c ∷ cs) h =
     and_true (is_name_first c) (list_all is_name_rest (c ∷ cs)) (identifier_start c t.0) (identifier_all (c ∷ cs) t.1)
 
 either_name :
-    (is : Bool) (known : List ℕ) (k : Kind) (more : Option Kind) (id : List ℕ) (kind : Kind) → bytes_eq id known ≡ is → (if is then Some k else more) ≡ Some kind → is_name known ≡ true →
-    (more ≡ Some kind → is_name id ≡ true) → is_name id ≡ true
-either_name true known k more id kind same h named others = subst (λ (z : List ℕ). is_name z ≡ true) (sym ((bytes_eq-Decides id known).0 same)) named
-either_name false known k more id kind same h named others = others h
+    (p : List ℕ → Bool) (is : Bool) (known : List ℕ) (k : Kind) (more : Option Kind) (id : List ℕ) (kind : Kind) → bytes_eq id known ≡ is → (if is then Some k else more) ≡ Some kind →
+    p known ≡ true → (more ≡ Some kind → p id ≡ true) → p id ≡ true
+either_name p true known k more id kind same h named others = subst (λ (z : List ℕ). p z ≡ true) (sym ((bytes_eq-Decides id known).0 same)) named
+either_name p false known k more id kind same h named others = others h
 
-named_by : (rows : List (List ℕ × Kind)) (id : List ℕ) (kind : Kind) → kind_among rows id ≡ Some kind → list_all (λ (row : List ℕ × Kind). is_name row.0) rows ≡ true → is_name id ≡ true
-named_by [] id kind h all = absurd (cc)
-named_by (row ∷ rows) id kind h all =
-    let t = both (is_name row.0) (list_all (λ (r : List ℕ × Kind). is_name r.0) rows) all in
-    either_name (bytes_eq id row.0) row.0 row.1 (kind_among rows id) id kind refl h t.0 (λ more. named_by rows id kind more t.1)
+-- what holds of each name in a table of kinds holds of one that is found there
+pub named_by : (p : List ℕ → Bool) (rows : List (List ℕ × Kind)) (id : List ℕ) (kind : Kind) → kind_among rows id ≡ Some kind → list_all (λ (row : List ℕ × Kind). p row.0) rows ≡ true → p id ≡ true
+named_by p [] id kind h all = absurd (cc)
+named_by p (row ∷ rows) id kind h all =
+    let t = both (p row.0) (list_all (λ (r : List ℕ × Kind). p r.0) rows) all in
+    either_name p (bytes_eq id row.0) row.0 row.1 (kind_among rows id) id kind refl h t.0 (λ more. named_by p rows id kind more t.1)
 
 -- a built-in node's name is one
 built_in_name : (id : List ℕ) (kind : Kind) → kind_named id ≡ Some kind → is_name id ≡ true
 unfolding named_kinds
-built_in_name id kind h = named_by named_kinds id kind h refl
+built_in_name id kind h = named_by is_name named_kinds id kind h refl
 
 name_of_value : (id : List ℕ) → is_name id ≡ true → value_stands id ≡ true → name_stands id ≡ true
 name_of_value id is stands = and_true (is_name id) (is_utf8 id) is ((both (list_all is_not_zero id) (is_utf8 id) stands).1)
@@ -113,10 +106,10 @@ two_stand xs ys p q = list_all-append can_stand xs ys ∙ and_true (list_all can
 
 -- ---- The guards
 
-abbrev Row : Type 0
+abbrev pub Row : Type 0
 Row = List ℕ × Option Script
 
-abbrev rows_of : Guards → List Row
+abbrev pub rows_of : Guards → List Row
 rows_of g =
     (codes "_failureIf", g.failure_if)
     ∷ (codes "_successIf", g.success_if)
@@ -128,13 +121,13 @@ rows_of g =
     ∷ (codes "_onHalted", g.on_halted)
     ∷ []
 
-abbrev written_rows : List Row → List Attribute
+abbrev pub written_rows : List Row → List Attribute
 written_rows rows = flat_map (λ (r : Row). script_attribute r.0 r.1) rows
 
 eight : (a b c d e f g h : List Attribute) → a ++ b ++ c ++ d ++ e ++ f ++ g ++ h ≡ a ++ (b ++ (c ++ (d ++ (e ++ (f ++ (g ++ (h ++ [])))))))
 eight a b c d e f g h = simp (append_assoc, append-nil)
 
-guards_are_rows : (g : Guards) → guard_attributes g ≡ written_rows (rows_of g)
+pub guards_are_rows : (g : Guards) → guard_attributes g ≡ written_rows (rows_of g)
 guards_are_rows g =
     eight (script_attribute (codes "_failureIf") g.failure_if) (script_attribute (codes "_successIf") g.success_if) (script_attribute (codes "_skipIf") g.skip_if)
     (script_attribute (codes "_while") g.while_true) (script_attribute (codes "_onSuccess") g.on_success) (script_attribute (codes "_onFailure") g.on_failure)
@@ -211,7 +204,7 @@ to_not false h = refl
 abbrev has_name : List ℕ → List Attribute → Bool
 has_name n xs = list_any (λ (b : Attribute). bytes_eq b.0 n) xs
 
-all_both : (p : List ℕ → Bool) (xs ys : List Attribute) → list_all (λ (a : Attribute). p a.0) xs ≡ true → list_all (λ (a : Attribute). p a.0) ys ≡ true → list_all (λ (a : Attribute). p a.0) (xs ++ ys) ≡ true
+pub all_both : (p : List ℕ → Bool) (xs ys : List Attribute) → list_all (λ (a : Attribute). p a.0) xs ≡ true → list_all (λ (a : Attribute). p a.0) ys ≡ true → list_all (λ (a : Attribute). p a.0) (xs ++ ys) ≡ true
 all_both p xs ys h k =
     list_all-append (λ (a : Attribute). p a.0) xs ys ∙ and_true (list_all (λ (a : Attribute). p a.0) xs) (list_all (λ (a : Attribute). p a.0) ys) h k
 
@@ -248,12 +241,7 @@ if_all : (p : List ℕ → Bool) (is : Bool) (name value : List ℕ) → p name 
 if_all p true name value h = and_true (p name) true h refl
 if_all p false name value h = refl
 
--- whether no name stands twice
-abbrev all_differ : List (List ℕ) → Bool
-all_differ [] = true
-all_differ (name ∷ names) = not (is_among name names) && all_differ names
-
-abbrev row_names : List Row → List (List ℕ)
+abbrev pub row_names : List Row → List (List ℕ)
 row_names rows = map (λ (r : Row). r.0) rows
 
 rows_named : (n : List ℕ) (rows : List Row) → is_among n (row_names rows) ≡ false → has_name n (written_rows rows) ≡ false
@@ -273,7 +261,7 @@ rows_single ((m, Some script) ∷ rows) h =
     and_true (not (has_name m (written_rows rows))) (no_name_twice (written_rows rows))
     (to_not (has_name m (written_rows rows)) (rows_named m rows (not_true (is_among m (row_names rows)) t.0))) (rows_single rows t.1)
 
-rows_all : (p : List ℕ → Bool) (rows : List Row) → list_all (λ (r : Row). p r.0) rows ≡ true → list_all (λ (a : Attribute). p a.0) (written_rows rows) ≡ true
+pub rows_all : (p : List ℕ → Bool) (rows : List Row) → list_all (λ (r : Row). p r.0) rows ≡ true → list_all (λ (a : Attribute). p a.0) (written_rows rows) ≡ true
 rows_all p [] h = refl
 rows_all p ((m, None) ∷ rows) h = rows_all p rows ((both (p m) (list_all (λ (r : Row). p r.0) rows) h).1)
 rows_all p ((m, Some script) ∷ rows) h =
@@ -282,10 +270,10 @@ rows_all p ((m, Some script) ∷ rows) h =
 
 -- ---- The names of ports
 
-abbrev port_named : Port → Bool
+abbrev pub port_named : Port → Bool
 port_named port = is_port_name port.name
 
-ports_have_names : (ports : List Port) → list_all port_stands ports ≡ true → list_all port_named ports ≡ true
+pub ports_have_names : (ports : List Port) → list_all port_stands ports ≡ true → list_all port_named ports ≡ true
 ports_have_names [] h = refl
 ports_have_names (port ∷ ports) h =
     let t = both (port_stands port) (list_all port_stands ports) h in
@@ -295,9 +283,22 @@ ports_have_names (port ∷ ports) h =
 first_of_two : (a b : Bool) → (a && b) ≡ true → a ≡ true
 first_of_two a b h = (both a b h).0
 
+port_named_so : (n : List ℕ) (ports : List Port) → is_among n (names_of ports) ≡ false → has_name n (map port_attribute ports) ≡ false
+port_named_so n [] h = refl
+port_named_so n (port ∷ ports) h =
+    let t = neither (bytes_eq n port.name) (is_among n (names_of ports)) h in
+    or_false (bytes_eq port.name n) (has_name n (map port_attribute ports)) (same_either_way port.name n ∙ t.0) (port_named_so n ports t.1)
+
+ports_single : (ports : List Port) → all_differ (names_of ports) ≡ true → no_name_twice (map port_attribute ports) ≡ true
+ports_single [] h = refl
+ports_single (port ∷ ports) h =
+    let t = both (not (is_among port.name (names_of ports))) (all_differ (names_of ports)) h in
+    and_true (not (has_name port.name (map port_attribute ports))) (no_name_twice (map port_attribute ports))
+    (to_not (has_name port.name (map port_attribute ports)) (port_named_so port.name ports (not_true (is_among port.name (names_of ports)) t.0))) (ports_single ports t.1)
+
 -- ---- The mark of a node
 
-no_ports : (ports : List Port) → list_all (is_one_of []) ports ≡ true → ports ≡ []
+pub no_ports : (ports : List Port) → list_all (is_one_of []) ports ≡ true → ports ≡ []
 no_ports [] h = refl
 no_ports (port ∷ ports) h = absurd (cc)
 
@@ -310,13 +311,13 @@ ports_or_code ScriptCondition ports code h c =
 ports_or_code kind ports None h c = inl refl
 ports_or_code kind ports (Some script) h c = absurd c
 
-ports_all : (p : List ℕ → Bool) (ports : List Port) → ((n : List ℕ) → is_port_name n ≡ true → p n ≡ true) → list_all port_named ports ≡ true → list_all (λ (a : Attribute). p a.0) (map port_attribute ports) ≡ true
+pub ports_all : (p : List ℕ → Bool) (ports : List Port) → ((n : List ℕ) → is_port_name n ≡ true → p n ≡ true) → list_all port_named ports ≡ true → list_all (λ (a : Attribute). p a.0) (map port_attribute ports) ≡ true
 ports_all p [] f h = refl
 ports_all p (port ∷ ports) f h =
     let t = both (port_named port) (list_all port_named ports) h in
     and_true (p port.name) (list_all (λ (a : Attribute). p a.0) (map port_attribute ports)) (f port.name t.0) (ports_all p ports f t.1)
 
-script_all : (p : List ℕ → Bool) (name : List ℕ) (script : Option Script) → p name ≡ true → list_all (λ (a : Attribute). p a.0) (script_attribute name script) ≡ true
+pub script_all : (p : List ℕ → Bool) (name : List ℕ) (script : Option Script) → p name ≡ true → list_all (λ (a : Attribute). p a.0) (script_attribute name script) ≡ true
 script_all p name None h = refl
 script_all p name (Some script) h = and_true (p name) true h refl
 
@@ -342,10 +343,10 @@ guard_by false false true false h = absurd (cc)
 port_is_no_guard : (n : List ℕ) → is_port_name n ≡ true → no_guard n ≡ true
 port_is_no_guard n h = guard_by (bytes_eq n (codes "name")) (bytes_eq n (codes "ID")) (nat_eq (slice_index n 0) 95) (bytes_eq n (codes "_autoremap")) h
 
-abbrev head_of : Bool → Bool → Bool → List ℕ → List ℕ → List Attribute
+abbrev pub head_of : Bool → Bool → Bool → List ℕ → List ℕ → List Attribute
 head_of i n a id name = attribute_if i (codes "ID") id ++ attribute_if n (codes "name") name ++ attribute_if a (codes "_autoremap") (codes "true")
 
-head_all : (p : List ℕ → Bool) (i n a : Bool) (id name : List ℕ) → p (codes "ID") ≡ true → p (codes "name") ≡ true → p (codes "_autoremap") ≡ true → list_all (λ (x : Attribute). p x.0) (head_of i n a id name) ≡ true
+pub head_all : (p : List ℕ → Bool) (i n a : Bool) (id name : List ℕ) → p (codes "ID") ≡ true → p (codes "name") ≡ true → p (codes "_autoremap") ≡ true → list_all (λ (x : Attribute). p x.0) (head_of i n a id name) ≡ true
 head_all p i n a id name h k l =
     all_both p (attribute_if i (codes "ID") id ++ attribute_if n (codes "name") name) (attribute_if a (codes "_autoremap") (codes "true"))
     (all_both p (attribute_if i (codes "ID") id) (attribute_if n (codes "name") name) (if_all p i (codes "ID") id h) (if_all p n (codes "name") name k))
@@ -379,15 +380,15 @@ coded_single head ports code single all (inr none) =
     (script_all (λ (m : List ℕ). not (p m)) (codes "code") code refl))
 
 -- no attribute stands twice in the mark of a node that fits
-pub node_single : {X : Type 0} (node : Term-F X) → ports_fit node.kind node.ports ≡ true → list_all port_stands node.ports ≡ true → CodeFits (has_code node.kind) node.code → no_name_twice (map port_attribute node.ports) ≡ true → no_name_twice (node_attributes node) ≡ true
-node_single node fits stand code alone =
+pub node_single : {X : Type 0} (node : Term-F X) → ports_fit node.kind node.ports ≡ true → list_all port_stands node.ports ≡ true → CodeFits (has_code node.kind) node.code → all_differ (names_of node.ports) ≡ true → no_name_twice (node_attributes node) ≡ true
+node_single node fits stand code apart =
     let i = not (is_compact node.kind node.id) in
     let n = not (bytes_eq node.name node.id) in
     let head = head_of i n node.autoremap node.id node.name in
     let ports = map port_attribute node.ports in
     let named = ports_have_names node.ports stand in
     let no_port = λ (m : List ℕ). not (is_port_name m) in
-    let front = twice_by no_port head ports (head_single i n node.autoremap node.id node.name) alone
+    let front = twice_by no_port head ports (head_single i n node.autoremap node.id node.name) (ports_single node.ports apart)
     (head_all no_port i n node.autoremap node.id node.name refl refl refl) (ports_all (λ (m : List ℕ). not (no_port m)) node.ports (λ m h. twice_not (is_port_name m) h) named) in
     let coded = coded_single head node.ports node.code front (head_all (λ (m : List ℕ). not (bytes_eq m (codes "code"))) i n node.autoremap node.id node.name refl refl refl)
     (ports_or_code node.kind node.ports node.code fits code) in
@@ -407,7 +408,7 @@ node_stands node id name ports code guards =
     let c = attribute_if node.autoremap (codes "_autoremap") (codes "true") in
     let d = map port_attribute node.ports in
     let e = script_attribute (codes "code") node.code in
-    let truth = and_true (list_all is_not_zero (codes "true")) (is_utf8 (codes "true")) refl (is_utf8-from_IsUtf8 (codes "true") (utf8_low (codes "true") refl)) in
+    let truth = literal_value (codes "true") refl refl in
     two_stand (a ++ b ++ c ++ d ++ e) (guard_attributes node.guards)
     (two_stand (a ++ b ++ c ++ d) e
     (two_stand (a ++ b ++ c) d

@@ -1,3 +1,3 @@
+pub mod Openings
 pub mod Printed
-pub mod Texts
 pub mod TreeElements
