@@ -17,12 +17,15 @@ use Rattle.bt_model.specs.declared.term.Tree.{Tree}
 use Rattle.bt_model.specs.declared.world.World.{World}
 use Rattle.bt_model.specs.Boards.{Scope, Standing, children_scope, children_scope_number, given, is_named, keys_named, makes_scope, scope_below, scope_of, scripts_of, standing_all, standing_from}
 use Rattle.bt_model.specs.Drivers.{DriverState}
+use Rattle.bt_model.specs.Sites.{View}
 use Rattle.bt_model.specs.Terms.{leaf_ids, node_count, own_leaf_id}
 use Rattle.bt_model.specs.Trees.{CodeFits, Node as TreeNode, NodeFits, ScriptFits, nodes_of, nodes_step}
 use Rattle.bt_board.proofs.Standings.{standing_count, standing_here, standing_out}
+use Rattle.bt_arena.specs.declared.nodes.ReadyLeaf.{ReadyLeaf}
 use Rattle.bt_arena.specs.declared.join_fault.JoinFault.{JoinFault}
 use Rattle.bt_arena.specs.Joins.{first_lack, leaf_lacks}
-use Rattle.bt_arena.specs.Laying.{CanBeLaid, StandsIn}
+use Rattle.bt_arena.specs.Laying.{CanBeLaid, LeafIs, StandsIn}
+use Rattle.bt_arena.specs.Nodes.{IsFit, LeafStands}
 use Rattle.bt_arena.specs.Resolving.{AreNamed, GuardsAreNamed, names_if_there, names_in_script, port_keys}
 use Rattle.bt_arena.specs.Stands.{written}
 use Rattle.bt_arena.proofs.Parts.{All-left, All-right, each_left, each_right}
@@ -78,6 +81,14 @@ code_fits true None fits = tt
 code_fits true (Some script) fits = fits
 code_fits false None fits = tt
 code_fits false (Some script) fits = absurd fits
+
+pub leaf_opened : (view : View) (node : TreeNode) (leaf : Option ReadyLeaf) → LeafIs view node leaf → LeafStands view node leaf
+unfolding LeafIs
+leaf_opened view node leaf is = is
+
+pub fit_closed : (node : TreeNode) → NodeFits node → IsFit node
+unfolding IsFit
+fit_closed node fits = fits
 
 -- ---- what is asked of the parts
 

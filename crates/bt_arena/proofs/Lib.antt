@@ -2,6 +2,7 @@ pub mod Agreeing
 pub mod Compilable
 pub mod Compiled
 pub mod Called
+pub mod Follows
 pub mod Framed
 pub mod Indexed
 pub mod Joined

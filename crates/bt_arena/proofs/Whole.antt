@@ -86,7 +86,7 @@ module _ (tree : Tree) (world : World) (drivers : List DriverState) where
 
   own_counted : (number : ℕ) (node : TreeNode) (leaf : Option ReadyLeaf) (next : List ℕ) → LeafStands (view_in tree world number) node leaf → IsNext drivers next leaf
       → counted_all world drivers (own_leaf_id node.kind node.id) next ≡ counted_at (driver_of leaf) next
-  unfolding LeafStands IsNext
+  unfolding IsNext
   own_counted number node None next stands is = ap (λ (ids : List (List ℕ)). counted_all world drivers ids next) (no_leaf node.kind node.id stands)
   own_counted number node (Some leaf) next stands is =
       ap (λ (kind : Kind). counted_all world drivers (own_leaf_id kind node.id) next) stands.0
@@ -162,7 +162,7 @@ module _ (tree : Tree) (world : World) (drivers : List DriverState) where
         (static_all (out-Term t).children mid whole (view_in tree world (children_scope_number (out-Term t).kind (length old) number)) (length old + 1) same_below at_mid)
 
     sized_is : IsNode view (written (out-Term t)) (length mid - length old) sized
-    sized_is = record { kind = is_node.kind; size = refl; children = is_node.children; code = is_node.code; guards = is_node.guards; ports = is_node.ports; slots = is_node.slots; leaf = is_node.leaf }
+    sized_is = record { kind = is_node.kind; size = refl; children = is_node.children; code = is_node.code; guards = is_node.guards; ports = is_node.ports; slots = is_node.slots; leaf = is_node.leaf; fit = is_node.fit }
 
     term_stands : Stands t whole view (length old)
     term_stands = closed t whole view (length old) (

@@ -15,7 +15,7 @@ use Rattle.bt_driver.specs.Rules.{rule}
 use Rattle.bt_arena.specs.declared.nodes.Node.{Node}
 use Rattle.bt_arena.specs.declared.nodes.ReadyLeaf.{ReadyLeaf}
 use Rattle.bt_arena.specs.Joins.{first_lack, place_by}
-use Rattle.bt_arena.specs.Nodes.{AreCompiled, IsCompiled}
+use Rattle.bt_arena.specs.Nodes.{AreCompiled, IsCompiled, LeafStands}
 use Rattle.bt_arena.specs.Resolving.{AreNamed, GuardsAreNamed, names_if_there, port_keys, view_in}
 use Rattle.bt_arena.specs.Rows.{counted_at}
 use Rattle.bt_arena.specs.Sources.{IsSourceOf, source_at}
@@ -54,6 +54,10 @@ pub record IsBareNode (view : View) (written : TreeNode) (node : Node) : Type 0 
   pub guards : AreCompiled view written.guards node.guards
   pub ports : node.ports ≡ map (λ (port : PortRule). source_at view written.ports port.name) (ports_of written.kind)
   pub slots : All (IsSourceOf (length view.slots)) node.ports
+
+-- what is asked of a node's leaf
+unfoldable pub LeafIs : View → TreeNode → Option ReadyLeaf → Type 0
+LeafIs view node leaf = LeafStands view node leaf
 
 -- ---- Instances
 

@@ -8,7 +8,7 @@ ghost use Rattle.bt_model.specs.Trees.{GuardsFit, ScriptFits};
 ghost use Rattle.bt_model.specs.Worlds.{IsValidWorld};
 ghost use Rattle.bt_arena.specs.Joins.{first_lack};
 ghost use Rattle.bt_arena.specs.Laying.{AreLaid, CanBeLaid, IsBareNode, IsNext, driver_of};
-ghost use Rattle.bt_arena.specs.Nodes.{IsNode, node_at};
+ghost use Rattle.bt_arena.specs.Nodes.{IsFit, IsNode, node_at};
 ghost use Rattle.bt_arena.specs.Resolving.{AreNamed, GuardsAreNamed, names_if_there, port_keys, view_in};
 ghost use Rattle.bt_arena.specs.Rows.{Finds, counted_at};
 ghost use Rattle.bt_arena.specs.Stands.{written};
@@ -75,6 +75,7 @@ fn node_of<D: Drivers>(
     drivers: &D,
     next: &mut [u32],
 ) -> Result<Node, NoMemory>
+    requires fit { IsFit (written (out-Term term.now)) }
     requires code_fits { ScriptFits (out-Term term.now).code }
     requires guards_fit { GuardsFit (out-Term term.now).guards }
     requires code { AreNamed setting.now.tree.now scope (names_if_there (out-Term term.now).code) }

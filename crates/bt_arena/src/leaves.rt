@@ -8,8 +8,8 @@ ghost use Rattle.bt_model.specs.Worlds.{IsValidWorld};
 ghost use Rattle.bt_driver.specs.Places.{CanBeReady};
 ghost use Rattle.bt_driver.specs.Rules.{rule};
 ghost use Rattle.bt_arena.specs.Joins.{first_lack};
-ghost use Rattle.bt_arena.specs.Laying.{IsNext, driver_of};
-ghost use Rattle.bt_arena.specs.Nodes.{IsLeafOf, LeafStands};
+ghost use Rattle.bt_arena.specs.Laying.{IsNext, LeafIs, driver_of};
+ghost use Rattle.bt_arena.specs.Nodes.{IsLeafOf};
 ghost use Rattle.bt_arena.specs.Resolving.{AreNamed, port_keys, view_in};
 ghost use Rattle.bt_arena.specs.Rows.{Finds, counted_at};
 ghost use Rattle.bt_arena.specs.Stands.{written};
@@ -69,7 +69,7 @@ fn leaf_with(
 
 /// What a node has that is a leaf: its driver is the first of its row's kind, and its instance the next
 /// one there.
-#[tactic(auto, unfolding(crate::specs::Nodes::LeafStands, crate::specs::Laying::IsNext))]
+#[tactic(auto, unfolding(crate::specs::Laying::LeafIs, crate::specs::Laying::IsNext))]
 pub(crate) fn leaf_of<D: Drivers>(
     alloc: Global,
     node: &Term,
@@ -83,7 +83,7 @@ pub(crate) fn leaf_of<D: Drivers>(
     requires world { IsValidWorld setting.now.world.now }
     requires found { Finds setting.now.world.now.rows (get bytes_eq setting.now.rows.now) }
     requires places { length next.old ≡ length (D.states drivers.now) }
-    ensures stands { IfOk result (λ leaf. LeafStands (view_in setting.now.tree.now setting.now.world.now scope) (written (out-Term node.now)) leaf) }
+    ensures stands { IfOk result (λ leaf. LeafIs (view_in setting.now.tree.now setting.now.world.now scope) (written (out-Term node.now)) leaf) }
     ensures is_next { IfOk result (λ leaf. IsNext (D.states drivers.now) next.old leaf) }
     ensures next { IfOk result (λ leaf. next.new ≡ counted_at (driver_of leaf) next.old) }
 {

@@ -8,7 +8,7 @@ use Rattle.bt_model.specs.Boards.{children_scope_number}
 use Rattle.bt_model.specs.Terms.{node_count}
 use Rattle.bt_arena.specs.declared.nodes.Node.{Node}
 use Rattle.bt_arena.specs.Laying.{AreLaid, CanBeLaid, driver_of}
-use Rattle.bt_arena.proofs.Laid.{can_as, can_below, can_first, can_rest, code_fits, code_named_here, counts_below, counts_within, fits_here, guards_named_here, joined_here, ports_named_here, terms_here}
+use Rattle.bt_arena.proofs.Laid.{can_as, can_below, can_first, can_rest, code_fits, code_named_here, counts_below, counts_within, fit_closed, fits_here, guards_named_here, joined_here, ports_named_here, terms_here}
 use Rattle.bt_arena.proofs.Whole.{laid_length, laid_more, next_length, nothing_laid, term_laid}
 use Rattle.bt_arena.proofs.laying.+laying.Goals as goal
 
@@ -20,6 +20,7 @@ lay_term-node_of-requires g t c =
     let uid = length c.args.nodes.now.items in
     let fits = fits_here tree world drivers c.args.term.now uid c.args.scope c.requires.can in
     record {
+      fit = fit_closed _ fits;
       code_fits = code_fits (has_code (out-Term c.args.term.now).kind) (out-Term c.args.term.now).code fits.code;
       guards_fit = fits.guards;
       code = code_named_here tree world drivers c.args.term.now uid c.args.scope c.requires.can;
