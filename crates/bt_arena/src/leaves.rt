@@ -24,7 +24,7 @@ use bt_script::{Items, NoMemory};
 use std::alloc::Global;
 
 /// Takes the next instance of the driver at this place. There is no memory for 2^32 leaves.
-fn next_instance(next: &mut [u32], place: usize) -> Result<u32, NoMemory>
+pub(crate) fn next_instance(next: &mut [u32], place: usize) -> Result<u32, NoMemory>
     requires { place < length next.old }
     ensures instance { IfOk result (λ instance. instance ≡ slice_index_or next.old place 0) }
     ensures next { IfOk result (λ _. next.new ≡ slice_set next.old place (slice_index_or next.old place 0 + 1)) }
