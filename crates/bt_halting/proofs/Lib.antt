@@ -1,4 +1,5 @@
-pub mod Called
 pub mod Children
 pub mod Follows
+pub mod Letting
+pub mod Marks
 pub mod Memories

@@ -9,64 +9,15 @@ use Rattle.bt_model.specs.Visit.{meaning, meaning_of_node}
 use Rattle.bt_arena.specs.declared.nodes.Kept.{Kept}
 use Rattle.bt_arena.specs.declared.nodes.Node.{Node}
 use Rattle.bt_arena.specs.Nodes.{at_rest, kept_at}
-use Rattle.bt_arena.specs.Stands.{Beside, Reading, StandAll, Stands, memories, memories_of, memory_of, reading, reading_of_node}
-use Rattle.bt_arena.proofs.Opened.{memory_out, size_out}
-
--- ---- Sizes
-
--- the size of a term as its memory is read
-abbrev IsRead : Term → Type 0
-IsRead t = (reading t).size ≡ (meaning t).size
-
-all_read : (ts : List ((t : Term) × IsRead t)) → sum_by (λ (c : Reading). c.size) (map reading (map (λ e. e.0) ts)) ≡ sizes (map meaning (map (λ e. e.0) ts))
-all_read [] = refl
-all_read (e ∷ ts) = omega (arith, e.1, all_read ts, sum_by-cons (λ (c : Reading). c.size) (reading e.0) (map reading (map (λ x. x.0) ts)), sum_by-cons (λ (c : Meaning). c.size) (meaning e.0) (map meaning (map (λ x. x.0) ts)))
-
-pub size_is_read : (t : Term) → (reading t).size ≡ (meaning t).size
-size_is_read = ind-Term IsRead (λ x y is.
-    let children = subst (λ (z : Term-F Term). sum_by (λ (c : Reading). c.size) (map reading z.children) ≡ sizes (map meaning z.children)) is (all_read y.children) in
-    ap (λ (r : Reading). r.size) (fold-roll-Term Reading reading_of_node x) ∙ omega (arith, children) ∙ sym (ap (λ (m : Meaning). m.size) (fold-roll-Term Meaning meaning_of_node x)))
-
--- ---- What other nodes keep
-
--- the nodes of this span keep the same
-abbrev pub SameWithin : ℕ → ℕ → List Kept → List Kept → Type 0
-SameWithin uid size before after = (p : ℕ) → uid ≤ p → p < uid + size → kept_at after p ≡ kept_at before p
-
-abbrev MemoryStays : Term → Type 0
-MemoryStays t = (uid : ℕ) (before after : List Kept) → SameWithin uid (meaning t).size before after → memory_of t uid after ≡ memory_of t uid before
-
-all_stay : (ts : List ((t : Term) × MemoryStays t)) (uid : ℕ) (before after : List Kept) → SameWithin uid (sizes (map meaning (map (λ e. e.0) ts))) before after → memories_of (map (λ e. e.0) ts) uid after ≡ memories_of (map (λ e. e.0) ts) uid before
-all_stay [] uid before after same = refl
-all_stay (e ∷ ts) uid before after same =
-    let more : sizes (map meaning (map (λ x. x.0) (e ∷ ts))) ≡ (meaning e.0).size + sizes (map meaning (map (λ x. x.0) ts)) = sum_by-cons (λ (c : Meaning). c.size) (meaning e.0) (map meaning (map (λ x. x.0) ts)) in
-    let size : (reading e.0).size ≡ (meaning e.0).size = size_is_read e.0 in
-    λ i. e.1 uid before after (λ p low high. same p low (omega (arith, more, high))) i ∷ all_stay ts (uid + (reading e.0).size) before after (λ p low high. same p (omega (arith, low)) (omega (arith, more, size, high))) i
-
--- the memory of a term, where its nodes keep the same
-pub memory_stays : (t : Term) (uid : ℕ) (before after : List Kept) → SameWithin uid (meaning t).size before after → memory_of t uid after ≡ memory_of t uid before
-memory_stays = ind-Term MemoryStays (λ x y is uid before after same.
-    let size : (meaning (roll-Term x)).size ≡ 1 + sizes (map meaning x.children) = ap (λ (m : Meaning). m.size) (fold-roll-Term Meaning meaning_of_node x) in
-    let children : SameWithin (uid + 1) (sizes (map meaning x.children)) before after → memories_of x.children (uid + 1) after ≡ memories_of x.children (uid + 1) before =
-        subst (λ (z : Term-F Term). SameWithin (uid + 1) (sizes (map meaning z.children)) before after → memories_of z.children (uid + 1) after ≡ memories_of z.children (uid + 1) before) is (all_stay y.children (uid + 1) before after) in
-    ap (λ (r : Reading). r.memory uid after) (fold-roll-Term Reading reading_of_node x)
-    ∙ ap (λ (k : Kept). remembered k.status k.memo (memories_of x.children (uid + 1) after)) (same uid (omega arith) (omega (arith, size)))
-    ∙ ap (λ (ms : List Memory). remembered (kept_at before uid).status (kept_at before uid).memo ms) (children (λ p low high. same p (omega (arith, low)) (omega (arith, size, high))))
-    ∙ sym (ap (λ (r : Reading). r.memory uid before) (fold-roll-Term Reading reading_of_node x)))
-
--- the memories of some terms, where their nodes keep the same
-pub memories_stay : (ts : List Term) (uid : ℕ) (before after : List Kept) → SameWithin uid (sizes (map meaning ts)) before after → memories_of ts uid after ≡ memories_of ts uid before
-memories_stay [] uid before after same = refl
-memories_stay (t ∷ ts) uid before after same =
-    let more : sizes (map meaning (t ∷ ts)) ≡ (meaning t).size + sizes (map meaning ts) = sum_by-cons (λ (c : Meaning). c.size) (meaning t) (map meaning ts) in
-    let size : (reading t).size ≡ (meaning t).size = size_is_read t in
-    λ i. memory_stays t uid before after (λ p low high. same p low (omega (arith, more, high))) i ∷ memories_stay ts (uid + (reading t).size) before after (λ p low high. same p (omega (arith, low)) (omega (arith, more, size, high))) i
+use Rattle.bt_arena.specs.Stands.{Beside, IsKeptAlike, Reading, StandAll, Stands, memories, memories_of, memory_of, reading, reading_of_node}
+use Rattle.bt_arena.proofs.Framed.{framed_all, sized}
+use Rattle.bt_arena.proofs.Opened.{memory_out}
 
 -- a node that keeps this, above nodes that keep the same
-pub memory_above : (t : Term) (uid : ℕ) (before after : List Kept) → SameWithin (uid + 1) (sizes (map meaning (out-Term t).children)) before after →
+pub memory_above : (t : Term) (uid : ℕ) (before after : List Kept) → IsKeptAlike (uid + 1) (sizes (map meaning (out-Term t).children)) before after →
     memory_of t uid after ≡ remembered (kept_at after uid).status (kept_at after uid).memo (memories_of (out-Term t).children (uid + 1) before)
 memory_above t uid before after same =
-    memory_out t uid after ∙ ap (λ (ms : List Memory). remembered (kept_at after uid).status (kept_at after uid).memo ms) (memories_stay (out-Term t).children (uid + 1) before after same)
+    memory_out t uid after ∙ ap (λ (ms : List Memory). remembered (kept_at after uid).status (kept_at after uid).memo ms) (sym (framed_all (out-Term t).children (uid + 1) before after same))
 
 -- ---- Children
 
@@ -83,12 +34,12 @@ memories_split : (front : List Term) (c : Term) (rest : List Term) (first uid : 
     memories_of (front ++ c ∷ rest) first kept ≡ memories_of front first kept ++ memory_of c uid kept ∷ memories_of rest (uid + (meaning c).size) kept
 memories_split [] c rest first uid kept is =
     let here : first ≡ uid = omega (arith, is) in
-    let size : (reading c).size ≡ (meaning c).size = size_is_read c in
+    let size : (reading c).size ≡ (meaning c).size = sized c in
     ap (λ (u : ℕ). memory_of c u kept ∷ memories_of rest (u + (reading c).size) kept) here
     ∙ ap (λ (k : ℕ). memory_of c uid kept ∷ memories_of rest (uid + k) kept) size
 memories_split (t ∷ front) c rest first uid kept is =
     let more : sizes (map meaning (t ∷ front)) ≡ (meaning t).size + sizes (map meaning front) = sum_by-cons (λ (d : Meaning). d.size) (meaning t) (map meaning front) in
-    let size : (reading t).size ≡ (meaning t).size = size_is_read t in
+    let size : (reading t).size ≡ (meaning t).size = sized t in
     ap (λ (ms : List Memory). memory_of t first kept ∷ ms) (memories_split front c rest (first + (reading t).size) uid kept (omega (arith, is, more, size)))
 
 memories_length : (ts : List Term) (uid : ℕ) (kept : List Kept) → length (memories_of ts uid kept) ≡ length ts
@@ -128,8 +79,8 @@ module _ {ts : List Term} {first place : ℕ} {c : Term} {uid : ℕ} (k : IsChil
   -- its memory among those of the others, where the others keep the same
   pub child_placed : (before after : List Kept) → Beside uid (meaning c).size before after → slice_set (memories_of ts first before) place (memory_of c uid after) ≡ memories_of ts first after
   child_placed before after same =
-      let fronts : memories_of k.front first after ≡ memories_of k.front first before = memories_stay k.front first before after (λ p low high. same.below p (omega (arith, high, k.uid_is))) in
-      let rests : memories_of k.rest (uid + (meaning c).size) after ≡ memories_of k.rest (uid + (meaning c).size) before = memories_stay k.rest (uid + (meaning c).size) before after (λ p low high. same.above p low) in
+      let fronts : memories_of k.front first after ≡ memories_of k.front first before = sym (framed_all k.front first before after (λ p low high. sym (same.below p (omega (arith, high, k.uid_is))))) in
+      let rests : memories_of k.rest (uid + (meaning c).size) after ≡ memories_of k.rest (uid + (meaning c).size) before = sym (framed_all k.rest (uid + (meaning c).size) before after (λ p low high. sym (same.above p low))) in
       ap (λ (ms : List Memory). slice_set ms place (memory_of c uid after)) (split before)
       ∙ set_split (memories_of k.front first before) (memory_of c uid before) (memory_of c uid after) (memories_of k.rest (uid + (meaning c).size) before) place (front_length before)
       ∙ ap (λ (ms : List Memory). ms ++ memory_of c uid after ∷ memories_of k.rest (uid + (meaning c).size) before) (sym fronts)

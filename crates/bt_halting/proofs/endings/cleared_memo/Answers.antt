@@ -1,3 +1,3 @@
-use Rattle.bt_halting.proofs.Called.{instance_is}
-use Rattle.bt_halting.proofs.Memories.{memory_stays}
+use Rattle.bt_halting.proofs.Marks.{mark_is}
+use Rattle.bt_halting.proofs.Memories.{memory_above}
 use Rattle.bt_halting.proofs.Children.{StillResets}
