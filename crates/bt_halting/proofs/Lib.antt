@@ -3,3 +3,4 @@ pub mod Follows
 pub mod Letting
 pub mod Marks
 pub mod Memories
+pub mod Scripted
