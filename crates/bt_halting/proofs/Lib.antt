@@ -1,4 +1,5 @@
 pub mod Children
+pub mod Ending
 pub mod Follows
 pub mod Letting
 pub mod Marks
