@@ -1,1 +1,1 @@
-use Rattle.bt_halting.proofs.Ending.{end_in_parts}
+use Rattle.bt_halting.proofs.Children.{NextChild}
