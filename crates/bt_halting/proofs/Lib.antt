@@ -5,3 +5,4 @@ pub mod Letting
 pub mod Marks
 pub mod Memories
 pub mod Scripted
+pub mod Within

@@ -1,1 +1,1 @@
-use Rattle.bt_halting.proofs.Children.{NextChild}
+use Rattle.bt_halting.proofs.Within.{stands_within}
