@@ -1,1 +1,1 @@
-use Rattle.bt_halting.proofs.Within.{stands_within}
+use Rattle.bt_halting.proofs.Turns.{turn}
