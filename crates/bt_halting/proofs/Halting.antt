@@ -41,13 +41,17 @@ module _ (t : Term) (view : View) (uid : ℕ) (kept : List Kept) (s : State) whe
       ∙ ap (λ (m : Memory). reset_by (out-Memory m).status (site_at view uid t) m s) (memory_out t uid kept)
       ∙ simp out-roll-Memory
 
-  -- the reset of a RUNNING node: its children are reset, and then it is halted
-  pub reset_of_running : (kept_at kept uid).status ≡ status.Running → (meaning t).reset view uid (memory_of t uid kept) s ≡
-      follow (resets All (children_of (site_at view uid t)) 0 ms s) (λ ms1. remembered status.Running (kept_at kept uid).memo ms1) (λ _ ms1 s1. halted (site_at view uid t) (remembered status.Idle (cleared (kept_at kept uid).memo) ms1) s1)
+  -- the reset of a RUNNING node is its halt
+  pub reset_of_running : (kept_at kept uid).status ≡ status.Running → (meaning t).reset view uid (memory_of t uid kept) s ≡ halt (site_at view uid t) (memory_of t uid kept) s
   reset_of_running running =
       reset_is
       ∙ ap (λ (st : Status). reset_by st (site_at view uid t) (remembered (kept_at kept uid).status (kept_at kept uid).memo ms) s) running
-      ∙ simp out-roll-Memory
+      ∙ ap (λ (m : Memory). halt (site_at view uid t) m s) (sym (memory_out t uid kept))
+
+  -- a halt: the children are reset, and then the node is halted
+  halt_is : halt (site_at view uid t) (memory_of t uid kept) s ≡
+      follow (resets All (children_of (site_at view uid t)) 0 ms s) (λ ms1. remembered status.Running (kept_at kept uid).memo ms1) (λ _ ms1 s1. halted (site_at view uid t) (remembered status.Idle (cleared (kept_at kept uid).memo) ms1) s1)
+  halt_is = ap (λ (m : Memory). halt (site_at view uid t) m s) (memory_out t uid kept) ∙ simp out-roll-Memory
 
   resting : (st : Status) → st ≢ status.Running → reset_by st (site_at view uid t) (remembered (kept_at kept uid).status (kept_at kept uid).memo ms) s ≡
       behind (change uid st status.Idle) [] (done tt (remembered status.Idle (kept_at kept uid).memo ms) s)
@@ -72,6 +76,9 @@ module _ (nodes : List Node) (moment : ℕ) (t : Term) (view : View) (uid : ℕ)
   abbrev whole : Done (Unit {0}) Memory
   whole = (meaning t).reset view uid (memory_of t uid s0.kept) (state_in nodes s0 moment)
 
+  abbrev halt_whole : Done (Unit {0}) Memory
+  halt_whole = halt (site_at view uid t) (memory_of t uid s0.kept) (state_in nodes s0 moment)
+
   abbrev children : Done (Unit {0}) (List Memory)
   children = resets All (children_of (site_at view uid t)) 0 (memories_of (out-Term t).children (uid + 1) s0.kept) (state_in nodes s0 moment)
 
@@ -87,17 +94,17 @@ module _ (nodes : List Node) (moment : ℕ) (t : Term) (view : View) (uid : ℕ)
         ∙ sym (memory_out t uid s1.kept)
 
     -- a halt that stopped among the children
-    pub halt_stopped : (e : Stop NodeFault) → Meets {A = Unit {0}} nodes moment (memories_of (out-Term t).children (uid + 1)) (Err e) s0 s1 n0 n1 children → Meets {A = Unit {0}} nodes moment (memory_of t uid) (Err e) s0 s1 n0 n1 whole
+    pub halt_stopped : (e : Stop NodeFault) → Meets {A = Unit {0}} nodes moment (memories_of (out-Term t).children (uid + 1)) (Err e) s0 s1 n0 n1 children → Meets {A = Unit {0}} nodes moment (memory_of t uid) (Err e) s0 s1 n0 n1 halt_whole
     halt_stopped e m =
-        subst (λ (d : Done (Unit {0}) Memory). Meets {A = Unit {0}} nodes moment (memory_of t uid) (Err e) s0 s1 n0 n1 d) (sym (reset_of_running t view uid s0.kept (state_in nodes s0 moment) running))
+        subst (λ (d : Done (Unit {0}) Memory). Meets {A = Unit {0}} nodes moment (memory_of t uid) (Err e) s0 s1 n0 n1 d) (sym (halt_is t view uid s0.kept (state_in nodes s0 moment)))
         (stopped nodes moment (memories_of (out-Term t).children (uid + 1)) (memory_of t uid) s0 s1 n0 n1 children (λ ms1. remembered status.Running (kept_at s0.kept uid).memo ms1) (λ _ ms1 s. halted (site_at view uid t) (remembered status.Idle (cleared (kept_at s0.kept uid).memo) ms1) s) e memory_here m)
 
     -- a halt that came to its end
     pub halt_ended : (r : Result (Unit {0}) (Stop NodeFault)) (s2 : Scene) (n2 : List Note) → Meets nodes moment (memories_of (out-Term t).children (uid + 1)) (Ok tt) s0 s1 n0 n1 children →
         Meets nodes moment (memory_of t uid) r s1 s2 n1 n2 (halted (site_at view uid t) (remembered status.Idle (cleared (kept_at s1.kept uid).memo) (memories_of (out-Term t).children (uid + 1) s1.kept)) (state_in nodes s1 moment)) →
-        Meets nodes moment (memory_of t uid) r s0 s2 n0 n2 whole
+        Meets nodes moment (memory_of t uid) r s0 s2 n0 n2 halt_whole
     halt_ended r s2 n2 m end =
-        subst (λ (d : Done (Unit {0}) Memory). Meets nodes moment (memory_of t uid) r s0 s2 n0 n2 d) (sym (reset_of_running t view uid s0.kept (state_in nodes s0 moment) running))
+        subst (λ (d : Done (Unit {0}) Memory). Meets nodes moment (memory_of t uid) r s0 s2 n0 n2 d) (sym (halt_is t view uid s0.kept (state_in nodes s0 moment)))
         (followed nodes moment (memories_of (out-Term t).children (uid + 1)) (memory_of t uid) s0 s1 n0 n1 children (λ ms1. remembered status.Running (kept_at s0.kept uid).memo ms1) (λ _ ms1 s. halted (site_at view uid t) (remembered status.Idle (cleared (kept_at s0.kept uid).memo) ms1) s) tt r s2 n2 m
         (subst (λ (k : Kept). Meets nodes moment (memory_of t uid) r s1 s2 n1 n2 (halted (site_at view uid t) (remembered status.Idle (cleared k.memo) (memories_of (out-Term t).children (uid + 1) s1.kept)) (state_in nodes s1 moment))) here end))
 

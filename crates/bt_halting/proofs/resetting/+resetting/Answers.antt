@@ -8,7 +8,7 @@ use Rattle.bt_arena.specs.Stands.{Beside, view_under, written}
 use Rattle.bt_arena.proofs.Called.{marks_same}
 use Rattle.bt_halting.proofs.Children.{none_reset}
 use Rattle.bt_halting.proofs.Ending.{fits_still, nothing_cut}
-use Rattle.bt_halting.proofs.Halting.{halt_ended, halt_stopped, idle_met}
+use Rattle.bt_halting.proofs.Halting.{halt_ended, halt_stopped, idle_met, reset_of_running}
 use Rattle.bt_halting.proofs.Scripted.{stops_with}
 use Rattle.bt_halting.proofs.Turns.{no_turn, not_turned, turn, turned}
 use Rattle.bt_halting.proofs.Within.{all_there, beside_idle, beside_more, beside_none, kept_there, node_there, running_above, running_below, running_idle, size_is}
@@ -52,6 +52,7 @@ reset_children-loop-place-init g t c = record {
   held = c.requires.held;
   beside = beside_none _ _ _;
   reserve = omega arith;
+  full = refl;
   still = λ term view facts moment fits. none_reset c.args.nodes.now moment c.args.span (view_under view c.args.uid (written (out-Term term))) (out-Term term).children (c.args.uid + 1) _ _;
 }
 
@@ -103,6 +104,7 @@ reset_children-loop-place-preserved g t c =
       held = running_above c.args.nodes.now c.loop-place.kept c.reset_wanted.new.kept c.args.uid c.loop-place.child c.reset_wanted.ensures.beside c.in_ok-reset_wanted.ensures.held c.loop-place.invariant.held;
       beside = beside_more _ _ c.loop-place.child _ c.args.kept.now c.loop-place.kept _ w.low (omega (arith, w.high, size_is f.0 f.1 c.args.uid c.args.nodes.now _ f.3)) c.loop-place.invariant.beside c.reset_wanted.ensures.beside;
       reserve = omega (arith, c.loop-place.invariant.reserve, c.reset_wanted.ensures.reserve);
+      full = c.reset_wanted.ensures.full ∙ c.loop-place.invariant.full;
       still = λ term view facts moment fit.
           let fits_so = c.loop-place.invariant.fits facts term view c.args.uid fit in
           let k = c.loop-place.invariant.still term view facts moment fit in
@@ -131,6 +133,7 @@ reset_node-returns-in_err-become_idle-in_default g t c = record {
   held = rw (stops_with c.from_residual.result stop.NoMemory c.from_residual.ensures.1) tt;
   beside = rw c.in_err-become_idle-in_default.ensures.err (beside_none _ _ _);
   reserve = omega (arith, c.become_idle.ensures.reserve);
+      full = c.become_idle.ensures.full;
 }
 
 pub reset_node-returns-in_ok-become_idle-in_default : goal.reset_node-returns-in_ok-become_idle-in_default
@@ -145,4 +148,9 @@ reset_node-returns-in_ok-become_idle-in_default g t c =
       held = running_idle c.args.kept.now c.become_idle.new.kept c.args.uid within is c.args.nodes.now c.args.uid c.requires.held;
       beside = beside_idle c.args.kept.now c.become_idle.new.kept c.args.uid within is _ (omega (arith, size_is f.0 f.1 c.args.uid c.args.nodes.now _ f.3));
       reserve = omega (arith, c.become_idle.ensures.reserve);
+      full = c.become_idle.ensures.full;
     }
+
+pub reset_node-returns-in-Running-clause-meets : goal.reset_node-returns-in-Running-clause-meets
+reset_node-returns-in-Running-clause-meets g t c = λ term view facts moment fits.
+    rw (reset_of_running term view c.args.uid c.args.kept.now _ (rw c.kept_by.ensures at c.in-Running.is)) (c.halt_node.ensures.meets term view facts moment fits)

@@ -28,6 +28,7 @@ invariant-reset_children-loop-place g l = record {
   held : RunningAreHeld l.nodes l.kept l.uid;
   beside : Beside (l.uid + 1) ((node_at l.nodes l.uid).size - 1) l.fn.kept l.kept;
   reserve : l.fn.notes.reserve ≤ l.notes.reserve;
+  full : l.notes.full ≡ l.fn.notes.full;
   still : (term : Term) (view : View) (facts : List ℤ) (moment : ℕ) → Fits term view l.uid l.nodes (scene l.fn.kept l.fn.board facts (g.D.Drivers.states l.fn.drivers)) →
       StillResets l.nodes moment l.span (view_under view l.uid (written (out-Term term))) (out-Term term).children (l.uid + 1) (scene l.fn.kept l.fn.board facts (g.D.Drivers.states l.fn.drivers)) l.fn.notes.list l.place l.child (scene l.kept l.board facts (g.D.Drivers.states l.drivers)) l.notes.list;
 }
