@@ -2,6 +2,7 @@ pub mod Children
 pub mod Ending
 pub mod Follows
 pub mod Halting
+pub mod Leaving
 pub mod Letting
 pub mod Marks
 pub mod Memories
