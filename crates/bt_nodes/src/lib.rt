@@ -2,6 +2,9 @@
 //! ports, the call of its driver, and the end of its visit.
 #![tactic(auto)]
 
+mod ports;
 mod scripts;
+mod sources;
+
 
 pub use scripts::{goes_on, guards_answer, posts, run_script, script_holds, script_if_there};
