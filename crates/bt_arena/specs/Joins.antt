@@ -1,0 +1,50 @@
+-- The join of a tree with a world and a roster: what its leaves lack, and how many of them each driver serves.
+use Rattle.std.specs.Prelude.{◌≡◌, ℕ, nat_eq, Bool, false, List, [], ◌∷◌, count_by, Option, Some, None, Result, Ok, Err}
+use Rattle.std.specs.Option.{option_or}
+use Rattle.bt_script.specs.declared.stop.Stop.{Stop}
+use Rattle.bt_script.specs.declared.stop.Stop.TheVariants as stop
+use Rattle.bt_model.specs.declared.leaf.DriverKind.{DriverKind}
+use Rattle.bt_model.specs.declared.world.Row.{Row}
+use Rattle.bt_model.specs.Drivers.{DriverState, kind_of_row, place_of_kind}
+use Rattle.bt_model.specs.Leaves.{row_of}
+use Rattle.bt_arena.specs.declared.join_fault.JoinFault.{JoinFault}
+use Rattle.bt_arena.specs.declared.join_fault.JoinFault.TheVariants.{NoRow, NoDriver}
+
+-- ---- Faults
+
+abbrev pub lacks_driver : Option ℕ → DriverKind → Option JoinFault
+lacks_driver (Some place) kind = None
+lacks_driver None kind = Some (NoDriver kind)
+
+abbrev pub lacks_by : Option Row → List DriverState → List ℕ → Option JoinFault
+lacks_by (Some row) drivers id = lacks_driver (place_of_kind drivers (kind_of_row row)) (kind_of_row row)
+lacks_by None drivers id = Some (NoRow id)
+
+-- what a leaf of this ID lacks: a row, or a driver of its row's kind
+abbrev pub leaf_lacks : List Row → List DriverState → List ℕ → Option JoinFault
+leaf_lacks rows drivers id = lacks_by (row_of rows id) drivers id
+
+-- what the first of some leaves lacks that lacks anything
+abbrev pub first_lack : List Row → List DriverState → List (List ℕ) → Option JoinFault
+first_lack rows drivers [] = None
+first_lack rows drivers (id ∷ ids) = option_or (leaf_lacks rows drivers id) (first_lack rows drivers ids)
+
+-- the fault is given exactly where something is lacking; want of memory may come anywhere
+abbrev pub Joins : {A : Type 0} → Result A (Stop JoinFault) → Option JoinFault → Type 0
+Joins (Ok a) lack = lack ≡ None
+Joins (Err stop.NoMemory) lack = Unit {0}
+Joins (Err (stop.Fault fault)) lack = lack ≡ Some fault
+
+-- ---- Leaves and their drivers
+
+abbrev pub place_by : Option Row → List DriverState → Option ℕ
+place_by (Some row) drivers = place_of_kind drivers (kind_of_row row)
+place_by None drivers = None
+
+abbrev pub is_place : ℕ → Option ℕ → Bool
+is_place place (Some other) = nat_eq other place
+is_place place None = false
+
+-- how many of the leaves of these IDs the driver at a place serves
+abbrev pub leaves_served : List Row → List DriverState → ℕ → List (List ℕ) → ℕ
+leaves_served rows drivers place ids = count_by (λ (id : List ℕ). is_place place (place_by (row_of rows id) drivers)) ids

@@ -1,0 +1,118 @@
+-- A node of an arena, as one of a term.
+use Rattle.std.specs.Prelude.{◌≡◌, ℕ, ◌≤◌, List, [], length, map, slice_index_or, Bool, true, false, Option, Some, None, MatchOption}
+use Rattle.std.specs.List.{All}
+use Rattle.bt_script.specs.declared.syntax.Script.{Script}
+use Rattle.bt_script_code.specs.declared.codes.Code.{Code}
+use Rattle.bt_script_code.specs.Codes.{program}
+use Rattle.bt_script_code.specs.Programs.{program_of}
+use Rattle.bt_model.specs.declared.memory.Memo.TheVariants.{Nothing}
+use Rattle.bt_model.specs.declared.status.Status.TheVariants.{Idle}
+use Rattle.bt_model.specs.declared.term.Guards.{Guards}
+use Rattle.bt_model.specs.declared.term.Kind.{Kind}
+use Rattle.bt_model.specs.declared.term.Kind.TheVariants.{Leaf, AlwaysSuccess}
+use Rattle.bt_model.specs.declared.term.Port.{Port}
+use Rattle.bt_model.specs.declared.world.Out.{Out}
+use Rattle.bt_model.specs.declared.world.Row.{Row}
+use Rattle.bt_model.specs.BuiltIns.{PortRule, ports_of}
+use Rattle.bt_model.specs.Leaf.{rule_of}
+use Rattle.bt_model.specs.Leaves.{row_of}
+use Rattle.bt_model.specs.Sites.{View}
+use Rattle.bt_model.specs.Trees.{Node as TreeNode}
+use Rattle.bt_driver.specs.Rules.{rule}
+use Rattle.bt_arena.specs.declared.nodes.Kept.{Kept}
+use Rattle.bt_arena.specs.declared.nodes.Node.{Node}
+use Rattle.bt_arena.specs.declared.nodes.ReadyGuards.{ReadyGuards}
+use Rattle.bt_arena.specs.declared.nodes.ReadyLeaf.{ReadyLeaf}
+use Rattle.bt_arena.specs.declared.source.Source.{Source}
+use Rattle.bt_arena.specs.Sources.{IsSourceOf, slot_in_view, source_at}
+
+-- ---- Places
+
+abbrev pub no_guards : ReadyGuards
+no_guards = record {
+  failure_if = None;
+  success_if = None;
+  skip_if = None;
+  while_true = None;
+  on_success = None;
+  on_failure = None;
+  post = None;
+  on_halted = None;
+}
+
+-- what stands at place 0, which is no node's
+abbrev pub nobody : Node
+nobody = record { kind = AlwaysSuccess; size = 0; children = 0; code = None; guards = no_guards; ports = []; leaf = None }
+
+-- what a node keeps before its first visit, and after a quench
+abbrev pub at_rest : Kept
+at_rest = record { status = Idle; memo = Nothing; held = false }
+
+-- the node of a uid
+abbrev pub node_at : List Node → ℕ → Node
+node_at nodes uid = slice_index_or nodes uid nobody
+
+abbrev pub leaf_at : List Node → ℕ → Option ReadyLeaf
+leaf_at nodes uid = (node_at nodes uid).leaf
+
+-- what the node of a uid keeps
+abbrev pub kept_at : List Kept → ℕ → Kept
+kept_at kept uid = slice_index_or kept uid at_rest
+
+-- ---- Scripts
+
+-- a code does what its script does in the scope of a view, and needs no slot but the view's
+pub record IsCodeOf (view : View) (script : Script) (code : Code) : Type 0 where
+  pub meaning : program code ≡ program_of (slot_in_view view) script.stmts
+  pub reach : (program code).reach ≤ length view.slots
+
+-- there is a code exactly where there is a script
+abbrev pub IsCompiled : View → Option Script → Option Code → Type 0
+IsCompiled view None None = Unit {0}
+IsCompiled view (Some script) (Some code) = IsCodeOf view script code
+IsCompiled view _ _ = ⊥
+
+pub record AreCompiled (view : View) (guards : Guards) (ready : ReadyGuards) : Type 0 where
+  pub failure_if : IsCompiled view guards.failure_if ready.failure_if
+  pub success_if : IsCompiled view guards.success_if ready.success_if
+  pub skip_if : IsCompiled view guards.skip_if ready.skip_if
+  pub while_true : IsCompiled view guards.while_true ready.while_true
+  pub on_success : IsCompiled view guards.on_success ready.on_success
+  pub on_failure : IsCompiled view guards.on_failure ready.on_failure
+  pub post : IsCompiled view guards.post ready.post
+  pub on_halted : IsCompiled view guards.on_halted ready.on_halted
+
+-- ---- Leaves
+
+-- a leaf follows this row, with its ports resolved in a view
+pub record IsLeafOf (view : View) (ports : List Port) (leaf : ReadyLeaf) (row : Row) : Type 0 where
+  pub rule : rule leaf.row ≡ rule_of view.facts row
+  pub facts : leaf.row.facts ≡ length view.facts
+  pub inputs : leaf.inputs ≡ map (λ name. source_at view ports name) row.ports
+  pub few_inputs : length row.ports ≤ 8
+  pub read : All (IsSourceOf (length view.slots)) leaf.inputs
+  pub outputs : leaf.outputs ≡ map (λ (out : Out). source_at view ports out.port) row.outs
+  pub few_outputs : length row.outs ≤ 8
+  pub written : All (IsSourceOf (length view.slots)) leaf.outputs
+
+abbrev pub is_leaf : Kind → Bool
+is_leaf Leaf = true
+is_leaf _ = false
+
+-- a node of the kind Leaf, and no other, is a leaf with a driver, and follows the row of its ID
+abbrev pub LeafStands : View → TreeNode → Option ReadyLeaf → Type 0
+LeafStands view node None = is_leaf node.kind ≡ false
+LeafStands view node (Some leaf) = (node.kind ≡ Leaf) × MatchOption (row_of view.rows node.id) ⊥ (IsLeafOf view node.ports leaf)
+
+-- ---- Nodes
+
+-- a node of an arena is this node of a term, which is of this size with all below it, in a view
+pub record IsNode (view : View) (written : TreeNode) (whole : ℕ) (node : Node) : Type 0 where
+  pub kind : node.kind ≡ written.kind
+  pub size : node.size ≡ whole
+  pub children : node.children ≡ written.children
+  pub code : IsCompiled view written.code node.code
+  pub guards : AreCompiled view written.guards node.guards
+  pub ports : node.ports ≡ map (λ (port : PortRule). source_at view written.ports port.name) (ports_of written.kind)
+  pub slots : All (IsSourceOf (length view.slots)) node.ports
+  pub leaf : LeafStands view written node.leaf

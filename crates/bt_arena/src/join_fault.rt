@@ -1,0 +1,12 @@
+use bt_model::DriverKind;
+use bt_script::Name;
+
+/// Why a tree, a world and a roster do not go together: what the first leaf in pre-order lacks that
+/// lacks anything.
+#[derive(Debug, Drop)]
+pub enum JoinFault {
+    /// The world has no row of this ID.
+    NoRow { id: Name },
+    /// No driver of the roster is of this kind, which the leaf's row asks for.
+    NoDriver { kind: DriverKind },
+}

@@ -1,0 +1,20 @@
+//! The arena on which trees run: the nodes of a runner's tree in one flat vector, what each keeps, and
+//! the notes of an event with their reserve.
+#![tactic(auto)]
+
+mod arena;
+mod join_fault;
+mod joining;
+pub mod laws;
+mod nodes;
+mod notes;
+mod source;
+
+pub use arena::{
+    Arena, keep, kept_by, leaf_count, leaves_at, memo, node, set_held, set_memo, set_status, status,
+};
+pub use join_fault::JoinFault;
+pub use joining::arena_of;
+pub use nodes::{Kept, Node, ReadyGuards, ReadyLeaf};
+pub use notes::{Notes, notes_of};
+pub use source::Source;

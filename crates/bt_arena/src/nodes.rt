@@ -1,0 +1,57 @@
+use crate::source::Source;
+use bt_driver::ReadyRow;
+use bt_model::{Kind, Memo, Status};
+use bt_script::Items;
+use bt_script_code::Code;
+
+/// The pre- and postconditions of a node, compiled for the scope in which it stands.
+#[derive(Debug, Drop)]
+pub struct ReadyGuards {
+    pub failure_if: Option<Code>,
+    pub success_if: Option<Code>,
+    pub skip_if: Option<Code>,
+    pub while_true: Option<Code>,
+    pub on_success: Option<Code>,
+    pub on_failure: Option<Code>,
+    pub post: Option<Code>,
+    pub on_halted: Option<Code>,
+}
+
+/// What a leaf with a driver has beside its node.
+#[derive(Debug, Drop)]
+pub struct ReadyLeaf {
+    pub row: ReadyRow,
+    /// The place of its driver in the roster.
+    pub driver: usize,
+    /// The number of its instance there.
+    pub instance: u32,
+    /// What the input ports of the row are given, in the row's order.
+    pub inputs: Items<Source>,
+    /// What the ports of the outputs are given, in the row's order.
+    pub outputs: Items<Source>,
+}
+
+/// A node of an arena: what a visit or a halt needs of it, and what never changes.
+#[derive(Debug, Drop)]
+pub struct Node {
+    pub kind: Kind,
+    /// How many nodes it and all below it are. Its children stand behind it, each behind all that
+    /// stands below the one before.
+    pub size: u32,
+    /// How many children it has.
+    pub children: u32,
+    pub code: Option<Code>,
+    pub guards: ReadyGuards,
+    /// What the ports of a built-in node are given, in the order of its kind's ports.
+    pub ports: Items<Source>,
+    pub leaf: Option<ReadyLeaf>,
+}
+
+/// What a node keeps.
+#[derive(Clone, Copy, Debug, PartialEq, Eq)]
+pub struct Kept {
+    pub status: Status,
+    pub memo: Memo,
+    /// The mark of a leaf whose instance its driver holds.
+    pub held: bool,
+}
