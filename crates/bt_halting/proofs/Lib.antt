@@ -6,5 +6,6 @@ pub mod Lent
 pub mod Letting
 pub mod Marks
 pub mod Memories
+pub mod Sounding
 pub mod Turns
 pub mod Within
