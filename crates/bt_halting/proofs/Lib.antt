@@ -6,6 +6,7 @@ pub mod Lent
 pub mod Letting
 pub mod Marks
 pub mod Memories
+pub mod Reaching
 pub mod Sounding
 pub mod Turns
 pub mod Within

@@ -3,6 +3,7 @@
 
 mod calls;
 mod endings;
+pub mod laws;
 mod quenching;
 mod resetting;
 
