@@ -5,4 +5,5 @@ pub mod Following
 pub mod MadeCalls
 pub mod Needed
 pub mod PortValues
+pub mod Settled
 pub mod Standing
