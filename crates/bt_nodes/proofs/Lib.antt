@@ -2,6 +2,7 @@ pub mod Answering
 pub mod EndedVisits
 pub mod Filling
 pub mod Following
+pub mod LoneVisits
 pub mod MadeCalls
 pub mod Needed
 pub mod PortValues

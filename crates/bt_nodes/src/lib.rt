@@ -9,7 +9,7 @@ mod ports;
 mod scripts;
 mod sources;
 
-pub use alone::lone_rule;
+pub use alone::{lone_rule, visit_alone};
 pub use ending::{end_visit, note_change};
 pub use leaves::leaf_call;
 pub use ports::{new_memo, picked};
