@@ -1,4 +1,5 @@
 pub mod Answering
+pub mod Cases
 pub mod EndedVisits
 pub mod Filling
 pub mod Following
