@@ -1,15 +1,14 @@
 -- The memory of terms that stand in an arena, where what some nodes keep has changed; and the places of children.
-use Rattle.std.proofs.Common.{◌≡◌, ◌≢◌, ℕ, zero, suc, ◌+◌, ◌<◌, ◌≤◌, List, [], ◌∷◌, ◌++◌, map, length, get_or, slice_set, sum_by, refl, sym, ap, subst, ◌∙◌, arith}
-use Rattle.std.proofs.lemmas.List.{get_or-set_other, get_or-set_same, length-set}
+use Rattle.std.proofs.Common.{◌≡◌, ℕ, zero, suc, ◌+◌, ◌≤◌, List, [], ◌∷◌, ◌++◌, map, length, get_or, slice_set, refl, sym, ap, subst, ◌∙◌, arith}
 use Rattle.std.proofs.lemmas.List.Sums.{sum_by-cons}
 use Rattle.bt_model.specs.declared.memory.Memory.{Memory}
-use Rattle.bt_model.specs.declared.term.Term.{Term, Term-F, ind-Term, fold_out-Term, fold-roll-Term, out-Term, roll-Term}
+use Rattle.bt_model.specs.declared.term.Term.{Term, out-Term}
 use Rattle.bt_model.specs.Sites.{Meaning, View, memory_at, remembered, sizes}
-use Rattle.bt_model.specs.Visit.{meaning, meaning_of_node}
+use Rattle.bt_model.specs.Visit.{meaning}
 use Rattle.bt_arena.specs.declared.nodes.Kept.{Kept}
 use Rattle.bt_arena.specs.declared.nodes.Node.{Node}
-use Rattle.bt_arena.specs.Nodes.{at_rest, kept_at}
-use Rattle.bt_arena.specs.Stands.{Beside, IsKeptAlike, Reading, StandAll, Stands, memories, memories_of, memory_of, reading, reading_of_node}
+use Rattle.bt_arena.specs.Nodes.{kept_at}
+use Rattle.bt_arena.specs.Stands.{Beside, IsKeptAlike, StandAll, Stands, memories_of, memory_of, reading}
 use Rattle.bt_arena.proofs.Framed.{framed_all, sized}
 use Rattle.bt_arena.proofs.Opened.{memory_out}
 

@@ -1,10 +1,9 @@
-use Rattle.std.proofs.Common.{◌≡◌, ◌+◌, ◌-◌, ◌<◌, ◌≤◌, ℕ, ℤ, List, Err, refl, sym, ap, subst, ◌∙◌, arith, rules}
+use Rattle.std.proofs.Common.{◌+◌, ◌<◌, refl, ap, ◌∙◌, arith}
 use Rattle.bt_script.specs.declared.stop.Stop.TheVariants as stop
-use Rattle.bt_model.specs.declared.status.Status.TheVariants as status
 use Rattle.bt_model.specs.declared.term.Term.{out-Term}
 use Rattle.bt_arena.specs.declared.nodes.Node.{Node}
 use Rattle.bt_arena.specs.Nodes.{node_at}
-use Rattle.bt_arena.specs.Stands.{Beside, view_under, written}
+use Rattle.bt_arena.specs.Stands.{view_under, written}
 use Rattle.bt_arena.proofs.Called.{marks_same}
 use Rattle.bt_halting.proofs.Children.{none_reset}
 use Rattle.bt_halting.proofs.Ending.{fits_still, nothing_cut}
