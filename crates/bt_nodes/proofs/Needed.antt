@@ -1,0 +1,31 @@
+-- The scripts of a node need no slot but those of its view.
+use Rattle.std.proofs.Common.{◌≡◌, ℕ, length, Option, Some, None, subst}
+use Rattle.bt_script.specs.declared.syntax.Script.{Script}
+use Rattle.bt_script_code.specs.declared.codes.Code.{Code}
+use Rattle.bt_model.specs.declared.term.Guards.{Guards}
+use Rattle.bt_model.specs.Sites.{View}
+use Rattle.bt_arena.specs.declared.nodes.ReadyGuards.{ReadyGuards}
+use Rattle.bt_arena.specs.Nodes.{AreCompiled, IsCompiled}
+use Rattle.bt_nodes.specs.Needs.{GuardsNeedAtMost, NeedsAtMost}
+
+needed : (view : View) (script : Option Script) (code : Option Code) → IsCompiled view script code → NeedsAtMost (length view.slots) code
+needed view None None k = tt
+needed view None (Some code) k = absurd k
+needed view (Some script) None k = absurd k
+needed view (Some script) (Some code) k = k.reach
+
+module _ (slots : ℕ) (view : View) (as_many : length view.slots ≡ slots) where
+  pub script_needs : (script : Option Script) (code : Option Code) → IsCompiled view script code → NeedsAtMost slots code
+  script_needs script code k = subst (λ (n : ℕ). NeedsAtMost n code) as_many (needed view script code k)
+
+  pub guards_need : (guards : Guards) (ready : ReadyGuards) → AreCompiled view guards ready → GuardsNeedAtMost slots ready
+  guards_need guards ready k = record {
+    failure_if = script_needs guards.failure_if ready.failure_if k.failure_if;
+    success_if = script_needs guards.success_if ready.success_if k.success_if;
+    skip_if = script_needs guards.skip_if ready.skip_if k.skip_if;
+    while_true = script_needs guards.while_true ready.while_true k.while_true;
+    on_success = script_needs guards.on_success ready.on_success k.on_success;
+    on_failure = script_needs guards.on_failure ready.on_failure k.on_failure;
+    post = script_needs guards.post ready.post k.post;
+    on_halted = script_needs guards.on_halted ready.on_halted k.on_halted;
+  }

@@ -1,0 +1,58 @@
+-- What the ports of a node give: a truth, and the first case that has a text.
+use Rattle.std.specs.Prelude.{◌≡◌, ℕ, ◌+◌, ◌≤◌, ℤ, List, [], ◌∷◌, Bool, if◌then◌else◌, length, codes, Option, Some, None, option_map, slice_index_or}
+use Rattle.std.specs.List.{All}
+use Rattle.std.specs.Str.{bytes_eq}
+use Rattle.bt_script.specs.declared.value.Value.{Value}
+use Rattle.bt_script.specs.declared.value.Value.TheVariants.{Text}
+use Rattle.bt_script.specs.Operators.{is_true}
+use Rattle.bt_model.specs.declared.term.Kind.{Kind}
+use Rattle.bt_model.specs.declared.term.Kind.TheVariants.{Switch}
+use Rattle.bt_model.specs.BuiltIns.{ports_of}
+use Rattle.bt_model.specs.Ports.{is_case, number_by, text_by}
+use Rattle.bt_arena.specs.declared.nodes.Node.{Node}
+use Rattle.bt_arena.specs.declared.source.Source.{Source}
+use Rattle.bt_arena.specs.declared.source.Source.TheVariants.{Absent, Lit}
+use Rattle.bt_arena.specs.Sources.{IsSourceOf, source_value}
+
+-- a node has a source for each port of its kind, and those that are slots are slots of a board of so many
+pub record HasPorts (slots : ℕ) (node : Node) : Type 0 where
+  pub as_many : length node.ports ≡ length (ports_of node.kind)
+  pub known : All (IsSourceOf slots) node.ports
+
+-- what a node's port of this place is given
+abbrev pub port_at : Node → ℕ → Source
+port_at node place = slice_index_or node.ports place Absent
+
+-- the number that is given
+abbrev pub source_number : List (Option Value) → Source → Option ℤ
+source_number board source = number_by (source_value board source)
+
+-- the truth that is given: a literal text is one where it is `true`, and a number where it is not 0
+abbrev pub source_truth : List (Option Value) → Source → Option Bool
+source_truth board (Lit (Text t)) = Some (bytes_eq t (codes "true"))
+source_truth board source = option_map is_true (source_number board source)
+
+-- the text that is given
+abbrev pub source_text : List (Option Value) → Source → Option (List ℕ)
+source_text board source = text_by (source_value board source)
+
+-- the place of the first of these cases that has this text, where the first of them has this place; the place behind
+-- them where none has it
+abbrev pub first_case : List (Option Value) → List Source → ℕ → List ℕ → ℕ
+first_case board [] place text = place
+first_case board (c ∷ cs) place text = if is_case (source_text board c) text then place else first_case board cs (place + 1) text
+
+-- the case of this text, or the place behind them
+abbrev pub case_of : List (Option Value) → List Source → Option (List ℕ) → ℕ
+case_of board cases (Some text) = first_case board cases 0 text
+case_of board cases None = length cases
+
+-- the case that is selected by a variable, which stands before its cases
+abbrev pub case_selected : List (Option Value) → List Source → ℕ
+case_selected board [] = 0
+case_selected board (variable ∷ cases) = case_of board cases (source_text board variable)
+
+-- a Switch has 6 cases at most
+abbrev pub FewCases : Kind → Type 0
+FewCases (Switch cases) = cases ≤ 6
+FewCases _ = Unit {0}

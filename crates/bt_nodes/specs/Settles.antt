@@ -1,0 +1,30 @@
+-- What a call that can change the blackboard alone leaves, against what the definition says of this part of an event.
+use Rattle.std.specs.Prelude.{◌≡◌, Bool, true, false, List, Option, Some, Result, Ok, Err}
+use Rattle.bt_script.specs.declared.stop.Stop.{Stop}
+use Rattle.bt_script.specs.declared.stop.Stop.TheVariants as stop
+use Rattle.bt_script.specs.declared.value.Value.{Value}
+use Rattle.bt_model.specs.declared.fault.NodeFault.{NodeFault}
+use Rattle.bt_model.specs.declared.status.Answer.{Answer}
+use Rattle.bt_model.specs.Done.{Done, State, done, ends}
+
+-- a state with this blackboard in place of its own
+abbrev pub on_board : List (Option Value) → State → State
+on_board board s = record s { board = board }
+
+-- The answer and the fault are those of the definition, and so is the state that is left, with this memory and with no
+-- note and no call. Want of memory may come anywhere.
+abbrev pub SettlesWith : {A M : Type 0} → M → Result A (Stop NodeFault) → State → Done A M → Type 0
+SettlesWith memory (Ok a) s d = d ≡ done a memory s
+SettlesWith memory (Err (stop.Fault f)) s d = d ≡ ends (Err f) memory s
+SettlesWith memory (Err stop.NoMemory) s d = Unit {0}
+
+-- the same of a part that leaves no memory
+abbrev pub Settles : {A : Type 0} → Result A (Stop NodeFault) → State → Done A (Unit {0}) → Type 0
+Settles r s d = SettlesWith tt r s d
+
+-- A guard was tried: its answer is all where it answers, and else what comes after it goes on from the state that is left.
+abbrev pub Tries : Result Bool (Stop NodeFault) → Answer → (State → Done (Option Answer) (Unit {0})) → State → Done (Option Answer) (Unit {0}) → Type 0
+Tries (Ok true) answer next s d = d ≡ done (Some answer) tt s
+Tries (Ok false) answer next s d = d ≡ next s
+Tries (Err (stop.Fault f)) answer next s d = d ≡ ends (Err f) tt s
+Tries (Err stop.NoMemory) answer next s d = Unit {0}

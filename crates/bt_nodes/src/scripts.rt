@@ -1,0 +1,213 @@
+ghost use Rattle.std.specs.Prelude.{◌≡◌, ◌≤◌, Bool, Option, length};
+ghost use Rattle.std.specs.List.{All};
+ghost use Rattle.bt_script.specs.declared.syntax.Script.{Script};
+ghost use Rattle.bt_script.specs.Entries.{HoldsNoText, IsAnswered};
+ghost use Rattle.bt_script.specs.Stops.{Gives};
+ghost use Rattle.bt_script_code.specs.Codes.{program};
+ghost use Rattle.bt_model.specs.declared.term.Guards.{Guards};
+ghost use Rattle.bt_model.specs.declared.term.Term.{Term-F};
+ghost use Rattle.bt_model.specs.Done.{Done, State, follow};
+ghost use Rattle.bt_model.specs.Scripts.{goes_on, guard, guards_answer, posts, script_cause, script_holds, script_if_there, script_run, truth_of};
+ghost use Rattle.bt_model.specs.Sites.{Meaning, View};
+ghost use Rattle.bt_model.specs.Visit.{site_of};
+ghost use Rattle.bt_arena.specs.Nodes.{AreCompiled, IsCodeOf, IsCompiled};
+ghost use Rattle.bt_nodes.specs.Needs.{GuardsNeedAtMost, NeedsAtMost};
+ghost use Rattle.bt_nodes.specs.Settles.{Settles, Tries, on_board};
+
+use bt_arena::ReadyGuards;
+use bt_board::Board;
+use bt_model::{Answer, Cause, NodeFault};
+use bt_script::{ExecFault, Stop, Value};
+use bt_script_code::{Code, exec};
+use std::alloc::Global;
+
+/// The fault of a script as a cause.
+fn cause_of(fault: ExecFault) -> Cause
+    ensures { result ≡ script_cause fault }
+{
+    match fault {
+        ExecFault::NoEntry { slot } => Cause::NoEntry { slot },
+        ExecFault::Overflow => Cause::Overflow,
+        ExecFault::ZeroDivisor => Cause::ZeroDivisor,
+        ExecFault::NotWhole => Cause::NotWhole,
+        ExecFault::Mixed => Cause::Mixed,
+        ExecFault::TextTooLong => Cause::TextTooLong,
+    }
+}
+
+/// Runs a script of the node with this uid, and gives its value. A fault of the script is one of its
+/// node, and the writes before it stand. Want of memory comes only where there are texts.
+pub fn run_script(
+    alloc: Global,
+    code: &Code,
+    uid: u32,
+    board: &mut Board,
+) -> Result<Value, Stop<NodeFault>>
+    requires { (program code.now).reach ≤ length board.old }
+    ensures settles { (term : Term-F Meaning) (view : View) (script : Script) (s : State) → IsCodeOf view script code.now →
+        Settles result (on_board board.new s) (script_run (site_of term view uid) script (on_board board.old s)) }
+    ensures slots { length board.new ≡ length board.old }
+    ensures memory { (program code.now).texts ≡ 0 → All HoldsNoText board.old → IsAnswered result }
+{
+    match exec(alloc, code, board) {
+        Ok(value) => Ok(value),
+        Err(Stop::Fault(fault)) => Err(Stop::Fault(NodeFault {
+            uid,
+            cause: cause_of(fault),
+        })),
+        Err(Stop::NoMemory) => Err(Stop::NoMemory),
+    }
+}
+
+/// Runs a script of the node with this uid where it is there.
+pub fn script_if_there(
+    alloc: Global,
+    code: &Option<Code>,
+    uid: u32,
+    board: &mut Board,
+) -> Result<(), Stop<NodeFault>>
+    requires { NeedsAtMost (length board.old) code.now }
+    ensures settles { (term : Term-F Meaning) (view : View) (script : Option Script) (s : State) → IsCompiled view script code.now →
+        Settles result (on_board board.new s) (script_if_there (site_of term view uid) script (on_board board.old s)) }
+    ensures slots { length board.new ≡ length board.old }
+{
+    if let Some(code) = code {
+        run_script(alloc, code, uid, board)?;
+    }
+    Ok(())
+}
+
+/// A value as a condition of the node with this uid.
+fn truth(value: &Value, uid: u32) -> Result<bool, Stop<NodeFault>>
+    ensures { Gives result (truth_of uid value.now) }
+{
+    match value {
+        Value::Int(n) => Ok(*n != 0),
+        Value::Text(_) => Err(Stop::Fault(NodeFault {
+            uid,
+            cause: Cause::Mixed,
+        })),
+    }
+}
+
+/// Runs a script of the node with this uid as a condition: a number other than 0 is true, and a text
+/// is a fault.
+pub fn script_holds(
+    alloc: Global,
+    code: &Code,
+    uid: u32,
+    board: &mut Board,
+) -> Result<bool, Stop<NodeFault>>
+    requires { (program code.now).reach ≤ length board.old }
+    ensures settles { (term : Term-F Meaning) (view : View) (script : Script) (s : State) → IsCodeOf view script code.now →
+        Settles result (on_board board.new s) (script_holds (site_of term view uid) script (on_board board.old s)) }
+    ensures slots { length board.new ≡ length board.old }
+{
+    let value = run_script(alloc, code, uid, board)?;
+    truth(&value, uid)
+}
+
+/// Tries a guard of the node with this uid: whether it is there and as true as this.
+fn is_answered(
+    alloc: Global,
+    code: &Option<Code>,
+    truth: bool,
+    uid: u32,
+    board: &mut Board,
+) -> Result<bool, Stop<NodeFault>>
+    requires { NeedsAtMost (length board.old) code.now }
+    ensures tries { (term : Term-F Meaning) (view : View) (script : Option Script) (s : State) (answer : Answer) (next : State → Done (Option Answer) (Unit {0})) → IsCompiled view script code.now →
+        Tries result answer next (on_board board.new s) (guard (site_of term view uid) script truth answer next (on_board board.old s)) }
+    ensures slots { length board.new ≡ length board.old }
+{
+    match code {
+        Some(code) => Ok(script_holds(alloc, code, uid, board)? == truth),
+        None => Ok(false),
+    }
+}
+
+/// The answer of the guards of the node with this uid, which is not RUNNING: that of the first of
+/// `_failureIf`, `_successIf`, `_skipIf` and `_while` that answers, if one does. Those behind it do
+/// not run.
+pub fn guards_answer(
+    alloc: Global,
+    guards: &ReadyGuards,
+    uid: u32,
+    board: &mut Board,
+) -> Result<Option<Answer>, Stop<NodeFault>>
+    requires { GuardsNeedAtMost (length board.old) guards.now }
+    ensures settles { (term : Term-F Meaning) (view : View) (s : State) → AreCompiled view term.guards guards.now →
+        Settles result (on_board board.new s) (guards_answer (site_of term view uid) (on_board board.old s)) }
+    ensures slots { length board.new ≡ length board.old }
+{
+    if is_answered(alloc, &guards.failure_if, true, uid, board)? {
+        return Ok(Some(Answer::Failure));
+    }
+    if is_answered(alloc, &guards.success_if, true, uid, board)? {
+        return Ok(Some(Answer::Success));
+    }
+    if is_answered(alloc, &guards.skip_if, true, uid, board)? {
+        return Ok(Some(Answer::Skipped));
+    }
+    if is_answered(alloc, &guards.while_true, false, uid, board)? {
+        return Ok(Some(Answer::Skipped));
+    }
+    Ok(None)
+}
+
+/// Whether the node with this uid, which is RUNNING, goes on: it does unless its `_while` is false.
+pub fn goes_on(
+    alloc: Global,
+    guards: &ReadyGuards,
+    uid: u32,
+    board: &mut Board,
+) -> Result<bool, Stop<NodeFault>>
+    requires { NeedsAtMost (length board.old) guards.now.while_true }
+    ensures settles { (term : Term-F Meaning) (view : View) (s : State) → IsCompiled view term.guards.while_true guards.now.while_true →
+        Settles result (on_board board.new s) (goes_on (site_of term view uid) (on_board board.old s)) }
+    ensures slots { length board.new ≡ length board.old }
+{
+    match &guards.while_true {
+        Some(code) => script_holds(alloc, code, uid, board),
+        None => Ok(true),
+    }
+}
+
+/// Runs two scripts of the node with this uid, one after the other, each where it is there.
+fn both_if_there(
+    alloc: Global,
+    first: &Option<Code>,
+    second: &Option<Code>,
+    uid: u32,
+    board: &mut Board,
+) -> Result<(), Stop<NodeFault>>
+    requires first { NeedsAtMost (length board.old) first.now }
+    requires second { NeedsAtMost (length board.old) second.now }
+    ensures settles { (term : Term-F Meaning) (view : View) (one other : Option Script) (s : State) → IsCompiled view one first.now → IsCompiled view other second.now →
+        Settles result (on_board board.new s) (follow (script_if_there (site_of term view uid) one (on_board board.old s)) (λ _. tt) (λ _ _ s1. script_if_there (site_of term view uid) other s1)) }
+    ensures slots { length board.new ≡ length board.old }
+{
+    script_if_there(alloc, first, uid, board)?;
+    script_if_there(alloc, second, uid, board)
+}
+
+/// Runs the scripts of the node with this uid after its answer: `_onSuccess` after SUCCESS and
+/// `_onFailure` after FAILURE, and then `_post` after either.
+pub fn posts(
+    alloc: Global,
+    guards: &ReadyGuards,
+    uid: u32,
+    answer: Answer,
+    board: &mut Board,
+) -> Result<(), Stop<NodeFault>>
+    requires { GuardsNeedAtMost (length board.old) guards.now }
+    ensures settles { (term : Term-F Meaning) (view : View) (s : State) → AreCompiled view term.guards guards.now →
+        Settles result (on_board board.new s) (posts (site_of term view uid) answer (on_board board.old s)) }
+    ensures slots { length board.new ≡ length board.old }
+{
+    match answer {
+        Answer::Success => both_if_there(alloc, &guards.on_success, &guards.post, uid, board),
+        Answer::Failure => both_if_there(alloc, &guards.on_failure, &guards.post, uid, board),
+        Answer::Running | Answer::Skipped => Ok(()),
+    }
+}
