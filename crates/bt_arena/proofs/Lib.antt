@@ -1,2 +1,3 @@
+pub mod Called
 pub mod Framed
 pub mod Opened

@@ -1,10 +1,17 @@
-ghost use Rattle.std.specs.Prelude.{◌≡◌, ◌↔◌, ℕ, ◌+◌, ◌<◌, ◌≤◌, List, length, slice_index_or, slice_set};
+ghost use Rattle.std.specs.Prelude.{◌≡◌, ◌↔◌, ℕ, ◌+◌, ◌<◌, ◌≤◌, ◌++◌, List, Some, length, map, slice_index_or, slice_set};
+ghost use Rattle.bt_model.specs.declared.leaf.Instance.{Instance};
+ghost use Rattle.bt_model.specs.declared.leaf.Phase.{Phase};
 ghost use Rattle.bt_model.specs.declared.term.Term.{Term, out-Term};
+ghost use Rattle.bt_model.specs.Done.{Call};
+ghost use Rattle.bt_model.specs.Drivers.{DriverState, is_held, roster_called};
 ghost use Rattle.bt_model.specs.Sites.{View, memory_at, remembered};
 ghost use Rattle.bt_model.specs.Visit.{idle, meaning};
 ghost use Rattle.bt_arena.specs.declared.nodes.Kept.{Kept};
 ghost use Rattle.bt_arena.specs.declared.nodes.Node.{Node};
-ghost use Rattle.bt_arena.specs.Nodes.{at_rest, kept_at};
+ghost use Rattle.bt_arena.specs.declared.nodes.ReadyLeaf.{ReadyLeaf};
+ghost use Rattle.bt_arena.specs.Nodes.{at_rest, kept_at, leaf_at};
+ghost use Rattle.bt_arena.specs.Rosters.{AreServed, instances_of, roster_after};
+ghost use Rattle.bt_arena.specs.Scenes.{marks_of};
 ghost use Rattle.bt_arena.specs.Stands.{Beside, IsKeptAlike, Stands, memories_of, memory_of, node_stands, uid_of};
 
 /// A term that stands in an arena, opened: its node is there, and its children stand behind it.
@@ -24,4 +31,20 @@ pub fn memories_are_of_their_nodes()
         Beside (uid_of ts uid place) (meaning (slice_index_or ts place t)).size a b →
         slice_set (memories_of ts uid a) place (memory_of (slice_index_or ts place t) (uid_of ts uid place) b) ≡ memories_of ts uid b }
     ensures rest { (t : Term) (uid : ℕ) (kept : List Kept) → ((p : ℕ) → uid ≤ p → p < uid + (meaning t).size → kept_at kept p ≡ at_rest) → memory_of t uid kept ≡ idle t }
+{}
+
+/// A call for a leaf of an arena changes its instance and no other one, serves each leaf as before, and
+/// leaves the marks right where the leaf's mark is set.
+pub fn calls_change_one_instance()
+    ensures instances { (nodes : List Node) (drivers : List DriverState) (uid : ℕ) (leaf : ReadyLeaf) (phase : Phase) (left : Instance) →
+        AreServed drivers nodes → leaf_at nodes uid ≡ Some leaf →
+        instances_of nodes (roster_called drivers leaf.driver phase leaf.instance left) ≡ slice_set (instances_of nodes drivers) uid left }
+    ensures served { (nodes : List Node) (drivers : List DriverState) (place : ℕ) (phase : Phase) (instance : ℕ) (left : Instance) →
+        AreServed drivers nodes → AreServed (roster_called drivers place phase instance left) nodes }
+    ensures marks { (nodes : List Node) (drivers : List DriverState) (uid : ℕ) (leaf : ReadyLeaf) (phase : Phase) (left : Instance) →
+        AreServed drivers nodes → leaf_at nodes uid ≡ Some leaf → (kept : List Kept) (now : Kept) →
+        marks_of kept ≡ map is_held (instances_of nodes drivers) → now.held ≡ is_held left →
+        marks_of (slice_set kept uid now) ≡ map is_held (instances_of nodes (roster_called drivers leaf.driver phase leaf.instance left)) }
+    ensures both { (nodes : List Node) (xs ys : List Call) (drivers : List DriverState) →
+        roster_after nodes (xs ++ ys) drivers ≡ roster_after nodes ys (roster_after nodes xs drivers) }
 {}

@@ -6,5 +6,4 @@ mod ports;
 mod scripts;
 mod sources;
 
-
 pub use scripts::{goes_on, guards_answer, posts, run_script, script_holds, script_if_there};

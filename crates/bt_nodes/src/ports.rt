@@ -1,19 +1,26 @@
-ghost use Rattle.std.specs.Prelude.{◌≡◌, ℕ, length};
+ghost use Rattle.std.specs.Prelude.{◌≡◌, ℕ, ◌<◌, ◌^◌, length};
+ghost use Rattle.std.specs.List.{All};
 ghost use Rattle.bt_model.specs.declared.built_ins.Range.TheVariants.{Duration, Turns as TurnRange};
 ghost use Rattle.bt_model.specs.declared.term.Term.{Term-F};
 ghost use Rattle.bt_model.specs.Done.{State};
-ghost use Rattle.bt_model.specs.Ports.{is_negative, new_memo, parallel_start, picked, since_start, threshold, turns_start, within};
+ghost use Rattle.bt_model.specs.Ports.{is_negative, new_memo, parallel_start, picked, since_start, skip_picked, threshold, turns_start, within};
+ghost use Rattle.bt_model.specs.Rules.Decorators.{mark_of};
 ghost use Rattle.bt_model.specs.Rules.Sequences.{index_of};
 ghost use Rattle.bt_model.specs.Sites.{Meaning, View};
 ghost use Rattle.bt_model.specs.Visit.{or_bad_port, site_of};
 ghost use Rattle.bt_arena.specs.Nodes.{IsNode};
+ghost use Rattle.bt_arena.specs.Sources.{IsSourceOf};
 ghost use Rattle.bt_arena.specs.Stands.{written};
-ghost use Rattle.bt_nodes.specs.Given.{HasPorts};
+ghost use Rattle.bt_nodes.specs.Given.{FewCases, HasPorts, case_selected, port_at, source_number};
 
-use crate::sources::number_of;
-use bt_arena::Node;
+use crate::sources::{case_with, number_of, truth_of, value_of};
+use bt_arena::{Node, Source};
 use bt_board::Board;
-use bt_model::{Counts, Kind, Memo, PortId, Range, Since, Turns, int_fits};
+use bt_model::{
+    Answer, Cause, Counts, Kind, Memo, NodeFault, PortId, Range, Since, Turns, int_fits,
+};
+use bt_script::Value;
+use itoa::Buffer;
 
 /// The next child of a memo.
 fn index_of(memo: Memo) -> u32
@@ -44,11 +51,7 @@ fn threshold(children: u32, count: Option<i64>) -> Option<u32>
 }
 
 /// The start of a Parallel of so many children with these counts.
-fn parallel_start(
-    children: u32,
-    success: Option<i64>,
-    failure: Option<i64>,
-) -> Result<Memo, PortId>
+fn parallel_start(children: u32, success: Option<i64>, failure: Option<i64>) -> Result<Memo, PortId>
     ensures { result ≡ parallel_start (threshold children success) (is_negative success) (threshold children failure) }
 {
     let need = threshold(children, success).ok_or(PortId::SuccessCount)?;
@@ -86,4 +89,136 @@ fn since_start(port: PortId, now: u64, length: Option<i64>) -> Result<Memo, Port
         })),
         _ => Err(port),
     }
+}
+
+/// The number that the port of this place is given, where it is one.
+fn number_at(node: &Node, place: usize, board: &Board) -> Option<i64>
+    requires ports { HasPorts (length board.now) node.now }
+    requires there { place < length node.now.ports }
+    ensures { result ≡ source_number board.now (port_at node.now place) }
+{
+    number_of(&node.ports.list()[place], board)
+}
+
+/// The memo with which a node starts, from the memo that it has; or its port that holds no number of
+/// its range.
+fn start_of(node: &Node, memo: Memo, board: &Board, now: u64) -> Result<Memo, PortId>
+    requires { HasPorts (length board.now) node.now }
+    ensures { (term : Term-F Meaning) (view : View) (whole uid : ℕ) (s : State) → IsNode view (written term) whole node.now →
+        result ≡ new_memo term.kind (site_of term view uid) memo (record s { board = board.now; moment = now }) }
+{
+    match node.kind {
+        Kind::Sequence | Kind::Fallback | Kind::ReactiveSequence | Kind::ReactiveFallback => {
+            Ok(Memo::Index { at: 0, seen: false })
+        }
+        Kind::SequenceWithMemory => Ok(Memo::Index {
+            at: index_of(memo),
+            seen: false,
+        }),
+        Kind::Parallel => parallel_start(
+            node.children,
+            number_at(node, 0, board),
+            number_at(node, 1, board),
+        ),
+        Kind::Switch(_) | Kind::IfThenElse => Ok(Memo::Chosen(None)),
+        Kind::Retry => turns_start(PortId::NumAttempts, number_at(node, 0, board)),
+        Kind::Repeat => turns_start(PortId::NumCycles, number_at(node, 0, board)),
+        Kind::Timeout => since_start(PortId::Msec, now, number_at(node, 0, board)),
+        Kind::Delay => since_start(PortId::DelayMsec, now, number_at(node, 0, board)),
+        Kind::RunOnce => Ok(Memo::Finished(None)),
+        _ => Ok(Memo::Nothing),
+    }
+}
+
+/// What was read from the ports of the node with this uid, or its fault: the port that holds no number
+/// of its range.
+fn or_bad_port<A>(uid: u32, read: Result<A, PortId>) -> Result<A, NodeFault>
+    ensures { result ≡ or_bad_port uid read }
+{
+    match read {
+        Ok(a) => Ok(a),
+        Err(port) => Err(NodeFault {
+            uid,
+            cause: Cause::BadPort { port },
+        }),
+    }
+}
+
+/// The memo with which the node with this uid starts, from the memo that it has; or the fault of its
+/// first numeric port that holds no number of its range. `now` is in milliseconds.
+pub fn new_memo(
+    node: &Node,
+    uid: u32,
+    memo: Memo,
+    board: &Board,
+    now: u64,
+) -> Result<Memo, NodeFault>
+    requires { HasPorts (length board.now) node.now }
+    ensures { (term : Term-F Meaning) (view : View) (whole : ℕ) (s : State) → IsNode view (written term) whole node.now →
+        result ≡ or_bad_port uid (new_memo term.kind (site_of term view uid) memo (record s { board = board.now; moment = now })) }
+{
+    or_bad_port(uid, start_of(node, memo, board, now))
+}
+
+/// The mark of a RunOnce.
+fn mark_of(memo: Memo) -> Option<Answer>
+    ensures { result ≡ mark_of memo }
+{
+    match memo {
+        Memo::Finished(mark) => mark,
+        _ => None,
+    }
+}
+
+/// What a RunOnce with a mark picks by its port `then_skip`.
+fn skip_picked(skip: Option<bool>) -> Result<u32, PortId>
+    ensures { result ≡ skip_picked skip }
+{
+    match skip {
+        Some(true) => Ok(1),
+        Some(false) => Ok(0),
+        None => Err(PortId::ThenSkip),
+    }
+}
+
+/// The place of the child that a Switch with these ports selects.
+fn selected(ports: &[Source], board: &Board) -> u32
+    requires known { All (IsSourceOf (length board.now)) ports.now }
+    requires few { length ports.now < 2 ^ 32 }
+    ensures { result ≡ case_selected board.now ports.now }
+{
+    match ports {
+        [variable, cases @ ..] => match value_of(variable, board) {
+            Some(Value::Int(n)) => case_with(cases, board, Buffer::new().format(*n).as_bytes()),
+            Some(Value::Text(text)) => case_with(cases, board, text.list()),
+            None => cases.len() as u32,
+        },
+        [] => 0,
+    }
+}
+
+/// What is picked for a visit of a node; or its port that holds no truth.
+fn pick(node: &Node, memo: Memo, board: &Board) -> Result<u32, PortId>
+    requires { HasPorts (length board.now) node.now }
+    ensures { (term : Term-F Meaning) (view : View) (whole uid : ℕ) (s : State) → IsNode view (written term) whole node.now → FewCases term.kind →
+        result ≡ picked term.kind (site_of term view uid) memo (record s { board = board.now }) }
+{
+    match node.kind {
+        Kind::Switch(_) => Ok(selected(node.ports.list(), board)),
+        Kind::RunOnce => match mark_of(memo) {
+            Some(_) => skip_picked(truth_of(&node.ports.list()[0], board)),
+            None => Ok(0),
+        },
+        _ => Ok(0),
+    }
+}
+
+/// What is picked for a visit of the node with this uid: the place of the child that a Switch selects,
+/// and for a RunOnce with a mark 1 where it skips; or the fault of its port.
+pub fn picked(node: &Node, uid: u32, memo: Memo, board: &Board) -> Result<u32, NodeFault>
+    requires { HasPorts (length board.now) node.now }
+    ensures { (term : Term-F Meaning) (view : View) (whole : ℕ) (s : State) → IsNode view (written term) whole node.now → FewCases term.kind →
+        result ≡ or_bad_port uid (picked term.kind (site_of term view uid) memo (record s { board = board.now })) }
+{
+    or_bad_port(uid, pick(node, memo, board))
 }

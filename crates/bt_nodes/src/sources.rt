@@ -71,7 +71,7 @@ fn has_text(source: &Source, board: &Board, text: &[u8]) -> bool
 }
 
 /// The place of the first of these cases that has this text, and their number where none has it.
-fn case_with(cases: &[Source], board: &Board, text: &[u8]) -> u32
+pub fn case_with(cases: &[Source], board: &Board, text: &[u8]) -> u32
     requires known { All (IsSourceOf (length board.now)) cases.now }
     requires few { length cases.now < 2 ^ 32 }
     ensures { result ≡ first_case board.now cases.now 0 text.now }
