@@ -1,0 +1,6 @@
+pub mod Children
+pub mod Follows
+pub mod Letting
+pub mod Marks
+pub mod Memories
+pub mod Scripted
