@@ -2,8 +2,11 @@
 //! ports, the call of its driver, and the end of its visit.
 #![tactic(auto)]
 
+mod leaves;
 mod ports;
 mod scripts;
 mod sources;
 
+pub use leaves::leaf_call;
+pub use ports::{new_memo, picked};
 pub use scripts::{goes_on, guards_answer, posts, run_script, script_holds, script_if_there};
