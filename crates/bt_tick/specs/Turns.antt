@@ -1,5 +1,5 @@
 -- What is still to come of a visit, and the turns in which it is made.
-use Rattle.std.specs.Prelude.{◌≡◌, ◌+◌, ◌<◌, ◌≤◌, ℕ, List, [], ◌∷◌, ◌++◌, length, slice_index_or, Bool, true, false, Option, None, Result, Ok, Err}
+use Rattle.std.specs.Prelude.{◌≡◌, ◌+◌, ◌-◌, ◌*◌, ◌^◌, ◌<◌, ◌≤◌, ℕ, zero, suc, sum_by, List, [], ◌∷◌, ◌++◌, length, slice_index_or, Bool, true, false, Option, Some, None, Result, Ok, Err}
 use Rattle.bt_script.specs.declared.stop.Stop.{Stop}
 use Rattle.bt_model.specs.declared.fault.NodeFault.{NodeFault}
 use Rattle.bt_model.specs.declared.memory.Memo.{Memo}
@@ -10,15 +10,15 @@ use Rattle.bt_model.specs.declared.note.Note.{Note}
 use Rattle.bt_model.specs.declared.status.Answer.{Answer}
 use Rattle.bt_model.specs.declared.status.Status.{Status}
 use Rattle.bt_model.specs.declared.term.Kind.{Kind}
-use Rattle.bt_model.specs.declared.term.Kind.TheVariants.{Switch, Leaf, ScriptNode, ScriptCondition, AlwaysSuccess, AlwaysFailure}
+use Rattle.bt_model.specs.declared.term.Kind.TheVariants.{Parallel, Switch, Leaf, ScriptNode, ScriptCondition, AlwaysSuccess, AlwaysFailure}
 use Rattle.bt_model.specs.declared.term.Term.{Term, out-Term}
 use Rattle.bt_model.specs.declared.term.Term.TheFolds.{map-Term}
 use Rattle.bt_model.specs.Done.{Call, Done, State, behind, done, follow}
-use Rattle.bt_model.specs.Moves.{Fits as FitsMoves, FitsStart, after, rest}
+use Rattle.bt_model.specs.Moves.{Fits as FitsMoves, FitsStart, after, next_place, rest, visits_left}
 use Rattle.bt_model.specs.Sites.{Meaning, Site, View, children_of, placed, remembered}
-use Rattle.bt_model.specs.Sound.{Dated, Leaves, Sound, Sounds}
-use Rattle.bt_model.specs.Steps.{Rule, visit}
-use Rattle.bt_model.specs.Visit.{ended, meaning, site_of, status_of}
+use Rattle.bt_model.specs.Sound.{Dated, Leaves, Sound, Sounds, held_at, is_held}
+use Rattle.bt_model.specs.Steps.{Rule, is_completed, visit}
+use Rattle.bt_model.specs.Visit.{ended, meaning, ruled, site_of, started, status_of}
 use Rattle.bt_arena.specs.declared.nodes.Kept.{Kept}
 use Rattle.bt_arena.specs.declared.nodes.Node.{Node}
 use Rattle.bt_arena.specs.Nodes.{kept_at, node_at}
@@ -71,6 +71,12 @@ visit_in nodes moment term view uid s = (meaning term).visit view uid (memory_in
 
 -- ---- What is asked of the nodes
 
+abbrev pub number : Term → ℕ
+number term = length (out-Term term).children
+
+abbrev pub kind_of : Term → Kind
+kind_of term = (out-Term term).kind
+
 -- a term that stands in a scene can be visited: it and all below it keep their rules, and no instance is held since a
 -- later moment
 pub record CanVisit (nodes : List Node) (moment : ℕ) (term : Term) (view : View) (uid : ℕ) (s : Scene) : Type 0 where
@@ -106,13 +112,30 @@ CanPick kind picked = Unit {0}
 abbrev pub CanBegin : Kind → ℕ → Memo → Type 0
 CanBegin kind children memo = (picked : ℕ) → CanPick kind picked → FitsStart kind children memo picked
 
+-- the rule of a node can be followed from the status and the memo that it has: where it has children with any pick, and
+-- a leaf is held where it is RUNNING
+pub record CanFollow (nodes : List Node) (moment : ℕ) (term : Term) (view : View) (uid : ℕ) (s : Scene) : Type 0 where
+  pub can : CanGoOn nodes moment term view uid s
+  pub begins : has_rule (kind_of term) ≡ true → CanBegin (kind_of term) (number term) (kept_at s.kept uid).memo
+  pub held : has_rule (kind_of term) ≡ false → held_at (state_in nodes s moment) uid ≡ Some (is_held (kept_at s.kept uid).status (kind_of term))
+
+-- the visit of a node from its rule on
+abbrev pub ruled_in : List Node → ℕ → Term → View → ℕ → Scene → Done Answer Memory
+ruled_in nodes moment term view uid s =
+    ruled (site_at view uid term) (kept_at s.kept uid).status (kept_at s.kept uid).memo (children_in term uid s.kept) (state_in nodes s moment)
+
+-- its start, and all that follows
+abbrev pub started_in : List Node → ℕ → Term → View → ℕ → Scene → Done Answer Memory
+started_in nodes moment term view uid s = started (site_at view uid term) (memory_in term uid s) (state_in nodes s moment)
+
+-- a node has started, and its rule is still to come; or it stopped
+abbrev pub Starts : List Node → ℕ → Term → View → ℕ → Result (Unit {0}) (Stop NodeFault) → Scene → Scene → List Note → List Note → Type 0
+Starts nodes moment term view uid (Ok _) before after old new =
+    CanFollow nodes moment term view uid after × Comes nodes before after old new (started_in nodes moment term view uid before) (ruled_in nodes moment term view uid after)
+Starts nodes moment term view uid (Err e) before after old new =
+    Meets {A = Answer} nodes moment (memory_of term uid) (Err e) before after old new (started_in nodes moment term view uid before)
+
 -- ---- Turns
-
-abbrev pub number : Term → ℕ
-number term = length (out-Term term).children
-
-abbrev pub kind_of : Term → Kind
-kind_of term = (out-Term term).kind
 
 -- the place of the child that was heard of, and of the first one where a rule begins
 abbrev pub place_heard : Heard → ℕ
@@ -145,6 +168,16 @@ TurnDoes nodes moment term view uid (turn.Enter at) s next = (at ≡ uid) × Can
 TurnDoes nodes moment term view uid (turn.GoOn step) s next = GoesOnBy nodes moment term view uid step s next
 TurnDoes nodes moment term view uid (turn.Wait frame) s next = WaitsBy nodes moment term view uid frame s next
 TurnDoes nodes moment term view uid (turn.Back a) s next = next ≡ done a (memory_in term uid s) (state_in nodes s moment)
+
+-- whether a child of this status is passed over: one of a Parallel is that has completed
+abbrev pub passes_over : Kind → Status → Bool
+passes_over Parallel status = is_completed status
+passes_over kind status = false
+
+-- a child is visited, or passed over
+abbrev pub turn_to : Bool → Frame → Turn
+turn_to true frame = turn.GoOn (record { uid = frame.uid; memo = frame.memo; heard = Passed frame.place; child = frame.child })
+turn_to false frame = turn.Wait frame
 
 -- a turn, and what is done and what is still to come of a whole
 pub record ComesTo (nodes : List Node) (moment : ℕ) (term : Term) (view : View) (uid : ℕ) (turn : Turn) (before after : Scene) (old new : List Note) (whole : Done Answer Memory) : Type 0 where
@@ -233,3 +266,26 @@ pub record Going (nodes : List Node) (moment : ℕ) (root : Term) (first : ℕ) 
   pub stands : StackIs nodes moment after root first stack waiting term view uid
   pub leaves : AllLeave waiting next
   pub comes : Comes nodes before after old new whole (resume waiting next)
+
+-- ---- Work
+
+-- a bound on the turns of a visit of so many nodes
+abbrev pub cost : ℕ → ℕ
+cost zero = 1
+cost (suc size) = 2 ^ 40 * cost size
+
+-- a bound on those of the visits of children that are left to a node
+abbrev pub left_of : Node → Memo → ℕ → ℕ
+left_of node memo first = visits_left node.kind node.children memo first * (cost (node.size - 1) + 3)
+
+abbrev pub frame_work : List Node → Frame → ℕ
+frame_work nodes frame = 2 + left_of (node_at nodes frame.uid) frame.memo (frame.place + 1)
+
+abbrev pub stack_work : List Node → List Frame → ℕ
+stack_work nodes stack = sum_by (frame_work nodes) stack
+
+abbrev pub turn_work : List Node → Turn → ℕ
+turn_work nodes (turn.Enter uid) = cost (node_at nodes uid).size
+turn_work nodes (turn.GoOn step) = 1 + left_of (node_at nodes step.uid) step.memo (next_place step.heard)
+turn_work nodes (turn.Wait frame) = frame_work nodes frame + cost (node_at nodes frame.child).size + 1
+turn_work nodes (turn.Back a) = 0

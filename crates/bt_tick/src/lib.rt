@@ -1,7 +1,12 @@
 //! The tick of the engine: one visit of the root of a tree that stands in an arena.
 #![tactic(auto)]
 
+mod enter;
 mod machine;
 mod moves;
+mod onward;
+mod parts;
+mod visiting;
 
 pub use machine::{Frame, Step, Turn};
+pub use visiting::tick;
