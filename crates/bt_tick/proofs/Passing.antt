@@ -1,5 +1,6 @@
 -- What was done on the way, and what is still to come.
 use Rattle.std.proofs.Common.{◌≡◌, ℕ, ◌+◌, List, [], ◌∷◌, ◌++◌, length, refl, sym, ap, ◌∙◌, subst, append_assoc, append-nil, length-append, Result, Ok, Err, arith}
+use Rattle.std.specs.Prelude.{IsErrAnd}
 use Rattle.bt_script.specs.declared.stop.Stop.{Stop}
 use Rattle.bt_script.specs.declared.stop.Stop.TheVariants as stop
 use Rattle.bt_model.specs.declared.fault.NodeFault.{NodeFault}
@@ -81,3 +82,11 @@ module _ {A M B N : Type 0} (nodes : List Node) (moment : ℕ) (memory : List Ke
     notes = m.0.notes;
     drivers = m.0.drivers;
   }
+
+-- nothing was told yet
+pub none_told : {A M : Type 0} (nodes : List Node) (s : Scene) (n : List Note) (d : Done A M) → IsCut nodes s s n n d
+none_told nodes s n d = record { told = []; untold = d.notes; made = []; unmade = d.calls; all_notes = refl; all_calls = refl; named = refl; notes = sym (append-nil n); drivers = refl }
+
+pub stops_with : {A : Type 0} (r : Result A (Stop NodeFault)) (e : Stop NodeFault) → IsErrAnd r (λ x. x ≡ e) → r ≡ Err e
+stops_with (Ok a) e h = absurd h
+stops_with (Err x) e h = ap Err h

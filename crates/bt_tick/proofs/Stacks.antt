@@ -2,6 +2,7 @@
 use Rattle.std.proofs.Common.{◌≡◌, ℕ, zero, suc, ◌+◌, ◌<◌, ◌≤◌, List, [], ◌∷◌, ◌++◌, map, length, get_or, slice_set, refl, sym, ap, subst, ◌∙◌, arith, Option, None, Result, Ok, Err}
 use Rattle.std.proofs.lemmas.List.{same_from_push}
 use Rattle.bt_script.specs.declared.stop.Stop.{Stop}
+use Rattle.bt_script.specs.declared.stop.Stop.TheVariants as stop
 use Rattle.bt_model.specs.declared.fault.NodeFault.{NodeFault}
 use Rattle.bt_model.specs.declared.memory.Memo.{Memo}
 use Rattle.bt_model.specs.declared.memory.Memory.{Memory, out-Memory}
@@ -34,7 +35,7 @@ use Rattle.bt_tick.specs.declared.machine.Turn.TheVariants as turn
 use Rattle.bt_tick.specs.Turns.{AllLeave, CanGoOn, CanVisit, ChildLeaves, ChildrenSound, Comes, ComesTo, Goes, Going, GoesOnBy, StackIs, TurnDoes, Waiting, WaitsBy, WaitsFor, child_of_waiting, children_in, goes_behind, goes_by, kind_of, memory_in, number, resume, ruled_by, site_at, visit_in}
 use Rattle.bt_tick.proofs.Children.{beside_same, child_inside, child_seen, child_stands, seat_at, terms}
 use Rattle.bt_tick.proofs.Frames.{all_stops, children_now, leave_comes, node_kept, resume_comes, stack_stays}
-use Rattle.bt_tick.proofs.Passing.{comes_both, comes_same, follow_follow, met_behind}
+use Rattle.bt_tick.proofs.Passing.{comes_both, comes_same, follow_follow, met_behind, none_told}
 
 none_from_push : {X : Type 0} (xs : List X) (x : X) → [] ≡ xs ++ x ∷ [] → ⊥
 none_from_push [] x is = cc
@@ -264,3 +265,81 @@ module _ (keeps : (t : Term) → Keeps (meaning t) (Sound t)) (nodes : List Node
             leaves = subst (λ (x : Done Answer Memory). AllLeave ws (goes_behind w x)) g.does leaves.1;
             comes = subst (λ (x : Done Answer Memory). Comes nodes s0 s n0 n whole (resume ws (goes_behind w x))) g.does comes;
           })
+
+  -- ---- The turns, as the loop makes them
+
+  module _ {root : Term} {first : ℕ} {stack : List Frame} {s0 s : Scene} {n0 n : List Note} {whole : Done Answer Memory} where
+    enter_at : {u : ℕ} → Going nodes moment root first (turn.Enter u) stack s0 s n0 n whole → Going nodes moment root first (turn.Enter u) stack s0 s n0 n whole
+    enter_at {u} g =
+        let here : g.uid ≡ u = sym g.does.0 in
+        let come : g.next ≡ visit_in nodes moment g.term g.view u s = g.does.2 ∙ ap (λ (x : ℕ). visit_in nodes moment g.term g.view x s) here in
+        record {
+          waiting = g.waiting;
+          term = g.term;
+          view = g.view;
+          uid = u;
+          next = visit_in nodes moment g.term g.view u s;
+          does = (refl, subst (λ (x : ℕ). CanVisit nodes moment g.term g.view x s) here g.does.1, refl);
+          stands = subst (λ (x : ℕ). StackIs nodes moment s root first stack g.waiting g.term g.view x) here g.stands;
+          leaves = subst (λ (d : Done Answer Memory). AllLeave g.waiting d) come g.leaves;
+          comes = subst (λ (d : Done Answer Memory). Comes nodes s0 s n0 n whole (resume g.waiting d)) come g.comes;
+        }
+
+    step_at : {step : Step} → Going nodes moment root first (turn.GoOn step) stack s0 s n0 n whole → Going nodes moment root first (turn.GoOn step) stack s0 s n0 n whole
+    step_at {step} g = record {
+      waiting = g.waiting;
+      term = g.term;
+      view = g.view;
+      uid = step.uid;
+      next = g.next;
+      does = subst (λ (x : ℕ). GoesOnBy nodes moment g.term g.view x step s g.next) (sym g.does.here) g.does;
+      stands = subst (λ (x : ℕ). StackIs nodes moment s root first stack g.waiting g.term g.view x) (sym g.does.here) g.stands;
+      leaves = g.leaves;
+      comes = g.comes;
+    }
+
+    as_turn : {t t1 : Turn} → t ≡ t1 → Going nodes moment root first t stack s0 s n0 n whole → Going nodes moment root first t1 stack s0 s n0 n whole
+    as_turn is g = subst (λ (x : Turn). Going nodes moment root first x stack s0 s n0 n whole) is g
+
+    pub can_enter : {t : Turn} {u : ℕ} → t ≡ turn.Enter u → Going nodes moment root first t stack s0 s n0 n whole → (term : Term) × (view : View) × CanVisit nodes moment term view u s
+    can_enter is g = let h = enter_at (as_turn is g) in (h.term, h.view, h.does.1)
+
+    pub can_step : {t : Turn} {step : Step} → t ≡ turn.GoOn step → Going nodes moment root first t stack s0 s n0 n whole → (term : Term) × (view : View) × (next : Done Answer Memory) × GoesOnBy nodes moment term view step.uid step s next
+    can_step is g = let h = step_at (as_turn is g) in (h.term, h.view, h.next, h.does)
+
+    module _ (s1 : Scene) (n1 : List Note) where
+      pub enter_made : {t t1 : Turn} {u : ℕ} → t ≡ turn.Enter u → Going nodes moment root first t stack s0 s n0 n whole →
+          ((term : Term) (view : View) → CanVisit nodes moment term view u s → Goes nodes moment term view u (Ok t1) s s1 n n1 (visit_in nodes moment term view u s)) → Going nodes moment root first t1 stack s0 s1 n0 n1 whole
+      enter_made is g goes = let h = enter_at (as_turn is g) in made h s1 n1 (goes h.term h.view h.does.1)
+
+      pub enter_stops : {t : Turn} {u : ℕ} (e : Stop NodeFault) → t ≡ turn.Enter u → Going nodes moment root first t stack s0 s n0 n whole →
+          ((term : Term) (view : View) → CanVisit nodes moment term view u s → Goes nodes moment term view u (Err e) s s1 n n1 (visit_in nodes moment term view u s)) → Meets {A = Answer} nodes moment (memory_of root first) (Err e) s0 s1 n0 n1 whole
+      enter_stops e is g goes = let h = enter_at (as_turn is g) in stops h s1 n1 e (goes h.term h.view h.does.1)
+
+      pub step_made : {t t1 : Turn} {step : Step} → t ≡ turn.GoOn step → Going nodes moment root first t stack s0 s n0 n whole →
+          ((term : Term) (view : View) (next : Done Answer Memory) → GoesOnBy nodes moment term view step.uid step s next → Goes nodes moment term view step.uid (Ok t1) s s1 n n1 next) → Going nodes moment root first t1 stack s0 s1 n0 n1 whole
+      step_made is g goes = let h = step_at (as_turn is g) in made h s1 n1 (goes h.term h.view h.next h.does)
+
+      pub step_stops : {t : Turn} {step : Step} (e : Stop NodeFault) → t ≡ turn.GoOn step → Going nodes moment root first t stack s0 s n0 n whole →
+          ((term : Term) (view : View) (next : Done Answer Memory) → GoesOnBy nodes moment term view step.uid step s next → Goes nodes moment term view step.uid (Err e) s s1 n n1 next) → Meets {A = Answer} nodes moment (memory_of root first) (Err e) s0 s1 n0 n1 whole
+      step_stops e is g goes = let h = step_at (as_turn is g) in stops h s1 n1 e (goes h.term h.view h.next h.does)
+
+      pub step_stays : {t : Turn} {step : Step} (r : Result Turn (Stop NodeFault)) → t ≡ turn.GoOn step → Going nodes moment root first t stack s0 s n0 n whole →
+          ((term : Term) (view : View) (next : Done Answer Memory) → GoesOnBy nodes moment term view step.uid step s next → Goes nodes moment term view step.uid r s s1 n n1 next) → StaysFit nodes s s1
+      step_stays r is g goes = let h = step_at (as_turn is g) in (goes h.term h.view h.next h.does).stays
+
+    pub wait_made : {t : Turn} {frame : Frame} (stack1 : List Frame) → t ≡ turn.Wait frame → stack1 ≡ stack ++ frame ∷ [] → Going nodes moment root first t stack s0 s n0 n whole → Going nodes moment root first (turn.Enter frame.child) stack1 s0 s n0 n whole
+    wait_made {frame = frame} stack1 is pushed g = subst (λ (fs : List Frame). Going nodes moment root first (turn.Enter frame.child) fs s0 s n0 n whole) (sym pushed) (entered (as_turn is g))
+
+    -- want of memory for the stack
+    pub cut_here : {t : Turn} → Going nodes moment root first t stack s0 s n0 n whole → Meets {A = Answer} nodes moment (memory_of root first) (Err stop.NoMemory) s0 s n0 n whole
+    cut_here g = met_behind nodes moment (memory_of root first) s0 s s n0 n n whole (resume g.waiting g.next) (Err stop.NoMemory) g.comes (none_told nodes s n (resume g.waiting g.next))
+
+    pub back_made : {t : Turn} {a : Answer} {frame : Frame} (stack1 : List Frame) (step : Step) → t ≡ turn.Back a → stack ≡ stack1 ++ frame ∷ [] →
+        step ≡ record { uid = frame.uid; memo = frame.memo; heard = Answered frame.place a; child = frame.child } → Going nodes moment root first t stack s0 s n0 n whole → Going nodes moment root first (turn.GoOn step) stack1 s0 s n0 n whole
+    back_made {a = a} {frame = frame} stack1 step is popped hears g =
+        subst (λ (x : Step). Going nodes moment root first (turn.GoOn x) stack1 s0 s n0 n whole) (sym hears)
+        (heard (subst (λ (fs : List Frame). Going nodes moment root first (turn.Back a) fs s0 s n0 n whole) popped (as_turn is g)))
+
+    pub back_answers : {t : Turn} {a : Answer} → t ≡ turn.Back a → stack ≡ [] → Going nodes moment root first t stack s0 s n0 n whole → Meets nodes moment (memory_of root first) (Ok a) s0 s n0 n whole
+    back_answers {a = a} is empty g = answers (subst (λ (fs : List Frame). Going nodes moment root first (turn.Back a) fs s0 s n0 n whole) empty (as_turn is g))

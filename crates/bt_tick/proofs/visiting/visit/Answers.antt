@@ -1,31 +1,10 @@
+use Rattle.std.proofs.Common.{◌≡◌, ◌≤◌, List, [], Err, arith, refl, sym, subst, ◌∙◌, omega_none}
+use Rattle.std.proofs.lemmas.List.{nil_from_length}
+use Rattle.bt_arena.specs.Ends.{Meets}
+use Rattle.bt_arena.specs.Scenes.{scene}
+use Rattle.bt_arena.specs.Stands.{memory_of}
+use Rattle.bt_laws.proofs.Keeping.{term_keeps}
+use Rattle.bt_tick.specs.Turns.{Going}
+use Rattle.bt_tick.proofs.Passing.{stops_with}
+use Rattle.bt_tick.proofs.Stacks.{back_answers, back_made, begins, can_step, cut_here, enter_made, enter_stops, step_made, step_stays, step_stops, wait_made}
 use Rattle.bt_tick.proofs.visiting.visit.Goals as goal
-
-pub loop-turn-init : goal.loop-turn-init
-loop-turn-init g c = ?
-
-pub returns-in_err-turn-in-Enter-clause-meets : goal.returns-in_err-turn-in-Enter-clause-meets
-returns-in_err-turn-in-Enter-clause-meets g c = ?
-
-pub go_on-requires : goal.go_on-requires
-go_on-requires g c = ?
-
-pub returns-in_err-turn-in-GoOn-clause-meets : goal.returns-in_err-turn-in-GoOn-clause-meets
-returns-in_err-turn-in-GoOn-clause-meets g c = ?
-
-pub returns-in_err-turn-in-GoOn-clause-fits : goal.returns-in_err-turn-in-GoOn-clause-fits
-returns-in_err-turn-in-GoOn-clause-fits g c = ?
-
-pub returns-in-None-clause-meets : goal.returns-in-None-clause-meets
-returns-in-None-clause-meets g c = ?
-
-pub loop-turn-preserved-in_ok-turn-in-Enter : goal.loop-turn-preserved-in_ok-turn-in-Enter
-loop-turn-preserved-in_ok-turn-in-Enter g c = ?
-
-pub loop-turn-preserved-in_ok-turn-in-GoOn : goal.loop-turn-preserved-in_ok-turn-in-GoOn
-loop-turn-preserved-in_ok-turn-in-GoOn g c = ?
-
-pub loop-turn-preserved-in_ok-push-in-Wait : goal.loop-turn-preserved-in_ok-push-in-Wait
-loop-turn-preserved-in_ok-push-in-Wait g c = ?
-
-pub loop-turn-preserved : goal.loop-turn-preserved
-loop-turn-preserved g c = ?
