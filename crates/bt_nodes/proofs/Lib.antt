@@ -1,6 +1,10 @@
 pub mod Answering
+pub mod EndedVisits
 pub mod Filling
 pub mod Following
+pub mod LoneVisits
 pub mod MadeCalls
 pub mod Needed
 pub mod PortValues
+pub mod Settled
+pub mod Standing
