@@ -1,6 +1,11 @@
 pub mod Children
+pub mod Ending
 pub mod Follows
+pub mod Halting
+pub mod Leaving
 pub mod Letting
 pub mod Marks
 pub mod Memories
 pub mod Scripted
+pub mod Turns
+pub mod Within

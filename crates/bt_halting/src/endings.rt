@@ -55,6 +55,7 @@ fn let_go<D: Drivers>(
     ensures status { (kept_at kept.new uid).status ≡ (kept_at kept.old uid).status }
     ensures memo { (kept_at kept.new uid).memo ≡ (kept_at kept.old uid).memo }
     ensures reserve { notes.new.reserve ≡ notes.old.reserve }
+    ensures full { notes.new.full ≡ notes.old.full }
 {
     match &node(nodes, uid).leaf {
         Some(leaf) => {
@@ -77,6 +78,7 @@ fn come_to_rest(kept: &mut [Kept], uid: u32, notes: &mut Notes) -> Result<(), No
     ensures err { OnErr result (kept.new ≡ kept.old) }
     ensures err_notes { OnErr result (notes.new.list ≡ notes.old.list) }
     ensures reserve { notes.new.reserve ≡ notes.old.reserve }
+    ensures full { notes.new.full ≡ notes.old.full }
 {
     notes.push(Note::Changed {
         uid,
@@ -114,7 +116,9 @@ pub(crate) fn end_halt<D: Drivers>(
         (halted (site_at view uid term) (remembered Idle (cleared (kept_at kept.old uid).memo) (memories_of (out-Term term).children (uid + 1) kept.old)) (state_in nodes.now (scene kept.old board.old facts (D.states drivers.old)) moment)) }
     ensures fits { (facts : List ℤ) → StaysFit nodes.now (scene kept.old board.old facts (D.states drivers.old)) (scene kept.new board.new facts (D.states drivers.new)) }
     ensures beside { Beside uid 1 kept.old kept.new }
+    ensures status { OnOk result ((kept_at kept.new uid).status ≡ Idle) }
     ensures reserve { notes.old.reserve ≤ notes.new.reserve }
+    ensures full { notes.new.full ≡ notes.old.full }
 {
     let_go(nodes, kept, drivers, uid, notes)?;
     come_to_rest(kept, uid, notes)?;

@@ -2,6 +2,10 @@
 #![tactic(auto)]
 
 mod endings;
+mod quenching;
+mod resetting;
 mod scripts;
 
+pub use quenching::quench_nodes;
+pub use resetting::{halt_node, reset_children, reset_node};
 pub use scripts::{run_if_there, run_script};
