@@ -24,7 +24,7 @@ use Rattle.bt_model.specs.Sites.{Meaning, View}
 use Rattle.bt_model.specs.Steps.{Given}
 use Rattle.bt_model.specs.Visit.{site_of}
 use Rattle.bt_driver.specs.Rules.{rule}
-use Rattle.bt_driver.proofs.Keeping.{as_many_facts, held_while_running}
+use Rattle.bt_model.proofs.Calls.{as_many_facts, held_while_running}
 use Rattle.bt_arena.specs.declared.nodes.Kept.{Kept}
 use Rattle.bt_arena.specs.declared.nodes.Node.{Node}
 use Rattle.bt_arena.specs.declared.nodes.ReadyLeaf.{ReadyLeaf}

@@ -120,7 +120,7 @@ beside_more {uid} {size} {b = b} k low high = beside_both k (beside_same uid siz
 
 -- ---- Rules
 
-sound_roll : (x : Term-F Term) → Sound (roll-Term x) ≡ states_of_node Term (λ t. t) Sound x
+pub sound_roll : (x : Term-F Term) → Sound (roll-Term x) ≡ states_of_node Term (λ t. t) Sound x
 sound_roll x = rec-roll-Term States states_of_node (λ Y v k x. rules_of_terms v k x) x
 
 -- the rules of a term are that of its node and those of its children

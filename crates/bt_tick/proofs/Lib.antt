@@ -1,5 +1,6 @@
 pub mod Children
 pub mod Frames
+pub mod Held
 pub mod Passing
 pub mod Stacks
 pub mod Starting

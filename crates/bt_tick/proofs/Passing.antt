@@ -90,3 +90,8 @@ none_told nodes s n d = record { told = []; untold = d.notes; made = []; unmade 
 pub stops_with : {A : Type 0} (r : Result A (Stop NodeFault)) (e : Stop NodeFault) → IsErrAnd r (λ x. x ≡ e) → r ≡ Err e
 stops_with (Ok a) e h = absurd h
 stops_with (Err x) e h = ap Err h
+
+-- what stopped with this stops all with it
+pub met_with : {A M : Type 0} (nodes : List Node) (moment : ℕ) (memory : List Kept → M) (r : Result A (Stop NodeFault)) (e : Stop NodeFault) (s0 s1 : Scene) (n0 n1 : List Note) (d : Done A M) → IsErrAnd r (λ x. x ≡ e) →
+    Meets nodes moment memory (Err e) s0 s1 n0 n1 d → Meets nodes moment memory r s0 s1 n0 n1 d
+met_with {A} nodes moment memory r e s0 s1 n0 n1 d is m = subst (λ (x : Result A (Stop NodeFault)). Meets nodes moment memory x s0 s1 n0 n1 d) (sym (stops_with r e is)) m

@@ -269,7 +269,7 @@ module _ (keeps : (t : Term) → Keeps (meaning t) (Sound t)) (nodes : List Node
   -- ---- The turns, as the loop makes them
 
   module _ {root : Term} {first : ℕ} {stack : List Frame} {s0 s : Scene} {n0 n : List Note} {whole : Done Answer Memory} where
-    enter_at : {u : ℕ} → Going nodes moment root first (turn.Enter u) stack s0 s n0 n whole → Going nodes moment root first (turn.Enter u) stack s0 s n0 n whole
+    abbrev enter_at : {u : ℕ} → Going nodes moment root first (turn.Enter u) stack s0 s n0 n whole → Going nodes moment root first (turn.Enter u) stack s0 s n0 n whole
     enter_at {u} g =
         let here : g.uid ≡ u = sym g.does.0 in
         let come : g.next ≡ visit_in nodes moment g.term g.view u s = g.does.2 ∙ ap (λ (x : ℕ). visit_in nodes moment g.term g.view x s) here in
@@ -285,7 +285,7 @@ module _ (keeps : (t : Term) → Keeps (meaning t) (Sound t)) (nodes : List Node
           comes = subst (λ (d : Done Answer Memory). Comes nodes s0 s n0 n whole (resume g.waiting d)) come g.comes;
         }
 
-    step_at : {step : Step} → Going nodes moment root first (turn.GoOn step) stack s0 s n0 n whole → Going nodes moment root first (turn.GoOn step) stack s0 s n0 n whole
+    abbrev step_at : {step : Step} → Going nodes moment root first (turn.GoOn step) stack s0 s n0 n whole → Going nodes moment root first (turn.GoOn step) stack s0 s n0 n whole
     step_at {step} g = record {
       waiting = g.waiting;
       term = g.term;
@@ -298,8 +298,11 @@ module _ (keeps : (t : Term) → Keeps (meaning t) (Sound t)) (nodes : List Node
       comes = g.comes;
     }
 
-    as_turn : {t t1 : Turn} → t ≡ t1 → Going nodes moment root first t stack s0 s n0 n whole → Going nodes moment root first t1 stack s0 s n0 n whole
+    abbrev as_turn : {t t1 : Turn} → t ≡ t1 → Going nodes moment root first t stack s0 s n0 n whole → Going nodes moment root first t1 stack s0 s n0 n whole
     as_turn is g = subst (λ (x : Turn). Going nodes moment root first x stack s0 s n0 n whole) is g
+
+    pub on_stack : {t : Turn} {stack1 : List Frame} → stack ≡ stack1 → Going nodes moment root first t stack s0 s n0 n whole → Going nodes moment root first t stack1 s0 s n0 n whole
+    on_stack {t} is g = subst (λ (fs : List Frame). Going nodes moment root first t fs s0 s n0 n whole) is g
 
     pub can_enter : {t : Turn} {u : ℕ} → t ≡ turn.Enter u → Going nodes moment root first t stack s0 s n0 n whole → (term : Term) × (view : View) × CanVisit nodes moment term view u s
     can_enter is g = let h = enter_at (as_turn is g) in (h.term, h.view, h.does.1)
