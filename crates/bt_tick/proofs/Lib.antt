@@ -1,6 +1,7 @@
 pub mod Children
 pub mod Frames
 pub mod Held
+pub mod Moving
 pub mod Passing
 pub mod Stacks
 pub mod Starting
