@@ -1,3 +1,4 @@
+pub mod Bounds
 pub mod Children
 pub mod Frames
 pub mod Held

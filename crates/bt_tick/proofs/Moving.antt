@@ -1,5 +1,6 @@
 -- A node that goes on: what a move does of what is still to come.
 use Rattle.std.proofs.Common.{◌≡◌, ℕ, zero, suc, ◌+◌, ◌-◌, ◌<◌, ◌≤◌, ◌^◌, Bool, true, false, List, [], ◌∷◌, ◌++◌, map, length, get_or, refl, sym, ap, subst, ◌∙◌, arith, Option, None, Result, Ok, Err, cond}
+use Rattle.std.specs.Prelude.{IsTrue}
 use Rattle.bt_script.specs.declared.stop.Stop.{Stop}
 use Rattle.bt_model.specs.declared.fault.NodeFault.{NodeFault}
 use Rattle.bt_model.specs.declared.memory.Memo.{Memo}
@@ -17,6 +18,7 @@ use Rattle.bt_model.specs.declared.status.Status.{Status}
 use Rattle.bt_model.specs.declared.term.Kind.{Kind}
 use Rattle.bt_model.specs.declared.term.Kind.TheVariants.{Parallel}
 use Rattle.bt_model.specs.declared.term.Term.{Term, out-Term}
+use Rattle.bt_model.specs.BuiltIns.{takes}
 use Rattle.bt_model.specs.Done.{Done, State, behind, done, follow}
 use Rattle.bt_model.specs.Moves.{Fits as FitsMoves, GoesOn, after, behind_resets, going, hears, makes, next_place, rest}
 use Rattle.bt_model.specs.Sites.{View, child_of, children_of, memory_at, remembered}
@@ -42,8 +44,8 @@ use Rattle.bt_tick.specs.declared.machine.Step.{Step}
 use Rattle.bt_tick.specs.declared.machine.Turn.{Turn}
 use Rattle.bt_tick.specs.declared.machine.Turn.TheVariants as turn
 use Rattle.bt_tick.specs.Turns.{CanGoOn, ChildrenSound, Comes, ComesTo, Goes, GoesOnBy, GoesTo, TurnDoes, WaitsBy, children_in, goes_by, has_rule, kind_of, memory_in, number, passes_over, place_heard, ruled_by, site_at, turn_to}
-use Rattle.bt_tick.proofs.Children.{beside_both, child_seen, terms}
-use Rattle.bt_tick.proofs.Passing.{comes_both, comes_same, follow_follow, met_behind, part_made}
+use Rattle.bt_tick.proofs.Children.{beside_both, beside_more, child_seen, terms}
+use Rattle.bt_tick.proofs.Passing.{comes_both, follow_follow, met_behind, met_comes, part_made}
 
 -- ---- The node
 
@@ -226,3 +228,117 @@ module _ (nodes : List Node) (moment : ℕ) (term : Term) (view : View) (uid : �
     child = child;
     next_is = hears_visited term view uid (kept_at s.kept uid).status (kept_at s.kept uid).memo frame.place (after (kind_of term) (number term) frame.memo) (children_in term uid s.kept) (state_in nodes s moment) (kind_of term) (passes_is (kind_of term) ∙ e);
   }
+
+-- ---- The end of a visit
+
+-- the answer of a visit as a turn
+abbrev pub back_of : Result Answer (Stop NodeFault) → Result Turn (Stop NodeFault)
+back_of (Ok a) = Ok (turn.Back a)
+back_of (Err e) = Err e
+
+-- what was still to come was met, and the visit is over
+pub ends_so : (nodes : List Node) (moment : ℕ) (term : Term) (view : View) (uid : ℕ) (s s1 s2 : Scene) (n0 n1 n2 : List Note) (d e : Done Answer Memory) (r : Result Answer (Stop NodeFault)) →
+    Comes nodes s s1 n0 n1 d e → Meets nodes moment (memory_of term uid) r s1 s2 n1 n2 e → GoesTo nodes moment term view uid (back_of r) s s2 n0 n2 d
+ends_so nodes moment term view uid s s1 s2 n0 n1 n2 d e (Ok a) k m = record {
+  next = done a (memory_in term uid s2) (state_in nodes s2 moment);
+  does = refl;
+  comes = comes_both nodes s s1 s2 n0 n1 n2 d e (done a (memory_in term uid s2) (state_in nodes s2 moment)) k (met_comes nodes moment (memory_of term uid) a s1 s2 n1 n2 e m);
+}
+ends_so nodes moment term view uid s s1 s2 n0 n1 n2 d e (Err x) k m = met_behind nodes moment (memory_of term uid) s s1 s2 n0 n1 n2 d e (Err x) k m
+
+-- ---- A step
+
+module _ (keeps : (t : Term) → Keeps (meaning t) (Sound t)) (nodes : List Node) (moment : ℕ) (term : Term) (view : View) (step : Step) (s : Scene) (next : Done Answer Memory) (k : GoesOnBy nodes moment term view step.uid step s next) where
+  module _ (here : Node) (is : here ≡ node_at nodes step.uid) where
+    pub here_kind : here.kind ≡ kind_of term
+    here_kind = ap (λ (n : Node). n.kind) is ∙ kind_is k.can.fits
+
+    pub here_number : here.children ≡ number term
+    here_number = ap (λ (n : Node). n.children) is ∙ number_is k.can.fits
+
+    pub here_ruled : has_rule here.kind ≡ true
+    here_ruled = ap has_rule here_kind ∙ k.ruled
+
+    pub here_takes : IsTrue (takes here.kind here.children)
+    here_takes = (λ i. takes (here_kind i) (here_number i)) ∙ (node_fits k.can.fits).children
+
+    pub here_fits : FitsMoves here.kind here.children step.memo step.heard
+    here_fits =
+        subst (λ (kd : Kind). FitsMoves kd here.children step.memo step.heard) (sym here_kind)
+        (subst (λ (n : ℕ). FitsMoves (kind_of term) n step.memo step.heard) (sym here_number) k.fits)
+
+    module _ (memo : Memo) (go : Move) (moves : rest here.kind here.children moment step.memo step.heard ≡ makes (hears here.kind) (after here.kind here.children) memo go)
+        (onward : GoesOn here.kind here.children step.memo (next_place step.heard) memo go.then) where
+      abbrev pub still : Then → Rule
+      still then = going (hears (kind_of term)) (after (kind_of term) (number term)) memo then
+
+      pub moves_so : rest (kind_of term) (number term) moment step.memo step.heard ≡ behind_resets go.reset (still go.then)
+      moves_so =
+          subst (λ (kd : Kind). rest kd (number term) moment step.memo step.heard ≡ makes (hears kd) (after kd (number term)) memo go) here_kind
+          (subst (λ (n : ℕ). rest here.kind n moment step.memo step.heard ≡ makes (hears here.kind) (after here.kind n) memo go) here_number moves)
+
+      pub onward_so : GoesOn (kind_of term) (number term) step.memo (next_place step.heard) memo go.then
+      onward_so =
+          subst (λ (kd : Kind). GoesOn kd (number term) step.memo (next_place step.heard) memo go.then) here_kind
+          (subst (λ (n : ℕ). GoesOn here.kind n step.memo (next_place step.heard) memo go.then) here_number onward)
+
+      next_so : next ≡ goes_by nodes moment term view step.uid s (behind_resets go.reset (still go.then))
+      next_so = k.next_is ∙ ap (λ (r : Rule). goes_by nodes moment term view step.uid s r) moves_so
+
+      module _ (s1 : Scene) (n0 n1 : List Note) (stays : StaysFit nodes s s1) (beside_code : Beside (step.uid + 1) ((node_at nodes step.uid).size - 1) s.kept s1.kept) where
+        beside : Beside (step.uid + 1) ((meaning term).size - 1) s.kept s1.kept
+        beside = subst (λ (n : ℕ). Beside (step.uid + 1) (n - 1) s.kept s1.kept) (size_is k.can.fits) beside_code
+
+        abbrev reset_part : Done (Unit {0}) (List Memory)
+        reset_part = resets go.reset (children_of (site_at view step.uid term)) 0 (children_in term step.uid s.kept) (state_in nodes s moment)
+
+        some_size : 1 ≤ (meaning term).size
+        some_size = omega (arith, size_out term)
+
+        within_node : {a b : List Kept} → Beside (step.uid + 1) ((meaning term).size - 1) a b → Beside step.uid (meaning term).size a b
+        within_node x = beside_more x (omega arith) (omega (arith, some_size))
+
+        -- the resets stopped
+        pub step_stopped : (e : Stop NodeFault) → Meets {A = Unit {0}} nodes moment (children_in term step.uid) (Err e) s s1 n0 n1 reset_part → Goes nodes moment term view step.uid (Err e) s s1 n0 n1 next
+        step_stopped e m = record {
+          ends = subst (λ (d : Done Answer Memory). Meets {A = Answer} nodes moment (memory_of term step.uid) (Err e) s s1 n0 n1 d) (sym next_so)
+            (resets_stopped keeps nodes moment term view step.uid s k.can go.reset s1 n0 n1 stays beside (still go.then) e m);
+          beside = within_node beside;
+          stays = stays;
+        }
+
+        module _ (m : Meets nodes moment (children_in term step.uid) (Ok tt) s s1 n0 n1 reset_part) where
+          comes_so : (then : Then) → go.then ≡ then → Comes nodes s s1 n0 n1 next (goes_by nodes moment term view step.uid s1 (still then))
+          comes_so then is_then =
+              subst (λ (x : Then). Comes nodes s s1 n0 n1 next (goes_by nodes moment term view step.uid s1 (still x))) is_then
+              (subst (λ (d : Done Answer Memory). Comes nodes s s1 n0 n1 d (goes_by nodes moment term view step.uid s1 (still go.then))) (sym next_so)
+              (resets_made keeps nodes moment term view step.uid s k.can go.reset s1 n0 n1 stays beside (still go.then) m))
+
+          -- the answer is given
+          pub step_given : (a : Answer) → go.then ≡ then_.Give a → (s2 : Scene) (n2 : List Note) (r : Result Answer (Stop NodeFault)) → StaysFit nodes s1 s2 → Beside step.uid 1 s1.kept s2.kept →
+              Meets nodes moment (memory_of term step.uid) r s1 s2 n1 n2 (ended (site_at view step.uid term) (kept_at s1.kept step.uid).status (record { answer = a; memo = memo }) (children_in term step.uid s1.kept) (state_in nodes s1 moment)) →
+              Goes nodes moment term view step.uid (back_of r) s s2 n0 n2 next
+          step_given a gives s2 n2 r stays2 beside2 m2 = record {
+            ends = ends_so nodes moment term view step.uid s s1 s2 n0 n1 n2 next (goes_by nodes moment term view step.uid s1 (keep a memo)) r (comes_so (then_.Give a) gives)
+              (subst (λ (d : Done Answer Memory). Meets nodes moment (memory_of term step.uid) r s1 s2 n1 n2 d)
+              (sym (keep_opened term view step.uid (kept_at s1.kept step.uid).status (kept_at s1.kept step.uid).memo memo a (children_in term step.uid s1.kept) (state_in nodes s1 moment))) m2);
+            beside = beside_both (within_node beside) beside2 (omega arith) (omega arith) (omega arith) (omega (arith, some_size));
+            stays = λ t v u fits. stays2 t v u (stays t v u fits);
+          }
+
+          -- a child comes next
+          pub step_turned : (place child : ℕ) → go.then ≡ then_.Visit place → child ≡ uid_of (out-Term term).children (step.uid + 1) place →
+              (b : Bool) → passes_over (kind_of term) (kept_at s1.kept child).status ≡ b →
+              Goes nodes moment term view step.uid (Ok (turn_to b (record { uid = step.uid; memo = memo; place = place; child = child }))) s s1 n0 n1 next
+          step_turned place child visits is_child b passes =
+              let onward_there : GoesOn (kind_of term) (number term) step.memo (next_place step.heard) memo (then_.Visit place) = subst (λ (x : Then). GoesOn (kind_of term) (number term) step.memo (next_place step.heard) memo x) visits onward_so in
+              record {
+                ends = record {
+                  next = goes_by nodes moment term view step.uid s1 (still (then_.Visit place));
+                  does = turns nodes moment term view step.uid s1 (can_behind keeps nodes moment term view step.uid s k.can go.reset s1 n0 n1 stays beside m) (record { uid = step.uid; memo = memo; place = place; child = child }) refl k.ruled
+                    (next_place step.heard) step.memo onward_there is_child b passes;
+                  comes = comes_so (then_.Visit place) visits;
+                };
+                beside = within_node beside;
+                stays = stays;
+              }

@@ -95,3 +95,15 @@ stops_with (Err x) e h = ap Err h
 pub met_with : {A M : Type 0} (nodes : List Node) (moment : ℕ) (memory : List Kept → M) (r : Result A (Stop NodeFault)) (e : Stop NodeFault) (s0 s1 : Scene) (n0 n1 : List Note) (d : Done A M) → IsErrAnd r (λ x. x ≡ e) →
     Meets nodes moment memory (Err e) s0 s1 n0 n1 d → Meets nodes moment memory r s0 s1 n0 n1 d
 met_with {A} nodes moment memory r e s0 s1 n0 n1 d is m = subst (λ (x : Result A (Stop NodeFault)). Meets nodes moment memory x s0 s1 n0 n1 d) (sym (stops_with r e is)) m
+
+-- a part was made, and nothing is still to come
+pub met_comes : {A M : Type 0} (nodes : List Node) (moment : ℕ) (memory : List Kept → M) (a : A) (s0 s1 : Scene) (n0 n1 : List Note) (d : Done A M) →
+    Meets nodes moment memory (Ok a) s0 s1 n0 n1 d → Comes nodes s0 s1 n0 n1 d (done a (memory s1.kept) (state_in nodes s1 moment))
+met_comes nodes moment memory a s0 s1 n0 n1 d m = record {
+  told = d.notes;
+  made = d.calls;
+  all = λ i. record { answer = m.0.answer i; memory = m.0.memory i; state = m.0.state i; notes = sym (append-nil d.notes) i; calls = sym (append-nil d.calls) i };
+  named = m.1;
+  notes = m.0.notes;
+  drivers = m.0.drivers;
+}
