@@ -3,10 +3,12 @@ use Rattle.std.proofs.Common.{◌≡◌, ℕ, zero, suc, ◌+◌, ◌-◌, ◌*�
 use Rattle.std.proofs.Math.Nat.{mul-le-mul_right}
 use Rattle.bt_model.specs.declared.memory.Memo.{Memo}
 use Rattle.bt_model.specs.declared.memory.Turns.{Turns}
+use Rattle.bt_model.specs.declared.moves.Then.{Then}
+use Rattle.bt_model.specs.declared.moves.Then.TheVariants as then_
 use Rattle.bt_model.specs.declared.term.Kind.{Kind}
 use Rattle.bt_model.specs.declared.term.Kind.TheVariants.{Retry, Repeat, Parallel}
 use Rattle.bt_model.specs.declared.term.Term.{Term, out-Term}
-use Rattle.bt_model.specs.Moves.{FitsStart, TurnIsLeft, next_place, turns_to_do, visits_left}
+use Rattle.bt_model.specs.Moves.{FitsStart, GoesOn, TurnIsLeft, next_place, turns_to_do, visits_left}
 use Rattle.bt_model.specs.Rules.Turns.{limit_of, turns_of}
 use Rattle.bt_model.specs.Sites.{View}
 use Rattle.bt_model.specs.Visit.{meaning}
@@ -17,6 +19,7 @@ use Rattle.bt_arena.specs.Stands.{uid_of}
 use Rattle.bt_arena.proofs.Opened.{size_out}
 use Rattle.bt_tick.specs.declared.machine.Frame.{Frame}
 use Rattle.bt_tick.specs.declared.machine.Step.{Step}
+use Rattle.bt_tick.specs.declared.machine.Turn.{Turn}
 use Rattle.bt_tick.specs.declared.machine.Turn.TheVariants as turn
 use Rattle.bt_tick.specs.Turns.{cost, frame_work, left_of, number, turn_to, turn_work}
 use Rattle.bt_tick.proofs.Children.{child_inside, child_stands, size_stands}
@@ -37,7 +40,7 @@ cost_up a b up = let e : (b - a) + a ≡ b = omega (arith, up) in subst (λ (n :
 
 -- fewer visits cost less, by one at least
 fewer : (v w c : ℕ) → v < w → v * c + c ≤ w * c
-fewer v w c less = let e : (1 + v) * c ≡ v * c + c = omega arith in let m = mul-le-mul_right {1 + v} {w} c (omega (arith, less)) in omega (arith, e, m)
+fewer v w c less = let m = mul-le-mul_right c (let e : suc v ≤ w = omega (arith, less) in e) in omega (arith, m)
 
 -- a turn to a child is less than the step that made it
 pub turn_less : (nodes : List Node) (step : Step) (frame : Frame) (b : Bool) → frame.uid ≡ step.uid →
@@ -59,6 +62,15 @@ turn_less nodes step frame b here less small =
         cost (node_at nodes frame.child).size ≤ cost ((node_at nodes step.uid).size - 1) → turn_work nodes (turn_to b frame) < turn_work nodes (turn.GoOn step)
     by true same all child = omega (arith, same, all)
     by false same all child = omega (arith, same, all, child)
+
+-- .. as the code makes it
+pub work_turned : (nodes : List Node) (step : Step) (frame : Frame) (b : Bool) (t : Turn) → t ≡ turn_to b frame → frame.uid ≡ step.uid → (here : Node) → here ≡ node_at nodes step.uid → (then : Then) → then ≡ then_.Visit frame.place →
+    GoesOn here.kind here.children step.memo (next_place step.heard) frame.memo then → (node_at nodes frame.child).size ≤ (node_at nodes step.uid).size - 1 → turn_work nodes t < turn_work nodes (turn.GoOn step)
+work_turned nodes step frame b t is_turn same here is then visits onward small =
+    let onward_there : GoesOn (node_at nodes step.uid).kind (node_at nodes step.uid).children step.memo (next_place step.heard) frame.memo (then_.Visit frame.place) =
+      subst (λ (n : Node). GoesOn n.kind n.children step.memo (next_place step.heard) frame.memo (then_.Visit frame.place)) is
+      (subst (λ (x : Then). GoesOn here.kind here.children step.memo (next_place step.heard) frame.memo x) visits onward) in
+    subst (λ (x : Turn). turn_work nodes x < turn_work nodes (turn.GoOn step)) (sym is_turn) (turn_less nodes step frame b same onward_there.2 small)
 
 -- a child is smaller than its node
 pub child_small : (term : Term) (view : View) (uid place at : ℕ) (nodes : List Node) (s : Scene) → Fits term view uid nodes s → place < number term → at ≡ uid_of (out-Term term).children (uid + 1) place →
@@ -88,7 +100,7 @@ pub begins_less : (node : Node) (memo : Memo) → 1 ≤ node.size → visits_lef
 begins_less node memo some few =
     let size : node.size ≡ suc (node.size - 1) = omega (arith, some) in
     let whole : cost node.size ≡ 2 ^ 40 * cost (node.size - 1) = ap cost size in
-    let most = mul-le-mul_right {visits_left node.kind node.children memo 0} {2 ^ 32 + 1} (cost (node.size - 1) + 3) few in
+    let most = mul-le-mul_right (cost (node.size - 1) + 3) few in
     omega (arith, whole, most, cost_some (node.size - 1))
 
 pub cost_positive : (size : ℕ) → 0 < cost size

@@ -1,6 +1,7 @@
 -- A node that goes on: what a move does of what is still to come.
 use Rattle.std.proofs.Common.{◌≡◌, ℕ, zero, suc, ◌+◌, ◌-◌, ◌<◌, ◌≤◌, ◌^◌, Bool, true, false, List, [], ◌∷◌, ◌++◌, map, length, get_or, refl, sym, ap, subst, ◌∙◌, arith, Option, None, Result, Ok, Err, cond}
-use Rattle.std.specs.Prelude.{IsTrue}
+use Rattle.std.specs.Prelude.{IsErrAnd, IsTrue}
+use Rattle.std.proofs.lemmas.List.{length-map}
 use Rattle.bt_script.specs.declared.stop.Stop.{Stop}
 use Rattle.bt_model.specs.declared.fault.NodeFault.{NodeFault}
 use Rattle.bt_model.specs.declared.memory.Memo.{Memo}
@@ -20,6 +21,7 @@ use Rattle.bt_model.specs.declared.term.Kind.TheVariants.{Parallel}
 use Rattle.bt_model.specs.declared.term.Term.{Term, out-Term}
 use Rattle.bt_model.specs.BuiltIns.{takes}
 use Rattle.bt_model.specs.Done.{Done, State, behind, done, follow}
+use Rattle.bt_model.specs.Drivers.{is_held}
 use Rattle.bt_model.specs.Moves.{Fits as FitsMoves, GoesOn, after, behind_resets, going, hears, makes, next_place, rest}
 use Rattle.bt_model.specs.Sites.{View, child_of, children_of, memory_at, remembered}
 use Rattle.bt_model.specs.Steps.{Child, Rule, child_at, is_completed, keep, reset, resets, visit, visit_or_pass}
@@ -30,6 +32,7 @@ use Rattle.bt_arena.specs.declared.nodes.Kept.{Kept}
 use Rattle.bt_arena.specs.declared.nodes.Node.{Node}
 use Rattle.bt_arena.specs.Ends.{Meets, StaysFit}
 use Rattle.bt_arena.specs.Nodes.{IsFit, IsNode, kept_at, node_at}
+use Rattle.bt_arena.specs.Rosters.{instances_of, leaf_instance}
 use Rattle.bt_arena.specs.Scenes.{Fits, Scene, state_in}
 use Rattle.bt_arena.specs.Stands.{Beside, StandAll, memory_of, uid_of, view_under, written}
 use Rattle.bt_arena.proofs.Framed.{memory_at_place}
@@ -45,7 +48,7 @@ use Rattle.bt_tick.specs.declared.machine.Turn.{Turn}
 use Rattle.bt_tick.specs.declared.machine.Turn.TheVariants as turn
 use Rattle.bt_tick.specs.Turns.{CanGoOn, ChildrenSound, Comes, ComesTo, Goes, GoesOnBy, GoesTo, TurnDoes, WaitsBy, children_in, goes_by, has_rule, kind_of, memory_in, number, passes_over, place_heard, ruled_by, site_at, turn_to}
 use Rattle.bt_tick.proofs.Children.{beside_both, beside_more, child_seen, terms}
-use Rattle.bt_tick.proofs.Passing.{comes_both, follow_follow, met_behind, met_comes, part_made}
+use Rattle.bt_tick.proofs.Passing.{comes_both, follow_follow, met_behind, met_comes, part_made, stops_with}
 
 -- ---- The node
 
@@ -66,6 +69,10 @@ module _ {term : Term} {view : View} {uid : ℕ} {nodes : List Node} {s : Scene}
   unfolding IsFit
   node_fits = (opened term nodes view uid fits.stands).1.fit
 
+  pub as_many_kept : length s.kept ≡ length nodes
+  as_many_kept =
+      sym (length-map s.kept (λ (k : Kept). k.held)) ∙ ap length fits.marks ∙ length-map (instances_of nodes s.drivers) is_held ∙ length-map nodes (λ (node : Node). leaf_instance s.drivers node.leaf)
+
   pub children_stand : StandAll (out-Term term).children nodes (view_under view uid (written (out-Term term))) (uid + 1)
   children_stand = (opened term nodes view uid fits.stands).2
 
@@ -76,10 +83,11 @@ none_resets [] place ms s = refl
 none_resets (c ∷ cs) place ms s = none_resets cs (place + 1) ms s
 
 -- no child is reset
-pub none_reset : (nodes : List Node) (moment : ℕ) (term : Term) (view : View) (uid : ℕ) (s : Scene) (n : List Note) →
-    Meets nodes moment (children_in term uid) (Ok tt) s s n n (resets span.None (children_of (site_at view uid term)) 0 (children_in term uid s.kept) (state_in nodes s moment))
-none_reset nodes moment term view uid s n =
-    subst (λ (d : Done (Unit {0}) (List Memory)). Meets nodes moment (children_in term uid) (Ok tt) s s n n d) (sym (none_resets (children_of (site_at view uid term)) 0 (children_in term uid s.kept) (state_in nodes s moment)))
+pub none_reset : (nodes : List Node) (moment : ℕ) (term : Term) (view : View) (uid : ℕ) (s : Scene) (n : List Note) (which : Span) → which ≡ span.None →
+    Meets nodes moment (children_in term uid) (Ok tt) s s n n (resets which (children_of (site_at view uid term)) 0 (children_in term uid s.kept) (state_in nodes s moment))
+none_reset nodes moment term view uid s n which is =
+    subst (λ (d : Done (Unit {0}) (List Memory)). Meets nodes moment (children_in term uid) (Ok tt) s s n n d)
+    (sym (ap (λ (sp : Span). resets sp (children_of (site_at view uid term)) 0 (children_in term uid s.kept) (state_in nodes s moment)) is ∙ none_resets (children_of (site_at view uid term)) 0 (children_in term uid s.kept) (state_in nodes s moment)))
     (done_met nodes moment (children_in term uid) tt s n)
 
 module _ (term : Term) (view : View) (uid : ℕ) (st : Status) (memo : Memo) (rule : Rule) (ms : List Memory) (s : State) where
@@ -246,6 +254,11 @@ ends_so nodes moment term view uid s s1 s2 n0 n1 n2 d e (Ok a) k m = record {
 }
 ends_so nodes moment term view uid s s1 s2 n0 n1 n2 d e (Err x) k m = met_behind nodes moment (memory_of term uid) s s1 s2 n0 n1 n2 d e (Err x) k m
 
+-- a turn that stopped with this
+pub goes_with : (nodes : List Node) (moment : ℕ) (term : Term) (view : View) (uid : ℕ) (r : Result Turn (Stop NodeFault)) (e : Stop NodeFault) (s s1 : Scene) (n0 n1 : List Note) (d : Done Answer Memory) →
+    IsErrAnd r (λ x. x ≡ e) → Goes nodes moment term view uid (Err e) s s1 n0 n1 d → Goes nodes moment term view uid r s s1 n0 n1 d
+goes_with nodes moment term view uid r e s s1 n0 n1 d is goes = subst (λ (x : Result Turn (Stop NodeFault)). Goes nodes moment term view uid x s s1 n0 n1 d) (sym (stops_with r e is)) goes
+
 -- ---- A step
 
 module _ (keeps : (t : Term) → Keeps (meaning t) (Sound t)) (nodes : List Node) (moment : ℕ) (term : Term) (view : View) (step : Step) (s : Scene) (next : Done Answer Memory) (k : GoesOnBy nodes moment term view step.uid step s next) where
@@ -281,6 +294,10 @@ module _ (keeps : (t : Term) → Keeps (meaning t) (Sound t)) (nodes : List Node
       onward_so =
           subst (λ (kd : Kind). GoesOn kd (number term) step.memo (next_place step.heard) memo go.then) here_kind
           (subst (λ (n : ℕ). GoesOn here.kind n step.memo (next_place step.heard) memo go.then) here_number onward)
+
+      -- a child that comes next is there
+      pub visit_there : (place : ℕ) → go.then ≡ then_.Visit place → GoesOn (kind_of term) (number term) step.memo (next_place step.heard) memo (then_.Visit place)
+      visit_there place visits = subst (λ (x : Then). GoesOn (kind_of term) (number term) step.memo (next_place step.heard) memo x) visits onward_so
 
       next_so : next ≡ goes_by nodes moment term view step.uid s (behind_resets go.reset (still go.then))
       next_so = k.next_is ∙ ap (λ (r : Rule). goes_by nodes moment term view step.uid s r) moves_so
@@ -328,17 +345,17 @@ module _ (keeps : (t : Term) → Keeps (meaning t) (Sound t)) (nodes : List Node
 
           -- a child comes next
           pub step_turned : (place child : ℕ) → go.then ≡ then_.Visit place → child ≡ uid_of (out-Term term).children (step.uid + 1) place →
-              (b : Bool) → passes_over (kind_of term) (kept_at s1.kept child).status ≡ b →
-              Goes nodes moment term view step.uid (Ok (turn_to b (record { uid = step.uid; memo = memo; place = place; child = child }))) s s1 n0 n1 next
-          step_turned place child visits is_child b passes =
-              let onward_there : GoesOn (kind_of term) (number term) step.memo (next_place step.heard) memo (then_.Visit place) = subst (λ (x : Then). GoesOn (kind_of term) (number term) step.memo (next_place step.heard) memo x) visits onward_so in
-              record {
+              (b : Bool) → passes_over (kind_of term) (kept_at s1.kept child).status ≡ b → (t : Turn) → t ≡ turn_to b (record { uid = step.uid; memo = memo; place = place; child = child }) →
+              Goes nodes moment term view step.uid (Ok t) s s1 n0 n1 next
+          step_turned place child visits is_child b passes t is_turn =
+              subst (λ (x : Turn). Goes nodes moment term view step.uid (Ok x) s s1 n0 n1 next) (sym is_turn)
+              (record {
                 ends = record {
                   next = goes_by nodes moment term view step.uid s1 (still (then_.Visit place));
                   does = turns nodes moment term view step.uid s1 (can_behind keeps nodes moment term view step.uid s k.can go.reset s1 n0 n1 stays beside m) (record { uid = step.uid; memo = memo; place = place; child = child }) refl k.ruled
-                    (next_place step.heard) step.memo onward_there is_child b passes;
+                    (next_place step.heard) step.memo (visit_there place visits) is_child b passes;
                   comes = comes_so (then_.Visit place) visits;
                 };
                 beside = within_node beside;
                 stays = stays;
-              }
+              })

@@ -2,4 +2,4 @@ use Rattle.bt_tick.proofs.Moving.{none_reset}
 use Rattle.bt_tick.proofs.onward.reset_before.Goals as goal
 
 pub returns-in-None-clause-meets : goal.returns-in-None-clause-meets
-returns-in-None-clause-meets g c = λ term view facts moment can. none_reset _ moment term view _ _ _
+returns-in-None-clause-meets g c = λ term view facts moment can. none_reset _ moment term view _ _ _ _ c.in-None.is
