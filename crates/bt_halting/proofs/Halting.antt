@@ -22,9 +22,9 @@ use Rattle.bt_arena.specs.Noted.{calls_named}
 use Rattle.bt_arena.specs.Scenes.{Scene, state_in}
 use Rattle.bt_arena.specs.Stands.{Beside, memories_of, memory_of}
 use Rattle.bt_arena.proofs.Opened.{memory_out}
-use Rattle.bt_halting.specs.Ends.{Meets}
-use Rattle.bt_halting.specs.Halts.{site_at}
-use Rattle.bt_halting.proofs.Follows.{followed, stopped}
+use Rattle.bt_arena.specs.Ends.{Meets}
+use Rattle.bt_nodes.specs.Here.{site_at}
+use Rattle.bt_arena.proofs.Follows.{followed, stopped}
 use Rattle.bt_halting.proofs.Memories.{memory_above}
 
 module _ (t : Term) (view : View) (uid : ℕ) (kept : List Kept) (s : State) where

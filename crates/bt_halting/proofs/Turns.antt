@@ -12,7 +12,7 @@ use Rattle.bt_arena.specs.declared.nodes.Node.{Node}
 use Rattle.bt_arena.specs.Nodes.{node_at}
 use Rattle.bt_arena.specs.Scenes.{Fits, Scene, state_in}
 use Rattle.bt_arena.specs.Stands.{Beside, memories_of, memory_of, view_under, written}
-use Rattle.bt_halting.specs.Ends.{Meets}
+use Rattle.bt_arena.specs.Ends.{Meets}
 use Rattle.bt_halting.specs.Halts.{reset_if}
 use Rattle.bt_halting.proofs.Children.{NextChild, StillResets, all_reset, all_resets, child_reset, child_stopped, next_child}
 use Rattle.bt_halting.proofs.Within.{child_fits, child_lies, children_is, size_of_term}

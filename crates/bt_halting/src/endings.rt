@@ -10,14 +10,15 @@ ghost use Rattle.bt_arena.specs.Nodes.{kept_at, leaf_at, node_at};
 ghost use Rattle.bt_arena.specs.Rosters.{AreServed, instances_of};
 ghost use Rattle.bt_arena.specs.Scenes.{Fits, marks_of, scene, state_in};
 ghost use Rattle.bt_arena.specs.Stands.{Beside, memories_of, memory_of};
-ghost use Rattle.bt_halting.specs.Ends.{Meets, StaysFit};
-ghost use Rattle.bt_halting.specs.Halts.{leaf_let_go, rests, site_at};
+ghost use Rattle.bt_arena.specs.Ends.{Meets, StaysFit};
+ghost use Rattle.bt_halting.specs.Halts.{leaf_let_go, rests};
+ghost use Rattle.bt_nodes.specs.Here.{site_at};
 
-use crate::scripts::run_if_there;
 use bt_arena::{Kept, Node, Notes, keep, kept_by, node, set_held};
 use bt_board::Board;
 use bt_driver::Drivers;
 use bt_model::{Memo, NodeFault, Note, Status};
+use bt_nodes::script_if_there;
 use bt_script::{NoMemory, Stop};
 use std::alloc::Global;
 
@@ -122,5 +123,5 @@ pub(crate) fn end_halt<D: Drivers>(
 {
     let_go(nodes, kept, drivers, uid, notes)?;
     come_to_rest(kept, uid, notes)?;
-    run_if_there(alloc, &node(nodes, uid).guards.on_halted, uid, board)
+    script_if_there(alloc, &node(nodes, uid).guards.on_halted, uid, board)
 }

@@ -7,14 +7,16 @@ ghost use Rattle.bt_model.specs.Visit.{change, halt, meaning};
 ghost use Rattle.bt_arena.specs.Nodes.{kept_at, node_at};
 ghost use Rattle.bt_arena.specs.Scenes.{Fits, scene, state_in};
 ghost use Rattle.bt_arena.specs.Stands.{Beside, memories_of, memory_of};
-ghost use Rattle.bt_halting.specs.Ends.{Meets, StaysFit};
-ghost use Rattle.bt_halting.specs.Halts.{RunningAreHeld, reset_if, site_at};
+ghost use Rattle.bt_arena.specs.Ends.{Meets, StaysFit};
+ghost use Rattle.bt_halting.specs.Halts.{RunningAreHeld, reset_if};
+ghost use Rattle.bt_nodes.specs.Here.{site_at};
 
 use crate::endings::end_halt;
 use bt_arena::{Kept, Node, Notes, kept_by, node, set_status};
 use bt_board::Board;
 use bt_driver::Drivers;
-use bt_model::{NodeFault, Note, Span, Status};
+use bt_model::{NodeFault, Span, Status};
+use bt_nodes::note_change;
 use bt_script::{NoMemory, Stop};
 use std::alloc::Global;
 
@@ -41,14 +43,7 @@ fn become_idle(kept: &mut [Kept], uid: u32, notes: &mut Notes) -> Result<(), NoM
     ensures reserve { notes.new.reserve ≡ notes.old.reserve }
     ensures full { notes.new.full ≡ notes.old.full }
 {
-    let old = kept_by(kept, uid).status;
-    if old != Status::Idle {
-        notes.push(Note::Changed {
-            uid,
-            old,
-            new: Status::Idle,
-        })?;
-    }
+    note_change(notes, uid, kept_by(kept, uid).status, Status::Idle)?;
     set_status(kept, uid, Status::Idle);
     Ok(())
 }

@@ -9,7 +9,7 @@ use Rattle.bt_arena.proofs.Called.{marks_same}
 use Rattle.bt_halting.proofs.Children.{none_reset}
 use Rattle.bt_halting.proofs.Ending.{fits_still, nothing_cut}
 use Rattle.bt_halting.proofs.Halting.{halt_ended, halt_stopped, idle_met, reset_of_running}
-use Rattle.bt_halting.proofs.Scripted.{stops_with}
+use Rattle.bt_nodes.proofs.Following.{stops_with}
 use Rattle.bt_halting.proofs.Turns.{no_turn, not_turned, turn, turned}
 use Rattle.bt_halting.proofs.Within.{all_there, beside_idle, beside_more, beside_none, kept_there, node_there, running_above, running_below, running_idle, size_is}
 use Rattle.bt_halting.proofs.resetting.+resetting.Goals as goal
@@ -133,7 +133,7 @@ reset_node-returns-in_err-become_idle-in_default g t c = record {
   held = rw (stops_with c.from_residual.result stop.NoMemory c.from_residual.ensures.1) tt;
   beside = rw c.in_err-become_idle-in_default.ensures.err (beside_none _ _ _);
   reserve = omega (arith, c.become_idle.ensures.reserve);
-      full = c.become_idle.ensures.full;
+  full = c.become_idle.ensures.full;
 }
 
 pub reset_node-returns-in_ok-become_idle-in_default : goal.reset_node-returns-in_ok-become_idle-in_default

@@ -4,7 +4,7 @@ use Rattle.bt_model.specs.Sites.{View}
 use Rattle.bt_arena.specs.Nodes.{node_at}
 use Rattle.bt_arena.specs.Scenes.{Fits, scene}
 use Rattle.bt_arena.specs.Stands.{Beside, view_under, written}
-use Rattle.bt_halting.specs.Ends.{StaysFit}
+use Rattle.bt_arena.specs.Ends.{StaysFit}
 use Rattle.bt_halting.specs.Halts.{RunningAreHeld}
 use Rattle.bt_halting.proofs.Children.{StillResets}
 use Rattle.bt_halting.proofs.resetting.+resetting.Given as goal

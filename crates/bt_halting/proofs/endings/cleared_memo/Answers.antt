@@ -1,1 +1,0 @@
-use Rattle.bt_halting.proofs.Turns.{turn}
