@@ -1,10 +1,9 @@
-ghost use Rattle.std.specs.Prelude.{◌≡◌, ◌≤◌, Bool, Option, length};
+ghost use Rattle.std.specs.Prelude.{◌≡◌, ◌≤◌, Option, length};
 ghost use Rattle.std.specs.List.{All};
 ghost use Rattle.bt_script.specs.declared.syntax.Script.{Script};
 ghost use Rattle.bt_script.specs.Entries.{HoldsNoText, IsAnswered};
 ghost use Rattle.bt_script.specs.Stops.{Gives};
 ghost use Rattle.bt_script_code.specs.Codes.{program};
-ghost use Rattle.bt_model.specs.declared.term.Guards.{Guards};
 ghost use Rattle.bt_model.specs.declared.term.Term.{Term-F};
 ghost use Rattle.bt_model.specs.Done.{Done, State, follow};
 ghost use Rattle.bt_model.specs.Scripts.{goes_on, guard, guards_answer, posts, script_cause, script_holds, script_if_there, script_run, truth_of};
