@@ -13,12 +13,12 @@ ghost use Rattle.bt_tick.specs.Turns.{CanFollow, CanVisit, Goes, Starts, kind_of
 
 use crate::machine::{Step, Turn};
 use crate::moves::has_rule;
-use crate::parts::{end_visit, reset_node, visit_alone};
 use bt_arena::{Kept, Node, Notes, kept_by, node, set_memo, set_status};
 use bt_board::Board;
 use bt_driver::{Drivers, FactTable};
+use bt_halting::halt_node;
 use bt_model::{Answer, Heard, Kind, Memo, NodeFault, Note, Status};
-use bt_nodes::{goes_on, guards_answer, new_memo, picked};
+use bt_nodes::{end_visit, goes_on, guards_answer, new_memo, picked, visit_alone};
 use bt_script::Stop;
 use std::alloc::Global;
 
@@ -170,7 +170,7 @@ fn resume<D: Drivers>(
     if goes_on(alloc, &node(nodes, uid).guards, uid, board)? {
         return follow_rule(alloc, nodes, kept, board, facts, drivers, uid, now, notes);
     }
-    reset_node(alloc, nodes, kept, board, drivers, uid, notes)?;
+    halt_node(alloc, nodes, kept, board, drivers, uid, notes)?;
     Ok(Turn::Back(Answer::Skipped))
 }
 

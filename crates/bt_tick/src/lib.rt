@@ -5,7 +5,6 @@ mod enter;
 mod machine;
 mod moves;
 mod onward;
-mod parts;
 mod visiting;
 
 pub use machine::{Frame, Step, Turn};

@@ -1,4 +1,4 @@
-ghost use Rattle.std.specs.Prelude.{◌≡◌, ◌+◌, ◌-◌, ◌≤◌, ◌<◌, ◌^◌, ℕ, ℤ, List, IfOk, length};
+ghost use Rattle.std.specs.Prelude.{true, ◌≡◌, ◌+◌, ◌-◌, ◌≤◌, ◌<◌, ◌^◌, ℕ, ℤ, List, IfOk, length};
 ghost use Rattle.bt_model.specs.declared.memory.Memory.{Memory};
 ghost use Rattle.bt_model.specs.declared.status.Answer.{Answer as AnswerGiven};
 ghost use Rattle.bt_model.specs.declared.term.Term.{Term, out-Term};
@@ -9,15 +9,16 @@ ghost use Rattle.bt_arena.specs.Ends.{Meets, StaysFit};
 ghost use Rattle.bt_arena.specs.Nodes.{node_at};
 ghost use Rattle.bt_arena.specs.Scenes.{scene, state_in};
 ghost use Rattle.bt_arena.specs.Stands.{Beside, StandAll, uid_of};
-ghost use Rattle.bt_tick.specs.Turns.{CanGoOn, Goes, GoesOnBy, children_in, passes_over, place_heard, site_at, turn_to, turn_work};
+ghost use Rattle.bt_tick.specs.Turns.{CanGoOn, Goes, GoesOnBy, children_in, has_rule, kind_of, passes_over, place_heard, site_at, turn_to, turn_work};
 
 use crate::machine::{Frame, Step, Turn};
 use crate::moves::{child_from, is_completed, next_move};
-use crate::parts::{end_visit, reset_span};
 use bt_arena::{Kept, Node, Notes, kept_by, node};
 use bt_board::Board;
 use bt_driver::Drivers;
+use bt_halting::reset_children;
 use bt_model::{Heard, Kind, NodeFault, Span, Status, Then};
+use bt_nodes::end_visit;
 use bt_script::Stop;
 use std::alloc::Global;
 
@@ -83,7 +84,7 @@ fn reset_before<D: Drivers>(
     span: Span,
     notes: &mut Notes,
 ) -> Result<(), Stop<NodeFault>>
-    requires can { (term : Term) × (view : View) × (facts : List ℤ) × (moment : ℕ) × CanGoOn nodes.now moment term view uid (scene kept.old board.old facts (D.states drivers.old)) }
+    requires can { (term : Term) × (view : View) × (facts : List ℤ) × (moment : ℕ) × CanGoOn nodes.now moment term view uid (scene kept.old board.old facts (D.states drivers.old)) × (has_rule (kind_of term) ≡ true) }
     ensures meets { (term : Term) (view : View) (facts : List ℤ) (moment : ℕ) → CanGoOn nodes.now moment term view uid (scene kept.old board.old facts (D.states drivers.old)) →
         Meets nodes.now moment (children_in term uid) result (scene kept.old board.old facts (D.states drivers.old)) (scene kept.new board.new facts (D.states drivers.new)) notes.old.list notes.new.list
         (resets span (children_of (site_at view uid term)) 0 (children_in term uid kept.old) (state_in nodes.now (scene kept.old board.old facts (D.states drivers.old)) moment)) }
@@ -94,7 +95,7 @@ fn reset_before<D: Drivers>(
 {
     match span {
         Span::None => Ok(()),
-        _ => reset_span(alloc, nodes, kept, board, drivers, uid, span, notes),
+        _ => reset_children(alloc, nodes, kept, board, drivers, uid, span, notes),
     }
 }
 

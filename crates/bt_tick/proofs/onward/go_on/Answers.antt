@@ -39,7 +39,7 @@ returns-in_err-given-in-Give-clause-goes g c = λ term view facts next by.
     goes_with _ _ _ _ _ _ _ _ _ _ _ _ c.from_residual-in_err-given-in-Give.ensures.1
     (step_given term_keeps _ _ term view _ _ next by c.node-here.result.now c.node-here.ensures _ _ c.next_move-memo.ensures.next c.next_move-memo.ensures.onward _ _ _
     (c.in_ok-reset_before.ensures.stays facts) c.in_ok-reset_before.ensures.beside (c.in_ok-reset_before.ensures.meets term view facts _ by.can)
-    c.in-Give.answer c.in-Give.is _ _ (Err c.in_err-given-in-Give.field-0.0) (c.in_err-given-in-Give.ensures.stays facts _) c.in_err-given-in-Give.ensures.beside
+    c.in-Give.answer c.in-Give.is _ _ (Err c.in_err-given-in-Give.field-0.0) (c.in_err-given-in-Give.ensures.fits facts _) c.in_err-given-in-Give.ensures.beside
     (c.in_err-given-in-Give.ensures.meets term view facts _ _ (c.in_ok-reset_before.ensures.stays facts term view _ by.can.fits)))
 
 pub child_at-child-requires-clause-there : goal.child_at-child-requires-clause-there
@@ -60,7 +60,7 @@ pub returns-in_ok-given-in-Give-clause-goes : goal.returns-in_ok-given-in-Give-c
 returns-in_ok-given-in-Give-clause-goes g c = λ term view facts next by.
     step_given term_keeps _ _ term view _ _ next by c.node-here.result.now c.node-here.ensures _ _ c.next_move-memo.ensures.next c.next_move-memo.ensures.onward _ _ _
     (c.in_ok-reset_before.ensures.stays facts) c.in_ok-reset_before.ensures.beside (c.in_ok-reset_before.ensures.meets term view facts _ by.can)
-    c.in-Give.answer c.in-Give.is _ _ (Ok c.in_ok-given-in-Give.given) (c.in_ok-given-in-Give.ensures.stays facts _) c.in_ok-given-in-Give.ensures.beside
+    c.in-Give.answer c.in-Give.is _ _ (Ok c.in_ok-given-in-Give.given) (c.in_ok-given-in-Give.ensures.fits facts _) c.in_ok-given-in-Give.ensures.beside
     (c.in_ok-given-in-Give.ensures.meets term view facts _ _ (c.in_ok-reset_before.ensures.stays facts term view _ by.can.fits))
 
 pub returns-in-Visit-clause-goes : goal.returns-in-Visit-clause-goes

@@ -1,0 +1,285 @@
+-- A node that is entered: what its guards, its start and its rule do of its visit.
+use Rattle.std.proofs.Common.{◌≡◌, ℕ, ℤ, zero, suc, ◌+◌, ◌<◌, ◌≤◌, ◌^◌, Bool, true, false, List, [], ◌∷◌, ◌++◌, map, length, refl, sym, ap, subst, ◌∙◌, arith, append-nil, Option, Some, None, Result, Ok, Err}
+use Rattle.std.proofs.lemmas.List.{length-map}
+use Rattle.std.specs.Prelude.{IfOk, IsTrue}
+use Rattle.bt_script.specs.declared.stop.Stop.{Stop}
+use Rattle.bt_script.specs.declared.stop.Stop.TheVariants as stop
+use Rattle.bt_script.specs.declared.value.Value.{Value}
+use Rattle.bt_model.specs.declared.built_ins.Class.TheVariants as class
+use Rattle.bt_model.specs.declared.fault.NodeFault.{NodeFault}
+use Rattle.bt_model.specs.declared.fault.PortId.{PortId}
+use Rattle.bt_model.specs.declared.memory.Memo.{Memo}
+use Rattle.bt_model.specs.declared.memory.Memory.{Memory, Memory-F, out-Memory, out-roll-Memory}
+use Rattle.bt_model.specs.declared.moves.Heard.TheVariants.{Begin}
+use Rattle.bt_model.specs.declared.note.Note.{Note}
+use Rattle.bt_model.specs.declared.note.Note.TheVariants.{Changed}
+use Rattle.bt_model.specs.declared.status.Answer.{Answer}
+use Rattle.bt_model.specs.declared.status.Answer.TheVariants as answer
+use Rattle.bt_model.specs.declared.status.Status.{Status}
+use Rattle.bt_model.specs.declared.status.Status.TheVariants as status
+use Rattle.bt_model.specs.declared.term.Kind.{Kind}
+use Rattle.bt_model.specs.declared.term.Kind.TheVariants.{AlwaysSuccess, AlwaysFailure, ScriptNode, ScriptCondition, Leaf}
+use Rattle.bt_model.specs.declared.term.Term.{Term, fold_out-Term, out-Term}
+use Rattle.bt_model.specs.BuiltIns.{class_of, takes}
+use Rattle.bt_model.specs.Done.{Done, State, behind, done, ends, follow}
+use Rattle.bt_model.specs.Drivers.{DriverState}
+use Rattle.bt_model.specs.Leaves.{row_of}
+use Rattle.bt_model.specs.Moves.{rest}
+use Rattle.bt_model.specs.Ports.{new_memo, picked}
+use Rattle.bt_model.specs.Rules.Kinds.{rule}
+use Rattle.bt_model.specs.Scripts.{goes_on, guards_answer}
+use Rattle.bt_model.specs.Shapes.{RestingShape, RunningShape, Shape, is_running}
+use Rattle.bt_model.specs.Sites.{Meaning, Site, View, children_of, remembered}
+use Rattle.bt_model.specs.Sound.{Dated, Sound, statuses}
+use Rattle.bt_model.specs.Steps.{Given}
+use Rattle.bt_model.specs.Trees.{ports_fit}
+use Rattle.bt_model.specs.Visit.{begun, change, continued, ended, guarded, halt, kind_rule, meaning, meaning_of_node, node_rule, or_bad_port, ruled, started, starts, visit_by}
+use Rattle.bt_arena.specs.declared.nodes.Kept.{Kept}
+use Rattle.bt_arena.specs.declared.nodes.Node.{Node}
+use Rattle.bt_arena.specs.Ends.{IsMade, Meets, StaysFit}
+use Rattle.bt_arena.specs.Nodes.{kept_at, node_at}
+use Rattle.bt_arena.specs.Scenes.{Fits, Scene, scene, state_in}
+use Rattle.bt_arena.specs.Stands.{Beside, memory_of, uid_of}
+use Rattle.bt_arena.proofs.Framed.{all_sizes, sizes_cons}
+use Rattle.bt_arena.proofs.Opened.{memory_out, size_out}
+use Rattle.bt_arena.proofs.Follows.{stopped}
+use Rattle.bt_laws.proofs.Acts.{as_many_statuses}
+use Rattle.bt_laws.proofs.Beginnings.{Begins}
+use Rattle.bt_laws.proofs.Children.{Keeps}
+use Rattle.bt_laws.proofs.KindRules.{kept_begins, running_begins, starts_begin}
+use Rattle.bt_nodes.specs.Settles.{Settles}
+use Rattle.bt_nodes.proofs.Settled.{settles_met}
+use Rattle.bt_tick.specs.declared.machine.Step.{Step}
+use Rattle.bt_tick.specs.declared.machine.Turn.{Turn}
+use Rattle.bt_tick.specs.declared.machine.Turn.TheVariants as turn
+use Rattle.bt_tick.specs.Turns.{CanBegin, CanFollow, CanGoOn, CanPick, CanVisit, Comes, Goes, GoesOnBy, GoesTo, Starts, children_in, goes_by, has_rule, kind_of, memory_in, number, ruled_in, site_at, started_in, visit_in}
+use Rattle.bt_tick.proofs.Children.{beside_more, beside_same, stands_within, terms}
+use Rattle.bt_tick.proofs.Held.{sound_opened}
+use Rattle.bt_tick.proofs.Moving.{node_fits}
+use Rattle.bt_tick.proofs.Passing.{comes_both, comes_same, met_behind, part_made}
+use Rattle.bt_tick.proofs.Starting.{begins_so, picks_so}
+
+-- ---- Kinds
+
+pub class_alone : (kind : Kind) → has_rule kind ≡ false → class_of kind ≡ class.Leaf
+class_alone AlwaysSuccess e = refl
+class_alone AlwaysFailure e = refl
+class_alone ScriptNode e = refl
+class_alone ScriptCondition e = refl
+class_alone Leaf e = refl
+class_alone _ e = cc
+
+node_rule_is : (kind : Kind) (site : Site) (st : Status) (memo : Memo) (ms : List Memory) (s : State) → has_rule kind ≡ true → node_rule kind site st memo ms s ≡ kind_rule site memo ms s
+node_rule_is AlwaysSuccess site st memo ms s e = cc
+node_rule_is AlwaysFailure site st memo ms s e = cc
+node_rule_is ScriptNode site st memo ms s e = cc
+node_rule_is ScriptCondition site st memo ms s e = cc
+node_rule_is Leaf site st memo ms s e = cc
+node_rule_is _ site st memo ms s e = refl
+
+starts_ruled : (kind : Kind) (memo : Memo) → starts kind memo ≡ true → has_rule kind ≡ true
+starts_ruled AlwaysSuccess memo e = cc
+starts_ruled AlwaysFailure memo e = cc
+starts_ruled ScriptNode memo e = cc
+starts_ruled ScriptCondition memo e = cc
+starts_ruled Leaf memo e = cc
+starts_ruled _ memo e = refl
+
+-- ---- Faults
+
+-- a fault that takes no note and no call
+pub faulted : (nodes : List Node) (moment : ℕ) (term : Term) (uid : ℕ) (s s1 : Scene) (n : List Note) (f : NodeFault) (d : Done Answer Memory) → s1.drivers ≡ s.drivers →
+    d ≡ ends (Err f) (memory_of term uid s1.kept) (state_in nodes s1 moment) → Meets {A = Answer} nodes moment (memory_of term uid) (Err (stop.Fault f)) s s1 n n d
+faulted nodes moment term uid s s1 n f d same is =
+    subst (λ (x : Done Answer Memory). IsMade nodes moment (memory_of term uid) (Err f) s s1 n n x) (sym is)
+    (record { answer = refl; memory = refl; state = refl; notes = sym (append-nil n); drivers = same })
+
+-- ---- The visit of a term that stands
+
+module _ (nodes : List Node) (moment : ℕ) (term : Term) (view : View) (uid : ℕ) (s : Scene) where
+  abbrev pub site : Site
+  site = site_at view uid term
+
+  abbrev pub st : Status
+  st = (kept_at s.kept uid).status
+
+  abbrev pub memo : Memo
+  memo = (kept_at s.kept uid).memo
+
+  abbrev pub ms : List Memory
+  ms = children_in term uid s.kept
+
+  abbrev pub now : State
+  now = state_in nodes s moment
+
+  memory_parts : out-Memory (memory_in term uid s) ≡ record { status = st; memo = memo; children = ms }
+  memory_parts = ap out-Memory (memory_out term uid s.kept) ∙ out-roll-Memory (record { status = st; memo = memo; children = ms })
+
+  visit_out : visit_in nodes moment term view uid s ≡ visit_by st site (memory_in term uid s) now
+  visit_out =
+      ap (λ (c : Meaning). c.visit view uid (memory_in term uid s) now) (fold_out-Term Meaning meaning_of_node term)
+      ∙ ap (λ (r : Memory-F Memory). visit_by r.status site (memory_in term uid s) now) memory_parts
+
+  -- a RUNNING node tries whether it goes on
+  pub running_visit : st ≡ status.Running → visit_in nodes moment term view uid s ≡ follow (goes_on site now) (λ _. memory_in term uid s) (λ b _ s1. continued b site (memory_in term uid s) s1)
+  running_visit runs = visit_out ∙ ap (λ (x : Status). visit_by x site (memory_in term uid s) now) runs
+
+  -- any other tries its guards
+  pub resting_visit : is_running st ≡ false → visit_in nodes moment term view uid s ≡ follow (guards_answer site now) (λ _. memory_in term uid s) (λ a _ s1. guarded a site (memory_in term uid s) s1)
+  resting_visit rests = visit_out ∙ by st rests
+    where
+      by : (x : Status) → is_running x ≡ false → visit_by x site (memory_in term uid s) now ≡ follow (guards_answer site now) (λ _. memory_in term uid s) (λ a _ s1. guarded a site (memory_in term uid s) s1)
+      by status.Running e = cc
+      by status.Idle e = refl
+      by status.Success e = refl
+      by status.Failure e = refl
+
+  pub goes_again : continued true site (memory_in term uid s) now ≡ ruled site status.Running memo ms now
+  goes_again = ap (λ (r : Memory-F Memory). ruled site status.Running r.memo r.children now) memory_parts
+
+  pub guard_answers : (a : Answer) → guarded (Some a) site (memory_in term uid s) now ≡ ended site st (record { answer = a; memo = memo }) ms now
+  guard_answers a = ap (λ (r : Memory-F Memory). ended site r.status (record { answer = a; memo = r.memo }) r.children now) memory_parts
+
+  pub none_answers : (b : Bool) → starts (kind_of term) memo ≡ b → guarded None site (memory_in term uid s) now ≡ begun b site (memory_in term uid s) now
+  none_answers b is = ap (λ (r : Memory-F Memory). begun (starts (kind_of term) r.memo) site (memory_in term uid s) now) memory_parts ∙ ap (λ (x : Bool). begun x site (memory_in term uid s) now) is
+
+  pub begins_kept : begun false site (memory_in term uid s) now ≡ ruled_in nodes moment term view uid s
+  begins_kept = ap (λ (r : Memory-F Memory). ruled site r.status r.memo r.children now) memory_parts
+
+  pub starts_with : started_in nodes moment term view uid s ≡ behind (change uid st status.Running) []
+      (follow (ends (or_bad_port uid (new_memo (kind_of term) site memo now)) ms now) (λ ms1. remembered status.Running memo ms1) (λ memo1 ms1 s1. ruled site status.Running memo1 ms1 s1))
+  starts_with = ap (λ (r : Memory-F Memory). behind (change uid r.status status.Running) []
+      (follow (ends (or_bad_port uid (new_memo (kind_of term) site r.memo now)) r.children now) (λ ms1. remembered status.Running r.memo ms1) (λ memo1 ms1 s1. ruled site status.Running memo1 ms1 s1))) memory_parts
+
+  -- ---- The rule
+
+  abbrev rule_of : Result ℕ NodeFault → Done Given (List Memory)
+  rule_of r = follow (ends r ms now) (λ ms1. ms1) (λ place ms1 s1. rule (kind_of term) (length site.node.children) memo place s1.moment (children_of site) ms1 s1)
+
+  abbrev after_rule : Done Given (List Memory) → Done Answer Memory
+  after_rule d = follow d (λ ms1. remembered st memo ms1) (λ g ms1 s1. ended site st g ms1 s1)
+
+  ruled_so : has_rule (kind_of term) ≡ true → (r : Result ℕ NodeFault) → r ≡ or_bad_port uid (picked (kind_of term) site memo now) → ruled_in nodes moment term view uid s ≡ after_rule (rule_of r)
+  ruled_so with_rule r is = ap after_rule (node_rule_is (kind_of term) site st memo ms now with_rule ∙ ap rule_of (sym is))
+
+  -- with what is picked the rule begins
+  pub rule_begins : has_rule (kind_of term) ≡ true → (place : ℕ) → Ok place ≡ or_bad_port uid (picked (kind_of term) site memo now) →
+      ruled_in nodes moment term view uid s ≡ goes_by nodes moment term view uid s (rest (kind_of term) (number term) moment memo (Begin place))
+  rule_begins with_rule place is =
+      ruled_so with_rule (Ok place) is
+      ∙ ap (λ (n : ℕ). after_rule (rule (kind_of term) n memo place moment (children_of site) ms now)) (length-map (out-Term term).children meaning)
+
+  -- a bad port ends the visit
+  pub rule_faults : has_rule (kind_of term) ≡ true → (f : NodeFault) → Err f ≡ or_bad_port uid (picked (kind_of term) site memo now) → ruled_in nodes moment term view uid s ≡ ends (Err f) (memory_of term uid s.kept) now
+  rule_faults with_rule f is = ruled_so with_rule (Err f) is ∙ ap (λ (m : Memory). ends (Err f) m now) (sym (memory_out term uid s.kept))
+
+picked_so : (uid : ℕ) (place : ℕ) (r : Result ℕ PortId) → Ok place ≡ or_bad_port uid r → r ≡ Ok place
+picked_so uid place (Ok p) is = cc
+picked_so uid place (Err p) is = cc
+
+-- a node with children goes on by its moves
+pub follows_on : (nodes : List Node) (moment : ℕ) (term : Term) (view : View) (uid : ℕ) (s : Scene) (n : List Note) → CanFollow nodes moment term view uid s → has_rule (kind_of term) ≡ true → (place : ℕ) →
+    Ok place ≡ or_bad_port uid (picked (kind_of term) (site nodes moment term view uid s) (memo nodes moment term view uid s) (now nodes moment term view uid s)) →
+    GoesTo nodes moment term view uid (Ok (turn.GoOn (record { uid = uid; memo = (kept_at s.kept uid).memo; heard = Begin place; child = uid + 1 }))) s s n n (ruled_in nodes moment term view uid s)
+follows_on nodes moment term view uid s n follow with_rule place is =
+    let next : Done Answer Memory = goes_by nodes moment term view uid s (rest (kind_of term) (number term) moment (kept_at s.kept uid).memo (Begin place)) in
+    record {
+      next = next;
+      does = record {
+        here = refl;
+        can = follow.can;
+        ruled = with_rule;
+        fits = follow.begins with_rule place (picks_so (kind_of term) (site nodes moment term view uid s) (kept_at s.kept uid).memo (state_in nodes s moment) place (picked_so uid place _ is));
+        child = omega arith;
+        next_is = refl;
+      };
+      comes = comes_same nodes s s n (ruled_in nodes moment term view uid s) next refl (rule_begins nodes moment term view uid s with_rule place is);
+    }
+
+-- ---- What follows a script of the node
+
+module _ (nodes : List Node) (moment : ℕ) (term : Term) (view : View) (uid : ℕ) (s s1 : Scene) (n : List Note) (kept_same : s1.kept ≡ s.kept) (drivers_same : s1.drivers ≡ s.drivers) where
+  module _ {A : Type 0} (d : Done A (Unit {0})) (go : A → Unit {0} → State → Done Answer Memory) where
+    -- the script was made, and what follows it is still to come
+    pub script_made : (a : A) → Settles (Ok a) (state_in nodes s1 moment) d → Comes nodes s s1 n n (follow d (λ _. memory_in term uid s) go) (go a tt (state_in nodes s1 moment))
+    script_made a k = part_made nodes moment (λ (_ : List Kept). tt) s s1 n n d (λ _. memory_in term uid s) go a (settles_met nodes moment tt (Ok a) s s1 n d drivers_same k)
+
+    -- it stopped
+    pub script_stopped : (e : Stop NodeFault) → Settles {A = A} (Err e) (state_in nodes s1 moment) d → Meets {A = Answer} nodes moment (memory_of term uid) (Err e) s s1 n n (follow d (λ _. memory_in term uid s) go)
+    script_stopped e k =
+        stopped nodes moment (λ (_ : List Kept). tt) (memory_of term uid) s s1 n n d (λ _. memory_in term uid s) go e (ap (λ (kept : List Kept). memory_of term uid kept) (sym kept_same))
+        (settles_met nodes moment tt (Err e) s s1 n d drivers_same k)
+
+-- ---- What can be done behind it
+
+number_few : (ts : List Term) → length ts ≤ all_sizes ts
+number_few [] = omega arith
+number_few (c ∷ cs) = omega (arith, number_few cs, sizes_cons c cs, size_out c)
+
+module _ (keeps : (t : Term) → Keeps (meaning t) (Sound t)) (nodes : List Node) (moment : ℕ) (term : Term) (view : View) (uid : ℕ) where
+  -- a board of as many slots changes nothing of that
+  pub still_can : (kept : List Kept) (board board1 : List (Option Value)) (facts : List ℤ) (drivers : List DriverState) → length board1 ≡ length board →
+      CanVisit nodes moment term view uid (scene kept board facts drivers) → CanVisit nodes moment term view uid (scene kept board1 facts drivers)
+  still_can kept board board1 facts drivers slots can = record {
+    fits = record { stands = can.fits.stands; few = can.fits.few; marks = can.fits.marks; leaves = can.fits.leaves; slots = slots ∙ can.fits.slots; facts = can.fits.facts };
+    sound = (keeps term).moves view.rows None uid (memory_of term uid kept) (state_in nodes (scene kept board facts drivers) moment) (state_in nodes (scene kept board1 facts drivers) moment) can.sound (λ p low high. refl) (omega arith);
+    dated = can.dated;
+  }
+
+  module _ (s : Scene) (can : CanVisit nodes moment term view uid s) where
+    pub can_go : CanGoOn nodes moment term view uid s
+    can_go = record { fits = can.fits; sound = (sound_opened term view.rows uid s.kept (state_in nodes s moment) can.sound).1; dated = can.dated }
+
+    abbrev here_statuses : List Status
+    here_statuses = statuses (children_in term uid s.kept)
+
+    as_many_here : length here_statuses ≡ number term
+    as_many_here = as_many_statuses (terms keeps) view (out-Term term).children (uid + 1) (children_in term uid s.kept) (state_in nodes s moment) can_go.sound
+
+    few_here : number term < 2 ^ 30
+    few_here = omega (arith, number_few (out-Term term).children, size_out term, stands_within term nodes view uid can.fits.stands, can.fits.few)
+
+    begins_by : (memo : Memo) → Begins (kind_of term) (out-Term term).ports moment memo here_statuses → CanBegin (kind_of term) (number term) memo
+    begins_by memo begins = begins_so (out-Term term).ports moment (number term) here_statuses (sym as_many_here) few_here (kind_of term) memo (node_fits can.fits).children (node_fits can.fits).ports begins
+
+    -- a RUNNING node can follow its rule
+    pub can_run : (kept_at s.kept uid).status ≡ status.Running → CanFollow nodes moment term view uid s
+    can_run runs =
+        let here = sound_opened term view.rows uid s.kept (state_in nodes s moment) can.sound in
+        let shape : RunningShape (kind_of term) (out-Term term).ports (row_of view.rows (out-Term term).id) moment (kept_at s.kept uid).memo here_statuses =
+          subst (λ (x : Status). Shape x (kind_of term) (out-Term term).ports (row_of view.rows (out-Term term).id) moment (kept_at s.kept uid).memo here_statuses) runs here.0.shape in
+        record {
+          can = can_go;
+          begins = λ with_rule. begins_by (kept_at s.kept uid).memo (running_begins (kind_of term) (out-Term term).ports (row_of view.rows (out-Term term).id) moment (kept_at s.kept uid).memo here_statuses with_rule shape);
+          held = λ alone. here.0.held;
+        }
+
+    resting_shape : (x : Status) (memo : Memo) → is_running x ≡ false → Shape x (kind_of term) (out-Term term).ports (row_of view.rows (out-Term term).id) moment memo here_statuses → RestingShape memo (kind_of term) here_statuses
+    resting_shape status.Running memo e shape = cc
+    resting_shape status.Idle memo e shape = shape
+    resting_shape status.Success memo e shape = shape
+    resting_shape status.Failure memo e shape = shape
+
+    rests_so : is_running (kept_at s.kept uid).status ≡ false → RestingShape (kept_at s.kept uid).memo (kind_of term) here_statuses
+    rests_so rests = resting_shape (kept_at s.kept uid).status (kept_at s.kept uid).memo rests (sound_opened term view.rows uid s.kept (state_in nodes s moment) can.sound).0.shape
+
+    -- so can one that does not start
+    pub can_keep : is_running (kept_at s.kept uid).status ≡ false → starts (kind_of term) (kept_at s.kept uid).memo ≡ false → CanFollow nodes moment term view uid s
+    can_keep rests none = record {
+      can = can_go;
+      begins = λ with_rule. begins_by (kept_at s.kept uid).memo (kept_begins (kind_of term) (out-Term term).ports moment (kept_at s.kept uid).memo here_statuses with_rule none (rests_so rests));
+      held = λ alone. (sound_opened term view.rows uid s.kept (state_in nodes s moment) can.sound).0.held;
+    }
+
+    -- the memo with which it starts
+    pub starts_so : is_running (kept_at s.kept uid).status ≡ false → starts (kind_of term) (kept_at s.kept uid).memo ≡ true → (memo : Memo) →
+        Ok memo ≡ or_bad_port uid (new_memo (kind_of term) (site_at view uid term) (kept_at s.kept uid).memo (state_in nodes s moment)) → CanBegin (kind_of term) (number term) memo
+    starts_so rests start memo is =
+        let site = site_at view uid term in
+        let all : length site.node.children ≡ length here_statuses = length-map (out-Term term).children meaning ∙ sym as_many_here in
+        let begins = starts_begin site (kept_at s.kept uid).memo (state_in nodes s moment) here_statuses all (kind_of term) (starts_ruled (kind_of term) (kept_at s.kept uid).memo start) (rests_so rests) in
+        begins_by memo (given_so (new_memo (kind_of term) site (kept_at s.kept uid).memo (state_in nodes s moment)) is begins)
+      where
+        given_so : (r : Result Memo PortId) → Ok memo ≡ or_bad_port uid r → IfOk r (λ m. Begins (kind_of term) (out-Term term).ports moment m here_statuses) → Begins (kind_of term) (out-Term term).ports moment memo here_statuses
+        given_so (Ok m) is begins = let same : m ≡ memo = cc in subst (λ (x : Memo). Begins (kind_of term) (out-Term term).ports moment x here_statuses) same begins
+        given_so (Err p) is begins = cc
