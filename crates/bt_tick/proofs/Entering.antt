@@ -20,42 +20,48 @@ use Rattle.bt_model.specs.declared.status.Status.TheVariants as status
 use Rattle.bt_model.specs.declared.term.Kind.{Kind}
 use Rattle.bt_model.specs.declared.term.Kind.TheVariants.{AlwaysSuccess, AlwaysFailure, ScriptNode, ScriptCondition, Leaf}
 use Rattle.bt_model.specs.declared.term.Term.{Term, fold_out-Term, out-Term}
+use Rattle.bt_model.specs.declared.term.Term.TheFolds.{map-Term}
 use Rattle.bt_model.specs.BuiltIns.{class_of, takes}
 use Rattle.bt_model.specs.Done.{Done, State, behind, done, ends, follow}
-use Rattle.bt_model.specs.Drivers.{DriverState}
+use Rattle.bt_model.specs.Drivers.{DriverState, instance_at}
 use Rattle.bt_model.specs.Leaves.{row_of}
-use Rattle.bt_model.specs.Moves.{rest}
+use Rattle.bt_model.specs.Moves.{FitsStart, rest, visits_left}
 use Rattle.bt_model.specs.Ports.{new_memo, picked}
 use Rattle.bt_model.specs.Rules.Kinds.{rule}
 use Rattle.bt_model.specs.Scripts.{goes_on, guards_answer}
 use Rattle.bt_model.specs.Shapes.{RestingShape, RunningShape, Shape, is_running}
-use Rattle.bt_model.specs.Sites.{Meaning, Site, View, children_of, remembered}
-use Rattle.bt_model.specs.Sound.{Dated, Sound, statuses}
+use Rattle.bt_model.specs.Sites.{Meaning, Site, View, children_of, remembered, sizes}
+use Rattle.bt_model.specs.Sound.{Dated, Sound, is_held, statuses}
 use Rattle.bt_model.specs.Steps.{Given}
 use Rattle.bt_model.specs.Trees.{ports_fit}
 use Rattle.bt_model.specs.Visit.{begun, change, continued, ended, guarded, halt, kind_rule, meaning, meaning_of_node, node_rule, or_bad_port, ruled, started, starts, visit_by}
 use Rattle.bt_arena.specs.declared.nodes.Kept.{Kept}
 use Rattle.bt_arena.specs.declared.nodes.Node.{Node}
+use Rattle.bt_arena.specs.declared.nodes.ReadyLeaf.{ReadyLeaf}
 use Rattle.bt_arena.specs.Ends.{IsMade, Meets, StaysFit}
-use Rattle.bt_arena.specs.Nodes.{kept_at, node_at}
+use Rattle.bt_arena.specs.Nodes.{IsNode, kept_at, leaf_at, node_at}
 use Rattle.bt_arena.specs.Scenes.{Fits, Scene, scene, state_in}
-use Rattle.bt_arena.specs.Stands.{Beside, memory_of, uid_of}
+use Rattle.bt_arena.specs.Stands.{Beside, memory_of, uid_of, written}
 use Rattle.bt_arena.proofs.Framed.{all_sizes, sizes_cons}
-use Rattle.bt_arena.proofs.Opened.{memory_out, size_out}
+use Rattle.bt_arena.proofs.Opened.{memory_out, opened, size_out}
 use Rattle.bt_arena.proofs.Follows.{stopped}
 use Rattle.bt_laws.proofs.Acts.{as_many_statuses}
 use Rattle.bt_laws.proofs.Beginnings.{Begins}
 use Rattle.bt_laws.proofs.Children.{Keeps}
 use Rattle.bt_laws.proofs.KindRules.{kept_begins, running_begins, starts_begin}
+use Rattle.bt_nodes.specs.Calls.{IsInPhase}
 use Rattle.bt_nodes.specs.Settles.{Settles}
+use Rattle.bt_nodes.proofs.Phases.{in_phase}
 use Rattle.bt_nodes.proofs.Settled.{settles_met}
+use Rattle.bt_nodes.proofs.Standing.{fits_here}
 use Rattle.bt_tick.specs.declared.machine.Step.{Step}
 use Rattle.bt_tick.specs.declared.machine.Turn.{Turn}
 use Rattle.bt_tick.specs.declared.machine.Turn.TheVariants as turn
-use Rattle.bt_tick.specs.Turns.{CanBegin, CanFollow, CanGoOn, CanPick, CanVisit, Comes, Goes, GoesOnBy, GoesTo, Starts, children_in, goes_by, has_rule, kind_of, memory_in, number, ruled_in, site_at, started_in, visit_in}
-use Rattle.bt_tick.proofs.Children.{beside_more, beside_same, stands_within, terms}
-use Rattle.bt_tick.proofs.Held.{sound_opened}
-use Rattle.bt_tick.proofs.Moving.{node_fits}
+use Rattle.bt_tick.specs.Turns.{CanBegin, CanFollow, CanGoOn, CanPick, CanVisit, Comes, Goes, GoesOnBy, GoesTo, Starts, children_in, cost, goes_by, has_rule, kind_of, left_of, memory_in, number, ruled_in, site_at, started_in, visit_in}
+use Rattle.bt_tick.proofs.Children.{beside_both, beside_more, beside_same, stands_within, terms}
+use Rattle.bt_tick.proofs.Bounds.{begins_less, visits_few}
+use Rattle.bt_tick.proofs.Held.{leaf_kind, sound_opened}
+use Rattle.bt_tick.proofs.Moving.{back_of, ends_so, kind_is, node_fits, number_is, size_is}
 use Rattle.bt_tick.proofs.Passing.{comes_both, comes_same, met_behind, part_made}
 use Rattle.bt_tick.proofs.Starting.{begins_so, picks_so}
 
@@ -283,3 +289,137 @@ module _ (keeps : (t : Term) → Keeps (meaning t) (Sound t)) (nodes : List Node
         given_so : (r : Result Memo PortId) → Ok memo ≡ or_bad_port uid r → IfOk r (λ m. Begins (kind_of term) (out-Term term).ports moment m here_statuses) → Begins (kind_of term) (out-Term term).ports moment memo here_statuses
         given_so (Ok m) is begins = let same : m ≡ memo = cc in subst (λ (x : Memo). Begins (kind_of term) (out-Term term).ports moment x here_statuses) same begins
         given_so (Err p) is begins = cc
+
+-- ---- A rule that is followed
+
+-- the node as it is written
+pub node_here : (term : Term) (view : View) (uid : ℕ) (nodes : List Node) (s : Scene) → Fits term view uid nodes s → (node : Node) → node ≡ node_at nodes uid →
+    IsNode view (written (map-Term Term Meaning meaning (out-Term term))) (1 + sizes (map meaning (out-Term term).children)) node
+node_here term view uid nodes s fits node is =
+    subst (λ (n : Node). IsNode view (written (map-Term Term Meaning meaning (out-Term term))) (1 + sizes (map meaning (out-Term term).children)) n) (sym is) (fits_here term view uid nodes s fits).node
+
+module _ {nodes : List Node} {moment : ℕ} {term : Term} {view : View} {uid : ℕ} {s : Scene} (follow : CanFollow nodes moment term view uid s) where
+  pub alone_here : (node : Node) → node ≡ node_at nodes uid → (kind : Bool) → kind ≡ has_rule node.kind → has_rule (kind_of term) ≡ kind
+  alone_here node is b e = ap has_rule (sym (ap (λ (n : Node). n.kind) is ∙ kind_is follow.can.fits)) ∙ sym e
+
+  -- a leaf is called in its phase
+  pub phase_here : has_rule (kind_of term) ≡ false → (leaf : ReadyLeaf) → leaf_at nodes uid ≡ Some leaf → IsInPhase (kept_at s.kept uid).status (instance_at s.drivers leaf.driver leaf.instance) moment
+  phase_here alone leaf is =
+      let kind : kind_of term ≡ Leaf = leaf_kind view (written (out-Term term)) (leaf_at nodes uid) leaf is (opened term nodes view uid follow.can.fits.stands).1.leaf in
+      in_phase nodes s moment uid leaf is follow.can.dated (kept_at s.kept uid).status (follow.held alone ∙ ap (λ (k : Kind). Some (is_held (kept_at s.kept uid).status k)) kind)
+
+  -- a node without children has done all
+  pub alone_goes : (r : Result Answer (Stop NodeFault)) (s1 : Scene) (n0 n1 : List Note) → StaysFit nodes s s1 → Beside uid 1 s.kept s1.kept →
+      Meets nodes moment (memory_of term uid) r s s1 n0 n1 (ruled_in nodes moment term view uid s) → Goes nodes moment term view uid (back_of r) s s1 n0 n1 (ruled_in nodes moment term view uid s)
+  alone_goes r s1 n0 n1 stays beside m = record {
+    ends = ends_so nodes moment term view uid s s s1 n0 n0 n1 (ruled_in nodes moment term view uid s) (ruled_in nodes moment term view uid s) r (comes_same nodes s s n0 (ruled_in nodes moment term view uid s) (ruled_in nodes moment term view uid s) refl refl) m;
+    beside = beside_more beside (omega arith) (omega (arith, size_out term));
+    stays = stays;
+  }
+
+  module _ (with_rule : has_rule (kind_of term) ≡ true) (n : List Note) (k : Kept) (read : k ≡ kept_at s.kept uid) where
+    -- a node with children goes on by its moves
+    pub goes_follow : (place : ℕ) → Ok place ≡ or_bad_port uid (picked (kind_of term) (site_at view uid term) k.memo (state_in nodes s moment)) →
+        Goes nodes moment term view uid (Ok (turn.GoOn (record { uid = uid; memo = k.memo; heard = Begin place; child = uid + 1 }))) s s n n (ruled_in nodes moment term view uid s)
+    goes_follow place is =
+        subst (λ (x : Kept). Goes nodes moment term view uid (Ok (turn.GoOn (record { uid = uid; memo = x.memo; heard = Begin place; child = uid + 1 }))) s s n n (ruled_in nodes moment term view uid s)) (sym read)
+        (record {
+          ends = follows_on nodes moment term view uid s n follow with_rule place (subst (λ (x : Kept). Ok place ≡ or_bad_port uid (picked (kind_of term) (site_at view uid term) x.memo (state_in nodes s moment))) read is);
+          beside = beside_same uid (meaning term).size s.kept;
+          stays = λ t v u fits. fits;
+        })
+
+    -- a bad port ends its visit
+    pub goes_fault : (f : NodeFault) → Err f ≡ or_bad_port uid (picked (kind_of term) (site_at view uid term) k.memo (state_in nodes s moment)) →
+        Goes nodes moment term view uid (Err (stop.Fault f)) s s n n (ruled_in nodes moment term view uid s)
+    goes_fault f is = record {
+      ends = faulted nodes moment term uid s s n f (ruled_in nodes moment term view uid s) refl
+        (rule_faults nodes moment term view uid s with_rule f (subst (λ (x : Kept). Err f ≡ or_bad_port uid (picked (kind_of term) (site_at view uid term) x.memo (state_in nodes s moment))) read is));
+      beside = beside_same uid (meaning term).size s.kept;
+      stays = λ t v u fits. fits;
+    }
+
+    -- and its first turn is less than its visit
+    pub begin_less : (place : ℕ) → Ok place ≡ or_bad_port uid (picked (kind_of term) (site_at view uid term) k.memo (state_in nodes s moment)) → 1 + left_of (node_at nodes uid) k.memo 0 < cost (node_at nodes uid).size
+    begin_less place is =
+        let memo : k.memo ≡ (kept_at s.kept uid).memo = ap (λ (x : Kept). x.memo) read in
+        let pick : CanPick (kind_of term) place = picks_so (kind_of term) (site_at view uid term) k.memo (state_in nodes s moment) place (picked_so uid place _ is) in
+        let fits : FitsStart (kind_of term) (number term) k.memo place = subst (λ (m : Memo). FitsStart (kind_of term) (number term) m place) (sym memo) (follow.begins with_rule place pick) in
+        let many : number term < 2 ^ 30 = omega (arith, number_few (out-Term term).children, size_out term, stands_within term nodes view uid follow.can.fits.stands, follow.can.fits.few) in
+        let few : visits_left (node_at nodes uid).kind (node_at nodes uid).children k.memo 0 ≤ 2 ^ 32 + 1 =
+          subst (λ (kd : Kind). visits_left kd (node_at nodes uid).children k.memo 0 ≤ 2 ^ 32 + 1) (sym (kind_is follow.can.fits))
+          (subst (λ (m : ℕ). visits_left (kind_of term) m k.memo 0 ≤ 2 ^ 32 + 1) (sym (number_is follow.can.fits)) (visits_few (kind_of term) (number term) k.memo place many fits)) in
+        begins_less (node_at nodes uid) k.memo (omega (arith, size_is follow.can.fits, size_out term)) few
+
+-- ---- A part of a visit, and what goes on behind it
+
+-- a turn behind what was done
+pub goes_after : (nodes : List Node) (moment : ℕ) (term : Term) (view : View) (uid : ℕ) (r : Result Turn (Stop NodeFault)) (s0 s1 s2 : Scene) (n0 n1 n2 : List Note) (d e : Done Answer Memory) →
+    Comes nodes s0 s1 n0 n1 d e → Beside uid (meaning term).size s0.kept s1.kept → StaysFit nodes s0 s1 → Goes nodes moment term view uid r s1 s2 n1 n2 e → Goes nodes moment term view uid r s0 s2 n0 n2 d
+goes_after nodes moment term view uid (Ok t) s0 s1 s2 n0 n1 n2 d e k beside stays goes = record {
+  ends = record { next = goes.ends.next; does = goes.ends.does; comes = comes_both nodes s0 s1 s2 n0 n1 n2 d e goes.ends.next k goes.ends.comes };
+  beside = beside_both beside goes.beside (omega arith) (omega arith) (omega arith) (omega arith);
+  stays = λ t v u fits. goes.stays t v u (stays t v u fits);
+}
+goes_after nodes moment term view uid (Err x) s0 s1 s2 n0 n1 n2 d e k beside stays goes = record {
+  ends = met_behind nodes moment (memory_of term uid) s0 s1 s2 n0 n1 n2 d e (Err x) k goes.ends;
+  beside = beside_both beside goes.beside (omega arith) (omega arith) (omega arith) (omega arith);
+  stays = λ t v u fits. goes.stays t v u (stays t v u fits);
+}
+
+-- scripts leave what the nodes keep
+module _ (nodes : List Node) (moment : ℕ) (term : Term) (view : View) (uid : ℕ) (kept : List Kept) (board board1 : List (Option Value)) (facts : List ℤ) (drivers : List DriverState) (n : List Note) (slots : length board1 ≡ length board) where
+  abbrev before : Scene
+  before = scene kept board facts drivers
+
+  abbrev behind_script : Scene
+  behind_script = scene kept board1 facts drivers
+
+  pub script_stays : StaysFit nodes before behind_script
+  script_stays = λ t v u fits. record { stands = fits.stands; few = fits.few; marks = fits.marks; leaves = fits.leaves; slots = slots ∙ fits.slots; facts = fits.facts }
+
+  pub script_beside : Beside uid (meaning term).size before.kept behind_script.kept
+  script_beside = beside_same uid (meaning term).size kept
+
+  module _ {A : Type 0} (d : Done A (Unit {0})) (go : A → Unit {0} → State → Done Answer Memory) (is : visit_in nodes moment term view uid before ≡ follow d (λ _. memory_in term uid before) go) where
+    -- a script of the node stopped
+    pub script_ends : (e : Stop NodeFault) → Settles {A = A} (Err e) (state_in nodes behind_script moment) d → Goes nodes moment term view uid (Err e) before behind_script n n (visit_in nodes moment term view uid before)
+    script_ends e k = record {
+      ends = subst (λ (x : Done Answer Memory). Meets {A = Answer} nodes moment (memory_of term uid) (Err e) before behind_script n n x) (sym is) (script_stopped nodes moment term view uid before behind_script n refl refl d go e k);
+      beside = script_beside;
+      stays = script_stays;
+    }
+
+    -- it was made, and this follows
+    pub script_goes : (a : A) → Settles (Ok a) (state_in nodes behind_script moment) d → (e : Done Answer Memory) → go a tt (state_in nodes behind_script moment) ≡ e →
+        (r : Result Turn (Stop NodeFault)) (s2 : Scene) (n2 : List Note) → Goes nodes moment term view uid r behind_script s2 n n2 e → Goes nodes moment term view uid r before s2 n n2 (visit_in nodes moment term view uid before)
+    script_goes a k e is_next r s2 n2 goes =
+        goes_after nodes moment term view uid r before behind_script s2 n n n2 (visit_in nodes moment term view uid before) e
+        (subst (λ (x : Done Answer Memory). Comes nodes before behind_script n n x e) (sym is)
+        (subst (λ (x : Done Answer Memory). Comes nodes before behind_script n n (follow d (λ _. memory_in term uid before) go) x) is_next (script_made nodes moment term view uid before behind_script n refl refl d go a k)))
+        script_beside script_stays goes
+
+-- ---- A RUNNING node that does not go on
+
+-- its halt was made, and it answers SKIPPED
+pub halt_goes : (nodes : List Node) (moment : ℕ) (term : Term) (view : View) (uid : ℕ) (s s1 : Scene) (n0 n1 : List Note) → Beside uid (meaning term).size s.kept s1.kept → StaysFit nodes s s1 →
+    Meets nodes moment (memory_of term uid) (Ok tt) s s1 n0 n1 (halt (site_at view uid term) (memory_in term uid s) (state_in nodes s moment)) →
+    Goes nodes moment term view uid (Ok (turn.Back answer.Skipped)) s s1 n0 n1 (continued false (site_at view uid term) (memory_in term uid s) (state_in nodes s moment))
+halt_goes nodes moment term view uid s s1 n0 n1 beside stays m = record {
+  ends = record {
+    next = done answer.Skipped (memory_in term uid s1) (state_in nodes s1 moment);
+    does = refl;
+    comes = part_made nodes moment (memory_of term uid) s s1 n0 n1 (halt (site_at view uid term) (memory_in term uid s) (state_in nodes s moment)) (λ m1. m1) (λ _ m1 x. done answer.Skipped m1 x) tt m;
+  };
+  beside = beside;
+  stays = stays;
+}
+
+pub halt_stops : (nodes : List Node) (moment : ℕ) (term : Term) (view : View) (uid : ℕ) (s s1 : Scene) (n0 n1 : List Note) (e : Stop NodeFault) → Beside uid (meaning term).size s.kept s1.kept → StaysFit nodes s s1 →
+    Meets {A = Unit {0}} nodes moment (memory_of term uid) (Err e) s s1 n0 n1 (halt (site_at view uid term) (memory_in term uid s) (state_in nodes s moment)) →
+    Goes nodes moment term view uid (Err e) s s1 n0 n1 (continued false (site_at view uid term) (memory_in term uid s) (state_in nodes s moment))
+halt_stops nodes moment term view uid s s1 n0 n1 e beside stays m = record {
+  ends = stopped nodes moment (memory_of term uid) (memory_of term uid) s s1 n0 n1 (halt (site_at view uid term) (memory_in term uid s) (state_in nodes s moment)) (λ m1. m1) (λ _ m1 x. done answer.Skipped m1 x) e refl m;
+  beside = beside;
+  stays = stays;
+}
