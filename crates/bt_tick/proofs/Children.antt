@@ -118,6 +118,10 @@ beside_both k l low1 high1 low2 high2 = record {
 pub beside_more : {uid size uid1 size1 : ℕ} {a b : List Kept} → Beside uid1 size1 a b → uid ≤ uid1 → uid1 + size1 ≤ uid + size → Beside uid size a b
 beside_more {uid} {size} {b = b} k low high = beside_both k (beside_same uid size b) low high (omega arith) (omega arith)
 
+-- of as many nodes as an arena says
+pub beside_sized : (term : Term) (uid size : ℕ) (a b : List Kept) → size ≡ (meaning term).size → Beside uid size a b → Beside uid (meaning term).size a b
+beside_sized term uid size a b is k = subst (λ (n : ℕ). Beside uid n a b) is k
+
 -- ---- Rules
 
 pub sound_roll : (x : Term-F Term) → Sound (roll-Term x) ≡ states_of_node Term (λ t. t) Sound x

@@ -19,7 +19,7 @@ use Rattle.bt_model.specs.declared.status.Status.{Status}
 use Rattle.bt_model.specs.declared.status.Status.TheVariants as status
 use Rattle.bt_model.specs.declared.term.Kind.{Kind}
 use Rattle.bt_model.specs.declared.term.Kind.TheVariants.{AlwaysSuccess, AlwaysFailure, ScriptNode, ScriptCondition, Leaf}
-use Rattle.bt_model.specs.declared.term.Term.{Term, fold_out-Term, out-Term}
+use Rattle.bt_model.specs.declared.term.Term.{Term, Term-F, fold_out-Term, out-Term}
 use Rattle.bt_model.specs.declared.term.Term.TheFolds.{map-Term}
 use Rattle.bt_model.specs.BuiltIns.{class_of, takes}
 use Rattle.bt_model.specs.Done.{Done, State, behind, done, ends, follow}
@@ -292,6 +292,10 @@ module _ (keeps : (t : Term) → Keeps (meaning t) (Sound t)) (nodes : List Node
 
 -- ---- A rule that is followed
 
+-- a term's node above the meanings of its children
+abbrev pub as_node : Term → Term-F Meaning
+as_node term = map-Term Term Meaning meaning (out-Term term)
+
 -- the node as it is written
 pub node_here : (term : Term) (view : View) (uid : ℕ) (nodes : List Node) (s : Scene) → Fits term view uid nodes s → (node : Node) → node ≡ node_at nodes uid →
     IsNode view (written (map-Term Term Meaning meaning (out-Term term))) (1 + sizes (map meaning (out-Term term).children)) node
@@ -421,5 +425,58 @@ pub halt_stops : (nodes : List Node) (moment : ℕ) (term : Term) (view : View) 
 halt_stops nodes moment term view uid s s1 n0 n1 e beside stays m = record {
   ends = stopped nodes moment (memory_of term uid) (memory_of term uid) s s1 n0 n1 (halt (site_at view uid term) (memory_in term uid s) (state_in nodes s moment)) (λ m1. m1) (λ _ m1 x. done answer.Skipped m1 x) e refl m;
   beside = beside;
+  stays = stays;
+}
+
+-- ---- The scripts before a rule
+
+module _ (nodes : List Node) (moment : ℕ) (term : Term) (view : View) (uid : ℕ) (kept : List Kept) (board board1 : List (Option Value)) (facts : List ℤ) (drivers : List DriverState) (n : List Note) (slots : length board1 ≡ length board) where
+  abbrev first : Scene
+  first = scene kept board facts drivers
+
+  abbrev second : Scene
+  second = scene kept board1 facts drivers
+
+  abbrev its : Site
+  its = site_at view uid term
+
+  abbrev m : Memory
+  m = memory_of term uid kept
+
+  module _ (runs : (kept_at kept uid).status ≡ status.Running) where
+    pub resume_ends : (e : Stop NodeFault) → Settles {A = Bool} (Err e) (state_in nodes second moment) (goes_on its (state_in nodes first moment)) → Goes nodes moment term view uid (Err e) first second n n (visit_in nodes moment term view uid first)
+    resume_ends e k =
+        script_ends nodes moment term view uid kept board board1 facts drivers n slots (goes_on its (state_in nodes first moment)) (λ b _ x. continued b its m x) (running_visit nodes moment term view uid first runs) e k
+
+    pub resume_goes : (b : Bool) → Settles (Ok b) (state_in nodes second moment) (goes_on its (state_in nodes first moment)) → (e : Done Answer Memory) → continued b its m (state_in nodes second moment) ≡ e →
+        (r : Result Turn (Stop NodeFault)) (s2 : Scene) (n2 : List Note) → Goes nodes moment term view uid r second s2 n n2 e → Goes nodes moment term view uid r first s2 n n2 (visit_in nodes moment term view uid first)
+    resume_goes b k e is r s2 n2 goes =
+        script_goes nodes moment term view uid kept board board1 facts drivers n slots (goes_on its (state_in nodes first moment)) (λ x _ y. continued x its m y) (running_visit nodes moment term view uid first runs) b k e is r s2 n2 goes
+
+    pub again_so : (b : Bool) → b ≡ true → continued b its m (state_in nodes second moment) ≡ ruled_in nodes moment term view uid second
+    again_so b is =
+        ap (λ (x : Bool). continued x its m (state_in nodes second moment)) is
+        ∙ goes_again nodes moment term view uid second
+        ∙ ap (λ (x : Status). ruled its x (kept_at kept uid).memo (children_in term uid kept) (state_in nodes second moment)) (sym runs)
+
+    pub halts_so : (b : Bool) → b ≡ false → continued b its m (state_in nodes second moment) ≡ continued false its m (state_in nodes second moment)
+    halts_so b is = ap (λ (x : Bool). continued x its m (state_in nodes second moment)) is
+
+  module _ (rests : is_running (kept_at kept uid).status ≡ false) where
+    pub begin_ends : (e : Stop NodeFault) → Settles {A = Option Answer} (Err e) (state_in nodes second moment) (guards_answer its (state_in nodes first moment)) → Goes nodes moment term view uid (Err e) first second n n (visit_in nodes moment term view uid first)
+    begin_ends e k =
+        script_ends nodes moment term view uid kept board board1 facts drivers n slots (guards_answer its (state_in nodes first moment)) (λ a _ x. guarded a its m x) (resting_visit nodes moment term view uid first rests) e k
+
+    pub begin_goes : (a : Option Answer) → Settles (Ok a) (state_in nodes second moment) (guards_answer its (state_in nodes first moment)) → (e : Done Answer Memory) → guarded a its m (state_in nodes second moment) ≡ e →
+        (r : Result Turn (Stop NodeFault)) (s2 : Scene) (n2 : List Note) → Goes nodes moment term view uid r second s2 n n2 e → Goes nodes moment term view uid r first s2 n n2 (visit_in nodes moment term view uid first)
+    begin_goes a k e is r s2 n2 goes =
+        script_goes nodes moment term view uid kept board board1 facts drivers n slots (guards_answer its (state_in nodes first moment)) (λ x _ y. guarded x its m y) (resting_visit nodes moment term view uid first rests) a k e is r s2 n2 goes
+
+-- a guard's answer ends the visit
+pub ended_goes : (nodes : List Node) (moment : ℕ) (term : Term) (view : View) (uid : ℕ) (r : Result Answer (Stop NodeFault)) (s s1 : Scene) (n0 n1 : List Note) (d : Done Answer Memory) → StaysFit nodes s s1 → Beside uid 1 s.kept s1.kept →
+    Meets nodes moment (memory_of term uid) r s s1 n0 n1 d → Goes nodes moment term view uid (back_of r) s s1 n0 n1 d
+ended_goes nodes moment term view uid r s s1 n0 n1 d stays beside k = record {
+  ends = ends_so nodes moment term view uid s s s1 n0 n0 n1 d d r (comes_same nodes s s n0 d d refl refl) k;
+  beside = beside_more beside (omega arith) (omega (arith, size_out term));
   stays = stays;
 }
