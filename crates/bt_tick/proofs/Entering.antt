@@ -1,7 +1,7 @@
 -- A node that is entered: what its guards, its start and its rule do of its visit.
-use Rattle.std.proofs.Common.{◌≡◌, ℕ, ℤ, zero, suc, ◌+◌, ◌<◌, ◌≤◌, ◌^◌, Bool, true, false, List, [], ◌∷◌, ◌++◌, map, length, refl, sym, ap, subst, ◌∙◌, arith, append-nil, Option, Some, None, Result, Ok, Err}
-use Rattle.std.proofs.lemmas.List.{length-map}
-use Rattle.std.specs.Prelude.{IfOk, IsTrue}
+use Rattle.std.proofs.Common.{◌≡◌, ℕ, ℤ, zero, suc, ◌+◌, ◌<◌, ◌≤◌, ◌^◌, Bool, true, false, List, [], ◌∷◌, ◌++◌, map, length, refl, sym, ap, subst, ◌∙◌, arith, append-nil, slice_set, Option, Some, None, Result, Ok, Err}
+use Rattle.std.proofs.lemmas.List.{get_or-set_same, length-map}
+use Rattle.std.specs.Prelude.{IfOk, IsErrAnd, IsTrue}
 use Rattle.bt_script.specs.declared.stop.Stop.{Stop}
 use Rattle.bt_script.specs.declared.stop.Stop.TheVariants as stop
 use Rattle.bt_script.specs.declared.value.Value.{Value}
@@ -39,7 +39,7 @@ use Rattle.bt_arena.specs.declared.nodes.Kept.{Kept}
 use Rattle.bt_arena.specs.declared.nodes.Node.{Node}
 use Rattle.bt_arena.specs.declared.nodes.ReadyLeaf.{ReadyLeaf}
 use Rattle.bt_arena.specs.Ends.{IsMade, Meets, StaysFit}
-use Rattle.bt_arena.specs.Nodes.{IsNode, kept_at, leaf_at, node_at}
+use Rattle.bt_arena.specs.Nodes.{IsNode, at_rest, kept_at, leaf_at, node_at}
 use Rattle.bt_arena.specs.Scenes.{Fits, Scene, scene, state_in}
 use Rattle.bt_arena.specs.Stands.{Beside, memory_of, uid_of, written}
 use Rattle.bt_arena.proofs.Framed.{all_sizes, sizes_cons}
@@ -53,16 +53,16 @@ use Rattle.bt_nodes.specs.Calls.{IsInPhase}
 use Rattle.bt_nodes.specs.Settles.{Settles}
 use Rattle.bt_nodes.proofs.Phases.{in_phase}
 use Rattle.bt_nodes.proofs.Settled.{settles_met}
-use Rattle.bt_nodes.proofs.Standing.{fits_here}
+use Rattle.bt_nodes.proofs.Standing.{beside_one, children_same, fits_here, stays_fit}
 use Rattle.bt_tick.specs.declared.machine.Step.{Step}
 use Rattle.bt_tick.specs.declared.machine.Turn.{Turn}
 use Rattle.bt_tick.specs.declared.machine.Turn.TheVariants as turn
-use Rattle.bt_tick.specs.Turns.{CanBegin, CanFollow, CanGoOn, CanPick, CanVisit, Comes, Goes, GoesOnBy, GoesTo, Starts, children_in, cost, goes_by, has_rule, kind_of, left_of, memory_in, number, ruled_in, site_at, started_in, visit_in}
+use Rattle.bt_tick.specs.Turns.{CanBegin, CanFollow, CanGoOn, CanPick, CanVisit, ChildrenSound, Comes, Goes, GoesOnBy, GoesTo, Starts, children_in, cost, goes_by, has_rule, kind_of, left_of, memory_in, number, ruled_in, site_at, started_in, visit_in}
 use Rattle.bt_tick.proofs.Children.{beside_both, beside_more, beside_same, stands_within, terms}
 use Rattle.bt_tick.proofs.Bounds.{begins_less, visits_few}
 use Rattle.bt_tick.proofs.Held.{leaf_kind, sound_opened}
-use Rattle.bt_tick.proofs.Moving.{back_of, ends_so, kind_is, node_fits, number_is, size_is}
-use Rattle.bt_tick.proofs.Passing.{comes_both, comes_same, met_behind, part_made}
+use Rattle.bt_tick.proofs.Moving.{as_many_kept, back_of, ends_so, kind_is, node_fits, node_there, number_is, size_is}
+use Rattle.bt_tick.proofs.Passing.{comes_both, comes_same, met_behind, none_told, part_made, stops_with}
 use Rattle.bt_tick.proofs.Starting.{begins_so, picks_so}
 
 -- ---- Kinds
@@ -472,6 +472,25 @@ module _ (nodes : List Node) (moment : ℕ) (term : Term) (view : View) (uid : �
     begin_goes a k e is r s2 n2 goes =
         script_goes nodes moment term view uid kept board board1 facts drivers n slots (guards_answer its (state_in nodes first moment)) (λ x _ y. guarded x its m y) (resting_visit nodes moment term view uid first rests) a k e is r s2 n2 goes
 
+  module _ (o : Option Answer) where
+    -- a guard has answered
+    pub answers_so : (a : Answer) → o ≡ Some a → (k : Kept) → k ≡ kept_at kept uid →
+        guarded o its m (state_in nodes second moment) ≡ ended its (kept_at kept uid).status (record { answer = a; memo = k.memo }) (children_in term uid kept) (state_in nodes second moment)
+    answers_so a is k read =
+        ap (λ (x : Option Answer). guarded x its m (state_in nodes second moment)) is
+        ∙ guard_answers nodes moment term view uid second a
+        ∙ ap (λ (x : Kept). ended its (kept_at kept uid).status (record { answer = a; memo = x.memo }) (children_in term uid kept) (state_in nodes second moment)) (sym read)
+
+    -- none has, and the node does not start
+    pub keeps_so : o ≡ None → starts (kind_of term) (kept_at kept uid).memo ≡ false → guarded o its m (state_in nodes second moment) ≡ ruled_in nodes moment term view uid second
+    keeps_so is none =
+        ap (λ (x : Option Answer). guarded x its m (state_in nodes second moment)) is ∙ none_answers nodes moment term view uid second false none ∙ begins_kept nodes moment term view uid second
+
+    -- .. or it starts
+    pub begins_so_far : o ≡ None → starts (kind_of term) (kept_at kept uid).memo ≡ true → guarded o its m (state_in nodes second moment) ≡ started_in nodes moment term view uid second
+    begins_so_far is start =
+        ap (λ (x : Option Answer). guarded x its m (state_in nodes second moment)) is ∙ none_answers nodes moment term view uid second true start
+
 -- a guard's answer ends the visit
 pub ended_goes : (nodes : List Node) (moment : ℕ) (term : Term) (view : View) (uid : ℕ) (r : Result Answer (Stop NodeFault)) (s s1 : Scene) (n0 n1 : List Note) (d : Done Answer Memory) → StaysFit nodes s s1 → Beside uid 1 s.kept s1.kept →
     Meets nodes moment (memory_of term uid) r s s1 n0 n1 d → Goes nodes moment term view uid (back_of r) s s1 n0 n1 d
@@ -480,3 +499,139 @@ ended_goes nodes moment term view uid r s s1 n0 n1 d stays beside k = record {
   beside = beside_more beside (omega arith) (omega (arith, size_out term));
   stays = stays;
 }
+
+-- ---- A start
+
+-- whether a node starts, as the code reads it
+pub starts_here : {term : Term} {view : View} {uid : ℕ} {nodes : List Node} {s : Scene} (fits : Fits term view uid nodes s) (node : Node) (k : Kept) → node ≡ node_at nodes uid → k ≡ kept_at s.kept uid → (b : Bool) → b ≡ starts node.kind k.memo →
+    starts (kind_of term) (kept_at s.kept uid).memo ≡ b
+starts_here fits node k is read b e =
+    (λ i. starts ((sym (ap (λ (n : Node). n.kind) is ∙ kind_is fits)) i) (sym read i).memo) ∙ sym e
+
+changes : (uid : ℕ) (st : Status) → is_running st ≡ false → change uid st status.Running ≡ Changed uid st status.Running ∷ []
+changes uid status.Running e = cc
+changes uid status.Idle e = refl
+changes uid status.Success e = refl
+changes uid status.Failure e = refl
+
+module _ (keeps : (t : Term) → Keeps (meaning t) (Sound t)) (nodes : List Node) (moment : ℕ) (term : Term) (view : View) (uid : ℕ) (kept kept1 : List Kept) (board : List (Option Value)) (facts : List ℤ) (drivers : List DriverState) (n0 n1 : List Note)
+    (can : CanVisit nodes moment term view uid (scene kept board facts drivers)) (rests : is_running (kept_at kept uid).status ≡ false)
+    (noted : n1 ≡ n0 ++ Changed uid (kept_at kept uid).status status.Running ∷ []) (is1 : kept1 ≡ slice_set kept uid (record (kept_at kept uid) { status = status.Running })) where
+  abbrev s0 : Scene
+  s0 = scene kept board facts drivers
+
+  abbrev s1 : Scene
+  s1 = scene kept1 board facts drivers
+
+  abbrev old : Kept
+  old = kept_at kept uid
+
+  there : uid < length kept
+  there = omega (arith, node_there can.fits, as_many_kept can.fits)
+
+  here1 : kept_at kept1 uid ≡ record old { status = status.Running }
+  here1 = ap (λ (ks : List Kept). kept_at ks uid) is1 ∙ get_or-set_same kept uid (record old { status = status.Running }) at_rest there
+
+  children1 : children_in term uid kept1 ≡ children_in term uid kept
+  children1 = children_same kept kept1 uid (record old { status = status.Running }) is1 (out-Term term).children
+
+  stays1 : StaysFit nodes s0 s1
+  stays1 = stays_fit nodes uid (record old { status = status.Running }) s0 s1 is1 refl refl refl refl
+
+  abbrev after_start : Result Memo NodeFault → Done Answer Memory
+  after_start r =
+      follow (ends r (children_in term uid kept) (state_in nodes s0 moment)) (λ ms1. remembered status.Running old.memo ms1) (λ memo1 ms1 x. ruled (site_at view uid term) status.Running memo1 ms1 x)
+
+  started_as : (k : Kept) → k ≡ old → (r : Result Memo NodeFault) → r ≡ or_bad_port uid (new_memo (kind_of term) (site_at view uid term) k.memo (state_in nodes s0 moment)) →
+      started_in nodes moment term view uid s0 ≡ behind (Changed uid old.status status.Running ∷ []) [] (after_start r)
+  started_as k read r is =
+      starts_with nodes moment term view uid s0
+      ∙ ap (λ (ns : List Note). behind ns [] (after_start (or_bad_port uid (new_memo (kind_of term) (site_at view uid term) old.memo (state_in nodes s0 moment))))) (changes uid old.status rests)
+      ∙ ap (λ (x : Result Memo NodeFault). behind (Changed uid old.status status.Running ∷ []) [] (after_start x))
+        (sym (is ∙ ap (λ (x : Kept). or_bad_port uid (new_memo (kind_of term) (site_at view uid term) x.memo (state_in nodes s0 moment))) read))
+
+  -- a bad port: the node has become RUNNING, and no more
+  pub start_faults : (k : Kept) → k ≡ old → (f : NodeFault) → Err f ≡ or_bad_port uid (new_memo (kind_of term) (site_at view uid term) k.memo (state_in nodes s0 moment)) →
+      Starts nodes moment term view uid (Err (stop.Fault f)) s0 s1 n0 n1
+  start_faults k read f is =
+      subst (λ (x : Done Answer Memory). IsMade nodes moment (memory_of term uid) (Err f) s0 s1 n0 n1 x) (sym (started_as k read (Err f) is))
+      (record {
+        answer = refl;
+        memory = (λ i. remembered (sym here1 i).status (sym here1 i).memo (sym children1 i)) ∙ sym (memory_out term uid kept1);
+        state = refl;
+        notes = noted;
+        drivers = refl;
+      })
+
+  module _ (kept2 : List Kept) (memo : Memo) (is2 : kept2 ≡ slice_set kept1 uid (record (kept_at kept1 uid) { memo = memo })) where
+    abbrev s2 : Scene
+    s2 = scene kept2 board facts drivers
+
+    there1 : uid < length kept1
+    there1 = omega (arith, there, (beside_one kept kept1 uid (record old { status = status.Running }) is1).as_many)
+
+    here2 : kept_at kept2 uid ≡ record { status = status.Running; memo = memo; held = old.held }
+    here2 =
+        ap (λ (ks : List Kept). kept_at ks uid) is2 ∙ get_or-set_same kept1 uid (record (kept_at kept1 uid) { memo = memo }) at_rest there1
+        ∙ ap (λ (x : Kept). record x { memo = memo }) here1
+
+    children2 : children_in term uid kept2 ≡ children_in term uid kept
+    children2 = children_same kept1 kept2 uid (record (kept_at kept1 uid) { memo = memo }) is2 (out-Term term).children ∙ children1
+
+    start_stays : StaysFit nodes s0 s2
+    start_stays = λ t v u fits. stays_fit nodes uid (record (kept_at kept1 uid) { memo = memo }) s1 s2 is2 refl refl refl refl t v u (stays1 t v u fits)
+
+    -- the node has started, and its rule is still to come
+    pub start_made : starts (kind_of term) old.memo ≡ true → (k : Kept) → k ≡ old → Ok memo ≡ or_bad_port uid (new_memo (kind_of term) (site_at view uid term) k.memo (state_in nodes s0 moment)) → Starts nodes moment term view uid (Ok tt) s0 s2 n0 n1
+    start_made start k read is =
+        let is_old : Ok memo ≡ or_bad_port uid (new_memo (kind_of term) (site_at view uid term) old.memo (state_in nodes s0 moment)) =
+          is ∙ ap (λ (x : Kept). or_bad_port uid (new_memo (kind_of term) (site_at view uid term) x.memo (state_in nodes s0 moment))) read in
+        (record {
+          can = record {
+            fits = start_stays term view uid can.fits;
+            sound = subst (λ (x : List Memory). ChildrenSound term view uid x (state_in nodes s0 moment)) (sym children2) (can_go keeps nodes moment term view uid s0 can).sound;
+            dated = can.dated;
+          };
+          begins = λ with_rule. subst (λ (x : Kept). CanBegin (kind_of term) (number term) x.memo) (sym here2) (starts_so keeps nodes moment term view uid s0 can rests start memo is_old);
+          held = λ alone. absurd (not_both (has_rule (kind_of term)) (starts_ruled (kind_of term) old.memo start) alone);
+        },
+        record {
+          told = Changed uid old.status status.Running ∷ [];
+          made = [];
+          all = started_as k read (Ok memo) is ∙ (λ i. behind (Changed uid old.status status.Running ∷ []) [] (ruled (site_at view uid term) (sym here2 i).status (sym here2 i).memo (sym children2 i) (state_in nodes s0 moment)));
+          named = refl;
+          notes = noted;
+          drivers = refl;
+        })
+      where
+        not_both : (b : Bool) → b ≡ true → b ≡ false → ⊥
+        not_both b holds fails = cc
+
+pub starts_kind : {term : Term} {view : View} {uid : ℕ} {nodes : List Node} {s : Scene} (fits : Fits term view uid nodes s) → starts (node_at nodes uid).kind (kept_at s.kept uid).memo ≡ true → starts (kind_of term) (kept_at s.kept uid).memo ≡ true
+starts_kind {uid = uid} {s = s} fits e = ap (λ (k : Kind). starts k (kept_at s.kept uid).memo) (sym (kind_is fits)) ∙ e
+
+-- the note was refused
+pub starts_stopped : (nodes : List Node) (moment : ℕ) (term : Term) (view : View) (uid : ℕ) (s : Scene) (n0 n1 : List Note) (r : Result (Unit {0}) (Stop NodeFault)) → IsErrAnd r (λ x. x ≡ stop.NoMemory) → n1 ≡ n0 → Starts nodes moment term view uid r s s n0 n1
+starts_stopped nodes moment term view uid s n0 n1 r is same =
+    subst (λ (x : Result (Unit {0}) (Stop NodeFault)). Starts nodes moment term view uid x s s n0 n1) (sym (stops_with r stop.NoMemory is))
+    (subst (λ (n : List Note). Starts nodes moment term view uid (Err stop.NoMemory) s s n0 n) (sym same) (none_told nodes s n0 (started_in nodes moment term view uid s)))
+
+-- a status leaves the marks
+pub stays_running : (nodes : List Node) (uid : ℕ) (kept kept1 : List Kept) (board : List (Option Value)) (facts : List ℤ) (drivers : List DriverState) → kept1 ≡ slice_set kept uid (record (kept_at kept uid) { status = status.Running }) →
+    StaysFit nodes (scene kept board facts drivers) (scene kept1 board facts drivers)
+stays_running nodes uid kept kept1 board facts drivers is = stays_fit nodes uid (record (kept_at kept uid) { status = status.Running }) (scene kept board facts drivers) (scene kept1 board facts drivers) is refl refl refl refl
+
+-- and so does a memo behind it
+pub stays_twice : (nodes : List Node) (uid : ℕ) (kept kept1 kept2 : List Kept) (board : List (Option Value)) (facts : List ℤ) (drivers : List DriverState) → kept1 ≡ slice_set kept uid (record (kept_at kept uid) { status = status.Running }) →
+    (memo : Memo) → kept2 ≡ slice_set kept1 uid (record (kept_at kept1 uid) { memo = memo }) → StaysFit nodes (scene kept board facts drivers) (scene kept2 board facts drivers)
+stays_twice nodes uid kept kept1 kept2 board facts drivers is memo is2 = λ t v u fits.
+    stays_fit nodes uid (record (kept_at kept1 uid) { memo = memo }) (scene kept1 board facts drivers) (scene kept2 board facts drivers) is2 refl refl refl refl t v u (stays_running nodes uid kept kept1 board facts drivers is t v u fits)
+
+-- a change of the node is one of its nodes
+pub one_within : (term : Term) (uid : ℕ) (a b : List Kept) → Beside uid 1 a b → Beside uid (meaning term).size a b
+one_within term uid a b k = beside_more k (omega arith) (omega (arith, size_out term))
+
+-- a start stopped
+pub start_stops : (nodes : List Node) (moment : ℕ) (term : Term) (view : View) (uid : ℕ) (e : Stop NodeFault) (s s1 : Scene) (n0 n1 : List Note) → StaysFit nodes s s1 → Beside uid 1 s.kept s1.kept →
+    Starts nodes moment term view uid (Err e) s s1 n0 n1 → Goes nodes moment term view uid (Err e) s s1 n0 n1 (started_in nodes moment term view uid s)
+start_stops nodes moment term view uid e s s1 n0 n1 stays beside k = record { ends = k; beside = one_within term uid s.kept s1.kept beside; stays = stays }
