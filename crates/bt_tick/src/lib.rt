@@ -1,0 +1,11 @@
+//! The tick of the engine: one visit of the root of a tree that stands in an arena.
+#![tactic(auto)]
+
+mod enter;
+mod machine;
+mod moves;
+mod onward;
+mod visiting;
+
+pub use machine::{Frame, Step, Turn};
+pub use visiting::tick;
