@@ -1,13 +1,16 @@
 -- What the attributes of a node say fits its kind.
 use Rattle.std.proofs.Common.{◌≡◌, inl, inr, ℕ, Bool, true, false, List, Option, Some, None, Ok, refl, sym, subst}
 use Rattle.std.specs.Prelude.{not}
+use Rattle.std.specs.List.{list_all}
 use Rattle.bt_script.specs.declared.syntax.Script.{Script}
+use Rattle.bt_elements.specs.Marks.{no_name_twice}
+use Rattle.bt_elements.specs.Written.{can_stand}
 use Rattle.bt_model.specs.declared.term.Guards.{Guards}
 use Rattle.bt_model.specs.declared.term.Kind.{Kind}
 use Rattle.bt_model.specs.declared.term.Kind.TheVariants.{SubTree, Leaf}
 use Rattle.bt_model.specs.declared.term.Port.{Port}
 use Rattle.bt_model.specs.BuiltIns.{has_code, kind_named, ports_of}
-use Rattle.bt_model.specs.Trees.{CodeFits, GuardsFit, IdFits, autoremap_fits, ports_fit}
+use Rattle.bt_model.specs.Trees.{CodeFits, GuardsFit, IdFits, autoremap_fits, guards_stand, ports_fit, script_stands}
 use Rattle.bt_manifest.specs.declared.models.NodeModel.{NodeModel}
 use Rattle.bt_manifest.specs.Attributes.{Attributes}
 use Rattle.bt_manifest.specs.Models.{Models, model_of}
@@ -15,17 +18,21 @@ use Rattle.bt_manifest.specs.Steps.{go_on}
 use Rattle.bt_build.specs.declared.content.Content.{Content}
 use Rattle.bt_build.specs.declared.head.Head.{Head}
 use Rattle.bt_build.specs.Content.{Rules, all_known, autoremap_in, code_text, content_in, guards_in, known_in, model_rules, ports_in, rest_in, rules_of, script_of, scripts_in}
+use Rattle.bt_build.proofs.ElementTexts.{found}
 use Rattle.bt_build.proofs.HeadFits.{HeadFits}
 use Rattle.bt_build.proofs.KindFits.{fine}
+use Rattle.bt_build.proofs.ModelTexts.{ModelsStand}
 use Rattle.bt_build.proofs.PortLists.{any_fit, built_fit, key_fit, model_fit}
-use Rattle.bt_build.proofs.ScriptFits.{code_fits, guards_fit, text_fits}
+use Rattle.bt_build.proofs.PortTexts.{RulesStand, Stand, model_stands, ports_stand}
+use Rattle.bt_build.proofs.ScriptFits.{GuardsRead, code_fits, code_text_stands, guards_fit, guards_in_stand, guards_read, script_of_stands, text_fits}
 use Rattle.bt_build.proofs.Sizes.{same_ok, went}
 
 -- what was read of a node
 pub record Parts (uid : ℕ) (kind : Kind) (rules : Rules) (attributes : Attributes) (content : Content) : Type 0 where
   pub ports : ports_in uid (has_code kind) rules attributes ≡ Ok content.ports
   pub code : CodeFits (has_code kind) content.code
-  pub guards : GuardsFit content.guards
+  pub code_text : list_all can_stand attributes ≡ true → script_stands content.code ≡ true
+  pub guards : GuardsRead uid attributes content.guards
   pub autoremap : autoremap_in uid kind attributes ≡ Ok content.autoremap
 
 parts_by : (uid : ℕ) (kind : Kind) (rules : Rules) (attributes : Attributes) (content : Content) (b : Bool) → known_in uid b kind rules attributes ≡ Ok content → Parts uid kind rules attributes content
@@ -40,7 +47,8 @@ parts_by uid kind rules attributes content true h =
     (record {
       ports = p.1;
       code = code_fits uid (has_code kind) t.0 c.0 (text_fits uid (has_code kind) attributes t.0 t.1) c.1;
-      guards = guards_fit uid attributes g.0 g.1;
+      code_text = λ all. script_of_stands uid t.0 c.0 (code_text_stands uid (has_code kind) attributes t.0 all t.1) c.1;
+      guards = guards_read uid attributes g.0 g.1;
       autoremap = a.1;
     })
 
@@ -67,12 +75,12 @@ pub record Fitting (kind : Kind) (node_id : List ℕ) (content : Content) : Type
 subtree_fits : (uid : ℕ) (models : Models) (id : List ℕ) (attributes : Attributes) (content : Content) → content_in uid models SubTree id attributes ≡ Ok content → Fitting SubTree id content
 subtree_fits uid models id attributes content h =
     let p = parts uid models SubTree id attributes content h in
-    record { id = tt; ports = key_fit uid false attributes content.ports p.ports; code = p.code; guards = p.guards; autoremap = refl }
+    record { id = tt; ports = key_fit uid false attributes content.ports p.ports; code = p.code; guards = guards_fit uid attributes content.guards p.guards; autoremap = refl }
 
 leaf_fits : (uid : ℕ) (models : Models) (id : List ℕ) (attributes : Attributes) (content : Content) → kind_named id ≡ None → content_in uid models Leaf id attributes ≡ Ok content → Fitting Leaf id content
 leaf_fits uid models id attributes content none h =
     let p = parts uid models Leaf id attributes content h in
-    record { id = none; ports = leaf_ports uid attributes content.ports (model_of id models) p.ports; code = p.code; guards = p.guards; autoremap = autoremap_said uid Leaf attributes content.autoremap p.autoremap }
+    record { id = none; ports = leaf_ports uid attributes content.ports (model_of id models) p.ports; code = p.code; guards = guards_fit uid attributes content.guards p.guards; autoremap = autoremap_said uid Leaf attributes content.autoremap p.autoremap }
 
 built_fits : (uid : ℕ) (models : Models) (kind : Kind) (id : List ℕ) (attributes : Attributes) (content : Content) → kind_named id ≡ Some kind → content_in uid models kind id attributes ≡ Ok content → Fitting kind id content
 built_fits uid models kind id attributes content named h =
@@ -80,7 +88,7 @@ built_fits uid models kind id attributes content named h =
     let p = parts uid models kind id attributes content h in
     let q = built_fit uid (has_code kind) (ports_of kind) attributes content.ports f.own f.written
     (subst (λ (r : Rules). ports_in uid (has_code kind) r attributes ≡ Ok content.ports) (f.rules models id) p.ports) in
-    record { id = f.id id named; ports = f.fit content.ports q.0 q.1; code = p.code; guards = p.guards; autoremap = autoremap_said uid kind attributes content.autoremap p.autoremap }
+    record { id = f.id id named; ports = f.fit content.ports q.0 q.1; code = p.code; guards = guards_fit uid attributes content.guards p.guards; autoremap = autoremap_said uid kind attributes content.autoremap p.autoremap }
 
 pub content_fits : (uid : ℕ) (models : Models) (head : Head) (attributes : Attributes) (content : Content) → HeadFits head → content_in uid models head.kind head.id attributes ≡ Ok content →
     Fitting head.kind head.id content
@@ -89,3 +97,32 @@ content_fits uid models head attributes content (inl subtree) h =
 content_fits uid models head attributes content (inr (inl leaf)) h =
     subst (λ (k : Kind). Fitting k head.id content) (sym leaf.0) (leaf_fits uid models head.id attributes content leaf.1 (subst (λ (k : Kind). content_in uid models k head.id attributes ≡ Ok content) leaf.0 h))
 content_fits uid models head attributes content (inr (inr named)) h = built_fits uid models head.kind head.id attributes content named h
+
+-- ---- Texts
+
+rules_by : (models : Models) (id : List ℕ) (o : Option NodeModel) → ModelsStand models → model_of id models ≡ o → RulesStand (model_rules o)
+rules_by models id None all e = tt
+rules_by models id (Some model) all e = found (λ (m : List ℕ × NodeModel). model_stands m.1.ports ≡ true) id models model all e
+
+rules_of_stand : (models : Models) (head : Head) → ModelsStand models → HeadFits head → RulesStand (rules_of models head.kind head.id)
+rules_of_stand models head all (inl subtree) = let any : RulesStand (rules_of models SubTree head.id) = tt in subst (λ (k : Kind). RulesStand (rules_of models k head.id)) (sym subtree) any
+rules_of_stand models head all (inr (inl leaf)) =
+    subst (λ (k : Kind). RulesStand (rules_of models k head.id)) (sym leaf.0) (rules_by models head.id (model_of head.id models) all refl)
+rules_of_stand models head all (inr (inr named)) =
+    let f = fine head.id head.kind named in subst RulesStand (sym (f.rules models head.id)) f.texts
+
+-- what can be written of a node
+pub record ContentStands (content : Content) : Type 0 where
+  pub ports : Stand content.ports
+  pub code : script_stands content.code ≡ true
+  pub guards : guards_stand content.guards ≡ true
+
+pub content_stands : (uid : ℕ) (models : Models) (head : Head) (attributes : Attributes) (content : Content) → ModelsStand models → HeadFits head → list_all can_stand attributes ≡ true → no_name_twice attributes ≡ true →
+    content_in uid models head.kind head.id attributes ≡ Ok content → ContentStands content
+content_stands uid models head attributes content all fits stand single h =
+    let p = parts uid models head.kind head.id attributes content h in
+    record {
+      ports = ports_stand uid (has_code head.kind) (rules_of models head.kind head.id) attributes content.ports (rules_of_stand models head all fits) stand single p.ports;
+      code = p.code_text stand;
+      guards = guards_in_stand uid attributes content.guards stand p.guards;
+    }

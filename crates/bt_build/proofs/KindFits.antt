@@ -12,10 +12,12 @@ use Rattle.bt_manifest.specs.Models.{Models}
 use Rattle.bt_build.specs.Content.{BuiltIn, is_port, rules_of}
 use Rattle.bt_build.proofs.PortFits.{both_true, some_same}
 use Rattle.bt_build.proofs.PortLists.{Own}
+use Rattle.bt_build.proofs.PortTexts.{rules_stand}
 
--- its ports are its own, and may be written; and its parts are asked of it as of a built-in node
+-- its ports are its own, can be written, and may be; and its parts are asked of it as of a built-in node
 pub record Fine (kind : Kind) : Type 0 where
   pub own : AllByRecursion (Own (ports_of kind)) (ports_of kind)
+  pub texts : rules_stand (ports_of kind) ≡ true
   pub written : AllByRecursion (λ rule. is_port (has_code kind) rule.name ≡ true) (ports_of kind)
   pub id : (id : List ℕ) → kind_named id ≡ Some kind → IdFits kind id
   pub rules : (models : Models) (id : List ℕ) → rules_of models kind id ≡ BuiltIn (ports_of kind)
@@ -25,6 +27,7 @@ fine_Sequence : Fine Sequence
 unfolding switch_ports
 fine_Sequence = record {
   own = tt;
+  texts = refl;
   written = tt;
   id = λ id h. h;
   rules = λ models id. refl;
@@ -35,6 +38,7 @@ fine_SequenceWithMemory : Fine SequenceWithMemory
 unfolding switch_ports
 fine_SequenceWithMemory = record {
   own = tt;
+  texts = refl;
   written = tt;
   id = λ id h. h;
   rules = λ models id. refl;
@@ -45,6 +49,7 @@ fine_ReactiveSequence : Fine ReactiveSequence
 unfolding switch_ports
 fine_ReactiveSequence = record {
   own = tt;
+  texts = refl;
   written = tt;
   id = λ id h. h;
   rules = λ models id. refl;
@@ -55,6 +60,7 @@ fine_Fallback : Fine Fallback
 unfolding switch_ports
 fine_Fallback = record {
   own = tt;
+  texts = refl;
   written = tt;
   id = λ id h. h;
   rules = λ models id. refl;
@@ -65,6 +71,7 @@ fine_ReactiveFallback : Fine ReactiveFallback
 unfolding switch_ports
 fine_ReactiveFallback = record {
   own = tt;
+  texts = refl;
   written = tt;
   id = λ id h. h;
   rules = λ models id. refl;
@@ -75,6 +82,7 @@ fine_Parallel : Fine Parallel
 unfolding switch_ports
 fine_Parallel = record {
   own = (λ v f. f, (λ v f. f, tt));
+  texts = refl;
   written = (refl, (refl, tt));
   id = λ id h. h;
   rules = λ models id. refl;
@@ -85,6 +93,7 @@ fine_Switch2 : Fine (Switch 2)
 unfolding switch_ports
 fine_Switch2 = record {
   own = (λ v f. f, (λ v f. f, (λ v f. f, tt)));
+  texts = refl;
   written = (refl, (refl, (refl, tt)));
   id = λ id h. h;
   rules = λ models id. refl;
@@ -95,6 +104,7 @@ fine_Switch3 : Fine (Switch 3)
 unfolding switch_ports
 fine_Switch3 = record {
   own = (λ v f. f, (λ v f. f, (λ v f. f, (λ v f. f, tt))));
+  texts = refl;
   written = (refl, (refl, (refl, (refl, tt))));
   id = λ id h. h;
   rules = λ models id. refl;
@@ -105,6 +115,7 @@ fine_Switch4 : Fine (Switch 4)
 unfolding switch_ports
 fine_Switch4 = record {
   own = (λ v f. f, (λ v f. f, (λ v f. f, (λ v f. f, (λ v f. f, tt)))));
+  texts = refl;
   written = (refl, (refl, (refl, (refl, (refl, tt)))));
   id = λ id h. h;
   rules = λ models id. refl;
@@ -115,6 +126,7 @@ fine_Switch5 : Fine (Switch 5)
 unfolding switch_ports
 fine_Switch5 = record {
   own = (λ v f. f, (λ v f. f, (λ v f. f, (λ v f. f, (λ v f. f, (λ v f. f, tt))))));
+  texts = refl;
   written = (refl, (refl, (refl, (refl, (refl, (refl, tt))))));
   id = λ id h. h;
   rules = λ models id. refl;
@@ -125,6 +137,7 @@ fine_Switch6 : Fine (Switch 6)
 unfolding switch_ports
 fine_Switch6 = record {
   own = (λ v f. f, (λ v f. f, (λ v f. f, (λ v f. f, (λ v f. f, (λ v f. f, (λ v f. f, tt)))))));
+  texts = refl;
   written = (refl, (refl, (refl, (refl, (refl, (refl, (refl, tt)))))));
   id = λ id h. h;
   rules = λ models id. refl;
@@ -135,6 +148,7 @@ fine_IfThenElse : Fine IfThenElse
 unfolding switch_ports
 fine_IfThenElse = record {
   own = tt;
+  texts = refl;
   written = tt;
   id = λ id h. h;
   rules = λ models id. refl;
@@ -145,6 +159,7 @@ fine_WhileDoElse : Fine WhileDoElse
 unfolding switch_ports
 fine_WhileDoElse = record {
   own = tt;
+  texts = refl;
   written = tt;
   id = λ id h. h;
   rules = λ models id. refl;
@@ -155,6 +170,7 @@ fine_Inverter : Fine Inverter
 unfolding switch_ports
 fine_Inverter = record {
   own = tt;
+  texts = refl;
   written = tt;
   id = λ id h. h;
   rules = λ models id. refl;
@@ -165,6 +181,7 @@ fine_ForceSuccess : Fine ForceSuccess
 unfolding switch_ports
 fine_ForceSuccess = record {
   own = tt;
+  texts = refl;
   written = tt;
   id = λ id h. h;
   rules = λ models id. refl;
@@ -175,6 +192,7 @@ fine_ForceFailure : Fine ForceFailure
 unfolding switch_ports
 fine_ForceFailure = record {
   own = tt;
+  texts = refl;
   written = tt;
   id = λ id h. h;
   rules = λ models id. refl;
@@ -185,6 +203,7 @@ fine_KeepRunningUntilFailure : Fine KeepRunningUntilFailure
 unfolding switch_ports
 fine_KeepRunningUntilFailure = record {
   own = tt;
+  texts = refl;
   written = tt;
   id = λ id h. h;
   rules = λ models id. refl;
@@ -195,6 +214,7 @@ fine_Retry : Fine Retry
 unfolding switch_ports
 fine_Retry = record {
   own = (λ v f. f, tt);
+  texts = refl;
   written = (refl, tt);
   id = λ id h. h;
   rules = λ models id. refl;
@@ -205,6 +225,7 @@ fine_Repeat : Fine Repeat
 unfolding switch_ports
 fine_Repeat = record {
   own = (λ v f. f, tt);
+  texts = refl;
   written = (refl, tt);
   id = λ id h. h;
   rules = λ models id. refl;
@@ -215,6 +236,7 @@ fine_Timeout : Fine Timeout
 unfolding switch_ports
 fine_Timeout = record {
   own = (λ v f. f, tt);
+  texts = refl;
   written = (refl, tt);
   id = λ id h. h;
   rules = λ models id. refl;
@@ -225,6 +247,7 @@ fine_Delay : Fine Delay
 unfolding switch_ports
 fine_Delay = record {
   own = (λ v f. f, tt);
+  texts = refl;
   written = (refl, tt);
   id = λ id h. h;
   rules = λ models id. refl;
@@ -235,6 +258,7 @@ fine_RunOnce : Fine RunOnce
 unfolding switch_ports
 fine_RunOnce = record {
   own = (λ v f. f, tt);
+  texts = refl;
   written = (refl, tt);
   id = λ id h. h;
   rules = λ models id. refl;
@@ -245,6 +269,7 @@ fine_AlwaysSuccess : Fine AlwaysSuccess
 unfolding switch_ports
 fine_AlwaysSuccess = record {
   own = tt;
+  texts = refl;
   written = tt;
   id = λ id h. h;
   rules = λ models id. refl;
@@ -255,6 +280,7 @@ fine_AlwaysFailure : Fine AlwaysFailure
 unfolding switch_ports
 fine_AlwaysFailure = record {
   own = tt;
+  texts = refl;
   written = tt;
   id = λ id h. h;
   rules = λ models id. refl;
@@ -265,6 +291,7 @@ fine_ScriptNode : Fine ScriptNode
 unfolding switch_ports
 fine_ScriptNode = record {
   own = tt;
+  texts = refl;
   written = tt;
   id = λ id h. h;
   rules = λ models id. refl;
@@ -275,6 +302,7 @@ fine_ScriptCondition : Fine ScriptCondition
 unfolding switch_ports
 fine_ScriptCondition = record {
   own = tt;
+  texts = refl;
   written = tt;
   id = λ id h. h;
   rules = λ models id. refl;

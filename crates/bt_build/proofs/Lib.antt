@@ -1,10 +1,13 @@
 pub mod ContentFits
+pub mod ElementTexts
 pub mod Fits
 pub mod HeadFits
 pub mod KindFits
+pub mod ModelTexts
 pub mod Nodes
 pub mod PortFits
 pub mod PortLists
+pub mod PortTexts
 pub mod ScriptAnswers
 pub mod ScriptFits
 pub mod Sizes

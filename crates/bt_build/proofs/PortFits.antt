@@ -4,6 +4,7 @@ use Rattle.std.specs.Prelude.{not, is_some, option_map, ◌&&◌, ◌||◌, if�
 use Rattle.std.specs.List.{list_all}
 use Rattle.std.specs.Option.{option_map_or}
 use Rattle.std.specs.Str.{bytes_eq}
+use Rattle.std.specs.Str.Parse.{signed_digits_value}
 use Rattle.bt_script.specs.declared.value.Value.{Value}
 use Rattle.bt_script.specs.declared.value.Value.TheVariants.{Int, Text}
 use Rattle.bt_script.specs.Identifiers.{is_identifier}
@@ -15,7 +16,7 @@ use Rattle.bt_model.specs.declared.term.PortValue.{PortValue}
 use Rattle.bt_model.specs.declared.term.PortValue.TheVariants.{Lit, Key}
 use Rattle.bt_model.specs.BuiltIns.{PortRule, fits}
 use Rattle.bt_model.specs.Names.{is_among}
-use Rattle.bt_model.specs.Numbers.{int_in}
+use Rattle.bt_model.specs.Numbers.{int_in, is_canonical, is_int, of_64_bits}
 use Rattle.bt_model.specs.Trees.{is_one_of, names_of}
 use Rattle.bt_model.specs.Values.{in_braces, is_plain, key_said, key_value, literal, literal_value, value_fits, value_in}
 use Rattle.bt_build.specs.Content.{Rules, AnyPort, AnyKey, Modelled, BuiltIn, is_modelled, name_fits, or_bad, port_of, range_among, range_of, with_port}
@@ -40,8 +41,20 @@ lit range value v true p e h =
     subst (λ (x : PortValue). value_fits range x ≡ true) (some_same (Lit value) v h) (both_true (is_plain value) (fits range value) p e)
 lit range value v false p e h = absurd (cc)
 
+in_64_bits : (n z : ℤ) (b : Bool) → is_int z ≡ b → ◌≡◌ {A = Option ℤ} (if b then Some z else None) (Some n) → is_int n ≡ true
+in_64_bits n z true e h = subst (λ (x : ℤ). is_int x ≡ true) (some_same z n h) e
+in_64_bits n z false e h = absurd (cc)
+
+int_by : (text : List ℕ) (n : ℤ) (b : Bool) → (if b then of_64_bits (signed_digits_value 10 text) else None) ≡ Some n → is_int n ≡ true
+int_by text n true h = in_64_bits n (signed_digits_value 10 text) (is_int (signed_digits_value 10 text)) refl h
+int_by text n false h = absurd (cc)
+
+-- a number that a text writes has 64 bits
+pub int_in_is : (text : List ℕ) (n : ℤ) → int_in text ≡ Some n → is_int n ≡ true
+int_in_is text n h = int_by text n (is_canonical text) h
+
 plain : (text : List ℕ) (o : Option ℤ) → in_braces text ≡ false → int_in text ≡ o → is_plain (option_map_or Int o (Text text)) ≡ true
-plain text (Some n) b e = refl
+plain text (Some n) b e = int_in_is text n e
 plain text None b e =
     ap (λ (x : Option ℤ). not (is_some x) && not (in_braces text)) e ∙ ap (λ (x : Bool). not x) b
 
@@ -98,7 +111,7 @@ stays p ports = record { fit = λ h. h; names = λ name h. h }
 pub grows_on : (p : Port → Bool) (a b c : List Port) → Grows p a b → Grows p b c → Grows p a c
 grows_on p a b c g h = record { fit = λ x. h.fit (g.fit x); names = λ name x. h.names name (g.names name x) }
 
-all_pushed : (p : Port → Bool) (ports : List Port) (x : Port) → list_all p ports ≡ true → p x ≡ true → list_all p (ports ++ x ∷ []) ≡ true
+pub all_pushed : {A : Type 0} (p : A → Bool) (xs : List A) (x : A) → list_all p xs ≡ true → p x ≡ true → list_all p (xs ++ x ∷ []) ≡ true
 all_pushed p [] x h k = both_true (p x) true k refl
 all_pushed p (y ∷ ys) x h k =
     let q = both (p y) (list_all p ys) h in both_true (p y) (list_all p (ys ++ x ∷ [])) q.0 (all_pushed p ys x q.1 k)

@@ -1,17 +1,22 @@
 -- The scripts that are read fit their node.
 use Rattle.std.proofs.Common.{◌≡◌, ℕ, Bool, true, false, List, codes, Option, Some, None, Result, Ok, Err, inl, inr, refl, sym, subst}
-use Rattle.std.specs.Prelude.{option_map}
+use Rattle.std.specs.Prelude.{option_map, IfSome}
+use Rattle.std.specs.Cmp.Derive.{both_true}
+use Rattle.std.specs.List.{list_all}
 use Rattle.bt_script.specs.declared.fault.ScriptFault.{ScriptFault}
 use Rattle.bt_script.specs.declared.syntax.Script.{Script}
 use Rattle.bt_script.specs.Reading.{ReadsScript}
+use Rattle.bt_script.specs.Texts.{value_stands}
+use Rattle.bt_elements.specs.Written.{can_stand}
 use Rattle.bt_model.specs.declared.term.Guards.{Guards}
-use Rattle.bt_model.specs.Trees.{CodeFits, GuardsFit, ScriptFits}
+use Rattle.bt_model.specs.Trees.{CodeFits, GuardsFit, ScriptFits, guards_stand, script_stands}
 use Rattle.bt_manifest.specs.Attributes.{Attributes, value_of}
 use Rattle.bt_manifest.specs.Steps.{go_on}
 use Rattle.bt_build.specs.declared.fault.BuildFault.{BuildFault}
 use Rattle.bt_build.specs.Content.{code_text, guard_in, guards_in, or_bad, or_bad_script, script_of}
 use Rattle.bt_build.specs.EveryText.{Reading, every_text}
 use Rattle.bt_build.specs.Scripts.{script_in}
+use Rattle.bt_build.proofs.ElementTexts.{value_there}
 use Rattle.bt_build.proofs.Sizes.{same_ok, went}
 
 ok_script : (s t : Script) → ◌≡◌ {A = Result Script ScriptFault} (Ok s) (Ok t) → s ≡ t
@@ -92,9 +97,19 @@ tail_1 uid attributes failure_if = go_on (tail_2 uid attributes failure_if) (gua
 abbrev tail_0 : ℕ → Attributes → Read
 tail_0 uid attributes = go_on (tail_1 uid attributes) (guard_in uid attributes (codes "_failureIf"))
 
--- the guards that are read
-pub guards_fit : (uid : ℕ) (attributes : Attributes) (guards : Guards) → guards_in uid attributes ≡ Ok guards → GuardsFit guards
-guards_fit uid attributes guards h =
+-- each guard is read from its attribute
+pub record GuardsRead (uid : ℕ) (attributes : Attributes) (guards : Guards) : Type 0 where
+  pub failure_if : guard_in uid attributes (codes "_failureIf") ≡ Ok guards.failure_if
+  pub success_if : guard_in uid attributes (codes "_successIf") ≡ Ok guards.success_if
+  pub skip_if : guard_in uid attributes (codes "_skipIf") ≡ Ok guards.skip_if
+  pub while_true : guard_in uid attributes (codes "_while") ≡ Ok guards.while_true
+  pub on_success : guard_in uid attributes (codes "_onSuccess") ≡ Ok guards.on_success
+  pub on_failure : guard_in uid attributes (codes "_onFailure") ≡ Ok guards.on_failure
+  pub post : guard_in uid attributes (codes "_post") ≡ Ok guards.post
+  pub on_halted : guard_in uid attributes (codes "_onHalted") ≡ Ok guards.on_halted
+
+pub guards_read : (uid : ℕ) (attributes : Attributes) (guards : Guards) → guards_in uid attributes ≡ Ok guards → GuardsRead uid attributes guards
+guards_read uid attributes guards h =
     let w0 = went (tail_1 uid attributes) (guard_in uid attributes (codes "_failureIf")) guards h in
     let w1 = went (tail_2 uid attributes w0.0) (guard_in uid attributes (codes "_successIf")) guards w0.2 in
     let w2 = went (tail_3 uid attributes w0.0 w1.0) (guard_in uid attributes (codes "_skipIf")) guards w1.2 in
@@ -103,14 +118,60 @@ guards_fit uid attributes guards h =
     let w5 = went (tail_6 uid attributes w0.0 w1.0 w2.0 w3.0 w4.0) (guard_in uid attributes (codes "_onFailure")) guards w4.2 in
     let w6 = went (tail_7 uid attributes w0.0 w1.0 w2.0 w3.0 w4.0 w5.0) (guard_in uid attributes (codes "_post")) guards w5.2 in
     let w7 = went (tail_8 uid attributes w0.0 w1.0 w2.0 w3.0 w4.0 w5.0 w6.0) (guard_in uid attributes (codes "_onHalted")) guards w6.2 in
-    subst GuardsFit (same_ok (record { failure_if = w0.0; success_if = w1.0; skip_if = w2.0; while_true = w3.0; on_success = w4.0; on_failure = w5.0; post = w6.0; on_halted = w7.0 }) guards w7.2)
-    (record {
-      failure_if = script_fits uid (value_of (codes "_failureIf") attributes) w0.0 w0.1;
-      success_if = script_fits uid (value_of (codes "_successIf") attributes) w1.0 w1.1;
-      skip_if = script_fits uid (value_of (codes "_skipIf") attributes) w2.0 w2.1;
-      while_true = script_fits uid (value_of (codes "_while") attributes) w3.0 w3.1;
-      on_success = script_fits uid (value_of (codes "_onSuccess") attributes) w4.0 w4.1;
-      on_failure = script_fits uid (value_of (codes "_onFailure") attributes) w5.0 w5.1;
-      post = script_fits uid (value_of (codes "_post") attributes) w6.0 w6.1;
-      on_halted = script_fits uid (value_of (codes "_onHalted") attributes) w7.0 w7.1;
-    })
+    subst (λ (g : Guards). GuardsRead uid attributes g) (same_ok (record { failure_if = w0.0; success_if = w1.0; skip_if = w2.0; while_true = w3.0; on_success = w4.0; on_failure = w5.0; post = w6.0; on_halted = w7.0 }) guards w7.2)
+    (record { failure_if = w0.1; success_if = w1.1; skip_if = w2.1; while_true = w3.1; on_success = w4.1; on_failure = w5.1; post = w6.1; on_halted = w7.1 })
+
+-- the guards that are read
+pub guards_fit : (uid : ℕ) (attributes : Attributes) (guards : Guards) → GuardsRead uid attributes guards → GuardsFit guards
+guards_fit uid attributes guards r = record {
+  failure_if = script_fits uid (value_of (codes "_failureIf") attributes) guards.failure_if r.failure_if;
+  success_if = script_fits uid (value_of (codes "_successIf") attributes) guards.success_if r.success_if;
+  skip_if = script_fits uid (value_of (codes "_skipIf") attributes) guards.skip_if r.skip_if;
+  while_true = script_fits uid (value_of (codes "_while") attributes) guards.while_true r.while_true;
+  on_success = script_fits uid (value_of (codes "_onSuccess") attributes) guards.on_success r.on_success;
+  on_failure = script_fits uid (value_of (codes "_onFailure") attributes) guards.on_failure r.on_failure;
+  post = script_fits uid (value_of (codes "_post") attributes) guards.post r.post;
+  on_halted = script_fits uid (value_of (codes "_onHalted") attributes) guards.on_halted r.on_halted;
+}
+
+-- ---- The texts of scripts
+
+text_read : (uid : ℕ) (text : List ℕ) (o : Option Script) (r : Result Script ScriptFault) → value_stands text ≡ true → script_in text ≡ r → or_bad_script uid r ≡ Ok o → script_stands o ≡ true
+text_read uid text o (Ok s) v e h =
+    let same : text ≡ s.text = sym (script_in-reads text s e).0 in
+    subst (λ (x : Option Script). script_stands x ≡ true) (same_ok (Some s) o h) (subst (λ (t : List ℕ). value_stands t ≡ true) same v)
+text_read uid text o (Err f) v e h = absurd (cc)
+
+-- a script whose text can be written
+pub script_of_stands : (uid : ℕ) (text : Option (List ℕ)) (o : Option Script) → IfSome text (λ t. value_stands t ≡ true) → script_of uid text ≡ Ok o → script_stands o ≡ true
+script_of_stands uid None o v h = let none : script_stands None ≡ true = refl in subst (λ (x : Option Script). script_stands x ≡ true) (same_ok None o h) none
+script_of_stands uid (Some text) o v h = text_read uid text o (script_in text) v refl h
+
+text_there : (name : List ℕ) (attributes : Attributes) (o : Option (List ℕ)) → list_all can_stand attributes ≡ true → value_of name attributes ≡ o → IfSome o (λ t. value_stands t ≡ true)
+text_there name attributes None all e = tt
+text_there name attributes (Some text) all e = value_there name attributes text all e
+
+code_by : (uid : ℕ) (attributes : Attributes) (o text : Option (List ℕ)) → list_all can_stand attributes ≡ true → value_of (codes "code") attributes ≡ o → or_bad uid (option_map Some o) ≡ Ok text → IfSome text (λ t. value_stands t ≡ true)
+code_by uid attributes None text all e h = absurd (cc)
+code_by uid attributes (Some t) text all e h = subst (λ (x : Option (List ℕ)). IfSome x (λ t. value_stands t ≡ true)) (same_ok (Some t) text h) (value_there (codes "code") attributes t all e)
+
+-- the text of a node's code can be written
+pub code_text_stands : (uid : ℕ) (with_code : Bool) (attributes : Attributes) (text : Option (List ℕ)) → list_all can_stand attributes ≡ true → code_text uid with_code attributes ≡ Ok text → IfSome text (λ t. value_stands t ≡ true)
+code_text_stands uid true attributes text all h = code_by uid attributes (value_of (codes "code") attributes) text all refl h
+code_text_stands uid false attributes text all h =
+    let none : IfSome None (λ (t : List ℕ). value_stands t ≡ true) = tt in subst (λ (x : Option (List ℕ)). IfSome x (λ t. value_stands t ≡ true)) (same_ok None text h) none
+
+guard_stands : (uid : ℕ) (attributes : Attributes) (name : List ℕ) (o : Option Script) → list_all can_stand attributes ≡ true → guard_in uid attributes name ≡ Ok o → script_stands o ≡ true
+guard_stands uid attributes name o all h = script_of_stands uid (value_of name attributes) o (text_there name attributes (value_of name attributes) all refl) h
+
+-- the guards can be written
+pub guards_in_stand : (uid : ℕ) (attributes : Attributes) (guards : Guards) → list_all can_stand attributes ≡ true → GuardsRead uid attributes guards → guards_stand guards ≡ true
+guards_in_stand uid attributes g all r =
+    both_true (guard_stands uid attributes (codes "_failureIf") g.failure_if all r.failure_if)
+    (both_true (guard_stands uid attributes (codes "_successIf") g.success_if all r.success_if)
+    (both_true (guard_stands uid attributes (codes "_skipIf") g.skip_if all r.skip_if)
+    (both_true (guard_stands uid attributes (codes "_while") g.while_true all r.while_true)
+    (both_true (guard_stands uid attributes (codes "_onSuccess") g.on_success all r.on_success)
+    (both_true (guard_stands uid attributes (codes "_onFailure") g.on_failure all r.on_failure)
+    (both_true (guard_stands uid attributes (codes "_post") g.post all r.post)
+    (guard_stands uid attributes (codes "_onHalted") g.on_halted all r.on_halted)))))))

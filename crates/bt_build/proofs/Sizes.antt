@@ -9,6 +9,7 @@ use Rattle.bt_model.specs.declared.term.Kind.{Kind}
 use Rattle.bt_model.specs.declared.term.Kind.TheVariants.{SubTree}
 use Rattle.bt_model.specs.declared.term.Term.{Term, fold-roll-Term}
 use Rattle.bt_model.specs.declared.term.Tree.{Tree}
+use Rattle.bt_model.specs.Boards.{slots}
 use Rattle.bt_model.specs.BuiltIns.{takes}
 use Rattle.bt_model.specs.Names.{is_among}
 use Rattle.bt_model.specs.Terms.{depth_of, node_count, own_scopes, scope_count, work_of}
@@ -18,12 +19,12 @@ use Rattle.bt_manifest.specs.Models.{Models, attributes_of, children_of, name_of
 use Rattle.bt_manifest.specs.Steps.{go_on}
 use Rattle.bt_build.specs.declared.content.Content.{Content}
 use Rattle.bt_build.specs.declared.fault.BuildFault.{BuildFault}
-use Rattle.bt_build.specs.declared.fault.BuildFault.TheVariants.{Format, TooManyNodes, TooDeep, Recursive, TooManyScopes, ChildCount, TooMuchWork}
+use Rattle.bt_build.specs.declared.fault.BuildFault.TheVariants.{Format, TooManyNodes, TooDeep, Recursive, TooManyScopes, ChildCount, TooManyKeys, TooMuchWork}
 use Rattle.bt_build.specs.declared.head.Head.{Head}
 use Rattle.bt_build.specs.declared.tree.Numbers.{Numbers}
 use Rattle.bt_build.specs.Content.{content_in}
 use Rattle.bt_build.specs.Heads.{head_of}
-use Rattle.bt_build.specs.Reads.{File, Reader, is_subtree, known, main_of, main_read, most_levels, named_read, no_numbers, node_in, node_of, node_with, nodes_by, not_root, one_node_more, one_scope_more, opened_by, plain_by, read_node, read_root, reads, refused_if, root_faults, root_read, roots_read, says_format, term_of, tree_of, trees_read, with_first, with_trees, within_work}
+use Rattle.bt_build.specs.Reads.{File, Reader, is_subtree, known, main_of, main_read, most_levels, named_read, no_numbers, node_in, node_of, node_with, nodes_by, not_root, one_node_more, one_scope_more, opened_by, plain_by, read_node, read_root, reads, refused_if, root_faults, root_read, roots_read, says_format, term_of, tree_of, trees_read, with_first, with_trees, within_limits}
 
 -- what was read next, where all was read
 pub went : {A B F : Type 0} (next : A → Result B F) (r : Result A F) (y : B) → go_on next r ≡ Ok y → (x : A) × (r ≡ Ok x) × (next x ≡ Ok y)
@@ -173,25 +174,37 @@ deep : (t : Term) → depth_of t ≤ most_levels → depth_of t ≤ 256
 unfolding most_levels
 deep t h = h
 
+yes : (b : Bool) → not b ≡ false → b ≡ true
+yes true h = refl
+yes false h = absurd (cc)
+
+-- a tree that is not refused is the one that was read, with slots and work within their limits
+pub record Limited (read t : Tree) : Type 0 where
+  pub same : read ≡ t
+  pub slots : length (slots read) ≤ 4096
+  pub work : work_of read.term ≤ 100000
+
+pub limited : (read t : Tree) → within_limits read ≡ Ok t → Limited read t
+limited read t h =
+    let few = nat_le (length (slots read)) 4096 in
+    let little = nat_le (work_of read.term) 100000 in
+    let r = not_refused (not few) TooManyKeys (refused_if (not little) TooMuchWork (Ok read)) t h in
+    let q = not_refused (not little) TooMuchWork (Ok read) t r.1 in
+    record { same = same_ok read t q.1; slots = leb-true (length (slots read)) 4096 (yes few r.0); work = leb-true (work_of read.term) 100000 (yes little q.0) }
+
 within : (file : File) (id : List ℕ) (root : Element) (t : Tree) → root_read file id root ≡ Ok t → IsWithinLimits t
 within file id root t h =
-    let w = went (λ (r : Term × Numbers). within_work id r.0) (read_root file root id) t h in
-    let r = not_refused (not (nat_le (work_of w.0.0) 100000)) TooMuchWork (Ok (record { main = id; term = w.0.0 })) t w.2 in
+    let w = went (λ (r : Term × Numbers). within_limits (record { main = id; term = r.0 })) (read_root file root id) t h in
+    let l = limited (record { main = id; term = w.0.0 }) t w.2 in
     let s = read_sized file most_levels root (id ∷ []) no_numbers w.0.1 w.0.0 w.1 in
-    subst IsWithinLimits (same (record { main = id; term = w.0.0 }) t r.1)
+    subst IsWithinLimits l.same
     (record {
       nodes = omega (arith, s.nodes, s.few);
       depth = deep w.0.0 s.depth;
       scopes = omega (arith, s.scopes, s.few_scopes (omega arith));
-      work = leb-true (work_of w.0.0) 100000 (yes (nat_le (work_of w.0.0) 100000) r.0);
+      slots = l.slots;
+      work = l.work;
     })
-  where
-    same : (a b : Tree) → ◌≡◌ {A = Result Tree BuildFault} (Ok a) (Ok b) → a ≡ b
-    same a b g = cc
-
-    yes : (b : Bool) → not b ≡ false → b ≡ true
-    yes true g = refl
-    yes false g = absurd (cc)
 
 of_roots : (file : File) (id : List ℕ) (roots : List Element) (t : Tree) → roots_read file id roots ≡ Ok t → IsWithinLimits t
 of_roots file id [] t h = absurd (cc)

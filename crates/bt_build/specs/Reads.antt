@@ -7,6 +7,7 @@ use Rattle.bt_model.specs.declared.term.Kind.{Kind}
 use Rattle.bt_model.specs.declared.term.Kind.TheVariants.{SubTree}
 use Rattle.bt_model.specs.declared.term.Term.{Term, Term-F, roll-Term}
 use Rattle.bt_model.specs.declared.term.Tree.{Tree}
+use Rattle.bt_model.specs.Boards.{slots}
 use Rattle.bt_model.specs.BuiltIns.{takes}
 use Rattle.bt_model.specs.Names.{is_among}
 use Rattle.bt_model.specs.Terms.{work_of}
@@ -14,7 +15,7 @@ use Rattle.bt_manifest.specs.Attributes.{Attributes, value_of}
 use Rattle.bt_manifest.specs.Models.{Models, attributes_of, children_of, name_of, place_of}
 use Rattle.bt_manifest.specs.Steps.{go_on}
 use Rattle.bt_build.specs.declared.fault.BuildFault.{BuildFault}
-use Rattle.bt_build.specs.declared.fault.BuildFault.TheVariants.{NotRoot, Format, DoubleTree, NoMain, NoTree, TooManyNodes, TooDeep, UnknownNode, Recursive, TooManyScopes, ChildCount, TooMuchWork}
+use Rattle.bt_build.specs.declared.fault.BuildFault.TheVariants.{NotRoot, Format, DoubleTree, NoMain, NoTree, TooManyNodes, TooDeep, UnknownNode, Recursive, TooManyScopes, ChildCount, TooManyKeys, TooMuchWork}
 use Rattle.bt_build.specs.declared.tree.Numbers.{Numbers}
 use Rattle.bt_build.specs.declared.content.Content.{Content}
 use Rattle.bt_build.specs.declared.head.Head.{Head}
@@ -182,12 +183,15 @@ most_levels = 256
 abbrev pub read_root : File → Element → List ℕ → Result (Term × Numbers) BuildFault
 read_root file root id = read_node file most_levels root (id ∷ []) no_numbers
 
--- the tree of this ID and term, where its work is within the limit
-abbrev pub within_work : List ℕ → Term → Result Tree BuildFault
-within_work id term = refused_if (not (nat_le (work_of term) 100000)) TooMuchWork (Ok (record { main = id; term = term }))
+-- the tree, where its slots and then its work are within their limits
+abbrev pub within_limits : Tree → Result Tree BuildFault
+within_limits tree =
+    refused_if (not (nat_le (length (slots tree)) 4096)) TooManyKeys
+    (refused_if (not (nat_le (work_of tree.term) 100000)) TooMuchWork (Ok tree))
 
+-- the tree of this ID and root node
 abbrev pub root_read : File → List ℕ → Element → Result Tree BuildFault
-root_read file id root = go_on (λ read. within_work id read.0) (read_root file root id)
+root_read file id root = go_on (λ read. within_limits (record { main = id; term = read.0 })) (read_root file root id)
 
 -- a tree has one root
 abbrev pub roots_read : File → List ℕ → List Element → Result Tree BuildFault

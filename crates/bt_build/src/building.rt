@@ -1,20 +1,25 @@
 ghost use Rattle.std.specs.Prelude.{◌≡◌, Ok, IfOk};
 ghost use Rattle.std.specs.Option.{option_copied};
 ghost use Rattle.bt_script.specs.Stops.{Gives};
+ghost use Rattle.bt_elements.specs.Elements.{IsValid as IsValidElement};
 ghost use Rattle.bt_model.specs.Trees.{IsValid};
 ghost use Rattle.bt_manifest.specs.Models.{manifest_in};
-ghost use Rattle.bt_build.specs.Reads.{main_of, main_read, most_levels, only_id, read_root, reads, root_read, tree_of, trees_read, within_work};
+ghost use Rattle.bt_build.specs.Reads.{main_of, main_read, most_levels, only_id, read_root, reads, root_read, tree_of, trees_read, within_limits};
 ghost use Rattle.bt_build.specs.Seen.{file_seen, trees_seen};
 
 use crate::fault::BuildFault;
 use crate::tree::{File, Numbers, read_node};
 use crate::trees::{Trees, not_root, says_format, tree_of, trees_of};
 use crate::working::is_within_work;
+use bt_board::{slot_count, slots_of};
 use bt_elements::{Element, Elements};
 use bt_manifest::{Manifest, attribute};
 use bt_model::{Term, Tree};
 use bt_script::{Name, Stop};
 use std::alloc::Global;
+
+/// The most slots of a tree.
+const MOST_SLOTS: u32 = 4096;
 
 /// The most visits that one visit of a tree may make.
 const MOST_WORK: u32 = 100_000;
@@ -75,17 +80,18 @@ fn read_root(
     read_node(alloc, file, most_levels(), root, opened.as_slice(), numbers)
 }
 
-/// The tree of this term, where its work is within the limit.
-fn within_work(alloc: Global, id: &Name, term: Term) -> Result<Tree, Stop<BuildFault>>
-    ensures { Gives result (within_work id.now term) }
+/// The tree, where its slots and then its work are within their limits.
+fn within_limits(alloc: Global, tree: Tree) -> Result<Tree, Stop<BuildFault>>
+    ensures { Gives result (within_limits tree) }
 {
-    if !is_within_work(&term, MOST_WORK) {
+    let slots = slots_of(alloc, &tree)?;
+    if slot_count(&slots) > MOST_SLOTS {
+        return Err(Stop::Fault(BuildFault::TooManyKeys));
+    }
+    if !is_within_work(&tree.term, MOST_WORK) {
         return Err(Stop::Fault(BuildFault::TooMuchWork));
     }
-    Ok(Tree {
-        main: id.copy(alloc)?,
-        term,
-    })
+    Ok(tree)
 }
 
 /// The tree of this ID and root node.
@@ -98,7 +104,8 @@ fn root_read(
     ensures { Gives result (root_read (file_seen file.now) id.now root.now) }
 {
     let (term, _) = read_root(alloc, file, root, id)?;
-    within_work(alloc, id, term)
+    let main = id.copy(alloc)?;
+    within_limits(alloc, Tree { main, term })
 }
 
 /// The tree of this ID.
@@ -162,7 +169,8 @@ pub fn build(
     models: &Manifest,
     main: Option<&Name>,
 ) -> Result<Tree, Stop<BuildFault>>
-    requires { manifest_in elements.now.root ≡ Ok models.now }
+    requires valid { IsValidElement elements.now.root }
+    requires models { manifest_in elements.now.root ≡ Ok models.now }
     ensures reads { Gives result (reads models.now (option_copied main.entry) elements.now.root) }
     ensures valid { IfOk result IsValid }
 {

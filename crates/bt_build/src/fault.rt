@@ -34,6 +34,8 @@ pub enum BuildFault {
     BadLiteral { uid: u32 },
     /// A script of the node can't be read.
     BadScript { uid: u32, fault: ScriptFault },
+    /// More than 4,096 slots.
+    TooManyKeys,
     /// A visit of the tree might make more than 100,000 visits of nodes.
     TooMuchWork,
 }

@@ -82,6 +82,7 @@ fn fault_text(alloc: Global, fault: &BuildFault) -> Result<String, AllocError> {
         BuildFault::UnknownPort { uid } => format!(in alloc; "UnknownPort {uid}"),
         BuildFault::BadLiteral { uid } => format!(in alloc; "BadLiteral {uid}"),
         BuildFault::BadScript { uid, fault } => format!(in alloc; "BadScript {uid} {fault:?}"),
+        BuildFault::TooManyKeys => format!(in alloc; "TooManyKeys"),
         BuildFault::TooMuchWork => format!(in alloc; "TooMuchWork"),
     }
 }

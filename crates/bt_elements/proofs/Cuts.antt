@@ -2,7 +2,7 @@
 use Rattle.std.proofs.Common.{◌≡◌, ℕ, ◌<◌, Bool, true, false, List, [], ◌∷◌, ◌++◌, length, get_or, take, drop, ap, sym, ◌∙◌, subst, arith}
 use Rattle.std.proofs.lemmas.Bool.Decides.{nat_tests}
 use Rattle.std.proofs.lemmas.List.{take-append-drop, length-append}
-use Rattle.std.proofs.Math.Seq.{drop-append_seam}
+use Rattle.std.proofs.Math.Seq.{take-append_seam, drop-append_seam}
 use Rattle.std.proofs.lemmas.Grind.{common_steps}
 use Rattle.std.proofs.lemmas.List.Sums.{prefix_len-le-length, prefix_len_stops}
 use Rattle.std.proofs.lemmas.Str.{IsUtf8-take, IsUtf8-drop, IsUtf8-past_char, IsCharBoundary-before_ascii, IsCharBoundary-after_ascii}
@@ -14,7 +14,7 @@ use Rattle.bt_script.proofs.Bools.{both}
 use Rattle.bt_elements.specs.Marks.{is_name_rest, is_quote, is_value_byte}
 use Rattle.bt_elements.specs.Elements.{is_text_byte}
 use Rattle.bt_elements.specs.References.{is_plain_byte}
-use Rattle.bt_elements.specs.Reading.{after_white}
+use Rattle.bt_elements.specs.Reading.{after_white, begins}
 use Rattle.bt_elements.proofs.Fronts.{taken}
 
 -- bytes that do not pass are ASCII
@@ -62,7 +62,7 @@ plain_stops c h = grind (arith, nat_tests)
 pub value_stops : (quote : ℕ) → quote < 128 → StopsAtAscii (is_value_byte quote)
 value_stops quote small c h = grind (arith, nat_tests)
 
-white_ascii : PassesAscii is_white
+pub white_ascii : PassesAscii is_white
 white_ascii c h = grind (arith, nat_tests)
 
 pub cut_white : (bs : List ℕ) → IsUtf8 bs → IsUtf8 (after_white bs)
@@ -94,6 +94,20 @@ front_cut p bs front n ascii u is len = subst IsUtf8 (sym (is ∙ ap (λ (m : �
 
 pub rest_cut : (p : ℕ → Bool) (bs rest : List ℕ) (n : ℕ) → StopsAtAscii p → IsUtf8 bs → rest ≡ drop n bs → n ≡ prefix_len p bs → IsUtf8 rest
 rest_cut p bs rest n ascii u is len = subst IsUtf8 (sym (is ∙ ap (λ (m : ℕ). drop m bs) len)) (cut_rest p bs ascii u)
+
+-- a text ends before an ASCII byte, and goes on with it
+pub cut_before : (front rest : List ℕ) → begins is_ascii rest ≡ true → IsUtf8 (front ++ rest) → IsUtf8 front × IsUtf8 rest
+cut_before front [] h u = absurd (cc)
+cut_before front (c ∷ cs) h u =
+    let bs = front ++ (c ∷ cs) in
+    let here : get_or bs (length front) 0 ≡ c = grind (arith, common_steps) in
+    let small : c < 128 = passes_ascii c h in
+    let within : length front < length bs = omega (arith, length-append front (c ∷ cs)) in
+    let low : get_or bs (length front) 0 < 128 = omega arith in
+    let edge = IsCharBoundary-before_ascii bs (length front) within low in (
+      subst IsUtf8 (take-append_seam front (c ∷ cs)) (IsUtf8-take bs (length front) u edge),
+      subst IsUtf8 (drop-append_seam front (c ∷ cs)) (IsUtf8-drop bs (length front) u edge),
+    )
 
 pub quote_ascii : (c : ℕ) → is_quote c ≡ true → c < 128
 quote_ascii c h = grind (arith, nat_tests)

@@ -1,3 +1,4 @@
+pub mod Ascii
 pub mod Asides
 pub mod Cuts
 pub mod Files
@@ -10,3 +11,4 @@ pub mod Outcomes
 pub mod References
 pub mod Standings
 pub mod Verdicts
+pub mod Writing

@@ -48,7 +48,8 @@ map_twice : (es : List Element) (b : Bool) → map (λ (child : Bool → List Ta
 map_twice [] b = refl
 map_twice (e ∷ es) b = ap (λ (z : List (List Tag)). tags_of e b ∷ z) (map_twice es b)
 
-tags_of-roll : (x : Element-F Element) (b : Bool) →
+-- the tags of an element by its parts
+pub tags_of-roll : (x : Element-F Element) (b : Bool) →
     tags_of (roll-Element x) b ≡ Begin b x.place x.name x.attributes ∷ (tags_of_all x.children (b || is_models x.name) ++ Ending (b || is_models x.name) x.name ∷ [])
 tags_of-roll x b =
     let below = b || is_models x.name in

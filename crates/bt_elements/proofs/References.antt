@@ -1,5 +1,5 @@
 -- Digits, and what a value says part by part.
-use Rattle.std.proofs.Common.{◌≡◌, ℕ, zero, suc, ◌+◌, ◌*◌, ◌<◌, ◌≤◌, Bool, true, false, ◌&&◌, List, [], ◌∷◌, ◌++◌, length, get_or, take, drop, Option, Some, None, refl, ap, sym, ◌∙◌, subst, append_assoc, append-nil, arith, if◌then◌else◌}
+use Rattle.std.proofs.Common.{◌≡◌, ℕ, zero, suc, ◌+◌, ◌*◌, ◌<◌, ◌≤◌, Bool, true, false, ◌&&◌, ◌||◌, nat_lt, nat_le, List, [], ◌∷◌, ◌++◌, length, get_or, take, drop, Option, Some, None, refl, ap, sym, ◌∙◌, subst, append_assoc, append-nil, arith, if◌then◌else◌}
 use Rattle.std.specs.Prelude.{codes}
 use Rattle.std.proofs.lemmas.Bool.Decides.{nat_tests}
 use Rattle.std.proofs.lemmas.List.{take-append-drop, length-append, length-drop, get_or-drop}
@@ -11,6 +11,7 @@ use Rattle.std.specs.Str.{IsUtf8}
 use Rattle.std.specs.Str.Parse.{digits_value, digits_value_after}
 use Rattle.bt_script.proofs.Bools.{both}
 use Rattle.bt_elements.specs.References.{begins_with, is_character, numeric, reference_of, is_plain_byte, decoded_from, decoded}
+use Rattle.bt_elements.specs.Marks.{is_not_zero}
 use Rattle.bt_elements.specs.Reading.{begins}
 use Rattle.bt_elements.proofs.Asides.{begins_is}
 use Rattle.bt_elements.proofs.Fronts.{taken, left, some_inj, if_some}
@@ -41,10 +42,10 @@ decoded_plain (c ∷ cs) more h =
     let t = both (is_plain_byte c) (list_all is_plain_byte cs) h in
     rw t.0 (ap (λ (z : List ℕ). c ∷ z) (decoded_plain cs more t.1))
 
-abbrev behind_ampersand : List ℕ → ℕ → Option (ℕ × ℕ) → List ℕ
+abbrev pub behind_ampersand : List ℕ → ℕ → Option (ℕ × ℕ) → List ℕ
 behind_ampersand cs c o = elim o [ Some r ↦ encode_utf8 r.0 ++ decoded_from r.1 cs | None ↦ c ∷ decoded_from 0 cs ]
 
-decoded_marked : (c : ℕ) (cs : List ℕ) (o : Option (ℕ × ℕ)) → is_plain_byte c ≡ false → reference_of cs ≡ o → decoded (c ∷ cs) ≡ behind_ampersand cs c o
+pub decoded_marked : (c : ℕ) (cs : List ℕ) (o : Option (ℕ × ℕ)) → is_plain_byte c ≡ false → reference_of cs ≡ o → decoded (c ∷ cs) ≡ behind_ampersand cs c o
 decoded_marked c cs o marked is =
     ap (λ (b : Bool). if b then c ∷ decoded_from 0 cs else behind_ampersand cs c (reference_of cs)) marked ∙ ap (behind_ampersand cs c) is
 
@@ -56,7 +57,8 @@ pub record PlainCut (rest plain marked : List ℕ) : Type 0 where
   pub front_utf8 : IsUtf8 rest → IsUtf8 plain
   pub rest_utf8 : IsUtf8 rest → IsUtf8 marked
 
-cut_here : (rest : List ℕ) → PlainCut rest (take (prefix_len is_plain_byte rest) rest) (drop (prefix_len is_plain_byte rest) rest)
+-- each value is cut so
+pub cut_here : (rest : List ℕ) → PlainCut rest (take (prefix_len is_plain_byte rest) rest) (drop (prefix_len is_plain_byte rest) rest)
 cut_here rest =
     record {
       split = sym (take-append-drop (prefix_len is_plain_byte rest) rest);
@@ -119,19 +121,20 @@ pub ampersand_said : (said rest plain marked value : List ℕ) (c : ℕ) (behind
 ampersand_said said rest plain marked value c behind cut is reference so_far =
     append_assoc (said ++ plain) (c ∷ []) (decoded behind) ∙ part_said said rest plain marked value c behind None cut is reference so_far
 
--- a reference ends with a `;`, and names a scalar value
+-- a reference ends with a `;`, and names a scalar value other than 0
 pub record ReferenceEnds (cs : List ℕ) (r : ℕ × ℕ) : Type 0 where
   pub at : ℕ
   pub len : r.1 ≡ at + 1
   pub within : at < length cs
   pub is : get_or cs at 0 ≡ 59
   pub scalar : IsScalar r.0
+  pub some : is_not_zero r.0 ≡ true
 
 seam : (front rest : List ℕ) → (length front < length (front ++ (59 ∷ rest))) × (get_or (front ++ (59 ∷ rest)) (length front) 0 ≡ 59)
 seam front rest = (omega (arith, length-append front (59 ∷ rest)), grind (arith, common_steps))
 
-word_ends : (front cs : List ℕ) (c : ℕ) → IsScalar c → begins_with (front ++ 59 ∷ []) cs ≡ true → ReferenceEnds cs (c, length front + 1)
-word_ends front cs c ok h =
+word_ends : (front cs : List ℕ) (c : ℕ) → IsScalar c → is_not_zero c ≡ true → begins_with (front ++ 59 ∷ []) cs ≡ true → ReferenceEnds cs (c, length front + 1)
+word_ends front cs c ok some h =
     let rest = drop (length (front ++ 59 ∷ [])) cs in
     let is : cs ≡ front ++ (59 ∷ rest) = begins_is (front ++ 59 ∷ []) cs h ∙ append_assoc front (59 ∷ []) rest in
     let s = seam front rest in
@@ -141,15 +144,19 @@ word_ends front cs c ok h =
       within = subst (λ (z : List ℕ). length front < length z) (sym is) s.0;
       is = ap (λ (z : List ℕ). get_or z (length front) 0) is ∙ s.1;
       scalar = ok;
+      some = some;
     }
 
-named : (front : List ℕ) (c : ℕ) (cs : List ℕ) (o : Option (ℕ × ℕ)) (r : ℕ × ℕ) → IsScalar c → (b : Bool) → begins_with (front ++ 59 ∷ []) cs ≡ b →
+named : (front : List ℕ) (c : ℕ) (cs : List ℕ) (o : Option (ℕ × ℕ)) (r : ℕ × ℕ) → IsScalar c → is_not_zero c ≡ true → (b : Bool) → begins_with (front ++ 59 ∷ []) cs ≡ b →
     (if b then Some (c, length front + 1) else o) ≡ Some r → (o ≡ Some r → ReferenceEnds cs r) → ReferenceEnds cs r
-named front c cs o r ok true e h more = subst (ReferenceEnds cs) (some_inj (c, length front + 1) r h) (word_ends front cs c ok e)
-named front c cs o r ok false e h more = more h
+named front c cs o r ok some true e h more = subst (ReferenceEnds cs) (some_inj (c, length front + 1) r h) (word_ends front cs c ok some e)
+named front c cs o r ok some false e h more = more h
 
 character_scalar : (n : ℕ) → is_character n ≡ true → IsScalar n
 character_scalar n h = grind (arith, nat_tests)
+
+character_some : (n : ℕ) → is_character n ≡ true → is_not_zero n ≡ true
+character_some n h = (both (is_not_zero n) (nat_lt n 0xD800 || nat_le 0xE000 n && nat_le n 0x10FFFF) h).0
 
 first_is : (cs : List ℕ) → begins_with (59 ∷ []) cs ≡ true → (0 < length cs) × (get_or cs 0 0 ≡ 59)
 first_is cs h =
@@ -167,7 +174,7 @@ numeric_ends base before cs r h =
     let within : before + n < length cs = omega (arith, first.0, length-drop n ds, length-drop before cs) in
     let same : get_or cs (before + n) 0 ≡ get_or (drop n ds) 0 0 = ap (λ (m : ℕ). get_or cs m 0) (let e : before + n ≡ before + (n + 0) = omega arith in e) ∙ sym (get_or-drop before cs (n + 0) 0) ∙ sym (get_or-drop n ds 0 0) in
     subst (ReferenceEnds cs) (some_inj (c, before + n + 1) r t.1)
-    (record { at = before + n; len = refl; within = within; is = same ∙ first.1; scalar = character_scalar c u.1 })
+    (record { at = before + n; len = refl; within = within; is = same ∙ first.1; scalar = character_scalar c u.1; some = character_some c u.1 })
 
 if_numeric : (base before : ℕ) (cs : List ℕ) (o : Option (ℕ × ℕ)) (r : ℕ × ℕ) (b : Bool) → (if b then numeric base before (drop before cs) else o) ≡ Some r → (o ≡ Some r → ReferenceEnds cs r) → ReferenceEnds cs r
 if_numeric base before cs o r true h more = numeric_ends base before cs r h
@@ -175,11 +182,11 @@ if_numeric base before cs o r false h more = more h
 
 pub reference_ends : (cs : List ℕ) (r : ℕ × ℕ) → reference_of cs ≡ Some r → ReferenceEnds cs r
 reference_ends cs r h =
-    named (codes "lt") 60 cs _ r refl (begins_with (codes "lt;") cs) refl h (λ h.
-    named (codes "gt") 62 cs _ r refl (begins_with (codes "gt;") cs) refl h (λ h.
-    named (codes "amp") 38 cs _ r refl (begins_with (codes "amp;") cs) refl h (λ h.
-    named (codes "quot") 34 cs _ r refl (begins_with (codes "quot;") cs) refl h (λ h.
-    named (codes "apos") 39 cs _ r refl (begins_with (codes "apos;") cs) refl h (λ h.
+    named (codes "lt") 60 cs _ r refl refl (begins_with (codes "lt;") cs) refl h (λ h.
+    named (codes "gt") 62 cs _ r refl refl (begins_with (codes "gt;") cs) refl h (λ h.
+    named (codes "amp") 38 cs _ r refl refl (begins_with (codes "amp;") cs) refl h (λ h.
+    named (codes "quot") 34 cs _ r refl refl (begins_with (codes "quot;") cs) refl h (λ h.
+    named (codes "apos") 39 cs _ r refl refl (begins_with (codes "apos;") cs) refl h (λ h.
     if_numeric 16 2 cs _ r (begins_with (codes "#x") cs) h (λ h.
     if_numeric 10 1 cs None r (begins_with (codes "#") cs) h (λ h. absurd (cc))))))))
 

@@ -3,3 +3,4 @@ pub mod Faults
 pub mod Marks
 pub mod Reading
 pub mod References
+pub mod Written

@@ -1,23 +1,10 @@
 -- How the marks of a tree file are written.
-use Rattle.std.specs.Prelude.{ℕ, Bool, true, false, not, ◌==◌, ◌&&◌, ◌||◌, nat_le, List, [], ◌∷◌, ◌++◌, map, length, codes, IsTrue}
-use Rattle.std.specs.Char.{is_ascii_digit}
+pub use Rattle.bt_script.specs.Texts.{is_name_first, is_name_rest, is_name, is_not_zero}
+use Rattle.std.specs.Prelude.{ℕ, Bool, true, false, not, ◌==◌, ◌&&◌, ◌||◌, List, [], ◌∷◌, ◌++◌, map, length, codes, IsTrue}
 use Rattle.std.specs.List.{list_all, list_any, flat_map, AllByRecursion}
 use Rattle.std.specs.Str.{bytes_eq}
-use Rattle.bt_script.specs.Identifiers.{is_white, is_identifier_start}
+use Rattle.bt_script.specs.Identifiers.{is_white}
 use Rattle.bt_elements.specs.References.{begins_with, decoded}
-
--- a letter, `_` or a byte of a character past ASCII
-abbrev pub is_name_first : ℕ → Bool
-is_name_first c = is_identifier_start c || nat_le 128 c
-
--- these, digits, `-`, `.` and `:`
-abbrev pub is_name_rest : ℕ → Bool
-is_name_rest c = is_name_first c || is_ascii_digit c || c == 45 || c == 46 || c == 58
-
--- a name of an element or of an attribute
-abbrev pub is_name : List ℕ → Bool
-is_name [] = false
-is_name (c ∷ cs) = is_name_first c && list_all is_name_rest (c ∷ cs)
 
 -- `"` and `'`
 abbrev pub is_quote : ℕ → Bool
@@ -26,10 +13,6 @@ is_quote c = c == 34 || c == 39
 -- a byte that may stand in a value between two such quotes: all but the quote, `<` and 0
 abbrev pub is_value_byte : ℕ → ℕ → Bool
 is_value_byte quote c = not (c == quote || c == 60 || c == 0)
-
--- all bytes but 0
-abbrev pub is_not_zero : ℕ → Bool
-is_not_zero c = not (c == 0)
 
 -- whether the text has this word in it
 abbrev pub holds : List ℕ → List ℕ → Bool

@@ -1,8 +1,9 @@
-ghost use Rattle.std.specs.Prelude.{◌≡◌, ◌⊎◌, List, ℕ};
+ghost use Rattle.std.specs.Prelude.{◌≡◌, ◌⊎◌, List, ℕ, IsTrue};
 ghost use Rattle.bt_elements.specs.declared.element.Element.{Element};
 ghost use Rattle.bt_elements.specs.declared.element.ElementFault.{ElementFault};
 ghost use Rattle.bt_elements.specs.Elements.{Spells};
 ghost use Rattle.bt_elements.specs.Faults.{ElementFaultOf};
+ghost use Rattle.bt_elements.specs.Written.{can_be_written};
 
 /// The same bytes spell at most one element.
 pub fn one_element()
@@ -14,4 +15,9 @@ pub fn element_or_fault()
     ensures either { (bytes : List ℕ) → ((e : Element) × Spells bytes e) ⊎ ((fault : ElementFault) × ElementFaultOf bytes fault) }
     ensures once { (bytes : List ℕ) (f g : ElementFault) → ElementFaultOf bytes f → ElementFaultOf bytes g → f ≡ g }
     ensures not_both { (bytes : List ℕ) (e : Element) (fault : ElementFault) → Spells bytes e → ElementFaultOf bytes fault → ⊥ }
+{}
+
+/// An element that some bytes spell can be written.
+pub fn spelled_elements_can_be_written()
+    ensures { (bytes : List ℕ) (e : Element) → Spells bytes e → IsTrue (can_be_written e) }
 {}

@@ -10,5 +10,5 @@ mod reference;
 mod scan;
 
 pub use element::{Element, ElementFault, Elements};
-pub use laws::{element_or_fault, one_element};
+pub use laws::{element_or_fault, one_element, spelled_elements_can_be_written};
 pub use read::read_elements;

@@ -23,3 +23,8 @@ pub mod Quenches
 pub mod Runners
 pub mod Events
 pub mod Runs
+pub mod Shares
+pub mod Spending
+pub mod TurnLimits
+pub mod Working
+pub mod KindWork

@@ -1,5 +1,5 @@
 -- A child at its place among the children: what happens to it happens to one of them.
-use Rattle.std.proofs.Common.{◌≡◌, ℕ, zero, suc, ◌+◌, ◌<◌, ◌≤◌, List, [], ◌∷◌, map, length, slice_set, Option, None, refl, ap, subst, ◌∙◌, arith, ◌⊎◌, inl, inr, ⊎_elim}
+use Rattle.std.proofs.Common.{◌≡◌, ℕ, zero, suc, ◌+◌, ◌<◌, ◌≤◌, List, [], ◌∷◌, map, length, slice_get, slice_set, Option, Some, None, refl, ap, subst, ◌∙◌, arith, ◌⊎◌, inl, inr, ⊎_elim}
 use Rattle.bt_model.specs.declared.memory.Memory.{Memory}
 use Rattle.bt_model.specs.declared.world.Row.{Row}
 use Rattle.bt_model.specs.Done.{State}
@@ -13,6 +13,7 @@ pub record Seat (F : Family) (rows : List Row) (cs : List F.Child) (uid place : 
   pub low : uid ≤ at
   pub high : at + (F.meaning c).size ≤ uid + size_all F cs
   pub there : place < length cs
+  pub is : slice_get cs place ≡ Some c
   pub sound : (ms : List Memory) (s : State) → SoundAll F rows cs None uid ms s → F.rules c rows None at (memory_at ms place) s
   pub back : (fault : Option ℕ) (ms : List Memory) (m : Memory) (s s1 : State) →
       SoundAll F rows cs None uid ms s → Within at (F.meaning c).size s s1 → F.rules c rows fault at m s1 → SoundAll F rows cs fault uid (slice_set ms place m) s1
@@ -35,7 +36,7 @@ module _ (F : Family) (rows : List Row) where
     first_back fault (old ∷ ms) m s s1 all w here = (here, all_move F rows cs fault (uid + (F.meaning c).size) ms s s1 all.1 (λ p a b. w.above p a) (no_time_back w))
 
     first_seat : Seat F rows (c ∷ cs) uid zero c uid
-    first_seat = record { low = omega arith; high = omega (arith, size_cons F c cs); there = omega arith; sound = first_sound; back = first_back }
+    first_seat = record { low = omega arith; high = omega (arith, size_cons F c cs); there = omega arith; is = refl; sound = first_sound; back = first_back }
 
     module _ (d : F.Child) (place at : ℕ) (seat : Seat F rows cs (uid + (F.meaning c).size) place d at) where
       later_sound : (ms : List Memory) (s : State) → All (c ∷ cs) None uid ms s → F.rules d rows None at (memory_at ms (suc place)) s
@@ -53,6 +54,7 @@ module _ (F : Family) (rows : List Row) where
         low = omega (arith, seat.low);
         high = omega (arith, seat.high, size_cons F c cs);
         there = omega (arith, seat.there);
+        is = seat.is;
         sound = later_sound;
         back = later_back;
       }

@@ -57,6 +57,7 @@ build_words (build.ChildCount uid) = numbered (codes "ChildCount") uid
 build_words (build.UnknownPort uid) = numbered (codes "UnknownPort") uid
 build_words (build.BadLiteral uid) = numbered (codes "BadLiteral") uid
 build_words (build.BadScript uid f) = numbered (codes "BadScript") uid ++ codes " " ++ script_words f
+build_words build.TooManyKeys = codes "TooManyKeys"
 build_words build.TooMuchWork = codes "TooMuchWork"
 
 -- the words of a tree file's fault

@@ -89,6 +89,7 @@ fn put_build_fault(out: &mut Vec<u8>, fault: &BuildFault) -> Result<(), NoMemory
         BuildFault::UnknownPort { uid } => put_numbered(out, b"UnknownPort", *uid),
         BuildFault::BadLiteral { uid } => put_numbered(out, b"BadLiteral", *uid),
         BuildFault::BadScript { uid, fault } => put_bad_script(out, *uid, *fault),
+        BuildFault::TooManyKeys => put_bytes(out, b"TooManyKeys"),
         BuildFault::TooMuchWork => put_bytes(out, b"TooMuchWork"),
     }
 }

@@ -559,3 +559,33 @@ fn trees_are_refused(rt: HostRuntime) -> Result<(), Fail> {
     }
     Ok(())
 }
+
+/// A leaf with so many ports, each of which names a key of its own.
+fn leaf_of_keys(alloc: Global, count: u32) -> Result<String, AllocError> {
+    let mut text = String::new(alloc);
+    text.push_str("<A")?;
+    for n in 0..count {
+        text.push_str(format!(in alloc; " k{n}=\"{{=}}\"")?.as_str())?;
+    }
+    text.push_str("/>")?;
+    Ok(text)
+}
+
+#[test]
+fn slots_are_counted_before_work(rt: HostRuntime) -> Result<(), Fail> {
+    let alloc = rt.alloc();
+    for (slots, cycles, want) in [
+        (4_096, "1", "<!-- nodes 3 work 102 -->\nDone"),
+        (4_097, "1", "refused tree TooManyKeys\nTree"),
+        (4_096, "1000", "refused tree TooMuchWork\nTree"),
+        (4_097, "1000", "refused tree TooManyKeys\nTree"),
+    ] {
+        let leaf = leaf_of_keys(alloc, slots)?;
+        let nodes = format!(in alloc;
+            "<Repeat num_cycles=\"{cycles}\"><Repeat num_cycles=\"100\">{leaf}</Repeat></Repeat>"
+        )?;
+        let text = answered(alloc, &["check", "T"], nodes.as_str(), &[], &[])?;
+        assert!(rt; text.ends_with(want), "{slots} {cycles}");
+    }
+    Ok(())
+}

@@ -5,6 +5,7 @@ use Rattle.std.specs.Str.{bytes_eq}
 use Rattle.bt_script.specs.declared.syntax.Script.{Script}
 use Rattle.bt_script.specs.Identifiers.{is_identifier}
 use Rattle.bt_script.specs.Reading.{ReadsScript}
+use Rattle.bt_script.specs.Texts.{name_stands, value_stands}
 use Rattle.bt_model.specs.declared.built_ins.Range.TheVariants.{AnyValue}
 use Rattle.bt_model.specs.declared.term.Guards.{Guards}
 use Rattle.bt_model.specs.declared.term.Kind.{Kind}
@@ -12,10 +13,12 @@ use Rattle.bt_model.specs.declared.term.Kind.TheVariants.{SubTree, Leaf}
 use Rattle.bt_model.specs.declared.term.Port.{Port}
 use Rattle.bt_model.specs.declared.term.Term.{Term, Term-F, fold-Term}
 use Rattle.bt_model.specs.declared.term.Tree.{Tree}
+use Rattle.bt_model.specs.Boards.{slots}
 use Rattle.bt_model.specs.BuiltIns.{PortRule, has_code, kind_named, ports_of, takes}
 use Rattle.bt_model.specs.Names.{is_among}
+use Rattle.bt_model.specs.PrintedTree.{port_text}
 use Rattle.bt_model.specs.Terms.{depth_of, node_count, scope_count, work_of}
-use Rattle.bt_model.specs.Values.{value_fits}
+use Rattle.bt_model.specs.Values.{is_port_name, value_fits}
 
 -- a built-in node has its own name as its ID, and a leaf has none of these names
 abbrev pub IdFits : Kind → List ℕ → Type 0
@@ -71,6 +74,7 @@ autoremap_fits kind autoremap = not autoremap
 pub record Node : Type 0 where
   pub kind : Kind
   pub id : List ℕ
+  pub name : List ℕ
   pub ports : List Port
   pub code : Option Script
   pub guards : Guards
@@ -81,6 +85,7 @@ abbrev pub nodes_step : Term-F (List Node) → List Node
 nodes_step node = (record {
   kind = node.kind;
   id = node.id;
+  name = node.name;
   ports = node.ports;
   code = node.code;
   guards = node.guards;
@@ -92,7 +97,37 @@ nodes_step node = (record {
 abbrev pub nodes_of : Term → List Node
 nodes_of = fold-Term (List Node) nodes_step
 
--- a node has the children, the ports and the scripts that its kind asks
+-- whether no name stands twice
+abbrev pub all_differ : List (List ℕ) → Bool
+all_differ [] = true
+all_differ (name ∷ names) = not (is_among name names) && all_differ names
+
+-- a port that can be written as an attribute
+abbrev pub port_stands : Port → Bool
+port_stands port = is_port_name port.name && (name_stands port.name && value_stands (port_text port.value))
+
+abbrev pub script_stands : Option Script → Bool
+script_stands None = true
+script_stands (Some script) = value_stands script.text
+
+abbrev pub guards_stand : Guards → Bool
+guards_stand g =
+    script_stands g.failure_if
+    && (script_stands g.success_if
+    && (script_stands g.skip_if
+    && (script_stands g.while_true
+    && (script_stands g.on_success && (script_stands g.on_failure && (script_stands g.post && script_stands g.on_halted))))))
+
+-- all texts of a node can be written in a tree file, and no port twice
+pub record TextsFit (node : Node) : Type 0 where
+  pub id : IsTrue (value_stands node.id)
+  pub name : IsTrue (value_stands node.name)
+  pub ports : IsTrue (list_all port_stands node.ports)
+  pub apart : IsTrue (all_differ (names_of node.ports))
+  pub code : IsTrue (script_stands node.code)
+  pub guards : IsTrue (guards_stand node.guards)
+
+-- a node has the children, the ports and the scripts that its kind asks, and can be written
 pub record NodeFits (node : Node) : Type 0 where
   pub children : IsTrue (takes node.kind node.children)
   pub id : IdFits node.kind node.id
@@ -100,15 +135,19 @@ pub record NodeFits (node : Node) : Type 0 where
   pub code : CodeFits (has_code node.kind) node.code
   pub guards : GuardsFit node.guards
   pub autoremap : IsTrue (autoremap_fits node.kind node.autoremap)
+  pub texts : TextsFit node
 
--- The nodes of a tree, their depth, the scopes, the main one counted, and the visits that a visit of the root may make are not too many.
+-- The nodes of a tree, their depth, the scopes, the main one counted, the slots, and the visits that a visit of the root
+-- may make are not too many.
 pub record IsWithinLimits (tree : Tree) : Type 0 where
   pub nodes : node_count tree.term ≤ 4096
   pub depth : depth_of tree.term ≤ 256
   pub scopes : 1 + scope_count tree.term ≤ 256
+  pub slots : length (slots tree) ≤ 4096
   pub work : work_of tree.term ≤ 100000
 
--- A tree is valid where it is within the limits and each of its nodes fits.
+-- A tree is valid where it is within the limits, its ID can be written, and each of its nodes fits.
 pub record IsValid (tree : Tree) : Type 0 where
   pub limits : IsWithinLimits tree
+  pub main : IsTrue (value_stands tree.main)
   pub fit : AllByRecursion NodeFits (nodes_of tree.term)

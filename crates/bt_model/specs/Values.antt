@@ -1,5 +1,5 @@
 -- What the value of a port says: a literal, or the key of a blackboard entry.
-use Rattle.std.specs.Prelude.{ℕ, ◌-◌, ◌==◌, List, length, slice_index, slice_range, Bool, true, not, is_some, ◌&&◌, ◌||◌, nat_eq, if◌then◌else◌, codes, Option, Some, None}
+use Rattle.std.specs.Prelude.{ℕ, ◌-◌, ◌==◌, List, length, slice_index, slice_range, Bool, not, is_some, ◌&&◌, ◌||◌, nat_eq, if◌then◌else◌, codes, Option, Some, None}
 use Rattle.std.specs.Option.{option_map_or}
 use Rattle.std.specs.Str.{bytes_eq}
 use Rattle.bt_script.specs.declared.value.Value.{Value}
@@ -9,7 +9,7 @@ use Rattle.bt_model.specs.declared.built_ins.Range.{Range}
 use Rattle.bt_model.specs.declared.term.PortValue.{PortValue}
 use Rattle.bt_model.specs.declared.term.PortValue.TheVariants.{Lit, Key}
 use Rattle.bt_model.specs.BuiltIns.{fits}
-use Rattle.bt_model.specs.Numbers.{int_in}
+use Rattle.bt_model.specs.Numbers.{int_in, is_int}
 
 -- whether an attribute of this name can be a port: `name`, `ID` and what begins with `_` are none
 abbrev pub is_port_name : List ℕ → Bool
@@ -38,9 +38,9 @@ literal_value range value = if fits range value then Some (Lit value) else None
 abbrev pub value_in : Range → List ℕ → List ℕ → Option PortValue
 value_in range port text = if in_braces text then key_value (key_said port text) else literal_value range (literal text)
 
--- whether a text is none of the other things that a text can say
+-- whether a text says this value: a number has 64 bits, and a text is none of the other things that a text can say
 abbrev pub is_plain : Value → Bool
-is_plain (Int n) = true
+is_plain (Int n) = is_int n
 is_plain (Text text) = not (is_some (int_in text)) && not (in_braces text)
 
 -- whether a port of this range may have this value

@@ -13,8 +13,11 @@ use Rattle.bt_elements.specs.declared.element.Element.{Element, Element-F, roll-
 use Rattle.bt_elements.specs.Elements.{Tag, Begin, Ending, is_models, joined, tags_step, tags_of, greatest, depth_step, depth_of, Piece, piece_written, pieces_written, is_text_byte, IsPiece, HaveTags, order_mark_len, Spells}
 use Rattle.bt_elements.specs.Marks.{Attribute as Written, Opening, Start, Empty, End, IsAttribute, IsOpening, attribute_written, opening_written, pairs_of, is_name, is_not_zero, no_name_twice}
 use Rattle.bt_model.specs.PrintedTree.{Attribute, Lines, attribute_text, deeper, element_lines, escaped_byte, indented, opening_text}
-use Rattle.bt_reread.specs.Printed.{lines_step, lines_of, unplaced_step, unplaced, can_stand, name_stands, value_stands, writes_step, can_be_written}
-use Rattle.bt_reread.proofs.Utf8.{utf8_low, utf8_white, value_utf8}
+use Rattle.bt_script.specs.Texts.{name_stands, value_stands}
+use Rattle.bt_elements.specs.Written.{can_be_written, can_stand, writes_step}
+use Rattle.bt_reread.specs.Printed.{lines_step, lines_of, unplaced_step, unplaced}
+use Rattle.bt_elements.proofs.Ascii.{utf8_low}
+use Rattle.bt_reread.proofs.Utf8.{utf8_white, value_utf8}
 use Rattle.bt_reread.proofs.Values.{value_between, value_says}
 
 -- ---- Attributes and marks

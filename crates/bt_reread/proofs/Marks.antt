@@ -6,26 +6,25 @@ use Rattle.std.specs.List.{flat_map, list_all, list_any}
 use Rattle.std.proofs.lemmas.Bool.Decides.{same_from_decides}
 use Rattle.std.specs.Char.{is_ascii_digit}
 use Rattle.std.specs.Prelude.{◌==◌, nat_eq, nat_le, slice_index}
-use Rattle.std.proofs.lemmas.Str.{is_utf8-from_IsUtf8}
 use Rattle.bt_reread.proofs.Values.{and_true}
-use Rattle.bt_reread.proofs.Utf8.{is_low, utf8_low}
+use Rattle.bt_elements.proofs.Ascii.{literal, literal_value}
 use Rattle.std.specs.Str.{bytes_eq, is_utf8}
 use Rattle.bt_script.proofs.Bools.{both}
 use Rattle.bt_script.specs.Identifiers.{is_identifier, is_identifier_start, is_identifier_continue}
+use Rattle.bt_script.specs.Texts.{name_stands, value_stands}
 use Rattle.bt_script.specs.declared.syntax.Script.{Script}
 use Rattle.bt_elements.specs.Marks.{is_name, is_name_first, is_name_rest, is_not_zero, no_name_twice}
+use Rattle.bt_elements.specs.Written.{can_stand}
 use Rattle.bt_model.specs.BuiltIns.{kind_among, kind_named, named_kinds, PortRule, has_code}
 use Rattle.bt_model.specs.Names.{is_among, is_reserved}
 use Rattle.bt_model.specs.PrintedTree.{Attribute, attribute_if, element_name, guard_attributes, is_compact, node_attributes, port_attribute, port_text, script_attribute}
-use Rattle.bt_model.specs.Trees.{CodeFits, IdFits, is_one_of, names_of, ports_fit}
+use Rattle.bt_model.specs.Trees.{CodeFits, IdFits, all_differ, guards_stand, is_one_of, names_of, port_stands, ports_fit, script_stands}
 use Rattle.bt_model.specs.Values.{is_port_name}
 use Rattle.bt_model.specs.declared.term.Guards.{Guards}
 use Rattle.bt_model.specs.declared.term.Kind.{Kind}
 use Rattle.bt_model.specs.declared.term.Kind.TheVariants.{Leaf, ScriptCondition, ScriptNode, SubTree}
 use Rattle.bt_model.specs.declared.term.Port.{Port}
 use Rattle.bt_model.specs.declared.term.Term.{Term-F}
-use Rattle.bt_reread.specs.Printed.{can_stand, name_stands, value_stands}
-use Rattle.bt_reread.specs.Texts.{guards_stand, port_stands, script_stands}
 
 -- ---- Names of elements
 
@@ -40,13 +39,6 @@ rest_true false false false x y z h = absurd (cc)
 
 identifier_rest : (c : ℕ) → is_identifier_continue c ≡ true → is_name_rest c ≡ true
 identifier_rest c h = rest_true (is_identifier_start c) (nat_le 128 c) (is_ascii_digit c) (c == 45) (c == 46) (c == 58) h
-
--- a name and a value in ASCII
-pub literal : (name : List ℕ) → is_name name ≡ true → list_all is_low name ≡ true → name_stands name ≡ true
-literal name is low = and_true (is_name name) (is_utf8 name) is (is_utf8-from_IsUtf8 name (utf8_low name low))
-
-pub literal_value : (value : List ℕ) → list_all is_not_zero value ≡ true → list_all is_low value ≡ true → value_stands value ≡ true
-literal_value value some low = and_true (list_all is_not_zero value) (is_utf8 value) some (is_utf8-from_IsUtf8 value (utf8_low value low))
 
 identifier_all : (cs : List ℕ) → list_all is_identifier_continue cs ≡ true → list_all is_name_rest cs ≡ true
 identifier_all [] h = refl
@@ -248,11 +240,6 @@ if_all : (p : List ℕ → Bool) (is : Bool) (name value : List ℕ) → p name 
 if_all p true name value h = and_true (p name) true h refl
 if_all p false name value h = refl
 
--- whether no name stands twice
-abbrev all_differ : List (List ℕ) → Bool
-all_differ [] = true
-all_differ (name ∷ names) = not (is_among name names) && all_differ names
-
 abbrev row_names : List Row → List (List ℕ)
 row_names rows = map (λ (r : Row). r.0) rows
 
@@ -294,6 +281,19 @@ ports_have_names (port ∷ ports) h =
 
 first_of_two : (a b : Bool) → (a && b) ≡ true → a ≡ true
 first_of_two a b h = (both a b h).0
+
+port_named_so : (n : List ℕ) (ports : List Port) → is_among n (names_of ports) ≡ false → has_name n (map port_attribute ports) ≡ false
+port_named_so n [] h = refl
+port_named_so n (port ∷ ports) h =
+    let t = neither (bytes_eq n port.name) (is_among n (names_of ports)) h in
+    or_false (bytes_eq port.name n) (has_name n (map port_attribute ports)) (same_either_way port.name n ∙ t.0) (port_named_so n ports t.1)
+
+ports_single : (ports : List Port) → all_differ (names_of ports) ≡ true → no_name_twice (map port_attribute ports) ≡ true
+ports_single [] h = refl
+ports_single (port ∷ ports) h =
+    let t = both (not (is_among port.name (names_of ports))) (all_differ (names_of ports)) h in
+    and_true (not (has_name port.name (map port_attribute ports))) (no_name_twice (map port_attribute ports))
+    (to_not (has_name port.name (map port_attribute ports)) (port_named_so port.name ports (not_true (is_among port.name (names_of ports)) t.0))) (ports_single ports t.1)
 
 -- ---- The mark of a node
 
@@ -379,15 +379,15 @@ coded_single head ports code single all (inr none) =
     (script_all (λ (m : List ℕ). not (p m)) (codes "code") code refl))
 
 -- no attribute stands twice in the mark of a node that fits
-pub node_single : {X : Type 0} (node : Term-F X) → ports_fit node.kind node.ports ≡ true → list_all port_stands node.ports ≡ true → CodeFits (has_code node.kind) node.code → no_name_twice (map port_attribute node.ports) ≡ true → no_name_twice (node_attributes node) ≡ true
-node_single node fits stand code alone =
+pub node_single : {X : Type 0} (node : Term-F X) → ports_fit node.kind node.ports ≡ true → list_all port_stands node.ports ≡ true → CodeFits (has_code node.kind) node.code → all_differ (names_of node.ports) ≡ true → no_name_twice (node_attributes node) ≡ true
+node_single node fits stand code apart =
     let i = not (is_compact node.kind node.id) in
     let n = not (bytes_eq node.name node.id) in
     let head = head_of i n node.autoremap node.id node.name in
     let ports = map port_attribute node.ports in
     let named = ports_have_names node.ports stand in
     let no_port = λ (m : List ℕ). not (is_port_name m) in
-    let front = twice_by no_port head ports (head_single i n node.autoremap node.id node.name) alone
+    let front = twice_by no_port head ports (head_single i n node.autoremap node.id node.name) (ports_single node.ports apart)
     (head_all no_port i n node.autoremap node.id node.name refl refl refl) (ports_all (λ (m : List ℕ). not (no_port m)) node.ports (λ m h. twice_not (is_port_name m) h) named) in
     let coded = coded_single head node.ports node.code front (head_all (λ (m : List ℕ). not (bytes_eq m (codes "code"))) i n node.autoremap node.id node.name refl refl refl)
     (ports_or_code node.kind node.ports node.code fits code) in
@@ -407,7 +407,7 @@ node_stands node id name ports code guards =
     let c = attribute_if node.autoremap (codes "_autoremap") (codes "true") in
     let d = map port_attribute node.ports in
     let e = script_attribute (codes "code") node.code in
-    let truth = and_true (list_all is_not_zero (codes "true")) (is_utf8 (codes "true")) refl (is_utf8-from_IsUtf8 (codes "true") (utf8_low (codes "true") refl)) in
+    let truth = literal_value (codes "true") refl refl in
     two_stand (a ++ b ++ c ++ d ++ e) (guard_attributes node.guards)
     (two_stand (a ++ b ++ c ++ d) e
     (two_stand (a ++ b ++ c) d

@@ -13,7 +13,8 @@ use Rattle.bt_elements.specs.Elements.{Spells}
 use Rattle.bt_model.specs.Terms.{depth_of as term_depth}
 use Rattle.bt_reread.proofs.Depths.{tree_within}
 use Rattle.bt_reread.proofs.Elements.{element_spelled}
-use Rattle.bt_reread.specs.Printed.{can_be_written, lines_of, lines_step, unplaced}
+use Rattle.bt_elements.specs.Written.{can_be_written}
+use Rattle.bt_reread.specs.Printed.{lines_of, lines_step, unplaced}
 use Rattle.bt_reread.specs.TreeElements.{Said, Subtree, element, element_of, own_tree, said, said_node, subtree_element, subtrees_of, with_subtree, with_subtrees}
 
 -- the lines of a tree's elements

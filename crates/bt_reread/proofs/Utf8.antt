@@ -1,33 +1,20 @@
 -- What is printed is UTF-8 where its texts are.
 use Rattle.std.proofs.Common.{◌≡◌, ℕ, suc, ◌<◌, ◌≤◌, ◌^◌, Bool, true, false, ◌==◌, nat_lt, List, [], ◌∷◌, ◌++◌, length, get_or, refl, ap, sym, ◌∙◌, subst, append-nil, arith, codes, decimal}
-use Rattle.std.proofs.Math.Utf8.{low_scalar}
 use Rattle.std.proofs.lemmas.Bool.Decides.{nat_tests}
 use Rattle.std.proofs.lemmas.Fmt.{IsAscii-decimal}
 use Rattle.std.proofs.lemmas.Grind.{flat_map-append}
-use Rattle.std.proofs.lemmas.Str.{encode_ascii, inside_one, IsUtf8-append, IsUtf8-encode, IsUtf8-from_ascii, IsUtf8-nil}
+use Rattle.std.proofs.lemmas.Str.{encode_ascii, IsUtf8-append, IsUtf8-encode, IsUtf8-from_ascii, IsUtf8-nil}
 use Rattle.std.specs.Char.{encode_utf8, IsScalar}
 use Rattle.std.specs.List.{flat_map, list_all}
 use Rattle.std.specs.Str.{IsUtf8, encode_utf8_all, all_scalars}
 use Rattle.bt_script.proofs.Bools.{both}
 use Rattle.bt_script.specs.Identifiers.{is_white}
+use Rattle.bt_elements.proofs.Ascii.{byte_utf8, is_low, low_is, utf8_low}
+use Rattle.bt_elements.proofs.Writing.{high_bytes}
 use Rattle.bt_model.specs.PrintedTree.{escaped_byte}
 use Rattle.bt_reread.proofs.Values.{escaped_by}
 
--- ---- ASCII
-
-abbrev pub is_low : ℕ → Bool
-is_low c = nat_lt c 128
-
-byte_utf8 : (c : ℕ) → c < 128 → IsUtf8 (c ∷ [])
-byte_utf8 c h = subst IsUtf8 (encode_ascii c h) (IsUtf8-encode c (low_scalar c (omega arith)))
-
-low_is : (c : ℕ) → is_low c ≡ true → c < 128
-low_is c h = grind (arith, nat_tests)
-
-pub utf8_low : (cs : List ℕ) → list_all is_low cs ≡ true → IsUtf8 cs
-utf8_low [] h = IsUtf8-nil
-utf8_low (c ∷ cs) h =
-    let t = both (is_low c) (list_all is_low cs) h in IsUtf8-append (c ∷ []) cs (byte_utf8 c (low_is c t.0)) (utf8_low cs t.1)
+-- ---- White space
 
 white_low : (c : ℕ) → is_white c ≡ true → is_low c ≡ true
 white_low c h = grind (arith, nat_tests)
@@ -71,12 +58,6 @@ plain_bytes [] h = refl
 plain_bytes (b ∷ bs) h =
     ap (λ (z : List ℕ). z ++ flat_map escaped_byte bs) (plain_byte b (h 0 (omega arith)))
     ∙ ap (λ (z : List ℕ). b ∷ z) (plain_bytes bs (λ k lt. h (suc k) (omega (arith, lt))))
-
-at_least : (c b : ℕ) → 128 ≤ c → (b < 128 → c ≡ b) → 128 ≤ b
-at_least c b high h = grind arith
-
-high_bytes : (c k : ℕ) → 128 ≤ c → k < length (encode_utf8 c) → 128 ≤ get_or (encode_utf8 c) k 0
-high_bytes c k high within = at_least c (get_or (encode_utf8 c) k 0) high (inside_one c [] (encode_utf8 c) k (sym (append-nil (encode_utf8 c))) within)
 
 char_utf8 : (c : ℕ) (low : Bool) → IsScalar c → nat_lt c 128 ≡ low → IsUtf8 (flat_map escaped_byte (encode_utf8 c))
 char_utf8 c true is h =

@@ -1,23 +1,25 @@
--- The element of a valid tree can be written where the tree's texts can.
+-- The element of a valid tree can be written.
 use Rattle.std.proofs.Common.{◌≡◌, ℕ, Bool, true, false, ◌&&◌, if◌then◌else◌, List, [], ◌∷◌, ◌++◌, map, refl, ap, sym, ◌∙◌, subst, codes}
 use Rattle.std.specs.List.{concat, flat_map, list_all, list_any, AllByRecursion}
 use Rattle.std.specs.Str.{bytes_eq}
 use Rattle.bt_script.proofs.Bools.{both}
 use Rattle.bt_elements.specs.Elements.{Spells}
+use Rattle.bt_script.specs.Texts.{name_stands, value_stands}
 use Rattle.bt_elements.specs.Marks.{no_name_twice}
+use Rattle.bt_elements.specs.Written.{can_be_written, can_stand, writes_step}
 use Rattle.bt_elements.specs.declared.element.Element.{Element, fold-roll-Element}
-use Rattle.bt_model.specs.PrintedTree.{Attribute, element_name, node_attributes, port_attribute, root_attributes, tree_lines, written_below}
+use Rattle.bt_model.specs.PrintedTree.{Attribute, element_name, node_attributes, root_attributes, tree_lines, written_below}
 use Rattle.bt_model.specs.Trees.{IsValid, Node, NodeFits, nodes_of, nodes_step}
 use Rattle.bt_model.specs.declared.term.Kind.{Kind}
 use Rattle.bt_model.specs.declared.term.Kind.TheVariants.{SubTree}
 use Rattle.bt_model.specs.declared.term.Term.{Term, Term-F, roll-Term, fold-roll-Term, ind-Term}
 use Rattle.bt_model.specs.declared.term.Tree.{Tree}
-use Rattle.bt_reread.specs.Printed.{can_be_written, can_stand, name_stands, unplaced, value_stands, writes_step}
-use Rattle.bt_reread.specs.Texts.{guards_stand, port_stands, script_stands, texts_stand, texts_step}
+use Rattle.bt_reread.specs.Printed.{unplaced}
 use Rattle.bt_reread.specs.TreeElements.{Said, Subtree, element, element_of, own_tree, said, said_node, subtree_element, subtrees_of, with_subtree, with_subtrees}
 use Rattle.bt_reread.proofs.Trees.{element_of_spelled}
 use Rattle.bt_reread.proofs.Values.{and_true}
-use Rattle.bt_reread.proofs.Marks.{element_name_stands, literal, literal_value, node_single, node_stands}
+use Rattle.bt_elements.proofs.Ascii.{literal, literal_value}
+use Rattle.bt_reread.proofs.Marks.{element_name_stands, node_single, node_stands}
 
 all_can : (es : List Element) → list_all can_be_written es ≡ true → list_all (λ (child : Bool). child) (map can_be_written es) ≡ true
 all_can [] h = refl
@@ -41,7 +43,7 @@ record CanWrite (t : Term) : Type 0 where
   opened : AllByRecursion Written (said t).opened
 
 abbrev Claim : Term → Type 0
-Claim t = AllByRecursion NodeFits (nodes_of t) → texts_stand t ≡ true → CanWrite t
+Claim t = AllByRecursion NodeFits (nodes_of t) → CanWrite t
 
 abbrev bare : List ((t : Term) × Claim t) → List Term
 bare ts = map (λ t. t.0) ts
@@ -68,13 +70,12 @@ record AllWrite (ts : List Term) : Type 0 where
   nodes : list_all can_be_written (elements_of ts) ≡ true
   opened : AllByRecursion Written (flat_map (λ (c : Said). c.opened) (map said ts))
 
-all_write : (ts : List ((t : Term) × Claim t)) → AllByRecursion NodeFits (flat_map (λ nodes. nodes) (map nodes_of (bare ts))) → list_all (λ (child : Bool). child) (map texts_stand (bare ts)) ≡ true → AllWrite (bare ts)
-all_write [] fit h = record { nodes = refl; opened = tt }
-all_write (t ∷ ts) fit h =
-    let h2 = both (texts_stand t.0) (list_all (λ (child : Bool). child) (map texts_stand (bare ts))) h in
+all_write : (ts : List ((t : Term) × Claim t)) → AllByRecursion NodeFits (flat_map (λ nodes. nodes) (map nodes_of (bare ts))) → AllWrite (bare ts)
+all_write [] fit = record { nodes = refl; opened = tt }
+all_write (t ∷ ts) fit =
     let more = flat_map (λ (nodes : List Node). nodes) (map nodes_of (bare ts)) in
-    let one = t.1 (front_all NodeFits (nodes_of t.0) more fit) h2.0 in
-    let rest = all_write ts (back_all NodeFits (nodes_of t.0) more fit) h2.1 in
+    let one = t.1 (front_all NodeFits (nodes_of t.0) more fit) in
+    let rest = all_write ts (back_all NodeFits (nodes_of t.0) more fit) in
     record {
       nodes = and_true (can_be_written (said t.0).node) (list_all can_be_written (elements_of (bare ts))) one.node rest.nodes;
       opened = joined (said t.0).opened (flat_map (λ (c : Said). c.opened) (map said (bare ts))) one.opened rest.opened;
@@ -89,27 +90,20 @@ own_can SubTree id es v h = (record { id = v; nodes = h }, tt)
 own_can kind id es v h = tt
 
 whole_can : (y : Term-F ((t : Term) × Claim t)) → Claim (roll-Term (parts y))
-whole_can y fit texts =
+whole_can y fit =
     let x = parts y in
     let below = elements_of x.children in
     let fits = subst (AllByRecursion NodeFits) (fold-roll-Term (List Node) nodes_step x) fit in
-    let stand = sym (fold-roll-Term Bool texts_step x) ∙ texts in
-    let others = list_all (λ (child : Bool). child) (map texts_stand x.children) in
-    let t1 = both (value_stands y.id) (value_stands y.name && (list_all port_stands y.ports && (no_name_twice (map port_attribute y.ports) && (script_stands y.code && (guards_stand y.guards && others))))) stand in
-    let t2 = both (value_stands y.name) (list_all port_stands y.ports && (no_name_twice (map port_attribute y.ports) && (script_stands y.code && (guards_stand y.guards && others)))) t1.1 in
-    let t3 = both (list_all port_stands y.ports) (no_name_twice (map port_attribute y.ports) && (script_stands y.code && (guards_stand y.guards && others))) t2.1 in
-    let t4 = both (no_name_twice (map port_attribute y.ports)) (script_stands y.code && (guards_stand y.guards && others)) t3.1 in
-    let t5 = both (script_stands y.code) (guards_stand y.guards && others) t4.1 in
-    let t6 = both (guards_stand y.guards) others t5.1 in
-    let each = all_write y.children fits.1 t6.1 in
+    let texts = fits.0.texts in
+    let each = all_write y.children fits.1 in
     let is = fold-roll-Term Said said_node x in
-    let node = element_can (element_name y.kind y.id) (node_attributes x) (written_below y.kind below) (element_name_stands y.kind y.id fits.0.id t1.0)
-    (node_stands x t1.0 t2.0 t3.0 t5.0 t6.0) (node_single x fits.0.ports t3.0 fits.0.code t4.0) (below_can y.kind below each.nodes) in
+    let node = element_can (element_name y.kind y.id) (node_attributes x) (written_below y.kind below) (element_name_stands y.kind y.id fits.0.id texts.id)
+    (node_stands x texts.id texts.name texts.ports texts.code texts.guards) (node_single x fits.0.ports texts.ports fits.0.code texts.apart) (below_can y.kind below each.nodes) in
     record {
       node = ap (λ (s : Said). can_be_written s.node) is ∙ node;
       opened =
           subst (λ (s : Said). AllByRecursion Written s.opened) (sym is)
-          (joined (own_tree y.kind y.id below) (flat_map (λ (c : Said). c.opened) (map said x.children)) (own_can y.kind y.id below t1.0 each.nodes) each.opened);
+          (joined (own_tree y.kind y.id below) (flat_map (λ (c : Said). c.opened) (map said x.children)) (own_can y.kind y.id below texts.id each.nodes) each.opened);
     }
 
 term_can : (t : Term) → Claim t
@@ -131,20 +125,20 @@ elements_can (t ∷ ts) p =
     and_true (can_be_written (subtree_element t)) (list_all can_be_written (map subtree_element ts))
     (element_can (codes "BehaviorTree") ((codes "ID", t.0) ∷ []) t.1 (literal (codes "BehaviorTree") refl refl) attribute refl first.nodes) (elements_can ts p.1)
 
--- the element of a tree whose nodes fit and whose texts can be written can be written
-pub tree_can : (tree : Tree) → AllByRecursion NodeFits (nodes_of tree.term) → value_stands tree.main ≡ true → texts_stand tree.term ≡ true → can_be_written (element_of tree) ≡ true
-tree_can tree fit main texts =
-    let t = term_can tree.term fit texts in
-    let first : Written (tree.main, (said tree.term).node ∷ []) = record { id = main; nodes = and_true (can_be_written (said tree.term).node) true t.node refl } in
+-- the element of a valid tree can be written
+pub tree_can : (tree : Tree) → IsValid tree → can_be_written (element_of tree) ≡ true
+tree_can tree valid =
+    let t = term_can tree.term valid.fit in
+    let first : Written (tree.main, (said tree.term).node ∷ []) = record { id = valid.main; nodes = and_true (can_be_written (said tree.term).node) true t.node refl } in
     let trees = trees_can ((tree.main, (said tree.term).node ∷ []) ∷ []) (said tree.term).opened (first, tt) t.opened in
     let format = and_true (name_stands (codes "BTCPP_format")) (value_stands (codes "4")) (literal (codes "BTCPP_format") refl refl) (literal_value (codes "4") refl refl) in
-    let named = and_true (name_stands (codes "main_tree_to_execute")) (value_stands tree.main) (literal (codes "main_tree_to_execute") refl refl) main in
+    let named = and_true (name_stands (codes "main_tree_to_execute")) (value_stands tree.main) (literal (codes "main_tree_to_execute") refl refl) valid.main in
     let attributes = and_true (can_stand (codes "BTCPP_format", codes "4")) (list_all can_stand ((codes "main_tree_to_execute", tree.main) ∷ [])) format
     (and_true (can_stand (codes "main_tree_to_execute", tree.main)) true named refl) in
     element_can (codes "root") (root_attributes tree) (map subtree_element (subtrees_of tree)) (literal (codes "root") refl refl) attributes refl (elements_can (subtrees_of tree) trees)
 
 -- the bytes of a printed tree spell its element
 pub tree_spelled :
-    (tree : Tree) → IsValid tree → value_stands tree.main ≡ true → texts_stand tree.term ≡ true →
+    (tree : Tree) → IsValid tree →
     (f : Element) × Spells (concat (tree_lines tree)) f × (unplaced f ≡ unplaced (element_of tree))
-tree_spelled tree valid main texts = element_of_spelled tree (tree_can tree valid.fit main texts) valid.limits.depth
+tree_spelled tree valid = element_of_spelled tree (tree_can tree valid) valid.limits.depth

@@ -3,12 +3,12 @@ ghost use Rattle.std.specs.List.{concat, flat_map, list_all};
 ghost use Rattle.bt_elements.specs.Elements.{Spells, depth_of};
 ghost use Rattle.bt_elements.specs.Marks.{is_not_zero, is_value_byte};
 ghost use Rattle.bt_elements.specs.References.{decoded};
+ghost use Rattle.bt_elements.specs.Written.{can_be_written};
 ghost use Rattle.bt_elements.specs.declared.element.Element.{Element};
 ghost use Rattle.bt_model.specs.PrintedTree.{escaped_byte, tree_lines};
 ghost use Rattle.bt_model.specs.Trees.{IsValid};
 ghost use Rattle.bt_model.specs.declared.term.Tree.{Tree};
-ghost use Rattle.bt_reread.specs.Printed.{can_be_written, lines_of, unplaced, value_stands};
-ghost use Rattle.bt_reread.specs.Texts.{texts_stand};
+ghost use Rattle.bt_reread.specs.Printed.{lines_of, unplaced};
 ghost use Rattle.bt_reread.specs.TreeElements.{element_of};
 
 /// A value without the byte 0 is printed as one that may stand between two `"`, and says itself.
@@ -24,8 +24,7 @@ pub fn printed_elements_read_back()
         → (f : Element) × Spells (concat (lines_of e [])) f × (unplaced f ≡ unplaced e) }
 {}
 
-/// The bytes that are printed of a valid tree spell its element, where its texts can be written.
+/// The bytes that are printed of a valid tree spell its element.
 pub fn printed_trees_spell_their_elements()
-    ensures { (tree : Tree) → IsValid tree → IsTrue (value_stands tree.main) → IsTrue (texts_stand tree.term)
-        → (f : Element) × Spells (concat (tree_lines tree)) f × (unplaced f ≡ unplaced (element_of tree)) }
+    ensures { (tree : Tree) → IsValid tree → (f : Element) × Spells (concat (tree_lines tree)) f × (unplaced f ≡ unplaced (element_of tree)) }
 {}

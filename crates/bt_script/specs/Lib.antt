@@ -11,5 +11,6 @@ pub mod Results
 pub mod Scripts
 pub mod Spots
 pub mod Stops
+pub mod Texts
 pub mod Tokens
 pub mod formers
