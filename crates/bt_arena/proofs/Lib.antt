@@ -1,3 +1,4 @@
 pub mod Called
+pub mod Follows
 pub mod Framed
 pub mod Opened

@@ -1,3 +1,4 @@
+pub mod Filling
 pub mod Following
 pub mod Needed
 pub mod PortValues

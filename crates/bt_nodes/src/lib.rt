@@ -2,6 +2,7 @@
 //! ports, the call of its driver, and the end of its visit.
 #![tactic(auto)]
 
+mod leaves;
 mod ports;
 mod scripts;
 mod sources;

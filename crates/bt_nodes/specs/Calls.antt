@@ -1,0 +1,58 @@
+-- What a call of a leaf's driver needs, and what its outputs write.
+use Rattle.std.specs.Prelude.{◌≡◌, ◌≤◌, ◌<◌, ℕ, ℤ, List, [], ◌∷◌, length, map, slice_set, Bool, Option, Some, None, Result, Ok, Err}
+use Rattle.std.specs.List.{All}
+use Rattle.bt_script.specs.declared.cells.Seen.{Seen}
+use Rattle.bt_script.specs.declared.stop.Stop.{Stop}
+use Rattle.bt_script.specs.declared.value.Value.{Value}
+use Rattle.bt_script.specs.declared.value.Value.TheVariants.{Int}
+use Rattle.bt_model.specs.declared.fault.NodeFault.{NodeFault}
+use Rattle.bt_model.specs.declared.leaf.Instance.{Instance}
+use Rattle.bt_model.specs.declared.memory.Memo.TheVariants.{Nothing}
+use Rattle.bt_model.specs.declared.status.Answer.{Answer}
+use Rattle.bt_model.specs.declared.status.Status.{Status}
+use Rattle.bt_model.specs.declared.status.Status.TheVariants.{Running}
+use Rattle.bt_model.specs.Drivers.{DriverState, IsHeldBy, instance_at}
+use Rattle.bt_model.specs.Leaves.{sight}
+use Rattle.bt_model.specs.Steps.{Given}
+use Rattle.bt_arena.specs.declared.nodes.ReadyLeaf.{ReadyLeaf}
+use Rattle.bt_arena.specs.declared.source.Source.{Source}
+use Rattle.bt_arena.specs.declared.source.Source.TheVariants.{Slot}
+use Rattle.bt_arena.specs.Rosters.{IsServed}
+use Rattle.bt_arena.specs.Sources.{IsSourceOf, source_value}
+
+-- ---- Inputs and outputs
+
+-- what a driver sees of the inputs of a leaf
+abbrev pub seen_inputs : List (Option Value) → List Source → List Seen
+seen_inputs board inputs = map (λ (source : Source). sight (source_value board source)) inputs
+
+-- a number is written where a slot is given
+abbrev pub number_written : Source → ℤ → List (Option Value) → List (Option Value)
+number_written (Slot slot) n board = slice_set board slot (Some (Int n))
+number_written _ n board = board
+
+-- outputs are written in order
+abbrev pub outputs_written : List Source → List ℤ → List (Option Value) → List (Option Value)
+outputs_written (source ∷ sources) (n ∷ ns) board = outputs_written sources ns (number_written source n board)
+outputs_written _ _ board = board
+
+-- ---- Calls
+
+-- a driver is called to begin at an instance that is not held, and to go on at one that is held since some moment before
+abbrev pub IsInPhase : Status → Instance → ℕ → Type 0
+IsInPhase Running instance now = IsHeldBy instance now
+IsInPhase status instance now = instance.since ≡ None
+
+-- a leaf can be called over a board of so many slots and so many facts
+pub record CanBeCalled (slots facts : ℕ) (drivers : List DriverState) (status : Status) (now : ℕ) (leaf : ReadyLeaf) : Type 0 where
+  pub read : All (IsSourceOf slots) leaf.inputs
+  pub few_inputs : length leaf.inputs ≤ 8
+  pub written : All (IsSourceOf slots) leaf.outputs
+  pub table : facts ≡ leaf.row.facts
+  pub served : IsServed drivers leaf
+  pub phase : IsInPhase status (instance_at drivers leaf.driver leaf.instance) now
+
+-- the answer of a node that keeps nothing
+abbrev pub as_given : Result Answer (Stop NodeFault) → Result Given (Stop NodeFault)
+as_given (Ok answer) = Ok (record { answer = answer; memo = Nothing })
+as_given (Err stop) = Err stop
