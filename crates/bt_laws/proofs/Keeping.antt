@@ -1,17 +1,16 @@
 -- Every term keeps its rules.
-use Rattle.std.proofs.Common.{ℕ, List, [], None}
-use Rattle.bt_model.specs.declared.memory.Memory.{Memory, out-Memory}
+use Rattle.std.proofs.Common.{List, []}
+use Rattle.bt_model.specs.declared.memory.Memory.{out-Memory}
 use Rattle.bt_model.specs.declared.term.Term.{Term, Term-F}
 use Rattle.bt_model.specs.declared.world.Row.{Row}
 use Rattle.bt_model.specs.Boards.{main_scope}
-use Rattle.bt_model.specs.Done.{State}
 use Rattle.bt_model.specs.Sites.{View}
-use Rattle.bt_model.specs.Sound.{Leaves, Sound, states_of_node}
-use Rattle.bt_model.specs.Visit.{meaning, visit_by}
+use Rattle.bt_model.specs.Sound.{Sound, states_of_node}
+use Rattle.bt_model.specs.Visit.{meaning}
 use Rattle.bt_laws.proofs.Children.{Family, Keeps}
-use Rattle.bt_laws.proofs.Beginnings.{site_here}
-use Rattle.bt_laws.proofs.Whole.{Answers, Own, fields_move, size_here}
-use Rattle.bt_laws.proofs.Halts.{here_settles, reset_leaves}
+use Rattle.bt_laws.proofs.Whole.{fields_move}
+use Rattle.bt_laws.proofs.Halts.{halts, here_settles, reset_leaves}
+use Rattle.bt_laws.proofs.Visits.{visit_leaves}
 use Rattle.bt_laws.proofs.Induction.{every_term, node_means}
 
 -- a view of some rows; the rules of states look at nothing else of it
@@ -22,18 +21,15 @@ only_rows rows = record { rows = rows; facts = []; slots = []; scope = main_scop
 abbrev pub family : {X : Type 0} (term : X → Term) → ((c : X) → Keeps (meaning (term c)) (Sound (term c))) → Family
 family {X} term keeps = record { Child = X; meaning = λ c. meaning (term c); rules = λ c. Sound (term c); keeps = keeps }
 
-module _
-    (visit_leaves : (F : Family) (node : Term-F F.Child) (view : View) (uid : ℕ) (m : Memory) (s : State) → Own F node view uid None m s →
-        Leaves (λ f m1 s1. Own F node view uid f m1 s1) (Answers F node view uid) uid (size_here F node view uid) s (visit_by (out-Memory m).status (site_here F node view uid) m s)) where
-  node_keeps : (X : Type 0) (term : X → Term) → ((c : X) → Keeps (meaning (term c)) (Sound (term c))) → (node : Term-F X) → Keeps (node_means term node) (states_of_node X term (λ c. Sound (term c)) node)
-  node_keeps X term keeps node =
-      let F : Family = family term keeps in
-      record {
-        moves = λ rows fault uid m s s1 sound same later. fields_move F node (only_rows rows) uid fault (out-Memory m).status (out-Memory m).memo (out-Memory m).children s s1 sound same later;
-        settles = λ rows uid m s sound rests. here_settles F node (only_rows rows) uid m s sound rests;
-        reset = λ view uid m s sound. reset_leaves F node view uid m s sound;
-        visit = λ view uid m s sound. visit_leaves F node view uid m s sound;
-      }
+node_keeps : (X : Type 0) (term : X → Term) → ((c : X) → Keeps (meaning (term c)) (Sound (term c))) → (node : Term-F X) → Keeps (node_means term node) (states_of_node X term (λ c. Sound (term c)) node)
+node_keeps X term keeps node =
+    let F : Family = family term keeps in
+    record {
+      moves = λ rows fault uid m s s1 sound same later. fields_move F node (only_rows rows) uid fault (out-Memory m).status (out-Memory m).memo (out-Memory m).children s s1 sound same later;
+      settles = λ rows uid m s sound rests. here_settles F node (only_rows rows) uid m s sound rests;
+      reset = λ view uid m s sound. reset_leaves F node view uid m s sound;
+      visit = λ view uid m s sound. visit_leaves F node view uid (halts F node view uid) m s sound;
+    }
 
-  pub term_keeps : (t : Term) → Keeps (meaning t) (Sound t)
-  term_keeps = every_term (λ t c rules. Keeps c rules) node_keeps
+pub term_keeps : (t : Term) → Keeps (meaning t) (Sound t)
+term_keeps = every_term (λ t c rules. Keeps c rules) node_keeps

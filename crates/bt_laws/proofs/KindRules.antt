@@ -69,11 +69,11 @@ running_begins _ ports row moment _ ss e shape = absurd shape
 -- ---- From a start
 
 -- the children of a node that rests are IDLE, but for those of a SequenceWithMemory
-abbrev rests_whole : Kind → Bool
+abbrev pub rests_whole : Kind → Bool
 rests_whole SequenceWithMemory = false
 rests_whole kind = true
 
-rests_idle : (memo : Memo) (kind : Kind) (ss : List Status) → rests_whole kind ≡ true → RestingShape memo kind ss → AllIdle ss
+pub rests_idle : (memo : Memo) (kind : Kind) (ss : List Status) → rests_whole kind ≡ true → RestingShape memo kind ss → AllIdle ss
 rests_idle Nothing kind ss e shape = shape
 rests_idle (Index at false) SequenceWithMemory ss e shape = cc
 rests_idle (Finished (Some a)) RunOnce ss e shape = shape.1
@@ -174,7 +174,7 @@ module _ (F : Family) (node : Term-F F.Child) (view : View) (uid : ℕ) (row : O
       left_into uid (1 + size_all F node.children) (uid + 1) (size_all F node.children) s d.answer d.memory d.memory d.state (omega arith) (omega arith)
       (kind_goes above (length here.node.children) place (statuses ms) many node.kind memo begins ms s refl sound)
       (λ f all w. all)
-      (λ g fits all w. subst (λ (now : ℕ). Shape (status_of g.answer) node.kind node.ports row now g.memo (statuses d.memory)) (sym w.moment) fits)
+      (λ g fits all w. (subst (λ (now : ℕ). Shape (status_of g.answer) node.kind node.ports row now g.memo (statuses d.memory)) (sym w.moment) fits, w.below uid (omega arith)))
 
   ruled_with : (r : Result ℕ PortId) → Begins node.kind node.ports s.moment memo (statuses ms) →
       Ruled F node view uid row s (follow (ends (or_bad_port uid r) ms s) (λ ms1. ms1) (λ place ms1 s1. rule node.kind (length here.node.children) memo place s1.moment (children_of here) ms1 s1))

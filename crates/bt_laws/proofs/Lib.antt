@@ -23,8 +23,14 @@ pub mod Quenches
 pub mod Runners
 pub mod Events
 pub mod Runs
-pub mod Shares
 pub mod Spending
+pub mod LeafCalls
+pub mod AfterScripts
+pub mod NodeRules
+pub mod Visits
+pub mod Shares
 pub mod TurnLimits
 pub mod Working
 pub mod KindWork
+pub mod VisitWork
+pub mod TermWork

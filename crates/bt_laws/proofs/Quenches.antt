@@ -18,10 +18,10 @@ use Rattle.bt_model.specs.Sites.{Meaning, sizes}
 use Rattle.bt_model.specs.Sound.{Sound, States, Steady, held_at, states_of_node, statuses}
 use Rattle.bt_model.specs.Terms.{node_count}
 use Rattle.bt_model.specs.Visit.{idle, meaning}
-use Rattle.bt_laws.proofs.Children.{Family, Keeps, SoundAll, status_in, status_kept}
+use Rattle.bt_laws.proofs.Children.{Family, SoundAll, status_in, status_kept}
 use Rattle.bt_laws.proofs.Whole.{Own, as_kept}
 use Rattle.bt_laws.proofs.Induction.{above, every_term, idle_of_terms, node_means}
-use Rattle.bt_laws.proofs.Keeping.{family, only_rows}
+use Rattle.bt_laws.proofs.Keeping.{family, only_rows, term_keeps}
 
 -- ---- The number of nodes
 
@@ -62,50 +62,49 @@ nothing_held [] p within = absurd (omega (arith, within))
 nothing_held (i ∷ instances) zero within = refl
 nothing_held (i ∷ instances) (suc p) within = nothing_held instances p (omega (arith, within))
 
-module _ (keeps : (t : Term) → Keeps (meaning t) (Sound t)) where
-  module _ {X : Type 0} (term : X → Term) (rest : (c : X) → RestsSound (term c) (meaning (term c)) (Sound (term c))) where
-    abbrev F : Family
-    F = family term (λ c. keeps (term c))
+module _ {X : Type 0} (term : X → Term) (rest : (c : X) → RestsSound (term c) (meaning (term c)) (Sound (term c))) where
+  abbrev F : Family
+  F = family term (λ c. term_keeps (term c))
 
-    all_rest : (cs : List X) (k : ℕ) → status_at (statuses (map (λ c. idle (term c)) cs)) k ≡ Idle
-    all_rest [] k = refl
-    all_rest (c ∷ cs) zero = (rest c).rests
-    all_rest (c ∷ cs) (suc k) = all_rest cs k
+  all_rest : (cs : List X) (k : ℕ) → status_at (statuses (map (λ c. idle (term c)) cs)) k ≡ Idle
+  all_rest [] k = refl
+  all_rest (c ∷ cs) zero = (rest c).rests
+  all_rest (c ∷ cs) (suc k) = all_rest cs k
 
-    all_rest_sound : (rows : List Row) (cs : List X) (uid : ℕ) (s : State) → NoneHeld uid (sizes (map (λ c. meaning (term c)) cs)) s → SoundAll F rows cs None uid (map (λ c. idle (term c)) cs) s
-    all_rest_sound rows [] uid s free = tt
-    all_rest_sound rows (c ∷ cs) uid s free =
-        let cons : sizes (map (λ d. meaning (term d)) (c ∷ cs)) ≡ (meaning (term c)).size + sizes (map (λ d. meaning (term d)) cs) = sum_by-cons (λ (k : Meaning). k.size) (meaning (term c)) (map (λ d. meaning (term d)) cs) in
-        ((rest c).sound rows uid s (λ p a b. free p a (omega (arith, b, cons))),
-        all_rest_sound rows cs (uid + (meaning (term c)).size) s (λ p a b. free p (omega (arith, a)) (omega (arith, b, cons))))
+  all_rest_sound : (rows : List Row) (cs : List X) (uid : ℕ) (s : State) → NoneHeld uid (sizes (map (λ c. meaning (term c)) cs)) s → SoundAll F rows cs None uid (map (λ c. idle (term c)) cs) s
+  all_rest_sound rows [] uid s free = tt
+  all_rest_sound rows (c ∷ cs) uid s free =
+      let cons : sizes (map (λ d. meaning (term d)) (c ∷ cs)) ≡ (meaning (term c)).size + sizes (map (λ d. meaning (term d)) cs) = sum_by-cons (λ (k : Meaning). k.size) (meaning (term c)) (map (λ d. meaning (term d)) cs) in
+      ((rest c).sound rows uid s (λ p a b. free p a (omega (arith, b, cons))),
+      all_rest_sound rows cs (uid + (meaning (term c)).size) s (λ p a b. free p (omega (arith, a)) (omega (arith, b, cons))))
 
-    node_rests : (node : Term-F X) → RestsSound (above term node) (node_means term node) (states_of_node X term (λ c. Sound (term c)) node)
-    node_rests node =
-        let ms : List Memory = map (λ c. idle (term c)) node.children in
-        record {
-          rests = ap status_in (idle_of_terms term node) ∙ status_kept Idle Nothing ms;
-          sound = λ rows uid s free. subst (λ (m : Memory). Own F node (only_rows rows) uid None m s) (sym (idle_of_terms term node))
-              (as_kept F node (only_rows rows) uid None Idle Nothing ms s
-              (record { shape = λ k from. all_rest node.children k; held = free uid (omega arith) (omega arith) },
-              all_rest_sound rows node.children (uid + 1) s (λ p a b. free p (omega (arith, a)) (omega (arith, b)))));
-        }
+  node_rests : (node : Term-F X) → RestsSound (above term node) (node_means term node) (states_of_node X term (λ c. Sound (term c)) node)
+  node_rests node =
+      let ms : List Memory = map (λ c. idle (term c)) node.children in
+      record {
+        rests = ap status_in (idle_of_terms term node) ∙ status_kept Idle Nothing ms;
+        sound = λ rows uid s free. subst (λ (m : Memory). Own F node (only_rows rows) uid None m s) (sym (idle_of_terms term node))
+            (as_kept F node (only_rows rows) uid None Idle Nothing ms s
+            (record { shape = λ k from. all_rest node.children k; held = free uid (omega arith) (omega arith) },
+            all_rest_sound rows node.children (uid + 1) s (λ p a b. free p (omega (arith, a)) (omega (arith, b)))));
+      }
 
-  term_rests : (t : Term) → RestsSound t (meaning t) (Sound t)
-  term_rests = every_term RestsSound (λ X term rest node. node_rests term rest node)
+term_rests : (t : Term) → RestsSound t (meaning t) (Sound t)
+term_rests = every_term RestsSound (λ X term rest node. node_rests term rest node)
 
-  -- an IDLE term with nothing held keeps its rules
-  pub idle_sound : (t : Term) (rows : List Row) (uid : ℕ) (s : State) → NoneHeld uid (meaning t).size s → Sound t rows None uid (idle t) s
-  idle_sound t rows uid s free = (term_rests t).sound rows uid s free
+-- an IDLE term with nothing held keeps its rules
+pub idle_sound : (t : Term) (rows : List Row) (uid : ℕ) (s : State) → NoneHeld uid (meaning t).size s → Sound t rows None uid (idle t) s
+idle_sound t rows uid s free = (term_rests t).sound rows uid s free
 
-  pub idle_settled : (t : Term) → settled (status_in (idle t)) ≡ status_in (idle t)
-  idle_settled t = ap settled (term_rests t).rests ∙ sym (term_rests t).rests
+pub idle_settled : (t : Term) → settled (status_in (idle t)) ≡ status_in (idle t)
+idle_settled t = ap settled (term_rests t).rests ∙ sym (term_rests t).rests
 
-  -- a quench makes what holds between events
-  pub quench_steady : (tree : Tree) (rows : List Row) (r : Runner) (facts : List ℤ) (at : ℕ) → 1 + (meaning tree.term).size ≤ length r.instances →
-      Steady tree.term rows (quenched_runner tree r).memory (state_of (quenched_runner tree r) facts at)
-  quench_steady tree rows r facts at room = record {
-    sound = idle_sound tree.term rows 1 (state_of (quenched_runner tree r) facts at) (λ p a b. nothing_held r.instances p (omega (arith, b, room)));
-    root = idle_settled tree.term;
-    room = omega (arith, room, length-map r.instances let_go);
-    dated = λ p since e. absurd (no_since r.instances p since e);
-  }
+-- a quench makes what holds between events
+pub quench_steady : (tree : Tree) (rows : List Row) (r : Runner) (facts : List ℤ) (at : ℕ) → 1 + (meaning tree.term).size ≤ length r.instances →
+    Steady tree.term rows (quenched_runner tree r).memory (state_of (quenched_runner tree r) facts at)
+quench_steady tree rows r facts at room = record {
+  sound = idle_sound tree.term rows 1 (state_of (quenched_runner tree r) facts at) (λ p a b. nothing_held r.instances p (omega (arith, b, room)));
+  root = idle_settled tree.term;
+  room = omega (arith, room, length-map r.instances let_go);
+  dated = λ p since e. absurd (no_since r.instances p since e);
+}

@@ -7,7 +7,6 @@ use Rattle.bt_model.specs.declared.fault.NodeFault.{NodeFault}
 use Rattle.bt_model.specs.declared.fault.RunFault.{RunFault}
 use Rattle.bt_model.specs.declared.leaf.Instance.{Instance}
 use Rattle.bt_model.specs.declared.note.Note.{Note}
-use Rattle.bt_model.specs.declared.term.Term.{Term}
 use Rattle.bt_model.specs.declared.term.Tree.{Tree}
 use Rattle.bt_model.specs.declared.world.Event.{Event}
 use Rattle.bt_model.specs.declared.world.What.{What}
@@ -16,10 +15,8 @@ use Rattle.bt_model.specs.declared.world.World.{World}
 use Rattle.bt_model.specs.Done.{Call}
 use Rattle.bt_model.specs.Leaf.{fresh}
 use Rattle.bt_model.specs.Run.{RunState, Runner, Stepped, Trace, before_rest, finish, finishes, fresh_runner, opening, reset_step, run_from, run_over, runner_at, state_of, step, step_by, tick_step, told}
-use Rattle.bt_model.specs.Sound.{RunSteady, Sound, Steady}
+use Rattle.bt_model.specs.Sound.{RunSteady, Steady}
 use Rattle.bt_model.specs.Terms.{node_count}
-use Rattle.bt_model.specs.Visit.{meaning}
-use Rattle.bt_laws.proofs.Children.{Keeps}
 use Rattle.bt_laws.proofs.Runners.{equal_entry}
 use Rattle.bt_laws.proofs.Quenches.{idle_settled, idle_sound, size_is_count}
 use Rattle.bt_laws.proofs.Events.{finish_steady, step_steady}
@@ -67,7 +64,7 @@ order_behind last e events order = record {
   behind = λ k d within. order.in_order 0 (suc k) d (omega arith) (omega (arith, within));
 }
 
-module _ (keeps : (t : Term) → Keeps (meaning t) (Sound t)) (tree : Tree) (world : World) where
+module _ (tree : Tree) (world : World) where
   abbrev Holds : RunState → Type 0
   Holds s = RunSteady tree.term world.rows s
 
@@ -76,8 +73,8 @@ module _ (keeps : (t : Term) → Keeps (meaning t) (Sound t)) (tree : Tree) (wor
       let r : Runner = fresh_runner tree in
       let many : length r.instances ≡ 1 + node_count tree.term = length-replicate (1 + node_count tree.term) fresh in
       record {
-        sound = idle_sound keeps tree.term world.rows 1 (state_of r facts at) (λ p a b. fresh_free (1 + node_count tree.term) p (omega (arith, b, size_is_count tree.term)));
-        root = idle_settled keeps tree.term;
+        sound = idle_sound tree.term world.rows 1 (state_of r facts at) (λ p a b. fresh_free (1 + node_count tree.term) p (omega (arith, b, size_is_count tree.term)));
+        root = idle_settled tree.term;
         room = omega (arith, many, size_is_count tree.term);
         dated = λ p since e. absurd (fresh_since (1 + node_count tree.term) p since e);
       }
@@ -95,14 +92,14 @@ module _ (keeps : (t : Term) → Keeps (meaning t) (Sound t)) (tree : Tree) (wor
   finishes_steady zero runner s steady = steady
   finishes_steady (suc others) runner s steady =
       let first : Stepped = finish tree world runner s in
-      let now : Holds first.state = finish_steady keeps tree world runner s steady in
+      let now : Holds first.state = finish_steady tree world runner s steady in
       rest_steady first.fault first (finishes tree world (runner + 1) others) now (finishes_steady others (runner + 1) first.state now)
 
   run_from_steady : (events : List Event) (s : RunState) → InOrderFrom s.last events → Holds s → Holds (run_from tree world events s).state
   run_from_steady [] s order steady = finishes_steady world.runners 1 s steady
   run_from_steady (e ∷ events) s order steady =
       let first : Stepped = step tree world e s in
-      let now : Holds first.state = step_steady keeps tree world s steady e.at (order.behind 0 e (omega arith)) e.what in
+      let now : Holds first.state = step_steady tree world s steady e.at (order.behind 0 e (omega arith)) e.what in
       let next : InOrderFrom first.state.last events = subst (λ (last : ℕ). InOrderFrom last events) (sym (step_last e.what tree world e.at s)) (order_behind s.last e events order) in
       rest_steady first.fault first (run_from tree world events) now (run_from_steady events first.state next now)
 

@@ -1,5 +1,5 @@
 -- How many calls of start and running the words of rules make.
-use Rattle.std.proofs.Common.{◌≡◌, ℕ, suc, ◌+◌, ◌≤◌, List, [], ◌∷◌, ◌++◌, Option, None, Result, Ok, Err, sym, ap, subst, ◌∙◌, arith, ⊎_elim}
+use Rattle.std.proofs.Common.{◌≡◌, ℕ, suc, ◌+◌, ◌≤◌, List, [], ◌∷◌, ◌++◌, Option, Some, None, slice_get, Result, Ok, Err, sym, ap, subst, ◌∙◌, arith, ⊎_elim}
 use Rattle.std.proofs.lemmas.Bool.{cond_both}
 use Rattle.bt_model.specs.declared.fault.NodeFault.{NodeFault}
 use Rattle.bt_model.specs.declared.memory.Memo.{Memo}
@@ -41,45 +41,39 @@ module _ {A M B N : Type 0} {rules : Option ℕ → M → State → Type 0} {fit
       Left rules fits uid size s d.answer d.memory d.state → Spends first d → ((a : A) → rules None d.memory d.state → Spends rest (go a d.memory d.state)) → Spends most (follow d place go)
   follow_spends first rest most uid size s d = carried_spends first rest most uid size s d.answer d
 
-module _ {A M B N : Type 0} where
-  carried_free : (r : Result A NodeFault) (d : Done A M) (place : M → N) (go : A → M → State → Done B N) → Spends 0 d → ((a : A) → Spends 0 (go a d.memory d.state)) → Spends 0 (carried r d place go)
-  carried_free (Ok a) d place go here goes = omega (arith, here, goes a, begun_both d.calls (go a d.memory d.state).calls)
-  carried_free (Err f) d place go here goes = here
+module _ {A M B N : Type 0} (first rest most : ℕ) where
+  carried_with : (r : Result A NodeFault) (d : Done A M) (place : M → N) (go : A → M → State → Done B N) → first + rest ≤ most → Spends first d → ((a : A) → Spends rest (go a d.memory d.state)) → Spends most (carried r d place go)
+  carried_with (Ok a) d place go sum here goes = omega (arith, sum, here, goes a, begun_both d.calls (go a d.memory d.state).calls)
+  carried_with (Err f) d place go sum here goes = omega (arith, sum, here)
 
-  -- a part that makes none, and what follows it
-  pub follow_free : (d : Done A M) (place : M → N) (go : A → M → State → Done B N) → Spends 0 d → ((a : A) → Spends 0 (go a d.memory d.state)) → Spends 0 (follow d place go)
-  follow_free d = carried_free d.answer d
+  -- a part and what follows it, whatever it leaves
+  pub follow_with : (d : Done A M) (place : M → N) (go : A → M → State → Done B N) → first + rest ≤ most → Spends first d → ((a : A) → Spends rest (go a d.memory d.state)) → Spends most (follow d place go)
+  follow_with d = carried_with d.answer d
 
--- a bound for each child of a family: a visit makes at most so many calls, and a reset none
-pub record Labour (F : Family) : Type 0 where
+-- a part that makes none, and what follows it
+pub follow_free : {A M B N : Type 0} (d : Done A M) (place : M → N) (go : A → M → State → Done B N) → Spends 0 d → ((a : A) → Spends 0 (go a d.memory d.state)) → Spends 0 (follow d place go)
+follow_free d place go here goes = follow_with 0 0 0 d place go (omega arith) here goes
+
+-- a reset of a child makes none
+abbrev pub ResetsAreFree : Family → Type 0
+ResetsAreFree F = (c : F.Child) (view : View) (uid : ℕ) (m : Memory) (s : State) → Spends 0 ((F.meaning c).reset view uid m s)
+
+-- a bound for each of some children: a visit makes at most so many calls, and a reset none
+pub record Labour (F : Family) (cs : List F.Child) : Type 0 where
   pub work : F.Child → ℕ
-  pub visit : (c : F.Child) (view : View) (uid : ℕ) (m : Memory) (s : State) → F.rules c view.rows None uid m s → Spends (work c) ((F.meaning c).visit view uid m s)
-  pub reset : (c : F.Child) (view : View) (uid : ℕ) (m : Memory) (s : State) → Spends 0 ((F.meaning c).reset view uid m s)
+  pub visit : (place : ℕ) (c : F.Child) → slice_get cs place ≡ Some c → (view : View) (uid : ℕ) (m : Memory) (s : State) → F.rules c view.rows None uid m s →
+      Spends (work c) ((F.meaning c).visit view uid m s)
+  pub reset : ResetsAreFree F
 
-module _ (F : Family) (L : Labour F) (view : View) (cs : List F.Child) (uid : ℕ) where
+module _ (F : Family) (free : ResetsAreFree F) (view : View) (cs : List F.Child) (uid : ℕ) where
   abbrev here : List Child
   here = children_here F view cs uid
-
-  abbrev Holds : Option ℕ → List Memory → State → Type 0
-  Holds f ms s = All F view cs uid f ms s
-
-  -- from children that keep their rules this rule makes at most so many calls
-  abbrev pub Makes : ℕ → Rule → Type 0
-  Makes most rule = (ms : List Memory) (s : State) → Holds None ms s → Spends most (rule here ms s)
-
-  visit_spends : (place : ℕ) (ms : List Memory) (s : State) → Holds None ms s → Spends (share L.work cs place) ((child_at here place).visit ms s)
-  visit_spends place ms s all =
-      let Goal : Child → Type 0 = λ child. Spends (share L.work cs place) (child.visit ms s) in
-      ⊎_elim
-      (λ there. subst Goal (sym there.is_child) (let spent : Spends (L.work there.who) ((F.meaning there.who).visit view there.at (memory_at ms place) s) = L.visit there.who view there.at (memory_at ms place) s (there.seat.sound ms s all) in omega (arith, spent, share_of L.work cs place there.who there.seat.is)))
-      (λ none. subst Goal (sym none.1) (omega arith))
-      (seated F view cs uid place)
 
   reset_spends : (place : ℕ) (ms : List Memory) (s : State) → Spends 0 ((child_at here place).reset ms s)
   reset_spends place ms s =
       let Goal : Child → Type 0 = λ child. Spends 0 (child.reset ms s) in
       ⊎_elim
-      (λ there. subst Goal (sym there.is_child) (L.reset there.who view there.at (memory_at ms place) s))
+      (λ there. subst Goal (sym there.is_child) (free there.who view there.at (memory_at ms place) s))
       (λ none. subst Goal (sym none.1) (omega arith))
       (seated F view cs uid place)
 
@@ -92,9 +86,28 @@ module _ (F : Family) (L : Labour F) (view : View) (cs : List F.Child) (uid : �
       (λ _. omega arith))
       (λ _. resets_spend span ks (first + 1) (reset_within span first k ms s).memory (reset_within span first k ms s).state (λ i. same (suc i) ∙ ap (child_at here) (let e : first + suc i ≡ first + 1 + i = omega arith in e)))
 
-  -- the resets of a span make none
+  -- the resets of the children of a span make none
   pub span_spends : (span : Span) (ms : List Memory) (s : State) → Spends 0 (resets span here 0 ms s)
   span_spends span ms s = resets_spend span here 0 ms s (λ i. ap (child_at here) (let e : i ≡ 0 + i = omega arith in e))
+
+module _ (F : Family) (cs : List F.Child) (L : Labour F cs) (view : View) (uid : ℕ) where
+  abbrev all_here : List Child
+  all_here = children_here F view cs uid
+
+  abbrev Holds : Option ℕ → List Memory → State → Type 0
+  Holds f ms s = All F view cs uid f ms s
+
+  -- from children that keep their rules this rule makes at most so many calls
+  abbrev pub Makes : ℕ → Rule → Type 0
+  Makes most rule = (ms : List Memory) (s : State) → Holds None ms s → Spends most (rule all_here ms s)
+
+  visit_spends : (place : ℕ) (ms : List Memory) (s : State) → Holds None ms s → Spends (share L.work cs place) ((child_at all_here place).visit ms s)
+  visit_spends place ms s all =
+      let Goal : Child → Type 0 = λ child. Spends (share L.work cs place) (child.visit ms s) in
+      ⊎_elim
+      (λ there. subst Goal (sym there.is_child) (let spent : Spends (L.work there.who) ((F.meaning there.who).visit view there.at (memory_at ms place) s) = L.visit place there.who there.seat.is view there.at (memory_at ms place) s (there.seat.sound ms s all) in omega (arith, spent, share_of L.work cs place there.who there.seat.is)))
+      (λ none. subst Goal (sym none.1) (omega arith))
+      (seated F view cs uid place)
 
   pub keep_makes : (most : ℕ) (a : Answer) (memo : Memo) → Makes most (keep a memo)
   unfolding keep
@@ -103,21 +116,21 @@ module _ (F : Family) (L : Labour F) (view : View) (cs : List F.Child) (uid : �
   pub visit_makes : (rest most place : ℕ) (go : Answer → Rule) → share L.work cs place + rest ≤ most → ((a : Answer) → Makes rest (go a)) → Makes most (visit place go)
   unfolding visit
   visit_makes rest most place go sum goes = λ ms s all.
-      let d : Done Answer (List Memory) = (child_at here place).visit ms s in
-      follow_spends (share L.work cs place) rest most uid (size_all F cs) s d (λ ms1. ms1) (λ a ms1 s1. go a here ms1 s1) sum
+      let d : Done Answer (List Memory) = (child_at all_here place).visit ms s in
+      follow_spends (share L.work cs place) rest most uid (size_all F cs) s d (λ ms1. ms1) (λ a ms1 s1. go a all_here ms1 s1) sum
       (visit_at F view cs uid place ms s all) (visit_spends place ms s all) (λ a sound. goes a d.memory d.state sound)
 
   pub pass_makes : (most place : ℕ) (passed : Rule) (go : Answer → Rule) → Makes most passed → Makes most (visit place go) → Makes most (visit_or_pass place passed go)
   unfolding visit_or_pass
   pass_makes most place passed go passes goes = λ ms s all.
-      cond_both (is_completed ((child_at here place).status ms)) (passed here ms s) (visit place go here ms s) (λ d. Spends most d) (λ _. passes ms s all) (λ _. goes ms s all)
+      cond_both (is_completed ((child_at all_here place).status ms)) (passed all_here ms s) (visit place go all_here ms s) (λ d. Spends most d) (λ _. passes ms s all) (λ _. goes ms s all)
 
   pub reset_makes : (most : ℕ) (span : Span) (rule : Rule) → Makes most rule → Makes most (reset span rule)
   unfolding reset
   reset_makes most span rule makes = λ ms s all.
-      let d : Done (Unit {0}) (List Memory) = resets span here 0 ms s in
-      follow_spends 0 most most uid (size_all F cs) s d (λ ms1. ms1) (λ _ ms1 s1. rule here ms1 s1) (omega arith)
-      (span_leaves F view cs uid span ms s all) (span_spends span ms s) (λ _ sound. makes d.memory d.state sound)
+      let d : Done (Unit {0}) (List Memory) = resets span all_here 0 ms s in
+      follow_spends 0 most most uid (size_all F cs) s d (λ ms1. ms1) (λ _ ms1 s1. rule all_here ms1 s1) (omega arith)
+      (span_leaves F view cs uid span ms s all) (span_spends F L.reset view cs uid span ms s) (λ _ sound. makes d.memory d.state sound)
 
   pub over_makes : (most : ℕ) (a : Answer) → Makes most (over a)
   over_makes most a = reset_makes most span.All (keep a Nothing) (keep_makes most a Nothing)

@@ -1,5 +1,5 @@
 -- A node above children that keep their rules, whole: the rule of the node itself, and those of its children.
-use Rattle.std.proofs.Common.{◌≡◌, ℕ, ◌+◌, ◌<◌, ◌≤◌, List, Option, Some, None, sym, ap, subst, ◌∙◌, arith, option_map, is_some}
+use Rattle.std.proofs.Common.{◌≡◌, ℕ, ◌+◌, ◌<◌, ◌≤◌, List, Option, Some, None, sym, ap, subst, ◌∙◌, arith, slice_get, option_map, is_some}
 use Rattle.bt_model.specs.declared.leaf.Instance.{Instance}
 use Rattle.bt_model.specs.declared.memory.Memo.{Memo}
 use Rattle.bt_model.specs.declared.memory.Memo.TheVariants.{Since as Begun}
@@ -13,11 +13,12 @@ use Rattle.bt_model.specs.declared.term.Kind.TheVariants.{Timeout, Delay}
 use Rattle.bt_model.specs.declared.term.Port.{Port}
 use Rattle.bt_model.specs.declared.term.Term.{Term-F}
 use Rattle.bt_model.specs.declared.world.Row.{Row}
-use Rattle.bt_model.specs.Done.{State}
+use Rattle.bt_model.specs.Done.{Done, State}
 use Rattle.bt_model.specs.Leaves.{row_of}
 use Rattle.bt_model.specs.Shapes.{IsBegun, RunningShape, Shape}
 use Rattle.bt_model.specs.Sites.{View, remembered}
-use Rattle.bt_model.specs.Sound.{NodeRule, OffPath}
+use Rattle.bt_model.specs.Sound.{Leaves, NodeRule, OffPath, held_at}
+use Rattle.bt_model.specs.Steps.{Given}
 use Rattle.bt_model.specs.Visit.{status_of}
 use Rattle.bt_laws.proofs.Parts.{Same}
 use Rattle.bt_laws.proofs.Children.{Family, SoundAll, all_move, size_all, status_in}
@@ -40,6 +41,10 @@ shape_later status.Success kind ports row moment later memo ss ahead shape = sha
 shape_later status.Failure kind ports row moment later memo ss ahead shape = shape
 
 -- ---- The node
+
+-- an instance that is as it was is held as it was
+pub held_same : (s s1 : State) (uid : ℕ) → slice_get s1.instances uid ≡ slice_get s.instances uid → held_at s1 uid ≡ held_at s uid
+held_same s s1 uid same = ap (λ (o : Option Instance). option_map (λ (i : Instance). is_some i.since) o) same
 
 module _ (F : Family) (node : Term-F F.Child) (view : View) (uid : ℕ) where
   abbrev pub size_here : ℕ
@@ -73,7 +78,7 @@ module _ (F : Family) (node : Term-F F.Child) (view : View) (uid : ℕ) where
   pub node_moves : (st : Status) (memo : Memo) (ms : List Memory) (s s1 : State) → NodeKeeps st memo ms s → Same uid 1 s s1 → s.moment ≤ s1.moment → NodeKeeps st memo ms s1
   node_moves st memo ms s s1 own same later = record {
     shape = shape_later st node.kind node.ports (row_of view.rows node.id) s.moment s1.moment memo _ later own.shape;
-    held = ap (λ (o : Option Instance). option_map (λ (i : Instance). is_some i.since) o) (same uid (omega arith) (omega arith)) ∙ own.held;
+    held = held_same s s1 uid (same uid (omega arith) (omega arith)) ∙ own.held;
   }
 
   -- .. and so do all of them
@@ -86,3 +91,9 @@ module _ (F : Family) (node : Term-F F.Child) (view : View) (uid : ℕ) where
     (λ off. node_moves st memo ms s s1 sound.0 (λ p a b. same p a (omega (arith, b))) later),
     all_move F view.rows node.children (Some f) (uid + 1) ms s s1 sound.1 (λ p a b. same p (omega (arith, a)) (omega (arith, b))) later,
   )
+
+  -- what the rule of the node leaves, as one of this kind: the rules of its children, and its own at the status that is next
+  abbrev pub RuledAs : Kind → State → Done Given (List Memory) → Type 0
+  RuledAs kind s d =
+      Leaves (λ f ms s1. SoundAll F view.rows node.children f (uid + 1) ms s1)
+      (λ g ms s1. NodeRule kind node.ports (row_of view.rows node.id) uid (status_of g.answer) g.memo ms s1) uid size_here s d
