@@ -1,24 +1,34 @@
 -- The resets of the children of a node, one after another.
-use Rattle.std.proofs.Common.{◌≡◌, ℕ, zero, suc, ◌+◌, ◌<◌, ◌≤◌, List, [], ◌∷◌, ◌++◌, map, length, slice_set, refl, sym, ap, subst, ◌∙◌, append_assoc, length-append, arith, Result, Ok, Err}
+use Rattle.std.proofs.Common.{◌≡◌, ℕ, zero, suc, ◌+◌, ◌<◌, ◌≤◌, List, [], ◌∷◌, ◌++◌, map, length, slice_set, refl, sym, ap, subst, ◌∙◌, append_assoc, length-append, arith, Bool, true, false, if◌then◌else◌, Result, Ok, Err}
+use Rattle.std.proofs.lemmas.List.{set-get_or}
 use Rattle.std.proofs.lemmas.List.Sums.{sum_by-append, sum_by-cons}
 use Rattle.bt_script.specs.declared.stop.Stop.{Stop}
 use Rattle.bt_script.specs.declared.stop.Stop.TheVariants as stop
 use Rattle.bt_model.specs.declared.fault.NodeFault.{NodeFault}
 use Rattle.bt_model.specs.declared.memory.Memory.{Memory}
-use Rattle.bt_model.specs.declared.moves.Span.TheVariants.{All}
+use Rattle.bt_model.specs.declared.moves.Span.{Span}
 use Rattle.bt_model.specs.declared.note.Note.{Note}
 use Rattle.bt_model.specs.declared.term.Term.{Term}
 use Rattle.bt_model.specs.Done.{Done, State, done, follow}
-use Rattle.bt_model.specs.Sites.{Meaning, View, children_from, memory_at, placed, sizes}
-use Rattle.bt_model.specs.Steps.{resets}
+use Rattle.bt_model.specs.declared.memory.Memo.TheVariants.{Nothing}
+use Rattle.bt_model.specs.declared.status.Status.TheVariants.{Idle}
+use Rattle.bt_model.specs.Sites.{Meaning, View, child_of, children_from, memory_at, placed, remembered, sizes}
+use Rattle.bt_model.specs.Steps.{resets, spans}
 use Rattle.bt_model.specs.Visit.{meaning}
 use Rattle.bt_arena.specs.declared.nodes.Kept.{Kept}
 use Rattle.bt_arena.specs.declared.nodes.Node.{Node}
 use Rattle.bt_arena.specs.Scenes.{Scene, state_in}
 use Rattle.bt_arena.specs.Stands.{Beside, memories_of, memory_of}
 use Rattle.bt_halting.specs.Ends.{IsCut, IsMade, Meets}
+use Rattle.bt_halting.specs.Halts.{reset_if}
 use Rattle.bt_halting.proofs.Follows.{done_met, followed, stopped}
 use Rattle.bt_halting.proofs.Memories.{IsChild, child_memory, child_placed}
+
+-- a child that is reset or passed over is so among the others
+within_is : (wanted : Bool) (c : Term) (view : View) (uid place : ℕ) (ms : List Memory) (s : State) →
+    (if wanted then (child_of view (meaning c) uid place).reset ms s else done tt ms s) ≡ placed place ms (reset_if wanted c view uid (memory_at ms place) s)
+within_is true c view uid place ms s = refl
+within_is false c view uid place ms s = ap (λ (l : List Memory). done tt l s) (sym (set-get_or ms place (remembered Idle Nothing [])))
 
 -- the child that comes next, and the others
 pub record NextChild (ts rest : List Term) (first place uid : ℕ) : Type 0 where
@@ -32,7 +42,7 @@ sizes_more : (front : List Term) (c : Term) → sizes (map meaning (front ++ c �
 sizes_more [] c = omega (arith, sum_by-cons (λ (d : Meaning). d.size) (meaning c) [])
 sizes_more (t ∷ front) c = omega (arith, sizes_more front c, sum_by-cons (λ (d : Meaning). d.size) (meaning t) (map meaning front), sum_by-cons (λ (d : Meaning). d.size) (meaning t) (map meaning (front ++ c ∷ [])))
 
-module _ (nodes : List Node) (moment : ℕ) (view : View) (ts : List Term) (first : ℕ) where
+module _ (nodes : List Node) (moment : ℕ) (which : Span) (view : View) (ts : List Term) (first : ℕ) where
   -- what is met of one child is met of it among the others
   module _ {A : Type 0} (place : ℕ) (c : Term) (uid : ℕ) (k : IsChild ts first place c uid) (s0 s1 : Scene) (n0 n1 : List Note) (beside : Beside uid (meaning c).size s0.kept s1.kept) (d : Done A Memory) where
     abbrev among : Done A (List Memory)
@@ -54,11 +64,11 @@ module _ (nodes : List Node) (moment : ℕ) (view : View) (ts : List Term) (firs
 
   -- what the resets of all children do
   abbrev pub all_resets : Scene → Done (Unit {0}) (List Memory)
-  all_resets s = resets All (children_from view (map meaning ts) first 0) 0 (memories_of ts first s.kept) (state_in nodes s moment)
+  all_resets s = resets which (children_from view (map meaning ts) first 0) 0 (memories_of ts first s.kept) (state_in nodes s moment)
 
   -- what those do that are left, of which the first has this uid and this place
   abbrev pub resets_left : List Term → ℕ → ℕ → Scene → Done (Unit {0}) (List Memory)
-  resets_left rest place uid s = resets All (children_from view (map meaning rest) uid place) place (memories_of ts first s.kept) (state_in nodes s moment)
+  resets_left rest place uid s = resets which (children_from view (map meaning rest) uid place) place (memories_of ts first s.kept) (state_in nodes s moment)
 
   -- The children in front of this place are reset: what is met of the resets that are left is met of the whole.
   pub record StillResets (before : Scene) (old : List Note) (place uid : ℕ) (s : Scene) (n : List Note) : Type 0 where
@@ -99,16 +109,17 @@ module _ (nodes : List Node) (moment : ℕ) (view : View) (ts : List Term) (firs
 
     module _ (next : NextChild ts k.rest first place uid) (s1 : Scene) (n1 : List Note) (beside : Beside uid (meaning next.child).size s.kept s1.kept) where
       abbrev reset_of_child : Done (Unit {0}) Memory
-      reset_of_child = (meaning next.child).reset view uid (memory_of next.child uid s.kept) (state_in nodes s moment)
+      reset_of_child = reset_if (spans which place) next.child view uid (memory_of next.child uid s.kept) (state_in nodes s moment)
 
       abbrev goes_on : Unit {0} → List Memory → State → Done (Unit {0}) (List Memory)
-      goes_on _ ms1 s2 = resets All (children_from view (map meaning next.others) (uid + (meaning next.child).size) (place + 1)) (place + 1) ms1 s2
+      goes_on _ ms1 s2 = resets which (children_from view (map meaning next.others) (uid + (meaning next.child).size) (place + 1)) (place + 1) ms1 s2
 
       -- the resets that are left are that of this child, and then those of the others
       left_is : resets_left k.rest place uid s ≡ follow (placed place (memories_of ts first s.kept) reset_of_child) (λ ms1. ms1) goes_on
       left_is =
           ap (λ (l : List Term). resets_left l place uid s) next.is_next
-          ∙ ap (λ (m : Memory). follow (placed place (memories_of ts first s.kept) ((meaning next.child).reset view uid m (state_in nodes s moment))) (λ ms1. ms1) goes_on) (child_memory next.is_child s.kept)
+          ∙ ap (λ (d : Done (Unit {0}) (List Memory)). follow d (λ ms1. ms1) goes_on) (within_is (spans which place) next.child view uid place (memories_of ts first s.kept) (state_in nodes s moment))
+          ∙ ap (λ (m : Memory). follow (placed place (memories_of ts first s.kept) (reset_if (spans which place) next.child view uid m (state_in nodes s moment))) (λ ms1. ms1) goes_on) (child_memory next.is_child s.kept)
 
       -- the reset of the child was made
       pub child_reset : Meets nodes moment (memory_of next.child uid) (Ok tt) s s1 n n1 reset_of_child → StillResets before old (place + 1) (uid + (meaning next.child).size) s1 n1

@@ -1,6 +1,7 @@
 -- The parts of a halt, and what is asked of the nodes that are halted.
-use Rattle.std.specs.Prelude.{◌≡◌, ◌+◌, ◌<◌, ◌≤◌, ℕ, List, [], ◌∷◌, true, Option, Some, None, slice_set}
+use Rattle.std.specs.Prelude.{◌≡◌, ◌+◌, ◌<◌, ◌≤◌, ℕ, List, [], ◌∷◌, Bool, true, false, Option, Some, None, slice_set}
 use Rattle.bt_model.specs.declared.leaf.Phase.TheVariants as phase
+use Rattle.bt_model.specs.declared.memory.Memory.{Memory}
 use Rattle.bt_model.specs.declared.note.Note.TheVariants.{Changed, Halted}
 use Rattle.bt_model.specs.declared.status.Status.TheVariants.{Idle, Running}
 use Rattle.bt_model.specs.declared.term.Term.{Term, out-Term}
@@ -34,3 +35,8 @@ leaf_let_go None uid s = done tt tt s
 -- a RUNNING node comes to rest, which is noted
 abbrev pub rests : ℕ → State → Done (Unit {0}) (Unit {0})
 rests uid s = behind (Changed uid Running Idle ∷ []) [] (done tt tt s)
+
+-- a term is reset, or nothing is done
+abbrev pub reset_if : Bool → Term → View → ℕ → Memory → State → Done (Unit {0}) Memory
+reset_if true term view uid m s = (meaning term).reset view uid m s
+reset_if false term view uid m s = done tt m s

@@ -114,6 +114,7 @@ pub(crate) fn end_halt<D: Drivers>(
         (halted (site_at view uid term) (remembered Idle (cleared (kept_at kept.old uid).memo) (memories_of (out-Term term).children (uid + 1) kept.old)) (state_in nodes.now (scene kept.old board.old facts (D.states drivers.old)) moment)) }
     ensures fits { (facts : List ℤ) → StaysFit nodes.now (scene kept.old board.old facts (D.states drivers.old)) (scene kept.new board.new facts (D.states drivers.new)) }
     ensures beside { Beside uid 1 kept.old kept.new }
+    ensures status { OnOk result ((kept_at kept.new uid).status ≡ Idle) }
     ensures reserve { notes.old.reserve ≤ notes.new.reserve }
 {
     let_go(nodes, kept, drivers, uid, notes)?;

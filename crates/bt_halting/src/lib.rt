@@ -2,6 +2,8 @@
 #![tactic(auto)]
 
 mod endings;
+mod resetting;
 mod scripts;
 
+pub use resetting::{halt_node, reset_children, reset_node};
 pub use scripts::{run_if_there, run_script};

@@ -1,3 +1,1 @@
-use Rattle.bt_halting.proofs.Marks.{mark_is}
-use Rattle.bt_halting.proofs.Memories.{memory_above}
-use Rattle.bt_halting.proofs.Children.{StillResets}
+use Rattle.bt_halting.proofs.Within.{stands_within}

@@ -1,0 +1,178 @@
+ghost use Rattle.std.specs.Prelude.{◌≡◌, ◌≢◌, ◌+◌, ◌-◌, ◌<◌, ◌≤◌, ◌++◌, ℕ, ℤ, List, OnOk, OnErr, length, slice_set};
+ghost use Rattle.bt_model.specs.declared.status.Status.TheVariants.{Idle, Running as IsRunning};
+ghost use Rattle.bt_model.specs.declared.term.Term.{Term, out-Term};
+ghost use Rattle.bt_model.specs.Sites.{View, children_of};
+ghost use Rattle.bt_model.specs.Steps.{resets, spans};
+ghost use Rattle.bt_model.specs.Visit.{change, meaning};
+ghost use Rattle.bt_arena.specs.Nodes.{kept_at, node_at};
+ghost use Rattle.bt_arena.specs.Scenes.{Fits, scene, state_in};
+ghost use Rattle.bt_arena.specs.Stands.{Beside, memories_of, memory_of};
+ghost use Rattle.bt_halting.specs.Ends.{Meets, StaysFit};
+ghost use Rattle.bt_halting.specs.Halts.{RunningAreHeld, reset_if, site_at};
+
+use crate::endings::end_halt;
+use bt_arena::{Kept, Node, Notes, kept_by, node, set_status};
+use bt_board::Board;
+use bt_driver::Drivers;
+use bt_model::{NodeFault, Note, Span, Status};
+use bt_script::{NoMemory, Stop};
+use std::alloc::Global;
+
+/// Whether a span has the child at this place.
+fn has(span: Span, place: u32) -> bool
+    ensures { result ≡ spans span place }
+{
+    match span {
+        Span::None => false,
+        Span::All => true,
+        Span::From(first) => first <= place,
+        Span::AllBut(other) => place != other,
+        Span::One(only) => place == only,
+    }
+}
+
+/// A node becomes IDLE, which is noted where it was not.
+fn become_idle(kept: &mut [Kept], uid: u32, notes: &mut Notes) -> Result<(), NoMemory>
+    requires { uid < length kept.old }
+    ensures kept { OnOk result (kept.new ≡ slice_set kept.old uid (record (kept_at kept.old uid) { status = Idle })) }
+    ensures notes { OnOk result (notes.new.list ≡ notes.old.list ++ change uid (kept_at kept.old uid).status Idle) }
+    ensures err { OnErr result (kept.new ≡ kept.old) }
+    ensures err_notes { OnErr result (notes.new.list ≡ notes.old.list) }
+    ensures reserve { notes.new.reserve ≡ notes.old.reserve }
+{
+    let old = kept_by(kept, uid).status;
+    if old != Status::Idle {
+        notes.push(Note::Changed {
+            uid,
+            old,
+            new: Status::Idle,
+        })?;
+    }
+    set_status(kept, uid, Status::Idle);
+    Ok(())
+}
+
+/// Resets the node with this uid, among nodes of which what they keep is `kept`: one that is RUNNING is
+/// halted, and any other becomes IDLE.
+#[cycle(resetting)]
+pub fn reset_node<D: Drivers>(
+    alloc: Global,
+    nodes: &[Node],
+    kept: &mut [Kept],
+    board: &mut Board,
+    drivers: &mut D,
+    uid: u32,
+    notes: &mut Notes,
+) -> Result<(), Stop<NodeFault>>
+    requires fits { (term : Term) × (view : View) × (facts : List ℤ) × Fits term view uid nodes.now (scene kept.old board.old facts (D.states drivers.old)) }
+    requires held { RunningAreHeld nodes.now kept.old uid }
+    ensures meets { (term : Term) (view : View) (facts : List ℤ) (moment : ℕ) → Fits term view uid nodes.now (scene kept.old board.old facts (D.states drivers.old)) →
+        Meets nodes.now moment (memory_of term uid) result (scene kept.old board.old facts (D.states drivers.old)) (scene kept.new board.new facts (D.states drivers.new)) notes.old.list notes.new.list
+        ((meaning term).reset view uid (memory_of term uid kept.old) (state_in nodes.now (scene kept.old board.old facts (D.states drivers.old)) moment)) }
+    ensures fits { (facts : List ℤ) → StaysFit nodes.now (scene kept.old board.old facts (D.states drivers.old)) (scene kept.new board.new facts (D.states drivers.new)) }
+    ensures held { OnOk result (RunningAreHeld nodes.now kept.new uid) }
+    ensures beside { Beside uid (node_at nodes.now uid).size kept.old kept.new }
+    ensures reserve { notes.old.reserve ≤ notes.new.reserve }
+{
+    match kept_by(kept, uid).status {
+        Status::Running => halt_node(alloc, nodes, kept, board, drivers, uid, notes),
+        _ => {
+            become_idle(kept, uid, notes)?;
+            Ok(())
+        }
+    }
+}
+
+/// Halts the RUNNING node with this uid.
+#[cycle(resetting)]
+pub fn halt_node<D: Drivers>(
+    alloc: Global,
+    nodes: &[Node],
+    kept: &mut [Kept],
+    board: &mut Board,
+    drivers: &mut D,
+    uid: u32,
+    notes: &mut Notes,
+) -> Result<(), Stop<NodeFault>>
+    requires fits { (term : Term) × (view : View) × (facts : List ℤ) × Fits term view uid nodes.now (scene kept.old board.old facts (D.states drivers.old)) }
+    requires running { (kept_at kept.old uid).status ≡ IsRunning }
+    requires held { RunningAreHeld nodes.now kept.old uid }
+    ensures meets { (term : Term) (view : View) (facts : List ℤ) (moment : ℕ) → Fits term view uid nodes.now (scene kept.old board.old facts (D.states drivers.old)) →
+        Meets nodes.now moment (memory_of term uid) result (scene kept.old board.old facts (D.states drivers.old)) (scene kept.new board.new facts (D.states drivers.new)) notes.old.list notes.new.list
+        ((meaning term).reset view uid (memory_of term uid kept.old) (state_in nodes.now (scene kept.old board.old facts (D.states drivers.old)) moment)) }
+    ensures fits { (facts : List ℤ) → StaysFit nodes.now (scene kept.old board.old facts (D.states drivers.old)) (scene kept.new board.new facts (D.states drivers.new)) }
+    ensures held { OnOk result (RunningAreHeld nodes.now kept.new uid) }
+    ensures beside { Beside uid (node_at nodes.now uid).size kept.old kept.new }
+    ensures reserve { notes.old.reserve ≤ notes.new.reserve }
+{
+    reset_children(alloc, nodes, kept, board, drivers, uid, Span::All, notes)?;
+    end_halt(alloc, nodes, kept, board, drivers, uid, notes)
+}
+
+/// Resets those children of the node with this uid that a span has, in order.
+#[cycle(resetting)]
+pub fn reset_children<D: Drivers>(
+    alloc: Global,
+    nodes: &[Node],
+    kept: &mut [Kept],
+    board: &mut Board,
+    drivers: &mut D,
+    uid: u32,
+    span: Span,
+    notes: &mut Notes,
+) -> Result<(), Stop<NodeFault>>
+    requires fits { (term : Term) × (view : View) × (facts : List ℤ) × Fits term view uid nodes.now (scene kept.old board.old facts (D.states drivers.old)) }
+    requires held { RunningAreHeld nodes.now kept.old uid }
+    ensures meets { (term : Term) (view : View) (facts : List ℤ) (moment : ℕ) → Fits term view uid nodes.now (scene kept.old board.old facts (D.states drivers.old)) →
+        Meets nodes.now moment (memories_of (out-Term term).children (uid + 1)) result (scene kept.old board.old facts (D.states drivers.old)) (scene kept.new board.new facts (D.states drivers.new)) notes.old.list notes.new.list
+        (resets span (children_of (site_at view uid term)) 0 (memories_of (out-Term term).children (uid + 1) kept.old) (state_in nodes.now (scene kept.old board.old facts (D.states drivers.old)) moment)) }
+    ensures fits { (facts : List ℤ) → StaysFit nodes.now (scene kept.old board.old facts (D.states drivers.old)) (scene kept.new board.new facts (D.states drivers.new)) }
+    ensures held { OnOk result (RunningAreHeld nodes.now kept.new uid) }
+    ensures beside { Beside (uid + 1) ((node_at nodes.now uid).size - 1) kept.old kept.new }
+    ensures reserve { notes.old.reserve ≤ notes.new.reserve }
+{
+    let mut child = uid + 1;
+    for place in 0..node(nodes, uid).children {
+        reset_wanted(
+            has(span, place),
+            alloc,
+            nodes,
+            kept,
+            board,
+            drivers,
+            child,
+            notes,
+        )?;
+        child += node(nodes, child).size;
+    }
+    Ok(())
+}
+
+/// Resets the node with this uid where this is wanted.
+#[cycle(resetting)]
+fn reset_wanted<D: Drivers>(
+    wanted: bool,
+    alloc: Global,
+    nodes: &[Node],
+    kept: &mut [Kept],
+    board: &mut Board,
+    drivers: &mut D,
+    uid: u32,
+    notes: &mut Notes,
+) -> Result<(), Stop<NodeFault>>
+    requires fits { (term : Term) × (view : View) × (facts : List ℤ) × Fits term view uid nodes.now (scene kept.old board.old facts (D.states drivers.old)) }
+    requires held { RunningAreHeld nodes.now kept.old uid }
+    ensures meets { (term : Term) (view : View) (facts : List ℤ) (moment : ℕ) → Fits term view uid nodes.now (scene kept.old board.old facts (D.states drivers.old)) →
+        Meets nodes.now moment (memory_of term uid) result (scene kept.old board.old facts (D.states drivers.old)) (scene kept.new board.new facts (D.states drivers.new)) notes.old.list notes.new.list
+        (reset_if wanted term view uid (memory_of term uid kept.old) (state_in nodes.now (scene kept.old board.old facts (D.states drivers.old)) moment)) }
+    ensures fits { (facts : List ℤ) → StaysFit nodes.now (scene kept.old board.old facts (D.states drivers.old)) (scene kept.new board.new facts (D.states drivers.new)) }
+    ensures held { OnOk result (RunningAreHeld nodes.now kept.new uid) }
+    ensures beside { Beside uid (node_at nodes.now uid).size kept.old kept.new }
+    ensures reserve { notes.old.reserve ≤ notes.new.reserve }
+{
+    if wanted {
+        reset_node(alloc, nodes, kept, board, drivers, uid, notes)
+    } else {
+        Ok(())
+    }
+}
