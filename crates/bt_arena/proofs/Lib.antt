@@ -1,4 +1,10 @@
+pub mod Agreeing
+pub mod Compilable
+pub mod Compiled
 pub mod Called
 pub mod Follows
 pub mod Framed
+pub mod Indexed
+pub mod Named
 pub mod Opened
+pub mod Parts

@@ -8,6 +8,9 @@ mod joining;
 pub mod laws;
 mod nodes;
 mod notes;
+mod ports;
+mod resolving;
+mod rows;
 mod source;
 
 pub use arena::{
