@@ -17,6 +17,7 @@ abbrev pub written : {X : Type 0} → Term-F X → TreeNode
 written node = record {
   kind = node.kind;
   id = node.id;
+  name = node.name;
   ports = node.ports;
   code = node.code;
   guards = node.guards;
