@@ -8,19 +8,19 @@ use bt_script::NoMemory;
 
 /// The boxed drivers of a run, as the engine calls them.
 #[derive(Drop)]
-pub struct Roster<'a> {
-    pub drivers: &'a mut Vec<Box<dyn Driver>>,
+pub struct Roster {
+    pub drivers: Vec<Box<dyn Driver>>,
 }
 
-impl Drivers for Roster<'_> {
-    ghost states = { λ roster. map (λ b. (Driver-box b).state b.value) roster.drivers.now.items };
+impl Drivers for Roster {
+    ghost states = { λ roster. map (λ b. (Driver-box b).state b.value) roster.drivers.items };
 
     fn count(&self) -> usize {
         self.drivers.len()
     }
 
     fn place_of(&self, kind: DriverKind) -> Option<usize> {
-        find_kind(self.drivers, kind)
+        find_kind(&self.drivers, kind)
     }
 
     fn totals(&self, place: usize) -> Totals {
@@ -28,11 +28,11 @@ impl Drivers for Roster<'_> {
     }
 
     fn holds_nothing(&self) -> bool {
-        hold_nothing(self.drivers)
+        hold_nothing(&self.drivers)
     }
 
     fn prepare(&mut self, counts: &[u32]) -> Result<(), NoMemory> {
-        prepare_all(self.drivers, counts)
+        prepare_all(&mut self.drivers, counts)
     }
 
     fn start(
@@ -45,7 +45,7 @@ impl Drivers for Roster<'_> {
         outs: &mut Outs,
         now: u64,
     ) -> Reply {
-        start_at(self.drivers, place, instance, row, inputs, facts, outs, now)
+        start_at(&mut self.drivers, place, instance, row, inputs, facts, outs, now)
     }
 
     fn running(
@@ -58,10 +58,10 @@ impl Drivers for Roster<'_> {
         outs: &mut Outs,
         now: u64,
     ) -> Reply {
-        run_at(self.drivers, place, instance, row, inputs, facts, outs, now)
+        run_at(&mut self.drivers, place, instance, row, inputs, facts, outs, now)
     }
 
     fn halted(&mut self, place: usize, instance: u32) {
-        halt_at(self.drivers, place, instance)
+        halt_at(&mut self.drivers, place, instance)
     }
 }

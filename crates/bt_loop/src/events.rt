@@ -14,6 +14,7 @@ use bt_driver::{Driver, Drivers};
 use bt_model::{Event, Header, RunFault, What};
 use bt_script::Stop;
 use std::alloc::Global;
+use std::mem;
 
 /// Makes an event of runs over any drivers.
 pub fn run_event<D: Drivers>(
@@ -83,7 +84,12 @@ pub fn event(
     ensures room { block.new.notes.full ≡ block.old.notes.full }
     ensures roster { IsSameRoster (map (λ b. state b) roster.old.items) (map (λ b. state b) roster.new.items) }
 {
-    run_event(alloc, runs, event, &mut Roster { drivers: roster }, block)
+    let mut held = Roster {
+        drivers: mem::replace(roster, Vec::new(alloc)),
+    };
+    let ended = run_event(alloc, runs, event, &mut held, block);
+    *roster = held.drivers;
+    ended
 }
 
 /// Finishes a runner at the moment of the last event: its root is reset. The block has the header of a
@@ -108,5 +114,10 @@ pub fn finish(
     ensures room { block.new.notes.full ≡ block.old.notes.full }
     ensures roster { IsSameRoster (map (λ b. state b) roster.old.items) (map (λ b. state b) roster.new.items) }
 {
-    run_finish(alloc, runs, runner, &mut Roster { drivers: roster }, block)
+    let mut held = Roster {
+        drivers: mem::replace(roster, Vec::new(alloc)),
+    };
+    let ended = run_finish(alloc, runs, runner, &mut held, block);
+    *roster = held.drivers;
+    ended
 }

@@ -17,6 +17,7 @@ use bt_driver::{Driver, Drivers};
 use bt_model::{Tree, World};
 use bt_script::Stop;
 use std::alloc::Global;
+use std::mem;
 
 /// Prepares any drivers for the runners of a world, and makes these.
 pub fn make_runs<D: Drivers>(
@@ -60,7 +61,12 @@ pub fn runs_of(
     ensures none { NothingHeld (map (λ b. state b) roster.new.items) }
     ensures roster { IsSameRoster (map (λ b. state b) roster.old.items) (map (λ b. state b) roster.new.items) }
 {
-    make_runs(alloc, tree, world, &mut Roster { drivers: roster })
+    let mut held = Roster {
+        drivers: mem::replace(roster, Vec::new(alloc)),
+    };
+    let ended = make_runs(alloc, tree, world, &mut held);
+    *roster = held.drivers;
+    ended
 }
 
 /// How many leaves all runners have together: a block of these runs has room for their notes.
