@@ -1,8 +1,7 @@
 -- One runner's part of an event.
-use Rattle.std.specs.Prelude.{◌≡◌, ◌≤◌, ℕ, ℤ, List, ◌++◌, length, map, slice_get, Some, Option, None, Result, Ok, Err}
+use Rattle.std.specs.Prelude.{◌≡◌, ◌≤◌, ℕ, ℤ, List, ◌++◌, length, map, None, Result, Ok, Err}
 use Rattle.bt_script.specs.declared.stop.Stop.{Stop}
 use Rattle.bt_script.specs.declared.stop.Stop.TheVariants as stop
-use Rattle.bt_script.specs.declared.value.Value.{Value}
 use Rattle.bt_model.specs.declared.fault.NodeFault.{NodeFault}
 use Rattle.bt_model.specs.declared.memory.Memory.{Memory}
 use Rattle.bt_model.specs.declared.note.Note.{Note}
@@ -54,15 +53,11 @@ pub record CanAct (tree : Tree) (world : World) (at : ℕ) (facts : List ℤ) (d
 pub record StaysRunner (old new : ReadyRunner) : Type 0 where
   pub nodes : new.arena.nodes.items ≡ old.arena.nodes.items
   pub number : new.arena.runner ≡ old.arena.runner
-  pub told : new.told.items ≡ old.told.items
 
 -- ---- All runners
 
 abbrev pub state_of_all : Term → List DriverState → List ReadyRunner → List ℤ → ℕ → RunState
 state_of_all term drivers runners facts last = record { runners = runners_in term drivers runners; facts = facts; last = last }
-
-abbrev pub told_by : List ReadyRunner → List (List (Option Value))
-told_by runners = map (λ (r : ReadyRunner). r.told.items) runners
 
 -- what holds of runners before a part at this moment, the last event having been at that one
 pub record AreReady (tree : Tree) (world : World) (last at : ℕ) (facts : List ℤ) (drivers : List DriverState) (runners : List ReadyRunner) : Type 0 where

@@ -1,9 +1,8 @@
 -- The runs of a tree in a world: the state that they keep, and what holds of them between events.
-use Rattle.std.specs.Prelude.{◌≡◌, ◌+◌, ◌-◌, ◌*◌, ℕ, ℤ, List, [], ◌∷◌, length, map, sum, slice_get, slice_index_or, Some, None, true}
+use Rattle.std.specs.Prelude.{◌≡◌, ◌+◌, ◌-◌, ◌*◌, ℕ, ℤ, List, [], ◌∷◌, length, map, sum, slice_get, slice_index_or, Option, Some, None, true}
 use Rattle.bt_model.specs.declared.term.Term.{Term}
 use Rattle.bt_model.specs.declared.term.Tree.{Tree}
 use Rattle.bt_model.specs.declared.world.World.{World}
-use Rattle.bt_model.specs.Boards.{slots}
 use Rattle.bt_model.specs.Drivers.{DriverState, instance_at, is_held}
 use Rattle.bt_model.specs.Run.{RunState, Runner, RunnerCall, root_view}
 use Rattle.bt_model.specs.Sound.{RunSteady}
@@ -17,6 +16,8 @@ use Rattle.bt_arena.specs.Scenes.{Fits, Scene, scene}
 use Rattle.bt_arena.specs.Stands.{memory_of}
 use Rattle.bt_loop.specs.declared.runs.ReadyRunner.{ReadyRunner}
 use Rattle.bt_loop.specs.declared.runs.Runs.{Runs}
+use Rattle.bt_loop.specs.Telling.{boards_told}
+use Rattle.bt_script.specs.declared.value.Value.{Value}
 
 -- ---- States
 
@@ -30,6 +31,9 @@ runners_in term drivers runners = map (runner_in term drivers) runners
 -- the state of runs
 abbrev pub state_of_runs : Term → List DriverState → Runs → RunState
 state_of_runs term drivers runs = record { runners = runners_in term drivers runs.runners.items; facts = runs.facts; last = runs.last }
+
+abbrev pub boards_in : List ReadyRunner → List (List (Option Value))
+boards_in runners = map (λ (r : ReadyRunner). r.board) runners
 
 -- ---- Arenas
 
@@ -81,7 +85,6 @@ pub record RunnerFits (tree : Tree) (world : World) (facts : List ℤ) (drivers 
   pub numbered : r.arena.runner ≡ number
   pub fits : Fits tree.term (root_view tree world) 1 r.arena.nodes.items (scene r.arena.kept.items r.board facts drivers)
   pub nodes : length r.arena.nodes.items ≡ 1 + node_count tree.term
-  pub told : length r.told.items ≡ length (slots tree)
 
 -- what holds of the runners of a world also in the middle of an event
 pub record RunnersFit (tree : Tree) (world : World) (facts : List ℤ) (drivers : List DriverState) (runners : List ReadyRunner) : Type 0 where
@@ -95,8 +98,8 @@ pub record RunnersFit (tree : Tree) (world : World) (facts : List ℤ) (drivers 
 pub record AreRuns (tree : Tree) (world : World) (drivers : List DriverState) (runs : Runs) : Type 0 where
   pub usable : runs.usable ≡ true
   pub fit : RunnersFit tree world runs.facts drivers runs.runners.items
-  pub told : runs.told.items ≡ runs.facts
-  pub told_entries : (k : ℕ) (r : ReadyRunner) → slice_get runs.runners.items k ≡ Some r → r.told.items ≡ r.board
+  pub told : runs.told.facts.items ≡ runs.facts
+  pub told_entries : boards_told runs.told.boards.items ≡ boards_in runs.runners.items
   pub steady : RunSteady tree.term world.rows (state_of_runs tree.term drivers runs)
 
 -- ---- Instances

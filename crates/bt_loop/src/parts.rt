@@ -6,7 +6,7 @@ ghost use Rattle.bt_model.specs.Visit.{change};
 ghost use Rattle.bt_arena.specs.Ends.{Meets, StaysFit};
 ghost use Rattle.bt_arena.specs.Nodes.{kept_at};
 ghost use Rattle.bt_arena.specs.Stands.{memory_of};
-ghost use Rattle.bt_loop.specs.Parts.{AreReady, CanAct, PartEnds, StaysRunner, part_of, scene_of, state_of_all, state_of_runner, told_by};
+ghost use Rattle.bt_loop.specs.Parts.{AreReady, CanAct, PartEnds, StaysRunner, part_of, scene_of, state_of_all, state_of_runner};
 ghost use Rattle.bt_loop.specs.Runs.{RunnersFit, arenas_in};
 
 use crate::below::{reset, tick};
@@ -161,7 +161,6 @@ pub fn make_part_of<D: Drivers>(
         (part_of part tree world number r.memory (state_of r facts.old at)) }
     ensures fit { (tree : Tree) (world : World) → RunnersFit tree world facts.old (D.states drivers.old) runners.old → RunnersFit tree world facts.new (D.states drivers.new) runners.new }
     ensures arenas { arenas_in runners.new ≡ arenas_in runners.old }
-    ensures told { told_by runners.new ≡ told_by runners.old }
     ensures reserve { notes.old.reserve ≤ notes.new.reserve }
     ensures full { notes.new.full ≡ notes.old.full }
 {

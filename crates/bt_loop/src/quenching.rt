@@ -3,8 +3,7 @@ ghost use Rattle.bt_model.specs.declared.term.Tree.{Tree};
 ghost use Rattle.bt_model.specs.declared.world.World.{World};
 ghost use Rattle.bt_model.specs.Drivers.{NothingHeld};
 ghost use Rattle.bt_model.specs.Run.{quench_calls, quench_notes, quenched_runner};
-ghost use Rattle.bt_loop.specs.Parts.{told_by};
-ghost use Rattle.bt_loop.specs.Runs.{RunnersFit, arenas_in, leaves_of, roster_over, runners_in};
+ghost use Rattle.bt_loop.specs.Runs.{RunnersFit, arenas_in, boards_in, leaves_of, roster_over, runners_in};
 
 use crate::below::quench;
 use crate::runs::ReadyRunner;
@@ -23,7 +22,7 @@ pub fn quench_all<D: Drivers>(runners: &mut [ReadyRunner], drivers: &mut D, note
         D.states drivers.new ≡ roster_over (arenas_in runners.old) (quench_calls 1 (runners_in tree.term (D.states drivers.old) runners.old)) (D.states drivers.old) }
     ensures none { NothingHeld (D.states drivers.new) }
     ensures arenas { arenas_in runners.new ≡ arenas_in runners.old }
-    ensures told { told_by runners.new ≡ told_by runners.old }
+    ensures boards { boards_in runners.new ≡ boards_in runners.old }
     ensures full { notes.new.full ≡ notes.old.full }
 {
     for runner in runners.iter_mut() {

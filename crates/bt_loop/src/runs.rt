@@ -10,8 +10,15 @@ use bt_script::Value;
 pub struct ReadyRunner {
     pub arena: Arena,
     pub board: Board,
-    /// The entries of the blackboard as the blocks have told them.
-    pub told: Vec<Option<Value>>,
+}
+
+/// What the blocks of a run have told so far.
+#[derive(Debug, Drop)]
+pub struct Told {
+    /// The facts, by their number.
+    pub facts: Vec<i64>,
+    /// The entries of each runner's blackboard, by slot.
+    pub boards: Vec<Vec<Option<Value>>>,
 }
 
 /// The runners of a run, numbered from 1, and the facts that they share.
@@ -19,8 +26,7 @@ pub struct ReadyRunner {
 pub struct Runs {
     pub runners: Vec<ReadyRunner>,
     pub facts: FactTable,
-    /// The facts as the blocks have told them.
-    pub told: Vec<i64>,
+    pub told: Told,
     /// The moment of the last event, in milliseconds.
     pub last: u64,
     /// Whether no event has stopped.

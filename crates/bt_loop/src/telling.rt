@@ -1,12 +1,31 @@
-ghost use Rattle.std.specs.Prelude.{◌≡◌, ◌≤◌, ◌<◌, ◌-◌, ◌^◌, ◌++◌, ℕ, List, OnOk, OnErr, IfOk, Some, Option, length, map, slice_get, slice_set};
+ghost use Rattle.std.specs.Prelude.{◌≡◌, ◌≤◌, ◌<◌, ◌-◌, ◌^◌, ◌++◌, ℕ, ℤ, List, OnOk, OnErr, IfOk, Some, Option, length, map, slice_get, slice_set};
 ghost use Rattle.bt_script.specs.declared.value.Value.{Value as Content};
 ghost use Rattle.bt_model.specs.Run.{changed_entries, changed_from, had, with_change};
-ghost use Rattle.bt_loop.specs.Parts.{told_by};
-ghost use Rattle.bt_loop.specs.Telling.{OnlyTold};
+ghost use Rattle.bt_loop.specs.Telling.{boards_told, entries_told, with_fact};
 
-use crate::runs::ReadyRunner;
+use crate::runs::Told;
+use bt_arena::Block;
+use bt_board::Board;
+use bt_driver::FactTable;
 use bt_script::{NoMemory, Value};
 use std::alloc::Global;
+
+/// Adds a fact that differs from what was told, and tells it.
+fn tell_fact(
+    fact: u32,
+    told: &mut i64,
+    value: &i64,
+    changes: &mut Vec<(u32, i64)>,
+) -> Result<(), NoMemory>
+    ensures changes { OnOk result ((rest : List (ℕ × ℤ)) → changes.new.items ++ rest ≡ changes.old.items ++ with_fact fact told.old value.now rest) }
+    ensures told { OnOk result (told.new ≡ value.now) }
+{
+    if *told != *value {
+        changes.push((fact, *value))?;
+        *told = *value;
+    }
+    Ok(())
+}
 
 /// Adds the facts that differ from those that were told, and tells them.
 pub fn tell_facts(
@@ -20,10 +39,7 @@ pub fn tell_facts(
     ensures told { OnOk result (told.new ≡ facts.now) }
 {
     for (fact, value) in facts.iter().enumerate() {
-        if told[fact] != *value {
-            changes.push((fact as u32, *value))?;
-            told[fact] = *value;
-        }
+        tell_fact(fact as u32, &mut told[fact], value, changes)?;
     }
     Ok(())
 }
@@ -67,14 +83,14 @@ fn tell_entry(
 fn tell_entries(
     alloc: Global,
     runner: u8,
-    told: &mut [Option<Value>],
+    told: &mut Vec<Option<Value>>,
     board: &[Option<Value>],
     changes: &mut Vec<(u8, u32, Value)>,
 ) -> Result<(), NoMemory>
-    requires same { length told.old ≡ length board.now }
+    requires same { length told.old.items ≡ length board.now }
     requires few { length board.now < 2 ^ 32 }
-    ensures changes { OnOk result (changes.new.items ≡ changes.old.items ++ changed_entries runner 0 told.old board.now) }
-    ensures told { OnOk result (told.new ≡ board.now) }
+    ensures changes { OnOk result (changes.new.items ≡ changes.old.items ++ changed_entries runner 0 told.old.items board.now) }
+    ensures told { OnOk result (told.new.items ≡ board.now) }
 {
     for (slot, entry) in board.iter().enumerate() {
         tell_entry(alloc, runner, slot as u32, &mut told[slot], entry, changes)?;
@@ -82,44 +98,65 @@ fn tell_entries(
     Ok(())
 }
 
-/// The same for a runner.
+/// The same for the blackboard of the runner of this number.
 fn tell_board(
     alloc: Global,
     number: u8,
-    runner: &mut ReadyRunner,
+    told: &mut [Vec<Option<Value>>],
+    board: &Board,
     changes: &mut Vec<(u8, u32, Value)>,
 ) -> Result<(), NoMemory>
-    requires same { length runner.old.told.items ≡ length runner.old.board }
-    requires few { length runner.old.board < 2 ^ 32 }
-    ensures changes { OnOk result (changes.new.items ≡ changes.old.items ++ changed_entries number 0 runner.old.told.items runner.old.board) }
-    ensures told { OnOk result (runner.new.told.items ≡ runner.old.board) }
-    ensures rest { OnlyTold runner.old runner.new }
+    requires first { 1 ≤ number }
+    requires last { number ≤ length told.old }
+    requires same { length (entries_told told.old number) ≡ length board.now }
+    requires few { length board.now < 2 ^ 32 }
+    ensures changes { OnOk result (changes.new.items ≡ changes.old.items ++ changed_entries number 0 (entries_told told.old number) board.now) }
+    ensures told { OnOk result (boards_told told.new ≡ slice_set (boards_told told.old) (number - 1) board.now) }
 {
     tell_entries(
         alloc,
         number,
-        &mut runner.told,
-        runner.board.list(),
+        &mut told[number as usize - 1],
+        board.list(),
         changes,
     )
 }
 
-/// The same for the runner of this number, among all runners.
-pub fn tell_board_of(
+/// Adds to a block the facts that differ from those that were told, and tells them.
+pub fn tell_facts_in(told: &mut Told, facts: &FactTable, block: &mut Block) -> Result<(), NoMemory>
+    requires same { length told.old.facts.items ≡ length facts.now }
+    requires few { length facts.now < 2 ^ 32 }
+    ensures facts { OnOk result (block.new.facts.items ≡ block.old.facts.items ++ changed_from 0 told.old.facts.items facts.now) }
+    ensures told { OnOk result (told.new.facts.items ≡ facts.now) }
+    ensures boards { told.new.boards ≡ told.old.boards }
+    ensures rest { block.new ≡ record block.old { facts = block.new.facts } }
+{
+    tell_facts(&mut told.facts, facts.list(), &mut block.facts)
+}
+
+/// Adds to a block the facts, and the entries of the blackboard of the runner of this number, that
+/// differ from those that were told, and tells them.
+pub fn tell_part(
     alloc: Global,
     number: u8,
-    runners: &mut [ReadyRunner],
-    changes: &mut Vec<(u8, u32, Value)>,
+    told: &mut Told,
+    facts: &FactTable,
+    board: &Board,
+    block: &mut Block,
 ) -> Result<(), NoMemory>
     requires first { 1 ≤ number }
-    requires last { number ≤ length runners.old }
-    requires same { (r : ReadyRunner) → slice_get runners.old (number - 1) ≡ Some r → length r.told.items ≡ length r.board }
-    requires few { (r : ReadyRunner) → slice_get runners.old (number - 1) ≡ Some r → length r.board < 2 ^ 32 }
-    ensures changes { OnOk result ((r : ReadyRunner) → slice_get runners.old (number - 1) ≡ Some r → changes.new.items ≡ changes.old.items ++ changed_entries number 0 r.told.items r.board) }
-    ensures told { OnOk result ((r : ReadyRunner) → slice_get runners.old (number - 1) ≡ Some r → told_by runners.new ≡ slice_set (told_by runners.old) (number - 1) r.board) }
-    ensures rest { (k : ℕ) (r : ReadyRunner) → slice_get runners.old k ≡ Some r → (new : ReadyRunner) × (slice_get runners.new k ≡ Some new) × OnlyTold r new }
-    ensures many { length runners.new ≡ length runners.old }
+    requires last { number ≤ length told.old.boards.items }
+    requires same_facts { length told.old.facts.items ≡ length facts.now }
+    requires few_facts { length facts.now < 2 ^ 32 }
+    requires same { length (entries_told told.old.boards.items number) ≡ length board.now }
+    requires few { length board.now < 2 ^ 32 }
+    ensures facts { OnOk result (block.new.facts.items ≡ block.old.facts.items ++ changed_from 0 told.old.facts.items facts.now) }
+    ensures entries { OnOk result (block.new.entries.items ≡ block.old.entries.items ++ changed_entries number 0 (entries_told told.old.boards.items number) board.now) }
+    ensures told { OnOk result (told.new.facts.items ≡ facts.now) }
+    ensures boards { OnOk result (boards_told told.new.boards.items ≡ slice_set (boards_told told.old.boards.items) (number - 1) board.now) }
+    ensures header { block.new.header ≡ block.old.header }
+    ensures notes { block.new.notes ≡ block.old.notes }
 {
-    let runner = &mut runners[number as usize - 1];
-    tell_board(alloc, number, runner, changes)
+    tell_facts_in(told, facts, block)?;
+    tell_board(alloc, number, &mut told.boards, board, &mut block.entries)
 }
