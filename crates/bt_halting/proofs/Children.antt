@@ -19,9 +19,9 @@ use Rattle.bt_arena.specs.declared.nodes.Kept.{Kept}
 use Rattle.bt_arena.specs.declared.nodes.Node.{Node}
 use Rattle.bt_arena.specs.Scenes.{Scene, state_in}
 use Rattle.bt_arena.specs.Stands.{Beside, memories_of, memory_of}
-use Rattle.bt_halting.specs.Ends.{IsCut, IsMade, Meets}
+use Rattle.bt_arena.specs.Ends.{IsCut, IsMade, Meets}
 use Rattle.bt_halting.specs.Halts.{reset_if}
-use Rattle.bt_halting.proofs.Follows.{done_met, followed, stopped}
+use Rattle.bt_arena.proofs.Follows.{done_met, followed, stopped}
 use Rattle.bt_halting.proofs.Memories.{IsChild, child_memory, child_placed}
 
 -- a child that is reset or passed over is so among the others

@@ -1,11 +1,8 @@
 -- The end of a halt: a leaf is let go, the node comes to rest, and its script runs.
 use Rattle.std.proofs.Common.{◌≡◌, ◌≢◌, ℕ, ◌+◌, ◌<◌, ◌≤◌, List, [], ◌∷◌, ◌++◌, map, length, get_or, slice_set, Bool, true, false, Option, Some, None, refl, sym, ap, subst, ◌∙◌, append-nil, arith, IfSome, Result, Ok, Err}
 use Rattle.std.proofs.lemmas.List.{get_or-set_other, get_or-set_same}
-use Rattle.bt_script.specs.declared.syntax.Script.{Script}
 use Rattle.bt_script.specs.declared.stop.Stop.{Stop}
 use Rattle.bt_script.specs.declared.stop.Stop.TheVariants as stop
-use Rattle.bt_script_code.specs.declared.codes.Code.{Code}
-use Rattle.bt_script_code.specs.Codes.{program}
 use Rattle.bt_model.specs.declared.fault.NodeFault.{NodeFault}
 use Rattle.bt_model.specs.declared.memory.Memo.{Memo}
 use Rattle.bt_model.specs.declared.memory.Memory.{Memory}
@@ -24,14 +21,16 @@ use Rattle.bt_model.specs.Visit.{cleared, halt_calls, halt_notes, halt_state, ha
 use Rattle.bt_arena.specs.declared.nodes.Kept.{Kept}
 use Rattle.bt_arena.specs.declared.nodes.Node.{Node}
 use Rattle.bt_arena.specs.declared.nodes.ReadyLeaf.{ReadyLeaf}
-use Rattle.bt_arena.specs.Nodes.{IsCompiled, IsNode, LeafStands, at_rest, is_leaf, kept_at, leaf_at, node_at}
+use Rattle.bt_arena.specs.Nodes.{IsNode, LeafStands, at_rest, is_leaf, kept_at, leaf_at, node_at}
 use Rattle.bt_arena.specs.Rosters.{AreServed, instances_of}
 use Rattle.bt_arena.specs.Scenes.{Fits, Scene, marks_of, state_in}
 use Rattle.bt_arena.specs.Stands.{Beside, Stands, memories_of, memory_of, written}
 use Rattle.bt_arena.proofs.Opened.{opened}
-use Rattle.bt_halting.specs.Ends.{IsCut, Meets, StaysFit}
-use Rattle.bt_halting.specs.Halts.{leaf_let_go, rests, site_at}
-use Rattle.bt_halting.proofs.Follows.{done_met, followed, stopped}
+use Rattle.bt_arena.specs.Ends.{IsCut, IsMade, Meets, StaysFit}
+use Rattle.bt_halting.specs.Halts.{leaf_let_go, rests}
+use Rattle.bt_nodes.specs.Here.{site_at}
+use Rattle.bt_nodes.specs.Settles.{Settles}
+use Rattle.bt_arena.proofs.Follows.{done_met, followed, stopped}
 use Rattle.bt_halting.proofs.Memories.{memory_above}
 
 -- ---- The parts of the end
@@ -126,12 +125,13 @@ idle_is t uid kept0 kept1 kept2 beside memo within is =
 
 -- ---- What stays
 
--- a code that stands for a script of a view needs no slot but those of the board
-pub code_reaches : (view : View) (script : Option Script) (code : Option Code) (slots : ℕ) → IsCompiled view script code → slots ≡ length view.slots → IfSome code (λ c. (program c).reach ≤ slots)
-code_reaches view None None slots is same = tt
-code_reaches view None (Some c) slots is same = absurd is
-code_reaches view (Some script) None slots is same = absurd is
-code_reaches view (Some script) (Some c) slots is same = omega (arith, is.reach, same)
+-- what settles is met, with no note and no call
+pub settles_met : (nodes : List Node) (moment : ℕ) (r : Result (Unit {0}) (Stop NodeFault)) (s s1 : Scene) (n : List Note) (d : Done (Unit {0}) (Unit {0})) → s1.drivers ≡ s.drivers → Settles r (state_in nodes s1 moment) d → Meets nodes moment (λ (k : List Kept). tt) r s s1 n n d
+settles_met nodes moment (Ok a) s s1 n d same settles =
+    subst (λ (x : Done (Unit {0}) (Unit {0})). Meets {A = Unit {0}} nodes moment (λ (k : List Kept). tt) (Ok tt) s s1 n n x) (sym settles) (record { answer = refl; memory = refl; state = refl; notes = sym (append-nil n); drivers = same }, refl)
+settles_met nodes moment (Err (stop.Fault f)) s s1 n d same settles =
+    subst (λ (x : Done (Unit {0}) (Unit {0})). IsMade {A = Unit {0}} nodes moment (λ (k : List Kept). tt) (Err f) s s1 n n x) (sym settles) (record { answer = refl; memory = refl; state = refl; notes = sym (append-nil n); drivers = same })
+settles_met nodes moment (Err stop.NoMemory) s s1 n d same settles = nothing_cut nodes s s1 n n d same refl
 
 -- what fitted fits still, where the marks are right and each leaf is served
 pub fits_still : (nodes : List Node) (s0 s1 : Scene) → marks_of s1.kept ≡ map is_held (instances_of nodes s1.drivers) → AreServed s1.drivers nodes → length s1.board ≡ length s0.board → length s1.facts ≡ length s0.facts → StaysFit nodes s0 s1

@@ -15,7 +15,7 @@ use Rattle.bt_arena.specs.Nodes.{kept_at, leaf_at}
 use Rattle.bt_arena.specs.Rosters.{AreServed, instances_of, leaf_instance}
 use Rattle.bt_arena.specs.Scenes.{marks_of, scene, state_in}
 use Rattle.bt_arena.proofs.Called.{instance_at_uid, instances_called, marks_called, roster_after_call, served_after}
-use Rattle.bt_halting.specs.Ends.{Meets}
+use Rattle.bt_arena.specs.Ends.{Meets}
 use Rattle.bt_halting.specs.Halts.{leaf_let_go}
 use Rattle.bt_halting.proofs.Marks.{mark_is}
 

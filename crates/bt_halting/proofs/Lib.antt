@@ -1,8 +1,12 @@
 pub mod Children
 pub mod Ending
-pub mod Follows
+pub mod Halting
+pub mod Leaving
+pub mod Lent
 pub mod Letting
 pub mod Marks
 pub mod Memories
-pub mod Scripted
+pub mod Reaching
+pub mod Sounding
+pub mod Turns
 pub mod Within

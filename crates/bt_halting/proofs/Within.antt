@@ -1,14 +1,15 @@
 -- Where the nodes of a term stand in an arena, and what of them stays as it was.
-use Rattle.std.proofs.Common.{◌≡◌, ◌⊎◌, inl, inr, ℕ, ◌+◌, ◌-◌, ◌<◌, ◌≤◌, ◌^◌, List, [], ◌∷◌, map, length, true, Some, refl, sym, ap, subst, ◌∙◌, arith}
-use Rattle.std.proofs.lemmas.Bool.{cases_lt}
+use Rattle.std.proofs.Common.{◌≡◌, ◌⊎◌, inl, inr, ℕ, ◌+◌, ◌-◌, ◌<◌, ◌≤◌, ◌^◌, List, [], ◌∷◌, map, length, slice_set, true, Some, refl, sym, ap, subst, ◌∙◌, arith}
+use Rattle.std.proofs.lemmas.Bool.{cases_eq, cases_lt}
+use Rattle.std.proofs.lemmas.List.{get_or-set_other, get_or-set_same, length-set}
 use Rattle.std.proofs.lemmas.List.Sums.{sum_by-cons}
-use Rattle.bt_model.specs.declared.status.Status.TheVariants.{Running}
+use Rattle.bt_model.specs.declared.status.Status.TheVariants.{Idle, Running}
 use Rattle.bt_model.specs.declared.term.Term.{Term, Term-F, ind-Term, out-Term, out-roll-Term, roll-Term}
 use Rattle.bt_model.specs.Sites.{Meaning, View, sizes}
 use Rattle.bt_model.specs.Visit.{meaning}
 use Rattle.bt_arena.specs.declared.nodes.Kept.{Kept}
 use Rattle.bt_arena.specs.declared.nodes.Node.{Node}
-use Rattle.bt_arena.specs.Nodes.{kept_at, leaf_at, node_at}
+use Rattle.bt_arena.specs.Nodes.{at_rest, kept_at, leaf_at, node_at}
 use Rattle.bt_arena.specs.Scenes.{Fits, Scene}
 use Rattle.bt_arena.specs.Stands.{Beside, StandAll, Stands, node_stands, view_under, written}
 use Rattle.bt_arena.proofs.Opened.{opened, size_out}
@@ -99,3 +100,26 @@ beside_more uid size child below k0 k1 k2 low high one two = record {
 
 pub beside_none : (uid size : ℕ) (k : List Kept) → Beside uid size k k
 beside_none uid size k = record { below = λ p e. refl; above = λ p e. refl; as_many = refl }
+
+-- a node that has become IDLE, where it was not RUNNING
+module _ (kept after : List Kept) (uid : ℕ) (within : uid < length kept) (is : after ≡ slice_set kept uid (record (kept_at kept uid) { status = Idle })) where
+  abbrev idle_now : Kept
+  idle_now = record (kept_at kept uid) { status = Idle }
+
+  pub beside_idle : (size : ℕ) → 1 ≤ size → Beside uid size kept after
+  beside_idle size some = record {
+    below = λ p e. ap (λ (k : List Kept). kept_at k p) is ∙ get_or-set_other kept uid p idle_now at_rest (λ same. absurd (omega (arith, e, same)));
+    above = λ p e. ap (λ (k : List Kept). kept_at k p) is ∙ get_or-set_other kept uid p idle_now at_rest (λ same. absurd (omega (arith, e, same, some)));
+    as_many = ap length is ∙ length-set kept uid idle_now;
+  }
+
+  pub running_idle : (nodes : List Node) (top : ℕ) → RunningAreHeld nodes kept top → RunningAreHeld nodes after top
+  running_idle nodes top held = λ p leaf from to is_leaf running. elim (cases_eq p uid) [
+    | inl same ↦
+        let now : kept_at after p ≡ idle_now = ap (λ (q : ℕ). kept_at after q) same ∙ ap (λ (k : List Kept). kept_at k uid) is ∙ get_or-set_same kept uid idle_now at_rest within in
+        let idle : Idle ≡ Running = ap (λ (k : Kept). k.status) (sym now) ∙ running in
+        cc
+    | inr other ↦
+        let as_before : kept_at after p ≡ kept_at kept p = ap (λ (k : List Kept). kept_at k p) is ∙ get_or-set_other kept uid p idle_now at_rest other in
+        ap (λ (k : Kept). k.held) as_before ∙ held p leaf from to is_leaf (ap (λ (k : Kept). k.status) (sym as_before) ∙ running)
+  ]

@@ -4,13 +4,12 @@ use Rattle.bt_model.specs.declared.leaf.Phase.TheVariants as phase
 use Rattle.bt_model.specs.declared.memory.Memory.{Memory}
 use Rattle.bt_model.specs.declared.note.Note.TheVariants.{Changed, Halted}
 use Rattle.bt_model.specs.declared.status.Status.TheVariants.{Idle, Running}
-use Rattle.bt_model.specs.declared.term.Term.{Term, out-Term}
-use Rattle.bt_model.specs.declared.term.Term.TheFolds.{map-Term}
+use Rattle.bt_model.specs.declared.term.Term.{Term}
 use Rattle.bt_model.specs.Done.{Done, State, behind, done}
 use Rattle.bt_model.specs.Leaf.{let_go}
 use Rattle.bt_model.specs.Leaves.{instance_at}
-use Rattle.bt_model.specs.Sites.{Meaning, Site, View}
-use Rattle.bt_model.specs.Visit.{meaning, site_of}
+use Rattle.bt_model.specs.Sites.{View}
+use Rattle.bt_model.specs.Visit.{meaning}
 use Rattle.bt_arena.specs.declared.nodes.Kept.{Kept}
 use Rattle.bt_arena.specs.declared.nodes.Node.{Node}
 use Rattle.bt_arena.specs.declared.nodes.ReadyLeaf.{ReadyLeaf}
@@ -20,10 +19,6 @@ use Rattle.bt_arena.specs.Nodes.{kept_at, leaf_at, node_at}
 abbrev pub RunningAreHeld : List Node → List Kept → ℕ → Type 0
 RunningAreHeld nodes kept uid =
     (p : ℕ) (leaf : ReadyLeaf) → uid ≤ p → p < uid + (node_at nodes uid).size → leaf_at nodes p ≡ Some leaf → (kept_at kept p).status ≡ Running → (kept_at kept p).held ≡ true
-
--- a term where it stands
-abbrev pub site_at : View → ℕ → Term → Site
-site_at view uid term = site_of (map-Term Term Meaning meaning (out-Term term)) view uid
 
 -- a leaf's driver is called `halted`, which is noted
 abbrev pub leaf_let_go : Option ReadyLeaf → ℕ → State → Done (Unit {0}) (Unit {0})

@@ -10,14 +10,15 @@ ghost use Rattle.bt_arena.specs.Nodes.{kept_at, leaf_at, node_at};
 ghost use Rattle.bt_arena.specs.Rosters.{AreServed, instances_of};
 ghost use Rattle.bt_arena.specs.Scenes.{Fits, marks_of, scene, state_in};
 ghost use Rattle.bt_arena.specs.Stands.{Beside, memories_of, memory_of};
-ghost use Rattle.bt_halting.specs.Ends.{Meets, StaysFit};
-ghost use Rattle.bt_halting.specs.Halts.{leaf_let_go, rests, site_at};
+ghost use Rattle.bt_arena.specs.Ends.{Meets, StaysFit};
+ghost use Rattle.bt_halting.specs.Halts.{leaf_let_go, rests};
+ghost use Rattle.bt_nodes.specs.Here.{site_at};
 
-use crate::scripts::run_if_there;
 use bt_arena::{Kept, Node, Notes, keep, kept_by, node, set_held};
 use bt_board::Board;
 use bt_driver::Drivers;
 use bt_model::{Memo, NodeFault, Note, Status};
+use bt_nodes::script_if_there;
 use bt_script::{NoMemory, Stop};
 use std::alloc::Global;
 
@@ -55,6 +56,7 @@ fn let_go<D: Drivers>(
     ensures status { (kept_at kept.new uid).status ≡ (kept_at kept.old uid).status }
     ensures memo { (kept_at kept.new uid).memo ≡ (kept_at kept.old uid).memo }
     ensures reserve { notes.new.reserve ≡ notes.old.reserve }
+    ensures full { notes.new.full ≡ notes.old.full }
 {
     match &node(nodes, uid).leaf {
         Some(leaf) => {
@@ -77,6 +79,7 @@ fn come_to_rest(kept: &mut [Kept], uid: u32, notes: &mut Notes) -> Result<(), No
     ensures err { OnErr result (kept.new ≡ kept.old) }
     ensures err_notes { OnErr result (notes.new.list ≡ notes.old.list) }
     ensures reserve { notes.new.reserve ≡ notes.old.reserve }
+    ensures full { notes.new.full ≡ notes.old.full }
 {
     notes.push(Note::Changed {
         uid,
@@ -116,8 +119,9 @@ pub(crate) fn end_halt<D: Drivers>(
     ensures beside { Beside uid 1 kept.old kept.new }
     ensures status { OnOk result ((kept_at kept.new uid).status ≡ Idle) }
     ensures reserve { notes.old.reserve ≤ notes.new.reserve }
+    ensures full { notes.new.full ≡ notes.old.full }
 {
     let_go(nodes, kept, drivers, uid, notes)?;
     come_to_rest(kept, uid, notes)?;
-    run_if_there(alloc, &node(nodes, uid).guards.on_halted, uid, board)
+    script_if_there(alloc, &node(nodes, uid).guards.on_halted, uid, board)
 }

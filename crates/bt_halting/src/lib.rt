@@ -1,9 +1,12 @@
 //! What stops: the halt and the reset of a node with all below it, and the quench of a runner.
 #![tactic(auto)]
 
+mod calls;
 mod endings;
+pub mod laws;
+mod quenching;
 mod resetting;
-mod scripts;
 
+pub use calls::{halt, quench, reset};
+pub use quenching::quench_nodes;
 pub use resetting::{halt_node, reset_children, reset_node};
-pub use scripts::{run_if_there, run_script};

@@ -3,18 +3,20 @@ ghost use Rattle.bt_model.specs.declared.status.Status.TheVariants.{Idle, Runnin
 ghost use Rattle.bt_model.specs.declared.term.Term.{Term, out-Term};
 ghost use Rattle.bt_model.specs.Sites.{View, children_of};
 ghost use Rattle.bt_model.specs.Steps.{resets, spans};
-ghost use Rattle.bt_model.specs.Visit.{change, meaning};
+ghost use Rattle.bt_model.specs.Visit.{change, halt, meaning};
 ghost use Rattle.bt_arena.specs.Nodes.{kept_at, node_at};
 ghost use Rattle.bt_arena.specs.Scenes.{Fits, scene, state_in};
 ghost use Rattle.bt_arena.specs.Stands.{Beside, memories_of, memory_of};
-ghost use Rattle.bt_halting.specs.Ends.{Meets, StaysFit};
-ghost use Rattle.bt_halting.specs.Halts.{RunningAreHeld, reset_if, site_at};
+ghost use Rattle.bt_arena.specs.Ends.{Meets, StaysFit};
+ghost use Rattle.bt_halting.specs.Halts.{RunningAreHeld, reset_if};
+ghost use Rattle.bt_nodes.specs.Here.{site_at};
 
 use crate::endings::end_halt;
 use bt_arena::{Kept, Node, Notes, kept_by, node, set_status};
 use bt_board::Board;
 use bt_driver::Drivers;
-use bt_model::{NodeFault, Note, Span, Status};
+use bt_model::{NodeFault, Span, Status};
+use bt_nodes::note_change;
 use bt_script::{NoMemory, Stop};
 use std::alloc::Global;
 
@@ -39,15 +41,9 @@ fn become_idle(kept: &mut [Kept], uid: u32, notes: &mut Notes) -> Result<(), NoM
     ensures err { OnErr result (kept.new ≡ kept.old) }
     ensures err_notes { OnErr result (notes.new.list ≡ notes.old.list) }
     ensures reserve { notes.new.reserve ≡ notes.old.reserve }
+    ensures full { notes.new.full ≡ notes.old.full }
 {
-    let old = kept_by(kept, uid).status;
-    if old != Status::Idle {
-        notes.push(Note::Changed {
-            uid,
-            old,
-            new: Status::Idle,
-        })?;
-    }
+    note_change(notes, uid, kept_by(kept, uid).status, Status::Idle)?;
     set_status(kept, uid, Status::Idle);
     Ok(())
 }
@@ -73,6 +69,7 @@ pub fn reset_node<D: Drivers>(
     ensures held { OnOk result (RunningAreHeld nodes.now kept.new uid) }
     ensures beside { Beside uid (node_at nodes.now uid).size kept.old kept.new }
     ensures reserve { notes.old.reserve ≤ notes.new.reserve }
+    ensures full { notes.new.full ≡ notes.old.full }
 {
     match kept_by(kept, uid).status {
         Status::Running => halt_node(alloc, nodes, kept, board, drivers, uid, notes),
@@ -99,11 +96,12 @@ pub fn halt_node<D: Drivers>(
     requires held { RunningAreHeld nodes.now kept.old uid }
     ensures meets { (term : Term) (view : View) (facts : List ℤ) (moment : ℕ) → Fits term view uid nodes.now (scene kept.old board.old facts (D.states drivers.old)) →
         Meets nodes.now moment (memory_of term uid) result (scene kept.old board.old facts (D.states drivers.old)) (scene kept.new board.new facts (D.states drivers.new)) notes.old.list notes.new.list
-        ((meaning term).reset view uid (memory_of term uid kept.old) (state_in nodes.now (scene kept.old board.old facts (D.states drivers.old)) moment)) }
+        (halt (site_at view uid term) (memory_of term uid kept.old) (state_in nodes.now (scene kept.old board.old facts (D.states drivers.old)) moment)) }
     ensures fits { (facts : List ℤ) → StaysFit nodes.now (scene kept.old board.old facts (D.states drivers.old)) (scene kept.new board.new facts (D.states drivers.new)) }
     ensures held { OnOk result (RunningAreHeld nodes.now kept.new uid) }
     ensures beside { Beside uid (node_at nodes.now uid).size kept.old kept.new }
     ensures reserve { notes.old.reserve ≤ notes.new.reserve }
+    ensures full { notes.new.full ≡ notes.old.full }
 {
     reset_children(alloc, nodes, kept, board, drivers, uid, Span::All, notes)?;
     end_halt(alloc, nodes, kept, board, drivers, uid, notes)
@@ -130,6 +128,7 @@ pub fn reset_children<D: Drivers>(
     ensures held { OnOk result (RunningAreHeld nodes.now kept.new uid) }
     ensures beside { Beside (uid + 1) ((node_at nodes.now uid).size - 1) kept.old kept.new }
     ensures reserve { notes.old.reserve ≤ notes.new.reserve }
+    ensures full { notes.new.full ≡ notes.old.full }
 {
     let mut child = uid + 1;
     for place in 0..node(nodes, uid).children {
@@ -169,6 +168,7 @@ fn reset_wanted<D: Drivers>(
     ensures held { OnOk result (RunningAreHeld nodes.now kept.new uid) }
     ensures beside { Beside uid (node_at nodes.now uid).size kept.old kept.new }
     ensures reserve { notes.old.reserve ≤ notes.new.reserve }
+    ensures full { notes.new.full ≡ notes.old.full }
 {
     if wanted {
         reset_node(alloc, nodes, kept, board, drivers, uid, notes)

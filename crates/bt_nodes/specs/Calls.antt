@@ -1,5 +1,5 @@
 -- What a call of a leaf's driver needs, and what its outputs write.
-use Rattle.std.specs.Prelude.{◌≡◌, ◌≤◌, ◌<◌, ℕ, ℤ, List, [], ◌∷◌, length, map, slice_set, Bool, Option, Some, None, Result, Ok, Err}
+use Rattle.std.specs.Prelude.{◌≡◌, ◌≤◌, ℕ, ℤ, List, ◌∷◌, length, map, slice_set, Bool, true, false, Option, Some, None, Result, Ok, Err}
 use Rattle.std.specs.List.{All}
 use Rattle.bt_script.specs.declared.cells.Seen.{Seen}
 use Rattle.bt_script.specs.declared.stop.Stop.{Stop}
@@ -7,13 +7,17 @@ use Rattle.bt_script.specs.declared.value.Value.{Value}
 use Rattle.bt_script.specs.declared.value.Value.TheVariants.{Int}
 use Rattle.bt_model.specs.declared.fault.NodeFault.{NodeFault}
 use Rattle.bt_model.specs.declared.leaf.Instance.{Instance}
+use Rattle.bt_model.specs.declared.leaf.Reply.{Reply}
+use Rattle.bt_model.specs.declared.leaf.Reply.TheVariants.{Running, Success, Broken}
 use Rattle.bt_model.specs.declared.memory.Memo.TheVariants.{Nothing}
 use Rattle.bt_model.specs.declared.status.Answer.{Answer}
 use Rattle.bt_model.specs.declared.status.Status.{Status}
-use Rattle.bt_model.specs.declared.status.Status.TheVariants.{Running}
-use Rattle.bt_model.specs.Drivers.{DriverState, IsHeldBy, instance_at}
-use Rattle.bt_model.specs.Leaves.{sight}
+use Rattle.bt_model.specs.declared.status.Status.TheVariants as status
+use Rattle.bt_model.specs.Drivers.{DriverState, IsHeldBy, instance_at, roster_answer}
+use Rattle.bt_model.specs.Leaf.{Answered, padded}
+use Rattle.bt_model.specs.Leaves.{phase_of, sight}
 use Rattle.bt_model.specs.Steps.{Given}
+use Rattle.bt_driver.specs.Rules.{rule}
 use Rattle.bt_arena.specs.declared.nodes.ReadyLeaf.{ReadyLeaf}
 use Rattle.bt_arena.specs.declared.source.Source.{Source}
 use Rattle.bt_arena.specs.declared.source.Source.TheVariants.{Slot}
@@ -40,8 +44,8 @@ outputs_written _ _ board = board
 
 -- a driver is called to begin at an instance that is not held, and to go on at one that is held since some moment before
 abbrev pub IsInPhase : Status → Instance → ℕ → Type 0
-IsInPhase Running instance now = IsHeldBy instance now
-IsInPhase status instance now = instance.since ≡ None
+IsInPhase status.Running instance now = IsHeldBy instance now
+IsInPhase _ instance now = instance.since ≡ None
 
 -- a leaf can be called over a board of so many slots and so many facts
 pub record CanBeCalled (slots facts : ℕ) (drivers : List DriverState) (status : Status) (now : ℕ) (leaf : ReadyLeaf) : Type 0 where
@@ -51,6 +55,22 @@ pub record CanBeCalled (slots facts : ℕ) (drivers : List DriverState) (status 
   pub table : facts ≡ leaf.row.facts
   pub served : IsServed drivers leaf
   pub phase : IsInPhase status (instance_at drivers leaf.driver leaf.instance) now
+
+-- what a call of a leaf of this status leaves
+abbrev pub leaf_answer : ReadyLeaf → Status → List (Option Value) → List ℤ → List DriverState → ℕ → Answered
+leaf_answer leaf status board facts drivers now =
+    roster_answer drivers leaf.driver leaf.instance (rule leaf.row) (phase_of status) (padded (seen_inputs board leaf.inputs)) facts now
+
+-- the board after a reply with these outputs
+abbrev pub board_left : Reply → List Source → List ℤ → List (Option Value) → List (Option Value)
+board_left Success sources outputs board = outputs_written sources outputs board
+board_left _ sources outputs board = board
+
+-- the mark of a leaf after a reply: it is held while it runs, and a fault changes nothing
+abbrev pub mark_left : Reply → Bool → Bool
+mark_left Running mark = true
+mark_left (Broken cause) mark = mark
+mark_left _ mark = false
 
 -- the answer of a node that keeps nothing
 abbrev pub as_given : Result Answer (Stop NodeFault) → Result Given (Stop NodeFault)

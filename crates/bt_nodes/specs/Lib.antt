@@ -1,4 +1,5 @@
 pub mod Calls
 pub mod Given
+pub mod Here
 pub mod Needs
 pub mod Settles

@@ -11,12 +11,16 @@ use Rattle.bt_model.specs.Done.{Done, State, done, ends}
 abbrev pub on_board : List (Option Value) → State → State
 on_board board s = record s { board = board }
 
--- The answer and the fault are those of the definition, and so is the state that is left, with no note and no call. Want
--- of memory may come anywhere.
+-- The answer and the fault are those of the definition, and so is the state that is left, with this memory and with no
+-- note and no call. Want of memory may come anywhere.
+abbrev pub SettlesWith : {A M : Type 0} → M → Result A (Stop NodeFault) → State → Done A M → Type 0
+SettlesWith memory (Ok a) s d = d ≡ done a memory s
+SettlesWith memory (Err (stop.Fault f)) s d = d ≡ ends (Err f) memory s
+SettlesWith memory (Err stop.NoMemory) s d = Unit {0}
+
+-- the same of a part that leaves no memory
 abbrev pub Settles : {A : Type 0} → Result A (Stop NodeFault) → State → Done A (Unit {0}) → Type 0
-Settles (Ok a) s d = d ≡ done a tt s
-Settles (Err (stop.Fault f)) s d = d ≡ ends (Err f) tt s
-Settles (Err stop.NoMemory) s d = Unit {0}
+Settles r s d = SettlesWith tt r s d
 
 -- A guard was tried: its answer is all where it answers, and else what comes after it goes on from the state that is left.
 abbrev pub Tries : Result Bool (Stop NodeFault) → Answer → (State → Done (Option Answer) (Unit {0})) → State → Done (Option Answer) (Unit {0}) → Type 0

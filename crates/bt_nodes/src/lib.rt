@@ -2,9 +2,13 @@
 //! ports, the call of its driver, and the end of its visit.
 #![tactic(auto)]
 
+mod ending;
 mod leaves;
 mod ports;
 mod scripts;
 mod sources;
 
+pub use ending::{end_visit, note_change};
+pub use leaves::leaf_call;
+pub use ports::{new_memo, picked};
 pub use scripts::{goes_on, guards_answer, posts, run_script, script_holds, script_if_there};

@@ -1,15 +1,14 @@
-use Rattle.std.proofs.Common.{◌≡◌, ◌<◌, ℕ, List, length, Option, Err, refl, sym, ap, subst, ◌∙◌, arith}
+use Rattle.std.proofs.Common.{◌≡◌, ◌<◌, ℕ, List, length, refl, sym, ap, subst, ◌∙◌, arith}
 use Rattle.bt_script.specs.declared.stop.Stop.TheVariants as stop
-use Rattle.bt_script_code.specs.declared.codes.Code.{Code}
 use Rattle.bt_model.specs.Sites.{Site}
-use Rattle.bt_arena.specs.declared.nodes.Node.{Node}
-use Rattle.bt_arena.specs.Nodes.{IsCompiled}
 use Rattle.bt_arena.proofs.Called.{marks_same}
 use Rattle.bt_arena.proofs.Opened.{opened}
-use Rattle.bt_halting.specs.Halts.{site_at}
-use Rattle.bt_halting.proofs.Ending.{code_reaches, end_met, fits_still, idle_is, node_of, not_rested, nothing_cut}
+use Rattle.bt_arena.specs.Scenes.{scene, state_in}
+use Rattle.bt_nodes.specs.Here.{site_at}
+use Rattle.bt_nodes.proofs.Following.{stops_with}
+use Rattle.bt_nodes.proofs.Needed.{script_needs}
+use Rattle.bt_halting.proofs.Ending.{end_met, fits_still, idle_is, node_of, not_rested, nothing_cut, settles_met}
 use Rattle.bt_halting.proofs.Marks.{as_many_marks}
-use Rattle.bt_halting.proofs.Scripted.{stops_with}
 use Rattle.bt_halting.proofs.endings.end_halt.Goals as goal
 
 pub returns-in_err-let_go-clause-meets : goal.returns-in_err-let_go-clause-meets
@@ -22,22 +21,23 @@ returns-in_err-come_to_rest-clause-meets g c = λ term view facts moment fits.
     rw (stops_with c.from_residual-in_err-come_to_rest.result stop.NoMemory c.from_residual-in_err-come_to_rest.ensures.1)
     (not_rested c.args.nodes.now moment term view c.args.uid fits.stands _ _ _ _ _ (c.in_ok-let_go.ensures.ok moment c.args.board.now facts) _ _ refl c.in_err-come_to_rest.ensures.err_notes)
 
-pub run_if_there-requires : goal.run_if_there-requires
-run_if_there-requires g c =
+pub script_if_there-requires : goal.script_if_there-requires
+script_if_there-requires g c =
     let f = c.requires.fits in
     rw c.node.ensures
-    (code_reaches f.1 _ _ _ (node_of f.0 c.args.nodes.now f.1 c.args.uid f.3.stands).guards.on_halted f.3.slots)
+    (script_needs _ f.1 (sym f.3.slots) _ _ (node_of f.0 c.args.nodes.now f.1 c.args.uid f.3.stands).guards.on_halted)
 
 pub returns-clause-meets : goal.returns-clause-meets
 returns-clause-meets g c = λ term view facts moment fits.
     let at : Site = site_at view c.args.uid term in
     let compiled = rw (← c.node.ensures) at (node_of term c.args.nodes.now view c.args.uid fits.stands).guards.on_halted in
     let within : c.args.uid < length c.let_go.new.kept = omega (arith, c.let_go.ensures.beside.as_many, as_many_marks c.args.nodes.now c.args.kept.now _ fits.marks, (opened term c.args.nodes.now view c.args.uid fits.stands).0) in
-    end_met c.args.nodes.now moment term view c.args.uid fits.stands _ _ _ _ _ (c.in_ok-let_go.ensures.ok moment c.args.board.now facts) _ _ refl refl refl c.in_ok-come_to_rest.ensures.notes _ _ _
+    let s2 = scene c.come_to_rest.new.kept c.args.board.now facts (g.D.Drivers.states c.let_go.new.drivers) in
+    end_met c.args.nodes.now moment term view c.args.uid fits.stands _ _ _ _ _ (c.in_ok-let_go.ensures.ok moment c.args.board.now facts) s2 _ refl refl refl c.in_ok-come_to_rest.ensures.notes _ _ _
     (idle_is term c.args.uid c.args.kept.now c.let_go.new.kept c.come_to_rest.new.kept c.let_go.ensures.beside c.let_go.ensures.memo within c.in_ok-come_to_rest.ensures.kept)
-    (c.run_if_there.ensures.meets c.args.nodes.now moment c.come_to_rest.new.kept facts _ c.come_to_rest.new.notes.list at at.node.guards.on_halted refl compiled)
+    (settles_met c.args.nodes.now moment _ s2 _ _ _ refl (c.script_if_there.ensures.settles at.node view at.node.guards.on_halted (state_in c.args.nodes.now s2 moment) compiled))
 
 pub returns-clause-fits : goal.returns-clause-fits
 returns-clause-fits g c = λ facts.
     fits_still c.args.nodes.now _ _
-    (rw c.in_ok-come_to_rest.ensures.kept (marks_same c.let_go.new.kept c.args.uid _ refl ∙ c.let_go.ensures.marks)) c.let_go.ensures.leaves c.run_if_there.ensures.slots refl
+    (rw c.in_ok-come_to_rest.ensures.kept (marks_same c.let_go.new.kept c.args.uid _ refl ∙ c.let_go.ensures.marks)) c.let_go.ensures.leaves c.script_if_there.ensures.slots refl

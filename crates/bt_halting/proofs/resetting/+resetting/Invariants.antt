@@ -4,7 +4,7 @@ use Rattle.bt_model.specs.Sites.{View}
 use Rattle.bt_arena.specs.Nodes.{node_at}
 use Rattle.bt_arena.specs.Scenes.{Fits, scene}
 use Rattle.bt_arena.specs.Stands.{Beside, view_under, written}
-use Rattle.bt_halting.specs.Ends.{StaysFit}
+use Rattle.bt_arena.specs.Ends.{StaysFit}
 use Rattle.bt_halting.specs.Halts.{RunningAreHeld}
 use Rattle.bt_halting.proofs.Children.{StillResets}
 use Rattle.bt_halting.proofs.resetting.+resetting.Given as goal
@@ -28,6 +28,7 @@ invariant-reset_children-loop-place g l = record {
   held : RunningAreHeld l.nodes l.kept l.uid;
   beside : Beside (l.uid + 1) ((node_at l.nodes l.uid).size - 1) l.fn.kept l.kept;
   reserve : l.fn.notes.reserve ≤ l.notes.reserve;
+  full : l.notes.full ≡ l.fn.notes.full;
   still : (term : Term) (view : View) (facts : List ℤ) (moment : ℕ) → Fits term view l.uid l.nodes (scene l.fn.kept l.fn.board facts (g.D.Drivers.states l.fn.drivers)) →
       StillResets l.nodes moment l.span (view_under view l.uid (written (out-Term term))) (out-Term term).children (l.uid + 1) (scene l.fn.kept l.fn.board facts (g.D.Drivers.states l.fn.drivers)) l.fn.notes.list l.place l.child (scene l.kept l.board facts (g.D.Drivers.states l.drivers)) l.notes.list;
 }

@@ -1,5 +1,4 @@
-use Rattle.std.proofs.Common.{ap, arith, ◌∙◌, get_or}
-use Rattle.std.specs.Prelude.{slice_set}
+use Rattle.std.proofs.Common.{arith}
 use Rattle.bt_model.specs.Leaves.{sight}
 use Rattle.bt_arena.specs.Sources.{source_value}
 use Rattle.bt_script.specs.declared.cells.Seen.TheVariants.{Absent}

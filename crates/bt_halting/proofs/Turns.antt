@@ -1,0 +1,62 @@
+-- One turn of the loop over the children of a node.
+use Rattle.std.proofs.Common.{◌≡◌, ℕ, ◌+◌, ◌<◌, ◌≤◌, List, length, Bool, sym, ap, subst, ◌∙◌, arith, Result, Ok, Err}
+use Rattle.bt_script.specs.declared.stop.Stop.{Stop}
+use Rattle.bt_model.specs.declared.fault.NodeFault.{NodeFault}
+use Rattle.bt_model.specs.declared.moves.Span.{Span}
+use Rattle.bt_model.specs.declared.note.Note.{Note}
+use Rattle.bt_model.specs.declared.term.Term.{Term, out-Term}
+use Rattle.bt_model.specs.Sites.{View}
+use Rattle.bt_model.specs.Steps.{spans}
+use Rattle.bt_model.specs.Visit.{meaning}
+use Rattle.bt_arena.specs.declared.nodes.Node.{Node}
+use Rattle.bt_arena.specs.Nodes.{node_at}
+use Rattle.bt_arena.specs.Scenes.{Fits, Scene, state_in}
+use Rattle.bt_arena.specs.Stands.{Beside, memories_of, memory_of, view_under, written}
+use Rattle.bt_arena.specs.Ends.{Meets}
+use Rattle.bt_halting.specs.Halts.{reset_if}
+use Rattle.bt_halting.proofs.Children.{NextChild, StillResets, all_reset, all_resets, child_reset, child_stopped, next_child}
+use Rattle.bt_halting.proofs.Within.{child_fits, child_lies, children_is, size_of_term}
+
+-- the child whose turn it is, where it stands
+pub record Turn (t : Term) (view : View) (uid : ℕ) (nodes : List Node) (s : Scene) (place child : ℕ) (rest : List Term) : Type 0 where
+  pub next : NextChild (out-Term t).children rest (uid + 1) place child
+  pub fits : Fits next.child (view_under view uid (written (out-Term t))) child nodes s
+  pub low : uid + 1 ≤ child
+  pub high : child + (node_at nodes child).size ≤ uid + (node_at nodes uid).size
+  pub size : (node_at nodes child).size ≡ (meaning next.child).size
+
+module _ (nodes : List Node) (moment : ℕ) (which : Span) (t : Term) (view : View) (uid : ℕ) (before : Scene) (old : List Note) (place child : ℕ) (s : Scene) (n : List Note) (fits : Fits t view uid nodes s) (k : StillResets nodes moment which (view_under view uid (written (out-Term t))) (out-Term t).children (uid + 1) before old place child s n) where
+  abbrev below : View
+  below = view_under view uid (written (out-Term t))
+
+  abbrev ts : List Term
+  ts = (out-Term t).children
+
+  pub turn : place < (node_at nodes uid).children → Turn t view uid nodes s place child k.rest
+  turn more =
+      let next : NextChild ts k.rest (uid + 1) place child = next_child nodes moment which below ts (uid + 1) before old place child s n k (omega (arith, more, children_is t view uid nodes s fits)) in
+      let fit : Fits next.child below child nodes s = child_fits t view uid nodes s fits place next.child child next.is_child in
+      let lies = child_lies t view uid nodes s fits place next.child child next.is_child in
+      let size : (node_at nodes child).size ≡ (meaning next.child).size = size_of_term next.child below child nodes s fit in
+      record { next = next; fits = fit; low = lies.0; high = omega (arith, lies.1, size); size = size }
+
+  -- no child is left
+  pub no_turn : (node_at nodes uid).children ≤ place → Meets nodes moment (memories_of ts (uid + 1)) (Ok tt) before s old n (all_resets nodes moment which below ts (uid + 1) before)
+  no_turn over = all_reset nodes moment which below ts (uid + 1) before old place child s n k (omega (arith, over, children_is t view uid nodes s fits))
+
+  module _ (w : Turn t view uid nodes s place child k.rest) (wanted : Bool) (is_wanted : wanted ≡ spans which place) (s1 : Scene) (n1 : List Note) (beside : Beside child (node_at nodes child).size s.kept s1.kept) where
+    beside_child : Beside child (meaning w.next.child).size s.kept s1.kept
+    beside_child = subst (λ (size : ℕ). Beside child size s.kept s1.kept) w.size beside
+
+    abbrev pub Of : Result (Unit {0}) (Stop NodeFault) → Bool → Type 0
+    Of r b = Meets nodes moment (memory_of w.next.child child) r s s1 n n1 (reset_if b w.next.child below child (memory_of w.next.child child s.kept) (state_in nodes s moment))
+
+    -- the child's turn is over
+    pub turned : Of (Ok tt) wanted → (size : ℕ) → size ≡ (node_at nodes child).size → StillResets nodes moment which below ts (uid + 1) before old (place + 1) (child + size) s1 n1
+    turned m size same =
+        subst (λ (by : ℕ). StillResets nodes moment which below ts (uid + 1) before old (place + 1) (child + by) s1 n1) (sym (same ∙ w.size))
+        (child_reset nodes moment which below ts (uid + 1) before old place child s n k w.next s1 n1 beside_child (subst (Of (Ok tt)) is_wanted m))
+
+    -- or it stopped
+    pub not_turned : (e : Stop NodeFault) → Of (Err e) wanted → Meets {A = Unit {0}} nodes moment (memories_of ts (uid + 1)) (Err e) before s1 old n1 (all_resets nodes moment which below ts (uid + 1) before)
+    not_turned e m = child_stopped nodes moment which below ts (uid + 1) before old place child s n k w.next s1 n1 beside_child e (subst (Of (Err e)) is_wanted m)

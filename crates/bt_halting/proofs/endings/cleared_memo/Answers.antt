@@ -1,1 +1,0 @@
-use Rattle.bt_halting.proofs.Within.{stands_within}

@@ -1,0 +1,20 @@
+-- The quench of one leaf, and of a runner.
+use Rattle.std.specs.Prelude.{ℕ, List, [], ◌∷◌, is_some, if◌then◌else◌}
+use Rattle.bt_model.specs.declared.leaf.Instance.{Instance}
+use Rattle.bt_model.specs.declared.leaf.Phase.TheVariants as phase
+use Rattle.bt_model.specs.declared.term.Tree.{Tree}
+use Rattle.bt_model.specs.Done.{Call}
+use Rattle.bt_model.specs.Leaf.{let_go}
+use Rattle.bt_model.specs.Run.{Runner}
+use Rattle.bt_arena.specs.declared.nodes.Node.{Node}
+use Rattle.bt_arena.specs.Rosters.{instances_of}
+use Rattle.bt_arena.specs.Scenes.{Scene}
+use Rattle.bt_arena.specs.Stands.{memory_of}
+
+-- the call that lets go of an instance that is held
+abbrev pub letting_one : ℕ → Instance → List Call
+letting_one uid i = if is_some i.since then record { uid = uid; phase = phase.Halted; left = let_go i } ∷ [] else []
+
+-- the runner of a tree whose arena this is
+abbrev pub runner_in : Tree → List Node → Scene → Runner
+runner_in tree nodes s = record { memory = memory_of tree.term 1 s.kept; board = s.board; instances = instances_of nodes s.drivers }

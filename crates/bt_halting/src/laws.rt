@@ -1,0 +1,19 @@
+ghost use Rattle.std.specs.Prelude.{◌+◌, ◌<◌, ◌≤◌, ℕ, List, None};
+ghost use Rattle.bt_model.specs.declared.term.Term.{Term};
+ghost use Rattle.bt_model.specs.declared.world.Row.{Row};
+ghost use Rattle.bt_model.specs.Sites.{View};
+ghost use Rattle.bt_model.specs.Sound.{Sound};
+ghost use Rattle.bt_arena.specs.declared.nodes.Node.{Node};
+ghost use Rattle.bt_arena.specs.Nodes.{node_at};
+ghost use Rattle.bt_arena.specs.Scenes.{Fits, Scene, state_in};
+ghost use Rattle.bt_arena.specs.Stands.{memory_of};
+ghost use Rattle.bt_halting.specs.Halts.{RunningAreHeld};
+
+/// What `halt` and `reset` ask is there: each uid of an arena has a term that fits there, and where the
+/// rules of states hold of a node and all below it, each RUNNING leaf among them has its mark.
+pub fn nodes_can_be_halted()
+    ensures fits { (term : Term) (view : View) (uid : ℕ) (nodes : List Node) (s : Scene) → Fits term view uid nodes s →
+        (p : ℕ) → uid ≤ p → p < uid + (node_at nodes uid).size → (c : Term) × (below : View) × Fits c below p nodes s }
+    ensures held { (term : Term) (view : View) (uid : ℕ) (nodes : List Node) (s : Scene) (moment : ℕ) (rows : List Row) → Fits term view uid nodes s →
+        Sound term rows None uid (memory_of term uid s.kept) (state_in nodes s moment) → RunningAreHeld nodes s.kept uid }
+{}
