@@ -30,7 +30,7 @@ module _ {X : Type 0} (term : X → Term) where
       × IsNode view (record (written node) { children = sym (length-map node.children term) i }) (1 + sizes (map_twice term meaning node.children i)) (node_at nodes uid)
       × stand_as_terms stands node.children nodes (view_under view uid (written node)) (uid + 1) i
 
-stands_roll : (x : Term-F Term) → Stands (roll-Term x) ≡ node_stands Term (λ t. t) Stands x
+pub stands_roll : (x : Term-F Term) → Stands (roll-Term x) ≡ node_stands Term (λ t. t) Stands x
 stands_roll x = rec-roll-Term Standing node_stands (λ Y v k x. node_stands_as_terms v k x) x
 
 -- A term that stands: its node is there, and its children stand behind it.

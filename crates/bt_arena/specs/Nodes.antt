@@ -17,7 +17,7 @@ use Rattle.bt_model.specs.BuiltIns.{PortRule, ports_of}
 use Rattle.bt_model.specs.Leaf.{rule_of}
 use Rattle.bt_model.specs.Leaves.{row_of}
 use Rattle.bt_model.specs.Sites.{View}
-use Rattle.bt_model.specs.Trees.{Node as TreeNode}
+use Rattle.bt_model.specs.Trees.{Node as TreeNode, NodeFits}
 use Rattle.bt_driver.specs.Rules.{rule}
 use Rattle.bt_arena.specs.declared.nodes.Kept.{Kept}
 use Rattle.bt_arena.specs.declared.nodes.Node.{Node}
@@ -106,7 +106,11 @@ LeafStands view node (Some leaf) = (node.kind ≡ Leaf) × MatchOption (row_of v
 
 -- ---- Nodes
 
--- a node of an arena is this node of a term, which is of this size with all below it, in a view
+-- a node fits its kind, as each of a valid tree does
+unfoldable pub IsFit : TreeNode → Type 0
+IsFit written = NodeFits written
+
+-- a node of an arena is this node of a term, which is of this size with all below it, in a view, and fits its kind
 pub record IsNode (view : View) (written : TreeNode) (whole : ℕ) (node : Node) : Type 0 where
   pub kind : node.kind ≡ written.kind
   pub size : node.size ≡ whole
@@ -116,3 +120,4 @@ pub record IsNode (view : View) (written : TreeNode) (whole : ℕ) (node : Node)
   pub ports : node.ports ≡ map (λ (port : PortRule). source_at view written.ports port.name) (ports_of written.kind)
   pub slots : All (IsSourceOf (length view.slots)) node.ports
   pub leaf : LeafStands view written node.leaf
+  pub fit : IsFit written

@@ -28,11 +28,11 @@ state_in nodes s moment = record { board = s.board; facts = s.facts; instances =
 abbrev pub marks_of : List Kept → List Bool
 marks_of kept = map (λ (k : Kept). k.held) kept
 
--- A node and all below it stand in an arena of less than 2^32 nodes; the marks say which instances the drivers hold;
+-- A node and all below it stand in an arena of less than 2^30 nodes; the marks say which instances the drivers hold;
 -- each leaf is served; and there are as many slots and facts as the view has.
 pub record Fits (term : Term) (view : View) (uid : ℕ) (nodes : List Node) (s : Scene) : Type 0 where
   pub stands : Stands term nodes view uid
-  pub few : length nodes < 2 ^ 32
+  pub few : length nodes < 2 ^ 30
   pub marks : marks_of s.kept ≡ map is_held (instances_of nodes s.drivers)
   pub leaves : AreServed s.drivers nodes
   pub slots : length s.board ≡ length view.slots

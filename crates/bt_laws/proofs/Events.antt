@@ -22,7 +22,7 @@ use Rattle.bt_model.specs.Sound.{Leaves, Left, RunSteady, Sound, Steady}
 use Rattle.bt_model.specs.Visit.{meaning, status_of}
 use Rattle.bt_laws.proofs.Parts.{follow_leaves, left_into, within_same}
 use Rattle.bt_laws.proofs.Children.{status_in, status_kept}
-use Rattle.bt_laws.proofs.Runners.{mapped_entry, set_entry}
+use Rattle.bt_laws.proofs.Entries.{mapped_entry, set_entry}
 use Rattle.bt_laws.proofs.Keeping.{term_keeps}
 use Rattle.bt_laws.proofs.Quenches.{quench_steady}
 
@@ -102,7 +102,7 @@ module _ (tree : Tree) (rows : List Row) (run : RunState) (steady : RunSteady tr
   runner_later : (k : ℕ) (r : Runner) (facts : List ℤ) → slice_get run.runners k ≡ Some r → Steady t rows r.memory (state_of r facts at)
   runner_later k r facts is = steady_moves t rows r.memory (state_of r run.facts run.last) (state_of r facts at) refl ahead (steady k r is)
 
-  later_steady : (facts : List ℤ) → RunSteady t rows (record { runners = run.runners; facts = facts; last = at })
+  pub later_steady : (facts : List ℤ) → RunSteady t rows (record { runners = run.runners; facts = facts; last = at })
   later_steady facts k r is = runner_later k r facts is
 
   module _ {A : Type 0} (header : Header) (runner : ℕ) (acting : Runner) (is_acting : runner_at run runner ≡ Some acting) (d : Done A Memory) where
@@ -118,8 +118,8 @@ module _ (tree : Tree) (rows : List Row) (run : RunState) (steady : RunSteady tr
     told_steady (Ok a) left =
         let before : Steady t rows acting.memory (state_of acting run.facts at) = runner_later (runner - 1) acting run.facts is_acting in
         let here : Steady t rows acted.memory (state_of acted d.state.facts at) =
-            steady_moves t rows d.memory d.state (state_of acted d.state.facts at) refl (omega (arith, left.within.moment))
-            (record { sound = left.sound; root = left.ends; room = omega (arith, left.within.instances, before.room); dated = left.within.dated before.dated })
+        steady_moves t rows d.memory d.state (state_of acted d.state.facts at) refl (omega (arith, left.within.moment))
+        (record { sound = left.sound; root = left.ends; room = omega (arith, left.within.instances, before.room); dated = left.within.dated before.dated })
         in
         λ k r is. set_entry (λ (x : Runner). Steady t rows x.memory (state_of x d.state.facts at)) run.runners (runner - 1) k acted r here (λ x old. runner_later k x d.state.facts old) is
     told_steady (Err f) left =

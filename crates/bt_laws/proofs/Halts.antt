@@ -91,14 +91,14 @@ module _ (F : Family) (node : Term-F F.Child) (view : View) (uid : ℕ) where
       let d : Done (Unit {0}) (Unit {0}) = script_if_there here node.guards.on_halted freed in
       let w0 : Within uid 1 s freed = halt_within node.kind uid s in
       let left : Leaves Holds (λ _ m1 s1. IsHalted m1) uid size freed (follow d (λ _. m) (λ _ _ s1. done tt m s1)) =
-          follow_leaves {rules = λ _ _ s1. s1.instances ≡ freed.instances} {fits = λ _ _ s1. Unit {0}} {rules2 = Holds} {fits2 = λ _ m1 s1. IsHalted m1}
-          d (λ _. m) (λ _ _ s1. done tt m s1) uid size uid 1 freed (omega arith) (omega arith) (script_if_there_leaves here node.guards.on_halted freed)
-          (λ _ _ same w. record {
-            sound = rests_idle memo ms d.state shape (ap (λ x. option_map (λ (i : Instance). is_some i.since) (slice_get x uid)) same ∙ halt_frees node.kind uid s held) (beside None ms s d.state all (within_both w0 w (omega arith) (omega arith) (omega arith) (omega arith)));
-            within = within_same uid size d.state;
-            ends = is_halted memo ms idle;
-          })
-          (λ f low high same w. on_path F node view uid f status.Idle memo ms d.state low (omega (arith, high)) (beside (Some f) ms s d.state all (within_both w0 w (omega arith) (omega arith) (omega arith) (omega arith))))
+      follow_leaves {rules = λ _ _ s1. s1.instances ≡ freed.instances} {fits = λ _ _ s1. Unit {0}} {rules2 = Holds} {fits2 = λ _ m1 s1. IsHalted m1}
+      d (λ _. m) (λ _ _ s1. done tt m s1) uid size uid 1 freed (omega arith) (omega arith) (script_if_there_leaves here node.guards.on_halted freed)
+      (λ _ _ same w. record {
+        sound = rests_idle memo ms d.state shape (ap (λ x. option_map (λ (i : Instance). is_some i.since) (slice_get x uid)) same ∙ halt_frees node.kind uid s held) (beside None ms s d.state all (within_both w0 w (omega arith) (omega arith) (omega arith) (omega arith)));
+        within = within_same uid size d.state;
+        ends = is_halted memo ms idle;
+      })
+      (λ f low high same w. on_path F node view uid f status.Idle memo ms d.state low (omega (arith, high)) (beside (Some f) ms s d.state all (within_both w0 w (omega arith) (omega arith) (omega arith) (omega arith))))
       in
       record { sound = left.sound; within = within_both w0 left.within (omega arith) (omega arith) (omega arith) (omega arith); ends = left.ends }
 

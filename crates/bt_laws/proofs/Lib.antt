@@ -20,7 +20,7 @@ pub mod Induction
 pub mod Keeping
 pub mod Scripts
 pub mod Quenches
-pub mod Runners
+pub mod Entries
 pub mod Events
 pub mod Runs
 pub mod Spending
@@ -34,3 +34,4 @@ pub mod Working
 pub mod KindWork
 pub mod VisitWork
 pub mod TermWork
+pub mod Quiet

@@ -74,9 +74,10 @@ module _ {X : Type 0} (term : X → Term) (rest : (c : X) → RestsSound (term c
   all_rest_sound : (rows : List Row) (cs : List X) (uid : ℕ) (s : State) → NoneHeld uid (sizes (map (λ c. meaning (term c)) cs)) s → SoundAll F rows cs None uid (map (λ c. idle (term c)) cs) s
   all_rest_sound rows [] uid s free = tt
   all_rest_sound rows (c ∷ cs) uid s free =
-      let cons : sizes (map (λ d. meaning (term d)) (c ∷ cs)) ≡ (meaning (term c)).size + sizes (map (λ d. meaning (term d)) cs) = sum_by-cons (λ (k : Meaning). k.size) (meaning (term c)) (map (λ d. meaning (term d)) cs) in
-      ((rest c).sound rows uid s (λ p a b. free p a (omega (arith, b, cons))),
-      all_rest_sound rows cs (uid + (meaning (term c)).size) s (λ p a b. free p (omega (arith, a)) (omega (arith, b, cons))))
+      let cons : sizes (map (λ d. meaning (term d)) (c ∷ cs)) ≡ (meaning (term c)).size + sizes (map (λ d. meaning (term d)) cs) = sum_by-cons (λ (k : Meaning). k.size) (meaning (term c)) (map (λ d. meaning (term d)) cs) in (
+        (rest c).sound rows uid s (λ p a b. free p a (omega (arith, b, cons))),
+        all_rest_sound rows cs (uid + (meaning (term c)).size) s (λ p a b. free p (omega (arith, a)) (omega (arith, b, cons))),
+      )
 
   node_rests : (node : Term-F X) → RestsSound (above term node) (node_means term node) (states_of_node X term (λ c. Sound (term c)) node)
   node_rests node =
@@ -84,9 +85,10 @@ module _ {X : Type 0} (term : X → Term) (rest : (c : X) → RestsSound (term c
       record {
         rests = ap status_in (idle_of_terms term node) ∙ status_kept Idle Nothing ms;
         sound = λ rows uid s free. subst (λ (m : Memory). Own F node (only_rows rows) uid None m s) (sym (idle_of_terms term node))
-            (as_kept F node (only_rows rows) uid None Idle Nothing ms s
-            (record { shape = λ k from. all_rest node.children k; held = free uid (omega arith) (omega arith) },
-            all_rest_sound rows node.children (uid + 1) s (λ p a b. free p (omega (arith, a)) (omega (arith, b)))));
+            (as_kept F node (only_rows rows) uid None Idle Nothing ms s (
+              record { shape = λ k from. all_rest node.children k; held = free uid (omega arith) (omega arith) },
+              all_rest_sound rows node.children (uid + 1) s (λ p a b. free p (omega (arith, a)) (omega (arith, b))),
+            ));
       }
 
 term_rests : (t : Term) → RestsSound t (meaning t) (Sound t)

@@ -17,7 +17,7 @@ use Rattle.bt_model.specs.Leaf.{fresh}
 use Rattle.bt_model.specs.Run.{RunState, Runner, Stepped, Trace, before_rest, finish, finishes, fresh_runner, opening, reset_step, run_from, run_over, runner_at, state_of, step, step_by, tick_step, told}
 use Rattle.bt_model.specs.Sound.{RunSteady, Steady}
 use Rattle.bt_model.specs.Terms.{node_count}
-use Rattle.bt_laws.proofs.Runners.{equal_entry}
+use Rattle.bt_laws.proofs.Entries.{equal_entry}
 use Rattle.bt_laws.proofs.Quenches.{idle_settled, idle_sound, size_is_count}
 use Rattle.bt_laws.proofs.Events.{finish_steady, step_steady}
 

@@ -7,17 +7,20 @@ use Rattle.std.proofs.lemmas.Option.{same_Some}
 use Rattle.bt_model.specs.declared.memory.Memory.{Memory, out-Memory}
 use Rattle.bt_model.specs.declared.term.Term.{Term, Term-F, fold-roll-Term}
 use Rattle.bt_model.specs.declared.term.Term.TheFolds.{map-Term}
-use Rattle.bt_model.specs.Done.{State}
+use Rattle.bt_model.specs.declared.status.Answer.{Answer}
+use Rattle.bt_model.specs.declared.term.Tree.{Tree}
+use Rattle.bt_model.specs.Done.{Done, State}
+use Rattle.bt_model.specs.Run.{root_told, ticked}
 use Rattle.bt_model.specs.Sites.{Meaning, View}
-use Rattle.bt_model.specs.Sound.{Sound, States, states_of_node}
+use Rattle.bt_model.specs.Sound.{Sound, States, begun_calls, states_of_node}
 use Rattle.bt_model.specs.Terms.{times_of, work_of}
-use Rattle.bt_model.specs.Trees.{Node, NodeFits, nodes_of, nodes_step}
+use Rattle.bt_model.specs.Trees.{IsValid, Node, NodeFits, nodes_of, nodes_step}
 use Rattle.bt_model.specs.Visit.{meaning}
 use Rattle.bt_laws.proofs.Children.{Family}
 use Rattle.bt_laws.proofs.Induction.{above, every_term, node_means}
 use Rattle.bt_laws.proofs.Keeping.{family, term_keeps}
 use Rattle.bt_laws.proofs.Shares.{whole}
-use Rattle.bt_laws.proofs.Spending.{Labour, Spends}
+use Rattle.bt_laws.proofs.Spending.{Labour, Spends, follow_with}
 use Rattle.bt_laws.proofs.VisitWork.{reset_free, visit_spends}
 
 -- the nodes of a term have the ports of their kinds
@@ -93,3 +96,14 @@ module _ {X : Type 0} (term : X → Term) (bounded : (c : X) → IsBounded (term
 
 pub term_bounded : (t : Term) → IsBounded t (meaning t) (Sound t)
 term_bounded = every_term IsBounded (λ X term bounded node. node_bounded term bounded node)
+
+-- ---- A tick
+
+-- the root's own end makes none
+pub tick_bounded : (tree : Tree) → IsValid tree → (view : View) (runner : ℕ) (m : Memory) (s : State) → Sound tree.term view.rows None 1 m s → Spends (work_of tree.term) (ticked tree view runner m s)
+tick_bounded tree valid view runner m s sound =
+    let d : Done Answer Memory = (meaning tree.term).visit view 1 m s in
+    follow_with (work_of tree.term) 0 (work_of tree.term) d (λ m1. m1) (λ a m1 s1. root_told runner a m1 s1) (omega arith) ((term_bounded tree.term).visit valid.fit view 1 m s sound) (λ a. omega arith)
+
+pub resets_make_none : (t : Term) (view : View) (uid : ℕ) (m : Memory) (s : State) → begun_calls ((meaning t).reset view uid m s).calls ≡ 0
+resets_make_none t view uid m s = omega (arith, (term_bounded t).reset view uid m s)

@@ -146,8 +146,8 @@ module _ (F : Family) (node : Term-F F.Child) (L : Labour F node.children) (view
   abbrev All : Option ℕ → List Memory → State → Type 0
   All f ms s = SoundAll F view.rows node.children f (uid + 1) ms s
 
-  abbrev Whole : Option ℕ → Memory → State → Type 0
-  Whole f m s = Own F node view uid f m s
+  abbrev Holds : Option ℕ → Memory → State → Type 0
+  Holds f m s = Own F node view uid f m s
 
   node_rule_spends : (st : Status) (memo : Memo) (ms : List Memory) (s : State) (kind : Kind) → node.kind ≡ kind → Ready F node view uid node.kind st memo ms s → All None ms s →
       Spends (1 + rounds) (node_rule kind site st memo ms s)
@@ -171,50 +171,50 @@ module _ (F : Family) (node : Term-F F.Child) (L : Labour F node.children) (view
   started_by_spends m s (Ok memo) has begins own all = ruled_spends status.Running memo (out-Memory m).children s (ready_new F node view uid memo m s has begins own) all
   started_by_spends m s (Err port) has begins own all = omega arith
 
-  started_spends : (m : Memory) (s : State) → starts node.kind (out-Memory m).memo ≡ true → is_running (status_in m) ≡ false → Whole None m s → Spends (1 + rounds) (started site m s)
+  started_spends : (m : Memory) (s : State) → starts node.kind (out-Memory m).memo ≡ true → is_running (status_in m) ≡ false → Holds None m s → Spends (1 + rounds) (started site m s)
   started_spends m s is rests sound =
       let has : has_rule node.kind ≡ true = starts_with_rule node.kind (out-Memory m).memo is in
       let own : NodeKeeps F node view uid status.Idle (out-Memory m).memo (out-Memory m).children s = rests_as_well F node view uid (status_in m) status.Idle (out-Memory m).memo (out-Memory m).children s rests refl sound.0 in
       started_by_spends m s (new_memo node.kind site (out-Memory m).memo s) has (new_begins F node view uid m s has own sound.1) own sound.1
 
-  begun_spends : (b : Bool) (m : Memory) (s : State) → starts node.kind (out-Memory m).memo ≡ b → is_running (status_in m) ≡ false → Whole None m s → Spends (1 + rounds) (begun b site m s)
+  begun_spends : (b : Bool) (m : Memory) (s : State) → starts node.kind (out-Memory m).memo ≡ b → is_running (status_in m) ≡ false → Holds None m s → Spends (1 + rounds) (begun b site m s)
   begun_spends true m s is rests sound = started_spends m s is rests sound
   begun_spends false m s is rests sound = ruled_spends (status_in m) (out-Memory m).memo (out-Memory m).children s (ready_kept F node view uid m s is rests sound) sound.1
 
-  guarded_spends : (o : Option Answer) (m : Memory) (s : State) → is_running (status_in m) ≡ false → Whole None m s → Spends (1 + rounds) (guarded o site m s)
+  guarded_spends : (o : Option Answer) (m : Memory) (s : State) → is_running (status_in m) ≡ false → Holds None m s → Spends (1 + rounds) (guarded o site m s)
   guarded_spends (Some a) m s rests sound =
       let g : Given = record { answer = a; memo = (out-Memory m).memo } in
       omega (arith, ended_free site (status_in m) g (out-Memory m).children s)
   guarded_spends None m s rests sound = begun_spends (starts node.kind (out-Memory m).memo) m s refl rests sound
 
   -- where scripts have run the node is as it was
-  as_it_was : {s s1 : State} (m : Memory) → Still s s1 → Whole None m s → Whole None m s1
+  as_it_was : {s s1 : State} (m : Memory) → Still s s1 → Holds None m s → Holds None m s1
   as_it_was m still sound = fields_still still F node view uid None (status_in m) (out-Memory m).memo (out-Memory m).children sound
 
-  rests_spend : (m : Memory) (s : State) → is_running (status_in m) ≡ false → Whole None m s → Spends (1 + rounds) (follow (guards_answer site s) (λ _. m) (λ a _ s1. guarded a site m s1))
+  rests_spend : (m : Memory) (s : State) → is_running (status_in m) ≡ false → Holds None m s → Spends (1 + rounds) (follow (guards_answer site s) (λ _. m) (λ a _ s1. guarded a site m s1))
   rests_spend m s rests sound =
       let d : Done (Option Answer) (Unit {0}) = guards_answer site s in
       let still : Still s d.state = record { instances = (guards_leave site s).sound; moment = (guards_leave site s).within.moment } in
       follow_with 0 (1 + rounds) (1 + rounds) d (λ _. m) (λ a _ s1. guarded a site m s1) (omega arith) (guards_free site s) (λ a. guarded_spends a m d.state rests (as_it_was m still sound))
 
-  continued_spends : (b : Bool) (m : Memory) (s : State) → status_in m ≡ status.Running → Whole None m s → Spends (1 + rounds) (continued b site m s)
+  continued_spends : (b : Bool) (m : Memory) (s : State) → status_in m ≡ status.Running → Holds None m s → Spends (1 + rounds) (continued b site m s)
   continued_spends true m s is sound = ruled_spends status.Running (out-Memory m).memo (out-Memory m).children s (ready_running F node view uid m s is sound) sound.1
   continued_spends false m s is sound =
       let d : Done (Unit {0}) Memory = halt site m s in
       follow_with 0 0 (1 + rounds) d (λ m1. m1) (λ _ m1 s1. done answer.Skipped m1 s1) (omega arith) (halt_free F node L.reset view uid m s) (λ _. omega arith)
 
-  runs_spend : (m : Memory) (s : State) → status_in m ≡ status.Running → Whole None m s → Spends (1 + rounds) (follow (goes_on site s) (λ _. m) (λ b _ s1. continued b site m s1))
+  runs_spend : (m : Memory) (s : State) → status_in m ≡ status.Running → Holds None m s → Spends (1 + rounds) (follow (goes_on site s) (λ _. m) (λ b _ s1. continued b site m s1))
   runs_spend m s is sound =
       let d : Done Bool (Unit {0}) = goes_on site s in
       let still : Still s d.state = record { instances = (goes_on_leaves site s).sound; moment = (goes_on_leaves site s).within.moment } in
       follow_with 0 (1 + rounds) (1 + rounds) d (λ _. m) (λ b _ s1. continued b site m s1) (omega arith) (goes_on_free_by site node.guards.while_true s) (λ b. continued_spends b m d.state is (as_it_was m still sound))
 
-  visit_by_spends : (st : Status) (m : Memory) (s : State) → status_in m ≡ st → Whole None m s → Spends (1 + rounds) (visit_by st site m s)
+  visit_by_spends : (st : Status) (m : Memory) (s : State) → status_in m ≡ st → Holds None m s → Spends (1 + rounds) (visit_by st site m s)
   visit_by_spends status.Running m s is sound = runs_spend m s is sound
   visit_by_spends status.Idle m s is sound = rests_spend m s (ap is_running is) sound
   visit_by_spends status.Success m s is sound = rests_spend m s (ap is_running is) sound
   visit_by_spends status.Failure m s is sound = rests_spend m s (ap is_running is) sound
 
   -- a visit makes one at most beside those of the visits of the children
-  pub visit_spends : (m : Memory) (s : State) → Whole None m s → Spends (1 + rounds) (visit_by (out-Memory m).status site m s)
+  pub visit_spends : (m : Memory) (s : State) → Holds None m s → Spends (1 + rounds) (visit_by (out-Memory m).status site m s)
   visit_spends m s sound = visit_by_spends (status_in m) m s refl sound

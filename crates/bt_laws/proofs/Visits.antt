@@ -34,7 +34,7 @@ use Rattle.bt_laws.proofs.NodeRules.{Ready, node_rule_leaves, rests_free, rule_f
 
 -- ---- A node that is not RUNNING
 
-resting_shape : (st : Status) (kind : Kind) (ports : List Port) (row : Option Row) (moment : ℕ) (memo : Memo) (ss : List Status) → is_running st ≡ false → Shape st kind ports row moment memo ss → RestingShape memo kind ss
+pub resting_shape : (st : Status) (kind : Kind) (ports : List Port) (row : Option Row) (moment : ℕ) (memo : Memo) (ss : List Status) → is_running st ≡ false → Shape st kind ports row moment memo ss → RestingShape memo kind ss
 resting_shape status.Running kind ports row moment memo ss rests shape = cc
 resting_shape status.Idle kind ports row moment memo ss rests shape = shape
 resting_shape status.Success kind ports row moment memo ss rests shape = shape
@@ -74,12 +74,12 @@ module _ (F : Family) (node : Term-F F.Child) (view : View) (uid : ℕ) where
   abbrev Keeps : Status → Memo → List Memory → State → Type 0
   Keeps st memo ms s = NodeKeeps F node view uid st memo ms s
 
-  abbrev Whole : Option ℕ → Memory → State → Type 0
-  Whole f m s = Own F node view uid f m s
+  abbrev Holds : Option ℕ → Memory → State → Type 0
+  Holds f m s = Own F node view uid f m s
 
   -- a visit leaves the rules of the node and of all below it, with an answer that fits its status
   abbrev pub Visited : State → Done Answer Memory → Type 0
-  Visited s d = Leaves Whole (Answers F node view uid) uid size s d
+  Visited s d = Leaves Holds (Answers F node view uid) uid size s d
 
   -- another status that is not RUNNING does as well
   pub rests_as_well : (st st1 : Status) (memo : Memo) (ms : List Memory) (s : State) → is_running st ≡ false → is_running st1 ≡ false → Keeps st memo ms s → Keeps st1 memo ms s
@@ -94,7 +94,7 @@ module _ (F : Family) (node : Term-F F.Child) (view : View) (uid : ℕ) where
   ended_leaves : (old : Status) (g : Given) (ms : List Memory) (s : State) → Keeps (status_of g.answer) g.memo ms s → All None ms s → Visited s (ended here old g ms s)
   ended_leaves old g ms s own all =
       let d : Done (Unit {0}) (Unit {0}) = posts here g.answer s in
-      after_scripts F node view uid Whole (Answers F node view uid) (λ _. Unit {0}) (remembered old g.memo ms) s d
+      after_scripts F node view uid Holds (Answers F node view uid) (λ _. Unit {0}) (remembered old g.memo ms) s d
       (λ _ s1. behind (change uid old (status_of g.answer)) [] (done g.answer (remembered (status_of g.answer) g.memo ms) s1)) (posts_leave here g.answer s)
       (λ _ _ still. record {
         sound = as_kept F node view uid None (status_of g.answer) g.memo ms d.state (fields_still still F node view uid None (status_of g.answer) g.memo ms (own, all));
@@ -106,7 +106,7 @@ module _ (F : Family) (node : Term-F F.Child) (view : View) (uid : ℕ) where
   ruled_leaves : (st : Status) (memo : Memo) (ms : List Memory) (s : State) → Ready F node view uid node.kind st memo ms s → All None ms s → Visited s (ruled here st memo ms s)
   ruled_leaves st memo ms s ready all =
       let d : Done Given (List Memory) = node_rule node.kind here st memo ms s in
-      follow_leaves {rules = All} {fits = λ g ms1 s1. NodeRule node.kind node.ports row uid (status_of g.answer) g.memo ms1 s1} {rules2 = Whole} {fits2 = Answers F node view uid}
+      follow_leaves {rules = All} {fits = λ g ms1 s1. NodeRule node.kind node.ports row uid (status_of g.answer) g.memo ms1 s1} {rules2 = Holds} {fits2 = Answers F node view uid}
       d (λ ms1. remembered st memo ms1) (λ g ms1 s1. ended here st g ms1 s1) uid size uid size s (omega arith) (omega arith)
       (node_rule_leaves F node view uid st memo ms s all node.kind refl ready)
       (λ g own all1 w. ended_leaves st g d.memory d.state own all1)
@@ -121,7 +121,7 @@ module _ (F : Family) (node : Term-F F.Child) (view : View) (uid : ℕ) where
       record { begins = λ e. begins; shape = λ e. absurd (not_both has e); held = own.held ∙ ap Some (sym (rule_free status.Running node.kind has)) }
 
   -- .. with the memo of a node that does not start, ..
-  pub ready_kept : (m : Memory) (s : State) → starts node.kind (out-Memory m).memo ≡ false → is_running (status_in m) ≡ false → Whole None m s →
+  pub ready_kept : (m : Memory) (s : State) → starts node.kind (out-Memory m).memo ≡ false → is_running (status_in m) ≡ false → Holds None m s →
       Ready F node view uid node.kind (status_in m) (out-Memory m).memo (out-Memory m).children s
   ready_kept m s is rests sound = record {
     begins = λ e. kept_begins node.kind node.ports s.moment (out-Memory m).memo (statuses (out-Memory m).children) e is
@@ -131,7 +131,7 @@ module _ (F : Family) (node : Term-F F.Child) (view : View) (uid : ℕ) where
   }
 
   -- .. and with that of a RUNNING one
-  pub ready_running : (m : Memory) (s : State) → status_in m ≡ status.Running → Whole None m s → Ready F node view uid node.kind status.Running (out-Memory m).memo (out-Memory m).children s
+  pub ready_running : (m : Memory) (s : State) → status_in m ≡ status.Running → Holds None m s → Ready F node view uid node.kind status.Running (out-Memory m).memo (out-Memory m).children s
   ready_running m s is sound =
       let own : Keeps status.Running (out-Memory m).memo (out-Memory m).children s = subst (λ (st : Status). Keeps st (out-Memory m).memo (out-Memory m).children s) is sound.0 in
       record {
@@ -167,53 +167,53 @@ module _ (F : Family) (node : Term-F F.Child) (view : View) (uid : ℕ) where
       started_by m s (new_memo node.kind here (out-Memory m).memo s) has
       (new_begins m s has own all) own all
 
-  begun_leaves : (b : Bool) (m : Memory) (s : State) → starts node.kind (out-Memory m).memo ≡ b → is_running (status_in m) ≡ false → Whole None m s → Visited s (begun b here m s)
+  begun_leaves : (b : Bool) (m : Memory) (s : State) → starts node.kind (out-Memory m).memo ≡ b → is_running (status_in m) ≡ false → Holds None m s → Visited s (begun b here m s)
   begun_leaves true m s is rests sound = started_leaves m s is (rests_as_well (status_in m) status.Idle (out-Memory m).memo (out-Memory m).children s rests refl sound.0) sound.1
   begun_leaves false m s is rests sound =
       ruled_leaves (status_in m) (out-Memory m).memo (out-Memory m).children s (ready_kept m s is rests sound) sound.1
 
-  guarded_leaves : (o : Option Answer) (m : Memory) (s : State) → Rests here o → is_running (status_in m) ≡ false → Whole None m s → Visited s (guarded o here m s)
+  guarded_leaves : (o : Option Answer) (m : Memory) (s : State) → Rests here o → is_running (status_in m) ≡ false → Holds None m s → Visited s (guarded o here m s)
   guarded_leaves None m s guard rests sound = begun_leaves (starts node.kind (out-Memory m).memo) m s refl rests sound
   guarded_leaves (Some a) m s guard rests sound =
       ended_leaves (status_in m) (record { answer = a; memo = (out-Memory m).memo }) (out-Memory m).children s
       (rests_as_well (status_in m) (status_of a) (out-Memory m).memo (out-Memory m).children s rests guard sound.0) sound.1
 
   -- a visit of a node that is not RUNNING
-  rests_visited : (m : Memory) (s : State) → is_running (status_in m) ≡ false → Whole None m s →
+  rests_visited : (m : Memory) (s : State) → is_running (status_in m) ≡ false → Holds None m s →
       Visited s (follow (guards_answer here s) (λ _. m) (λ a _ s1. guarded a here m s1))
   rests_visited m s rests sound =
       let d : Done (Option Answer) (Unit {0}) = guards_answer here s in
-      after_scripts F node view uid Whole (Answers F node view uid) (Rests here) m s d (λ a s1. guarded a here m s1) (guards_leave here s)
+      after_scripts F node view uid Holds (Answers F node view uid) (Rests here) m s d (λ a s1. guarded a here m s1) (guards_leave here s)
       (λ a guard still. guarded_leaves a m d.state guard rests (fields_still still F node view uid None (status_in m) (out-Memory m).memo (out-Memory m).children sound))
       (λ f low high still. fields_still still F node view uid (Some f) (status_in m) (out-Memory m).memo (out-Memory m).children sound)
 
   -- ---- From a RUNNING node
 
-  module _ (halts : (m : Memory) (s : State) → status_in m ≡ status.Running → Whole None m s → Leaves Whole (λ _ m1 s1. status_in m1 ≡ status.Idle) uid size s (halt here m s)) where
-    continued_leaves : (b : Bool) (m : Memory) (s : State) → status_in m ≡ status.Running → Whole None m s → Visited s (continued b here m s)
+  module _ (halts : (m : Memory) (s : State) → status_in m ≡ status.Running → Holds None m s → Leaves Holds (λ _ m1 s1. status_in m1 ≡ status.Idle) uid size s (halt here m s)) where
+    continued_leaves : (b : Bool) (m : Memory) (s : State) → status_in m ≡ status.Running → Holds None m s → Visited s (continued b here m s)
     continued_leaves true m s is sound =
         ruled_leaves status.Running (out-Memory m).memo (out-Memory m).children s (ready_running m s is sound) sound.1
     continued_leaves false m s is sound =
         let d : Done (Unit {0}) Memory = halt here m s in
-        follow_leaves {rules = Whole} {fits = λ _ m1 s1. status_in m1 ≡ status.Idle} {rules2 = Whole} {fits2 = Answers F node view uid}
+        follow_leaves {rules = Holds} {fits = λ _ m1 s1. status_in m1 ≡ status.Idle} {rules2 = Holds} {fits2 = Answers F node view uid}
         d (λ m1. m1) (λ _ m1 s1. done answer.Skipped m1 s1) uid size uid size s (omega arith) (omega arith) (halts m s is sound)
         (λ _ idle sound1 w. record { sound = sound1; within = within_same uid size d.state; ends = idle })
         (λ f low high sound1 w. sound1)
 
-    runs_visited : (m : Memory) (s : State) → status_in m ≡ status.Running → Whole None m s →
+    runs_visited : (m : Memory) (s : State) → status_in m ≡ status.Running → Holds None m s →
         Visited s (follow (goes_on here s) (λ _. m) (λ b _ s1. continued b here m s1))
     runs_visited m s is sound =
         let d : Done Bool (Unit {0}) = goes_on here s in
-        after_scripts F node view uid Whole (Answers F node view uid) (λ _. Unit {0}) m s d (λ b s1. continued b here m s1) (goes_on_leaves here s)
+        after_scripts F node view uid Holds (Answers F node view uid) (λ _. Unit {0}) m s d (λ b s1. continued b here m s1) (goes_on_leaves here s)
         (λ b _ still. continued_leaves b m d.state is (fields_still still F node view uid None (status_in m) (out-Memory m).memo (out-Memory m).children sound))
         (λ f low high still. fields_still still F node view uid (Some f) (status_in m) (out-Memory m).memo (out-Memory m).children sound)
 
-    visit_cases : (st : Status) (m : Memory) (s : State) → status_in m ≡ st → Whole None m s → Visited s (visit_by st here m s)
+    visit_cases : (st : Status) (m : Memory) (s : State) → status_in m ≡ st → Holds None m s → Visited s (visit_by st here m s)
     visit_cases status.Running m s is sound = runs_visited m s is sound
     visit_cases status.Idle m s is sound = rests_visited m s (ap is_running is) sound
     visit_cases status.Success m s is sound = rests_visited m s (ap is_running is) sound
     visit_cases status.Failure m s is sound = rests_visited m s (ap is_running is) sound
 
     -- a visit of the node
-    pub visit_leaves : (m : Memory) (s : State) → Whole None m s → Visited s (visit_by (out-Memory m).status here m s)
+    pub visit_leaves : (m : Memory) (s : State) → Holds None m s → Visited s (visit_by (out-Memory m).status here m s)
     visit_leaves m s sound = visit_cases (status_in m) m s refl sound

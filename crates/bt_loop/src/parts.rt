@@ -9,10 +9,11 @@ ghost use Rattle.bt_arena.specs.Stands.{memory_of};
 ghost use Rattle.bt_loop.specs.Parts.{AreReady, CanAct, PartEnds, StaysRunner, part_of, scene_of, state_of_all, state_of_runner};
 ghost use Rattle.bt_loop.specs.Runs.{RunnersFit, arenas_in};
 
-use crate::below::{reset, tick};
+use crate::below::tick;
 use crate::runs::ReadyRunner;
 use bt_arena::{Kept, Notes, kept_by, set_status};
 use bt_driver::{Drivers, FactTable};
+use bt_halting::reset;
 use bt_model::{NodeFault, Note, Status};
 use bt_script::{NoMemory, Stop};
 use std::alloc::Global;

@@ -5,10 +5,10 @@ ghost use Rattle.bt_model.specs.Drivers.{NothingHeld};
 ghost use Rattle.bt_model.specs.Run.{quench_calls, quench_notes, quenched_runner};
 ghost use Rattle.bt_loop.specs.Runs.{RunnersFit, arenas_in, boards_in, leaves_of, roster_over, runners_in};
 
-use crate::below::quench;
 use crate::runs::ReadyRunner;
 use bt_arena::Notes;
 use bt_driver::Drivers;
+use bt_halting::quench;
 
 /// Quenches all runners, in order. It takes no memory.
 pub fn quench_all<D: Drivers>(runners: &mut [ReadyRunner], drivers: &mut D, notes: &mut Notes)

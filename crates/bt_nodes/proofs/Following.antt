@@ -18,7 +18,7 @@ use Rattle.bt_model.specs.Scripts.{script_answer, script_left, script_run}
 use Rattle.bt_model.specs.Sites.{Meaning, View}
 use Rattle.bt_model.specs.Visit.{site_of}
 use Rattle.bt_arena.specs.Nodes.{IsCodeOf, IsCompiled}
-use Rattle.bt_nodes.specs.Settles.{Settles, on_board}
+use Rattle.bt_nodes.specs.Settles.{Settles, SettlesWith, on_board}
 
 -- a script's run is that of its code
 pub run_of_code : (term : Term-F Meaning) (view : View) (uid : ℕ) (script : Script) (code : Code) (s : State) (old new : List (Option Value)) (answer : Result Value ExecFault) →
@@ -63,3 +63,9 @@ module _ {A B : Type 0} (go : A → Unit {0} → State → Done B (Unit {0})) wh
       IsErrAnd r (λ x. x ≡ stop) → Settles {A = A} (Err stop) s1 d → Settles r s1 (follow d (λ _. tt) go)
   stopped stop d s1 r is e =
       subst (λ (r1 : Result B (Stop NodeFault)). Settles r1 s1 (follow d (λ _. tt) go)) (sym (stops_with r stop is)) (stopped_by stop d s1 e)
+
+-- a part stopped before one with a memory, and so all stops with this memory
+pub stopped_with : {A B M : Type 0} (m : M) (go : A → Unit {0} → State → Done B M) (stop : Stop NodeFault) (d : Done A (Unit {0})) (s1 : State) (r : Result B (Stop NodeFault)) →
+    r ≡ Err stop → Settles {A = A} (Err stop) s1 d → SettlesWith m r s1 (follow d (λ _. m) go)
+stopped_with {A} {B} {M} m go (stop.Fault f) d s1 r is e = subst (λ (r1 : Result B (Stop NodeFault)). SettlesWith m r1 s1 (follow d (λ _. m) go)) (sym is) (ap (λ (d1 : Done A (Unit {0})). follow d1 (λ _. m) go) e)
+stopped_with {A} {B} {M} m go stop.NoMemory d s1 r is e = subst (λ (r1 : Result B (Stop NodeFault)). SettlesWith m r1 s1 (follow d (λ _. m) go)) (sym is) tt

@@ -1,8 +1,11 @@
 pub mod Answering
+pub mod Cases
 pub mod EndedVisits
 pub mod Filling
 pub mod Following
+pub mod LoneVisits
 pub mod MadeCalls
 pub mod Needed
 pub mod PortValues
+pub mod Settled
 pub mod Standing

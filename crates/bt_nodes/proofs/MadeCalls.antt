@@ -1,5 +1,7 @@
 -- A call of a leaf's driver against its definition, and what it keeps.
-use Rattle.std.proofs.Common.{◌≡◌, ℕ, List, [], ◌++◌, length, map, get_or, set, Bool, false, Option, Some, Result, Err, refl, sym, ap, subst, ◌∙◌, append-nil}
+use Rattle.std.proofs.Common.{◌≡◌, ℕ, List, [], ◌++◌, length, map, get_or, set, Bool, false, Option, Some, Result, Err, refl, sym, ap, subst, ◌∙◌, append-nil, arith}
+use Rattle.std.specs.List.{All}
+use Rattle.std.proofs.lemmas.List.{length-map}
 use Rattle.std.specs.Prelude.{is_some}
 use Rattle.std.proofs.Math.ListN.{get_or-map}
 use Rattle.bt_script.specs.declared.stop.Stop.{Stop}
@@ -22,7 +24,7 @@ use Rattle.bt_model.specs.Sites.{Meaning, View}
 use Rattle.bt_model.specs.Steps.{Given}
 use Rattle.bt_model.specs.Visit.{site_of}
 use Rattle.bt_driver.specs.Rules.{rule}
-use Rattle.bt_driver.proofs.Keeping.{as_many_facts, held_while_running}
+use Rattle.bt_model.proofs.Calls.{as_many_facts, held_while_running}
 use Rattle.bt_arena.specs.declared.nodes.Kept.{Kept}
 use Rattle.bt_arena.specs.declared.nodes.Node.{Node}
 use Rattle.bt_arena.specs.declared.nodes.ReadyLeaf.{ReadyLeaf}
@@ -31,8 +33,10 @@ use Rattle.bt_arena.specs.Nodes.{at_rest, kept_at, leaf_at}
 use Rattle.bt_arena.specs.Noted.{calls_named}
 use Rattle.bt_arena.specs.Rosters.{AreServed, instances_of, leaf_instance}
 use Rattle.bt_arena.specs.Scenes.{Scene, marks_of, state_in}
+use Rattle.bt_arena.specs.declared.source.Source.{Source}
+use Rattle.bt_arena.specs.Sources.{IsSourceOf}
 use Rattle.bt_arena.proofs.Called.{instance_at_uid, instances_called, marks_called, roster_after_call, served_after}
-use Rattle.bt_nodes.specs.Calls.{as_given, board_left, leaf_answer, mark_left, seen_inputs}
+use Rattle.bt_nodes.specs.Calls.{CanBeCalled, IsInPhase, as_given, board_left, leaf_answer, mark_left, seen_inputs}
 use Rattle.bt_nodes.specs.Here.{FitsHere, in_stop}
 use Rattle.bt_nodes.proofs.Answering.{HasRow, answer_means, board_means, has_row, named_once}
 
@@ -145,3 +149,17 @@ module _ (nodes : List Node) (uid : ℕ) (leaf : ReadyLeaf) (now : ℕ) (status 
         let P : Result Given (Stop NodeFault) → Type 0 = λ r1. Meets nodes now (λ _. ms) r1 before after old new (replied (site_of term view uid) has.row (phase_of status) ms state a) in
         let Q : Done Given (List Memory) → Type 0 = λ d. Meets nodes now (λ _. ms) (as_given r) before after old new d in
         subst Q (sym (call_means has) ∙ ap (λ st. leaf_call (row_of view.rows term.id) (site_of term view uid) st ms state) was.kept_status) (subst P (sym is) (met_by has a.reply refl))
+
+-- a leaf that stands can be called
+pub can_be_called : (term : Term-F Meaning) (view : View) (uid : ℕ) (nodes : List Node) (s : Scene) (leaf : ReadyLeaf) (status : Status) (now : ℕ) →
+    FitsHere term view uid nodes s → leaf_at nodes uid ≡ Some leaf → IsInPhase status (leaf_instance s.drivers (Some leaf)) now → CanBeCalled (length s.board) (length s.facts) s.drivers status now leaf
+can_be_called term view uid nodes s leaf status now fits is phase =
+    let k = (has_row term view uid nodes s leaf fits is).follows in
+    record {
+      read = subst (λ n. All (IsSourceOf n) leaf.inputs) (sym fits.slots) k.read;
+      few_inputs = omega (arith, k.few_inputs, ap length k.inputs, length-map {A = List ℕ} {B = Source});
+      written = subst (λ n. All (IsSourceOf n) leaf.outputs) (sym fits.slots) k.written;
+      table = fits.facts ∙ sym k.facts;
+      served = fits.leaves.served uid leaf is;
+      phase = phase;
+    }

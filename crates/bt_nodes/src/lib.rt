@@ -2,12 +2,14 @@
 //! ports, the call of its driver, and the end of its visit.
 #![tactic(auto)]
 
+mod alone;
 mod ending;
 mod leaves;
 mod ports;
 mod scripts;
 mod sources;
 
+pub use alone::{lone_rule, visit_alone};
 pub use ending::{end_visit, note_change};
 pub use leaves::leaf_call;
 pub use ports::{new_memo, picked};

@@ -11,7 +11,7 @@ ghost use Rattle.bt_model.specs.Visit.{or_bad_port, site_of};
 ghost use Rattle.bt_arena.specs.Nodes.{IsNode};
 ghost use Rattle.bt_arena.specs.Sources.{IsSourceOf};
 ghost use Rattle.bt_arena.specs.Stands.{written};
-ghost use Rattle.bt_nodes.specs.Given.{FewCases, HasPorts, case_selected, port_at, source_number};
+ghost use Rattle.bt_nodes.specs.Given.{HasPorts, case_selected, port_at, source_number};
 
 use crate::sources::{case_with, number_of, truth_of, value_of};
 use bt_arena::{Node, Source};
@@ -200,7 +200,7 @@ fn selected(ports: &[Source], board: &Board) -> u32
 /// What is picked for a visit of a node; or its port that holds no truth.
 fn pick(node: &Node, memo: Memo, board: &Board) -> Result<u32, PortId>
     requires { HasPorts (length board.now) node.now }
-    ensures { (term : Term-F Meaning) (view : View) (whole uid : ℕ) (s : State) → IsNode view (written term) whole node.now → FewCases term.kind →
+    ensures { (term : Term-F Meaning) (view : View) (whole uid : ℕ) (s : State) → IsNode view (written term) whole node.now →
         result ≡ picked term.kind (site_of term view uid) memo (record s { board = board.now }) }
 {
     match node.kind {
@@ -217,7 +217,7 @@ fn pick(node: &Node, memo: Memo, board: &Board) -> Result<u32, PortId>
 /// and for a RunOnce with a mark 1 where it skips; or the fault of its port.
 pub fn picked(node: &Node, uid: u32, memo: Memo, board: &Board) -> Result<u32, NodeFault>
     requires { HasPorts (length board.now) node.now }
-    ensures { (term : Term-F Meaning) (view : View) (whole : ℕ) (s : State) → IsNode view (written term) whole node.now → FewCases term.kind →
+    ensures { (term : Term-F Meaning) (view : View) (whole : ℕ) (s : State) → IsNode view (written term) whole node.now →
         result ≡ or_bad_port uid (picked term.kind (site_of term view uid) memo (record s { board = board.now })) }
 {
     or_bad_port(uid, pick(node, memo, board))
