@@ -112,3 +112,7 @@ wanted_from tree world drivers place (d ∷ ds) = world.runners * leaves_served 
 
 abbrev pub instances_wanted : Tree → World → List DriverState → List ℕ
 instances_wanted tree world drivers = wanted_from tree world drivers 0 drivers
+
+-- the blackboard of the runner of this number
+abbrev pub nth_board : List ReadyRunner → ℕ → List (Option Value)
+nth_board runners number = slice_index_or (boards_in runners) (number - 1) []
