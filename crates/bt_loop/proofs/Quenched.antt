@@ -213,3 +213,10 @@ room_more arenas i nodes is =
     ap leaves_of (drop_more arenas i nodes (within arenas i nodes is))
     ∙ sum_by-cons (λ (k : ℕ). k) (leaves_in (get_or arenas i nodes)) (map leaves_in (drop (i + 1) arenas))
     ∙ ap (λ (ns : List Node). leaves_in ns + leaves_of (drop (i + 1) arenas)) (get_or_from_slice_get arenas i nodes nodes is)
+
+-- the room that the runner at a place needs, and those behind it
+pub room_at : (rs old : List ReadyRunner) (i : ℕ) (r : ReadyRunner) → slice_get rs i ≡ Some r → arenas_in rs ≡ arenas_in old →
+    leaves_of (drop i (arenas_in old)) ≡ leaves_in r.arena.nodes.items + leaves_of (drop (i + 1) (arenas_in old))
+room_at rs old i r is same =
+    room_more (arenas_in old) i r.arena.nodes.items
+    (ap (λ ns. slice_get ns i) (sym same) ∙ slice_get-map (λ (x : ReadyRunner). x.arena.nodes.items) rs i ∙ ap (option_map (λ (x : ReadyRunner). x.arena.nodes.items)) is)
