@@ -35,7 +35,7 @@ module _ (ds : List DriverState) (place : ℕ) (phase : Phase) (instance : ℕ) 
   driver_other other apart = get_or-set_other ds place other (after_call (driver_at ds place) phase instance left) (new_driver driver.Condition) apart
 
   -- the kind and the number of instances of each driver stay
-  driver_same : (other : ℕ) → ((driver_at called other).kind ≡ (driver_at ds other).kind) × (length (driver_at called other).table ≡ length (driver_at ds other).table)
+  pub driver_same : (other : ℕ) → ((driver_at called other).kind ≡ (driver_at ds other).kind) × (length (driver_at called other).table ≡ length (driver_at ds other).table)
   driver_same other = elim (cases_eq other place) [
     | inl same ↦ elim (cases_lt place (length ds)) [
       | inl there ↦
@@ -52,13 +52,13 @@ module _ (ds : List DriverState) (place : ℕ) (phase : Phase) (instance : ℕ) 
   ]
 
   -- the instance that was called
-  instance_called : IsThere ds place instance → instance_at called place instance ≡ left
+  pub instance_called : IsThere ds place instance → instance_at called place instance ≡ left
   instance_called there =
       ap (λ (d : DriverState). instance_of d instance) (driver_called there.0)
       ∙ get_or-set_same (driver_at ds place).table instance left fresh there.1
 
   -- another instance, of this driver or of another one
-  instance_other : IsThere ds place instance → (p i : ℕ) → (p ≡ place → i ≡ instance → ⊥) → instance_at called p i ≡ instance_at ds p i
+  pub instance_other : IsThere ds place instance → (p i : ℕ) → (p ≡ place → i ≡ instance → ⊥) → instance_at called p i ≡ instance_at ds p i
   instance_other there p i apart = elim (cases_eq p place) [
     | inl same ↦
         subst (λ k. (k ≡ place → i ≡ instance → ⊥) → instance_at called k i ≡ instance_at ds k i) (sym same)

@@ -3,6 +3,7 @@
 #![tactic(auto)]
 
 mod arena;
+mod block;
 mod join_fault;
 mod joining;
 pub mod laws;
@@ -18,6 +19,7 @@ mod source;
 pub use arena::{
     Arena, keep, kept_by, leaf_count, leaves_at, memo, node, set_held, set_memo, set_status, status,
 };
+pub use block::{Block, block_for};
 pub use join_fault::JoinFault;
 pub use joining::arena_of;
 pub use nodes::{Kept, Node, ReadyGuards, ReadyLeaf};

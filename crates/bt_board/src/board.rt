@@ -26,6 +26,15 @@ impl Model for Board {
     ghost view = { λ board. board.entries.items };
 }
 
+impl Board {
+    /// Lends the entries, by slot.
+    pub fn list(&self) -> &[Option<Value>]
+        ensures { result.now ≡ self.now }
+    {
+        self.entries.as_slice()
+    }
+}
+
 impl Cells for Board {
     ghost entries = { λ board. board };
 

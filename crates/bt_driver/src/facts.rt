@@ -21,6 +21,13 @@ impl Model for FactTable {
 }
 
 impl FactTable {
+    /// Lends the values, by the number of their fact.
+    pub fn list(&self) -> &[i64]
+        ensures { result.now ≡ self.now }
+    {
+        self.values.as_slice()
+    }
+
     /// The value of the fact of this number.
     pub fn get(&self, fact: u32) -> i64
         requires { fact < length self.now }

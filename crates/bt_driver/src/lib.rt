@@ -19,6 +19,8 @@ pub use expression::{Inputs, ReadyExpr};
 pub use facts::{FactTable, facts_of};
 pub use outs::Outs;
 pub use readying::{kind_of, ready};
-pub use roster::Drivers;
+pub use roster::{
+    Drivers, find_kind, halt_at, hold_nothing, prepare_all, run_at, start_at, totals_of,
+};
 pub use row::ReadyRow;
 pub use sort::ReadySort;

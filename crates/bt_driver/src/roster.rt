@@ -99,7 +99,7 @@ fn kind_of(driver: &Box<dyn Driver>) -> DriverKind
 }
 
 /// How often one driver was called.
-fn totals_of(driver: &Box<dyn Driver>) -> Totals
+pub fn totals_of(driver: &Box<dyn Driver>) -> Totals
     ensures { result ≡ (state driver.now).totals }
 {
     driver.totals()
@@ -175,7 +175,7 @@ fn halt_one(driver: &mut Box<dyn Driver>, instance: u32)
 }
 
 /// The place of the first of these drivers of a kind.
-fn find_kind(roster: &[Box<dyn Driver>], kind: DriverKind) -> Option<usize>
+pub fn find_kind(roster: &[Box<dyn Driver>], kind: DriverKind) -> Option<usize>
     ensures { result ≡ place_of_kind (map (λ b. state b) roster.now) kind }
 {
     for (place, driver) in roster.iter().enumerate() {
@@ -187,7 +187,7 @@ fn find_kind(roster: &[Box<dyn Driver>], kind: DriverKind) -> Option<usize>
 }
 
 /// Whether none of these drivers holds an instance.
-fn hold_nothing(roster: &[Box<dyn Driver>]) -> bool
+pub fn hold_nothing(roster: &[Box<dyn Driver>]) -> bool
     ensures { IsTrue result ↔ (total_held (map (λ b. state b) roster.now) ≡ 0) }
 {
     for driver in roster {
@@ -199,7 +199,7 @@ fn hold_nothing(roster: &[Box<dyn Driver>]) -> bool
 }
 
 /// Prepares these drivers in order.
-fn prepare_all(roster: &mut Vec<Box<dyn Driver>>, counts: &[u32]) -> Result<(), NoMemory>
+pub fn prepare_all(roster: &mut Vec<Box<dyn Driver>>, counts: &[u32]) -> Result<(), NoMemory>
     requires counts { length counts.now ≤ length (map (λ b. state b) roster.old.items) }
     requires quiet { NothingHeld (map (λ b. state b) roster.old.items) }
     ensures ok { OnOk result (map (λ b. state b) roster.new.items ≡ roster_prepared (map (λ b. state b) roster.old.items) counts.now) }
@@ -213,7 +213,7 @@ fn prepare_all(roster: &mut Vec<Box<dyn Driver>>, counts: &[u32]) -> Result<(), 
 }
 
 /// Calls `start` of the driver at a place.
-fn start_at(
+pub fn start_at(
     roster: &mut Vec<Box<dyn Driver>>,
     place: usize,
     instance: u32,
@@ -236,7 +236,7 @@ fn start_at(
 }
 
 /// Calls `running` of the driver at a place.
-fn run_at(
+pub fn run_at(
     roster: &mut Vec<Box<dyn Driver>>,
     place: usize,
     instance: u32,
@@ -259,64 +259,10 @@ fn run_at(
 }
 
 /// Calls `halted` of the driver at a place.
-fn halt_at(roster: &mut Vec<Box<dyn Driver>>, place: usize, instance: u32)
+pub fn halt_at(roster: &mut Vec<Box<dyn Driver>>, place: usize, instance: u32)
     requires there { IsThere (map (λ b. state b) roster.old.items) place instance }
     requires held { IsSome (instance_at (map (λ b. state b) roster.old.items) place instance).since }
     ensures { map (λ b. state b) roster.new.items ≡ roster_halted (map (λ b. state b) roster.old.items) place instance }
 {
     halt_one(&mut roster[place], instance)
-}
-
-impl Drivers for Vec<Box<dyn Driver>> {
-    ghost states = { λ roster. map (λ b. (Driver-box b).state b.value) roster.items };
-
-    fn count(&self) -> usize {
-        self.len()
-    }
-
-    fn place_of(&self, kind: DriverKind) -> Option<usize> {
-        find_kind(self, kind)
-    }
-
-    fn totals(&self, place: usize) -> Totals {
-        totals_of(&self[place])
-    }
-
-    fn holds_nothing(&self) -> bool {
-        hold_nothing(self)
-    }
-
-    fn prepare(&mut self, counts: &[u32]) -> Result<(), NoMemory> {
-        prepare_all(self, counts)
-    }
-
-    fn start(
-        &mut self,
-        place: usize,
-        instance: u32,
-        row: &ReadyRow,
-        inputs: &Inputs,
-        facts: &mut FactTable,
-        outs: &mut Outs,
-        now: u64,
-    ) -> Reply {
-        start_at(self, place, instance, row, inputs, facts, outs, now)
-    }
-
-    fn running(
-        &mut self,
-        place: usize,
-        instance: u32,
-        row: &ReadyRow,
-        inputs: &Inputs,
-        facts: &mut FactTable,
-        outs: &mut Outs,
-        now: u64,
-    ) -> Reply {
-        run_at(self, place, instance, row, inputs, facts, outs, now)
-    }
-
-    fn halted(&mut self, place: usize, instance: u32) {
-        halt_at(self, place, instance)
-    }
 }

@@ -1,5 +1,5 @@
 use Rattle.bt_driver.proofs.Quiet.{none_total, total_none}
-use Rattle.bt_driver.proofs.roster.VecBoxDynDriverDrivers.holds_nothing.Goals as goal
+use Rattle.bt_loop.proofs.boxed.RosterDrivers.holds_nothing.Goals as goal
 
 pub returns : goal.returns
 returns g c =

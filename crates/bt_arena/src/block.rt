@@ -1,0 +1,35 @@
+ghost use Rattle.std.specs.Prelude.{◌≡◌, ◌+◌, [], IfOk};
+
+use crate::notes::{Notes, notes_of};
+use bt_model::Header;
+use bt_script::{NoMemory, Value};
+use std::alloc::Global;
+
+/// What one event gives to the trace, with room for notes in reserve. It is kept from event to event.
+#[derive(Debug, Drop)]
+pub struct Block {
+    pub header: Header,
+    /// What happened, in order.
+    pub notes: Notes,
+    /// The facts that changed, by their number, with their new values.
+    pub facts: Vec<(u32, i64)>,
+    /// The blackboard entries that changed or are new: runner, slot and value.
+    pub entries: Vec<(u8, u32, Value)>,
+}
+
+/// A block of no event yet, with room for the notes of a run whose runners have so many leaves
+/// together. Each event gives it its own header.
+pub fn block_for(alloc: Global, leaves: u32) -> Result<Block, NoMemory>
+    ensures { IfOk result (λ block. block.notes ≡ record { list = []; reserve = leaves + 1; full = leaves + 1 }) }
+{
+    Ok(Block {
+        header: Header::Change {
+            fact: 0,
+            value: 0,
+            at: 0,
+        },
+        notes: notes_of(alloc, leaves)?,
+        facts: Vec::new(alloc),
+        entries: Vec::new(alloc),
+    })
+}

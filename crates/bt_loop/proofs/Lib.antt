@@ -1,0 +1,6 @@
+pub mod Lists
+pub mod Others
+pub mod Putting
+pub mod Quenched
+pub mod Results
+pub mod Told

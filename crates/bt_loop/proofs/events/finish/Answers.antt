@@ -1,0 +1,13 @@
+use Rattle.bt_loop.proofs.events.finish.Goals as goal
+
+pub run_finish-ended-requires-clause-runs : goal.run_finish-ended-requires-clause-runs
+run_finish-ended-requires-clause-runs g c = rw c.replace.ensures.value c.requires.runs
+
+pub returns-clause-step : goal.returns-clause-step
+returns-clause-step g c = rw (← c.replace.ensures.value) c.run_finish-ended.ensures.step
+
+pub returns-clause-runs : goal.returns-clause-runs
+returns-clause-runs g c = rw (← c.replace.ensures.value) c.run_finish-ended.ensures.runs
+
+pub returns-clause-quenched : goal.returns-clause-quenched
+returns-clause-quenched g c = rw (← c.replace.ensures.value) c.run_finish-ended.ensures.quenched

@@ -1,0 +1,118 @@
+-- The runs of a tree in a world: the state that they keep, and what holds of them between events.
+use Rattle.std.specs.Prelude.{◌≡◌, ◌+◌, ◌-◌, ◌*◌, ℕ, ℤ, List, [], ◌∷◌, length, map, sum, slice_get, slice_index_or, Option, Some, None, true}
+use Rattle.bt_model.specs.declared.term.Term.{Term}
+use Rattle.bt_model.specs.declared.term.Tree.{Tree}
+use Rattle.bt_model.specs.declared.world.World.{World}
+use Rattle.bt_model.specs.Drivers.{DriverState, instance_at, is_held}
+use Rattle.bt_model.specs.Run.{RunState, Runner, RunnerCall, root_view}
+use Rattle.bt_model.specs.Sound.{RunSteady}
+use Rattle.bt_model.specs.Terms.{leaf_ids, node_count}
+use Rattle.bt_arena.specs.Joins.{leaves_served}
+use Rattle.bt_arena.specs.declared.nodes.Node.{Node}
+use Rattle.bt_arena.specs.declared.nodes.ReadyLeaf.{ReadyLeaf}
+use Rattle.bt_arena.specs.Nodes.{leaf_at}
+use Rattle.bt_arena.specs.Rosters.{instances_of, leaf_called, leaves_in}
+use Rattle.bt_arena.specs.Scenes.{Fits, Scene, scene}
+use Rattle.bt_arena.specs.Stands.{memory_of}
+use Rattle.bt_loop.specs.declared.runs.ReadyRunner.{ReadyRunner}
+use Rattle.bt_loop.specs.declared.runs.Runs.{Runs}
+use Rattle.bt_loop.specs.Telling.{boards_told}
+use Rattle.bt_script.specs.declared.value.Value.{Value}
+
+-- ---- States
+
+-- what a runner keeps: the memory of its nodes, its blackboard, and its leaves' instances, which the drivers have
+abbrev pub runner_in : Term → List DriverState → ReadyRunner → Runner
+runner_in term drivers r = record { memory = memory_of term 1 r.arena.kept.items; board = r.board; instances = instances_of r.arena.nodes.items drivers }
+
+abbrev pub runners_in : Term → List DriverState → List ReadyRunner → List Runner
+runners_in term drivers runners = map (runner_in term drivers) runners
+
+-- the state of runs
+abbrev pub state_of_runs : Term → List DriverState → Runs → RunState
+state_of_runs term drivers runs = record { runners = runners_in term drivers runs.runners.items; facts = runs.facts; last = runs.last }
+
+abbrev pub boards_in : List ReadyRunner → List (List (Option Value))
+boards_in runners = map (λ (r : ReadyRunner). r.board) runners
+
+-- ---- Arenas
+
+-- the nodes of each runner, which no event changes
+abbrev pub arenas_in : List ReadyRunner → List (List Node)
+arenas_in runners = map (λ (r : ReadyRunner). r.arena.nodes.items) runners
+
+abbrev pub arenas_of : Runs → List (List Node)
+arenas_of runs = arenas_in runs.runners.items
+
+-- how many leaves all runners have together
+abbrev pub leaves_of : List (List Node) → ℕ
+leaves_of arenas = sum (map leaves_in arenas)
+
+-- the nodes of the runner of this number
+abbrev pub nodes_of_runner : List (List Node) → ℕ → List Node
+nodes_of_runner arenas runner = slice_index_or arenas (runner - 1) []
+
+-- the drivers after these calls for leaves of runners, in order
+abbrev pub roster_over : List (List Node) → List RunnerCall → List DriverState → List DriverState
+roster_over arenas [] drivers = drivers
+roster_over arenas (c ∷ calls) drivers = roster_over arenas calls (leaf_called (leaf_at (nodes_of_runner arenas c.runner) c.call.uid) c.call drivers)
+
+-- no two runners have an instance in common
+abbrev pub AreApart : List (List Node) → Type 0
+AreApart arenas =
+    (k other uid p : ℕ) (a b : List Node) (x y : ReadyLeaf) → slice_get arenas k ≡ Some a → slice_get arenas other ≡ Some b →
+    leaf_at a uid ≡ Some x → leaf_at b p ≡ Some y → x.driver ≡ y.driver → x.instance ≡ y.instance → k ≡ other
+
+-- the instance of the driver at a place is that of a leaf of these runners
+pub record IsTheirs (arenas : List (List Node)) (place instance : ℕ) : Type 0 where
+  pub runner : ℕ
+  pub nodes : List Node
+  pub uid : ℕ
+  pub leaf : ReadyLeaf
+  pub is_runner : slice_get arenas runner ≡ Some nodes
+  pub is_leaf : leaf_at nodes uid ≡ Some leaf
+  pub is_driver : leaf.driver ≡ place
+  pub is_instance : leaf.instance ≡ instance
+
+-- no instance is held but those of leaves of these runners
+abbrev pub HeldAreTheirs : List (List Node) → List DriverState → Type 0
+HeldAreTheirs arenas drivers = (place instance : ℕ) → is_held (instance_at drivers place instance) ≡ true → IsTheirs arenas place instance
+
+-- ---- What holds of runs
+
+-- a runner's tree stands in its arena, whose marks say what is held, and nothing else does
+pub record RunnerFits (tree : Tree) (world : World) (facts : List ℤ) (drivers : List DriverState) (number : ℕ) (r : ReadyRunner) : Type 0 where
+  pub numbered : r.arena.runner ≡ number
+  pub fits : Fits tree.term (root_view tree world) 1 r.arena.nodes.items (scene r.arena.kept.items r.board facts drivers)
+  pub nodes : length r.arena.nodes.items ≡ 1 + node_count tree.term
+
+-- what holds of the runners of a world also in the middle of an event
+pub record RunnersFit (tree : Tree) (world : World) (facts : List ℤ) (drivers : List DriverState) (runners : List ReadyRunner) : Type 0 where
+  pub many : length runners ≡ world.runners
+  pub each : (k : ℕ) (r : ReadyRunner) → slice_get runners k ≡ Some r → RunnerFits tree world facts drivers (k + 1) r
+  pub apart : AreApart (arenas_in runners)
+  pub theirs : HeldAreTheirs (arenas_in runners) drivers
+  pub many_facts : length facts ≡ length world.facts
+
+-- what holds of the runs of a tree in a world between events, before any has stopped
+pub record AreRuns (tree : Tree) (world : World) (drivers : List DriverState) (runs : Runs) : Type 0 where
+  pub usable : runs.usable ≡ true
+  pub fit : RunnersFit tree world runs.facts drivers runs.runners.items
+  pub told : runs.told.facts.items ≡ runs.facts
+  pub told_entries : boards_told runs.told.boards.items ≡ boards_in runs.runners.items
+  pub steady : RunSteady tree.term world.rows (state_of_runs tree.term drivers runs)
+
+-- ---- Instances
+
+-- how many instances each of some drivers needs, of which the first has this place: one for each runner's leaves that it
+-- serves
+abbrev pub wanted_from : Tree → World → List DriverState → ℕ → List DriverState → List ℕ
+wanted_from tree world drivers place [] = []
+wanted_from tree world drivers place (d ∷ ds) = world.runners * leaves_served world.rows drivers place (leaf_ids tree.term) ∷ wanted_from tree world drivers (place + 1) ds
+
+abbrev pub instances_wanted : Tree → World → List DriverState → List ℕ
+instances_wanted tree world drivers = wanted_from tree world drivers 0 drivers
+
+-- the blackboard of the runner of this number
+abbrev pub nth_board : List ReadyRunner → ℕ → List (Option Value)
+nth_board runners number = slice_index_or (boards_in runners) (number - 1) []

@@ -1,0 +1,83 @@
+-- What an event leaves of runs, against the definition's step.
+use Rattle.std.specs.Prelude.{◌≡◌, ◌≤◌, ◌+◌, ◌<◌, ◌⊎◌, ℕ, List, ◌++◌, length, map, Option, Some, None, Result, Ok, Err}
+use Rattle.bt_script.specs.declared.stop.Stop.{Stop}
+use Rattle.bt_script.specs.declared.stop.Stop.TheVariants as stop
+use Rattle.bt_model.specs.declared.fault.RunFault.{RunFault}
+use Rattle.bt_model.specs.declared.leaf.Instance.{Instance}
+use Rattle.bt_model.specs.declared.leaf.Totals.{Totals}
+use Rattle.bt_model.specs.declared.note.Note.{Note}
+use Rattle.bt_model.specs.declared.term.Term.{Term}
+use Rattle.bt_model.specs.declared.world.Event.{Event}
+use Rattle.bt_model.specs.declared.world.World.{World}
+use Rattle.bt_model.specs.Drivers.{DriverState, driver_at}
+use Rattle.bt_model.specs.Run.{Runner, RunnerCall, Stepped, quench_calls, quench_notes}
+use Rattle.bt_model.specs.Worlds.{IsValidWhat}
+use Rattle.bt_arena.specs.declared.block.Block.{Block}
+use Rattle.bt_arena.specs.declared.nodes.Node.{Node}
+use Rattle.bt_arena.specs.Blocks.{seen}
+use Rattle.bt_arena.specs.Noted.{Noted, calls_named}
+use Rattle.bt_arena.specs.Rosters.{instances_of}
+use Rattle.bt_loop.specs.declared.runs.Runs.{Runs}
+use Rattle.bt_loop.specs.Runs.{arenas_of, leaves_of, roster_over, state_of_runs}
+
+-- ---- Premises
+
+-- an event names a runner or a fact that is there, at no moment before the last one
+abbrev pub CanCome : World → ℕ → Event → Type 0
+CanCome world last event = IsValidWhat world.facts world.runners event.what × (last ≤ event.at)
+
+-- notes were made for the leaves of all runners
+abbrev pub HaveRoom : List (List Node) → Noted → Type 0
+HaveRoom arenas notes = leaves_of arenas + 1 ≤ notes.full
+
+-- ---- Ends
+
+-- the event was made as a whole: the state, the block and the drivers are those of the definition
+pub record IsStep (term : Term) (before after : List DriverState) (runs : Runs) (block : Block) (d : Stepped) : Type 0 where
+  pub state : state_of_runs term after runs ≡ d.state
+  pub shown : seen block ≡ d.block
+  pub drivers : after ≡ roster_over (arenas_of runs) d.calls before
+
+-- the event was cut off: its first notes are told, and then those of the quench of all runners, which held what the
+-- drivers' calls that the first notes name had left them
+pub record IsCutOff (arenas : List (List Node)) (before after : List DriverState) (notes : List Note) (d : Stepped) : Type 0 where
+  pub told : List Note
+  pub untold : List Note
+  pub made : List RunnerCall
+  pub unmade : List RunnerCall
+  pub held : List Runner
+  pub all_notes : told ++ untold ≡ d.block.notes
+  pub all_calls : made ++ unmade ≡ d.calls
+  pub named : length made ≡ calls_named told
+  pub instances : map (λ (r : Runner). r.instances) held ≡ map (λ nodes. instances_of nodes (roster_over arenas made before)) arenas
+  pub noted : notes ≡ told ++ quench_notes 1 held
+  pub drivers : after ≡ roster_over arenas (quench_calls 1 held) (roster_over arenas made before)
+
+-- a fault was told, and only what has changed is not told as a whole
+pub record IsTold (arenas : List (List Node)) (before after : List DriverState) (notes : List Note) (d : Stepped) : Type 0 where
+  pub fault : RunFault
+  pub faulted : d.fault ≡ Some fault
+  pub noted : notes ≡ d.block.notes
+  pub drivers : after ≡ roster_over arenas d.calls before
+
+-- The answer and the fault are the definition's, with all that it leaves. Want of memory cuts the event off.
+abbrev pub EventEnds : Result (Unit {0}) (Stop RunFault) → Term → List DriverState → List DriverState → Runs → Block → Stepped → Type 0
+EventEnds (Ok done) term before after runs block d = (d.fault ≡ None) × IsStep term before after runs block d
+EventEnds (Err (stop.Fault fault)) term before after runs block d = (d.fault ≡ Some fault) × IsStep term before after runs block d
+EventEnds (Err stop.NoMemory) term before after runs block d =
+    IsCutOff (arenas_of runs) before after block.notes.list d ⊎ IsTold (arenas_of runs) before after block.notes.list d
+
+-- ---- Rosters
+
+-- no count has fallen
+pub record HasRisen (old new : Totals) : Type 0 where
+  pub starts : old.starts ≤ new.starts
+  pub runnings : old.runnings ≤ new.runnings
+  pub haltings : old.haltings ≤ new.haltings
+
+-- as many drivers, each of the same kind and mark in its place, and no total has fallen
+pub record IsSameRoster (old new : List DriverState) : Type 0 where
+  pub as_many : length new ≡ length old
+  pub kind : (place : ℕ) → (driver_at new place).kind ≡ (driver_at old place).kind
+  pub mark : (place : ℕ) → (driver_at new place).mark ≡ (driver_at old place).mark
+  pub totals : (place : ℕ) → HasRisen (driver_at old place).totals (driver_at new place).totals

@@ -1,0 +1,16 @@
+//! The runs of a tree in a world: one to sixteen runners, each with its arena and its blackboard, over
+//! one table of facts and one roster of drivers.
+#![tactic(auto)]
+
+mod below;
+mod boxed;
+mod events;
+mod making;
+mod parts;
+mod quenching;
+mod runs;
+mod telling;
+
+pub use events::{event, finish, run_event, run_finish};
+pub use making::{leaves, make_runs, runs_of};
+pub use runs::{ReadyRunner, Runs, usable};

@@ -1,0 +1,170 @@
+ghost use Rattle.std.specs.Prelude.{◌≡◌, ◌≤◌, ◌<◌, ◌++◌, ◌∷◌, [], ℕ, ℤ, List, OnOk, OnErr, Some, length, slice_get, slice_set};
+ghost use Rattle.bt_model.specs.declared.term.Tree.{Tree};
+ghost use Rattle.bt_model.specs.declared.world.World.{World};
+ghost use Rattle.bt_model.specs.Run.{Runner, runner_at, settled, state_of};
+ghost use Rattle.bt_model.specs.Visit.{change};
+ghost use Rattle.bt_arena.specs.Ends.{Meets, StaysFit};
+ghost use Rattle.bt_arena.specs.Nodes.{kept_at};
+ghost use Rattle.bt_arena.specs.Stands.{memory_of};
+ghost use Rattle.bt_loop.specs.Parts.{AreReady, CanAct, PartEnds, StaysRunner, part_of, scene_of, state_of_all, state_of_runner};
+ghost use Rattle.bt_loop.specs.Runs.{RunnersFit, arenas_in};
+
+use crate::below::tick;
+use crate::runs::ReadyRunner;
+use bt_arena::{Kept, Notes, kept_by, set_status};
+use bt_driver::{Drivers, FactTable};
+use bt_halting::reset;
+use bt_model::{NodeFault, Note, Status};
+use bt_script::{NoMemory, Stop};
+use std::alloc::Global;
+
+/// What a runner does in an event.
+#[derive(Clone, Copy, Debug, PartialEq, Eq)]
+pub enum Part {
+    /// Its root is visited.
+    Tick,
+    /// Its root is reset.
+    Reset,
+}
+
+/// The end of a root when its tick ends.
+fn at_end(status: Status) -> Status
+    ensures { result ≡ settled status }
+{
+    match status {
+        Status::Success | Status::Failure => Status::Idle,
+        other => other,
+    }
+}
+
+/// A root that has succeeded or failed becomes IDLE, which is noted.
+fn settle_root(kept: &mut [Kept], notes: &mut Notes) -> Result<(), NoMemory>
+    requires { 1 < length kept.old }
+    ensures kept { OnOk result (kept.new ≡ slice_set kept.old 1 (record (kept_at kept.old 1) { status = settled (kept_at kept.old 1).status })) }
+    ensures notes { OnOk result (notes.new.list ≡ notes.old.list ++ change 1 (kept_at kept.old 1).status (settled (kept_at kept.old 1).status)) }
+    ensures err { OnErr result (kept.new ≡ kept.old) }
+    ensures err_notes { OnErr result (notes.new.list ≡ notes.old.list) }
+    ensures reserve { notes.new.reserve ≡ notes.old.reserve }
+    ensures full { notes.new.full ≡ notes.old.full }
+{
+    let old = kept_by(kept, 1).status;
+    let new = at_end(old);
+    if old != new {
+        notes.push(Note::Changed { uid: 1, old, new })?;
+    }
+    set_status(kept, 1, new);
+    Ok(())
+}
+
+/// Ticks a runner: visits its root, and notes its answer and the root's own end.
+fn tick_root<D: Drivers>(
+    alloc: Global,
+    runner: &mut ReadyRunner,
+    facts: &mut FactTable,
+    drivers: &mut D,
+    at: u64,
+    notes: &mut Notes,
+) -> Result<(), Stop<NodeFault>>
+    requires can { (tree : Tree) × (world : World) × CanAct tree world at facts.old (D.states drivers.old) runner.old }
+    ensures part { (tree : Tree) (world : World) → CanAct tree world at facts.old (D.states drivers.old) runner.old →
+        Meets runner.old.arena.nodes.items at (memory_of tree.term 1) result (scene_of runner.old facts.old (D.states drivers.old)) (scene_of runner.new facts.new (D.states drivers.new)) notes.old.list notes.new.list
+        (part_of Part.Tick tree world runner.old.arena.runner (memory_of tree.term 1 runner.old.arena.kept.items) (state_of_runner runner.old facts.old (D.states drivers.old) at)) }
+    ensures fits { StaysFit runner.old.arena.nodes.items (scene_of runner.old facts.old (D.states drivers.old)) (scene_of runner.new facts.new (D.states drivers.new)) }
+    ensures stays { StaysRunner runner.old runner.new }
+    ensures reserve { notes.old.reserve ≤ notes.new.reserve }
+    ensures full { notes.new.full ≡ notes.old.full }
+{
+    let answer = tick(
+        alloc,
+        &mut runner.arena,
+        &mut runner.board,
+        facts,
+        drivers,
+        at,
+        notes,
+    )?;
+    notes.push(Note::Root {
+        runner: runner.arena.runner,
+        answer,
+    })?;
+    settle_root(&mut runner.arena.kept, notes)?;
+    Ok(())
+}
+
+/// Resets a runner's root.
+fn reset_root<D: Drivers>(
+    alloc: Global,
+    runner: &mut ReadyRunner,
+    drivers: &mut D,
+    notes: &mut Notes,
+) -> Result<(), Stop<NodeFault>>
+    requires can { (tree : Tree) × (world : World) × (at : ℕ) × (facts : List ℤ) × CanAct tree world at facts (D.states drivers.old) runner.old }
+    ensures part { (tree : Tree) (world : World) (at : ℕ) (facts : List ℤ) → CanAct tree world at facts (D.states drivers.old) runner.old →
+        Meets runner.old.arena.nodes.items at (memory_of tree.term 1) result (scene_of runner.old facts (D.states drivers.old)) (scene_of runner.new facts (D.states drivers.new)) notes.old.list notes.new.list
+        (part_of Part.Reset tree world runner.old.arena.runner (memory_of tree.term 1 runner.old.arena.kept.items) (state_of_runner runner.old facts (D.states drivers.old) at)) }
+    ensures fits { (facts : List ℤ) → StaysFit runner.old.arena.nodes.items (scene_of runner.old facts (D.states drivers.old)) (scene_of runner.new facts (D.states drivers.new)) }
+    ensures stays { StaysRunner runner.old runner.new }
+    ensures reserve { notes.old.reserve ≤ notes.new.reserve }
+    ensures full { notes.new.full ≡ notes.old.full }
+{
+    reset(
+        alloc,
+        &mut runner.arena,
+        &mut runner.board,
+        drivers,
+        1,
+        notes,
+    )
+}
+
+/// Makes a runner's part of an event.
+fn make_part<D: Drivers>(
+    alloc: Global,
+    part: Part,
+    runner: &mut ReadyRunner,
+    facts: &mut FactTable,
+    drivers: &mut D,
+    at: u64,
+    notes: &mut Notes,
+) -> Result<(), Stop<NodeFault>>
+    requires can { (tree : Tree) × (world : World) × CanAct tree world at facts.old (D.states drivers.old) runner.old }
+    ensures part { (tree : Tree) (world : World) → CanAct tree world at facts.old (D.states drivers.old) runner.old →
+        Meets runner.old.arena.nodes.items at (memory_of tree.term 1) result (scene_of runner.old facts.old (D.states drivers.old)) (scene_of runner.new facts.new (D.states drivers.new)) notes.old.list notes.new.list
+        (part_of part tree world runner.old.arena.runner (memory_of tree.term 1 runner.old.arena.kept.items) (state_of_runner runner.old facts.old (D.states drivers.old) at)) }
+    ensures fits { StaysFit runner.old.arena.nodes.items (scene_of runner.old facts.old (D.states drivers.old)) (scene_of runner.new facts.new (D.states drivers.new)) }
+    ensures stays { StaysRunner runner.old runner.new }
+    ensures reserve { notes.old.reserve ≤ notes.new.reserve }
+    ensures full { notes.new.full ≡ notes.old.full }
+{
+    match part {
+        Part::Tick => tick_root(alloc, runner, facts, drivers, at, notes),
+        Part::Reset => reset_root(alloc, runner, drivers, notes),
+    }
+}
+
+/// Makes the part of the runner of this number, among all runners.
+pub fn make_part_of<D: Drivers>(
+    alloc: Global,
+    part: Part,
+    number: u8,
+    runners: &mut [ReadyRunner],
+    facts: &mut FactTable,
+    drivers: &mut D,
+    at: u64,
+    notes: &mut Notes,
+) -> Result<(), Stop<NodeFault>>
+    requires first { 1 ≤ number }
+    requires last { number ≤ length runners.old }
+    requires ready { (tree : Tree) × (world : World) × (last : ℕ) × AreReady tree world last at facts.old (D.states drivers.old) runners.old }
+    ensures part { (tree : Tree) (world : World) (last : ℕ) → AreReady tree world last at facts.old (D.states drivers.old) runners.old →
+        (r : Runner) → runner_at (state_of_all tree.term (D.states drivers.old) runners.old facts.old last) number ≡ Some r →
+        PartEnds result tree.term number at (state_of_all tree.term (D.states drivers.old) runners.old facts.old last) (arenas_in runners.old) (D.states drivers.old) (D.states drivers.new) runners.new facts.new notes.old.list notes.new.list
+        (part_of part tree world number r.memory (state_of r facts.old at)) }
+    ensures fit { (tree : Tree) (world : World) → RunnersFit tree world facts.old (D.states drivers.old) runners.old → RunnersFit tree world facts.new (D.states drivers.new) runners.new }
+    ensures arenas { arenas_in runners.new ≡ arenas_in runners.old }
+    ensures reserve { notes.old.reserve ≤ notes.new.reserve }
+    ensures full { notes.new.full ≡ notes.old.full }
+{
+    let runner = &mut runners[number as usize - 1];
+    make_part(alloc, part, runner, facts, drivers, at, notes)
+}

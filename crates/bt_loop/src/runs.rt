@@ -1,0 +1,41 @@
+ghost use Rattle.std.specs.Prelude.{◌≡◌};
+
+use bt_arena::Arena;
+use bt_board::Board;
+use bt_driver::FactTable;
+use bt_script::Value;
+
+/// A runner of a run: its arena and its blackboard.
+#[derive(Debug, Drop)]
+pub struct ReadyRunner {
+    pub arena: Arena,
+    pub board: Board,
+}
+
+/// What the blocks of a run have told so far.
+#[derive(Debug, Drop)]
+pub struct Told {
+    /// The facts, by their number.
+    pub facts: Vec<i64>,
+    /// The entries of each runner's blackboard, by slot.
+    pub boards: Vec<Vec<Option<Value>>>,
+}
+
+/// The runners of a run, numbered from 1, and the facts that they share.
+#[derive(Debug, Drop)]
+pub struct Runs {
+    pub runners: Vec<ReadyRunner>,
+    pub facts: FactTable,
+    pub told: Told,
+    /// The moment of the last event, in milliseconds.
+    pub last: u64,
+    /// Whether no event has stopped.
+    pub usable: bool,
+}
+
+/// Whether another event may come: none has stopped.
+pub fn usable(runs: &Runs) -> bool
+    ensures { result ≡ runs.now.usable }
+{
+    runs.usable
+}

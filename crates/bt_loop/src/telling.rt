@@ -1,0 +1,162 @@
+ghost use Rattle.std.specs.Prelude.{◌≡◌, ◌≤◌, ◌<◌, ◌-◌, ◌^◌, ◌++◌, ℕ, ℤ, List, OnOk, OnErr, IfOk, Some, Option, length, map, slice_get, slice_set};
+ghost use Rattle.bt_script.specs.declared.value.Value.{Value as Content};
+ghost use Rattle.bt_model.specs.Run.{changed_entries, changed_from, had, with_change};
+ghost use Rattle.bt_loop.specs.Telling.{boards_told, entries_told, with_fact};
+
+use crate::runs::Told;
+use bt_arena::Block;
+use bt_board::Board;
+use bt_driver::FactTable;
+use bt_script::{NoMemory, Value};
+use std::alloc::Global;
+
+/// Adds a fact that differs from what was told, and tells it.
+fn tell_fact(
+    fact: u32,
+    told: &mut i64,
+    value: &i64,
+    changes: &mut Vec<(u32, i64)>,
+) -> Result<(), NoMemory>
+    ensures changes { OnOk result ((rest : List (ℕ × ℤ)) → changes.new.items ++ rest ≡ changes.old.items ++ with_fact fact told.old value.now rest) }
+    ensures told { OnOk result (told.new ≡ value.now) }
+{
+    if *told != *value {
+        changes.push((fact, *value))?;
+        *told = *value;
+    }
+    Ok(())
+}
+
+/// Adds the facts that differ from those that were told, and tells them.
+pub fn tell_facts(
+    told: &mut [i64],
+    facts: &[i64],
+    changes: &mut Vec<(u32, i64)>,
+) -> Result<(), NoMemory>
+    requires same { length told.old ≡ length facts.now }
+    requires few { length facts.now < 2 ^ 32 }
+    ensures changes { OnOk result (changes.new.items ≡ changes.old.items ++ changed_from 0 told.old facts.now) }
+    ensures told { OnOk result (told.new ≡ facts.now) }
+{
+    for (fact, value) in facts.iter().enumerate() {
+        tell_fact(fact as u32, &mut told[fact], value, changes)?;
+    }
+    Ok(())
+}
+
+/// Whether an entry already had this value.
+fn already(old: &Option<Value>, new: &Value) -> bool
+    ensures { result ≡ had old.now new.now }
+{
+    match (old, new) {
+        (Some(Value::Int(old)), Value::Int(new)) => old == new,
+        (Some(Value::Text(old)), Value::Text(new)) => old.list() == new.list(),
+        _ => false,
+    }
+}
+
+/// Adds an entry that changed or is new, and tells it.
+fn tell_entry(
+    alloc: Global,
+    runner: u8,
+    slot: u32,
+    told: &mut Option<Value>,
+    entry: &Option<Value>,
+    changes: &mut Vec<(u8, u32, Value)>,
+) -> Result<(), NoMemory>
+    ensures changes { OnOk result ((rest : List (ℕ × ℕ × Content)) → changes.new.items ++ rest ≡ changes.old.items ++ with_change runner slot told.old entry.now rest) }
+    ensures told { OnOk result (told.new ≡ entry.now) }
+{
+    match entry {
+        Some(value) => {
+            if !already(told, value) {
+                changes.push((runner, slot, value.copy(alloc)?))?;
+                *told = Some(value.copy(alloc)?);
+            }
+        }
+        None => *told = None,
+    }
+    Ok(())
+}
+
+/// Adds the entries of a runner's blackboard that differ from those that were told, and tells them.
+fn tell_entries(
+    alloc: Global,
+    runner: u8,
+    told: &mut Vec<Option<Value>>,
+    board: &[Option<Value>],
+    changes: &mut Vec<(u8, u32, Value)>,
+) -> Result<(), NoMemory>
+    requires same { length told.old.items ≡ length board.now }
+    requires few { length board.now < 2 ^ 32 }
+    ensures changes { OnOk result (changes.new.items ≡ changes.old.items ++ changed_entries runner 0 told.old.items board.now) }
+    ensures told { OnOk result (told.new.items ≡ board.now) }
+{
+    for (slot, entry) in board.iter().enumerate() {
+        tell_entry(alloc, runner, slot as u32, &mut told[slot], entry, changes)?;
+    }
+    Ok(())
+}
+
+/// The same for the blackboard of the runner of this number.
+fn tell_board(
+    alloc: Global,
+    number: u8,
+    told: &mut [Vec<Option<Value>>],
+    board: &Board,
+    changes: &mut Vec<(u8, u32, Value)>,
+) -> Result<(), NoMemory>
+    requires first { 1 ≤ number }
+    requires last { number ≤ length told.old }
+    requires same { length (entries_told told.old number) ≡ length board.now }
+    requires few { length board.now < 2 ^ 32 }
+    ensures changes { OnOk result (changes.new.items ≡ changes.old.items ++ changed_entries number 0 (entries_told told.old number) board.now) }
+    ensures told { OnOk result (boards_told told.new ≡ slice_set (boards_told told.old) (number - 1) board.now) }
+{
+    tell_entries(
+        alloc,
+        number,
+        &mut told[number as usize - 1],
+        board.list(),
+        changes,
+    )
+}
+
+/// Adds to a block the facts that differ from those that were told, and tells them.
+pub fn tell_facts_in(told: &mut Told, facts: &FactTable, block: &mut Block) -> Result<(), NoMemory>
+    requires same { length told.old.facts.items ≡ length facts.now }
+    requires few { length facts.now < 2 ^ 32 }
+    ensures facts { OnOk result (block.new.facts.items ≡ block.old.facts.items ++ changed_from 0 told.old.facts.items facts.now) }
+    ensures told { OnOk result (told.new.facts.items ≡ facts.now) }
+    ensures boards { told.new.boards ≡ told.old.boards }
+    ensures rest { block.new ≡ record block.old { facts = block.new.facts } }
+{
+    tell_facts(&mut told.facts, facts.list(), &mut block.facts)
+}
+
+/// Adds to a block the facts, and the entries of the blackboard of the runner of this number, that
+/// differ from those that were told, and tells them.
+pub fn tell_part(
+    alloc: Global,
+    number: u8,
+    told: &mut Told,
+    facts: &FactTable,
+    board: &Board,
+    block: &mut Block,
+) -> Result<(), NoMemory>
+    requires first { 1 ≤ number }
+    requires last { number ≤ length told.old.boards.items }
+    requires same_facts { length told.old.facts.items ≡ length facts.now }
+    requires few_facts { length facts.now < 2 ^ 32 }
+    requires same { length (entries_told told.old.boards.items number) ≡ length board.now }
+    requires few { length board.now < 2 ^ 32 }
+    ensures facts { OnOk result (block.new.facts.items ≡ block.old.facts.items ++ changed_from 0 told.old.facts.items facts.now) }
+    ensures entries { OnOk result (block.new.entries.items ≡ block.old.entries.items ++ changed_entries number 0 (entries_told told.old.boards.items number) board.now) }
+    ensures told { OnOk result (told.new.facts.items ≡ facts.now) }
+    ensures boards { OnOk result (boards_told told.new.boards.items ≡ slice_set (boards_told told.old.boards.items) (number - 1) board.now) }
+    ensures header { block.new.header ≡ block.old.header }
+    ensures notes { block.new.notes ≡ block.old.notes }
+{
+    tell_facts_in(told, facts, block)?;
+    tell_board(alloc, number, &mut told.boards, board, &mut block.entries)
+}
