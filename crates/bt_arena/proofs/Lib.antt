@@ -8,7 +8,9 @@ pub mod Indexed
 pub mod Joined
 pub mod Laid
 pub mod Named
+pub mod Numbered
 pub mod Opened
 pub mod Parts
+pub mod Standing
 pub mod Static
 pub mod Whole

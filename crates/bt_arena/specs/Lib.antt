@@ -1,6 +1,7 @@
 pub mod Ends
 pub mod Joins
 pub mod Laying
+pub mod Made
 pub mod Nodes
 pub mod Noted
 pub mod Resolving
