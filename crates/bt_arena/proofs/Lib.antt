@@ -7,6 +7,7 @@ pub mod Framed
 pub mod Indexed
 pub mod Joined
 pub mod Laid
+pub mod Making
 pub mod Named
 pub mod Numbered
 pub mod Opened

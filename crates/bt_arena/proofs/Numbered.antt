@@ -107,8 +107,8 @@ module _ (world : World) (drivers : List DriverState) where
 
     count_is : (p : ℕ) → p < length drivers → get_or counts p 0 ≡ served p (nobody ∷ nodes)
     count_is p within =
-        let zeros : get_or (replicate (length drivers) 0) p 0 ≡ 0 = get_or-replicate (length drivers) p 0 0 within in
-        omega (arith, ap (λ (xs : List ℕ). get_or xs p 0) are_counts, counted ids (replicate (length drivers) 0) p (omega (arith, within, length-replicate (length drivers) 0)), zeros, served_all p within)
+        let zeros : ◌≡◌ {A = ℕ} (get_or {A = ℕ} (replicate {A = ℕ} (length drivers) 0) p 0) 0 = get_or-replicate {A = ℕ} (length drivers) p 0 0 within in
+        omega (arith, ap (λ (xs : List ℕ). get_or xs p 0) are_counts, counted ids (replicate (length drivers) 0) p (omega (arith, within, length-replicate {A = ℕ} (length drivers) 0)), zeros, served_all p within)
 
     leaf_numbered : (uid : ℕ) (leaf : ReadyLeaf) → leaf_at (nobody ∷ nodes) uid ≡ Some leaf →
         (place_of_kind drivers (kind_of_way (rule leaf.row).way) ≡ Some leaf.driver) × (leaf.instance ≡ (runner - 1) * served leaf.driver (nobody ∷ nodes) + served leaf.driver (take uid (nobody ∷ nodes)))
