@@ -1,8 +1,8 @@
 -- What a leaf that lacks nothing has: a row of the world, which can be made ready, and a place of a driver.
-use Rattle.std.proofs.Common.{◌≡◌, ℕ, ◌+◌, ◌<◌, ◌≤◌, List, [], ◌∷◌, ◌++◌, Bool, true, false, cond, if◌then◌else◌, Option, Some, None, length, refl, sym, ap, subst, ◌∙◌, arith}
+use Rattle.std.proofs.Common.{◌≡◌, ℕ, ◌+◌, ◌<◌, List, [], ◌∷◌, Bool, true, false, cond, if◌then◌else◌, Option, Some, None, length, subst, arith}
 use Rattle.std.specs.Prelude.{IfSome, find}
 use Rattle.std.specs.List.{All}
-use Rattle.std.specs.Option.{option_map, option_or}
+use Rattle.std.specs.Option.{option_map}
 use Rattle.std.specs.Str.{bytes_eq}
 use Rattle.std.proofs.lemmas.List.{length-map}
 use Rattle.std.proofs.lemmas.List.Elements.{All-head, All-tail}
@@ -15,7 +15,6 @@ use Rattle.bt_model.specs.Leaves.{row_of}
 use Rattle.bt_model.specs.Worlds.{IsValidRow, IsValidWorld}
 use Rattle.bt_driver.proofs.Valid.{can_be_ready}
 use Rattle.bt_driver.specs.Places.{CanBeReady}
-use Rattle.bt_arena.specs.declared.join_fault.JoinFault.{JoinFault}
 use Rattle.bt_arena.specs.Joins.{place_by}
 
 abbrev IsBelow : ℕ → Option ℕ → Type 0

@@ -1,11 +1,10 @@
 -- Instances that were given one after the other are numbered by runner, and then by uid.
-use Rattle.std.proofs.Common.{◌≡◌, ◌≢◌, ℕ, zero, suc, ◌+◌, ◌-◌, ◌*◌, ◌<◌, ◌≤◌, nat_eq, List, [], ◌∷◌, ◌++◌, Bool, true, false, cond, inl, inr, Option, Some, None, map, length, get_or, set, take, replicate, refl, sym, ap, subst, ◌∙◌, arith}
-use Rattle.std.specs.Prelude.{IfSome, count_by}
+use Rattle.std.proofs.Common.{◌≡◌, ℕ, zero, suc, ◌+◌, ◌-◌, ◌*◌, ◌<◌, nat_eq, List, [], ◌∷◌, true, false, cond, inl, inr, Option, Some, None, map, length, get_or, set, take, replicate, refl, sym, ap, subst, ◌∙◌, arith}
+use Rattle.std.specs.Prelude.{IfSome}
 use Rattle.std.proofs.lemmas.Bool.{cases_eq}
 use Rattle.std.proofs.lemmas.Bool.Decides.{nat_tests}
-use Rattle.std.proofs.lemmas.List.{get_or-map, get_or-set_same, get_or-set_other, length-map, length-set, length-replicate, get_or-replicate}
+use Rattle.std.proofs.lemmas.List.{get_or-map, get_or-set_same, get_or-set_other, length-map, length-replicate, get_or-replicate}
 use Rattle.std.proofs.lemmas.List.Sums.{sum_by-cons}
-use Rattle.bt_model.specs.declared.term.Tree.{Tree}
 use Rattle.bt_model.specs.declared.world.World.{World}
 use Rattle.bt_model.specs.Drivers.{DriverState, kind_of_way, place_of_kind}
 use Rattle.bt_model.specs.Leaves.{row_of}
@@ -24,15 +23,15 @@ use Rattle.bt_arena.proofs.Whole.{next_length}
 counted_there : (o : Option ℕ) (counts : List ℕ) (p : ℕ) → p < length counts → get_or (counted_at o counts) p 0 ≡ get_or counts p 0 + cond (is_place p o) 1 0
 counted_there None counts p within = omega arith
 counted_there (Some k) counts p within = elim (cases_eq p k) [
-    | inl same ↦
-        let test : nat_eq k p ≡ true = grind (arith, nat_tests) in
-        ap (λ q. get_or (set counts k (get_or counts k 0 + 1)) q 0) same
-        ∙ get_or-set_same counts k (get_or counts k 0 + 1) 0 (subst (λ q. q < length counts) same within)
-        ∙ sym (ap (λ b. get_or counts p 0 + cond b 1 0) test ∙ ap (λ q. get_or counts q 0 + 1) same)
-    | inr apart ↦
-        let test : nat_eq k p ≡ false = grind (arith, nat_tests) in
-        get_or-set_other counts k p (get_or counts k 0 + 1) 0 apart ∙ sym (ap (λ b. get_or counts p 0 + cond b 1 0) test ∙ omega arith)
-  ]
+  | inl same ↦
+      let test : nat_eq k p ≡ true = grind (arith, nat_tests) in
+      ap (λ q. get_or (set counts k (get_or counts k 0 + 1)) q 0) same
+      ∙ get_or-set_same counts k (get_or counts k 0 + 1) 0 (subst (λ q. q < length counts) same within)
+      ∙ sym (ap (λ b. get_or counts p 0 + cond b 1 0) test ∙ ap (λ q. get_or counts q 0 + 1) same)
+  | inr apart ↦
+      let test : nat_eq k p ≡ false = grind (arith, nat_tests) in
+      get_or-set_other counts k p (get_or counts k 0 + 1) 0 apart ∙ sym (ap (λ b. get_or counts p 0 + cond b 1 0) test ∙ omega arith)
+]
 
 served_is : (p : ℕ) (leaf : Option ReadyLeaf) → is_served_at p leaf ≡ is_place p (driver_of leaf)
 served_is p None = refl
@@ -58,8 +57,12 @@ module _ (world : World) (drivers : List DriverState) where
   counted [] counts p within = omega arith
   counted (id ∷ ids) counts p within =
       let further = counted_at (place_for id) counts in
-      omega (arith, counted ids further p (omega (arith, within, next_length (place_for id) counts further refl)), counted_there (place_for id) counts p within,
-      sum_by-cons (λ (i : List ℕ). cond (is_place p (place_for i)) 1 0) id ids)
+      omega (
+        arith,
+        counted ids further p (omega (arith, within, next_length (place_for id) counts further refl)),
+        counted_there (place_for id) counts p within,
+        sum_by-cons (λ (i : List ℕ). cond (is_place p (place_for i)) 1 0) id ids,
+      )
 
   -- the leaf at a place has its driver, and its number there
   pub record HasNumber (next : List ℕ) (nodes : List Node) (k : ℕ) (leaf : ReadyLeaf) : Type 0 where

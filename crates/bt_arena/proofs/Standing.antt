@@ -1,5 +1,5 @@
 -- A valid tree that lacks nothing can be laid into an arena.
-use Rattle.std.proofs.Common.{◌≡◌, ℕ, ◌<◌, List, [], ◌∷◌, ◌++◌, Bool, true, false, ◌||◌, ◌&&◌, nat_eq, inl, inr, Option, None, map, length, refl, sym, ap, subst, ◌∙◌, append-nil, arith}
+use Rattle.std.proofs.Common.{◌≡◌, ℕ, List, [], ◌∷◌, ◌++◌, Bool, true, false, ◌||◌, ◌&&◌, nat_eq, inl, inr, None, map, refl, sym, ap, subst, ◌∙◌, append-nil, arith}
 use Rattle.std.specs.List.{All, AllByRecursion, Contains, flat_map, list_any}
 use Rattle.std.specs.Str.{bytes_eq}
 use Rattle.std.proofs.lemmas.Bool.Decides.{nat_tests}
@@ -8,14 +8,13 @@ use Rattle.std.proofs.lemmas.Slice.Eq.{bytes_eq-Decides}
 use Rattle.bt_model.specs.declared.cell.Naming.{Naming}
 use Rattle.bt_model.specs.declared.term.Tree.{Tree}
 use Rattle.bt_model.specs.declared.world.World.{World}
-use Rattle.bt_model.specs.Boards.{Scope, Standing, keys_named, main_scope, makes_scope, named_in, namings, namings_at, scope_below, scope_of, standing, standing_from}
+use Rattle.bt_model.specs.Boards.{Scope, Standing, keys_named, makes_scope, named_in, namings, namings_at, scope_below, scope_of, standing, standing_from}
 use Rattle.bt_model.specs.Drivers.{DriverState}
 use Rattle.bt_model.specs.Terms.{leaf_ids}
 use Rattle.bt_model.specs.Trees.{IsValid, NodeFits, nodes_of}
 use Rattle.bt_board.proofs.Sound.{main_leads, standings_make, standings_sound}
 use Rattle.bt_arena.specs.Joins.{first_lack}
 use Rattle.bt_arena.specs.Laying.{CanBeLaid, StandsIn}
-use Rattle.bt_arena.specs.Resolving.{AreNamed}
 
 module _ (tree : Tree) where
   abbrev Has : List Naming → ℕ → List ℕ → Bool
@@ -47,11 +46,11 @@ module _ (tree : Tree) where
   key_has : (number : ℕ) (scope : Scope) (keys : List (List ℕ)) (key : List ℕ) → Contains keys key → Has (map (named_in number scope) keys) number key ≡ true
   key_has number scope [] key has = absurd (omega (arith, has.1))
   key_has number scope (k ∷ keys) key has = elim (Contains-append_cases (k ∷ []) keys key has) [
-      | inl here ↦
-          let same : key ≡ k = All-contains (λ x. x ≡ k) (k ∷ []) key (All-cons (λ x. x ≡ k) k [] refl (All-nil (λ x. x ≡ k))) here in
-          or_left (nat_eq number number && bytes_eq k key) (Has (map (named_in number scope) keys) number key) (subst (λ x. nat_eq number number && bytes_eq k x ≡ true) (sym same) (here_named number k))
-      | inr there ↦ or_right (nat_eq number number && bytes_eq k key) _ (key_has number scope keys key there)
-    ]
+    | inl here ↦
+        let same : key ≡ k = All-contains (λ x. x ≡ k) (k ∷ []) key (All-cons (λ x. x ≡ k) k [] refl (All-nil (λ x. x ≡ k))) here in
+        or_left (nat_eq number number && bytes_eq k key) (Has (map (named_in number scope) keys) number key) (subst (λ x. nat_eq number number && bytes_eq k x ≡ true) (sym same) (here_named number k))
+    | inr there ↦ or_right (nat_eq number number && bytes_eq k key) _ (key_has number scope keys key there)
+  ]
 
   -- what some nodes name is among what is named, where all they name is
   nodes_have : (nodes : List Standing) (all : List Naming) → ((number : ℕ) (key : List ℕ) → Has (flat_map namings_at nodes) number key ≡ true → Has all number key ≡ true)

@@ -199,6 +199,14 @@ pub(crate) fn nodes_of<D: Drivers>(
 {
     let mut nodes = Vec::new(alloc);
     nodes.push(nobody(alloc))?;
-    lay_term(alloc, &setting.tree.term, setting, 0, drivers, next, &mut nodes)?;
+    lay_term(
+        alloc,
+        &setting.tree.term,
+        setting,
+        0,
+        drivers,
+        next,
+        &mut nodes,
+    )?;
     Ok(nodes)
 }

@@ -1,4 +1,4 @@
-use Rattle.std.proofs.Common.{◌+◌, ℕ, length, replicate, refl, sym, ap, ◌∙◌, arith}
+use Rattle.std.proofs.Common.{replicate, refl, ap, ◌∙◌, arith}
 use Rattle.bt_arena.specs.Nodes.{at_rest}
 use Rattle.bt_arena.proofs.Making.{next_places, tree_numbered, tree_served, tree_size, tree_stands_there}
 use Rattle.bt_arena.proofs.Standing.{can_be_laid}
