@@ -1,5 +1,5 @@
 -- A script means the same over two maps of names to slots that agree on its names.
-use Rattle.std.proofs.Common.{◌≡◌, ℕ, ◌+◌, ◌≤◌, max, pos, List, [], ◌∷◌, ◌++◌, map, sum, refl, sym, ap, subst, ◌∙◌, arith}
+use Rattle.std.proofs.Common.{◌≡◌, ℕ, ◌+◌, max, pos, List, [], ◌∷◌, ◌++◌, map, sum, refl, sym, ap, subst, ◌∙◌}
 use Rattle.std.specs.Prelude.{Option, Result}
 use Rattle.std.specs.List.{All, flat_map}
 use Rattle.std.proofs.lemmas.List.Elements.{All-head, All-tail}
@@ -11,7 +11,7 @@ use Rattle.bt_script.specs.declared.syntax.Stmt.TheVariants.{Create, Assign, Cha
 use Rattle.bt_script.specs.declared.value.Value.{Value}
 use Rattle.bt_script.specs.declared.value.Value.TheVariants.{Int}
 use Rattle.bt_script.specs.Entries.{entry_of}
-use Rattle.bt_script.specs.Evaluation.{Run, eval_of, eval_step, followed, if_there, stmt_of, stmts_of, written}
+use Rattle.bt_script.specs.Evaluation.{eval_of, eval_step, followed, if_there, stmt_of, stmts_of, written}
 use Rattle.bt_script.specs.Grammar.{expr_of}
 use Rattle.bt_script.specs.Numbers.{greatest}
 use Rattle.bt_script.specs.Operators.{chosen, combined, unary_on}

@@ -1,11 +1,11 @@
 -- A script that its text reads as can be compiled.
-use Rattle.std.proofs.Common.{◌≡◌, ℕ, zero, suc, ◌+◌, ◌<◌, ◌≤◌, List, [], ◌∷◌, ◌++◌, Bool, true, false, cond, ◌&&◌, IsTrue, nat_le, Option, Some, None, map, length, drop, refl, sym, ap, subst, ◌∙◌, length-append, arith}
+use Rattle.std.proofs.Common.{◌≡◌, ℕ, ◌+◌, ◌<◌, ◌≤◌, List, [], ◌∷◌, ◌++◌, Bool, true, false, cond, ◌&&◌, nat_le, Option, Some, None, map, length, drop, refl, sym, ap, subst, ◌∙◌, length-append, arith}
 use Rattle.std.specs.List.{All, AllByRecursion, flat_map, list_all}
 use Rattle.std.proofs.Math.Seq.{drop-append-add}
 use Rattle.std.proofs.lemmas.Bool.Decides.{nat_tests}
 use Rattle.std.proofs.lemmas.List.{drop-map, length-map}
 use Rattle.std.proofs.lemmas.List.Elements.{All-nil, All-cons}
-use Rattle.bt_script.specs.declared.syntax.Expr.{Expr, fold_out-Expr, out-Expr}
+use Rattle.bt_script.specs.declared.syntax.Expr.{Expr, fold_out-Expr}
 use Rattle.bt_script.specs.declared.syntax.Expr.TheOpen.{Expr-F, Num, Lit, Look, Group, Unary, Binary, Choose}
 use Rattle.bt_script.specs.declared.syntax.Script.{Script}
 use Rattle.bt_script.specs.declared.syntax.Stmt.{Stmt}
@@ -15,7 +15,7 @@ use Rattle.bt_script.specs.declared.token.Token.{Token}
 use Rattle.bt_script.specs.declared.token.Token.TheVariants.{Semicolon}
 use Rattle.bt_script.specs.Grammar.{expr_of, fits, fits_stmt, height, kept, separated, sign_fits, spelled, spelled_slot, spelled_step, spelled_stmt}
 use Rattle.bt_script.specs.Reading.{ReadsScript, bare, first_place, high_stmt}
-use Rattle.bt_script.specs.Scripts.{ChangesByArithmetic, stmt_names}
+use Rattle.bt_script.specs.Scripts.{stmt_names}
 use Rattle.bt_script_code.specs.Sources.{IsCompilable, IsListed}
 use Rattle.bt_arena.specs.Resolving.{names_in_script}
 use Rattle.bt_arena.proofs.Parts.{All-left, All-right}

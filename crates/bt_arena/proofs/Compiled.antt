@@ -1,7 +1,7 @@
 -- A script that is compiled over the slots of its names does what it does in the scope of its node.
-use Rattle.std.proofs.Common.{◌≡◌, ℕ, ◌<◌, ◌≤◌, List, length, map, Option, Some, [], true, sym, ap, subst, ◌∙◌, arith}
+use Rattle.std.proofs.Common.{◌≡◌, ℕ, ◌<◌, ◌≤◌, List, length, Option, Some, [], true, sym, ap, subst, ◌∙◌}
 use Rattle.std.specs.List.{All}
-use Rattle.std.proofs.lemmas.List.Elements.{All-map, All-same, All-weaker, All-contains, All-contains_itself}
+use Rattle.std.proofs.lemmas.List.Elements.{All-map, All-same, All-weaker, All-contains_itself}
 use Rattle.bt_script.specs.declared.syntax.Script.{Script}
 use Rattle.bt_script_code.specs.declared.codes.Code.{Code}
 use Rattle.bt_script_code.specs.Codes.{program}

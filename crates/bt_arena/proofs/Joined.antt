@@ -1,8 +1,8 @@
 -- What a leaf that lacks nothing has: a row of the world, which can be made ready, and a place of a driver.
-use Rattle.std.proofs.Common.{◌≡◌, ℕ, ◌+◌, ◌<◌, ◌≤◌, List, [], ◌∷◌, ◌++◌, Bool, true, false, cond, if◌then◌else◌, Option, Some, None, length, refl, sym, ap, subst, ◌∙◌, arith}
+use Rattle.std.proofs.Common.{◌≡◌, ℕ, ◌+◌, ◌<◌, List, [], ◌∷◌, Bool, true, false, cond, if◌then◌else◌, Option, Some, None, length, subst, arith}
 use Rattle.std.specs.Prelude.{IfSome, find}
 use Rattle.std.specs.List.{All}
-use Rattle.std.specs.Option.{option_map, option_or}
+use Rattle.std.specs.Option.{option_map}
 use Rattle.std.specs.Str.{bytes_eq}
 use Rattle.std.proofs.lemmas.List.{length-map}
 use Rattle.std.proofs.lemmas.List.Elements.{All-head, All-tail}
@@ -10,13 +10,12 @@ use Rattle.bt_model.specs.declared.leaf.DriverKind.{DriverKind}
 use Rattle.bt_model.specs.declared.world.Fact.{Fact}
 use Rattle.bt_model.specs.declared.world.Row.{Row}
 use Rattle.bt_model.specs.declared.world.World.{World}
-use Rattle.bt_model.specs.Drivers.{DriverState, place_of_kind, same_kind}
+use Rattle.bt_model.specs.Drivers.{DriverState, kind_of_row, place_of_kind, same_kind}
 use Rattle.bt_model.specs.Leaves.{row_of}
 use Rattle.bt_model.specs.Worlds.{IsValidRow, IsValidWorld}
 use Rattle.bt_driver.proofs.Valid.{can_be_ready}
 use Rattle.bt_driver.specs.Places.{CanBeReady}
-use Rattle.bt_arena.specs.declared.join_fault.JoinFault.{JoinFault}
-use Rattle.bt_arena.specs.Joins.{first_lack, leaf_lacks}
+use Rattle.bt_arena.specs.Joins.{place_by}
 
 abbrev IsBelow : ℕ → Option ℕ → Type 0
 IsBelow n (Some k) = k < n
@@ -53,3 +52,8 @@ pub row_ready : (world : World) (id : List ℕ) (row : Row) → IsValidWorld wor
 row_ready world id row valid is =
     can_be_ready world.facts world.rows row (omega (arith, valid.facts.few, length-map world.facts (λ (f : Fact). f.name)))
     (found_holds (IsValidRow world.facts world.rows) (λ (row : Row). bytes_eq row.id id) world.rows row valid.rows is)
+
+-- the place of the driver that serves a row is one of the roster
+pub place_by_within : (found : Option Row) (ds : List DriverState) (place : ℕ) → place_by found ds ≡ Some place → place < length ds
+place_by_within None ds place is = absurd (cc)
+place_by_within (Some row) ds place is = place_within ds (kind_of_row row) place is

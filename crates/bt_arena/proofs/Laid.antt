@@ -1,21 +1,19 @@
 -- Laying terms into an arena, one behind the other: what is asked of each part, and what the whole leaves.
-use Rattle.std.proofs.Common.{◌≡◌, ℕ, zero, suc, ◌+◌, ◌-◌, ◌<◌, ◌≤◌, List, [], ◌∷◌, ◌++◌, Bool, true, false, Option, Some, None, map, length, get_or, set, sum, drop, refl, sym, ap, subst, ◌∙◌, append-nil, append_assoc, length-append, arith}
-use Rattle.std.specs.List.{All, AllByRecursion, flat_map}
+use Rattle.std.proofs.Common.{◌≡◌, ℕ, zero, suc, ◌+◌, ◌<◌, ◌≤◌, List, [], ◌∷◌, ◌++◌, Bool, true, false, Option, Some, None, map, length, get_or, sum, drop, refl, sym, ap, subst, ◌∙◌, append-nil, append_assoc, arith}
+use Rattle.std.specs.List.{AllByRecursion, flat_map}
 use Rattle.std.specs.Option.{option_or}
-use Rattle.std.specs.Prelude.{MatchOption}
 use Rattle.std.proofs.lemmas.List.{drop_more, length-map}
-use Rattle.std.proofs.lemmas.List.Elements.{All-nil}
 use Rattle.std.proofs.lemmas.List.Sums.{sum_by-cons}
 use Rattle.bt_script.specs.declared.syntax.Script.{Script}
 use Rattle.bt_script.specs.Scripts.{stmt_names}
 use Rattle.bt_model.specs.declared.term.Guards.{Guards}
 use Rattle.bt_model.specs.declared.term.Kind.{Kind}
-use Rattle.bt_model.specs.declared.term.Kind.TheVariants.{Leaf, SubTree}
+use Rattle.bt_model.specs.declared.term.Kind.TheVariants.{SubTree}
 use Rattle.bt_model.specs.declared.term.Port.{Port}
-use Rattle.bt_model.specs.declared.term.Term.{Term, Term-F, fold_out-Term, out-Term}
+use Rattle.bt_model.specs.declared.term.Term.{Term, fold_out-Term, out-Term}
 use Rattle.bt_model.specs.declared.term.Tree.{Tree}
 use Rattle.bt_model.specs.declared.world.World.{World}
-use Rattle.bt_model.specs.Boards.{Scope, Standing, children_scope, children_scope_number, given, is_named, keys_named, makes_scope, scope_below, scope_of, scripts_of, standing_all, standing_from}
+use Rattle.bt_model.specs.Boards.{Scope, children_scope, children_scope_number, given, is_named, keys_named, makes_scope, scope_below, scope_of, scripts_of, standing_all, standing_from}
 use Rattle.bt_model.specs.Drivers.{DriverState}
 use Rattle.bt_model.specs.Sites.{View}
 use Rattle.bt_model.specs.Terms.{leaf_ids, node_count, own_leaf_id}

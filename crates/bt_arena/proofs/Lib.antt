@@ -7,8 +7,11 @@ pub mod Framed
 pub mod Indexed
 pub mod Joined
 pub mod Laid
+pub mod Making
 pub mod Named
+pub mod Numbered
 pub mod Opened
 pub mod Parts
+pub mod Standing
 pub mod Static
 pub mod Whole

@@ -1,5 +1,5 @@
 -- That a term stands in an arena depends on its own nodes alone.
-use Rattle.std.proofs.Common.{◌≡◌, ℕ, ◌+◌, ◌<◌, ◌≤◌, List, [], ◌∷◌, ◌++◌, map, length, get_or, sum, refl, sym, ap, subst, ◌∙◌, arith}
+use Rattle.std.proofs.Common.{◌≡◌, ℕ, ◌+◌, ◌<◌, ◌≤◌, List, [], ◌∷◌, map, length, sum, refl, sym, ap, subst, ◌∙◌, arith}
 use Rattle.std.proofs.lemmas.List.Sums.{sum_by-cons}
 use Rattle.bt_model.specs.declared.term.Term.{Term, Term-F, ind-Term, fold-roll-Term, roll-Term}
 use Rattle.bt_model.specs.Sites.{Meaning, View, sizes}
@@ -7,7 +7,7 @@ use Rattle.bt_model.specs.Terms.{node_count}
 use Rattle.bt_model.specs.Visit.{meaning, meaning_of_node}
 use Rattle.bt_arena.specs.declared.nodes.Node.{Node}
 use Rattle.bt_arena.specs.Nodes.{IsNode, node_at}
-use Rattle.bt_arena.specs.Stands.{Standing, StandAll, Stands, node_stands, view_under, written}
+use Rattle.bt_arena.specs.Stands.{Standing, StandAll, Stands, view_under, written}
 use Rattle.bt_arena.proofs.Framed.{all_sizes, sizes_cons}
 use Rattle.bt_arena.proofs.Opened.{stands_roll}
 

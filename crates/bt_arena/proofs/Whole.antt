@@ -1,5 +1,5 @@
 -- What was laid into an arena, part by part.
-use Rattle.std.proofs.Common.{◌≡◌, ℕ, zero, suc, ◌+◌, ◌-◌, ◌<◌, ◌≤◌, List, [], ◌∷◌, ◌++◌, Bool, true, false, Option, Some, None, map, length, get_or, set, sum, drop, refl, sym, ap, subst, ◌∙◌, append-nil, append_assoc, length-append, arith}
+use Rattle.std.proofs.Common.{◌≡◌, ℕ, zero, suc, ◌+◌, ◌-◌, ◌<◌, List, [], ◌∷◌, ◌++◌, false, Option, Some, None, map, length, get_or, set, sum, refl, sym, ap, subst, ◌∙◌, append-nil, append_assoc, length-append, arith}
 use Rattle.std.specs.List.{flat_map}
 use Rattle.std.specs.Prelude.{MatchOption}
 use Rattle.std.proofs.lemmas.List.{length-set}
@@ -12,7 +12,7 @@ use Rattle.bt_model.specs.declared.world.Row.{Row}
 use Rattle.bt_model.specs.declared.world.World.{World}
 use Rattle.bt_model.specs.Boards.{children_scope_number}
 use Rattle.bt_model.specs.Drivers.{DriverState, kind_of_row, kind_of_way, place_of_kind}
-use Rattle.bt_model.specs.Leaf.{Rule, place_of, rule_of}
+use Rattle.bt_model.specs.Leaf.{Rule, place_of}
 use Rattle.bt_model.specs.Leaves.{row_of}
 use Rattle.bt_model.specs.Sites.{View, sizes}
 use Rattle.bt_model.specs.Terms.{leaf_ids, node_count, own_leaf_id}
@@ -24,7 +24,7 @@ use Rattle.bt_arena.specs.declared.nodes.Node.{Node}
 use Rattle.bt_arena.specs.declared.nodes.ReadyLeaf.{ReadyLeaf}
 use Rattle.bt_arena.specs.Joins.{place_by}
 use Rattle.bt_arena.specs.Laying.{AreLaid, AreNext, CanBeLaid, IsNext, counted_all, driver_of, next_behind}
-use Rattle.bt_arena.specs.Nodes.{IsLeafOf, IsNode, LeafStands, is_leaf, nobody, node_at}
+use Rattle.bt_arena.specs.Nodes.{IsLeafOf, IsNode, LeafStands, is_leaf, node_at}
 use Rattle.bt_arena.specs.Resolving.{view_in}
 use Rattle.bt_arena.specs.Rows.{counted_at}
 use Rattle.bt_arena.specs.Stands.{StandAll, Stands, view_under, written}

@@ -1,5 +1,5 @@
 -- The nodes of a term while they are laid into an arena.
-use Rattle.std.specs.Prelude.{◌≡◌, ℕ, ◌+◌, List, [], ◌∷◌, ◌++◌, length, map, sum, Bool, true, Option, Some, None, slice_index_or}
+use Rattle.std.specs.Prelude.{◌≡◌, ℕ, List, [], ◌∷◌, ◌++◌, length, map, sum, true, Option, Some, None, slice_index_or}
 use Rattle.std.specs.List.{All, AllByRecursion, flat_map}
 use Rattle.bt_model.specs.declared.term.Term.{Term, Term-F}
 use Rattle.bt_model.specs.declared.term.Tree.{Tree}
@@ -19,7 +19,7 @@ use Rattle.bt_arena.specs.Nodes.{AreCompiled, IsCompiled, LeafStands}
 use Rattle.bt_arena.specs.Resolving.{AreNamed, GuardsAreNamed, names_if_there, port_keys, view_in}
 use Rattle.bt_arena.specs.Rows.{counted_at}
 use Rattle.bt_arena.specs.Sources.{IsSourceOf, source_at}
-use Rattle.bt_arena.specs.Stands.{StandAll, Stands}
+use Rattle.bt_arena.specs.Stands.{StandAll}
 
 -- ---- What is asked of a term
 

@@ -2,6 +2,7 @@ pub mod Blocks
 pub mod Ends
 pub mod Joins
 pub mod Laying
+pub mod Made
 pub mod Nodes
 pub mod Noted
 pub mod Resolving

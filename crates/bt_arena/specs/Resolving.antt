@@ -1,5 +1,5 @@
 -- The keys of a tree's nodes, resolved in the scope of a number.
-use Rattle.std.specs.Prelude.{◌≡◌, ℕ, List, [], ◌++◌, map, unwrap_or, Bool, true, Option, Some, None}
+use Rattle.std.specs.Prelude.{◌≡◌, ℕ, List, [], map, unwrap_or, true, Option, Some, None}
 use Rattle.std.specs.List.{All, flat_map}
 use Rattle.bt_script.specs.declared.syntax.Script.{Script}
 use Rattle.bt_script.specs.Scripts.{stmt_names}
@@ -7,7 +7,7 @@ use Rattle.bt_model.specs.declared.term.Guards.{Guards}
 use Rattle.bt_model.specs.declared.term.Port.{Port}
 use Rattle.bt_model.specs.declared.term.Tree.{Tree}
 use Rattle.bt_model.specs.declared.world.World.{World}
-use Rattle.bt_model.specs.Boards.{given, is_named, scope_of, slot_of, slots, value_keys}
+use Rattle.bt_model.specs.Boards.{is_named, scope_of, slot_of, slots, value_keys}
 use Rattle.bt_model.specs.Sites.{View}
 
 -- what a node sees that stands in the scope of a number

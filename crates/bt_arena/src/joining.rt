@@ -1,25 +1,25 @@
-ghost use Rattle.std.specs.Prelude.{◌≡◌, ◌<◌, ◌≤◌, ◌+◌, ◌-◌, ◌*◌, ◌++◌, ℕ, Some, IfOk, OnOk, length, map, replicate};
+ghost use Rattle.std.specs.Prelude.{◌≡◌, ◌<◌, ◌≤◌, ◌+◌, ◌-◌, ◌*◌, ◌++◌, ℕ, Some, None, IfOk, OnOk, length, map, replicate};
 ghost use Rattle.std.specs.Str.{bytes_eq};
 ghost use Rattle.indexmap.specs.IndexMap.{get};
 ghost use Rattle.bt_model.specs.declared.term.Term.{out-Term};
 ghost use Rattle.bt_model.specs.Boards.{slot_table};
 ghost use Rattle.bt_model.specs.Leaves.{row_of};
-ghost use Rattle.bt_model.specs.Run.{root_view};
-ghost use Rattle.bt_model.specs.Terms.{leaf_ids, node_count, own_leaf_id};
+ghost use Rattle.bt_model.specs.Terms.{leaf_ids, own_leaf_id};
 ghost use Rattle.bt_model.specs.Trees.{IsValid};
 ghost use Rattle.bt_model.specs.Worlds.{IsValidWorld};
-ghost use Rattle.bt_arena.specs.Joins.{Joins, first_lack, leaf_lacks, leaves_served, place_by};
+ghost use Rattle.bt_arena.specs.Joins.{Joins, first_lack, leaf_lacks, place_by};
 ghost use Rattle.bt_arena.specs.Laying.{counted_all};
 ghost use Rattle.bt_arena.specs.Nodes.{at_rest as rested};
-ghost use Rattle.bt_arena.specs.Rosters.{AreNumbered, served};
+ghost use Rattle.bt_arena.specs.Made.{IsArenaOf};
 ghost use Rattle.bt_arena.specs.Rows.{Finds};
-ghost use Rattle.bt_arena.specs.Stands.{Stands};
 
 use crate::arena::Arena;
 use crate::join_fault::JoinFault;
+use crate::laying::nodes_of;
 use crate::leaves::next_instance;
 use crate::nodes::Kept;
-use crate::rows::row_named;
+use crate::resolving::Setting;
+use crate::rows::{index_of, row_named};
 use bt_board::Slots;
 use bt_driver::{Drivers, kind_of};
 use bt_model::{Kind, Memo, Status, Term, Tree, World};
@@ -127,12 +127,55 @@ fn at_rest(alloc: Global, count: usize) -> Result<Vec<Kept>, NoMemory>
     Ok(vec![in alloc; rest; count]?)
 }
 
+/// The same for the leaves of a term.
+fn totals_of<D: Drivers>(
+    alloc: Global,
+    term: &Term,
+    world: &World,
+    rows: &IndexMap<Name, u32>,
+    drivers: &D,
+) -> Result<Vec<u32>, Stop<JoinFault>>
+    requires { Finds world.now.rows (get bytes_eq rows.now) }
+    ensures fault { Joins result (first_lack world.now.rows (D.states drivers.now) (leaf_ids term.now)) }
+    ensures counts { IfOk result (λ counts. counts.items ≡ counted_all world.now (D.states drivers.now) (leaf_ids term.now) (replicate (length (D.states drivers.now)) 0)) }
+{
+    let mut ids = Vec::new(alloc);
+    add_ids(alloc, term, &mut ids)?;
+    counts_of(alloc, ids.as_slice(), world, rows, drivers)
+}
+
+/// The arena of a runner, where each driver serves so many leaves of the tree.
+fn arena_with<D: Drivers>(
+    alloc: Global,
+    setting: &Setting,
+    drivers: &D,
+    counts: &[u32],
+    runner: u8,
+) -> Result<Arena, NoMemory>
+    requires tree { IsValid setting.now.tree.now }
+    requires world { IsValidWorld setting.now.world.now }
+    requires found { Finds setting.now.world.now.rows (get bytes_eq setting.now.rows.now) }
+    requires joined { first_lack setting.now.world.now.rows (D.states drivers.now) (leaf_ids setting.now.tree.now.term) ≡ None }
+    requires counts { counts.now ≡ counted_all setting.now.world.now (D.states drivers.now) (leaf_ids setting.now.tree.now.term) (replicate (length (D.states drivers.now)) 0) }
+    requires first { 1 ≤ runner }
+    ensures { IfOk result (λ arena. IsArenaOf setting.now.tree.now setting.now.world.now (D.states drivers.now) runner arena) }
+{
+    let mut next = firsts_of(alloc, counts, runner)?;
+    let nodes = nodes_of(alloc, setting, drivers, &mut next)?;
+    let kept = at_rest(alloc, nodes.len())?;
+    Ok(Arena {
+        runner,
+        nodes,
+        kept,
+    })
+}
+
 /// Makes the arena of a runner of a world for a tree with its slots: each node stands with what its
 /// visits need, and keeps nothing yet. A leaf has the first driver of its row's kind; its instance is
 /// numbered by runner, then by uid, among the leaves that this driver serves. The fault is that of the
 /// first leaf in pre-order that has no row, or whose row has no driver.
 pub fn arena_of<D: Drivers>(
-    _alloc: Global,
+    alloc: Global,
     tree: &Tree,
     slots: &Slots,
     world: &World,
@@ -145,12 +188,15 @@ pub fn arena_of<D: Drivers>(
     requires first { 1 ≤ runner }
     requires last { runner ≤ world.now.runners }
     ensures fault { Joins result (first_lack world.now.rows (D.states drivers.now) (leaf_ids tree.now.term)) }
-    ensures runner { IfOk result (λ arena. arena.runner ≡ runner) }
-    ensures stands { IfOk result (λ arena. Stands tree.now.term arena.nodes.items (root_view tree.now world.now) 1) }
-    ensures size { IfOk result (λ arena. length arena.nodes.items ≡ 1 + node_count tree.now.term) }
-    ensures kept { IfOk result (λ arena. arena.kept.items ≡ replicate (1 + node_count tree.now.term) rested) }
-    ensures numbered { IfOk result (λ arena. AreNumbered (D.states drivers.now) runner arena.nodes.items) }
-    ensures served { IfOk result (λ arena. (place : ℕ) → place < length (D.states drivers.now) → served place arena.nodes.items ≡ leaves_served world.now.rows (D.states drivers.now) place (leaf_ids tree.now.term)) }
+    ensures arena { IfOk result (λ arena. IsArenaOf tree.now world.now (D.states drivers.now) runner arena) }
 {
-    Err(Stop::NoMemory)
+    let rows = index_of(alloc, world.rows.list())?;
+    let counts = totals_of(alloc, &tree.term, world, &rows, drivers)?;
+    let setting = Setting {
+        tree,
+        slots,
+        world,
+        rows: &rows,
+    };
+    Ok(arena_with(alloc, &setting, drivers, counts.as_slice(), runner)?)
 }

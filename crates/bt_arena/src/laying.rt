@@ -8,13 +8,13 @@ ghost use Rattle.bt_model.specs.Trees.{GuardsFit, ScriptFits};
 ghost use Rattle.bt_model.specs.Worlds.{IsValidWorld};
 ghost use Rattle.bt_arena.specs.Joins.{first_lack};
 ghost use Rattle.bt_arena.specs.Laying.{AreLaid, CanBeLaid, IsBareNode, IsNext, driver_of};
-ghost use Rattle.bt_arena.specs.Nodes.{IsFit, IsNode, node_at};
+ghost use Rattle.bt_arena.specs.Nodes.{IsFit, IsNode, node_at, nobody as no_node};
 ghost use Rattle.bt_arena.specs.Resolving.{AreNamed, GuardsAreNamed, names_if_there, port_keys, view_in};
 ghost use Rattle.bt_arena.specs.Rows.{Finds, counted_at};
 ghost use Rattle.bt_arena.specs.Stands.{written};
 
 use crate::leaves::leaf_of;
-use crate::nodes::Node;
+use crate::nodes::{Node, ReadyGuards};
 use crate::ports::kind_sources;
 use crate::resolving::{Setting, ready_guards, ready_script};
 use bt_driver::Drivers;
@@ -139,7 +139,7 @@ fn lay_term<D: Drivers>(
 
 /// Lays some terms of a tree, one behind the other.
 #[cycle(laying)]
-pub(crate) fn lay_terms<D: Drivers>(
+fn lay_terms<D: Drivers>(
     alloc: Global,
     terms: &[Term],
     setting: &Setting,
@@ -158,4 +158,55 @@ pub(crate) fn lay_terms<D: Drivers>(
         lay_term(alloc, term, setting, scope, drivers, next, nodes)?;
     }
     Ok(())
+}
+
+/// What stands at place 0.
+fn nobody(alloc: Global) -> Node
+    ensures { result ≡ no_node }
+{
+    Node {
+        kind: Kind::AlwaysSuccess,
+        size: 0,
+        children: 0,
+        code: None,
+        guards: ReadyGuards {
+            failure_if: None,
+            success_if: None,
+            skip_if: None,
+            while_true: None,
+            on_success: None,
+            on_failure: None,
+            post: None,
+            on_halted: None,
+        },
+        ports: Items::of(Vec::new(alloc)),
+        leaf: None,
+    }
+}
+
+/// The nodes of a tree by uid.
+pub(crate) fn nodes_of<D: Drivers>(
+    alloc: Global,
+    setting: &Setting,
+    drivers: &D,
+    next: &mut [u32],
+) -> Result<Vec<Node>, NoMemory>
+    requires can { CanBeLaid setting.now.tree.now setting.now.world.now (D.states drivers.now) (setting.now.tree.now.term ∷ []) 1 0 }
+    requires world { IsValidWorld setting.now.world.now }
+    requires found { Finds setting.now.world.now.rows (get bytes_eq setting.now.rows.now) }
+    requires places { length next.old ≡ length (D.states drivers.now) }
+    ensures laid { IfOk result (λ nodes. AreLaid setting.now.tree.now setting.now.world.now (D.states drivers.now) (setting.now.tree.now.term ∷ []) 0 (no_node ∷ []) nodes.items next.old next.new) }
+{
+    let mut nodes = Vec::new(alloc);
+    nodes.push(nobody(alloc))?;
+    lay_term(
+        alloc,
+        &setting.tree.term,
+        setting,
+        0,
+        drivers,
+        next,
+        &mut nodes,
+    )?;
+    Ok(nodes)
 }

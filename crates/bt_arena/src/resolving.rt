@@ -17,6 +17,7 @@ use indexmap::IndexMap;
 use std::alloc::Global;
 
 /// A tree with its slots, and a world with the numbers of its rows by their IDs.
+#[derive(Drop)]
 pub(crate) struct Setting<'a> {
     pub(crate) tree: &'a Tree,
     pub(crate) slots: &'a Slots,

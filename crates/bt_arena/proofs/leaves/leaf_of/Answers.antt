@@ -1,4 +1,4 @@
-use Rattle.std.proofs.Common.{◌<◌, List, length, sym, ap, subst, ◌∙◌}
+use Rattle.std.proofs.Common.{◌<◌, List, sym, ap, subst, ◌∙◌}
 use Rattle.std.specs.Option.{option_copied}
 use Rattle.bt_model.specs.declared.world.Row.{Row}
 use Rattle.bt_model.specs.declared.term.Term.{out-Term}

@@ -1,7 +1,7 @@
-use Rattle.std.proofs.Common.{◌≡◌, ℕ, List, map, ap, subst, ◌∙◌}
+use Rattle.std.proofs.Common.{◌≡◌, List, map, ap, subst, ◌∙◌}
 use Rattle.std.specs.Prelude.{IfOk}
 use Rattle.bt_arena.proofs.Opened.{map_twice}
-use Rattle.bt_model.specs.BuiltIns.{PortRule, ports_of, rule_seen}
+use Rattle.bt_model.specs.BuiltIns.{PortRule, rule_seen}
 use Rattle.bt_arena.specs.declared.source.Source.{Source}
 use Rattle.bt_arena.specs.Resolving.{view_in}
 use Rattle.bt_arena.specs.Sources.{source_at}

@@ -1,4 +1,4 @@
-use Rattle.std.proofs.Common.{◌≡◌, ◌++◌, ℕ, List, length, map, drop}
+use Rattle.std.proofs.Common.{◌≡◌, ◌++◌, length, map, drop}
 use Rattle.std.specs.List.{All}
 use Rattle.bt_model.specs.declared.world.Out.{Out}
 use Rattle.bt_model.specs.Boards.{slots}

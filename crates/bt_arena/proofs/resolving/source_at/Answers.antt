@@ -1,4 +1,4 @@
-use Rattle.std.proofs.Common.{Some, sym, ap, subst, ◌<◌, length, ◌∙◌}
+use Rattle.std.proofs.Common.{sym, ap, subst, ◌<◌, length, ◌∙◌}
 use Rattle.std.specs.Option.{option_copied}
 use Rattle.bt_model.specs.Boards.{slots}
 use Rattle.bt_arena.specs.declared.source.Source.TheVariants.{Slot}
