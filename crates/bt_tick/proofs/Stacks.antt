@@ -1,6 +1,7 @@
 -- The turns of a tick: a child is entered, its answer is heard, and the root has answered.
-use Rattle.std.proofs.Common.{◌≡◌, ℕ, zero, suc, ◌+◌, ◌<◌, ◌≤◌, List, [], ◌∷◌, ◌++◌, map, length, get_or, slice_set, refl, sym, ap, subst, ◌∙◌, arith, Option, None, Result, Ok, Err}
+use Rattle.std.proofs.Common.{◌≡◌, ℕ, zero, suc, ◌+◌, ◌<◌, ◌≤◌, List, [], ◌∷◌, ◌++◌, map, length, get_or, slice_set, refl, sym, ap, subst, ◌∙◌, arith, Option, Some, None, Result, Ok, Err}
 use Rattle.std.proofs.lemmas.List.{same_from_push}
+use Rattle.std.specs.Prelude.{IsSome}
 use Rattle.bt_script.specs.declared.stop.Stop.{Stop}
 use Rattle.bt_script.specs.declared.stop.Stop.TheVariants as stop
 use Rattle.bt_model.specs.declared.fault.NodeFault.{NodeFault}
@@ -40,6 +41,15 @@ use Rattle.bt_tick.proofs.Passing.{comes_both, comes_same, follow_follow, met_be
 none_from_push : {X : Type 0} (xs : List X) (x : X) → [] ≡ xs ++ x ∷ [] → ⊥
 none_from_push [] x is = cc
 none_from_push (y ∷ xs) x is = cc
+
+not_some : {X : Type 0} (o : Option X) → o ≡ None → IsSome o → ⊥
+not_some None is k = cc
+not_some (Some x) is k = cc
+
+-- nothing is on a stack from which nothing could be taken
+pub none_held : {X : Type 0} (xs : List X) (o : Option X) → o ≡ None → (0 < length xs → IsSome o) → xs ≡ []
+none_held [] o is some = refl
+none_held (x ∷ xs) o is some = absurd (not_some o is (some (omega arith)))
 
 -- ---- A child is entered
 

@@ -16,6 +16,7 @@ use bt_board::Board;
 use bt_driver::{Drivers, FactTable};
 use bt_model::{Answer, Heard, NodeFault};
 use bt_script::Stop;
+use smallvec::SmallVec;
 use std::alloc::Global;
 
 /// What a visit goes on with that waited and has its child's answer.
@@ -30,7 +31,8 @@ fn hear(frame: Frame, answer: Answer) -> Step
     }
 }
 
-/// Visits the root, turn by turn, with the visits that wait on a stack.
+/// Visits the root, turn by turn, with the visits that wait on a stack. It takes memory for them in a
+/// tree of more than 32 levels alone.
 fn visit<D: Drivers>(
     alloc: Global,
     nodes: &[Node],
@@ -49,7 +51,7 @@ fn visit<D: Drivers>(
     ensures reserve { notes.old.reserve ≤ notes.new.reserve }
     ensures full { notes.new.full ≡ notes.old.full }
 {
-    let mut stack: Vec<Frame> = Vec::new(alloc);
+    let mut stack: SmallVec<Frame, 32> = SmallVec::new(alloc);
     let mut turn = Turn::Enter(1);
     loop {
         turn = match turn {
