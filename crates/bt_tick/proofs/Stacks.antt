@@ -16,7 +16,7 @@ use Rattle.bt_model.specs.Done.{Call, Done, State, behind, carried, done, follow
 use Rattle.bt_model.specs.Moves.{after, rest}
 use Rattle.bt_model.specs.Sites.{Meaning, Site, View, child_of, children_of, memory_at, placed, remembered}
 use Rattle.bt_model.specs.Steps.{Child, Rule, child_at, visit}
-use Rattle.bt_model.specs.Sound.{Dated, Leaves, Sound}
+use Rattle.bt_model.specs.Sound.{Dated, Leaves, Sound, fault_of}
 use Rattle.bt_model.specs.Visit.{ended, meaning, status_of}
 use Rattle.bt_arena.specs.declared.nodes.Kept.{Kept}
 use Rattle.bt_arena.specs.declared.nodes.Node.{Node}
@@ -356,3 +356,18 @@ module _ (keeps : (t : Term) → Keeps (meaning t) (Sound t)) (nodes : List Node
 
     pub back_answers : {t : Turn} {a : Answer} → t ≡ turn.Back a → stack ≡ [] → Going nodes moment root first t stack s0 s n0 n whole → Meets nodes moment (memory_of root first) (Ok a) s0 s n0 n whole
     back_answers {a = a} is empty g = answers (subst (λ (fs : List Frame). Going nodes moment root first (turn.Back a) fs s0 s n0 n whole) empty (as_turn is g))
+
+-- ---- Behind a visit
+
+-- what a visit that was made has left can be visited again, and its status is its answer's
+pub can_again : (keeps : (t : Term) → Keeps (meaning t) (Sound t)) (nodes : List Node) (moment : ℕ) (term : Term) (view : View) (uid : ℕ) (s s1 : Scene) (n0 n1 : List Note) (a : Answer) →
+    CanVisit nodes moment term view uid s → StaysFit nodes s s1 → Meets nodes moment (memory_of term uid) (Ok a) s s1 n0 n1 (visit_in nodes moment term view uid s) → CanVisit nodes moment term view uid s1
+can_again keeps nodes moment term view uid s s1 n0 n1 a can stays m =
+    let d : Done Answer Memory = visit_in nodes moment term view uid s in
+    let left = (keeps term).visit view uid (memory_in term uid s) (state_in nodes s moment) can.sound in
+    let sound : Sound term view.rows None uid d.memory d.state = subst (λ (r : Result Answer NodeFault). Sound term view.rows (fault_of r) uid d.memory d.state) m.0.answer left.sound in
+    record {
+      fits = stays term view uid can.fits;
+      sound = subst (λ (x : Memory). Sound term view.rows None uid x (state_in nodes s1 moment)) m.0.memory (subst (λ (x : State). Sound term view.rows None uid d.memory x) m.0.state sound);
+      dated = subst Dated m.0.state (left.within.dated can.dated);
+    }

@@ -1,7 +1,7 @@
 use Rattle.std.proofs.Common.{◌≡◌, ◌≤◌, List, [], Err, arith, refl, sym, ap, subst, ◌∙◌}
 use Rattle.bt_laws.proofs.Keeping.{term_keeps}
 use Rattle.bt_tick.proofs.Passing.{met_with}
-use Rattle.bt_tick.proofs.Stacks.{back_answers, back_made, begins, can_enter, can_step, cut_here, enter_made, enter_stops, none_held, on_stack, step_made, step_stays, step_stops, wait_made}
+use Rattle.bt_tick.proofs.Stacks.{back_answers, back_made, begins, can_again, can_enter, can_step, cut_here, enter_made, enter_stops, none_held, on_stack, step_made, step_stays, step_stops, wait_made}
 use Rattle.bt_tick.proofs.visiting.visit.Goals as goal
 
 pub loop-turn-init : goal.loop-turn-init
@@ -37,6 +37,11 @@ returns-in_err-turn-in-GoOn-clause-fits g c =
 pub returns-in-None-clause-meets : goal.returns-in-None-clause-meets
 returns-in-None-clause-meets g c = λ term view can.
     back_answers term_keeps _ _ c.in-Back.is (none_held c.loop-turn.stack.items _ refl c.in-None.ensures.variant.1) (c.loop-turn.invariant.all term view can)
+
+pub returns-in-None-clause-again : goal.returns-in-None-clause-again
+returns-in-None-clause-again g c = λ term view can.
+    can_again term_keeps _ _ term view 1 _ _ _ _ c.in-Back.answer can c.loop-turn.invariant.stays
+    (back_answers term_keeps _ _ c.in-Back.is (none_held c.loop-turn.stack.items _ refl c.in-None.ensures.variant.1) (c.loop-turn.invariant.all term view can))
 
 pub loop-turn-preserved-in_ok-turn-in-Enter : goal.loop-turn-preserved-in_ok-turn-in-Enter
 loop-turn-preserved-in_ok-turn-in-Enter g c =
