@@ -45,24 +45,27 @@ use Rattle.bt_arena.specs.Stands.{Beside, memory_of, uid_of, written}
 use Rattle.bt_arena.proofs.Framed.{all_sizes, sizes_cons}
 use Rattle.bt_arena.proofs.Opened.{memory_out, opened, size_out}
 use Rattle.bt_arena.proofs.Follows.{stopped}
+use Rattle.bt_halting.proofs.Within.{stands_within}
 use Rattle.bt_laws.proofs.Acts.{as_many_statuses}
 use Rattle.bt_laws.proofs.Beginnings.{Begins}
 use Rattle.bt_laws.proofs.Children.{Keeps}
 use Rattle.bt_laws.proofs.KindRules.{kept_begins, running_begins, starts_begin}
 use Rattle.bt_nodes.specs.Calls.{IsInPhase}
 use Rattle.bt_nodes.specs.Settles.{Settles}
+use Rattle.bt_nodes.proofs.Following.{stops_with}
 use Rattle.bt_nodes.proofs.Phases.{in_phase}
 use Rattle.bt_nodes.proofs.Settled.{settles_met}
 use Rattle.bt_nodes.proofs.Standing.{beside_one, children_same, fits_here, stays_fit}
 use Rattle.bt_tick.specs.declared.machine.Step.{Step}
 use Rattle.bt_tick.specs.declared.machine.Turn.{Turn}
 use Rattle.bt_tick.specs.declared.machine.Turn.TheVariants as turn
-use Rattle.bt_tick.specs.Turns.{CanBegin, CanFollow, CanGoOn, CanPick, CanVisit, ChildrenSound, Comes, Goes, GoesOnBy, GoesTo, Starts, children_in, cost, goes_by, has_rule, kind_of, left_of, memory_in, number, ruled_in, site_at, started_in, visit_in}
-use Rattle.bt_tick.proofs.Children.{beside_both, beside_more, beside_same, stands_within, terms}
+use Rattle.bt_nodes.specs.Here.{site_at}
+use Rattle.bt_tick.specs.Turns.{CanBegin, CanFollow, CanGoOn, CanPick, CanVisit, ChildrenSound, Comes, Goes, GoesOnBy, GoesTo, Starts, children_in, cost, goes_by, has_rule, kind_of, left_of, memory_in, number, ruled_in, started_in, visit_in}
+use Rattle.bt_tick.proofs.Children.{beside_both, beside_more, beside_same, terms}
 use Rattle.bt_tick.proofs.Bounds.{begins_less, visits_few}
 use Rattle.bt_tick.proofs.Held.{leaf_kind, sound_opened}
 use Rattle.bt_tick.proofs.Moving.{as_many_kept, back_of, ends_so, kind_is, node_fits, node_there, number_is, size_is}
-use Rattle.bt_tick.proofs.Passing.{comes_both, comes_same, met_behind, none_told, part_made, stops_with}
+use Rattle.bt_tick.proofs.Passing.{comes_both, comes_same, met_behind, none_told, part_made}
 use Rattle.bt_tick.proofs.Starting.{begins_so, picks_so}
 
 -- ---- Kinds

@@ -27,7 +27,8 @@ use Rattle.bt_arena.proofs.Opened.{memory_out, size_out}
 use Rattle.bt_arena.specs.Ends.{IsCut, IsMade, Meets, StaysFit}
 use Rattle.bt_arena.proofs.Follows.{stopped}
 use Rattle.bt_tick.specs.declared.machine.Frame.{Frame}
-use Rattle.bt_tick.specs.Turns.{AllLeave, ChildLeaves, Comes, StackIs, Waiting, WaitsFor, child_of_waiting, children_in, goes_behind, goes_by, kind_of, memory_in, number, resume, ruled_by, site_at, visit_in}
+use Rattle.bt_nodes.specs.Here.{site_at}
+use Rattle.bt_tick.specs.Turns.{AllLeave, ChildLeaves, Comes, StackIs, Waiting, WaitsFor, child_of_waiting, children_in, goes_behind, goes_by, kind_of, memory_in, number, resume, ruled_by, visit_in}
 use Rattle.bt_tick.proofs.Children.{beside_both, child_inside, child_seen}
 use Rattle.bt_tick.proofs.Passing.{follow_behind, follow_follow}
 

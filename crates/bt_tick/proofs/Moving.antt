@@ -42,13 +42,15 @@ use Rattle.bt_laws.proofs.Acts.{AllLeft}
 use Rattle.bt_laws.proofs.Children.{Keeps, SoundAll}
 use Rattle.bt_laws.proofs.Resting.{Rested, span_leaves}
 use Rattle.bt_model.specs.Sound.{Sound}
+use Rattle.bt_nodes.proofs.Following.{stops_with}
 use Rattle.bt_tick.specs.declared.machine.Frame.{Frame}
 use Rattle.bt_tick.specs.declared.machine.Step.{Step}
 use Rattle.bt_tick.specs.declared.machine.Turn.{Turn}
 use Rattle.bt_tick.specs.declared.machine.Turn.TheVariants as turn
-use Rattle.bt_tick.specs.Turns.{CanGoOn, ChildrenSound, Comes, ComesTo, Goes, GoesOnBy, GoesTo, TurnDoes, WaitsBy, children_in, goes_by, has_rule, kind_of, memory_in, number, passes_over, place_heard, ruled_by, site_at, turn_to}
+use Rattle.bt_nodes.specs.Here.{site_at}
+use Rattle.bt_tick.specs.Turns.{CanGoOn, ChildrenSound, Comes, ComesTo, Goes, GoesOnBy, GoesTo, TurnDoes, WaitsBy, children_in, goes_by, has_rule, kind_of, memory_in, number, passes_over, place_heard, ruled_by, turn_to}
 use Rattle.bt_tick.proofs.Children.{beside_both, beside_more, child_seen, terms}
-use Rattle.bt_tick.proofs.Passing.{comes_both, follow_follow, met_behind, met_comes, part_made, stops_with}
+use Rattle.bt_tick.proofs.Passing.{comes_both, follow_follow, met_behind, met_comes, part_made}
 
 -- ---- The node
 

@@ -13,6 +13,7 @@ use Rattle.bt_arena.specs.Rosters.{roster_after}
 use Rattle.bt_arena.specs.Scenes.{Scene, state_in}
 use Rattle.bt_arena.specs.Ends.{IsCut, IsMade, Meets}
 use Rattle.bt_arena.proofs.Follows.{after_both, behind_met, named_both}
+use Rattle.bt_nodes.proofs.Following.{stops_with}
 use Rattle.bt_tick.specs.Turns.{Comes}
 
 -- ---- Parts one behind the other
@@ -86,10 +87,6 @@ module _ {A M B N : Type 0} (nodes : List Node) (moment : ℕ) (memory : List Ke
 -- nothing was told yet
 pub none_told : {A M : Type 0} (nodes : List Node) (s : Scene) (n : List Note) (d : Done A M) → IsCut nodes s s n n d
 none_told nodes s n d = record { told = []; untold = d.notes; made = []; unmade = d.calls; all_notes = refl; all_calls = refl; named = refl; notes = sym (append-nil n); drivers = refl }
-
-pub stops_with : {A : Type 0} (r : Result A (Stop NodeFault)) (e : Stop NodeFault) → IsErrAnd r (λ x. x ≡ e) → r ≡ Err e
-stops_with (Ok a) e h = absurd h
-stops_with (Err x) e h = ap Err h
 
 -- what stopped with this stops all with it
 pub met_with : {A M : Type 0} (nodes : List Node) (moment : ℕ) (memory : List Kept → M) (r : Result A (Stop NodeFault)) (e : Stop NodeFault) (s0 s1 : Scene) (n0 n1 : List Note) (d : Done A M) → IsErrAnd r (λ x. x ≡ e) →

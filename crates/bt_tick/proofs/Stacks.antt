@@ -33,7 +33,8 @@ use Rattle.bt_tick.specs.declared.machine.Frame.{Frame}
 use Rattle.bt_tick.specs.declared.machine.Step.{Step}
 use Rattle.bt_tick.specs.declared.machine.Turn.{Turn}
 use Rattle.bt_tick.specs.declared.machine.Turn.TheVariants as turn
-use Rattle.bt_tick.specs.Turns.{AllLeave, CanGoOn, CanVisit, ChildLeaves, ChildrenSound, Comes, ComesTo, Goes, Going, GoesOnBy, StackIs, TurnDoes, Waiting, WaitsBy, WaitsFor, child_of_waiting, children_in, goes_behind, goes_by, kind_of, memory_in, number, resume, ruled_by, site_at, visit_in}
+use Rattle.bt_nodes.specs.Here.{site_at}
+use Rattle.bt_tick.specs.Turns.{AllLeave, CanGoOn, CanVisit, ChildLeaves, ChildrenSound, Comes, ComesTo, Goes, Going, GoesOnBy, StackIs, TurnDoes, Waiting, WaitsBy, WaitsFor, child_of_waiting, children_in, goes_behind, goes_by, kind_of, memory_in, number, resume, ruled_by, visit_in}
 use Rattle.bt_tick.proofs.Children.{beside_same, child_inside, child_seen, child_stands, seat_at, terms}
 use Rattle.bt_tick.proofs.Frames.{all_stops, children_now, leave_comes, node_kept, resume_comes, stack_stays}
 use Rattle.bt_tick.proofs.Passing.{comes_both, comes_same, follow_follow, met_behind, none_told}
