@@ -1,21 +1,18 @@
 -- The children of a node that stands in an arena: where they stand, what they keep, and their rules.
-use Rattle.std.proofs.Common.{◌≡◌, ℕ, zero, suc, ◌+◌, ◌<◌, ◌≤◌, List, [], ◌∷◌, map, length, take, get_or, refl, sym, ap, subst, ◌∙◌, arith, None}
-use Rattle.std.proofs.lemmas.List.{length-map}
-use Rattle.bt_model.specs.declared.memory.Memory.{Memory}
-use Rattle.bt_model.specs.declared.term.Term.{Term, Term-F, ind-Term, fold-roll-Term, out-Term, roll-Term, roll-out-Term}
+use Rattle.std.proofs.Common.{◌≡◌, ℕ, zero, suc, ◌+◌, ◌<◌, ◌≤◌, List, [], ◌∷◌, map, length, take, get_or, refl, sym, ap, subst, ◌∙◌, arith}
+use Rattle.bt_model.specs.declared.term.Term.{Term, Term-F, out-Term, roll-Term, roll-out-Term}
 use Rattle.bt_model.specs.declared.term.Term.TheFolds.{rec-roll-Term}
 use Rattle.bt_model.specs.declared.world.Row.{Row}
-use Rattle.bt_model.specs.Done.{State}
-use Rattle.bt_model.specs.Sites.{Meaning, View, child_of, children_from}
+use Rattle.bt_model.specs.Sites.{View, child_of, children_from}
 use Rattle.bt_model.specs.Sound.{Sound, States, states_of_node}
-use Rattle.bt_model.specs.Steps.{Child, child_at}
-use Rattle.bt_model.specs.Visit.{meaning, meaning_of_node}
+use Rattle.bt_model.specs.Steps.{child_at}
+use Rattle.bt_model.specs.Visit.{meaning}
 use Rattle.bt_arena.specs.declared.nodes.Kept.{Kept}
 use Rattle.bt_arena.specs.declared.nodes.Node.{Node}
-use Rattle.bt_arena.specs.Nodes.{kept_at, node_at}
-use Rattle.bt_arena.specs.Stands.{Beside, StandAll, Standing, Stands, node_stands, uid_of, view_under, written}
+use Rattle.bt_arena.specs.Nodes.{node_at}
+use Rattle.bt_arena.specs.Stands.{Beside, StandAll, Stands, uid_of}
 use Rattle.bt_arena.proofs.Framed.{all_sizes, sizes_cons}
-use Rattle.bt_arena.proofs.Opened.{opened, size_out, stands_roll}
+use Rattle.bt_arena.proofs.Opened.{opened, size_out}
 use Rattle.bt_halting.proofs.Within.{stands_within}
 use Rattle.bt_laws.proofs.Children.{Family, Keeps}
 use Rattle.bt_laws.proofs.Induction.{rules_of_terms}

@@ -120,7 +120,9 @@ pub(crate) fn go_on<D: Drivers>(
 {
     let here = node(nodes, step.uid);
     let (memo, go) = next_move(here.kind, step.memo, here.children, now, step.heard);
-    reset_before(alloc, nodes, kept, board, drivers, step.uid, go.reset, notes)?;
+    reset_before(
+        alloc, nodes, kept, board, drivers, step.uid, go.reset, notes,
+    )?;
     match go.then {
         Then::Give(answer) => {
             let given = end_visit(alloc, nodes, kept, board, step.uid, answer, memo, notes)?;

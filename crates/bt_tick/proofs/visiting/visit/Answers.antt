@@ -1,7 +1,7 @@
-use Rattle.std.proofs.Common.{◌≡◌, ◌≤◌, List, [], Err, arith, refl, sym, ap, subst, ◌∙◌}
+use Rattle.std.proofs.Common.{Err, arith, refl, sym, ◌∙◌}
 use Rattle.bt_laws.proofs.Keeping.{term_keeps}
 use Rattle.bt_tick.proofs.Passing.{met_with}
-use Rattle.bt_tick.proofs.Stacks.{back_answers, back_made, begins, can_again, can_enter, can_step, cut_here, enter_made, enter_stops, none_held, on_stack, step_made, step_stays, step_stops, wait_made}
+use Rattle.bt_tick.proofs.Stacks.{back_answers, back_made, begins, can_again, can_enter, can_step, enter_made, enter_stops, none_held, on_stack, step_made, step_stays, step_stops, wait_made}
 use Rattle.bt_tick.proofs.visiting.visit.Goals as goal
 
 pub loop-turn-init : goal.loop-turn-init
