@@ -1,17 +1,16 @@
 -- The turns of a visit come to an end.
-use Rattle.std.proofs.Common.{◌≡◌, ℕ, zero, suc, ◌+◌, ◌-◌, ◌*◌, ◌^◌, ◌<◌, ◌≤◌, ℤ, pos, negsuc, Bool, true, false, List, length, get_or, sym, ap, subst, arith, Option, Some, None, unwrap_or}
+use Rattle.std.proofs.Common.{◌≡◌, ℕ, zero, suc, ◌+◌, ◌-◌, ◌*◌, ◌^◌, ◌<◌, ◌≤◌, ℤ, pos, negsuc, Bool, true, false, List, get_or, sym, ap, subst, arith, unwrap_or}
 use Rattle.std.proofs.Math.Nat.{mul-le-mul_right}
 use Rattle.bt_model.specs.declared.memory.Memo.{Memo}
 use Rattle.bt_model.specs.declared.memory.Turns.{Turns}
 use Rattle.bt_model.specs.declared.moves.Then.{Then}
 use Rattle.bt_model.specs.declared.moves.Then.TheVariants as then_
 use Rattle.bt_model.specs.declared.term.Kind.{Kind}
-use Rattle.bt_model.specs.declared.term.Kind.TheVariants.{Retry, Repeat, Parallel}
+use Rattle.bt_model.specs.declared.term.Kind.TheVariants.{Retry, Repeat}
 use Rattle.bt_model.specs.declared.term.Term.{Term, out-Term}
 use Rattle.bt_model.specs.Moves.{FitsStart, GoesOn, TurnIsLeft, next_place, turns_to_do, visits_left}
 use Rattle.bt_model.specs.Rules.Turns.{limit_of, turns_of}
 use Rattle.bt_model.specs.Sites.{View}
-use Rattle.bt_model.specs.Visit.{meaning}
 use Rattle.bt_arena.specs.declared.nodes.Node.{Node}
 use Rattle.bt_arena.specs.Nodes.{node_at}
 use Rattle.bt_arena.specs.Scenes.{Fits, Scene}
@@ -21,7 +20,7 @@ use Rattle.bt_tick.specs.declared.machine.Frame.{Frame}
 use Rattle.bt_tick.specs.declared.machine.Step.{Step}
 use Rattle.bt_tick.specs.declared.machine.Turn.{Turn}
 use Rattle.bt_tick.specs.declared.machine.Turn.TheVariants as turn
-use Rattle.bt_tick.specs.Turns.{cost, frame_work, left_of, number, turn_to, turn_work}
+use Rattle.bt_tick.specs.Turns.{cost, left_of, number, turn_to, turn_work}
 use Rattle.bt_tick.proofs.Children.{child_inside, child_stands, size_stands}
 use Rattle.bt_tick.proofs.Moving.{children_stand, size_is}
 
@@ -68,8 +67,8 @@ pub work_turned : (nodes : List Node) (step : Step) (frame : Frame) (b : Bool) (
     GoesOn here.kind here.children step.memo (next_place step.heard) frame.memo then → (node_at nodes frame.child).size ≤ (node_at nodes step.uid).size - 1 → turn_work nodes t < turn_work nodes (turn.GoOn step)
 work_turned nodes step frame b t is_turn same here is then visits onward small =
     let onward_there : GoesOn (node_at nodes step.uid).kind (node_at nodes step.uid).children step.memo (next_place step.heard) frame.memo (then_.Visit frame.place) =
-      subst (λ (n : Node). GoesOn n.kind n.children step.memo (next_place step.heard) frame.memo (then_.Visit frame.place)) is
-      (subst (λ (x : Then). GoesOn here.kind here.children step.memo (next_place step.heard) frame.memo x) visits onward) in
+    subst (λ (n : Node). GoesOn n.kind n.children step.memo (next_place step.heard) frame.memo (then_.Visit frame.place)) is
+    (subst (λ (x : Then). GoesOn here.kind here.children step.memo (next_place step.heard) frame.memo x) visits onward) in
     subst (λ (x : Turn). turn_work nodes x < turn_work nodes (turn.GoOn step)) (sym is_turn) (turn_less nodes step frame b same onward_there.2 small)
 
 -- a child is smaller than its node

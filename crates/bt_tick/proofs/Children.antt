@@ -1,21 +1,19 @@
 -- The children of a node that stands in an arena: where they stand, what they keep, and their rules.
-use Rattle.std.proofs.Common.{◌≡◌, ℕ, zero, suc, ◌+◌, ◌<◌, ◌≤◌, List, [], ◌∷◌, map, length, take, get_or, refl, sym, ap, subst, ◌∙◌, arith, None}
-use Rattle.std.proofs.lemmas.List.{length-map}
-use Rattle.bt_model.specs.declared.memory.Memory.{Memory}
-use Rattle.bt_model.specs.declared.term.Term.{Term, Term-F, ind-Term, fold-roll-Term, out-Term, roll-Term, roll-out-Term}
+use Rattle.std.proofs.Common.{◌≡◌, ℕ, zero, suc, ◌+◌, ◌<◌, ◌≤◌, List, [], ◌∷◌, map, length, take, get_or, refl, sym, ap, subst, ◌∙◌, arith}
+use Rattle.bt_model.specs.declared.term.Term.{Term, Term-F, out-Term, roll-Term, roll-out-Term}
 use Rattle.bt_model.specs.declared.term.Term.TheFolds.{rec-roll-Term}
 use Rattle.bt_model.specs.declared.world.Row.{Row}
-use Rattle.bt_model.specs.Done.{State}
-use Rattle.bt_model.specs.Sites.{Meaning, View, child_of, children_from}
+use Rattle.bt_model.specs.Sites.{View, child_of, children_from}
 use Rattle.bt_model.specs.Sound.{Sound, States, states_of_node}
-use Rattle.bt_model.specs.Steps.{Child, child_at}
-use Rattle.bt_model.specs.Visit.{meaning, meaning_of_node}
+use Rattle.bt_model.specs.Steps.{child_at}
+use Rattle.bt_model.specs.Visit.{meaning}
 use Rattle.bt_arena.specs.declared.nodes.Kept.{Kept}
 use Rattle.bt_arena.specs.declared.nodes.Node.{Node}
-use Rattle.bt_arena.specs.Nodes.{kept_at, node_at}
-use Rattle.bt_arena.specs.Stands.{Beside, StandAll, Standing, Stands, node_stands, uid_of, view_under, written}
+use Rattle.bt_arena.specs.Nodes.{node_at}
+use Rattle.bt_arena.specs.Stands.{Beside, StandAll, Stands, uid_of}
 use Rattle.bt_arena.proofs.Framed.{all_sizes, sizes_cons}
-use Rattle.bt_arena.proofs.Opened.{opened, size_out, stands_roll}
+use Rattle.bt_arena.proofs.Opened.{opened, size_out}
+use Rattle.bt_halting.proofs.Within.{stands_within}
 use Rattle.bt_laws.proofs.Children.{Family, Keeps}
 use Rattle.bt_laws.proofs.Induction.{rules_of_terms}
 use Rattle.bt_laws.proofs.Keeping.{family}
@@ -56,25 +54,6 @@ child_stands nodes view [] place uid t within stand = absurd (omega (arith, with
 child_stands nodes view (c ∷ cs) zero uid t within stand = subst (λ (u : ℕ). Stands c nodes view u) (let e : uid ≡ uid + 0 = omega arith in e) stand.0
 child_stands nodes view (c ∷ cs) (suc place) uid t within stand =
     subst (λ (u : ℕ). Stands (get_or cs place t) nodes view u) (uid_behind c cs place uid) (child_stands nodes view cs place (uid + (meaning c).size) t (omega (arith, within)) stand.1)
-
--- a term that stands in an arena lies within it
-abbrev Within : Term → Type 0
-Within t = (nodes : List Node) (view : View) (uid : ℕ) → Stands t nodes view uid → uid + (meaning t).size ≤ length nodes
-
-all_within : (ts : List ((t : Term) × Within t)) (nodes : List Node) (view : View) (uid : ℕ) → uid ≤ length nodes → StandAll (map (λ e. e.0) ts) nodes view uid → uid + all_sizes (map (λ e. e.0) ts) ≤ length nodes
-all_within [] nodes view uid low stand = omega (arith, low)
-all_within (e ∷ ts) nodes view uid low stand =
-    let first = e.1 nodes view uid stand.0 in
-    omega (arith, all_within ts nodes view (uid + (meaning e.0).size) first stand.1, sizes_cons e.0 (map (λ x. x.0) ts))
-
-pub stands_within : (t : Term) → Within t
-stands_within = ind-Term Within (λ x y is nodes view uid stands.
-    let here : node_stands Term (λ t. t) Stands x nodes view uid = subst (λ (p : Standing). p nodes view uid) (stands_roll x) stands in
-    let whole : (meaning (roll-Term x)).size ≡ 1 + all_sizes x.children = ap (λ (m : Meaning). m.size) (fold-roll-Term Meaning meaning_of_node x) in
-    let below : StandAll x.children nodes (view_under view uid (written x)) (uid + 1) → uid + 1 + all_sizes x.children ≤ length nodes =
-    subst (λ (z : Term-F Term). StandAll z.children nodes (view_under view uid (written x)) (uid + 1) → uid + 1 + all_sizes z.children ≤ length nodes) is
-    (all_within y.children nodes (view_under view uid (written x)) (uid + 1) (omega (arith, here.0))) in
-    omega (arith, whole, below here.2))
 
 -- ---- Sizes in an arena
 

@@ -1,7 +1,7 @@
 -- A node that is entered: what its guards, its start and its rule do of its visit.
-use Rattle.std.proofs.Common.{◌≡◌, ℕ, ℤ, zero, suc, ◌+◌, ◌<◌, ◌≤◌, ◌^◌, Bool, true, false, List, [], ◌∷◌, ◌++◌, map, length, refl, sym, ap, subst, ◌∙◌, arith, append-nil, slice_set, Option, Some, None, Result, Ok, Err}
+use Rattle.std.proofs.Common.{◌≡◌, ℕ, ℤ, ◌+◌, ◌<◌, ◌≤◌, ◌^◌, Bool, true, false, List, [], ◌∷◌, ◌++◌, map, length, refl, sym, ap, subst, ◌∙◌, arith, append-nil, slice_set, Option, Some, None, Result, Ok, Err}
 use Rattle.std.proofs.lemmas.List.{get_or-set_same, length-map}
-use Rattle.std.specs.Prelude.{IfOk, IsErrAnd, IsTrue}
+use Rattle.std.specs.Prelude.{IfOk, IsErrAnd}
 use Rattle.bt_script.specs.declared.stop.Stop.{Stop}
 use Rattle.bt_script.specs.declared.stop.Stop.TheVariants as stop
 use Rattle.bt_script.specs.declared.value.Value.{Value}
@@ -21,7 +21,7 @@ use Rattle.bt_model.specs.declared.term.Kind.{Kind}
 use Rattle.bt_model.specs.declared.term.Kind.TheVariants.{AlwaysSuccess, AlwaysFailure, ScriptNode, ScriptCondition, Leaf}
 use Rattle.bt_model.specs.declared.term.Term.{Term, Term-F, fold_out-Term, out-Term}
 use Rattle.bt_model.specs.declared.term.Term.TheFolds.{map-Term}
-use Rattle.bt_model.specs.BuiltIns.{class_of, takes}
+use Rattle.bt_model.specs.BuiltIns.{class_of}
 use Rattle.bt_model.specs.Done.{Done, State, behind, done, ends, follow}
 use Rattle.bt_model.specs.Drivers.{DriverState, instance_at}
 use Rattle.bt_model.specs.Leaves.{row_of}
@@ -31,38 +31,39 @@ use Rattle.bt_model.specs.Rules.Kinds.{rule}
 use Rattle.bt_model.specs.Scripts.{goes_on, guards_answer}
 use Rattle.bt_model.specs.Shapes.{RestingShape, RunningShape, Shape, is_running}
 use Rattle.bt_model.specs.Sites.{Meaning, Site, View, children_of, remembered, sizes}
-use Rattle.bt_model.specs.Sound.{Dated, Sound, is_held, statuses}
+use Rattle.bt_model.specs.Sound.{Sound, is_held, statuses}
 use Rattle.bt_model.specs.Steps.{Given}
-use Rattle.bt_model.specs.Trees.{ports_fit}
-use Rattle.bt_model.specs.Visit.{begun, change, continued, ended, guarded, halt, kind_rule, meaning, meaning_of_node, node_rule, or_bad_port, ruled, started, starts, visit_by}
+use Rattle.bt_model.specs.Visit.{begun, change, continued, ended, guarded, halt, kind_rule, meaning, meaning_of_node, node_rule, or_bad_port, ruled, starts, visit_by}
 use Rattle.bt_arena.specs.declared.nodes.Kept.{Kept}
 use Rattle.bt_arena.specs.declared.nodes.Node.{Node}
 use Rattle.bt_arena.specs.declared.nodes.ReadyLeaf.{ReadyLeaf}
 use Rattle.bt_arena.specs.Ends.{IsMade, Meets, StaysFit}
 use Rattle.bt_arena.specs.Nodes.{IsNode, at_rest, kept_at, leaf_at, node_at}
 use Rattle.bt_arena.specs.Scenes.{Fits, Scene, scene, state_in}
-use Rattle.bt_arena.specs.Stands.{Beside, memory_of, uid_of, written}
+use Rattle.bt_arena.specs.Stands.{Beside, memory_of, written}
 use Rattle.bt_arena.proofs.Framed.{all_sizes, sizes_cons}
 use Rattle.bt_arena.proofs.Opened.{memory_out, opened, size_out}
 use Rattle.bt_arena.proofs.Follows.{stopped}
+use Rattle.bt_halting.proofs.Within.{stands_within}
 use Rattle.bt_laws.proofs.Acts.{as_many_statuses}
 use Rattle.bt_laws.proofs.Beginnings.{Begins}
 use Rattle.bt_laws.proofs.Children.{Keeps}
 use Rattle.bt_laws.proofs.KindRules.{kept_begins, running_begins, starts_begin}
 use Rattle.bt_nodes.specs.Calls.{IsInPhase}
 use Rattle.bt_nodes.specs.Settles.{Settles}
+use Rattle.bt_nodes.proofs.Following.{stops_with}
 use Rattle.bt_nodes.proofs.Phases.{in_phase}
 use Rattle.bt_nodes.proofs.Settled.{settles_met}
 use Rattle.bt_nodes.proofs.Standing.{beside_one, children_same, fits_here, stays_fit}
-use Rattle.bt_tick.specs.declared.machine.Step.{Step}
 use Rattle.bt_tick.specs.declared.machine.Turn.{Turn}
 use Rattle.bt_tick.specs.declared.machine.Turn.TheVariants as turn
-use Rattle.bt_tick.specs.Turns.{CanBegin, CanFollow, CanGoOn, CanPick, CanVisit, ChildrenSound, Comes, Goes, GoesOnBy, GoesTo, Starts, children_in, cost, goes_by, has_rule, kind_of, left_of, memory_in, number, ruled_in, site_at, started_in, visit_in}
-use Rattle.bt_tick.proofs.Children.{beside_both, beside_more, beside_same, stands_within, terms}
+use Rattle.bt_nodes.specs.Here.{site_at}
+use Rattle.bt_tick.specs.Turns.{CanBegin, CanFollow, CanGoOn, CanPick, CanVisit, ChildrenSound, Comes, Goes, GoesTo, Starts, children_in, cost, goes_by, has_rule, kind_of, left_of, memory_in, number, ruled_in, started_in, visit_in}
+use Rattle.bt_tick.proofs.Children.{beside_both, beside_more, beside_same, terms}
 use Rattle.bt_tick.proofs.Bounds.{begins_less, visits_few}
 use Rattle.bt_tick.proofs.Held.{leaf_kind, sound_opened}
 use Rattle.bt_tick.proofs.Moving.{as_many_kept, back_of, ends_so, kind_is, node_fits, node_there, number_is, size_is}
-use Rattle.bt_tick.proofs.Passing.{comes_both, comes_same, met_behind, none_told, part_made, stops_with}
+use Rattle.bt_tick.proofs.Passing.{comes_both, comes_same, met_behind, none_told, part_made}
 use Rattle.bt_tick.proofs.Starting.{begins_so, picks_so}
 
 -- ---- Kinds
@@ -253,7 +254,7 @@ module _ (keeps : (t : Term) → Keeps (meaning t) (Sound t)) (nodes : List Node
     can_run runs =
         let here = sound_opened term view.rows uid s.kept (state_in nodes s moment) can.sound in
         let shape : RunningShape (kind_of term) (out-Term term).ports (row_of view.rows (out-Term term).id) moment (kept_at s.kept uid).memo here_statuses =
-          subst (λ (x : Status). Shape x (kind_of term) (out-Term term).ports (row_of view.rows (out-Term term).id) moment (kept_at s.kept uid).memo here_statuses) runs here.0.shape in
+        subst (λ (x : Status). Shape x (kind_of term) (out-Term term).ports (row_of view.rows (out-Term term).id) moment (kept_at s.kept uid).memo here_statuses) runs here.0.shape in
         record {
           can = can_go;
           begins = λ with_rule. begins_by (kept_at s.kept uid).memo (running_begins (kind_of term) (out-Term term).ports (row_of view.rows (out-Term term).id) moment (kept_at s.kept uid).memo here_statuses with_rule shape);
@@ -338,7 +339,7 @@ module _ {nodes : List Node} {moment : ℕ} {term : Term} {view : View} {uid : �
         Goes nodes moment term view uid (Err (stop.Fault f)) s s n n (ruled_in nodes moment term view uid s)
     goes_fault f is = record {
       ends = faulted nodes moment term uid s s n f (ruled_in nodes moment term view uid s) refl
-        (rule_faults nodes moment term view uid s with_rule f (subst (λ (x : Kept). Err f ≡ or_bad_port uid (picked (kind_of term) (site_at view uid term) x.memo (state_in nodes s moment))) read is));
+          (rule_faults nodes moment term view uid s with_rule f (subst (λ (x : Kept). Err f ≡ or_bad_port uid (picked (kind_of term) (site_at view uid term) x.memo (state_in nodes s moment))) read is));
       beside = beside_same uid (meaning term).size s.kept;
       stays = λ t v u fits. fits;
     }
@@ -351,8 +352,8 @@ module _ {nodes : List Node} {moment : ℕ} {term : Term} {view : View} {uid : �
         let fits : FitsStart (kind_of term) (number term) k.memo place = subst (λ (m : Memo). FitsStart (kind_of term) (number term) m place) (sym memo) (follow.begins with_rule place pick) in
         let many : number term < 2 ^ 30 = omega (arith, number_few (out-Term term).children, size_out term, stands_within term nodes view uid follow.can.fits.stands, follow.can.fits.few) in
         let few : visits_left (node_at nodes uid).kind (node_at nodes uid).children k.memo 0 ≤ 2 ^ 32 + 1 =
-          subst (λ (kd : Kind). visits_left kd (node_at nodes uid).children k.memo 0 ≤ 2 ^ 32 + 1) (sym (kind_is follow.can.fits))
-          (subst (λ (m : ℕ). visits_left (kind_of term) m k.memo 0 ≤ 2 ^ 32 + 1) (sym (number_is follow.can.fits)) (visits_few (kind_of term) (number term) k.memo place many fits)) in
+        subst (λ (kd : Kind). visits_left kd (node_at nodes uid).children k.memo 0 ≤ 2 ^ 32 + 1) (sym (kind_is follow.can.fits))
+        (subst (λ (m : ℕ). visits_left (kind_of term) m k.memo 0 ≤ 2 ^ 32 + 1) (sym (number_is follow.can.fits)) (visits_few (kind_of term) (number term) k.memo place many fits)) in
         begins_less (node_at nodes uid) k.memo (omega (arith, size_is follow.can.fits, size_out term)) few
 
 -- ---- A part of a visit, and what goes on behind it
@@ -548,7 +549,7 @@ module _ (keeps : (t : Term) → Keeps (meaning t) (Sound t)) (nodes : List Node
       starts_with nodes moment term view uid s0
       ∙ ap (λ (ns : List Note). behind ns [] (after_start (or_bad_port uid (new_memo (kind_of term) (site_at view uid term) old.memo (state_in nodes s0 moment))))) (changes uid old.status rests)
       ∙ ap (λ (x : Result Memo NodeFault). behind (Changed uid old.status status.Running ∷ []) [] (after_start x))
-        (sym (is ∙ ap (λ (x : Kept). or_bad_port uid (new_memo (kind_of term) (site_at view uid term) x.memo (state_in nodes s0 moment))) read))
+      (sym (is ∙ ap (λ (x : Kept). or_bad_port uid (new_memo (kind_of term) (site_at view uid term) x.memo (state_in nodes s0 moment))) read))
 
   -- a bad port: the node has become RUNNING, and no more
   pub start_faults : (k : Kept) → k ≡ old → (f : NodeFault) → Err f ≡ or_bad_port uid (new_memo (kind_of term) (site_at view uid term) k.memo (state_in nodes s0 moment)) →
@@ -585,24 +586,25 @@ module _ (keeps : (t : Term) → Keeps (meaning t) (Sound t)) (nodes : List Node
     pub start_made : starts (kind_of term) old.memo ≡ true → (k : Kept) → k ≡ old → Ok memo ≡ or_bad_port uid (new_memo (kind_of term) (site_at view uid term) k.memo (state_in nodes s0 moment)) → Starts nodes moment term view uid (Ok tt) s0 s2 n0 n1
     start_made start k read is =
         let is_old : Ok memo ≡ or_bad_port uid (new_memo (kind_of term) (site_at view uid term) old.memo (state_in nodes s0 moment)) =
-          is ∙ ap (λ (x : Kept). or_bad_port uid (new_memo (kind_of term) (site_at view uid term) x.memo (state_in nodes s0 moment))) read in
-        (record {
-          can = record {
-            fits = start_stays term view uid can.fits;
-            sound = subst (λ (x : List Memory). ChildrenSound term view uid x (state_in nodes s0 moment)) (sym children2) (can_go keeps nodes moment term view uid s0 can).sound;
-            dated = can.dated;
-          };
-          begins = λ with_rule. subst (λ (x : Kept). CanBegin (kind_of term) (number term) x.memo) (sym here2) (starts_so keeps nodes moment term view uid s0 can rests start memo is_old);
-          held = λ alone. absurd (not_both (has_rule (kind_of term)) (starts_ruled (kind_of term) old.memo start) alone);
-        },
-        record {
-          told = Changed uid old.status status.Running ∷ [];
-          made = [];
-          all = started_as k read (Ok memo) is ∙ (λ i. behind (Changed uid old.status status.Running ∷ []) [] (ruled (site_at view uid term) (sym here2 i).status (sym here2 i).memo (sym children2 i) (state_in nodes s0 moment)));
-          named = refl;
-          notes = noted;
-          drivers = refl;
-        })
+        is ∙ ap (λ (x : Kept). or_bad_port uid (new_memo (kind_of term) (site_at view uid term) x.memo (state_in nodes s0 moment))) read in (
+          record {
+            can = record {
+              fits = start_stays term view uid can.fits;
+              sound = subst (λ (x : List Memory). ChildrenSound term view uid x (state_in nodes s0 moment)) (sym children2) (can_go keeps nodes moment term view uid s0 can).sound;
+              dated = can.dated;
+            };
+            begins = λ with_rule. subst (λ (x : Kept). CanBegin (kind_of term) (number term) x.memo) (sym here2) (starts_so keeps nodes moment term view uid s0 can rests start memo is_old);
+            held = λ alone. absurd (not_both (has_rule (kind_of term)) (starts_ruled (kind_of term) old.memo start) alone);
+          },
+          record {
+            told = Changed uid old.status status.Running ∷ [];
+            made = [];
+            all = started_as k read (Ok memo) is ∙ (λ i. behind (Changed uid old.status status.Running ∷ []) [] (ruled (site_at view uid term) (sym here2 i).status (sym here2 i).memo (sym children2 i) (state_in nodes s0 moment)));
+            named = refl;
+            notes = noted;
+            drivers = refl;
+          },
+        )
       where
         not_both : (b : Bool) → b ≡ true → b ≡ false → ⊥
         not_both b holds fails = cc

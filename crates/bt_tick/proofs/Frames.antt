@@ -1,35 +1,30 @@
 -- Visits that wait for a child, one upon the other.
-use Rattle.std.proofs.Common.{◌≡◌, ℕ, zero, suc, ◌+◌, ◌<◌, ◌≤◌, List, [], ◌∷◌, ◌++◌, map, length, get_or, slice_set, refl, sym, ap, subst, ◌∙◌, arith, Option, None, Result, Ok, Err}
-use Rattle.std.proofs.lemmas.List.{length-map}
+use Rattle.std.proofs.Common.{◌≡◌, ℕ, ◌+◌, ◌≤◌, List, [], ◌∷◌, slice_set, refl, sym, ap, subst, ◌∙◌, arith, Err}
 use Rattle.bt_script.specs.declared.stop.Stop.{Stop}
 use Rattle.bt_script.specs.declared.stop.Stop.TheVariants as stop
 use Rattle.bt_model.specs.declared.fault.NodeFault.{NodeFault}
-use Rattle.bt_model.specs.declared.memory.Memo.{Memo}
 use Rattle.bt_model.specs.declared.memory.Memory.{Memory}
 use Rattle.bt_model.specs.declared.moves.Heard.TheVariants.{Answered}
 use Rattle.bt_model.specs.declared.note.Note.{Note}
 use Rattle.bt_model.specs.declared.status.Answer.{Answer}
-use Rattle.bt_model.specs.declared.status.Status.{Status}
 use Rattle.bt_model.specs.declared.term.Term.{Term, out-Term}
-use Rattle.bt_model.specs.Done.{Call, Done, State, behind, carried, done, follow}
+use Rattle.bt_model.specs.Done.{Call, Done, behind}
 use Rattle.bt_model.specs.Moves.{after}
-use Rattle.bt_model.specs.Sites.{View, children_of, memory_at, placed, remembered}
-use Rattle.bt_model.specs.Steps.{Child, Rule, child_at, visit}
-use Rattle.bt_model.specs.Sound.{Leaves}
-use Rattle.bt_model.specs.Visit.{ended, meaning, status_of}
+use Rattle.bt_model.specs.Sites.{View, placed, remembered}
+use Rattle.bt_model.specs.Visit.{meaning}
 use Rattle.bt_arena.specs.declared.nodes.Kept.{Kept}
 use Rattle.bt_arena.specs.declared.nodes.Node.{Node}
 use Rattle.bt_arena.specs.Nodes.{kept_at}
-use Rattle.bt_arena.specs.Scenes.{Scene, state_in}
-use Rattle.bt_arena.specs.Stands.{Beside, memories_of, memory_of, uid_of, view_under, written}
-use Rattle.bt_arena.proofs.Framed.{memory_at_place, memory_set}
+use Rattle.bt_arena.specs.Scenes.{Scene}
+use Rattle.bt_arena.specs.Stands.{Beside, memory_of, uid_of}
+use Rattle.bt_arena.proofs.Framed.{memory_set}
 use Rattle.bt_arena.proofs.Opened.{memory_out, size_out}
-use Rattle.bt_arena.specs.Ends.{IsCut, IsMade, Meets, StaysFit}
+use Rattle.bt_arena.specs.Ends.{Meets, StaysFit}
 use Rattle.bt_arena.proofs.Follows.{stopped}
 use Rattle.bt_tick.specs.declared.machine.Frame.{Frame}
-use Rattle.bt_tick.specs.Turns.{AllLeave, ChildLeaves, Comes, StackIs, Waiting, WaitsFor, child_of_waiting, children_in, goes_behind, goes_by, kind_of, memory_in, number, resume, ruled_by, site_at, visit_in}
-use Rattle.bt_tick.proofs.Children.{beside_both, child_inside, child_seen}
-use Rattle.bt_tick.proofs.Passing.{follow_behind, follow_follow}
+use Rattle.bt_tick.specs.Turns.{AllLeave, Comes, StackIs, Waiting, WaitsFor, child_of_waiting, children_in, goes_behind, kind_of, number, resume, ruled_by}
+use Rattle.bt_tick.proofs.Children.{beside_both, child_inside}
+use Rattle.bt_tick.proofs.Passing.{follow_behind}
 
 -- ---- What is behind notes and calls
 
@@ -87,7 +82,7 @@ module _ (nodes : List Node) (moment : ℕ) (root : Term) (first : ℕ) where
     pub children_now : slice_set (children_in w.term w.frame.uid w.kept) w.frame.place (memory_of term uid s.kept) ≡ children_in w.term w.frame.uid s.kept
     children_now =
         let at : memory_of term uid s.kept ≡ memory_of (child_of_waiting w) (uid_of (out-Term w.term).children (w.frame.uid + 1) w.frame.place) s.kept =
-          (λ i. memory_of (sym k.child_is i) ((sym k.uid_is ∙ k.child) i) s.kept) in
+        (λ i. memory_of (sym k.child_is i) ((sym k.uid_is ∙ k.child) i) s.kept) in
         ap (λ (m : Memory). slice_set (children_in w.term w.frame.uid w.kept) w.frame.place m) at
         ∙ memory_set (out-Term w.term).children w.frame.place (w.frame.uid + 1) w.term w.kept s.kept k.there
         (subst (λ (u : ℕ). Beside u (meaning (child_of_waiting w)).size w.kept s.kept) k.child k.beside)

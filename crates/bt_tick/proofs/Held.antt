@@ -1,26 +1,25 @@
 -- What the rules of a term say of its nodes where they stand in an arena.
-use Rattle.std.proofs.Common.{◌≡◌, ℕ, ◌+◌, ◌<◌, ◌≤◌, List, [], ◌∷◌, map, length, Bool, true, false, is_some, slice_get, Option, Some, None, option_map, refl, sym, ap, subst, ◌∙◌, arith, ⊎_elim}
+use Rattle.std.proofs.Common.{◌≡◌, ℕ, ◌+◌, ◌<◌, ◌≤◌, List, [], ◌∷◌, true, Option, Some, None, sym, ap, subst, ◌∙◌, arith, ⊎_elim}
 use Rattle.std.proofs.lemmas.Bool.{cases_eq, cases_lt}
-use Rattle.bt_model.specs.declared.leaf.Instance.{Instance}
 use Rattle.bt_model.specs.declared.memory.Memo.{Memo}
 use Rattle.bt_model.specs.declared.memory.Memory.{Memory, Memory-F, out-Memory, out-roll-Memory}
 use Rattle.bt_model.specs.declared.status.Status.{Status}
 use Rattle.bt_model.specs.declared.status.Status.TheVariants.{Running}
 use Rattle.bt_model.specs.declared.term.Kind.{Kind}
 use Rattle.bt_model.specs.declared.term.Kind.TheVariants.{Leaf}
-use Rattle.bt_model.specs.declared.term.Term.{Term, Term-F, ind-Term, fold-roll-Term, out-Term, roll-Term}
+use Rattle.bt_model.specs.declared.term.Term.{Term, Term-F, out-Term}
 use Rattle.bt_model.specs.declared.world.Row.{Row}
 use Rattle.bt_model.specs.Done.{State}
 use Rattle.bt_model.specs.Leaves.{row_of}
-use Rattle.bt_model.specs.Sites.{Meaning, View, remembered}
-use Rattle.bt_model.specs.Sound.{NodeRule, Sound, Sounds, States, held_at, is_held, states_of_node}
+use Rattle.bt_model.specs.Sites.{View, remembered}
+use Rattle.bt_model.specs.Sound.{NodeRule, Sound, Sounds, States, states_of_node}
 use Rattle.bt_model.specs.Trees.{Node as TreeNode}
-use Rattle.bt_model.specs.Visit.{meaning, meaning_of_node}
+use Rattle.bt_model.specs.Visit.{meaning}
 use Rattle.bt_arena.specs.declared.nodes.Kept.{Kept}
 use Rattle.bt_arena.specs.declared.nodes.Node.{Node}
 use Rattle.bt_arena.specs.declared.nodes.ReadyLeaf.{ReadyLeaf}
-use Rattle.bt_arena.specs.Nodes.{LeafStands, kept_at, leaf_at, node_at}
-use Rattle.bt_arena.specs.Stands.{Reading, StandAll, Standing, Stands, memories_of, memory_of, node_stands, reading, reading_of_node, view_under, written}
+use Rattle.bt_arena.specs.Nodes.{LeafStands, kept_at, leaf_at}
+use Rattle.bt_arena.specs.Stands.{StandAll, Stands, memories_of, memory_of, view_under, written}
 use Rattle.bt_arena.proofs.Framed.{all_sizes, sized, sizes_cons}
 use Rattle.bt_arena.proofs.Opened.{memory_out, opened}
 use Rattle.bt_arena.specs.Scenes.{Fits, Scene, state_in}

@@ -1,5 +1,5 @@
 -- A node that goes on: what a move does of what is still to come.
-use Rattle.std.proofs.Common.{◌≡◌, ℕ, zero, suc, ◌+◌, ◌-◌, ◌<◌, ◌≤◌, ◌^◌, Bool, true, false, List, [], ◌∷◌, ◌++◌, map, length, get_or, refl, sym, ap, subst, ◌∙◌, arith, Option, None, Result, Ok, Err, cond}
+use Rattle.std.proofs.Common.{◌≡◌, ℕ, ◌+◌, ◌-◌, ◌<◌, ◌≤◌, Bool, true, false, List, [], ◌∷◌, length, get_or, refl, sym, ap, subst, ◌∙◌, arith, Result, Ok, Err, cond}
 use Rattle.std.specs.Prelude.{IsErrAnd, IsTrue}
 use Rattle.std.proofs.lemmas.List.{length-map}
 use Rattle.bt_script.specs.declared.stop.Stop.{Stop}
@@ -20,18 +20,18 @@ use Rattle.bt_model.specs.declared.term.Kind.{Kind}
 use Rattle.bt_model.specs.declared.term.Kind.TheVariants.{Parallel}
 use Rattle.bt_model.specs.declared.term.Term.{Term, out-Term}
 use Rattle.bt_model.specs.BuiltIns.{takes}
-use Rattle.bt_model.specs.Done.{Done, State, behind, done, follow}
+use Rattle.bt_model.specs.Done.{Done, State, done, follow}
 use Rattle.bt_model.specs.Drivers.{is_held}
 use Rattle.bt_model.specs.Moves.{Fits as FitsMoves, GoesOn, after, behind_resets, going, hears, makes, next_place, rest}
-use Rattle.bt_model.specs.Sites.{View, child_of, children_of, memory_at, remembered}
-use Rattle.bt_model.specs.Steps.{Child, Rule, child_at, is_completed, keep, reset, resets, visit, visit_or_pass}
-use Rattle.bt_model.specs.Sound.{Dated, Leaves, fault_of}
+use Rattle.bt_model.specs.Sites.{View, child_of, children_of, remembered}
+use Rattle.bt_model.specs.Steps.{Child, Rule, child_at, keep, reset, resets, visit, visit_or_pass}
+use Rattle.bt_model.specs.Sound.{Dated, fault_of}
 use Rattle.bt_model.specs.Trees.{NodeFits}
 use Rattle.bt_model.specs.Visit.{ended, meaning}
 use Rattle.bt_arena.specs.declared.nodes.Kept.{Kept}
 use Rattle.bt_arena.specs.declared.nodes.Node.{Node}
 use Rattle.bt_arena.specs.Ends.{Meets, StaysFit}
-use Rattle.bt_arena.specs.Nodes.{IsFit, IsNode, kept_at, node_at}
+use Rattle.bt_arena.specs.Nodes.{IsFit, kept_at, node_at}
 use Rattle.bt_arena.specs.Rosters.{instances_of, leaf_instance}
 use Rattle.bt_arena.specs.Scenes.{Fits, Scene, state_in}
 use Rattle.bt_arena.specs.Stands.{Beside, StandAll, memory_of, uid_of, view_under, written}
@@ -42,13 +42,15 @@ use Rattle.bt_laws.proofs.Acts.{AllLeft}
 use Rattle.bt_laws.proofs.Children.{Keeps, SoundAll}
 use Rattle.bt_laws.proofs.Resting.{Rested, span_leaves}
 use Rattle.bt_model.specs.Sound.{Sound}
+use Rattle.bt_nodes.proofs.Following.{stops_with}
 use Rattle.bt_tick.specs.declared.machine.Frame.{Frame}
 use Rattle.bt_tick.specs.declared.machine.Step.{Step}
 use Rattle.bt_tick.specs.declared.machine.Turn.{Turn}
 use Rattle.bt_tick.specs.declared.machine.Turn.TheVariants as turn
-use Rattle.bt_tick.specs.Turns.{CanGoOn, ChildrenSound, Comes, ComesTo, Goes, GoesOnBy, GoesTo, TurnDoes, WaitsBy, children_in, goes_by, has_rule, kind_of, memory_in, number, passes_over, place_heard, ruled_by, site_at, turn_to}
+use Rattle.bt_nodes.specs.Here.{site_at}
+use Rattle.bt_tick.specs.Turns.{CanGoOn, ChildrenSound, Comes, Goes, GoesOnBy, GoesTo, TurnDoes, children_in, goes_by, has_rule, kind_of, memory_in, number, passes_over, ruled_by, turn_to}
 use Rattle.bt_tick.proofs.Children.{beside_both, beside_more, child_seen, terms}
-use Rattle.bt_tick.proofs.Passing.{comes_both, follow_follow, met_behind, met_comes, part_made, stops_with}
+use Rattle.bt_tick.proofs.Passing.{comes_both, follow_follow, met_behind, met_comes, part_made}
 
 -- ---- The node
 
@@ -156,16 +158,16 @@ module _ (keeps : (t : Term) → Keeps (meaning t) (Sound t)) (nodes : List Node
           let same = node_kept term uid s.kept s1.kept beside in
           subst (λ (d : Done Answer Memory). Comes nodes s s1 n0 n1 d (goes_by nodes moment term view uid s1 rule)) (sym first_is)
           (subst (λ (k : Kept). Comes nodes s s1 n0 n1 (behind_all term view uid (kept_at s.kept uid).status (kept_at s.kept uid).memo rule (children_in term uid s.kept) (state_in nodes s moment) span)
-            (ruled_by term view uid k.status k.memo rule (children_in term uid s1.kept) (state_in nodes s1 moment))) (sym same)
+          (ruled_by term view uid k.status k.memo rule (children_in term uid s1.kept) (state_in nodes s1 moment))) (sym same)
           (part_made nodes moment (children_in term uid) s s1 n0 n1 resets_here (λ ms1. remembered (kept_at s.kept uid).status (kept_at s.kept uid).memo ms1)
-            (λ _ ms1 x. ruled_by term view uid (kept_at s.kept uid).status (kept_at s.kept uid).memo rule ms1 x) tt m))
+          (λ _ ms1 x. ruled_by term view uid (kept_at s.kept uid).status (kept_at s.kept uid).memo rule ms1 x) tt m))
 
       -- they stopped
       pub resets_stopped : (e : Stop NodeFault) → Meets {A = Unit {0}} nodes moment (children_in term uid) (Err e) s s1 n0 n1 resets_here → Meets {A = Answer} nodes moment (memory_of term uid) (Err e) s s1 n0 n1 first
       resets_stopped e m =
           subst (λ (d : Done Answer Memory). Meets {A = Answer} nodes moment (memory_of term uid) (Err e) s s1 n0 n1 d) (sym first_is)
           (stopped nodes moment (children_in term uid) (memory_of term uid) s s1 n0 n1 resets_here (λ ms1. remembered (kept_at s.kept uid).status (kept_at s.kept uid).memo ms1)
-            (λ _ ms1 x. ruled_by term view uid (kept_at s.kept uid).status (kept_at s.kept uid).memo rule ms1 x) e (memory_behind term uid s.kept s1.kept beside) m)
+          (λ _ ms1 x. ruled_by term view uid (kept_at s.kept uid).status (kept_at s.kept uid).memo rule ms1 x) e (memory_behind term uid s.kept s1.kept beside) m)
 
 -- ---- What comes behind the resets
 
@@ -319,7 +321,7 @@ module _ (keeps : (t : Term) → Keeps (meaning t) (Sound t)) (nodes : List Node
         pub step_stopped : (e : Stop NodeFault) → Meets {A = Unit {0}} nodes moment (children_in term step.uid) (Err e) s s1 n0 n1 reset_part → Goes nodes moment term view step.uid (Err e) s s1 n0 n1 next
         step_stopped e m = record {
           ends = subst (λ (d : Done Answer Memory). Meets {A = Answer} nodes moment (memory_of term step.uid) (Err e) s s1 n0 n1 d) (sym next_so)
-            (resets_stopped keeps nodes moment term view step.uid s k.can go.reset s1 n0 n1 stays beside (still go.then) e m);
+              (resets_stopped keeps nodes moment term view step.uid s k.can go.reset s1 n0 n1 stays beside (still go.then) e m);
           beside = within_node beside;
           stays = stays;
         }
@@ -337,8 +339,8 @@ module _ (keeps : (t : Term) → Keeps (meaning t) (Sound t)) (nodes : List Node
               Goes nodes moment term view step.uid (back_of r) s s2 n0 n2 next
           step_given a gives s2 n2 r stays2 beside2 m2 = record {
             ends = ends_so nodes moment term view step.uid s s1 s2 n0 n1 n2 next (goes_by nodes moment term view step.uid s1 (keep a memo)) r (comes_so (then_.Give a) gives)
-              (subst (λ (d : Done Answer Memory). Meets nodes moment (memory_of term step.uid) r s1 s2 n1 n2 d)
-              (sym (keep_opened term view step.uid (kept_at s1.kept step.uid).status (kept_at s1.kept step.uid).memo memo a (children_in term step.uid s1.kept) (state_in nodes s1 moment))) m2);
+                (subst (λ (d : Done Answer Memory). Meets nodes moment (memory_of term step.uid) r s1 s2 n1 n2 d)
+                (sym (keep_opened term view step.uid (kept_at s1.kept step.uid).status (kept_at s1.kept step.uid).memo memo a (children_in term step.uid s1.kept) (state_in nodes s1 moment))) m2);
             beside = beside_both (within_node beside) beside2 (omega arith) (omega arith) (omega arith) (omega (arith, some_size));
             stays = λ t v u fits. stays2 t v u (stays t v u fits);
           }
@@ -353,7 +355,7 @@ module _ (keeps : (t : Term) → Keeps (meaning t) (Sound t)) (nodes : List Node
                 ends = record {
                   next = goes_by nodes moment term view step.uid s1 (still (then_.Visit place));
                   does = turns nodes moment term view step.uid s1 (can_behind keeps nodes moment term view step.uid s k.can go.reset s1 n0 n1 stays beside m) (record { uid = step.uid; memo = memo; place = place; child = child }) refl k.ruled
-                    (next_place step.heard) step.memo (visit_there place visits) is_child b passes;
+                      (next_place step.heard) step.memo (visit_there place visits) is_child b passes;
                   comes = comes_so (then_.Visit place) visits;
                 };
                 beside = within_node beside;

@@ -1,18 +1,17 @@
 -- What was done on the way, and what is still to come.
-use Rattle.std.proofs.Common.{◌≡◌, ℕ, ◌+◌, List, [], ◌∷◌, ◌++◌, length, refl, sym, ap, ◌∙◌, subst, append_assoc, append-nil, length-append, Result, Ok, Err, arith}
+use Rattle.std.proofs.Common.{◌≡◌, ℕ, List, [], ◌++◌, refl, sym, ap, ◌∙◌, subst, append_assoc, append-nil, length-append, Result, Ok, Err, arith}
 use Rattle.std.specs.Prelude.{IsErrAnd}
 use Rattle.bt_script.specs.declared.stop.Stop.{Stop}
-use Rattle.bt_script.specs.declared.stop.Stop.TheVariants as stop
 use Rattle.bt_model.specs.declared.fault.NodeFault.{NodeFault}
 use Rattle.bt_model.specs.declared.note.Note.{Note}
-use Rattle.bt_model.specs.Done.{Call, Done, State, behind, carried, done, ends, follow}
+use Rattle.bt_model.specs.Done.{Call, Done, State, behind, carried, done, follow}
 use Rattle.bt_arena.specs.declared.nodes.Kept.{Kept}
 use Rattle.bt_arena.specs.declared.nodes.Node.{Node}
-use Rattle.bt_arena.specs.Noted.{calls_named}
 use Rattle.bt_arena.specs.Rosters.{roster_after}
 use Rattle.bt_arena.specs.Scenes.{Scene, state_in}
-use Rattle.bt_arena.specs.Ends.{IsCut, IsMade, Meets}
+use Rattle.bt_arena.specs.Ends.{IsCut, Meets}
 use Rattle.bt_arena.proofs.Follows.{after_both, behind_met, named_both}
+use Rattle.bt_nodes.proofs.Following.{stops_with}
 use Rattle.bt_tick.specs.Turns.{Comes}
 
 -- ---- Parts one behind the other
@@ -75,9 +74,9 @@ module _ {A M B N : Type 0} (nodes : List Node) (moment : ℕ) (memory : List Ke
     told = d.notes;
     made = d.calls;
     all =
-      ap (λ (r : Result A NodeFault). carried r d place go) m.0.answer
-      ∙ ap (λ (k : M). behind d.notes d.calls (go a k d.state)) m.0.memory
-      ∙ ap (λ (s : State). behind d.notes d.calls (go a (memory s1.kept) s)) m.0.state;
+        ap (λ (r : Result A NodeFault). carried r d place go) m.0.answer
+        ∙ ap (λ (k : M). behind d.notes d.calls (go a k d.state)) m.0.memory
+        ∙ ap (λ (s : State). behind d.notes d.calls (go a (memory s1.kept) s)) m.0.state;
     named = m.1;
     notes = m.0.notes;
     drivers = m.0.drivers;
@@ -86,10 +85,6 @@ module _ {A M B N : Type 0} (nodes : List Node) (moment : ℕ) (memory : List Ke
 -- nothing was told yet
 pub none_told : {A M : Type 0} (nodes : List Node) (s : Scene) (n : List Note) (d : Done A M) → IsCut nodes s s n n d
 none_told nodes s n d = record { told = []; untold = d.notes; made = []; unmade = d.calls; all_notes = refl; all_calls = refl; named = refl; notes = sym (append-nil n); drivers = refl }
-
-pub stops_with : {A : Type 0} (r : Result A (Stop NodeFault)) (e : Stop NodeFault) → IsErrAnd r (λ x. x ≡ e) → r ≡ Err e
-stops_with (Ok a) e h = absurd h
-stops_with (Err x) e h = ap Err h
 
 -- what stopped with this stops all with it
 pub met_with : {A M : Type 0} (nodes : List Node) (moment : ℕ) (memory : List Kept → M) (r : Result A (Stop NodeFault)) (e : Stop NodeFault) (s0 s1 : Scene) (n0 n1 : List Note) (d : Done A M) → IsErrAnd r (λ x. x ≡ e) →

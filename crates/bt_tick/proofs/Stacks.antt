@@ -1,27 +1,27 @@
 -- The turns of a tick: a child is entered, its answer is heard, and the root has answered.
-use Rattle.std.proofs.Common.{◌≡◌, ℕ, zero, suc, ◌+◌, ◌<◌, ◌≤◌, List, [], ◌∷◌, ◌++◌, map, length, get_or, slice_set, refl, sym, ap, subst, ◌∙◌, arith, Option, None, Result, Ok, Err}
+use Rattle.std.proofs.Common.{◌≡◌, ℕ, ◌+◌, ◌<◌, List, [], ◌∷◌, ◌++◌, length, refl, sym, ap, subst, ◌∙◌, arith, Option, Some, None, Result, Ok, Err}
 use Rattle.std.proofs.lemmas.List.{same_from_push}
+use Rattle.std.specs.Prelude.{IsSome}
 use Rattle.bt_script.specs.declared.stop.Stop.{Stop}
 use Rattle.bt_script.specs.declared.stop.Stop.TheVariants as stop
 use Rattle.bt_model.specs.declared.fault.NodeFault.{NodeFault}
 use Rattle.bt_model.specs.declared.memory.Memo.{Memo}
-use Rattle.bt_model.specs.declared.memory.Memory.{Memory, out-Memory}
+use Rattle.bt_model.specs.declared.memory.Memory.{Memory}
 use Rattle.bt_model.specs.declared.moves.Heard.TheVariants.{Answered}
 use Rattle.bt_model.specs.declared.note.Note.{Note}
 use Rattle.bt_model.specs.declared.status.Answer.{Answer}
 use Rattle.bt_model.specs.declared.status.Status.{Status}
 use Rattle.bt_model.specs.declared.term.Term.{Term, out-Term}
-use Rattle.bt_model.specs.Done.{Call, Done, State, behind, carried, done, follow}
-use Rattle.bt_model.specs.Moves.{after, rest}
-use Rattle.bt_model.specs.Sites.{Meaning, Site, View, child_of, children_of, memory_at, placed, remembered}
+use Rattle.bt_model.specs.Done.{Done, State, done, follow}
+use Rattle.bt_model.specs.Moves.{after}
+use Rattle.bt_model.specs.Sites.{View, child_of, children_of, memory_at, placed, remembered}
 use Rattle.bt_model.specs.Steps.{Child, Rule, child_at, visit}
-use Rattle.bt_model.specs.Sound.{Dated, Leaves, Sound}
-use Rattle.bt_model.specs.Visit.{ended, meaning, status_of}
-use Rattle.bt_arena.specs.declared.nodes.Kept.{Kept}
+use Rattle.bt_model.specs.Sound.{Dated, Sound, fault_of}
+use Rattle.bt_model.specs.Visit.{ended, meaning}
 use Rattle.bt_arena.specs.declared.nodes.Node.{Node}
 use Rattle.bt_arena.specs.Nodes.{kept_at}
-use Rattle.bt_arena.specs.Scenes.{Fits, Scene, state_in}
-use Rattle.bt_arena.specs.Stands.{Beside, Stands, memories_of, memory_of, uid_of, view_under, written}
+use Rattle.bt_arena.specs.Scenes.{Scene, state_in}
+use Rattle.bt_arena.specs.Stands.{Stands, memory_of, view_under, written}
 use Rattle.bt_arena.proofs.Framed.{memory_at_place}
 use Rattle.bt_arena.proofs.Opened.{opened}
 use Rattle.bt_arena.specs.Ends.{Meets, StaysFit}
@@ -32,14 +32,24 @@ use Rattle.bt_tick.specs.declared.machine.Frame.{Frame}
 use Rattle.bt_tick.specs.declared.machine.Step.{Step}
 use Rattle.bt_tick.specs.declared.machine.Turn.{Turn}
 use Rattle.bt_tick.specs.declared.machine.Turn.TheVariants as turn
-use Rattle.bt_tick.specs.Turns.{AllLeave, CanGoOn, CanVisit, ChildLeaves, ChildrenSound, Comes, ComesTo, Goes, Going, GoesOnBy, StackIs, TurnDoes, Waiting, WaitsBy, WaitsFor, child_of_waiting, children_in, goes_behind, goes_by, kind_of, memory_in, number, resume, ruled_by, site_at, visit_in}
-use Rattle.bt_tick.proofs.Children.{beside_same, child_inside, child_seen, child_stands, seat_at, terms}
+use Rattle.bt_nodes.specs.Here.{site_at}
+use Rattle.bt_tick.specs.Turns.{AllLeave, CanGoOn, CanVisit, ChildLeaves, ChildrenSound, Comes, Goes, Going, GoesOnBy, StackIs, Waiting, WaitsBy, WaitsFor, child_of_waiting, children_in, goes_behind, kind_of, memory_in, number, resume, ruled_by, visit_in}
+use Rattle.bt_tick.proofs.Children.{beside_same, child_seen, child_stands, seat_at, terms}
 use Rattle.bt_tick.proofs.Frames.{all_stops, children_now, leave_comes, node_kept, resume_comes, stack_stays}
 use Rattle.bt_tick.proofs.Passing.{comes_both, comes_same, follow_follow, met_behind, none_told}
 
 none_from_push : {X : Type 0} (xs : List X) (x : X) → [] ≡ xs ++ x ∷ [] → ⊥
 none_from_push [] x is = cc
 none_from_push (y ∷ xs) x is = cc
+
+not_some : {X : Type 0} (o : Option X) → o ≡ None → IsSome o → ⊥
+not_some None is k = cc
+not_some (Some x) is k = cc
+
+-- nothing is on a stack from which nothing could be taken
+pub none_held : {X : Type 0} (xs : List X) (o : Option X) → o ≡ None → (0 < length xs → IsSome o) → xs ≡ []
+none_held [] o is some = refl
+none_held (x ∷ xs) o is some = absurd (not_some o is (some (omega arith)))
 
 -- ---- A child is entered
 
@@ -150,8 +160,8 @@ module _ (keeps : (t : Term) → Keeps (meaning t) (Sound t)) (nodes : List Node
           record {
             fits = k.fits;
             sound =
-              subst (λ (ms : List Memory). ChildrenSound w.term w.view w.frame.uid ms (state_in nodes s moment)) (children_now nodes moment w.term 0 k)
-              (back.back None (children_in w.term w.frame.uid w.kept) (memory_of term uid s.kept) w.state (state_in nodes s moment) k.sound leaves.within leaves.sound);
+                subst (λ (ms : List Memory). ChildrenSound w.term w.view w.frame.uid ms (state_in nodes s moment)) (children_now nodes moment w.term 0 k)
+                (back.back None (children_in w.term w.frame.uid w.kept) (memory_of term uid s.kept) w.state (state_in nodes s moment) k.sound leaves.within leaves.sound);
             dated = leaves.within.dated k.dated;
           }
 
@@ -163,7 +173,7 @@ module _ (keeps : (t : Term) → Keeps (meaning t) (Sound t)) (nodes : List Node
         fits = k.moves a;
         child = k.child;
         next_is = (λ i. ruled_by w.term w.view w.frame.uid (sym (node_kept nodes moment w.term 0 k) i).status (sym (node_kept nodes moment w.term 0 k) i).memo
-          (after (kind_of w.term) (number w.term) w.frame.memo (Answered w.frame.place a)) (children_now nodes moment w.term 0 k i) (state_in nodes s moment));
+            (after (kind_of w.term) (number w.term) w.frame.memo (Answered w.frame.place a)) (children_now nodes moment w.term 0 k i) (state_in nodes s moment));
       }
 
   -- ---- The turns
@@ -223,9 +233,9 @@ module _ (keeps : (t : Term) → Keeps (meaning t) (Sound t)) (nodes : List Node
     pub entered : {frame : Frame} (g : Going nodes moment root first (turn.Wait frame) stack s0 s n0 n whole) → Going nodes moment root first (turn.Enter frame.child) (stack ++ frame ∷ []) s0 s n0 n whole
     entered {frame} g =
         let by : WaitsBy nodes moment g.term g.view frame.uid frame s g.next =
-          subst (λ (u : ℕ). WaitsBy nodes moment g.term g.view u frame s g.next) (sym g.does.here) g.does in
+        subst (λ (u : ℕ). WaitsBy nodes moment g.term g.view u frame s g.next) (sym g.does.here) g.does in
         let under : StackIs nodes moment s root first stack g.waiting g.term g.view frame.uid =
-          subst (λ (u : ℕ). StackIs nodes moment s root first stack g.waiting g.term g.view u) (sym g.does.here) g.stands in
+        subst (λ (u : ℕ). StackIs nodes moment s root first stack g.waiting g.term g.view u) (sym g.does.here) g.stands in
         let w : Waiting = now_waiting g.term g.view frame s g.next by in
         let next : Done Answer Memory = visit_in nodes moment (child_of_waiting w) (view_under g.view frame.uid (written (out-Term g.term))) frame.child s in
         let come = waits_as g.term g.view frame s g.next by in
@@ -346,3 +356,18 @@ module _ (keeps : (t : Term) → Keeps (meaning t) (Sound t)) (nodes : List Node
 
     pub back_answers : {t : Turn} {a : Answer} → t ≡ turn.Back a → stack ≡ [] → Going nodes moment root first t stack s0 s n0 n whole → Meets nodes moment (memory_of root first) (Ok a) s0 s n0 n whole
     back_answers {a = a} is empty g = answers (subst (λ (fs : List Frame). Going nodes moment root first (turn.Back a) fs s0 s n0 n whole) empty (as_turn is g))
+
+-- ---- Behind a visit
+
+-- what a visit that was made has left can be visited again, and its status is its answer's
+pub can_again : (keeps : (t : Term) → Keeps (meaning t) (Sound t)) (nodes : List Node) (moment : ℕ) (term : Term) (view : View) (uid : ℕ) (s s1 : Scene) (n0 n1 : List Note) (a : Answer) →
+    CanVisit nodes moment term view uid s → StaysFit nodes s s1 → Meets nodes moment (memory_of term uid) (Ok a) s s1 n0 n1 (visit_in nodes moment term view uid s) → CanVisit nodes moment term view uid s1
+can_again keeps nodes moment term view uid s s1 n0 n1 a can stays m =
+    let d : Done Answer Memory = visit_in nodes moment term view uid s in
+    let left = (keeps term).visit view uid (memory_in term uid s) (state_in nodes s moment) can.sound in
+    let sound : Sound term view.rows None uid d.memory d.state = subst (λ (r : Result Answer NodeFault). Sound term view.rows (fault_of r) uid d.memory d.state) m.0.answer left.sound in
+    record {
+      fits = stays term view uid can.fits;
+      sound = subst (λ (x : Memory). Sound term view.rows None uid x (state_in nodes s1 moment)) m.0.memory (subst (λ (x : State). Sound term view.rows None uid d.memory x) m.0.state sound);
+      dated = subst Dated m.0.state (left.within.dated can.dated);
+    }

@@ -1,36 +1,31 @@
 -- With which memo the rule of a node can begin.
-use Rattle.std.proofs.Common.{◌≡◌, ℕ, zero, suc, ◌+◌, ◌-◌, ◌<◌, ◌≤◌, ◌^◌, ℤ, pos, negsuc, int_le, List, [], ◌∷◌, ◌++◌, length, find, Bool, true, false, ◌&&◌, ◌||◌, cond, count_by, codes, Option, Some, None, Result, Ok, Err, refl, sym, ap, subst, ◌∙◌, arith, ⊎_elim, nat_eq}
+use Rattle.std.proofs.Common.{◌≡◌, ℕ, zero, suc, ◌+◌, ◌<◌, ◌≤◌, ◌^◌, ℤ, pos, negsuc, int_le, List, [], ◌∷◌, ◌++◌, length, find, Bool, true, false, ◌&&◌, ◌||◌, cond, codes, Option, Some, None, Ok, sym, subst, ◌∙◌, arith, ⊎_elim, nat_eq}
 use Rattle.std.proofs.lemmas.Bool.{and_parts, cases_lt, cond_both, eqb-true, leb-true, or_cases}
 use Rattle.std.proofs.lemmas.List.{get_or_past}
 use Rattle.std.proofs.lemmas.List.Sums.{count_by-le-length}
-use Rattle.std.specs.Prelude.{decimal, IsTrue, IfOk}
+use Rattle.std.specs.Prelude.{decimal, IsTrue}
 use Rattle.std.specs.List.{list_all}
 use Rattle.std.specs.Ordering.{int_eq}
 use Rattle.std.specs.Str.{bytes_eq}
 use Rattle.bt_script.specs.declared.value.Value.{Value}
 use Rattle.bt_script.specs.declared.value.Value.TheVariants.{Int}
 use Rattle.bt_model.specs.declared.built_ins.Range.TheVariants as range
-use Rattle.bt_model.specs.declared.fault.PortId.{PortId}
-use Rattle.bt_model.specs.declared.fault.PortId.TheVariants as port
-use Rattle.bt_model.specs.declared.memory.Counts.{Counts}
 use Rattle.bt_model.specs.declared.memory.Memo.{Memo}
-use Rattle.bt_model.specs.declared.memory.Memo.TheVariants.{Nothing, Index, Chosen, Finished, Counts as Counted, Turns as Turned, Since as Begun}
+use Rattle.bt_model.specs.declared.memory.Memo.TheVariants.{Chosen, Counts as Counted, Turns as Turned}
 use Rattle.bt_model.specs.declared.memory.Turns.{Turns}
-use Rattle.bt_model.specs.declared.status.Answer.{Answer}
 use Rattle.bt_model.specs.declared.status.Status.{Status}
 use Rattle.bt_model.specs.declared.status.Status.TheVariants.{Idle, Running}
 use Rattle.bt_model.specs.declared.term.Kind.{Kind}
-use Rattle.bt_model.specs.declared.term.Kind.TheVariants.{Sequence, SequenceWithMemory, ReactiveSequence, Fallback, ReactiveFallback, Parallel, Switch, IfThenElse, WhileDoElse, Inverter, ForceSuccess, ForceFailure, KeepRunningUntilFailure, Retry, Repeat, Timeout, Delay, RunOnce, SubTree, AlwaysSuccess, AlwaysFailure, ScriptNode, ScriptCondition, Leaf}
+use Rattle.bt_model.specs.declared.term.Kind.TheVariants.{Parallel, Switch, IfThenElse, WhileDoElse, Retry, Repeat}
 use Rattle.bt_model.specs.declared.term.Port.{Port}
 use Rattle.bt_model.specs.declared.term.PortValue.{PortValue}
 use Rattle.bt_model.specs.declared.term.PortValue.TheVariants.{Lit, Key}
-use Rattle.bt_model.specs.declared.world.Row.{Row}
 use Rattle.bt_model.specs.BuiltIns.{fits, required, takes}
 use Rattle.bt_model.specs.Done.{State}
-use Rattle.bt_model.specs.Moves.{FitsStart, HasRoom, TurnIsLeft}
-use Rattle.bt_model.specs.Ports.{case_from, given_by, is_case, new_memo, parallel_start, picked, selected, text_at, turns_start, within, run_once_picked, skip_picked}
+use Rattle.bt_model.specs.Moves.{TurnIsLeft}
+use Rattle.bt_model.specs.Ports.{case_from, given_by, is_case, picked, selected, text_at}
 use Rattle.bt_model.specs.Rules.Turns.{limit_of}
-use Rattle.bt_model.specs.Shapes.{AllIdle, IsCounted, IsGiven, IsGivenAt, IsTurned, OneRuns, RunningShape, TurnsGoOn, is_failure, is_success, status_at}
+use Rattle.bt_model.specs.Shapes.{IsGiven, IsGivenAt, TurnsGoOn, is_failure, is_success, status_at}
 use Rattle.bt_model.specs.Sites.{Site}
 use Rattle.bt_model.specs.Trees.{is_one_of, ports_fit}
 use Rattle.bt_model.specs.Values.{is_plain, value_fits}

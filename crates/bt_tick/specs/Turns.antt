@@ -1,5 +1,5 @@
 -- What is still to come of a visit, and the turns in which it is made.
-use Rattle.std.specs.Prelude.{◌≡◌, ◌+◌, ◌-◌, ◌*◌, ◌^◌, ◌<◌, ◌≤◌, ℕ, zero, suc, sum_by, List, [], ◌∷◌, ◌++◌, length, slice_index_or, Bool, true, false, Option, Some, None, Result, Ok, Err}
+use Rattle.std.specs.Prelude.{◌≡◌, ◌+◌, ◌-◌, ◌*◌, ◌^◌, ◌<◌, ◌≤◌, ℕ, zero, suc, sum_by, List, [], ◌∷◌, ◌++◌, length, slice_index_or, Bool, true, false, Some, None, Result, Ok, Err}
 use Rattle.bt_script.specs.declared.stop.Stop.{Stop}
 use Rattle.bt_model.specs.declared.fault.NodeFault.{NodeFault}
 use Rattle.bt_model.specs.declared.memory.Memo.{Memo}
@@ -12,13 +12,12 @@ use Rattle.bt_model.specs.declared.status.Status.{Status}
 use Rattle.bt_model.specs.declared.term.Kind.{Kind}
 use Rattle.bt_model.specs.declared.term.Kind.TheVariants.{Parallel, Switch, Leaf, ScriptNode, ScriptCondition, AlwaysSuccess, AlwaysFailure}
 use Rattle.bt_model.specs.declared.term.Term.{Term, out-Term}
-use Rattle.bt_model.specs.declared.term.Term.TheFolds.{map-Term}
 use Rattle.bt_model.specs.Done.{Call, Done, State, behind, done, follow}
 use Rattle.bt_model.specs.Moves.{Fits as FitsMoves, FitsStart, after, next_place, rest, visits_left}
-use Rattle.bt_model.specs.Sites.{Meaning, Site, View, children_of, placed, remembered}
+use Rattle.bt_model.specs.Sites.{View, children_of, placed, remembered}
 use Rattle.bt_model.specs.Sound.{Dated, Leaves, Sound, Sounds, held_at, is_held}
 use Rattle.bt_model.specs.Steps.{Rule, is_completed, visit}
-use Rattle.bt_model.specs.Visit.{ended, meaning, ruled, site_of, started, status_of}
+use Rattle.bt_model.specs.Visit.{ended, meaning, ruled, started, status_of}
 use Rattle.bt_arena.specs.declared.nodes.Kept.{Kept}
 use Rattle.bt_arena.specs.declared.nodes.Node.{Node}
 use Rattle.bt_arena.specs.Nodes.{kept_at, node_at}
@@ -27,6 +26,7 @@ use Rattle.bt_arena.specs.Rosters.{roster_after}
 use Rattle.bt_arena.specs.Scenes.{Fits, Scene, state_in}
 use Rattle.bt_arena.specs.Stands.{Beside, memories_of, memory_of, uid_of, view_under, written}
 use Rattle.bt_arena.specs.Ends.{Meets, StaysFit}
+use Rattle.bt_nodes.specs.Here.{site_at}
 use Rattle.bt_tick.specs.declared.machine.Frame.{Frame}
 use Rattle.bt_tick.specs.declared.machine.Step.{Step}
 use Rattle.bt_tick.specs.declared.machine.Turn.{Turn}
@@ -43,10 +43,6 @@ pub record Comes {A M : Type 0} (nodes : List Node) (before after : Scene) (old 
   pub named : length made ≡ calls_named told
   pub notes : new ≡ old ++ told
   pub drivers : after.drivers ≡ roster_after nodes made before.drivers
-
--- a term where it stands
-abbrev pub site_at : View → ℕ → Term → Site
-site_at view uid term = site_of (map-Term Term Meaning meaning (out-Term term)) view uid
 
 -- the visit of a node that has this status and this memo, from this rule on: the rule, and then the end
 abbrev pub ruled_by : Term → View → ℕ → Status → Memo → Rule → List Memory → State → Done Answer Memory
@@ -216,7 +212,7 @@ goes_behind w d =
     follow (placed w.frame.place (children_in w.term w.frame.uid w.kept) d)
     (λ ms1. remembered (kept_at w.kept w.frame.uid).status (kept_at w.kept w.frame.uid).memo ms1)
     (λ a ms1 s1. ruled_by w.term w.view w.frame.uid (kept_at w.kept w.frame.uid).status (kept_at w.kept w.frame.uid).memo
-      (after (kind_of w.term) (number w.term) w.frame.memo (Answered w.frame.place a)) ms1 s1)
+    (after (kind_of w.term) (number w.term) w.frame.memo (Answered w.frame.place a)) ms1 s1)
 
 -- what all that wait still do, the topmost first
 abbrev pub resume : List Waiting → Done Answer Memory → Done Answer Memory

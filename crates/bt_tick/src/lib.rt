@@ -7,5 +7,4 @@ mod moves;
 mod onward;
 mod visiting;
 
-pub use machine::{Frame, Step, Turn};
 pub use visiting::tick;

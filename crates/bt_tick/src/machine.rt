@@ -12,6 +12,18 @@ pub struct Frame {
     pub child: u32,
 }
 
+impl Default for Frame {
+    /// A frame of no node, for a place of a stack that holds none yet.
+    fn default() -> Frame {
+        Frame {
+            uid: 0,
+            memo: Memo::Nothing,
+            place: 0,
+            child: 0,
+        }
+    }
+}
+
 /// A visit that goes on with what the node hears.
 #[derive(Clone, Copy, Debug)]
 pub struct Step {

@@ -9,7 +9,8 @@ ghost use Rattle.bt_arena.specs.Ends.{Meets, StaysFit};
 ghost use Rattle.bt_arena.specs.Nodes.{node_at};
 ghost use Rattle.bt_arena.specs.Scenes.{scene, state_in};
 ghost use Rattle.bt_arena.specs.Stands.{Beside, StandAll, uid_of};
-ghost use Rattle.bt_tick.specs.Turns.{CanGoOn, Goes, GoesOnBy, children_in, has_rule, kind_of, passes_over, place_heard, site_at, turn_to, turn_work};
+ghost use Rattle.bt_nodes.specs.Here.{site_at};
+ghost use Rattle.bt_tick.specs.Turns.{CanGoOn, Goes, GoesOnBy, children_in, has_rule, kind_of, passes_over, place_heard, turn_to, turn_work};
 
 use crate::machine::{Frame, Step, Turn};
 use crate::moves::{child_from, is_completed, next_move};
@@ -119,7 +120,9 @@ pub(crate) fn go_on<D: Drivers>(
 {
     let here = node(nodes, step.uid);
     let (memo, go) = next_move(here.kind, step.memo, here.children, now, step.heard);
-    reset_before(alloc, nodes, kept, board, drivers, step.uid, go.reset, notes)?;
+    reset_before(
+        alloc, nodes, kept, board, drivers, step.uid, go.reset, notes,
+    )?;
     match go.then {
         Then::Give(answer) => {
             let given = end_visit(alloc, nodes, kept, board, step.uid, answer, memo, notes)?;

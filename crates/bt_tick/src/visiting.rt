@@ -1,12 +1,10 @@
-ghost use Rattle.std.specs.Prelude.{◌≡◌, ◌≤◌, ℕ, List, []};
-ghost use Rattle.bt_model.specs.declared.memory.Memory.{Memory};
+ghost use Rattle.std.specs.Prelude.{◌≡◌, ◌≤◌, ℕ, OnOk};
 ghost use Rattle.bt_model.specs.declared.term.Term.{Term};
-ghost use Rattle.bt_model.specs.Done.{Done};
 ghost use Rattle.bt_model.specs.Sites.{View};
 ghost use Rattle.bt_arena.specs.Ends.{Meets, StaysFit};
 ghost use Rattle.bt_arena.specs.Scenes.{scene};
 ghost use Rattle.bt_arena.specs.Stands.{memory_of};
-ghost use Rattle.bt_tick.specs.Turns.{CanVisit, Going, frame_work, stack_work, turn_work, visit_in};
+ghost use Rattle.bt_tick.specs.Turns.{CanVisit, visit_in};
 
 use crate::enter::enter;
 use crate::machine::{Frame, Step, Turn};
@@ -16,6 +14,7 @@ use bt_board::Board;
 use bt_driver::{Drivers, FactTable};
 use bt_model::{Answer, Heard, NodeFault};
 use bt_script::Stop;
+use smallvec::SmallVec;
 use std::alloc::Global;
 
 /// What a visit goes on with that waited and has its child's answer.
@@ -30,7 +29,8 @@ fn hear(frame: Frame, answer: Answer) -> Step
     }
 }
 
-/// Visits the root, turn by turn, with the visits that wait on a stack.
+/// Visits the root, turn by turn, with the visits that wait on a stack. It takes memory for them in a
+/// tree of more than 32 levels alone.
 fn visit<D: Drivers>(
     alloc: Global,
     nodes: &[Node],
@@ -45,11 +45,13 @@ fn visit<D: Drivers>(
     ensures meets { (term : Term) (view : View) → CanVisit nodes.now now term view 1 (scene kept.old board.old facts.old (D.states drivers.old)) →
         Meets nodes.now now (memory_of term 1) result (scene kept.old board.old facts.old (D.states drivers.old)) (scene kept.new board.new facts.new (D.states drivers.new)) notes.old.list notes.new.list
         (visit_in nodes.now now term view 1 (scene kept.old board.old facts.old (D.states drivers.old))) }
+    ensures again { OnOk result ((term : Term) (view : View) → CanVisit nodes.now now term view 1 (scene kept.old board.old facts.old (D.states drivers.old)) →
+        CanVisit nodes.now now term view 1 (scene kept.new board.new facts.new (D.states drivers.new))) }
     ensures fits { StaysFit nodes.now (scene kept.old board.old facts.old (D.states drivers.old)) (scene kept.new board.new facts.new (D.states drivers.new)) }
     ensures reserve { notes.old.reserve ≤ notes.new.reserve }
     ensures full { notes.new.full ≡ notes.old.full }
 {
-    let mut stack: Vec<Frame> = Vec::new(alloc);
+    let mut stack: SmallVec<Frame, 32> = SmallVec::new(alloc);
     let mut turn = Turn::Enter(1);
     loop {
         turn = match turn {
@@ -85,6 +87,9 @@ pub fn tick<D: Drivers>(
         Meets arena.old.nodes.items now (memory_of term 1) result (scene arena.old.kept.items board.old facts.old (D.states drivers.old)) (scene arena.new.kept.items board.new facts.new (D.states drivers.new)) notes.old.list notes.new.list
         (visit_in arena.old.nodes.items now term view 1 (scene arena.old.kept.items board.old facts.old (D.states drivers.old))) }
     ensures fits { StaysFit arena.old.nodes.items (scene arena.old.kept.items board.old facts.old (D.states drivers.old)) (scene arena.new.kept.items board.new facts.new (D.states drivers.new)) }
+    // Behind an answer the root can be visited again.
+    ensures again { OnOk result ((term : Term) (view : View) → CanVisit arena.old.nodes.items now term view 1 (scene arena.old.kept.items board.old facts.old (D.states drivers.old)) →
+        CanVisit arena.old.nodes.items now term view 1 (scene arena.new.kept.items board.new facts.new (D.states drivers.new))) }
     ensures nodes { arena.new.nodes ≡ arena.old.nodes }
     ensures runner { arena.new.runner ≡ arena.old.runner }
     ensures reserve { notes.old.reserve ≤ notes.new.reserve }

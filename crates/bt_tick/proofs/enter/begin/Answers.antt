@@ -1,9 +1,8 @@
-use Rattle.std.proofs.Common.{◌≡◌, Bool, true, false, Some, None, Ok, Err, arith, refl, sym, ap, subst, ◌∙◌}
+use Rattle.std.proofs.Common.{◌≡◌, true, false, Ok, Err, arith, sym, ◌∙◌}
 use Rattle.bt_arena.specs.Scenes.{scene, state_in}
 use Rattle.bt_laws.proofs.Keeping.{term_keeps}
 use Rattle.bt_nodes.proofs.Needed.{guards_need}
 use Rattle.bt_tick.proofs.Bounds.{cost_positive}
-use Rattle.bt_tick.proofs.Children.{beside_more}
 use Rattle.bt_tick.proofs.Entering.{answers_so, as_node, begin_ends, begin_goes, begins_so_far, can_keep, ended_goes, goes_after, keeps_so, node_here, one_within, start_stops, starts_here, still_can}
 use Rattle.bt_tick.proofs.Moving.{as_many_kept, goes_with, node_there}
 use Rattle.bt_tick.proofs.enter.begin.Goals as goal

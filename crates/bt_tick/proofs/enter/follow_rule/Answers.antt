@@ -1,10 +1,8 @@
-use Rattle.std.proofs.Common.{◌≡◌, ◌<◌, Bool, true, false, Ok, Err, arith, sym, ap, subst, ◌∙◌}
+use Rattle.std.proofs.Common.{◌≡◌, true, false, Ok, Err, arith, sym, ap, ◌∙◌}
 use Rattle.bt_model.specs.BuiltIns.{class_of}
-use Rattle.bt_model.specs.declared.built_ins.Class.TheVariants as class
-use Rattle.bt_model.specs.declared.term.Kind.{Kind}
 use Rattle.bt_arena.specs.Scenes.{scene, state_in}
 use Rattle.bt_nodes.proofs.Needed.{has_ports}
-use Rattle.bt_tick.specs.Turns.{has_rule, kind_of}
+use Rattle.bt_tick.specs.Turns.{kind_of}
 use Rattle.bt_tick.proofs.Bounds.{cost_positive}
 use Rattle.bt_tick.proofs.Entering.{alone_goes, alone_here, begin_less, class_alone, goes_fault, goes_follow, node_here, phase_here}
 use Rattle.bt_tick.proofs.Moving.{as_many_kept, goes_with, kind_is, node_there}

@@ -1,6 +1,5 @@
-use Rattle.std.proofs.Common.{◌≡◌, Bool, true, false, Ok, Err, arith, refl, sym, ap, subst, ◌∙◌}
+use Rattle.std.proofs.Common.{sym}
 use Rattle.bt_arena.specs.Scenes.{scene, state_in}
-use Rattle.bt_arena.specs.Stands.{Beside}
 use Rattle.bt_laws.proofs.Keeping.{term_keeps}
 use Rattle.bt_nodes.proofs.Needed.{guards_need}
 use Rattle.bt_halting.proofs.Sounding.{sound_marks}

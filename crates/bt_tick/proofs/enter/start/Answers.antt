@@ -1,5 +1,4 @@
-use Rattle.std.proofs.Common.{◌≡◌, ◌++◌, ◌∷◌, [], List, ap, sym, ◌∙◌, refl}
-use Rattle.bt_model.specs.declared.note.Note.{Note}
+use Rattle.std.proofs.Common.{◌++◌, ◌∷◌, [], ap, sym, ◌∙◌}
 use Rattle.bt_model.specs.declared.note.Note.TheVariants.{Changed}
 use Rattle.bt_model.specs.declared.status.Status.TheVariants.{Running}
 use Rattle.bt_arena.specs.declared.nodes.Kept.{Kept}

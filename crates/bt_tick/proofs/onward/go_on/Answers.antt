@@ -1,9 +1,6 @@
-use Rattle.std.proofs.Common.{◌≡◌, ◌+◌, ◌<◌, ℕ, Ok, Err, arith, refl, sym, ap, subst, ◌∙◌}
-use Rattle.bt_model.specs.declared.status.Status.{Status}
-use Rattle.bt_model.specs.declared.term.Kind.{Kind}
-use Rattle.bt_arena.specs.Nodes.{kept_at}
+use Rattle.std.proofs.Common.{Ok, Err, arith, refl, sym, ◌∙◌}
 use Rattle.bt_laws.proofs.Keeping.{term_keeps}
-use Rattle.bt_tick.specs.Turns.{passes_over, turn_to}
+use Rattle.bt_tick.specs.Turns.{passes_over}
 use Rattle.bt_tick.proofs.Bounds.{child_small, work_turned}
 use Rattle.bt_tick.proofs.Children.{child_there}
 use Rattle.bt_tick.proofs.Moving.{as_many_kept, children_stand, here_fits, here_kind, here_ruled, here_takes, node_there, step_given, step_stopped, step_turned, visit_there}

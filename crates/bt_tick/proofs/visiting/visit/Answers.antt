@@ -1,8 +1,7 @@
-use Rattle.std.proofs.Common.{◌≡◌, ◌≤◌, List, [], Err, arith, refl, sym, ap, subst, ◌∙◌}
-use Rattle.std.proofs.lemmas.List.{nil_from_length}
+use Rattle.std.proofs.Common.{Err, arith, refl, sym, ◌∙◌}
 use Rattle.bt_laws.proofs.Keeping.{term_keeps}
 use Rattle.bt_tick.proofs.Passing.{met_with}
-use Rattle.bt_tick.proofs.Stacks.{back_answers, back_made, begins, can_enter, can_step, cut_here, enter_made, enter_stops, on_stack, step_made, step_stays, step_stops, wait_made}
+use Rattle.bt_tick.proofs.Stacks.{back_answers, back_made, begins, can_again, can_enter, can_step, enter_made, enter_stops, none_held, on_stack, step_made, step_stays, step_stops, wait_made}
 use Rattle.bt_tick.proofs.visiting.visit.Goals as goal
 
 pub loop-turn-init : goal.loop-turn-init
@@ -37,7 +36,12 @@ returns-in_err-turn-in-GoOn-clause-fits g c =
 
 pub returns-in-None-clause-meets : goal.returns-in-None-clause-meets
 returns-in-None-clause-meets g c = λ term view can.
-    back_answers term_keeps _ _ c.in-Back.is (nil_from_length c.loop-turn.stack.items (omega (arith, c.loop-turn.stack.ok.0, c.in-None.ensures.cases.0))) (c.loop-turn.invariant.all term view can)
+    back_answers term_keeps _ _ c.in-Back.is (none_held c.loop-turn.stack.items _ refl c.in-None.ensures.variant.1) (c.loop-turn.invariant.all term view can)
+
+pub returns-in-None-clause-again : goal.returns-in-None-clause-again
+returns-in-None-clause-again g c = λ term view can.
+    can_again term_keeps _ _ term view 1 _ _ _ _ c.in-Back.answer can c.loop-turn.invariant.stays
+    (back_answers term_keeps _ _ c.in-Back.is (none_held c.loop-turn.stack.items _ refl c.in-None.ensures.variant.1) (c.loop-turn.invariant.all term view can))
 
 pub loop-turn-preserved-in_ok-turn-in-Enter : goal.loop-turn-preserved-in_ok-turn-in-Enter
 loop-turn-preserved-in_ok-turn-in-Enter g c =
@@ -63,7 +67,7 @@ loop-turn-preserved-in_ok-turn-in-GoOn g c =
 
 pub loop-turn-preserved-in_ok-push-in-Wait : goal.loop-turn-preserved-in_ok-push-in-Wait
 loop-turn-preserved-in_ok-push-in-Wait g c = record {
-  all = λ term view can. wait_made term_keeps _ _ _ c.in-Wait.is c.in_ok-push-in-Wait.ensures.items (c.loop-turn.invariant.all term view can);
+  all = λ term view can. wait_made term_keeps _ _ _ c.in-Wait.is c.in_ok-push-in-Wait.ensures.ok (c.loop-turn.invariant.all term view can);
   stays = c.loop-turn.invariant.stays;
   reserve = c.loop-turn.invariant.reserve;
   full = c.loop-turn.invariant.full;
