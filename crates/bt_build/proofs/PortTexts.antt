@@ -128,7 +128,7 @@ pub not_true : (b : Bool) → not b ≡ true → b ≡ false
 not_true true h = absurd (cc)
 not_true false h = refl
 
-to_not : (b : Bool) → b ≡ false → not b ≡ true
+pub to_not : (b : Bool) → b ≡ false → not b ≡ true
 to_not true h = absurd (cc)
 to_not false h = refl
 

@@ -3,9 +3,9 @@ use Rattle.std.proofs.Common.{◌≡◌, ℕ, Bool, true, false, not, ◌&&◌, 
 use Rattle.std.proofs.lemmas.List.Folds.{list_all-append, list_any-append}
 use Rattle.std.proofs.lemmas.Slice.Eq.{bytes_eq-Decides}
 use Rattle.std.specs.List.{flat_map, list_all, list_any}
-use Rattle.std.proofs.lemmas.Bool.Decides.{same_from_decides}
 use Rattle.std.specs.Char.{is_ascii_digit}
 use Rattle.std.specs.Prelude.{◌==◌, nat_eq, nat_le, slice_index}
+use Rattle.bt_build.proofs.PortTexts.{neither, not_true, or_false, same_either_way, to_not}
 use Rattle.bt_reread.proofs.Values.{and_true}
 use Rattle.bt_elements.proofs.Ascii.{literal, literal_value}
 use Rattle.std.specs.Str.{bytes_eq, is_utf8}
@@ -180,26 +180,6 @@ guards_can_stand g h =
     ∙ rows_stand (rows_of g) (rows_of_stand g.failure_if g.success_if g.skip_if g.while_true g.on_success g.on_failure g.post g.on_halted h)
 
 -- ---- No name stands twice
-
-same_either_way : (a b : List ℕ) → bytes_eq a b ≡ bytes_eq b a
-same_either_way a b =
-    same_from_decides (bytes_eq a b) (bytes_eq b a) (bytes_eq-Decides a b) (λ h. sym ((bytes_eq-Decides b a).0 h), λ e. (bytes_eq-Decides b a).1 (sym e))
-
-neither : (a b : Bool) → (a || b) ≡ false → (a ≡ false) × (b ≡ false)
-neither true b h = absurd (cc)
-neither false b h = (refl, h)
-
-or_false : (a b : Bool) → a ≡ false → b ≡ false → (a || b) ≡ false
-or_false true b p q = p
-or_false false b p q = q
-
-not_true : (b : Bool) → not b ≡ true → b ≡ false
-not_true true h = absurd (cc)
-not_true false h = refl
-
-to_not : (b : Bool) → b ≡ false → not b ≡ true
-to_not true h = absurd (cc)
-to_not false h = refl
 
 abbrev has_name : List ℕ → List Attribute → Bool
 has_name n xs = list_any (λ (b : Attribute). bytes_eq b.0 n) xs

@@ -1,6 +1,6 @@
 -- The trees that are read open their trees alike: what an element reads as depends on nothing but the file.
 use Rattle.std.proofs.Common.{◌≡◌, ◌⊎◌, inl, inr, ℕ, zero, suc, ◌+◌, Bool, true, false, not, ◌&&◌, cond, if◌then◌else◌, List, [], ◌∷◌, ◌++◌, map, length, codes, Option, Some, None, Result, Ok, Err, refl, ap, sym, ◌∙◌, subst, append_assoc}
-use Rattle.std.specs.Prelude.{bytes_eq, is_some, option_map, nat_eq, nat_le, flat_map}
+use Rattle.std.specs.Prelude.{bytes_eq, is_some, option_map, nat_eq, nat_le}
 use Rattle.std.proofs.lemmas.Slice.Eq.{bytes_eq-Decides}
 use Rattle.std.specs.Cmp.Derive.{both_true}
 use Rattle.std.specs.List.{list_all, AllByRecursion}
@@ -10,11 +10,9 @@ use Rattle.bt_script.specs.declared.syntax.Script.{Script}
 use Rattle.bt_elements.specs.declared.element.Element.{Element}
 use Rattle.bt_model.specs.declared.built_ins.Range.{Range}
 use Rattle.bt_model.specs.declared.built_ins.Range.TheVariants.{AnyValue}
-use Rattle.bt_model.specs.declared.term.Guards.{Guards}
 use Rattle.bt_model.specs.declared.term.Kind.{Kind}
 use Rattle.bt_model.specs.declared.term.Kind.TheVariants.{SubTree}
 use Rattle.bt_model.specs.declared.term.Port.{Port}
-use Rattle.bt_model.specs.declared.term.PortValue.{PortValue}
 use Rattle.bt_model.specs.declared.term.Term.{Term, fold-roll-Term}
 use Rattle.bt_model.specs.declared.term.Tree.{Tree}
 use Rattle.bt_model.specs.BuiltIns.{PortRule, has_code, takes}
@@ -31,10 +29,11 @@ use Rattle.bt_build.specs.declared.head.Head.{Head}
 use Rattle.bt_build.specs.declared.tree.Numbers.{Numbers}
 use Rattle.bt_build.specs.Content.{Rules, AnyPort, AnyKey, Modelled, BuiltIn, all_known, autoremap_in, code_text, content_in, guard_in, guards_in, is_port, known_in, name_fits, or_bad, or_bad_script, ports_in, range_of, rest_in, rules_of, said_or_false, script_of, scripts_in, truth_in, with_absent, with_attribute, with_default, with_fallback, with_model, with_modelled, with_ranged, with_rule, with_rules, with_written}
 use Rattle.bt_build.specs.Heads.{head_of}
-use Rattle.bt_build.specs.Reads.{File, Reader, Trees, is_subtree, known, main_of, main_read, most_levels, named_read, no_numbers, node_in, node_of, node_with, nodes_by, not_root, one_node_more, one_scope_more, opened_by, plain_by, read_node, read_root, reads, refused_if, root_read, roots_read, says_format, term_of, tree_of, trees_read, with_first, with_trees, within_limits}
+use Rattle.bt_build.specs.Reads.{File, Reader, is_subtree, known, main_of, main_read, most_levels, named_read, no_numbers, node_in, node_of, node_with, nodes_by, not_root, one_node_more, one_scope_more, opened_by, plain_by, read_node, read_root, reads, refused_if, root_read, roots_read, says_format, term_of, tree_of, trees_read, with_first, with_trees, within_limits}
 use Rattle.bt_build.specs.Scripts.{script_in}
 use Rattle.bt_build.proofs.ElementTexts.{found}
 use Rattle.bt_build.proofs.PortFits.{some_same}
+use Rattle.bt_build.proofs.PortTexts.{to_not}
 use Rattle.bt_build.proofs.ScriptFits.{tail_0, tail_1, tail_2, tail_3, tail_4, tail_5, tail_6, tail_7, tail_8}
 use Rattle.bt_build.proofs.Sizes.{both_same, faultless, limited, not_refused, same_ok, went}
 use Rattle.bt_reread.specs.Openings.{OpensAlike, fresh_by, fresh_step, opens_fresh}
@@ -349,10 +348,6 @@ all_fresh reader fresh opened (e ∷ es) n m ts h =
 plain_fresh : (kind : Kind) (id : List ℕ) (ts : List Term) (opened : List (List ℕ)) → is_subtree kind ≡ false → all_open ts opened ≡ true → fresh_by kind id (map opens_fresh ts) opened ≡ true
 plain_fresh SubTree id ts opened h all = absurd (cc)
 plain_fresh kind id ts opened h all = all
-
-to_not : (b : Bool) → b ≡ false → not b ≡ true
-to_not true h = absurd (cc)
-to_not false h = refl
 
 subtree_fresh : (kind : Kind) (id : List ℕ) (ts : List Term) (opened : List (List ℕ)) → is_subtree kind ≡ true → is_among id opened ≡ false → all_open ts (opened ++ id ∷ []) ≡ true →
     fresh_by kind id (map opens_fresh ts) opened ≡ true

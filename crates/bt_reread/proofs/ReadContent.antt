@@ -20,18 +20,18 @@ use Rattle.bt_model.specs.declared.term.Term.{Term, Term-F}
 use Rattle.bt_model.specs.BuiltIns.{PortRule, has_code, ports_of}
 use Rattle.bt_model.specs.Names.{is_among}
 use Rattle.bt_model.specs.PrintedTree.{Attribute, guard_attributes, is_compact, node_attributes, port_attribute, port_text, script_attribute}
-use Rattle.bt_model.specs.Trees.{CodeFits, Node, NodeFits, ScriptFits, all_differ, autoremap_fits, is_one_of, names_of, port_stands, ports_fit}
+use Rattle.bt_model.specs.Trees.{CodeFits, Node, NodeFits, ScriptFits, all_differ, autoremap_fits, is_one_of, names_of, ports_fit}
 use Rattle.bt_model.specs.Values.{is_port_name, value_fits, value_in}
 use Rattle.bt_manifest.specs.Attributes.{Attributes, value_of}
 use Rattle.bt_manifest.specs.Steps.{go_on}
 use Rattle.bt_build.specs.declared.content.Content.{Content}
 use Rattle.bt_build.specs.declared.fault.BuildFault.{BuildFault}
-use Rattle.bt_build.specs.Content.{Rules, AnyPort, AnyKey, BuiltIn, all_known, autoremap_in, code_text, content_in, guard_in, guards_in, is_port, known_in, name_fits, or_bad, or_bad_script, ports_in, range_among, range_of, rest_in, rules_of, said_or_false, script_of, scripts_in, with_absent, with_attribute, with_ranged, with_rules, with_rule, with_default, with_written}
+use Rattle.bt_build.specs.Content.{Rules, AnyPort, AnyKey, BuiltIn, all_known, autoremap_in, code_text, content_in, guard_in, guards_in, is_port, known_in, name_fits, or_bad, or_bad_script, ports_in, range_among, range_of, rest_in, rules_of, said_or_false, script_of, scripts_in, with_absent, with_attribute, with_ranged, with_rules, with_default, with_written}
 use Rattle.bt_build.specs.Reads.{name_in, or_else}
 use Rattle.bt_build.proofs.PortTexts.{neither, not_true}
 use Rattle.bt_build.proofs.ScriptAnswers.{script_in-script}
-use Rattle.bt_reread.proofs.Marks.{Row, all_both, guards_are_rows, head_all, head_of as head_attributes, no_ports, port_named, ports_all, ports_have_names, row_names, rows_all, rows_of, script_all, written_rows}
-use Rattle.bt_reread.proofs.ReadValues.{value_reads}
+use Rattle.bt_reread.proofs.Marks.{Row, guards_are_rows, head_all, head_of as head_attributes, no_ports, port_named, ports_all, ports_have_names, row_names, rows_all, rows_of, written_rows}
+use Rattle.bt_reread.proofs.ReadValues.{or_second, value_reads}
 
 -- ---- The value of an attribute
 
@@ -409,10 +409,6 @@ is_known with_code rules a = not (is_port with_code a.0) || is_some (range_of ru
 or_first : (a b : Bool) → a ≡ true → (a || b) ≡ true
 or_first true b h = refl
 or_first false b h = absurd (cc)
-
-or_second : (a b : Bool) → b ≡ true → (a || b) ≡ true
-or_second true b h = refl
-or_second false b h = h
 
 known_others : (with_code : Bool) (rules : Rules) (xs : Attributes) → no_port with_code xs ≡ true → list_all (is_known with_code rules) xs ≡ true
 known_others with_code rules [] h = refl

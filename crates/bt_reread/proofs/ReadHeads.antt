@@ -1,5 +1,5 @@
 -- The element that is printed of a node that fits is read as that node.
-use Rattle.std.proofs.Common.{◌≡◌, ℕ, Bool, true, false, not, ◌&&◌, ◌||◌, if◌then◌else◌, List, [], ◌∷◌, codes, Option, Some, None, refl, ap, sym, ◌∙◌}
+use Rattle.std.proofs.Common.{◌≡◌, ℕ, Bool, true, false, not, ◌&&◌, ◌||◌, if◌then◌else◌, List, [], codes, Option, Some, None, refl, ap, ◌∙◌}
 use Rattle.std.specs.Prelude.{nat_eq, bytes_eq, unwrap_or}
 use Rattle.std.specs.Option.{option_and_then}
 use Rattle.bt_script.proofs.Bools.{both}

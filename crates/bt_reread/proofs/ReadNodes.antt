@@ -1,6 +1,6 @@
 -- A printed node is read back, with all below it.
-use Rattle.std.proofs.Common.{◌≡◌, ◌⊎◌, inl, inr, ℕ, zero, suc, ◌+◌, ◌-◌, ◌<◌, ◌≤◌, Bool, true, false, not, ◌&&◌, if◌then◌else◌, List, [], ◌∷◌, ◌++◌, map, length, sum, codes, Option, Some, None, Result, Ok, Err, refl, ap, sym, ◌∙◌, subst, arith}
-use Rattle.std.specs.Prelude.{nat_eq, bytes_eq, flat_map}
+use Rattle.std.proofs.Common.{◌≡◌, ◌⊎◌, inl, inr, ℕ, zero, suc, ◌+◌, ◌-◌, ◌<◌, ◌≤◌, Bool, true, false, not, if◌then◌else◌, List, [], ◌∷◌, ◌++◌, map, length, sum, Some, Result, Ok, refl, ap, sym, ◌∙◌, subst, arith}
+use Rattle.std.specs.Prelude.{nat_eq, flat_map}
 use Rattle.std.proofs.lemmas.Bool.Decides.{nat_tests}
 use Rattle.std.proofs.lemmas.List.{length-map}
 use Rattle.std.proofs.lemmas.List.Sums.{sum-map, sum_by-cons}
@@ -17,7 +17,7 @@ use Rattle.bt_model.specs.PrintedTree.{Attribute, element_name, node_attributes,
 use Rattle.bt_model.specs.Terms.{depth_of, node_count, own_scopes, scope_count}
 use Rattle.bt_model.specs.Trees.{Node, NodeFits, nodes_of, nodes_step}
 use Rattle.bt_manifest.specs.Attributes.{Attributes}
-use Rattle.bt_manifest.specs.Models.{Models, attributes_of, children_of, name_of}
+use Rattle.bt_manifest.specs.Models.{attributes_of, children_of, name_of}
 use Rattle.bt_manifest.specs.Steps.{go_on}
 use Rattle.bt_build.specs.declared.content.Content.{Content}
 use Rattle.bt_build.specs.declared.fault.BuildFault.{BuildFault}
@@ -25,7 +25,7 @@ use Rattle.bt_build.specs.declared.head.Head.{Head}
 use Rattle.bt_build.specs.declared.tree.Numbers.{Numbers}
 use Rattle.bt_build.specs.Content.{content_in}
 use Rattle.bt_build.specs.Heads.{head_of}
-use Rattle.bt_build.specs.Reads.{File, Reader, Trees, is_subtree, name_in, node_by, node_of, node_with, nodes_by, one_node_more, one_scope_more, opened_by, plain_by, read_node, term_of, tree_of, with_first}
+use Rattle.bt_build.specs.Reads.{File, Reader, Trees, is_subtree, node_by, node_of, node_with, nodes_by, one_node_more, one_scope_more, opened_by, plain_by, read_node, term_of, tree_of, with_first}
 use Rattle.bt_build.proofs.PortTexts.{not_true}
 use Rattle.bt_build.proofs.Walk.{node_opened, node_plain, read_some}
 use Rattle.bt_reread.specs.Openings.{fresh_by, fresh_step, opens_fresh}
@@ -138,7 +138,8 @@ rest_given trees left opened n t ts g = record {
   known = (both_parts (Known trees) (said t).opened (opened_in ts) g.known).1;
 }
 
-heads_same : (x y : Element) (xs ys : List Element) → ◌≡◌ {A = List Element} (x ∷ xs) (y ∷ ys) → (x ≡ y) × (xs ≡ ys)
+-- two lists that are the same, part by part
+pub heads_same : (x y : Element) (xs ys : List Element) → ◌≡◌ {A = List Element} (x ∷ xs) (y ∷ ys) → (x ≡ y) × (xs ≡ ys)
 heads_same x y xs ys h = (let e : x ≡ y = cc in e, let e : xs ≡ ys = cc in e)
 
 nodes_read : (trees : Trees) (left : ℕ) (opened : List (List ℕ)) (n : Numbers) (ts : List ((t : Term) × ReadsBack trees t)) (es : List Element) → AllGiven trees left opened n (bare ts) →

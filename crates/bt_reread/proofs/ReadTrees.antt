@@ -1,20 +1,19 @@
 -- A printed tree is read back.
-use Rattle.std.proofs.Common.{◌≡◌, ℕ, zero, suc, ◌+◌, ◌≤◌, Bool, true, false, not, ◌&&◌, ◌||◌, cond, if◌then◌else◌, List, [], ◌∷◌, ◌++◌, map, length, codes, Option, Some, None, Result, Ok, Err, refl, ap, sym, ◌∙◌, subst, arith, append_assoc, append-nil}
+use Rattle.std.proofs.Common.{◌≡◌, ℕ, ◌≤◌, Bool, true, false, not, ◌||◌, cond, if◌then◌else◌, List, [], ◌∷◌, ◌++◌, map, length, codes, Option, Some, None, Result, Ok, Err, refl, ap, sym, ◌∙◌, subst, arith, append_assoc, append-nil}
 use Rattle.std.specs.Prelude.{bytes_eq, is_some, nat_le}
 use Rattle.std.proofs.lemmas.Bool.Decides.{nat_tests}
 use Rattle.std.proofs.lemmas.Slice.Eq.{bytes_eq-Decides}
-use Rattle.std.specs.Cmp.Derive.{both_true}
-use Rattle.std.specs.List.{list_all, list_any, flat_map, AllByRecursion}
+use Rattle.std.specs.List.{list_all, list_any, AllByRecursion}
 use Rattle.std.specs.Map.{lookup}
 use Rattle.bt_script.proofs.Bools.{both}
-use Rattle.bt_elements.specs.declared.element.Element.{Element, fold-roll-Element}
+use Rattle.bt_elements.specs.declared.element.Element.{Element}
 use Rattle.bt_model.specs.declared.term.Kind.{Kind}
 use Rattle.bt_model.specs.declared.term.Kind.TheVariants.{SubTree}
 use Rattle.bt_model.specs.declared.term.Term.{Term, Term-F, roll-Term, fold-roll-Term, ind-Term}
 use Rattle.bt_model.specs.declared.term.Tree.{Tree}
 use Rattle.bt_model.specs.Boards.{slots}
 use Rattle.bt_model.specs.Names.{is_among}
-use Rattle.bt_model.specs.PrintedTree.{Attribute, root_attributes}
+use Rattle.bt_model.specs.PrintedTree.{root_attributes}
 use Rattle.bt_model.specs.Terms.{work_of}
 use Rattle.bt_model.specs.Trees.{IsValid, all_differ}
 use Rattle.bt_manifest.specs.Attributes.{Attributes, value_of}
@@ -24,12 +23,12 @@ use Rattle.bt_build.specs.declared.fault.BuildFault.{BuildFault}
 use Rattle.bt_build.specs.declared.fault.BuildFault.TheVariants.{DoubleTree, TooManyKeys, TooMuchWork}
 use Rattle.bt_build.specs.declared.tree.Numbers.{Numbers}
 use Rattle.bt_build.specs.Heads.{id_or_empty}
-use Rattle.bt_build.specs.Reads.{Trees, is_tree, main_read, may_stand, most_levels, no_numbers, not_root, read_root, reads, refused_if, root_faults, root_read, roots_read, says_format, stray_place, tree_of, trees_read, with_id, with_tree, with_trees, within_limits}
+use Rattle.bt_build.specs.Reads.{Trees, is_tree, main_read, may_stand, most_levels, no_numbers, not_root, reads, refused_if, root_faults, roots_read, says_format, stray_place, tree_of, trees_read, with_id, with_tree, with_trees, within_limits}
 use Rattle.bt_build.proofs.PortTexts.{among_pushed, differ_pushed, neither, not_true, or_false, same_either_way}
 use Rattle.bt_reread.specs.Openings.{OpensAlike, fresh_by, fresh_step, opens_fresh}
 use Rattle.bt_reread.specs.Printed.{unplaced}
-use Rattle.bt_reread.specs.TreeElements.{Said, Subtree, element, element_of, own_tree, said, said_node, subtree_element, subtrees_of, with_subtree, with_subtrees}
-use Rattle.bt_reread.proofs.ReadNodes.{Given, HasParts, Known, behind, elements_of, has_parts, opened_in, plain_file, term_reads}
+use Rattle.bt_reread.specs.TreeElements.{Said, Subtree, element_of, own_tree, said, said_node, subtree_element, subtrees_of, with_subtree, with_subtrees}
+use Rattle.bt_reread.proofs.ReadNodes.{Given, Known, elements_of, has_parts, heads_same, opened_in, plain_file, term_reads}
 
 -- ---- The first of each ID is kept
 
@@ -119,9 +118,6 @@ tree_parts : (e : Element) (t : Subtree) → unplaced e ≡ unplaced (subtree_el
 tree_parts e t h =
     let p = has_parts e (codes "BehaviorTree") ((codes "ID", t.0) ∷ []) t.1 h in
     record { name = p.name; id = ap (λ (A : Attributes). id_or_empty A) p.attributes; children = p.children }
-
-heads_same : (x y : Element) (xs ys : List Element) → ◌≡◌ {A = List Element} (x ∷ xs) (y ∷ ys) → (x ≡ y) × (xs ≡ ys)
-heads_same x y xs ys h = (let e : x ≡ y = cc in e, let e : xs ≡ ys = cc in e)
 
 -- elements of these subtrees, each in its place
 abbrev AreTrees : List Element → List Subtree → Type 0

@@ -1,5 +1,5 @@
 -- What is printed of a port's value says that value.
-use Rattle.std.proofs.Common.{◌≡◌, ◌≢◌, ℕ, ℤ, pos, negsuc, zero, suc, ◌+◌, ◌-◌, ◌<◌, ◌≤◌, ◌^◌, Bool, true, false, not, ◌==◌, ◌&&◌, ◌||◌, nat_lt, cond, if◌then◌else◌, List, [], ◌∷◌, ◌++◌, length, get_or, take, drop, codes, decimal, Option, Some, None, refl, ap, sym, ◌∙◌, subst, arith, length-append}
+use Rattle.std.proofs.Common.{◌≡◌, ℕ, ℤ, pos, negsuc, zero, suc, ◌+◌, ◌-◌, ◌<◌, ◌≤◌, ◌^◌, Bool, true, false, not, ◌==◌, ◌&&◌, ◌||◌, nat_lt, cond, if◌then◌else◌, List, [], ◌∷◌, ◌++◌, length, get_or, take, codes, decimal, Option, Some, None, refl, ap, sym, ◌∙◌, subst, arith, length-append}
 use Rattle.std.specs.Prelude.{nat_le, slice_index, slice_range, is_some}
 use Rattle.std.proofs.lemmas.Bool.{leb-true}
 use Rattle.std.proofs.lemmas.Bool.Decides.{nat_tests}
@@ -20,6 +20,7 @@ use Rattle.bt_script.proofs.Bools.{both}
 use Rattle.bt_script.specs.declared.value.Value.{Value}
 use Rattle.bt_script.specs.declared.value.Value.TheVariants.{Int, Text}
 use Rattle.bt_script.specs.Identifiers.{is_identifier, is_identifier_start, is_identifier_continue}
+use Rattle.bt_build.proofs.PortTexts.{not_true}
 use Rattle.bt_model.specs.declared.built_ins.Range.{Range}
 use Rattle.bt_model.specs.declared.term.PortValue.{PortValue}
 use Rattle.bt_model.specs.declared.term.PortValue.TheVariants.{Lit, Key}
@@ -73,7 +74,7 @@ positive_of (c ∷ cs) n some all first value =
 positive_decimal : (n : ℕ) → 0 < n → n < 2 ^ 64 → Positive (decimal n) n
 positive_decimal n some small = let told = decimal_is_IsNumeral n small in positive_of (decimal n) n told.0.0 told.0.1 (first_decimal n some small) told.1
 
-or_second : (a b : Bool) → b ≡ true → (a || b) ≡ true
+pub or_second : (a b : Bool) → b ≡ true → (a || b) ≡ true
 or_second true b h = refl
 or_second false b h = h
 
@@ -160,10 +161,6 @@ key_again port key h =
     ap (λ (b : Bool). if b then port else slice_range (braced key) 1 (length (braced key) - 1)) (not_own key (bytes_eq (braced key) (codes "{=}")) h refl) ∙ inside key
 
 -- ---- Values
-
-not_true : (b : Bool) → not b ≡ true → b ≡ false
-not_true true h = absurd (cc)
-not_true false h = refl
 
 none_of : (o : Option ℤ) → is_some o ≡ false → o ≡ None
 none_of None h = refl

@@ -182,6 +182,9 @@ fn put_node(out: &mut Vec<u8>, term: &Term) -> Result<(), NoMemory>
     Ok(())
 }
 
+/// The room that a line has at first: most marks need no more, so that their lines do not grow.
+const LINE_ROOM: usize = 256;
+
 /// The line of a node's mark, which ends with these bytes.
 pub fn node_line(
     alloc: Global,
@@ -193,7 +196,7 @@ pub fn node_line(
         ++ opening_text (element_name (out-Term term.now).kind (out-Term term.now).id) (node_attributes (out-Term term.now))
         ++ ending.now)) }
 {
-    let mut line = Vec::new(alloc);
+    let mut line = Vec::with_capacity(alloc, LINE_ROOM)?;
     put_bytes(&mut line, blanks)?;
     put_bytes(&mut line, b"<")?;
     put_node(&mut line, term)?;
