@@ -1,5 +1,5 @@
 -- Leaves that are numbered have instances of their own, where each driver was prepared for as many as it serves.
-use Rattle.std.proofs.Common.{◌≡◌, ℕ, zero, suc, ◌+◌, ◌-◌, ◌*◌, ◌<◌, ◌≤◌, ◌⊎◌, List, [], ◌∷◌, Bool, true, false, cond, if◌then◌else◌, inl, inr, Option, Some, None, length, get_or, take, replicate, refl, sym, ap, subst, ◌∙◌, arith}
+use Rattle.std.proofs.Common.{◌≡◌, ℕ, zero, suc, ◌+◌, ◌-◌, ◌*◌, ◌<◌, ◌≤◌, List, [], ◌∷◌, true, false, cond, if◌then◌else◌, inl, inr, Option, Some, None, length, get_or, take, refl, sym, ap, subst, ◌∙◌, arith}
 use Rattle.std.specs.Option.{option_map}
 use Rattle.std.proofs.Math.Nat.{add-mul, mul-le-mul_right}
 use Rattle.std.proofs.lemmas.Bool.{cases_order}
@@ -109,10 +109,10 @@ module _ (drivers : List DriverState) (nodes : List Node) (counts : List ℕ) (r
           kind = sym (made.1 ∙ subst (HasKind drivers kind) found (kind_found drivers kind));
         };
     own = λ uid other a b at_a at_b same_driver same_instance. elim (cases_order uid other) [
-        | inl same ↦ same
-        | inr more ↦ elim more [
-            | inl before ↦ absurd (apart uid other a b at_a at_b same_driver same_instance before)
-            | inr behind ↦ absurd (apart other uid b a at_b at_a (sym same_driver) (sym same_instance) behind)
-          ]
-      ];
+      | inl same ↦ same
+      | inr more ↦ elim more [
+        | inl before ↦ absurd (apart uid other a b at_a at_b same_driver same_instance before)
+        | inr behind ↦ absurd (apart other uid b a at_b at_a (sym same_driver) (sym same_instance) behind)
+      ]
+    ];
   }
