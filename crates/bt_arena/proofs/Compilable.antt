@@ -1,5 +1,5 @@
 -- A script that its text reads as can be compiled.
-use Rattle.std.proofs.Common.{◌≡◌, ℕ, ◌+◌, ◌<◌, ◌≤◌, List, [], ◌∷◌, ◌++◌, Bool, true, false, cond, ◌&&◌, nat_le, Option, Some, None, map, length, drop, refl, sym, ap, subst, ◌∙◌, length-append, arith}
+use Rattle.std.proofs.Common.{◌≡◌, ℕ, ◌+◌, ◌<◌, ◌≤◌, List, [], ◌∷◌, ◌++◌, Bool, true, false, cond, nat_le, Option, Some, None, map, length, drop, refl, sym, ap, subst, ◌∙◌, length-append, arith}
 use Rattle.std.specs.List.{All, AllByRecursion, flat_map, list_all}
 use Rattle.std.proofs.Math.Seq.{drop-append-add}
 use Rattle.std.proofs.lemmas.Bool.Decides.{nat_tests}
@@ -18,7 +18,7 @@ use Rattle.bt_script.specs.Reading.{ReadsScript, bare, first_place, high_stmt}
 use Rattle.bt_script.specs.Scripts.{stmt_names}
 use Rattle.bt_script_code.specs.Sources.{IsCompilable, IsListed}
 use Rattle.bt_arena.specs.Resolving.{names_in_script}
-use Rattle.bt_arena.proofs.Parts.{All-left, All-right}
+use Rattle.bt_arena.proofs.Parts.{All-left, All-right, and_left, and_right}
 
 -- ---- expressions are spelled by some token
 
@@ -75,14 +75,6 @@ lows (Some s ∷ x ∷ xs) ts written low =
     )
 
 -- ---- and each can be compiled
-
-and_left : (a b : Bool) → a && b ≡ true → a ≡ true
-and_left true b is = refl
-and_left false b is = absurd (cc)
-
-and_right : (a b : Bool) → a && b ≡ true → b ≡ true
-and_right true b is = is
-and_right false b is = absurd (cc)
 
 compilable_all : (slots : List (List ℕ × ℕ)) (stmts : List Stmt) → AllByRecursion IsLow stmts → list_all fits_stmt stmts ≡ true → All (IsListed slots) (flat_map stmt_names stmts) → All (IsCompilable slots) stmts
 compilable_all slots [] low fit listed = All-nil (IsCompilable slots)

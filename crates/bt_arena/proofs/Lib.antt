@@ -12,6 +12,7 @@ pub mod Named
 pub mod Numbered
 pub mod Opened
 pub mod Parts
+pub mod Prepared
 pub mod Standing
 pub mod Static
 pub mod Whole

@@ -1,5 +1,5 @@
 -- Names that a tree names have slots, and those are the slots of their cells.
-use Rattle.std.proofs.Common.{◌≡◌, ℕ, ◌+◌, ◌<◌, List, [], ◌∷◌, Bool, true, false, cond, ◌||◌, ◌&&◌, nat_eq, Option, Some, None, inl, inr, map, length, if◌then◌else◌, unwrap_or, refl, sym, ap, subst, ◌∙◌, arith}
+use Rattle.std.proofs.Common.{◌≡◌, ℕ, ◌+◌, ◌<◌, List, [], ◌∷◌, true, false, cond, ◌||◌, ◌&&◌, nat_eq, Option, Some, None, inl, inr, map, length, if◌then◌else◌, unwrap_or, refl, sym, ap, subst, ◌∙◌, arith}
 use Rattle.std.specs.List.{All, AllByRecursion, Contains, list_any}
 use Rattle.std.specs.Prelude.{IfSome}
 use Rattle.std.specs.Str.{bytes_eq}
@@ -16,7 +16,7 @@ use Rattle.bt_model.specs.Boards.{is_named, namings, port_of, same_cell, scope_o
 use Rattle.bt_board.proofs.CellOrder.{in_order_any}
 use Rattle.bt_board.proofs.Sound.{IsTrue_cell, namings_sound}
 use Rattle.bt_arena.specs.Resolving.{AreNamed, named_slot, port_keys, with_slots}
-use Rattle.bt_arena.proofs.Parts.{All-left, All-right}
+use Rattle.bt_arena.proofs.Parts.{All-left, All-right, and_left, and_right, or_left, or_right}
 
 -- the slot of a name that is named
 pub named_slot_is : (tree : Tree) (number : ℕ) (key : List ℕ) → is_named tree number key ≡ true → named_slot tree number key ≡ slot_in (slots tree) (scope_of tree number key)
@@ -34,21 +34,6 @@ found_within cell (c ∷ cells) found =
 
 cell_same : (cell : Cell) → same_cell cell cell ≡ true
 cell_same cell = grind (arith, nat_tests, bytes_eq-Decides)
-
-and_left : (a b : Bool) → a && b ≡ true → a ≡ true
-and_left true b is = refl
-and_left false b is = absurd (cc)
-
-and_right : (a b : Bool) → a && b ≡ true → b ≡ true
-and_right true b is = is
-and_right false b is = absurd (cc)
-
-or_left : (a b : Bool) → a ≡ true → a || b ≡ true
-or_left a b is = ap (λ x. x || b) is
-
-or_right : (a b : Bool) → b ≡ true → a || b ≡ true
-or_right true b is = refl
-or_right false b is = is
 
 -- a key that is named has its cell among those of all names
 cell_named : (tree : Tree) (number : ℕ) (key : List ℕ) (ns : List Naming) → AllByRecursion (IsTrue_cell tree) ns → list_any (λ (n : Naming). nat_eq n.number number && bytes_eq n.key key) ns ≡ true

@@ -13,6 +13,7 @@ use Rattle.bt_model.specs.Drivers.{DriverState}
 use Rattle.bt_model.specs.Terms.{leaf_ids}
 use Rattle.bt_model.specs.Trees.{IsValid, NodeFits, nodes_of}
 use Rattle.bt_board.proofs.Sound.{main_leads, standings_make, standings_sound}
+use Rattle.bt_arena.proofs.Parts.{or_left, or_right}
 use Rattle.bt_arena.specs.Joins.{first_lack}
 use Rattle.bt_arena.specs.Laying.{CanBeLaid, StandsIn}
 
@@ -22,13 +23,6 @@ module _ (tree : Tree) where
 
   here_named : (number : ℕ) (key : List ℕ) → nat_eq number number && bytes_eq key key ≡ true
   here_named number key = grind (arith, nat_tests, bytes_eq-Decides)
-
-  or_right : (a b : Bool) → b ≡ true → a || b ≡ true
-  or_right true b is = refl
-  or_right false b is = is
-
-  or_left : (a b : Bool) → a ≡ true → a || b ≡ true
-  or_left a b is = ap (λ x. x || b) is
 
   front_by : (a b c : Bool) → a || b ≡ true → (b ≡ true → c ≡ true) → a || c ≡ true
   front_by true b c is more = refl
