@@ -1,5 +1,5 @@
 -- A visit begins no more calls than its work.
-use Rattle.std.proofs.Common.{◌≡◌, ℕ, ◌+◌, ◌<◌, ◌≤◌, List, [], ◌∷◌, ◌++◌, length, slice_set, sum_by, Option, Some, None, Result, Ok, Err, sym, ap, subst, ◌∙◌, arith, ⊎_elim}
+use Rattle.std.proofs.Common.{◌≡◌, ℕ, ◌+◌, ◌≤◌, List, [], ◌∷◌, ◌++◌, length, slice_set, Option, Some, None, Result, Ok, Err, ap, arith, ⊎_elim}
 use Rattle.std.proofs.Math.Nat.{min-le_left}
 use Rattle.std.proofs.lemmas.Bool.{cases_lt}
 use Rattle.std.proofs.lemmas.List.{set_past}
@@ -14,7 +14,6 @@ use Rattle.bt_model.specs.declared.leaf.Phase.TheVariants as phase
 use Rattle.bt_model.specs.declared.leaf.Totals.{Totals}
 use Rattle.bt_model.specs.declared.note.Note.{Note}
 use Rattle.bt_model.specs.declared.status.Answer.{Answer}
-use Rattle.bt_model.specs.declared.term.Term.{Term}
 use Rattle.bt_model.specs.Done.{Call, Done}
 use Rattle.bt_model.specs.Drivers.{DriverState, after_call, counted, driver_at, new_driver, raised, roster_called}
 use Rattle.bt_model.specs.Sound.{begins, begun_calls}
