@@ -7,3 +7,4 @@ pub mod Moving
 pub mod Passing
 pub mod Stacks
 pub mod Starting
+pub mod Totals

@@ -1,10 +1,14 @@
-ghost use Rattle.std.specs.Prelude.{◌≡◌, ◌≤◌, ℕ, OnOk};
+ghost use Rattle.std.specs.Prelude.{◌≡◌, ◌+◌, ◌≤◌, OnOk};
+ghost use Rattle.std.specs.List.{AllByRecursion};
 ghost use Rattle.bt_model.specs.declared.term.Term.{Term};
 ghost use Rattle.bt_model.specs.Sites.{View};
+ghost use Rattle.bt_model.specs.Terms.{work_of};
+ghost use Rattle.bt_model.specs.Trees.{NodeFits, nodes_of};
 ghost use Rattle.bt_arena.specs.Ends.{Meets, StaysFit};
 ghost use Rattle.bt_arena.specs.Scenes.{scene};
 ghost use Rattle.bt_arena.specs.Stands.{memory_of};
 ghost use Rattle.bt_tick.specs.Turns.{CanVisit, visit_in};
+ghost use Rattle.bt_tick.specs.Work.{begun_by};
 
 use crate::enter::enter;
 use crate::machine::{Frame, Step, Turn};
@@ -90,6 +94,9 @@ pub fn tick<D: Drivers>(
     // Behind an answer the root can be visited again.
     ensures again { OnOk result ((term : Term) (view : View) → CanVisit arena.old.nodes.items now term view 1 (scene arena.old.kept.items board.old facts.old (D.states drivers.old)) →
         CanVisit arena.old.nodes.items now term view 1 (scene arena.new.kept.items board.new facts.new (D.states drivers.new))) }
+    // The drivers are called to begin or to go on no more often than the work of the tree says.
+    ensures work { (term : Term) (view : View) → CanVisit arena.old.nodes.items now term view 1 (scene arena.old.kept.items board.old facts.old (D.states drivers.old)) →
+        AllByRecursion NodeFits (nodes_of term) → begun_by (D.states drivers.new) ≤ begun_by (D.states drivers.old) + work_of term }
     ensures nodes { arena.new.nodes ≡ arena.old.nodes }
     ensures runner { arena.new.runner ≡ arena.old.runner }
     ensures reserve { notes.old.reserve ≤ notes.new.reserve }
