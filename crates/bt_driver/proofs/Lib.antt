@@ -1,4 +1,3 @@
-pub mod Keeping
 pub mod Missing
 pub mod Outputs
 pub mod Padding

@@ -12,12 +12,12 @@ use Rattle.bt_model.specs.declared.note.Note.{Note}
 use Rattle.bt_model.specs.declared.note.Note.TheVariants.{Root}
 use Rattle.bt_model.specs.declared.status.Answer.{Answer}
 use Rattle.bt_model.specs.declared.world.Row.{Row}
-use Rattle.bt_tick.specs.Done.{Done, State}
-use Rattle.bt_tick.specs.Run.{Runner, Stepped, changed_facts, changed_from, reset_step, root_told, runner_at, settled, stepped, tick_step, ticked}
-use Rattle.bt_tick.specs.Visit.{Meaning, change, remembered}
+use Rattle.bt_plain.specs.Done.{Done, State}
+use Rattle.bt_plain.specs.Run.{Runner, Stepped, changed_facts, changed_from, reset_step, root_told, runner_at, settled, stepped, tick_step, ticked}
+use Rattle.bt_plain.specs.Visit.{Meaning, change, remembered}
 use Rattle.bt_main.specs.Runs.{after_step, one_runner}
-use Rattle.bt_tick.specs.Shown.{Shown, plain_state, shown, shows}
-use Rattle.bt_tick.proofs.Follow.{follow_made}
+use Rattle.bt_plain.specs.Shown.{Shown, plain_state, shown, shows}
+use Rattle.bt_plain.proofs.Follow.{follow_made}
 
 -- what is shown behind nothing is what was done
 done_is : {A M : Type 0} (a : A) (m : M) (s : State) (n : List Note) (d : Done A M) → shows a m s n ≡ shown [] d → d ≡ record { answer = Ok a; memory = m; state = s; notes = n; calls = d.calls }

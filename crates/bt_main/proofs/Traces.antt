@@ -7,8 +7,8 @@ use Rattle.bt_model.specs.declared.memory.Memory.{Memory}
 use Rattle.bt_model.specs.declared.world.Event.{Event}
 use Rattle.bt_model.specs.declared.world.Row.{Row}
 use Rattle.bt_model.specs.Lines.{LineNames, lines_of}
-use Rattle.bt_tick.specs.Run.{RunState, Stepped, Trace, finish, finishes, run_from, step, then_rest}
-use Rattle.bt_tick.specs.Visit.{Meaning}
+use Rattle.bt_plain.specs.Run.{RunState, Stepped, Trace, finish, finishes, run_from, step, then_rest}
+use Rattle.bt_plain.specs.Visit.{Meaning}
 use Rattle.bt_main.specs.Output.{text_of}
 use Rattle.bt_main.specs.Runs.{after_step, one_runner}
 use Rattle.bt_outside.specs.Appending.{Appended, AppendedFront}

@@ -16,8 +16,8 @@ use Rattle.bt_model.specs.Lines.{LineNames, line_names, lines_of, quoted}
 use Rattle.bt_model.specs.PrintedTree.{tree_lines}
 use Rattle.bt_model.specs.Terms.{leaf_ids, node_count, work_of}
 use Rattle.bt_model.specs.WorldFile.{ReadsWorld}
-use Rattle.bt_tick.specs.Run.{run}
-use Rattle.bt_tick.specs.Visit.{row_of}
+use Rattle.bt_plain.specs.Run.{run}
+use Rattle.bt_plain.specs.Visit.{row_of}
 use Rattle.bt_world.specs.Today.{needs_engine}
 
 -- the bytes that are written, and the exit

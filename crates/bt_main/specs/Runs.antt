@@ -3,7 +3,7 @@ use Rattle.std.specs.Prelude.{ℕ, ℤ, List, [], ◌∷◌, false}
 use Rattle.bt_model.specs.declared.block.Block.{Block}
 use Rattle.bt_model.specs.declared.leaf.Instance.{Instance}
 use Rattle.bt_model.specs.declared.memory.Memory.{Memory}
-use Rattle.bt_tick.specs.Run.{RunState, Stepped}
+use Rattle.bt_plain.specs.Run.{RunState, Stepped}
 
 -- a run with one runner that has no blackboard
 abbrev pub one_runner : Memory → List Instance → List ℤ → ℕ → RunState

@@ -9,7 +9,7 @@ ghost use Rattle.bt_model.specs.Trees.{IsValid};
 ghost use Rattle.bt_model.specs.Worlds.{IsValidWorld};
 ghost use Rattle.bt_model.specs.declared.term.Term.{out-Term};
 ghost use Rattle.bt_outside.specs.Counts.{Rose};
-ghost use Rattle.bt_tick.specs.Visit.{row_of};
+ghost use Rattle.bt_plain.specs.Visit.{row_of};
 ghost use Rattle.bt_world.specs.Today.{needs_engine};
 
 use crate::exit::Exit;
@@ -21,7 +21,7 @@ use bt_model::{Kind, Row, Term, Tree, World, WorldFault};
 use bt_outside::Sink;
 use bt_script::{Name, NoMemory, Stop};
 use bt_text::{TextStop, put_bytes, put_quoted, write_line};
-use bt_tick::row_with;
+use bt_plain::row_with;
 use bt_world::{needs_engine, read_world};
 use std::alloc::Global;
 

@@ -1,15 +1,15 @@
 ghost use Rattle.std.specs.Prelude.{◌≡◌, ◌+◌, ◌<◌, ◌^◌, ◌++◌, ◌∷◌, [], IfOk, OnOk, if◌then◌else◌, length, map, slice_get, slice_set};
 ghost use Rattle.std.specs.Option.{option_copied};
 ghost use Rattle.std.specs.Ordering.{int_eq};
-ghost use Rattle.bt_tick.specs.Run.{change_step, changed_facts, finish, opening, reset_step, runner_at, settled, step, tick_step};
+ghost use Rattle.bt_plain.specs.Run.{change_step, changed_facts, finish, opening, reset_step, runner_at, settled, step, tick_step};
 ghost use Rattle.bt_model.specs.Terms.{node_count};
-ghost use Rattle.bt_tick.specs.Visit.{change, meaning, remembered};
+ghost use Rattle.bt_plain.specs.Visit.{change, meaning, remembered};
 ghost use Rattle.bt_model.specs.declared.memory.Memory.{out-Memory};
 ghost use Rattle.bt_main.specs.Runs.{after_step, one_runner};
 
 use bt_model::{Block, Event, Header, Memory, Note, Row, Status, Tree, What, World};
 use bt_script::{Items, NoMemory};
-use bt_tick::{Plain, note_change, plain_of, reset_root, tick};
+use bt_plain::{Plain, note_change, plain_of, reset_root, tick};
 use std::alloc::Global;
 
 /// What a run with one runner keeps between events: the runner, the facts, and the moment of the

@@ -1,4 +1,4 @@
-use Rattle.bt_driver.proofs.Keeping.{as_many_facts, held_while_running}
+use Rattle.bt_model.proofs.Calls.{as_many_facts, held_while_running}
 use Rattle.bt_driver.proofs.laws.calls_keep.Goals as goal
 
 pub returns : goal.returns

@@ -3,7 +3,7 @@ use Rattle.std.specs.Prelude.{find, is_none}
 use Rattle.std.specs.List.{flat_map}
 use Rattle.std.specs.Option.{option_copied}
 use Rattle.bt_model.specs.Terms.{leaf_ids}
-use Rattle.bt_tick.specs.Visit.{row_of}
+use Rattle.bt_plain.specs.Visit.{row_of}
 use Rattle.bt_main.proofs.Leaves.{find_found, find_lost, leaves_here}
 use Rattle.bt_main.proofs.join.+first_rowless.Goals as goal
 

@@ -1,5 +1,5 @@
 use Rattle.std.proofs.Common.{◌≡◌, ◌++◌, drop}
-use Rattle.bt_tick.specs.Run.{changed_from, changed_facts}
+use Rattle.bt_plain.specs.Run.{changed_from, changed_facts}
 use Rattle.bt_main.proofs.run.changed.Given as goal
 
 abbrev pub invariant-loop-place : goal.invariant-loop-place

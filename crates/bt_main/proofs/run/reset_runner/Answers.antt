@@ -1,5 +1,5 @@
 use Rattle.std.proofs.Common.{◌≤◌, arith}
-use Rattle.bt_tick.specs.Visit.{meaning}
+use Rattle.bt_plain.specs.Visit.{meaning}
 use Rattle.bt_main.proofs.Steps.{reset_is}
 use Rattle.bt_main.proofs.run.reset_runner.Goals as goal
 

@@ -2,7 +2,7 @@ use Rattle.std.proofs.Common.{◌≡◌, ◌∙◌, ◌<◌, [], length, drop, r
 use Rattle.std.proofs.Math.ListN.{drop_of_length-le}
 use Rattle.std.proofs.lemmas.List.{drop_more}
 use Rattle.bt_model.specs.Lines.{line_names}
-use Rattle.bt_tick.specs.Visit.{meaning}
+use Rattle.bt_plain.specs.Visit.{meaning}
 use Rattle.bt_main.proofs.Traces.{named, rest_front, rest_more, rest_stays, rest_whole, text_event, text_finish}
 use Rattle.bt_main.proofs.trace.run.Goals as goal
 

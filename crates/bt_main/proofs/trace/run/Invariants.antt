@@ -1,7 +1,7 @@
 use Rattle.std.proofs.Common.{◌≡◌, ◌≤◌, length, drop}
 use Rattle.bt_model.specs.Lines.{line_names}
-use Rattle.bt_tick.specs.Run.{run_from}
-use Rattle.bt_tick.specs.Visit.{meaning}
+use Rattle.bt_plain.specs.Run.{run_from}
+use Rattle.bt_plain.specs.Visit.{meaning}
 use Rattle.bt_main.specs.Output.{run_output, text_of}
 use Rattle.bt_main.specs.Runs.{one_runner}
 use Rattle.bt_main.proofs.Traces.{Rest}
