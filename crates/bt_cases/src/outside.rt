@@ -1,16 +1,15 @@
 //! What shelves and clocks give and what sinks take, in memory and of the host.
 
 use bt_outside::{
-    Clock, DirShelf, HostClock, MemClock, MemShelf, MemSink, OutSink, Shelf, Sink, SureShelf, SureSink,
+    Clock, DirShelf, HostClock, MemClock, MemShelf, MemSink, OutSink, Shelf, Sink, SureShelf,
+    SureSink,
 };
 use bt_script::{Name, NoMemory};
 use std::alloc::{AllocError, Global};
 use std::cell::Cell;
-use std::io;
-use std::rt;
 use std::test::Fail;
-use std::thread;
 use std::time::Duration;
+use std::{io, rt, thread};
 
 /// What a sink answers to each piece.
 fn answers<K: Sink>(alloc: Global, sink: &mut K, pieces: &[&str]) -> Result<String, AllocError> {
@@ -197,7 +196,10 @@ impl rt::Clock for Readings<'_> {
 fn clocks_over_readings(rt: HostRuntime) -> Result<(), Fail> {
     let table: [(&[Option<u64>], &str); 3] = [
         (&[Some(9_000), Some(14_999), None, Some(13_000)], "5 5 4 "),
-        (&[Some(9_000), Some(8_000), Some(9_999), Some(10_000)], "0 0 1 "),
+        (
+            &[Some(9_000), Some(8_000), Some(9_999), Some(10_000)],
+            "0 0 1 ",
+        ),
         (&[None, None, Some(9_000), Some(12_000)], "0 0 3 "),
     ];
     for (times, want) in table {
