@@ -1,10 +1,15 @@
-//! What shelves give and what sinks take, in memory and of the host.
+//! What shelves and clocks give and what sinks take, in memory and of the host.
 
-use bt_outside::{DirShelf, MemShelf, MemSink, OutSink, Shelf, Sink, SureShelf, SureSink};
+use bt_outside::{
+    Clock, DirShelf, HostClock, MemClock, MemShelf, MemSink, OutSink, Shelf, Sink, SureShelf,
+    SureSink,
+};
 use bt_script::{Name, NoMemory};
 use std::alloc::{AllocError, Global};
-use std::io;
+use std::cell::Cell;
 use std::test::Fail;
+use std::time::Duration;
+use std::{io, rt, thread};
 
 /// What a sink answers to each piece.
 fn answers<K: Sink>(alloc: Global, sink: &mut K, pieces: &[&str]) -> Result<String, AllocError> {
@@ -142,5 +147,73 @@ fn files_of_the_host(rt: HostRuntime) -> Result<(), Fail> {
         let text = read_text(alloc, &mut shelf, &[(path, 5000)])?;
         assert_eq!(rt; text.as_str(), want, "{path}");
     }
+    Ok(())
+}
+
+/// What a clock gives at so many calls.
+fn moments<C: Clock>(alloc: Global, clock: &mut C, calls: u32) -> Result<String, AllocError> {
+    let mut text = String::new(alloc);
+    for _ in 0..calls {
+        text.push_str(format!(in alloc; "{} ", clock.now())?.as_str())?;
+    }
+    Ok(text)
+}
+
+#[test]
+fn clocks_in_memory(rt: HostRuntime) -> Result<(), Fail> {
+    let alloc = rt.alloc();
+    let table: [(&[u64], &str); 3] = [(&[], "0 0 0 "), (&[7], "7 7 7 "), (&[5, 3], "5 3 3 ")];
+    for (ahead, want) in table {
+        let mut clock = MemClock::new(Vec::from_slice(alloc, ahead)?);
+        assert_eq!(rt; moments(alloc, &mut clock, 3)?.as_str(), want);
+    }
+    Ok(())
+}
+
+/// A clock that reads these microseconds one after another, and a fault where there are none.
+#[derive(Drop)]
+struct Readings<'a> {
+    times: &'a [Option<u64>],
+    at: Cell<usize>,
+}
+
+impl rt::Clock for Readings<'_> {
+    fn monotonic(&self) -> io::Result<Duration> {
+        let at = self.at.get();
+        self.at.set(at.saturating_add(1));
+        match self.times.get(at) {
+            Some(Some(time)) => Ok(Duration::from_micros(*time)),
+            _ => Err(io::ErrorKind::Other.into()),
+        }
+    }
+
+    fn since_1970(&self) -> io::Result<Duration> {
+        self.monotonic()
+    }
+}
+
+#[test]
+fn clocks_over_readings(rt: HostRuntime) -> Result<(), Fail> {
+    let table: [(&[Option<u64>], &str); 3] = [
+        (&[Some(9_000), Some(14_999), None, Some(13_000)], "5 5 4 "),
+        (
+            &[Some(9_000), Some(8_000), Some(9_999), Some(10_000)],
+            "0 0 1 ",
+        ),
+        (&[None, None, Some(9_000), Some(12_000)], "0 0 3 "),
+    ];
+    for (times, want) in table {
+        let at = Cell::new(0);
+        let mut clock = HostClock::new(Readings { times, at });
+        assert_eq!(rt; moments(rt.alloc(), &mut clock, 3)?.as_str(), want);
+    }
+    Ok(())
+}
+
+#[test]
+fn the_clock_of_the_host(rt: HostRuntime) -> Result<(), Fail> {
+    let mut clock = HostClock::new(&rt);
+    thread::sleep(&rt, Duration::from_millis(3));
+    assert!(rt; clock.now() >= 3);
     Ok(())
 }

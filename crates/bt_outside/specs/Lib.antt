@@ -3,5 +3,6 @@ pub mod Counts
 pub mod Files
 pub mod MemShelf
 pub mod MemSink
+pub mod Moments
 pub mod OutSink
 pub mod Reads

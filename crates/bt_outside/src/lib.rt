@@ -1,7 +1,10 @@
-//! What the engine asks of the outside: a shelf of files by name and a sink of bytes.
+//! What the engine asks of the outside: a shelf of files by name, a sink of bytes and a clock.
 #![tactic(auto)]
 
+mod clock;
 mod dir_shelf;
+mod host_clock;
+mod mem_clock;
 mod mem_shelf;
 mod mem_sink;
 mod out_sink;
@@ -10,7 +13,10 @@ mod sink;
 mod sure_shelf;
 mod sure_sink;
 
+pub use clock::Clock;
 pub use dir_shelf::DirShelf;
+pub use host_clock::HostClock;
+pub use mem_clock::MemClock;
 pub use mem_shelf::MemShelf;
 pub use mem_sink::MemSink;
 pub use out_sink::OutSink;
