@@ -1,6 +1,7 @@
 pub mod Appending
 pub mod Counts
 pub mod Files
+pub mod HostClock
 pub mod MemShelf
 pub mod MemSink
 pub mod Moments

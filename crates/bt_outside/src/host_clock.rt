@@ -1,12 +1,15 @@
-ghost use Rattle.std.specs.Prelude.{◌≡◌, ◌-◌, ◌/◌, ◌^◌, min};
+ghost use Rattle.std.specs.Prelude.{◌≡◌};
+ghost use Rattle.std.specs.Option.{option_map};
 ghost use Rattle.std.specs.Time.{instant_nanos};
+ghost use Rattle.bt_outside.specs.HostClock.{after_reading, millis, OneReading};
 
 use crate::clock::Clock;
 use std::marker::Model;
 use std::rt;
 use std::time::Instant;
 
-/// The clock of the host. It tells nothing of its moments. Contracts see the one given last.
+/// The clock of the host: the milliseconds since it was made. It tells nothing of its moments.
+/// Contracts see from where it counts and the moment given last, as a `ClockState`.
 #[derive(Drop)]
 pub struct HostClock<R: rt::Clock + Drop> {
     host: R,
@@ -15,18 +18,20 @@ pub struct HostClock<R: rt::Clock + Drop> {
 }
 
 impl<R: rt::Clock + Drop> Model for HostClock<R> {
-    ghost use Rattle.std.specs.Prelude.{ℕ};
+    ghost use Rattle.std.specs.Option.{option_map};
+    ghost use Rattle.std.specs.Time.{instant_nanos};
+    ghost use Rattle.bt_outside.specs.HostClock.{ClockState};
 
-    ghost Value = { ℕ };
+    ghost Value = { ClockState };
 
-    ghost view = { λ clock. clock.last };
+    ghost view = { λ clock. record { start = option_map instant_nanos clock.start; last = clock.last } };
 }
 
 impl<R: rt::Clock + Drop> HostClock<R> {
     /// A clock that counts from now on. Where the host answers a fault, it counts from the first
     /// time that the host gives. It takes no memory.
     pub fn new(host: R) -> HostClock<R>
-        ensures { result ≡ 0 }
+        ensures { result.last ≡ 0 }
     {
         let start = Instant::now(&host).ok();
         HostClock {
@@ -35,14 +40,23 @@ impl<R: rt::Clock + Drop> HostClock<R> {
             last: 0,
         }
     }
+
+    // Takes a time that the host gave, or its fault, after which the last moment stands.
+    fn take_reading(&mut self, reading: Option<Instant>)
+        ensures { self.new ≡ after_reading self.old (option_map instant_nanos reading) }
+    {
+        if let Some(time) = reading {
+            let start = *self.start.get_or_insert(time);
+            self.last = millis_between(start, time);
+        }
+    }
 }
 
-// The whole milliseconds between two readings, or the greatest number where they are more. They are
-// 0 where the host's clock went back behind the start.
-fn millis_between(start: Instant, reading: Instant) -> u64
-    ensures { result ≡ min ((instant_nanos reading - instant_nanos start) / 1_000_000) (2 ^ 64 - 1) }
+// A time before the start counts as the start.
+fn millis_between(start: Instant, time: Instant) -> u64
+    ensures { result ≡ millis (instant_nanos start) (instant_nanos time) }
 {
-    u64::try_from(reading.duration_since(start).as_millis()).unwrap_or(u64::MAX)
+    u64::try_from(time.duration_since(start).as_millis()).unwrap_or(u64::MAX)
 }
 
 impl<R: rt::Clock + Drop> Clock for HostClock<R> {
@@ -50,14 +64,12 @@ impl<R: rt::Clock + Drop> Clock for HostClock<R> {
 
     ghost moments = { λ _. None };
 
-    // A fault of the host gives the last moment again.
     fn now(&mut self) -> u64
-        ensures given { result ≡ self.new }
+        ensures reading { OneReading self.old self.new }
+        ensures given { result ≡ self.new.last }
     {
-        if let Ok(reading) = Instant::now(&self.host) {
-            let start = *self.start.get_or_insert(reading);
-            self.last = millis_between(start, reading);
-        }
+        let reading = Instant::now(&self.host).ok();
+        self.take_reading(reading);
         self.last
     }
 }
