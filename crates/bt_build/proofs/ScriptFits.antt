@@ -70,31 +70,31 @@ code_fits uid false (Some text) o t h = absurd t
 abbrev Read : Type 0
 Read = Result Guards BuildFault
 
-abbrev tail_8 : ℕ → Attributes → Option Script → Option Script → Option Script → Option Script → Option Script → Option Script → Option Script → Option Script → Read
+abbrev pub tail_8 : ℕ → Attributes → Option Script → Option Script → Option Script → Option Script → Option Script → Option Script → Option Script → Option Script → Read
 tail_8 uid attributes failure_if success_if skip_if while_true on_success on_failure post on_halted = Ok (record { failure_if = failure_if; success_if = success_if; skip_if = skip_if; while_true = while_true; on_success = on_success; on_failure = on_failure; post = post; on_halted = on_halted })
 
-abbrev tail_7 : ℕ → Attributes → Option Script → Option Script → Option Script → Option Script → Option Script → Option Script → Option Script → Read
+abbrev pub tail_7 : ℕ → Attributes → Option Script → Option Script → Option Script → Option Script → Option Script → Option Script → Option Script → Read
 tail_7 uid attributes failure_if success_if skip_if while_true on_success on_failure post = go_on (tail_8 uid attributes failure_if success_if skip_if while_true on_success on_failure post) (guard_in uid attributes (codes "_onHalted"))
 
-abbrev tail_6 : ℕ → Attributes → Option Script → Option Script → Option Script → Option Script → Option Script → Option Script → Read
+abbrev pub tail_6 : ℕ → Attributes → Option Script → Option Script → Option Script → Option Script → Option Script → Option Script → Read
 tail_6 uid attributes failure_if success_if skip_if while_true on_success on_failure = go_on (tail_7 uid attributes failure_if success_if skip_if while_true on_success on_failure) (guard_in uid attributes (codes "_post"))
 
-abbrev tail_5 : ℕ → Attributes → Option Script → Option Script → Option Script → Option Script → Option Script → Read
+abbrev pub tail_5 : ℕ → Attributes → Option Script → Option Script → Option Script → Option Script → Option Script → Read
 tail_5 uid attributes failure_if success_if skip_if while_true on_success = go_on (tail_6 uid attributes failure_if success_if skip_if while_true on_success) (guard_in uid attributes (codes "_onFailure"))
 
-abbrev tail_4 : ℕ → Attributes → Option Script → Option Script → Option Script → Option Script → Read
+abbrev pub tail_4 : ℕ → Attributes → Option Script → Option Script → Option Script → Option Script → Read
 tail_4 uid attributes failure_if success_if skip_if while_true = go_on (tail_5 uid attributes failure_if success_if skip_if while_true) (guard_in uid attributes (codes "_onSuccess"))
 
-abbrev tail_3 : ℕ → Attributes → Option Script → Option Script → Option Script → Read
+abbrev pub tail_3 : ℕ → Attributes → Option Script → Option Script → Option Script → Read
 tail_3 uid attributes failure_if success_if skip_if = go_on (tail_4 uid attributes failure_if success_if skip_if) (guard_in uid attributes (codes "_while"))
 
-abbrev tail_2 : ℕ → Attributes → Option Script → Option Script → Read
+abbrev pub tail_2 : ℕ → Attributes → Option Script → Option Script → Read
 tail_2 uid attributes failure_if success_if = go_on (tail_3 uid attributes failure_if success_if) (guard_in uid attributes (codes "_skipIf"))
 
-abbrev tail_1 : ℕ → Attributes → Option Script → Read
+abbrev pub tail_1 : ℕ → Attributes → Option Script → Read
 tail_1 uid attributes failure_if = go_on (tail_2 uid attributes failure_if) (guard_in uid attributes (codes "_successIf"))
 
-abbrev tail_0 : ℕ → Attributes → Read
+abbrev pub tail_0 : ℕ → Attributes → Read
 tail_0 uid attributes = go_on (tail_1 uid attributes) (guard_in uid attributes (codes "_failureIf"))
 
 -- each guard is read from its attribute

@@ -8,6 +8,8 @@ mod build;
 #[cfg(test)]
 mod elements;
 #[cfg(test)]
+mod leaves;
+#[cfg(test)]
 mod manifest;
 #[cfg(test)]
 mod moves;

@@ -87,7 +87,7 @@ fn counted(alloc: Global, bytes: &[u8]) -> Result<String, AllocError> {
 }
 
 /// A script of these lines, which stand between slashes, behind the header.
-fn script(alloc: Global, lines: &str) -> Result<String, AllocError> {
+pub fn script(alloc: Global, lines: &str) -> Result<String, AllocError> {
     let mut text = String::from_str(alloc, "bt-world 1")?;
     for line in lines.split(" / ") {
         text.push('\n')?;

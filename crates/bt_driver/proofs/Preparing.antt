@@ -33,7 +33,7 @@ quiet_after [] (c ∷ cs) none place = none place
 quiet_after (d ∷ ds) (c ∷ cs) none zero = fresh_quiet c
 quiet_after (d ∷ ds) (c ∷ cs) none (suc place) = quiet_after ds cs (λ p. none (suc p)) place
 
-length_prepared : (ds : List DriverState) (counts : List ℕ) → length (roster_prepared ds counts) ≡ length ds
+pub length_prepared : (ds : List DriverState) (counts : List ℕ) → length (roster_prepared ds counts) ≡ length ds
 length_prepared ds [] = refl
 length_prepared [] (c ∷ cs) = refl
 length_prepared (d ∷ ds) (c ∷ cs) = ap suc (length_prepared ds cs)

@@ -506,35 +506,158 @@ const SAVED_PRINTED: &str = "\
 <!-- nodes 2 work 2 -->
 Done";
 
+/// A longer file as Groot2 saves it: two trees, mappings, and five models with ports and defaults.
+const PATROL: &str = "\
+<?xml version=\"1.0\" encoding=\"UTF-8\"?>
+<root BTCPP_format=\"4\" main_tree_to_execute=\"Patrol\">
+  <BehaviorTree ID=\"Patrol\">
+    <Sequence name=\"patrol\" _description=\"twice\">
+      <Script name=\"begin\" code=\"target := 'A1'; tries := 0\"/>
+      <Fallback>
+        <BatteryOk min=\"20\" _skipIf=\"tries &gt; 3\"/>
+        <Charge/>
+      </Fallback>
+      <SubTree ID=\"Visit\" name=\"first\" place=\"{target}\" speed=\"2\" _autoremap=\"true\"/>
+      <RetryUntilSuccessful num_attempts=\"{tries}\">
+        <SubTree ID=\"Visit\" place=\"B2\" done=\"{=}\" _autoremap=\"false\"/>
+      </RetryUntilSuccessful>
+    </Sequence>
+  </BehaviorTree>
+  <BehaviorTree ID=\"Visit\">
+    <ReactiveSequence>
+      <Inverter>
+        <Condition ID=\"Bumped\" name=\"bumped?\"/>
+      </Inverter>
+      <Action ID=\"MoveTo\" goal=\"{place}\" _onSuccess=\"done := 1\"/>
+      <TakePhoto file=\"a &amp; b\"/>
+    </ReactiveSequence>
+  </BehaviorTree>
+  <!-- Description of Node Models (used by Groot) -->
+  <TreeNodesModel>
+    <Condition ID=\"BatteryOk\" editable=\"true\">
+      <input_port name=\"min\" default=\"10\" type=\"int\">percent</input_port>
+    </Condition>
+    <Condition ID=\"Bumped\" editable=\"true\"/>
+    <Action ID=\"Charge\" editable=\"true\">
+      <input_port name=\"power\" default=\"1\"/>
+      <output_port name=\"level\" default=\"{=}\"/>
+    </Action>
+    <Action ID=\"MoveTo\" editable=\"true\">
+      <input_port name=\"goal\"/>
+      <input_port name=\"speed\" default=\"{=}\" type=\"double\"/>
+    </Action>
+    <Action ID=\"TakePhoto\" editable=\"true\">
+      <input_port name=\"file\"/>
+      <inout_port name=\"camera\" default=\"front\"/>
+    </Action>
+  </TreeNodesModel>
+</root>
+";
+
+const PATROL_PRINTED: &str = "\
+<root BTCPP_format=\"4\" main_tree_to_execute=\"Patrol\">
+  <BehaviorTree ID=\"Patrol\">
+    <Sequence name=\"patrol\">
+      <Script name=\"begin\" code=\"target := 'A1'; tries := 0\"/>
+      <Fallback>
+        <BatteryOk min=\"20\" _skipIf=\"tries > 3\"/>
+        <Charge power=\"1\" level=\"{level}\"/>
+      </Fallback>
+      <SubTree ID=\"Visit\" name=\"first\" _autoremap=\"true\" place=\"{target}\" speed=\"2\"/>
+      <RetryUntilSuccessful num_attempts=\"{tries}\">
+        <SubTree ID=\"Visit\" place=\"B2\" done=\"{done}\"/>
+      </RetryUntilSuccessful>
+    </Sequence>
+  </BehaviorTree>
+  <BehaviorTree ID=\"Visit\">
+    <ReactiveSequence>
+      <Inverter>
+        <Bumped name=\"bumped?\"/>
+      </Inverter>
+      <MoveTo goal=\"{place}\" speed=\"{speed}\" _onSuccess=\"done := 1\"/>
+      <TakePhoto file=\"a &amp; b\" camera=\"front\"/>
+    </ReactiveSequence>
+  </BehaviorTree>
+</root>
+<!-- nodes 18 work 6012 -->
+Done";
+
 #[test]
-fn whole_files_are_printed_or_refused(rt: HostRuntime) -> Result<(), Fail> {
-    for (file, want) in [
-        (SAVED, SAVED_PRINTED),
-        ("", "refused tree Unmatched 0\nTree"),
-        ("<root BTCPP_f", "refused tree BadMark 0\nTree"),
+fn printed_trees_check_to_themselves(rt: HostRuntime) -> Result<(), Fail> {
+    let alloc = rt.alloc();
+    for (file, want) in [(SAVED, SAVED_PRINTED), (PATROL, PATROL_PRINTED)] {
+        let text = given(alloc, &["check", "T"], file.as_bytes(), b"", &[])?;
+        assert_eq!(rt; text.as_str(), want);
+        let printed = want.strip_suffix("Done").unwrap_or("?");
+        let again = given(alloc, &["check", "T"], printed.as_bytes(), b"", &[])?;
+        assert_eq!(rt; again.as_str(), want);
+    }
+    Ok(())
+}
+
+#[test]
+fn whole_files_are_refused(rt: HostRuntime) -> Result<(), Fail> {
+    let table: [(&[u8], &str); 23] = [
+        (b"", "refused tree Unmatched 0\nTree"),
+        (b"\xff", "refused tree NotUtf8 0\nTree"),
+        (b"<root BTCPP_f", "refused tree BadMark 0\nTree"),
         (
-            "<root a=\"1\" a=\"2\"/>",
+            b"<root a=\"1\" a=\"2\"/>",
             "refused tree DoubleAttribute 0\nTree",
         ),
         (
-            "<root BTCPP_format=\"4\">",
+            b"<root BTCPP_format=\"4\">",
             "refused tree Unmatched 23\nTree",
         ),
-        ("<!-- x", "refused tree BadMark 0\nTree"),
-        ("<!DOCTYPE root><root/>", "refused tree BadMark 0\nTree"),
-        ("<root a=\"1<2\"/>", "refused tree BadMark 0\nTree"),
-        ("<root/><root/>", "refused tree Unmatched 7\nTree"),
-        ("<root></Root>", "refused tree Unmatched 6\nTree"),
-        ("<root>x</root>", "refused tree StrayText 6\nTree"),
-        ("<root BTCPP_format=\"5\"/>", "refused tree Format\nTree"),
-        ("<root BTCPP_format=\"4\"/>", "refused tree NoMain\nTree"),
+        (b"<!-- x", "refused tree BadMark 0\nTree"),
+        (b"<!DOCTYPE root><root/>", "refused tree BadMark 0\nTree"),
+        (b"<root a=\"1<2\"/>", "refused tree BadMark 0\nTree"),
+        (b"<root/><root/>", "refused tree Unmatched 7\nTree"),
+        (b"<root></Root>", "refused tree Unmatched 6\nTree"),
+        (b"<root>x</root>", "refused tree StrayText 6\nTree"),
         (
-            "<root BTCPP_format=\"4\"><BehaviorTree ID=\"M\"/></root>",
+            b"<root><TreeNodesModel/><TreeNodesModel/></root>",
+            "refused tree DoubleModel 23\nTree",
+        ),
+        (
+            b"<root><TreeNodesModel><Action ID=\"A\"/><Condition ID=\"A\"/></TreeNodesModel></root>",
+            "refused tree DoubleModel 38\nTree",
+        ),
+        (
+            b"<root><TreeNodesModel><Action/></TreeNodesModel></root>",
+            "refused tree BadModel 22\nTree",
+        ),
+        (b"<tree/>", "refused tree NotRoot 0\nTree"),
+        (b"<root BTCPP_format=\"5\"/>", "refused tree Format\nTree"),
+        (
+            b"<root BTCPP_format=\"4\"><BehaviorTree ID=\"M\"/><BehaviorTree ID=\"M\"/></root>",
+            "refused tree DoubleTree 'M'\nTree",
+        ),
+        (b"<root BTCPP_format=\"4\"/>", "refused tree NoMain\nTree"),
+        (
+            b"<root BTCPP_format=\"4\" main_tree_to_execute=\"N\"><BehaviorTree ID=\"M\"/></root>",
+            "refused tree NoTree 'N'\nTree",
+        ),
+        (
+            b"<root BTCPP_format=\"4\"><BehaviorTree ID=\"M\"/></root>",
             "refused tree ChildCount 0\nTree",
         ),
-    ] {
-        let text = given(rt.alloc(), &["check", "T"], file.as_bytes(), b"", &[])?;
-        assert_eq!(rt; text.as_str(), want, "{file}");
+        (
+            b"<root BTCPP_format=\"4\"><BehaviorTree ID=\"M\"><SubTree ID=\"M\"/></BehaviorTree></root>",
+            "refused tree Recursive 'M'\nTree",
+        ),
+        (
+            b"<root BTCPP_format=\"4\"><BehaviorTree ID=\"M\"><N x=\"{}\"/></BehaviorTree></root>",
+            "refused tree BadLiteral 1\nTree",
+        ),
+        (
+            b"<root BTCPP_format=\"4\"><BehaviorTree ID=\"M\"><N/></BehaviorTree><TreeNodesModel><Action ID=\"N\"><input_port name=\"x\" default=\"{}\"/></Action></TreeNodesModel></root>",
+            "refused tree BadLiteral 1\nTree",
+        ),
+    ];
+    for (file, want) in table {
+        let text = given(rt.alloc(), &["check", "T"], file, b"", &[])?;
+        assert_eq!(rt; text.as_str(), want);
     }
     Ok(())
 }
@@ -542,12 +665,26 @@ fn whole_files_are_printed_or_refused(rt: HostRuntime) -> Result<(), Fail> {
 #[test]
 fn trees_are_refused(rt: HostRuntime) -> Result<(), Fail> {
     for (nodes, want) in [
+        ("<Action/>", "refused tree UnknownNode 1\nTree"),
         ("<SubTree ID=\"M\"/>", "refused tree Recursive 'M'\nTree"),
-        ("<N x=\"{}\"/>", "refused tree BadLiteral 1\nTree"),
+        ("<SubTree ID=\"N\"/>", "refused tree NoTree 'N'\nTree"),
         ("<Sequence/>", "refused tree ChildCount 1\nTree"),
+        (
+            "<Inverter x=\"1\"><A/></Inverter>",
+            "refused tree UnknownPort 1\nTree",
+        ),
+        ("<N x=\"{}\"/>", "refused tree BadLiteral 1\nTree"),
         (
             "<Script code=\"x := 1.5\"/>",
             "refused tree BadScript 1 RealNumber 5\nTree",
+        ),
+        (
+            "<Script code=\"x := 9223372036854775808\"/>",
+            "refused tree BadScript 1 NumberTooWide 5\nTree",
+        ),
+        (
+            "<A _skipIf=\"1 +\"/>",
+            "refused tree BadScript 1 Syntax 3\nTree",
         ),
         (
             "<Repeat num_cycles=\"1000\"><Repeat num_cycles=\"100\"><A/></Repeat></Repeat>",
@@ -556,6 +693,101 @@ fn trees_are_refused(rt: HostRuntime) -> Result<(), Fail> {
     ] {
         let text = answered(rt.alloc(), &["check", "T"], nodes, &[], &[])?;
         assert_eq!(rt; text.as_str(), want, "{nodes}");
+    }
+    Ok(())
+}
+
+/// A text so many times, one behind another.
+fn repeated(alloc: Global, text: &str, times: u32) -> Result<String, AllocError> {
+    let mut all = String::new(alloc);
+    for _ in 0..times {
+        all.push_str(text)?;
+    }
+    Ok(all)
+}
+
+/// So many Inverters in one another, over these nodes.
+fn inverted(alloc: Global, times: u32, nodes: &str) -> Result<String, AllocError> {
+    let before = repeated(alloc, "<Inverter>", times)?;
+    let behind = repeated(alloc, "</Inverter>", times)?;
+    format!(in alloc; "{before}{nodes}{behind}")
+}
+
+#[test]
+fn depth_is_limited(rt: HostRuntime) -> Result<(), Fail> {
+    let alloc = rt.alloc();
+    for (times, want) in [
+        (255, "<!-- nodes 256 work 256 -->\nDone"),
+        (256, "refused tree TooDeep 2604\nTree"),
+    ] {
+        let nodes = inverted(alloc, times, "<AlwaysSuccess/>")?;
+        let text = answered(alloc, &["check", "T"], nodes.as_str(), &[], &[])?;
+        assert!(rt; text.ends_with(want), "{times}");
+    }
+    Ok(())
+}
+
+#[test]
+fn depth_is_limited_across_trees(rt: HostRuntime) -> Result<(), Fail> {
+    let alloc = rt.alloc();
+    for (times, want) in [
+        (127, "<!-- nodes 256 work 256 -->\nDone"),
+        (128, "refused tree TooDeep 257\nTree"),
+    ] {
+        let main = inverted(alloc, 127, "<SubTree ID=\"S\"/>")?;
+        let below = inverted(alloc, times, "<A/>")?;
+        let nodes = format!(in alloc; "{main}</BehaviorTree><BehaviorTree ID=\"S\">{below}")?;
+        let words = ["check", "T", "--main", "M"];
+        let text = answered(alloc, &words, nodes.as_str(), &[], &[])?;
+        assert!(rt; text.ends_with(want), "{times}");
+    }
+    Ok(())
+}
+
+#[test]
+fn nodes_are_counted(rt: HostRuntime) -> Result<(), Fail> {
+    let alloc = rt.alloc();
+    for (leaves, want) in [
+        (4_095, "<!-- nodes 4096 work 4096 -->\nDone"),
+        (4_096, "refused tree TooManyNodes\nTree"),
+    ] {
+        let nodes = format!(in alloc; "<Sequence>{}</Sequence>", repeated(alloc, "<A/>", leaves)?)?;
+        let text = answered(alloc, &["check", "T"], nodes.as_str(), &[], &[])?;
+        assert!(rt; text.ends_with(want), "{leaves}");
+    }
+    Ok(())
+}
+
+/// The trees `T0` up to the last, each of which opens the next one twice. The last one is a leaf.
+fn doubling(alloc: Global, last: u32) -> Result<String, AllocError> {
+    let mut trees = String::new(alloc);
+    for n in 0..last {
+        let below = repeated(
+            alloc,
+            format!(in alloc; "<SubTree ID=\"T{}\"/>", n + 1)?.as_str(),
+            2,
+        )?;
+        trees.push_str(format!(in alloc;
+            "<BehaviorTree ID=\"T{n}\"><Sequence>{below}</Sequence></BehaviorTree>"
+        )?.as_str())?;
+    }
+    format!(in alloc;
+        "<root BTCPP_format=\"4\">{trees}<BehaviorTree ID=\"T{last}\"><AlwaysSuccess/></BehaviorTree></root>"
+    )
+}
+
+#[test]
+fn scopes_are_counted(rt: HostRuntime) -> Result<(), Fail> {
+    let alloc = rt.alloc();
+    for (last, want) in [
+        (7, "<!-- nodes 509 work 509 -->\nDone"),
+        (8, "refused tree TooManyScopes\nTree"),
+        (11, "refused tree TooManyScopes\nTree"),
+    ] {
+        let file = doubling(alloc, last)?;
+        let words = ["check", "T", "--main", "T0"];
+        let text = given(alloc, &words, file.as_bytes(), b"", &[])?;
+        assert!(rt; text.ends_with(want), "{last}");
     }
     Ok(())
 }
@@ -575,14 +807,14 @@ fn leaf_of_keys(alloc: Global, count: u32) -> Result<String, AllocError> {
 fn slots_are_counted_before_work(rt: HostRuntime) -> Result<(), Fail> {
     let alloc = rt.alloc();
     for (slots, cycles, want) in [
-        (4_096, "1", "<!-- nodes 3 work 102 -->\nDone"),
-        (4_097, "1", "refused tree TooManyKeys\nTree"),
-        (4_096, "1000", "refused tree TooMuchWork\nTree"),
-        (4_097, "1000", "refused tree TooManyKeys\nTree"),
+        (4_096, "98", "<!-- nodes 3 work 99001 -->\nDone"),
+        (4_097, "98", "refused tree TooManyKeys\nTree"),
+        (4_096, "100", "refused tree TooMuchWork\nTree"),
+        (4_097, "100", "refused tree TooManyKeys\nTree"),
     ] {
         let leaf = leaf_of_keys(alloc, slots)?;
         let nodes = format!(in alloc;
-            "<Repeat num_cycles=\"{cycles}\"><Repeat num_cycles=\"100\">{leaf}</Repeat></Repeat>"
+            "<Repeat num_cycles=\"1000\"><Repeat num_cycles=\"{cycles}\">{leaf}</Repeat></Repeat>"
         )?;
         let text = answered(alloc, &["check", "T"], nodes.as_str(), &[], &[])?;
         assert!(rt; text.ends_with(want), "{slots} {cycles}");

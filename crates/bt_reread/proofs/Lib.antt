@@ -1,6 +1,13 @@
 pub mod Depths
 pub mod Elements
 pub mod Marks
+pub mod Openings
+pub mod ReadBack
+pub mod ReadContent
+pub mod ReadHeads
+pub mod ReadNodes
+pub mod ReadTrees
+pub mod ReadValues
 pub mod Trees
 pub mod Utf8
 pub mod Values

@@ -54,21 +54,22 @@ identifier_is_name (c ∷ cs) h =
     and_true (is_name_first c) (list_all is_name_rest (c ∷ cs)) (identifier_start c t.0) (identifier_all (c ∷ cs) t.1)
 
 either_name :
-    (is : Bool) (known : List ℕ) (k : Kind) (more : Option Kind) (id : List ℕ) (kind : Kind) → bytes_eq id known ≡ is → (if is then Some k else more) ≡ Some kind → is_name known ≡ true →
-    (more ≡ Some kind → is_name id ≡ true) → is_name id ≡ true
-either_name true known k more id kind same h named others = subst (λ (z : List ℕ). is_name z ≡ true) (sym ((bytes_eq-Decides id known).0 same)) named
-either_name false known k more id kind same h named others = others h
+    (p : List ℕ → Bool) (is : Bool) (known : List ℕ) (k : Kind) (more : Option Kind) (id : List ℕ) (kind : Kind) → bytes_eq id known ≡ is → (if is then Some k else more) ≡ Some kind →
+    p known ≡ true → (more ≡ Some kind → p id ≡ true) → p id ≡ true
+either_name p true known k more id kind same h named others = subst (λ (z : List ℕ). p z ≡ true) (sym ((bytes_eq-Decides id known).0 same)) named
+either_name p false known k more id kind same h named others = others h
 
-named_by : (rows : List (List ℕ × Kind)) (id : List ℕ) (kind : Kind) → kind_among rows id ≡ Some kind → list_all (λ (row : List ℕ × Kind). is_name row.0) rows ≡ true → is_name id ≡ true
-named_by [] id kind h all = absurd (cc)
-named_by (row ∷ rows) id kind h all =
-    let t = both (is_name row.0) (list_all (λ (r : List ℕ × Kind). is_name r.0) rows) all in
-    either_name (bytes_eq id row.0) row.0 row.1 (kind_among rows id) id kind refl h t.0 (λ more. named_by rows id kind more t.1)
+-- what holds of each name in a table of kinds holds of one that is found there
+pub named_by : (p : List ℕ → Bool) (rows : List (List ℕ × Kind)) (id : List ℕ) (kind : Kind) → kind_among rows id ≡ Some kind → list_all (λ (row : List ℕ × Kind). p row.0) rows ≡ true → p id ≡ true
+named_by p [] id kind h all = absurd (cc)
+named_by p (row ∷ rows) id kind h all =
+    let t = both (p row.0) (list_all (λ (r : List ℕ × Kind). p r.0) rows) all in
+    either_name p (bytes_eq id row.0) row.0 row.1 (kind_among rows id) id kind refl h t.0 (λ more. named_by p rows id kind more t.1)
 
 -- a built-in node's name is one
 built_in_name : (id : List ℕ) (kind : Kind) → kind_named id ≡ Some kind → is_name id ≡ true
 unfolding named_kinds
-built_in_name id kind h = named_by named_kinds id kind h refl
+built_in_name id kind h = named_by is_name named_kinds id kind h refl
 
 name_of_value : (id : List ℕ) → is_name id ≡ true → value_stands id ≡ true → name_stands id ≡ true
 name_of_value id is stands = and_true (is_name id) (is_utf8 id) is ((both (list_all is_not_zero id) (is_utf8 id) stands).1)
@@ -105,10 +106,10 @@ two_stand xs ys p q = list_all-append can_stand xs ys ∙ and_true (list_all can
 
 -- ---- The guards
 
-abbrev Row : Type 0
+abbrev pub Row : Type 0
 Row = List ℕ × Option Script
 
-abbrev rows_of : Guards → List Row
+abbrev pub rows_of : Guards → List Row
 rows_of g =
     (codes "_failureIf", g.failure_if)
     ∷ (codes "_successIf", g.success_if)
@@ -120,13 +121,13 @@ rows_of g =
     ∷ (codes "_onHalted", g.on_halted)
     ∷ []
 
-abbrev written_rows : List Row → List Attribute
+abbrev pub written_rows : List Row → List Attribute
 written_rows rows = flat_map (λ (r : Row). script_attribute r.0 r.1) rows
 
 eight : (a b c d e f g h : List Attribute) → a ++ b ++ c ++ d ++ e ++ f ++ g ++ h ≡ a ++ (b ++ (c ++ (d ++ (e ++ (f ++ (g ++ (h ++ [])))))))
 eight a b c d e f g h = simp (append_assoc, append-nil)
 
-guards_are_rows : (g : Guards) → guard_attributes g ≡ written_rows (rows_of g)
+pub guards_are_rows : (g : Guards) → guard_attributes g ≡ written_rows (rows_of g)
 guards_are_rows g =
     eight (script_attribute (codes "_failureIf") g.failure_if) (script_attribute (codes "_successIf") g.success_if) (script_attribute (codes "_skipIf") g.skip_if)
     (script_attribute (codes "_while") g.while_true) (script_attribute (codes "_onSuccess") g.on_success) (script_attribute (codes "_onFailure") g.on_failure)
@@ -203,7 +204,7 @@ to_not false h = refl
 abbrev has_name : List ℕ → List Attribute → Bool
 has_name n xs = list_any (λ (b : Attribute). bytes_eq b.0 n) xs
 
-all_both : (p : List ℕ → Bool) (xs ys : List Attribute) → list_all (λ (a : Attribute). p a.0) xs ≡ true → list_all (λ (a : Attribute). p a.0) ys ≡ true → list_all (λ (a : Attribute). p a.0) (xs ++ ys) ≡ true
+pub all_both : (p : List ℕ → Bool) (xs ys : List Attribute) → list_all (λ (a : Attribute). p a.0) xs ≡ true → list_all (λ (a : Attribute). p a.0) ys ≡ true → list_all (λ (a : Attribute). p a.0) (xs ++ ys) ≡ true
 all_both p xs ys h k =
     list_all-append (λ (a : Attribute). p a.0) xs ys ∙ and_true (list_all (λ (a : Attribute). p a.0) xs) (list_all (λ (a : Attribute). p a.0) ys) h k
 
@@ -240,7 +241,7 @@ if_all : (p : List ℕ → Bool) (is : Bool) (name value : List ℕ) → p name 
 if_all p true name value h = and_true (p name) true h refl
 if_all p false name value h = refl
 
-abbrev row_names : List Row → List (List ℕ)
+abbrev pub row_names : List Row → List (List ℕ)
 row_names rows = map (λ (r : Row). r.0) rows
 
 rows_named : (n : List ℕ) (rows : List Row) → is_among n (row_names rows) ≡ false → has_name n (written_rows rows) ≡ false
@@ -260,7 +261,7 @@ rows_single ((m, Some script) ∷ rows) h =
     and_true (not (has_name m (written_rows rows))) (no_name_twice (written_rows rows))
     (to_not (has_name m (written_rows rows)) (rows_named m rows (not_true (is_among m (row_names rows)) t.0))) (rows_single rows t.1)
 
-rows_all : (p : List ℕ → Bool) (rows : List Row) → list_all (λ (r : Row). p r.0) rows ≡ true → list_all (λ (a : Attribute). p a.0) (written_rows rows) ≡ true
+pub rows_all : (p : List ℕ → Bool) (rows : List Row) → list_all (λ (r : Row). p r.0) rows ≡ true → list_all (λ (a : Attribute). p a.0) (written_rows rows) ≡ true
 rows_all p [] h = refl
 rows_all p ((m, None) ∷ rows) h = rows_all p rows ((both (p m) (list_all (λ (r : Row). p r.0) rows) h).1)
 rows_all p ((m, Some script) ∷ rows) h =
@@ -269,10 +270,10 @@ rows_all p ((m, Some script) ∷ rows) h =
 
 -- ---- The names of ports
 
-abbrev port_named : Port → Bool
+abbrev pub port_named : Port → Bool
 port_named port = is_port_name port.name
 
-ports_have_names : (ports : List Port) → list_all port_stands ports ≡ true → list_all port_named ports ≡ true
+pub ports_have_names : (ports : List Port) → list_all port_stands ports ≡ true → list_all port_named ports ≡ true
 ports_have_names [] h = refl
 ports_have_names (port ∷ ports) h =
     let t = both (port_stands port) (list_all port_stands ports) h in
@@ -297,7 +298,7 @@ ports_single (port ∷ ports) h =
 
 -- ---- The mark of a node
 
-no_ports : (ports : List Port) → list_all (is_one_of []) ports ≡ true → ports ≡ []
+pub no_ports : (ports : List Port) → list_all (is_one_of []) ports ≡ true → ports ≡ []
 no_ports [] h = refl
 no_ports (port ∷ ports) h = absurd (cc)
 
@@ -310,13 +311,13 @@ ports_or_code ScriptCondition ports code h c =
 ports_or_code kind ports None h c = inl refl
 ports_or_code kind ports (Some script) h c = absurd c
 
-ports_all : (p : List ℕ → Bool) (ports : List Port) → ((n : List ℕ) → is_port_name n ≡ true → p n ≡ true) → list_all port_named ports ≡ true → list_all (λ (a : Attribute). p a.0) (map port_attribute ports) ≡ true
+pub ports_all : (p : List ℕ → Bool) (ports : List Port) → ((n : List ℕ) → is_port_name n ≡ true → p n ≡ true) → list_all port_named ports ≡ true → list_all (λ (a : Attribute). p a.0) (map port_attribute ports) ≡ true
 ports_all p [] f h = refl
 ports_all p (port ∷ ports) f h =
     let t = both (port_named port) (list_all port_named ports) h in
     and_true (p port.name) (list_all (λ (a : Attribute). p a.0) (map port_attribute ports)) (f port.name t.0) (ports_all p ports f t.1)
 
-script_all : (p : List ℕ → Bool) (name : List ℕ) (script : Option Script) → p name ≡ true → list_all (λ (a : Attribute). p a.0) (script_attribute name script) ≡ true
+pub script_all : (p : List ℕ → Bool) (name : List ℕ) (script : Option Script) → p name ≡ true → list_all (λ (a : Attribute). p a.0) (script_attribute name script) ≡ true
 script_all p name None h = refl
 script_all p name (Some script) h = and_true (p name) true h refl
 
@@ -342,10 +343,10 @@ guard_by false false true false h = absurd (cc)
 port_is_no_guard : (n : List ℕ) → is_port_name n ≡ true → no_guard n ≡ true
 port_is_no_guard n h = guard_by (bytes_eq n (codes "name")) (bytes_eq n (codes "ID")) (nat_eq (slice_index n 0) 95) (bytes_eq n (codes "_autoremap")) h
 
-abbrev head_of : Bool → Bool → Bool → List ℕ → List ℕ → List Attribute
+abbrev pub head_of : Bool → Bool → Bool → List ℕ → List ℕ → List Attribute
 head_of i n a id name = attribute_if i (codes "ID") id ++ attribute_if n (codes "name") name ++ attribute_if a (codes "_autoremap") (codes "true")
 
-head_all : (p : List ℕ → Bool) (i n a : Bool) (id name : List ℕ) → p (codes "ID") ≡ true → p (codes "name") ≡ true → p (codes "_autoremap") ≡ true → list_all (λ (x : Attribute). p x.0) (head_of i n a id name) ≡ true
+pub head_all : (p : List ℕ → Bool) (i n a : Bool) (id name : List ℕ) → p (codes "ID") ≡ true → p (codes "name") ≡ true → p (codes "_autoremap") ≡ true → list_all (λ (x : Attribute). p x.0) (head_of i n a id name) ≡ true
 head_all p i n a id name h k l =
     all_both p (attribute_if i (codes "ID") id ++ attribute_if n (codes "name") name) (attribute_if a (codes "_autoremap") (codes "true"))
     (all_both p (attribute_if i (codes "ID") id) (attribute_if n (codes "name") name) (if_all p i (codes "ID") id h) (if_all p n (codes "name") name k))

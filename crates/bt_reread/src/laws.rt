@@ -1,13 +1,16 @@
-ghost use Rattle.std.specs.Prelude.{◌≡◌, ◌≤◌, List, [], ℕ, IsTrue};
+ghost use Rattle.std.specs.Prelude.{◌≡◌, ◌≤◌, List, [], ℕ, IsTrue, None, Ok, Option};
 ghost use Rattle.std.specs.List.{concat, flat_map, list_all};
-ghost use Rattle.bt_elements.specs.Elements.{Spells, depth_of};
+ghost use Rattle.bt_build.specs.Reads.{reads};
+ghost use Rattle.bt_elements.specs.Elements.{IsValid as IsValidElement, Spells, depth_of};
 ghost use Rattle.bt_elements.specs.Marks.{is_not_zero, is_value_byte};
 ghost use Rattle.bt_elements.specs.References.{decoded};
 ghost use Rattle.bt_elements.specs.Written.{can_be_written};
 ghost use Rattle.bt_elements.specs.declared.element.Element.{Element};
+ghost use Rattle.bt_manifest.specs.Models.{Models, manifest_in};
 ghost use Rattle.bt_model.specs.PrintedTree.{escaped_byte, tree_lines};
 ghost use Rattle.bt_model.specs.Trees.{IsValid};
 ghost use Rattle.bt_model.specs.declared.term.Tree.{Tree};
+ghost use Rattle.bt_reread.specs.Openings.{OpensAlike};
 ghost use Rattle.bt_reread.specs.Printed.{lines_of, unplaced};
 ghost use Rattle.bt_reread.specs.TreeElements.{element_of};
 
@@ -27,4 +30,14 @@ pub fn printed_elements_read_back()
 /// The bytes that are printed of a valid tree spell its element.
 pub fn printed_trees_spell_their_elements()
     ensures { (tree : Tree) → IsValid tree → (f : Element) × Spells (concat (tree_lines tree)) f × (unplaced f ≡ unplaced (element_of tree)) }
+{}
+
+/// The bytes that are printed of a tree that was read spell an element without models that reads as
+/// the tree again. So do those of each valid tree whose SubTree nodes of one ID have the same tree
+/// below them.
+pub fn printed_trees_read_back()
+    ensures alike { (tree : Tree) → IsValid tree → OpensAlike tree
+        → (f : Element) × Spells (concat (tree_lines tree)) f × (manifest_in f ≡ Ok []) × (reads [] None f ≡ Ok tree) }
+    ensures read { (root : Element) (models : Models) (asked : Option (List ℕ)) (tree : Tree) → IsValidElement root → manifest_in root ≡ Ok models → reads models asked root ≡ Ok tree
+        → (f : Element) × Spells (concat (tree_lines tree)) f × (manifest_in f ≡ Ok []) × (reads [] None f ≡ Ok tree) }
 {}
