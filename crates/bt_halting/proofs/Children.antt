@@ -1,7 +1,7 @@
 -- The resets of the children of a node, one after another.
-use Rattle.std.proofs.Common.{◌≡◌, ℕ, zero, suc, ◌+◌, ◌<◌, ◌≤◌, List, [], ◌∷◌, ◌++◌, map, length, slice_set, refl, sym, ap, subst, ◌∙◌, append_assoc, length-append, arith, Bool, true, false, if◌then◌else◌, Result, Ok, Err}
+use Rattle.std.proofs.Common.{◌≡◌, ℕ, ◌+◌, ◌<◌, ◌≤◌, List, [], ◌∷◌, ◌++◌, map, length, slice_set, refl, sym, ap, subst, ◌∙◌, append_assoc, length-append, arith, Bool, true, false, if◌then◌else◌, Result, Ok, Err}
 use Rattle.std.proofs.lemmas.List.{set-get_or}
-use Rattle.std.proofs.lemmas.List.Sums.{sum_by-append, sum_by-cons}
+use Rattle.std.proofs.lemmas.List.Sums.{sum_by-cons}
 use Rattle.bt_script.specs.declared.stop.Stop.{Stop}
 use Rattle.bt_script.specs.declared.stop.Stop.TheVariants as stop
 use Rattle.bt_model.specs.declared.fault.NodeFault.{NodeFault}
@@ -15,11 +15,10 @@ use Rattle.bt_model.specs.declared.status.Status.TheVariants.{Idle}
 use Rattle.bt_model.specs.Sites.{Meaning, View, child_of, children_from, memory_at, placed, remembered, sizes}
 use Rattle.bt_model.specs.Steps.{resets, spans}
 use Rattle.bt_model.specs.Visit.{meaning}
-use Rattle.bt_arena.specs.declared.nodes.Kept.{Kept}
 use Rattle.bt_arena.specs.declared.nodes.Node.{Node}
 use Rattle.bt_arena.specs.Scenes.{Scene, state_in}
 use Rattle.bt_arena.specs.Stands.{Beside, memories_of, memory_of}
-use Rattle.bt_arena.specs.Ends.{IsCut, IsMade, Meets}
+use Rattle.bt_arena.specs.Ends.{IsMade, Meets}
 use Rattle.bt_halting.specs.Halts.{reset_if}
 use Rattle.bt_arena.proofs.Follows.{done_met, followed, stopped}
 use Rattle.bt_halting.proofs.Memories.{IsChild, child_memory, child_placed}

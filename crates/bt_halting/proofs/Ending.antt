@@ -1,5 +1,5 @@
 -- The end of a halt: a leaf is let go, the node comes to rest, and its script runs.
-use Rattle.std.proofs.Common.{◌≡◌, ◌≢◌, ℕ, ◌+◌, ◌<◌, ◌≤◌, List, [], ◌∷◌, ◌++◌, map, length, get_or, slice_set, Bool, true, false, Option, Some, None, refl, sym, ap, subst, ◌∙◌, append-nil, arith, IfSome, Result, Ok, Err}
+use Rattle.std.proofs.Common.{◌≡◌, ℕ, ◌+◌, ◌<◌, List, [], ◌∷◌, ◌++◌, map, length, slice_set, false, Option, Some, None, refl, sym, ap, subst, ◌∙◌, append-nil, arith, Result, Ok, Err}
 use Rattle.std.proofs.lemmas.List.{get_or-set_other, get_or-set_same}
 use Rattle.bt_script.specs.declared.stop.Stop.{Stop}
 use Rattle.bt_script.specs.declared.stop.Stop.TheVariants as stop
@@ -23,10 +23,10 @@ use Rattle.bt_arena.specs.declared.nodes.Node.{Node}
 use Rattle.bt_arena.specs.declared.nodes.ReadyLeaf.{ReadyLeaf}
 use Rattle.bt_arena.specs.Nodes.{IsNode, LeafStands, at_rest, is_leaf, kept_at, leaf_at, node_at}
 use Rattle.bt_arena.specs.Rosters.{AreServed, instances_of}
-use Rattle.bt_arena.specs.Scenes.{Fits, Scene, marks_of, state_in}
+use Rattle.bt_arena.specs.Scenes.{Scene, marks_of, state_in}
 use Rattle.bt_arena.specs.Stands.{Beside, Stands, memories_of, memory_of, written}
 use Rattle.bt_arena.proofs.Opened.{opened}
-use Rattle.bt_arena.specs.Ends.{IsCut, IsMade, Meets, StaysFit}
+use Rattle.bt_arena.specs.Ends.{IsCut, Meets, StaysFit}
 use Rattle.bt_halting.specs.Halts.{leaf_let_go, rests}
 use Rattle.bt_nodes.specs.Here.{site_at}
 use Rattle.bt_arena.proofs.Follows.{done_met, followed, stopped}

@@ -1,10 +1,8 @@
 -- A reset and a halt of a term that stands in an arena.
-use Rattle.std.proofs.Common.{◌≡◌, ◌≢◌, ℕ, ◌+◌, ◌<◌, ◌≤◌, List, [], ◌∷◌, ◌++◌, map, length, slice_set, refl, sym, ap, subst, ◌∙◌, append-nil, arith, Result, Ok, Err}
-use Rattle.std.proofs.lemmas.List.{get_or-set_other, get_or-set_same, length-set}
+use Rattle.std.proofs.Common.{◌≡◌, ◌≢◌, ℕ, ◌+◌, ◌<◌, List, [], ◌++◌, length, slice_set, refl, sym, ap, subst, ◌∙◌, append-nil, arith, Result, Ok, Err}
+use Rattle.std.proofs.lemmas.List.{get_or-set_other, get_or-set_same}
 use Rattle.bt_script.specs.declared.stop.Stop.{Stop}
-use Rattle.bt_script.specs.declared.stop.Stop.TheVariants as stop
 use Rattle.bt_model.specs.declared.fault.NodeFault.{NodeFault}
-use Rattle.bt_model.specs.declared.memory.Memo.{Memo}
 use Rattle.bt_model.specs.declared.memory.Memory.{Memory, out-Memory, out-roll-Memory}
 use Rattle.bt_model.specs.declared.moves.Span.TheVariants.{All}
 use Rattle.bt_model.specs.declared.note.Note.{Note}
@@ -12,7 +10,7 @@ use Rattle.bt_model.specs.declared.status.Status.{Status}
 use Rattle.bt_model.specs.declared.status.Status.TheVariants as status
 use Rattle.bt_model.specs.declared.term.Term.{Term, fold_out-Term, out-Term}
 use Rattle.bt_model.specs.Done.{Done, State, behind, done, follow}
-use Rattle.bt_model.specs.Sites.{Meaning, Site, View, children_of, remembered, sizes}
+use Rattle.bt_model.specs.Sites.{Meaning, View, children_of, remembered}
 use Rattle.bt_model.specs.Steps.{resets}
 use Rattle.bt_model.specs.Visit.{change, cleared, halt, halted, meaning, meaning_of_node, reset_by}
 use Rattle.bt_arena.specs.declared.nodes.Kept.{Kept}

@@ -1,5 +1,5 @@
 -- A held leaf is let go.
-use Rattle.std.proofs.Common.{◌≡◌, ℕ, ℤ, List, [], ◌∷◌, ◌++◌, map, get_or, slice_set, Bool, true, false, IsSome, is_some, Option, Some, None, refl, sym, ap, subst, ◌∙◌, Ok}
+use Rattle.std.proofs.Common.{◌≡◌, ℕ, ℤ, List, [], ◌∷◌, ◌++◌, map, get_or, slice_set, true, false, IsSome, is_some, Option, Some, None, refl, sym, ap, subst, ◌∙◌, Ok}
 use Rattle.bt_script.specs.declared.value.Value.{Value}
 use Rattle.bt_model.specs.declared.leaf.Instance.{Instance}
 use Rattle.bt_model.specs.declared.leaf.Phase.TheVariants as phase

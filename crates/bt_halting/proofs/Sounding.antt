@@ -1,5 +1,5 @@
 -- Where the rules of states hold of a term in an arena, each RUNNING leaf has its mark.
-use Rattle.std.proofs.Common.{◌≡◌, ◌⊎◌, inl, inr, ℕ, zero, suc, ◌+◌, ◌<◌, ◌≤◌, List, [], ◌∷◌, map, length, get_or, slice_get, Bool, true, false, is_some, option_map, Option, Some, None, refl, sym, ap, subst, ◌∙◌, arith}
+use Rattle.std.proofs.Common.{◌≡◌, inl, inr, ℕ, zero, suc, ◌+◌, ◌<◌, ◌≤◌, List, [], ◌∷◌, map, get_or, slice_get, true, is_some, option_map, Option, Some, None, refl, sym, ap, subst, ◌∙◌, arith}
 use Rattle.std.proofs.lemmas.Bool.{cases_eq, cases_lt}
 use Rattle.std.proofs.lemmas.List.Sums.{sum_by-cons}
 use Rattle.bt_model.specs.declared.leaf.Instance.{Instance}
@@ -10,11 +10,11 @@ use Rattle.bt_model.specs.declared.status.Status.TheVariants.{Running}
 use Rattle.bt_model.specs.declared.term.Kind.{Kind}
 use Rattle.bt_model.specs.declared.term.Kind.TheVariants.{Leaf}
 use Rattle.bt_model.specs.declared.term.Port.{Port}
-use Rattle.bt_model.specs.declared.term.Term.{Term, Term-F, ind-Term, out-Term, out-roll-Term, roll-Term}
+use Rattle.bt_model.specs.declared.term.Term.{Term, Term-F, ind-Term, out-roll-Term, roll-Term}
 use Rattle.bt_model.specs.declared.term.Term.TheFolds.{map-Term, rec-roll-Term}
 use Rattle.bt_model.specs.declared.world.Row.{Row}
 use Rattle.bt_model.specs.Done.{State}
-use Rattle.bt_model.specs.Drivers.{DriverState, is_held}
+use Rattle.bt_model.specs.Drivers.{is_held}
 use Rattle.bt_model.specs.Leaf.{fresh}
 use Rattle.bt_model.specs.Leaves.{row_of}
 use Rattle.bt_model.specs.Sites.{Meaning, View, remembered, sizes}
@@ -22,11 +22,10 @@ use Rattle.bt_model.specs.Sound.{NodeRule, OffPath, Sound, Sounds, States, held_
 use Rattle.bt_model.specs.Sound as model
 use Rattle.bt_model.specs.Trees.{Node as TreeNode}
 use Rattle.bt_model.specs.Visit.{meaning}
-use Rattle.bt_arena.specs.declared.nodes.Kept.{Kept}
 use Rattle.bt_arena.specs.declared.nodes.Node.{Node}
 use Rattle.bt_arena.specs.declared.nodes.ReadyLeaf.{ReadyLeaf}
-use Rattle.bt_arena.specs.Nodes.{LeafStands, kept_at, leaf_at, node_at}
-use Rattle.bt_arena.specs.Rosters.{instances_of, leaf_instance}
+use Rattle.bt_arena.specs.Nodes.{LeafStands, kept_at, leaf_at}
+use Rattle.bt_arena.specs.Rosters.{instances_of}
 use Rattle.bt_arena.specs.Scenes.{Fits, Scene, marks_of, state_in}
 use Rattle.bt_arena.specs.Stands.{StandAll, Stands, memories_of, memory_of, node_stands, view_under, written}
 use Rattle.bt_arena.proofs.Called.{instance_at_uid}

@@ -1,5 +1,5 @@
 -- Where the nodes of a term stand in an arena, and what of them stays as it was.
-use Rattle.std.proofs.Common.{◌≡◌, ◌⊎◌, inl, inr, ℕ, ◌+◌, ◌-◌, ◌<◌, ◌≤◌, ◌^◌, List, [], ◌∷◌, map, length, slice_set, true, Some, refl, sym, ap, subst, ◌∙◌, arith}
+use Rattle.std.proofs.Common.{◌-◌, ◌≡◌, inl, inr, ℕ, ◌+◌, ◌<◌, ◌≤◌, List, [], ◌∷◌, map, length, slice_set, true, refl, sym, ap, subst, ◌∙◌, arith}
 use Rattle.std.proofs.lemmas.Bool.{cases_eq, cases_lt}
 use Rattle.std.proofs.lemmas.List.{get_or-set_other, get_or-set_same, length-set}
 use Rattle.std.proofs.lemmas.List.Sums.{sum_by-cons}
@@ -9,7 +9,7 @@ use Rattle.bt_model.specs.Sites.{Meaning, View, sizes}
 use Rattle.bt_model.specs.Visit.{meaning}
 use Rattle.bt_arena.specs.declared.nodes.Kept.{Kept}
 use Rattle.bt_arena.specs.declared.nodes.Node.{Node}
-use Rattle.bt_arena.specs.Nodes.{at_rest, kept_at, leaf_at, node_at}
+use Rattle.bt_arena.specs.Nodes.{at_rest, kept_at, node_at}
 use Rattle.bt_arena.specs.Scenes.{Fits, Scene}
 use Rattle.bt_arena.specs.Stands.{Beside, StandAll, Stands, node_stands, view_under, written}
 use Rattle.bt_arena.proofs.Opened.{opened, size_out}
@@ -100,6 +100,12 @@ beside_more uid size child below k0 k1 k2 low high one two = record {
 
 pub beside_none : (uid size : ℕ) (k : List Kept) → Beside uid size k k
 beside_none uid size k = record { below = λ p e. refl; above = λ p e. refl; as_many = refl }
+
+-- what changed below a node, and then at the node
+pub beside_node : (uid size : ℕ) (k0 k1 k2 : List Kept) → 1 ≤ size → Beside (uid + 1) (size - 1) k0 k1 → Beside uid 1 k1 k2 → Beside uid size k0 k2
+beside_node uid size k0 k1 k2 some below here =
+    beside_more uid size uid 1 k0 k1 k2 (omega arith) (omega (arith, some))
+    (beside_more uid size (uid + 1) (size - 1) k0 k0 k1 (omega arith) (omega (arith, some)) (beside_none uid size k0) below) here
 
 -- a node that has become IDLE, where it was not RUNNING
 module _ (kept after : List Kept) (uid : ℕ) (within : uid < length kept) (is : after ≡ slice_set kept uid (record (kept_at kept uid) { status = Idle })) where

@@ -1,10 +1,8 @@
-use Rattle.std.proofs.Common.{◌≡◌, ◌∷◌, ◌++◌, [], ℕ, Option, Some, sym, ap, ◌∙◌, arith}
-use Rattle.bt_model.specs.declared.note.Note.TheVariants.{Quenched}
+use Rattle.std.proofs.Common.{Option, sym, ap, ◌∙◌, arith}
 use Rattle.bt_model.specs.Drivers.{is_held}
 use Rattle.bt_arena.specs.declared.nodes.Kept.{Kept}
 use Rattle.bt_arena.specs.declared.nodes.Node.{Node}
 use Rattle.bt_arena.specs.declared.nodes.ReadyLeaf.{ReadyLeaf}
-use Rattle.bt_arena.specs.Nodes.{leaf_at}
 use Rattle.bt_arena.specs.Noted.{Noted}
 use Rattle.bt_arena.specs.Rosters.{leaf_instance}
 use Rattle.bt_halting.proofs.Leaving.{free_drivers, free_instances, free_length, free_notes, held_drivers, held_instances, held_length, held_notes}

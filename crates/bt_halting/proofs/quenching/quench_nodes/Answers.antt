@@ -1,5 +1,4 @@
-use Rattle.std.proofs.Common.{◌≡◌, ◌<◌, ◌≤◌, ◌+◌, ℕ, List, map, length, sym, ap, ◌∙◌, arith}
-use Rattle.bt_model.specs.Leaf.{let_go}
+use Rattle.std.proofs.Common.{◌<◌, ◌≤◌, length, sym, ◌∙◌, arith}
 use Rattle.bt_arena.specs.Rosters.{instances_of}
 use Rattle.bt_halting.proofs.Leaving.{all_free, drivers_more, length_more, lets_same, marks_more, nothing_held, notes_more, rest_more, room_here, room_more}
 use Rattle.bt_halting.proofs.Marks.{as_many_marks}

@@ -1,6 +1,5 @@
-use Rattle.std.proofs.Common.{◌≡◌, ◌+◌, ◌<◌, ◌≤◌, ◌++◌, ℕ, List, map, length, drop}
-use Rattle.bt_model.specs.Done.{Call}
-use Rattle.bt_model.specs.Drivers.{DriverState, is_held}
+use Rattle.std.proofs.Common.{◌≡◌, ◌+◌, ◌<◌, ◌≤◌, ◌++◌, ℕ, map, length, drop}
+use Rattle.bt_model.specs.Drivers.{is_held}
 use Rattle.bt_model.specs.Leaf.{let_go}
 use Rattle.bt_model.specs.Run.{letting_go, quenched_notes}
 use Rattle.bt_arena.specs.Nodes.{at_rest, kept_at}

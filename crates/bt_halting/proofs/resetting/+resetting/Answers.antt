@@ -1,17 +1,16 @@
-use Rattle.std.proofs.Common.{◌≡◌, ◌+◌, ◌-◌, ◌<◌, ◌≤◌, ℕ, ℤ, List, Err, refl, sym, ap, subst, ◌∙◌, arith, rules}
+use Rattle.std.proofs.Common.{◌≤◌, ◌+◌, ◌<◌, refl, ap, ◌∙◌, arith}
 use Rattle.bt_script.specs.declared.stop.Stop.TheVariants as stop
-use Rattle.bt_model.specs.declared.status.Status.TheVariants as status
 use Rattle.bt_model.specs.declared.term.Term.{out-Term}
 use Rattle.bt_arena.specs.declared.nodes.Node.{Node}
 use Rattle.bt_arena.specs.Nodes.{node_at}
-use Rattle.bt_arena.specs.Stands.{Beside, view_under, written}
+use Rattle.bt_arena.specs.Stands.{view_under, written}
 use Rattle.bt_arena.proofs.Called.{marks_same}
 use Rattle.bt_halting.proofs.Children.{none_reset}
 use Rattle.bt_halting.proofs.Ending.{fits_still, nothing_cut}
 use Rattle.bt_halting.proofs.Halting.{halt_ended, halt_stopped, idle_met, reset_of_running}
 use Rattle.bt_nodes.proofs.Following.{stops_with}
 use Rattle.bt_halting.proofs.Turns.{no_turn, not_turned, turn, turned}
-use Rattle.bt_halting.proofs.Within.{all_there, beside_idle, beside_more, beside_none, kept_there, node_there, running_above, running_below, running_idle, size_is}
+use Rattle.bt_halting.proofs.Within.{all_there, beside_idle, beside_more, beside_node, beside_none, kept_there, node_there, running_above, running_below, running_idle, size_is}
 use Rattle.bt_halting.proofs.resetting.+resetting.Goals as goal
 
 pub halt_node-returns-in_err-reset_children-clause-meets : goal.halt_node-returns-in_err-reset_children-clause-meets
@@ -34,10 +33,8 @@ halt_node-returns-clause-meets g t c = λ term view facts moment fits.
 pub halt_node-returns-clause-beside : goal.halt_node-returns-clause-beside
 halt_node-returns-clause-beside g t c =
     let f = c.requires.fits in
-    let size = size_is f.0 f.1 c.args.uid c.args.nodes.now _ f.3 in
-    beside_more c.args.uid _ c.args.uid 1 c.args.kept.now c.reset_children.new.kept c.end_halt.new.kept (omega arith) (omega (arith, size))
-    (beside_more c.args.uid _ (c.args.uid + 1) _ c.args.kept.now c.args.kept.now c.reset_children.new.kept (omega arith) (omega (arith, size)) (beside_none _ _ _) c.reset_children.ensures.beside)
-    c.end_halt.ensures.beside
+    let some : 1 ≤ (node_at c.args.nodes.now c.args.uid).size = omega (arith, size_is f.0 f.1 c.args.uid c.args.nodes.now _ f.3) in
+    beside_node c.args.uid (node_at c.args.nodes.now c.args.uid).size c.args.kept.now c.reset_children.new.kept c.end_halt.new.kept some c.reset_children.ensures.beside c.end_halt.ensures.beside
 
 pub reset_children-overflow_add-child : goal.reset_children-overflow_add-child
 reset_children-overflow_add-child g t c =
