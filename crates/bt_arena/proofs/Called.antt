@@ -1,23 +1,20 @@
 -- A call of a leaf's driver changes one instance of an arena, and every leaf is served as before.
-use Rattle.std.proofs.Common.{◌≡◌, ◌≢◌, ◌⊎◌, inl, inr, ℕ, ◌+◌, ◌<◌, ◌≤◌, List, [], ◌∷◌, ◌++◌, Bool, map, length, get_or, set, Option, Some, None, refl, sym, ap, subst, ◌∙◌, arith}
+use Rattle.std.proofs.Common.{◌≡◌, ◌≢◌, inl, inr, ℕ, ◌<◌, List, [], ◌∷◌, ◌++◌, map, length, get_or, set, Option, Some, None, refl, sym, ap, subst, ◌∙◌, arith}
 use Rattle.std.proofs.lemmas.Bool.{cases_eq, cases_lt}
 use Rattle.std.proofs.lemmas.List.{get_or-set_same, get_or-set_other, get_or_default, length-map, length-set, map-set, same_lists}
 use Rattle.std.proofs.Math.ListN.{get_or-map}
 use Rattle.std.proofs.Math.Seq.{map-set_same, set_out}
-use Rattle.bt_model.specs.declared.leaf.DriverKind.{DriverKind}
 use Rattle.bt_model.specs.declared.leaf.DriverKind.TheVariants as driver
 use Rattle.bt_model.specs.declared.leaf.Instance.{Instance}
 use Rattle.bt_model.specs.declared.leaf.Phase.{Phase}
-use Rattle.bt_model.specs.declared.leaf.Phase.TheVariants as phase
 use Rattle.bt_model.specs.Done.{Call}
 use Rattle.bt_model.specs.Drivers.{DriverState, IsThere, after_call, driver_at, instance_at, instance_of, is_held, new_driver, roster_called}
 use Rattle.bt_model.specs.Leaf.{fresh}
-use Rattle.bt_driver.specs.Rules.{rule}
 use Rattle.bt_arena.specs.declared.nodes.Kept.{Kept}
 use Rattle.bt_arena.specs.declared.nodes.Node.{Node}
 use Rattle.bt_arena.specs.declared.nodes.ReadyLeaf.{ReadyLeaf}
-use Rattle.bt_arena.specs.Nodes.{at_rest, kept_at, leaf_at, nobody, node_at}
-use Rattle.bt_arena.specs.Rosters.{AreServed, IsServed, instances_of, leaf_called, leaf_instance, roster_after}
+use Rattle.bt_arena.specs.Nodes.{at_rest, kept_at, leaf_at, nobody}
+use Rattle.bt_arena.specs.Rosters.{AreServed, instances_of, leaf_called, leaf_instance, roster_after}
 use Rattle.bt_arena.specs.Scenes.{marks_of}
 
 -- ---- one driver

@@ -1,7 +1,6 @@
 -- A term's memory is that of its own nodes, and a change of one child changes that child's memory alone.
 use Rattle.std.proofs.Common.{◌≡◌, ℕ, zero, suc, ◌+◌, ◌<◌, ◌≤◌, List, [], ◌∷◌, map, length, take, sum_by, get_or, set, refl, sym, ap, subst, ◌∙◌, arith}
 use Rattle.std.proofs.lemmas.List.Sums.{sum_by-cons}
-use Rattle.bt_model.specs.declared.memory.Memo.{Memo}
 use Rattle.bt_model.specs.declared.memory.Memo.TheVariants.{Nothing}
 use Rattle.bt_model.specs.declared.memory.Memory.{Memory}
 use Rattle.bt_model.specs.declared.status.Status.TheVariants.{Idle}
@@ -10,7 +9,7 @@ use Rattle.bt_model.specs.Sites.{Meaning, memory_at, remembered, sizes}
 use Rattle.bt_model.specs.Visit.{idle, meaning, meaning_of_node}
 use Rattle.bt_arena.specs.declared.nodes.Kept.{Kept}
 use Rattle.bt_arena.specs.Nodes.{at_rest, kept_at}
-use Rattle.bt_arena.specs.Stands.{Beside, IsKeptAlike, Reading, memories, memories_of, memory_of, reading, reading_of_node, uid_of}
+use Rattle.bt_arena.specs.Stands.{Beside, IsKeptAlike, Reading, memories_of, memory_of, reading, reading_of_node, uid_of}
 
 -- ---- sizes
 

@@ -1,17 +1,14 @@
 -- A term in an arena, opened: its node, and its children behind it.
-use Rattle.std.proofs.Common.{◌≡◌, ℕ, zero, suc, ◌+◌, ◌<◌, List, [], ◌∷◌, map, length, sum_by, get_or, refl, sym, ap, subst, ◌∙◌, arith}
+use Rattle.std.proofs.Common.{◌≡◌, ℕ, ◌+◌, ◌<◌, List, [], ◌∷◌, map, length, refl, sym, ap, subst, ◌∙◌}
 use Rattle.std.proofs.lemmas.List.{length-map}
-use Rattle.std.proofs.lemmas.List.Sums.{sum_by-cons}
-use Rattle.bt_model.specs.declared.memory.Memory.{Memory}
-use Rattle.bt_model.specs.declared.term.Term.{Term, Term-F, ind-Term, fold_out-Term, fold-roll-Term, out-Term, roll-Term, roll-out-Term}
+use Rattle.bt_model.specs.declared.term.Term.{Term, Term-F, fold_out-Term, out-Term, roll-Term, roll-out-Term}
 use Rattle.bt_model.specs.declared.term.Term.TheFolds.{map-Term, rec-roll-Term}
 use Rattle.bt_model.specs.Sites.{Meaning, View, remembered, sizes}
-use Rattle.bt_model.specs.Trees.{Node as TreeNode}
-use Rattle.bt_model.specs.Visit.{idle, meaning, meaning_of_node}
+use Rattle.bt_model.specs.Visit.{meaning, meaning_of_node}
 use Rattle.bt_arena.specs.declared.nodes.Kept.{Kept}
 use Rattle.bt_arena.specs.declared.nodes.Node.{Node}
 use Rattle.bt_arena.specs.Nodes.{IsNode, kept_at, node_at}
-use Rattle.bt_arena.specs.Stands.{Reading, Standing, StandInOrder, StandAll, Stands, memories, memories_of, memory_of, node_stands, reading, reading_of_node, view_under, written}
+use Rattle.bt_arena.specs.Stands.{Reading, Standing, StandInOrder, Stands, memories_of, memory_of, node_stands, reading_of_node, view_under, written}
 
 pub map_twice : {A B C : Type 0} (f : A → B) (g : B → C) (xs : List A) → map (λ x. g (f x)) xs ≡ map g (map f xs)
 map_twice f g [] = refl

@@ -1,8 +1,12 @@
 pub mod Ends
 pub mod Joins
+pub mod Laying
+pub mod Made
 pub mod Nodes
 pub mod Noted
+pub mod Resolving
 pub mod Rosters
+pub mod Rows
 pub mod Scenes
 pub mod Sources
 pub mod Stands

@@ -23,7 +23,6 @@ use Rattle.bt_arena.specs.declared.nodes.Kept.{Kept}
 use Rattle.bt_arena.specs.declared.nodes.Node.{Node}
 use Rattle.bt_arena.specs.declared.nodes.ReadyGuards.{ReadyGuards}
 use Rattle.bt_arena.specs.declared.nodes.ReadyLeaf.{ReadyLeaf}
-use Rattle.bt_arena.specs.declared.source.Source.{Source}
 use Rattle.bt_arena.specs.Sources.{IsSourceOf, slot_in_view, source_at}
 
 -- ---- Places

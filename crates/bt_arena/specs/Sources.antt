@@ -1,5 +1,5 @@
 -- What the ports of a node are given, with their keys resolved.
-use Rattle.std.specs.Prelude.{ℕ, ◌<◌, List, map, Option, Some, None, slice_index_or}
+use Rattle.std.specs.Prelude.{ℕ, ◌<◌, List, Option, Some, None, slice_index_or}
 use Rattle.bt_script.specs.declared.value.Value.{Value}
 use Rattle.bt_model.specs.declared.term.Port.{Port}
 use Rattle.bt_model.specs.declared.term.PortValue.{PortValue}

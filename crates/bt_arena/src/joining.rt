@@ -1,28 +1,181 @@
-ghost use Rattle.std.specs.Prelude.{◌≡◌, ◌≤◌, ◌+◌, ℕ, IfOk, length, replicate};
+ghost use Rattle.std.specs.Prelude.{◌≡◌, ◌<◌, ◌≤◌, ◌+◌, ◌-◌, ◌*◌, ◌++◌, ℕ, Some, None, IfOk, OnOk, length, map, replicate};
+ghost use Rattle.std.specs.Str.{bytes_eq};
+ghost use Rattle.indexmap.specs.IndexMap.{get};
+ghost use Rattle.bt_model.specs.declared.term.Term.{out-Term};
 ghost use Rattle.bt_model.specs.Boards.{slot_table};
-ghost use Rattle.bt_model.specs.Run.{root_view};
-ghost use Rattle.bt_model.specs.Terms.{leaf_ids, node_count};
+ghost use Rattle.bt_model.specs.Leaves.{row_of};
+ghost use Rattle.bt_model.specs.Terms.{leaf_ids, own_leaf_id};
 ghost use Rattle.bt_model.specs.Trees.{IsValid};
 ghost use Rattle.bt_model.specs.Worlds.{IsValidWorld};
-ghost use Rattle.bt_arena.specs.Joins.{Joins, first_lack, leaves_served};
-ghost use Rattle.bt_arena.specs.Nodes.{at_rest};
-ghost use Rattle.bt_arena.specs.Rosters.{AreNumbered, served};
-ghost use Rattle.bt_arena.specs.Stands.{Stands};
+ghost use Rattle.bt_arena.specs.Joins.{Joins, first_lack, leaf_lacks, place_by};
+ghost use Rattle.bt_arena.specs.Laying.{counted_all};
+ghost use Rattle.bt_arena.specs.Nodes.{at_rest as rested};
+ghost use Rattle.bt_arena.specs.Made.{IsArenaOf};
+ghost use Rattle.bt_arena.specs.Rows.{Finds};
 
 use crate::arena::Arena;
 use crate::join_fault::JoinFault;
+use crate::laying::nodes_of;
+use crate::leaves::next_instance;
+use crate::nodes::Kept;
+use crate::resolving::Setting;
+use crate::rows::{index_of, row_named};
 use bt_board::Slots;
-use bt_driver::Drivers;
-use bt_model::{Tree, World};
-use bt_script::Stop;
+use bt_driver::{Drivers, kind_of};
+use bt_model::{Kind, Memo, Status, Term, Tree, World};
+use bt_script::{Name, NoMemory, Stop};
+use indexmap::IndexMap;
 use std::alloc::Global;
+
+/// Adds the ID of a node that is a leaf.
+fn add_own_id(alloc: Global, node: &Term, ids: &mut Vec<Name>) -> Result<(), NoMemory>
+    ensures { OnOk result (ids.new.items ≡ ids.old.items ++ own_leaf_id (out-Term node.now).kind (out-Term node.now).id) }
+{
+    match node.kind {
+        Kind::Leaf => {
+            ids.push(node.id.copy(alloc)?)?;
+            Ok(())
+        }
+        _ => Ok(()),
+    }
+}
+
+/// Adds the IDs of the leaves of a term, in pre-order.
+fn add_ids(alloc: Global, term: &Term, ids: &mut Vec<Name>) -> Result<(), NoMemory>
+    ensures { OnOk result (ids.new.items ≡ ids.old.items ++ leaf_ids term.now) }
+{
+    add_own_id(alloc, term, ids)?;
+    for child in term.children.list() {
+        add_ids(alloc, child, ids)?;
+    }
+    Ok(())
+}
+
+/// The place of the driver that serves the leaves of an ID, or what they lack.
+fn place_of<D: Drivers>(
+    alloc: Global,
+    id: &Name,
+    world: &World,
+    rows: &IndexMap<Name, u32>,
+    drivers: &D,
+) -> Result<usize, Stop<JoinFault>>
+    requires { Finds world.now.rows (get bytes_eq rows.now) }
+    ensures fault { Joins result (leaf_lacks world.now.rows (D.states drivers.now) id.now) }
+    ensures place { IfOk result (λ place. place_by (row_of world.now.rows id.now) (D.states drivers.now) ≡ Some place) }
+{
+    match row_named(world.rows.list(), rows, id) {
+        Some(row) => {
+            let kind = kind_of(row);
+            match drivers.place_of(kind) {
+                Some(place) => Ok(place),
+                None => Err(Stop::Fault(JoinFault::NoDriver { kind })),
+            }
+        }
+        None => {
+            let id = id.copy(alloc)?;
+            Err(Stop::Fault(JoinFault::NoRow { id }))
+        }
+    }
+}
+
+/// How many of the leaves of these IDs each driver serves, or what the first of them lacks that lacks
+/// anything.
+fn counts_of<D: Drivers>(
+    alloc: Global,
+    ids: &[Name],
+    world: &World,
+    rows: &IndexMap<Name, u32>,
+    drivers: &D,
+) -> Result<Vec<u32>, Stop<JoinFault>>
+    requires { Finds world.now.rows (get bytes_eq rows.now) }
+    ensures fault { Joins result (first_lack world.now.rows (D.states drivers.now) ids.now) }
+    ensures counts { IfOk result (λ counts. counts.items ≡ counted_all world.now (D.states drivers.now) ids.now (replicate (length (D.states drivers.now)) 0)) }
+{
+    let mut counts = vec![in alloc; 0u32; drivers.count()]?;
+    for id in ids {
+        let place = place_of(alloc, id, world, rows, drivers)?;
+        next_instance(&mut counts, place)?;
+    }
+    Ok(counts)
+}
+
+/// The first instances of a runner at each driver, behind those of the runners before it.
+fn firsts_of(alloc: Global, counts: &[u32], runner: u8) -> Result<Vec<u32>, NoMemory>
+    requires { 1 ≤ runner }
+    ensures { IfOk result (λ firsts. firsts.items ≡ map (λ count. (runner - 1) * count) counts.now) }
+{
+    let before = u32::from(runner) - 1;
+    let mut firsts = Vec::new(alloc);
+    for count in counts {
+        match before.checked_mul(*count) {
+            Some(first) => firsts.push(first)?,
+            None => return Err(NoMemory),
+        }
+    }
+    Ok(firsts)
+}
+
+/// What so many nodes keep before their first visit.
+fn at_rest(alloc: Global, count: usize) -> Result<Vec<Kept>, NoMemory>
+    ensures { IfOk result (λ kept. kept.items ≡ replicate count rested) }
+{
+    let rest = Kept {
+        status: Status::Idle,
+        memo: Memo::Nothing,
+        held: false,
+    };
+    Ok(vec![in alloc; rest; count]?)
+}
+
+/// The same for the leaves of a term.
+fn totals_of<D: Drivers>(
+    alloc: Global,
+    term: &Term,
+    world: &World,
+    rows: &IndexMap<Name, u32>,
+    drivers: &D,
+) -> Result<Vec<u32>, Stop<JoinFault>>
+    requires { Finds world.now.rows (get bytes_eq rows.now) }
+    ensures fault { Joins result (first_lack world.now.rows (D.states drivers.now) (leaf_ids term.now)) }
+    ensures counts { IfOk result (λ counts. counts.items ≡ counted_all world.now (D.states drivers.now) (leaf_ids term.now) (replicate (length (D.states drivers.now)) 0)) }
+{
+    let mut ids = Vec::new(alloc);
+    add_ids(alloc, term, &mut ids)?;
+    counts_of(alloc, ids.as_slice(), world, rows, drivers)
+}
+
+/// The arena of a runner, where each driver serves so many leaves of the tree.
+fn arena_with<D: Drivers>(
+    alloc: Global,
+    setting: &Setting,
+    drivers: &D,
+    counts: &[u32],
+    runner: u8,
+) -> Result<Arena, NoMemory>
+    requires tree { IsValid setting.now.tree.now }
+    requires world { IsValidWorld setting.now.world.now }
+    requires found { Finds setting.now.world.now.rows (get bytes_eq setting.now.rows.now) }
+    requires joined { first_lack setting.now.world.now.rows (D.states drivers.now) (leaf_ids setting.now.tree.now.term) ≡ None }
+    requires counts { counts.now ≡ counted_all setting.now.world.now (D.states drivers.now) (leaf_ids setting.now.tree.now.term) (replicate (length (D.states drivers.now)) 0) }
+    requires first { 1 ≤ runner }
+    ensures { IfOk result (λ arena. IsArenaOf setting.now.tree.now setting.now.world.now (D.states drivers.now) runner arena) }
+{
+    let mut next = firsts_of(alloc, counts, runner)?;
+    let nodes = nodes_of(alloc, setting, drivers, &mut next)?;
+    let kept = at_rest(alloc, nodes.len())?;
+    Ok(Arena {
+        runner,
+        nodes,
+        kept,
+    })
+}
 
 /// Makes the arena of a runner of a world for a tree with its slots: each node stands with what its
 /// visits need, and keeps nothing yet. A leaf has the first driver of its row's kind; its instance is
 /// numbered by runner, then by uid, among the leaves that this driver serves. The fault is that of the
 /// first leaf in pre-order that has no row, or whose row has no driver.
 pub fn arena_of<D: Drivers>(
-    _alloc: Global,
+    alloc: Global,
     tree: &Tree,
     slots: &Slots,
     world: &World,
@@ -35,12 +188,15 @@ pub fn arena_of<D: Drivers>(
     requires first { 1 ≤ runner }
     requires last { runner ≤ world.now.runners }
     ensures fault { Joins result (first_lack world.now.rows (D.states drivers.now) (leaf_ids tree.now.term)) }
-    ensures runner { IfOk result (λ arena. arena.runner ≡ runner) }
-    ensures stands { IfOk result (λ arena. Stands tree.now.term arena.nodes.items (root_view tree.now world.now) 1) }
-    ensures size { IfOk result (λ arena. length arena.nodes.items ≡ 1 + node_count tree.now.term) }
-    ensures kept { IfOk result (λ arena. arena.kept.items ≡ replicate (1 + node_count tree.now.term) at_rest) }
-    ensures numbered { IfOk result (λ arena. AreNumbered (D.states drivers.now) runner arena.nodes.items) }
-    ensures served { IfOk result (λ arena. (place : ℕ) → served place arena.nodes.items ≡ leaves_served world.now.rows (D.states drivers.now) place (leaf_ids tree.now.term)) }
+    ensures arena { IfOk result (λ arena. IsArenaOf tree.now world.now (D.states drivers.now) runner arena) }
 {
-    Err(Stop::NoMemory)
+    let rows = index_of(alloc, world.rows.list())?;
+    let counts = totals_of(alloc, &tree.term, world, &rows, drivers)?;
+    let setting = Setting {
+        tree,
+        slots,
+        world,
+        rows: &rows,
+    };
+    Ok(arena_with(alloc, &setting, drivers, counts.as_slice(), runner)?)
 }

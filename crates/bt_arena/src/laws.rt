@@ -1,16 +1,16 @@
-ghost use Rattle.std.specs.Prelude.{◌≡◌, ◌↔◌, ℕ, ◌+◌, ◌<◌, ◌≤◌, ◌++◌, List, Some, length, map, slice_index_or, slice_set};
+ghost use Rattle.std.specs.Prelude.{◌≡◌, ◌↔◌, ℕ, ◌+◌, ◌*◌, ◌<◌, ◌≤◌, ◌++◌, List, Some, length, map, slice_index_or, slice_set};
 ghost use Rattle.bt_model.specs.declared.leaf.Instance.{Instance};
 ghost use Rattle.bt_model.specs.declared.leaf.Phase.{Phase};
 ghost use Rattle.bt_model.specs.declared.term.Term.{Term, out-Term};
 ghost use Rattle.bt_model.specs.Done.{Call};
-ghost use Rattle.bt_model.specs.Drivers.{DriverState, is_held, roster_called};
+ghost use Rattle.bt_model.specs.Drivers.{DriverState, is_held, roster_called, roster_prepared};
 ghost use Rattle.bt_model.specs.Sites.{View, memory_at, remembered};
 ghost use Rattle.bt_model.specs.Visit.{idle, meaning};
 ghost use Rattle.bt_arena.specs.declared.nodes.Kept.{Kept};
 ghost use Rattle.bt_arena.specs.declared.nodes.Node.{Node};
 ghost use Rattle.bt_arena.specs.declared.nodes.ReadyLeaf.{ReadyLeaf};
 ghost use Rattle.bt_arena.specs.Nodes.{at_rest, kept_at, leaf_at};
-ghost use Rattle.bt_arena.specs.Rosters.{AreServed, instances_of, roster_after};
+ghost use Rattle.bt_arena.specs.Rosters.{AreNumbered, AreServed, instances_of, roster_after, served};
 ghost use Rattle.bt_arena.specs.Scenes.{marks_of};
 ghost use Rattle.bt_arena.specs.Stands.{Beside, IsKeptAlike, Stands, memories_of, memory_of, node_stands, uid_of};
 
@@ -47,4 +47,12 @@ pub fn calls_change_one_instance()
         marks_of (slice_set kept uid now) ≡ map is_held (instances_of nodes (roster_called drivers leaf.driver phase leaf.instance left)) }
     ensures both { (nodes : List Node) (xs ys : List Call) (drivers : List DriverState) →
         roster_after nodes (xs ++ ys) drivers ≡ roster_after nodes ys (roster_after nodes xs drivers) }
+{}
+
+/// Where the drivers were prepared for as many instances as all runners need, each leaf of a runner's
+/// arena is served, and has an instance of its own.
+pub fn numbered_leaves_are_served()
+    ensures { (drivers : List DriverState) (nodes : List Node) (counts : List ℕ) (runner runners : ℕ) → AreNumbered drivers runner nodes → 1 ≤ runner → runner ≤ runners →
+        length counts ≡ length drivers → ((p : ℕ) → p < length drivers → slice_index_or counts p 0 ≡ runners * served p nodes) →
+        AreServed (roster_prepared drivers counts) nodes }
 {}

@@ -6,8 +6,13 @@ mod arena;
 mod join_fault;
 mod joining;
 pub mod laws;
+mod laying;
+mod leaves;
 mod nodes;
 mod notes;
+mod ports;
+mod resolving;
+mod rows;
 mod source;
 
 pub use arena::{

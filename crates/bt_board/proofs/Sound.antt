@@ -171,3 +171,23 @@ module _ (tree : Tree) where
       let found = all_found 1 whole in_order in
       let leads : leads_to whole 0 ≡ main_scope = ap scope_made (none_makes 0 whole (all_above 0 1 whole (omega arith) in_order)) in
       nodes_named whole (sound whole tree.term 1 0 main_scope found leads) found
+
+  -- the number 0 leads to the main scope
+  pub main_leads : scope_of tree 0 ≡ main_scope
+  main_leads = ap scope_made (none_makes 0 (standing tree) (all_above 0 1 (standing tree) (omega arith) (numbered tree.term 1 0 main_scope)))
+
+  -- each node stands in the scope to which its number leads
+  pub standings_sound : AllByRecursion (λ node. scope_of tree node.number ≡ node.scope) (standing tree)
+  standings_sound =
+      let whole = standing tree in
+      let in_order = numbered tree.term 1 0 main_scope in
+      sound whole tree.term 1 0 main_scope (all_found 1 whole in_order) main_leads
+
+  makes_found : (nodes : List Standing) → AllByRecursion (IsFound (standing tree)) nodes
+      → AllByRecursion (λ node. makes_scope node.kind ≡ true → scope_of tree node.uid ≡ scope_below node.uid node.ports node.autoremap node.scope) nodes
+  makes_found [] found = tt
+  makes_found (node ∷ nodes) found = ((λ is. ap scope_made (found.0 is)), makes_found nodes found.1)
+
+  -- the uid of a node that makes a scope leads to it
+  pub standings_make : AllByRecursion (λ node. makes_scope node.kind ≡ true → scope_of tree node.uid ≡ scope_below node.uid node.ports node.autoremap node.scope) (standing tree)
+  standings_make = makes_found (standing tree) (all_found 1 (standing tree) (numbered tree.term 1 0 main_scope))

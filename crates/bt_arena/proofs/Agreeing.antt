@@ -1,0 +1,144 @@
+-- A script means the same over two maps of names to slots that agree on its names.
+use Rattle.std.proofs.Common.{◌≡◌, ℕ, ◌+◌, max, pos, List, [], ◌∷◌, ◌++◌, map, sum, refl, sym, ap, subst, ◌∙◌}
+use Rattle.std.specs.Prelude.{Option, Result}
+use Rattle.std.specs.List.{All, flat_map}
+use Rattle.std.proofs.lemmas.List.Elements.{All-head, All-tail}
+use Rattle.bt_script.specs.declared.fault.ExecFault.{ExecFault}
+use Rattle.bt_script.specs.declared.syntax.Expr.{Expr, ind-Expr, map-Expr, fold-roll-Expr}
+use Rattle.bt_script.specs.declared.syntax.Expr.TheOpen.{Expr-F, Num, Lit, Look, Group, Unary, Binary, Choose}
+use Rattle.bt_script.specs.declared.syntax.Stmt.{Stmt}
+use Rattle.bt_script.specs.declared.syntax.Stmt.TheVariants.{Create, Assign, Change, Plain}
+use Rattle.bt_script.specs.declared.value.Value.{Value}
+use Rattle.bt_script.specs.declared.value.Value.TheVariants.{Int}
+use Rattle.bt_script.specs.Entries.{entry_of}
+use Rattle.bt_script.specs.Evaluation.{eval_of, eval_step, followed, if_there, stmt_of, stmts_of, written}
+use Rattle.bt_script.specs.Grammar.{expr_of}
+use Rattle.bt_script.specs.Numbers.{greatest}
+use Rattle.bt_script.specs.Operators.{chosen, combined, unary_on}
+use Rattle.bt_script.specs.Results.{◌>>=◌}
+use Rattle.bt_script.specs.Scripts.{names_of, names_step, stmt_names, texts_of}
+use Rattle.bt_script_code.specs.Programs.{program_of}
+use Rattle.bt_script_code.specs.Sources.{reach_of, reach_step, stmt_reach}
+use Rattle.bt_arena.proofs.Parts.{All-left, All-right}
+
+module _ (f g : List ℕ → ℕ) where
+  abbrev pub Agree : List (List ℕ) → Type 0
+  Agree names = All (λ name. f name ≡ g name) names
+
+  module _ (look : ℕ → Result Value ExecFault) where
+    abbrev value_f : Expr → Result Value ExecFault
+    value_f = eval_of (λ name. look (f name))
+
+    abbrev value_g : Expr → Result Value ExecFault
+    value_g = eval_of (λ name. look (g name))
+
+    abbrev SameValue : Expr → Type 0
+    SameValue e = Agree (names_of e) → value_f e ≡ value_g e
+
+    -- a layer, where it holds of the parts
+    value_at : (y : Expr-F ((e : Expr) × SameValue e)) →
+        Agree (names_step (map-Expr Expr (List (List ℕ)) names_of (map-Expr ((e : Expr) × SameValue e) Expr (λ e. e.0) y))) →
+        eval_step (λ name. look (f name)) (map-Expr Expr (Result Value ExecFault) value_f (map-Expr ((e : Expr) × SameValue e) Expr (λ e. e.0) y))
+        ≡ eval_step (λ name. look (g name)) (map-Expr Expr (Result Value ExecFault) value_g (map-Expr ((e : Expr) × SameValue e) Expr (λ e. e.0) y))
+    value_at (Num n) agree = refl
+    value_at (Lit t) agree = refl
+    value_at (Look name) agree = ap look (All-head (λ name. f name ≡ g name) name [] agree)
+    value_at (Group a) agree = a.1 agree
+    value_at (Unary op a) agree = ap (λ (r : Result Value ExecFault). r >>= unary_on op) (a.1 agree)
+    value_at (Binary op a b) agree =
+        let first = a.1 (All-left (λ name. f name ≡ g name) (names_of a.0) (names_of b.0) agree) in
+        let second = b.1 (All-right (λ name. f name ≡ g name) (names_of a.0) (names_of b.0) agree) in
+        λ i. combined op (first i) (second i)
+    value_at (Choose a b c) agree =
+        let front = All-left (λ name. f name ≡ g name) (names_of a.0 ++ names_of b.0) (names_of c.0) agree in
+        let first = a.1 (All-left (λ name. f name ≡ g name) (names_of a.0) (names_of b.0) front) in
+        let second = b.1 (All-right (λ name. f name ≡ g name) (names_of a.0) (names_of b.0) front) in
+        let third = c.1 (All-right (λ name. f name ≡ g name) (names_of a.0 ++ names_of b.0) (names_of c.0) agree) in
+        λ i. chosen (first i) (second i) (third i)
+
+    same_value : (e : Expr) → SameValue e
+    same_value = ind-Expr SameValue (λ x y is agree.
+        fold-roll-Expr (Result Value ExecFault) (eval_step (λ name. look (f name))) x
+        ∙ subst (λ (z : Expr-F Expr). Agree (names_step (map-Expr Expr (List (List ℕ)) names_of z)) →
+        eval_step (λ name. look (f name)) (map-Expr Expr (Result Value ExecFault) value_f z) ≡ eval_step (λ name. look (g name)) (map-Expr Expr (Result Value ExecFault) value_g z)) is (value_at y)
+        (subst Agree (fold-roll-Expr (List (List ℕ)) names_step x) agree)
+        ∙ sym (fold-roll-Expr (Result Value ExecFault) (eval_step (λ name. look (g name))) x))
+
+  abbrev SameReach : Expr → Type 0
+  SameReach e = Agree (names_of e) → reach_of f e ≡ reach_of g e
+
+  reach_at : (y : Expr-F ((e : Expr) × SameReach e)) →
+      Agree (names_step (map-Expr Expr (List (List ℕ)) names_of (map-Expr ((e : Expr) × SameReach e) Expr (λ e. e.0) y))) →
+      reach_step f (map-Expr Expr ℕ (reach_of f) (map-Expr ((e : Expr) × SameReach e) Expr (λ e. e.0) y))
+      ≡ reach_step g (map-Expr Expr ℕ (reach_of g) (map-Expr ((e : Expr) × SameReach e) Expr (λ e. e.0) y))
+  reach_at (Num n) agree = refl
+  reach_at (Lit t) agree = refl
+  reach_at (Look name) agree = ap (λ n. n + 1) (All-head (λ name. f name ≡ g name) name [] agree)
+  reach_at (Group a) agree = a.1 agree
+  reach_at (Unary op a) agree = a.1 agree
+  reach_at (Binary op a b) agree =
+      let first = a.1 (All-left (λ name. f name ≡ g name) (names_of a.0) (names_of b.0) agree) in
+      let second = b.1 (All-right (λ name. f name ≡ g name) (names_of a.0) (names_of b.0) agree) in
+      λ i. max (first i) (second i)
+  reach_at (Choose a b c) agree =
+      let front = All-left (λ name. f name ≡ g name) (names_of a.0 ++ names_of b.0) (names_of c.0) agree in
+      let first = a.1 (All-left (λ name. f name ≡ g name) (names_of a.0) (names_of b.0) front) in
+      let second = b.1 (All-right (λ name. f name ≡ g name) (names_of a.0) (names_of b.0) front) in
+      let third = c.1 (All-right (λ name. f name ≡ g name) (names_of a.0 ++ names_of b.0) (names_of c.0) agree) in
+      λ i. max (first i) (max (second i) (third i))
+
+  same_reach : (e : Expr) → SameReach e
+  same_reach = ind-Expr SameReach (λ x y is agree.
+      fold-roll-Expr ℕ (reach_step f) x
+      ∙ subst (λ (z : Expr-F Expr). Agree (names_step (map-Expr Expr (List (List ℕ)) names_of z)) → reach_step f (map-Expr Expr ℕ (reach_of f) z) ≡ reach_step g (map-Expr Expr ℕ (reach_of g) z)) is (reach_at y)
+      (subst Agree (fold-roll-Expr (List (List ℕ)) names_step x) agree)
+      ∙ sym (fold-roll-Expr ℕ (reach_step g) x))
+
+  same_stmt : (s : Stmt) (entries : List (Option Value)) → Agree (stmt_names s) → stmt_of f s entries ≡ stmt_of g s entries
+  same_stmt (Create name e) entries agree =
+      let here = All-head (λ name. f name ≡ g name) name (names_of e) agree in
+      let value = same_value (entry_of entries) e (All-tail (λ name. f name ≡ g name) name (names_of e) agree) in
+      λ i. written (here i) entries (value i)
+  same_stmt (Assign name e) entries agree =
+      let here = All-head (λ name. f name ≡ g name) name (names_of e) agree in
+      let value = same_value (entry_of entries) e (All-tail (λ name. f name ≡ g name) name (names_of e) agree) in
+      λ i. written (here i) entries (if_there (here i) entries (value i))
+  same_stmt (Change op name e) entries agree =
+      let here = All-head (λ name. f name ≡ g name) name (names_of e) agree in
+      let value = same_value (entry_of entries) e (All-tail (λ name. f name ≡ g name) name (names_of e) agree) in
+      λ i. written (here i) entries (if_there (here i) entries (combined op (entry_of entries (here i)) (value i)))
+  same_stmt (Plain e) entries agree = λ i. record { answer = same_value (entry_of entries) e agree i; entries = entries }
+
+  same_stmts : (last : Value) (stmts : List Stmt) (entries : List (Option Value)) → Agree (flat_map stmt_names stmts) → stmts_of f last stmts entries ≡ stmts_of g last stmts entries
+  same_stmts last [] entries agree = refl
+  same_stmts last (s ∷ stmts) entries agree =
+      let first = same_stmt s entries (All-left (λ name. f name ≡ g name) (stmt_names s) (flat_map stmt_names stmts) agree) in
+      let rest = All-right (λ name. f name ≡ g name) (stmt_names s) (flat_map stmt_names stmts) agree in
+      λ i. followed (first i).answer (first i).entries (λ value left. same_stmts value stmts left rest i)
+
+  same_stmt_reach : (s : Stmt) → Agree (stmt_names s) → stmt_reach f s ≡ stmt_reach g s
+  same_stmt_reach (Create name e) agree =
+      let here = All-head (λ name. f name ≡ g name) name (names_of e) agree in
+      let rest = same_reach e (All-tail (λ name. f name ≡ g name) name (names_of e) agree) in λ i. max (here i + 1) (rest i)
+  same_stmt_reach (Assign name e) agree =
+      let here = All-head (λ name. f name ≡ g name) name (names_of e) agree in
+      let rest = same_reach e (All-tail (λ name. f name ≡ g name) name (names_of e) agree) in λ i. max (here i + 1) (rest i)
+  same_stmt_reach (Change op name e) agree =
+      let here = All-head (λ name. f name ≡ g name) name (names_of e) agree in
+      let rest = same_reach e (All-tail (λ name. f name ≡ g name) name (names_of e) agree) in λ i. max (here i + 1) (rest i)
+  same_stmt_reach (Plain e) agree = same_reach e agree
+
+  same_reaches : (stmts : List Stmt) → Agree (flat_map stmt_names stmts) → greatest (map (stmt_reach f) stmts) ≡ greatest (map (stmt_reach g) stmts)
+  same_reaches [] agree = refl
+  same_reaches (s ∷ stmts) agree =
+      let first = same_stmt_reach s (All-left (λ name. f name ≡ g name) (stmt_names s) (flat_map stmt_names stmts) agree) in
+      let rest = same_reaches stmts (All-right (λ name. f name ≡ g name) (stmt_names s) (flat_map stmt_names stmts) agree) in
+      λ i. max (first i) (rest i)
+
+  -- the statements of a script
+  pub same_program : (stmts : List Stmt) → Agree (flat_map stmt_names stmts) → program_of f stmts ≡ program_of g stmts
+  same_program stmts agree = λ i. record {
+    run = λ entries. same_stmts (Int (pos 0)) stmts entries agree i;
+    reach = same_reaches stmts agree i;
+    texts = sum (map (λ (s : Stmt). texts_of (expr_of s)) stmts);
+  }

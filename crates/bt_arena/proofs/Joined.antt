@@ -1,0 +1,59 @@
+-- What a leaf that lacks nothing has: a row of the world, which can be made ready, and a place of a driver.
+use Rattle.std.proofs.Common.{◌≡◌, ℕ, ◌+◌, ◌<◌, List, [], ◌∷◌, Bool, true, false, cond, if◌then◌else◌, Option, Some, None, length, subst, arith}
+use Rattle.std.specs.Prelude.{IfSome, find}
+use Rattle.std.specs.List.{All}
+use Rattle.std.specs.Option.{option_map}
+use Rattle.std.specs.Str.{bytes_eq}
+use Rattle.std.proofs.lemmas.List.{length-map}
+use Rattle.std.proofs.lemmas.List.Elements.{All-head, All-tail}
+use Rattle.bt_model.specs.declared.leaf.DriverKind.{DriverKind}
+use Rattle.bt_model.specs.declared.world.Fact.{Fact}
+use Rattle.bt_model.specs.declared.world.Row.{Row}
+use Rattle.bt_model.specs.declared.world.World.{World}
+use Rattle.bt_model.specs.Drivers.{DriverState, kind_of_row, place_of_kind, same_kind}
+use Rattle.bt_model.specs.Leaves.{row_of}
+use Rattle.bt_model.specs.Worlds.{IsValidRow, IsValidWorld}
+use Rattle.bt_driver.proofs.Valid.{can_be_ready}
+use Rattle.bt_driver.specs.Places.{CanBeReady}
+use Rattle.bt_arena.specs.Joins.{place_by}
+
+abbrev IsBelow : ℕ → Option ℕ → Type 0
+IsBelow n (Some k) = k < n
+IsBelow n None = Unit {0}
+
+below_more : (n : ℕ) (o : Option ℕ) → IsBelow n o → IsBelow (1 + n) (option_map (λ k. k + 1) o)
+below_more n None below = tt
+below_more n (Some k) below = omega (arith, below)
+
+first_or : (b : Bool) (n : ℕ) (o : Option ℕ) → IsBelow (1 + n) o → IsBelow (1 + n) (if b then Some 0 else o)
+first_or true n o below = omega arith
+first_or false n o below = below
+
+place_below : (ds : List DriverState) (kind : DriverKind) → IsBelow (length ds) (place_of_kind ds kind)
+place_below [] kind = tt
+place_below (d ∷ ds) kind = let e : 1 + length ds ≡ length (d ∷ ds) = omega arith in
+    subst (λ n. IsBelow n (place_of_kind (d ∷ ds) kind)) e (first_or (same_kind d.kind kind) (length ds) _ (below_more (length ds) (place_of_kind ds kind) (place_below ds kind)))
+
+-- the place of a driver is one of the roster
+pub place_within : (ds : List DriverState) (kind : DriverKind) (place : ℕ) → place_of_kind ds kind ≡ Some place → place < length ds
+place_within ds kind place is = subst (IsBelow (length ds)) is (place_below ds kind)
+
+-- what is found is one of those of which something holds
+found_holds : {X : Type 0} (P : X → Type 0) (p : X → Bool) (xs : List X) (x : X) → All P xs → find p xs ≡ Some x → P x
+found_holds P p [] x all is = absurd (cc)
+found_holds P p (y ∷ ys) x all is =
+    elim (p y) as (λ b. cond b (Some y) (find p ys) ≡ Some x → P x) [
+      | true ↦ λ here. subst (λ o. IfSome o P) here (All-head P y ys all)
+      | false ↦ λ later. found_holds P p ys x (All-tail P y ys all) later
+    ] is
+
+-- the row of an ID can be made ready
+pub row_ready : (world : World) (id : List ℕ) (row : Row) → IsValidWorld world → row_of world.rows id ≡ Some row → CanBeReady world.facts row
+row_ready world id row valid is =
+    can_be_ready world.facts world.rows row (omega (arith, valid.facts.few, length-map world.facts (λ (f : Fact). f.name)))
+    (found_holds (IsValidRow world.facts world.rows) (λ (row : Row). bytes_eq row.id id) world.rows row valid.rows is)
+
+-- the place of the driver that serves a row is one of the roster
+pub place_by_within : (found : Option Row) (ds : List DriverState) (place : ℕ) → place_by found ds ≡ Some place → place < length ds
+place_by_within None ds place is = absurd (cc)
+place_by_within (Some row) ds place is = place_within ds (kind_of_row row) place is

@@ -1,0 +1,52 @@
+-- The arena that was laid for a runner.
+use Rattle.std.proofs.Common.{◌≡◌, ℕ, ◌+◌, ◌-◌, ◌*◌, ◌<◌, List, [], ◌∷◌, map, length, replicate, append-nil, refl, sym, ap, subst, ◌∙◌, arith}
+use Rattle.std.proofs.lemmas.List.{length-map, length-replicate}
+use Rattle.std.proofs.lemmas.List.Sums.{sum_by-cons}
+use Rattle.bt_model.specs.declared.term.Tree.{Tree}
+use Rattle.bt_model.specs.declared.world.World.{World}
+use Rattle.bt_model.specs.Boards.{Scope}
+use Rattle.bt_model.specs.Drivers.{DriverState}
+use Rattle.bt_model.specs.Leaves.{row_of}
+use Rattle.bt_model.specs.Run.{root_view}
+use Rattle.bt_model.specs.Terms.{leaf_ids, node_count}
+use Rattle.bt_board.proofs.Sound.{main_leads}
+use Rattle.bt_arena.specs.declared.nodes.Node.{Node}
+use Rattle.bt_arena.specs.Joins.{leaves_served, place_by}
+use Rattle.bt_arena.specs.Laying.{AreLaid, counted_all}
+use Rattle.bt_arena.specs.Nodes.{nobody}
+use Rattle.bt_arena.specs.Rosters.{AreNumbered, served}
+use Rattle.bt_arena.specs.Rows.{counted_at}
+use Rattle.bt_arena.specs.Stands.{Stands}
+use Rattle.bt_arena.proofs.Numbered.{are_numbered, served_all}
+use Rattle.bt_arena.proofs.Whole.{next_length}
+
+module _ (tree : Tree) (world : World) (drivers : List DriverState) where
+  counted_length : (ids : List (List ℕ)) (counts : List ℕ) → length (counted_all world drivers ids counts) ≡ length counts
+  counted_length [] counts = refl
+  counted_length (id ∷ ids) counts =
+      let place = place_by (row_of world.rows id) drivers in
+      counted_length ids (counted_at place counts) ∙ next_length place counts (counted_at place counts) refl
+
+  module _ (runner : ℕ) (counts next : List ℕ) (are_counts : counts ≡ counted_all world drivers (leaf_ids tree.term) (replicate (length drivers) 0)) (are_next : next ≡ map (λ (count : ℕ). (runner - 1) * count) counts) where
+    pub counts_places : length counts ≡ length drivers
+    counts_places = ap length are_counts ∙ counted_length (leaf_ids tree.term) (replicate (length drivers) 0) ∙ length-replicate {A = ℕ} (length drivers) 0
+
+    pub next_places : length next ≡ length drivers
+    next_places = ap length are_next ∙ length-map counts (λ (count : ℕ). (runner - 1) * count) ∙ counts_places
+
+    module _ (nodes : List Node) (left : List ℕ) (laid : AreLaid tree world drivers (tree.term ∷ []) 0 (nobody ∷ []) nodes next left) where
+      pub tree_stands_there : Stands tree.term nodes (root_view tree world) 1
+      tree_stands_there = subst (λ (s : Scope). Stands tree.term nodes (record (root_view tree world) { scope = s }) 1) (main_leads tree) laid.stand.0
+
+      pub tree_size : length nodes ≡ 1 + node_count tree.term
+      tree_size = omega (arith, ap length laid.is, laid.size, sum_by-cons (λ (k : ℕ). k) (node_count tree.term) [])
+
+      counted_here : left ≡ counted_all world drivers (leaf_ids tree.term) next
+      counted_here = laid.counted ∙ ap (λ (ids : List (List ℕ)). counted_all world drivers ids next) (append-nil (leaf_ids tree.term))
+
+      pub tree_numbered : AreNumbered drivers runner nodes
+      tree_numbered = subst (AreNumbered drivers runner) (sym laid.is) (are_numbered world drivers runner (leaf_ids tree.term) laid.added counts next left are_counts are_next laid.next_ones laid.behind counted_here counts_places)
+
+      pub tree_served : (place : ℕ) → place < length drivers → served place nodes ≡ leaves_served world.rows drivers place (leaf_ids tree.term)
+      tree_served place within = ap (served place) laid.is
+          ∙ served_all world drivers runner (leaf_ids tree.term) laid.added counts next left are_counts are_next laid.next_ones laid.behind counted_here counts_places place within

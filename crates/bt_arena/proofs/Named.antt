@@ -1,0 +1,93 @@
+-- Names that a tree names have slots, and those are the slots of their cells.
+use Rattle.std.proofs.Common.{◌≡◌, ℕ, ◌+◌, ◌<◌, List, [], ◌∷◌, true, false, cond, ◌||◌, ◌&&◌, nat_eq, Option, Some, None, inl, inr, map, length, if◌then◌else◌, unwrap_or, refl, sym, ap, subst, ◌∙◌, arith}
+use Rattle.std.specs.List.{All, AllByRecursion, Contains, list_any}
+use Rattle.std.specs.Prelude.{IfSome}
+use Rattle.std.specs.Str.{bytes_eq}
+use Rattle.std.proofs.lemmas.Bool.{or_cases}
+use Rattle.std.proofs.lemmas.Bool.Decides.{nat_tests}
+use Rattle.std.proofs.lemmas.List.Elements.{All-nil, All-cons, All-contains, All-contains_itself, All-weaker, Contains-append_cases}
+use Rattle.std.proofs.lemmas.Slice.Eq.{bytes_eq-Decides}
+use Rattle.bt_script_code.specs.Sources.{slot_of as slot_among}
+use Rattle.bt_model.specs.declared.cell.Cell.{Cell}
+use Rattle.bt_model.specs.declared.cell.Naming.{Naming}
+use Rattle.bt_model.specs.declared.term.Port.{Port}
+use Rattle.bt_model.specs.declared.term.Tree.{Tree}
+use Rattle.bt_model.specs.Boards.{is_named, namings, port_of, same_cell, scope_of, slot_in, slots, value_keys}
+use Rattle.bt_board.proofs.CellOrder.{in_order_any}
+use Rattle.bt_board.proofs.Sound.{IsTrue_cell, namings_sound}
+use Rattle.bt_arena.specs.Resolving.{AreNamed, named_slot, port_keys, with_slots}
+use Rattle.bt_arena.proofs.Parts.{All-left, All-right, and_left, and_right, or_left, or_right}
+
+-- the slot of a name that is named
+pub named_slot_is : (tree : Tree) (number : ℕ) (key : List ℕ) → is_named tree number key ≡ true → named_slot tree number key ≡ slot_in (slots tree) (scope_of tree number key)
+named_slot_is tree number key named = ap (λ b. unwrap_or (if b then Some (slot_in (slots tree) (scope_of tree number key)) else None) 0) named
+
+-- ---- slots are below their number
+
+found_within : (cell : Cell) (cells : List Cell) → list_any (λ c. same_cell c cell) cells ≡ true → slot_in cells cell < length cells
+found_within cell [] found = absurd (cc)
+found_within cell (c ∷ cells) found =
+    elim (same_cell c cell) as (λ b. (b || list_any (λ c. same_cell c cell) cells) ≡ true → (if b then 0 else 1 + slot_in cells cell) < length (c ∷ cells)) [
+      | true ↦ λ _. omega arith
+      | false ↦ λ rest. omega (arith, found_within cell cells rest)
+    ] found
+
+cell_same : (cell : Cell) → same_cell cell cell ≡ true
+cell_same cell = grind (arith, nat_tests, bytes_eq-Decides)
+
+-- a key that is named has its cell among those of all names
+cell_named : (tree : Tree) (number : ℕ) (key : List ℕ) (ns : List Naming) → AllByRecursion (IsTrue_cell tree) ns → list_any (λ (n : Naming). nat_eq n.number number && bytes_eq n.key key) ns ≡ true
+    → list_any (λ c. same_cell c (scope_of tree number key)) (map (λ (n : Naming). n.cell) ns) ≡ true
+cell_named tree number key [] sound named = absurd (cc)
+cell_named tree number key (n ∷ ns) sound named = elim (or_cases (nat_eq n.number number && bytes_eq n.key key) (list_any (λ (n : Naming). nat_eq n.number number && bytes_eq n.key key) ns) named) [
+  | inl here ↦
+      let same_number : n.number ≡ number = grind (arith, nat_tests, and_left (nat_eq n.number number) (bytes_eq n.key key) here) in
+      let same_key : n.key ≡ key = (bytes_eq-Decides n.key key).0 (and_right (nat_eq n.number number) (bytes_eq n.key key) here) in
+      let is : n.cell ≡ scope_of tree number key = sound.0 ∙ (λ i. scope_of tree (same_number i) (same_key i)) in
+      ap (λ (c : Cell). same_cell c (scope_of tree number key) || list_any (λ c. same_cell c (scope_of tree number key)) (map (λ (n : Naming). n.cell) ns)) is
+      ∙ or_left (same_cell (scope_of tree number key) (scope_of tree number key)) _ (cell_same (scope_of tree number key))
+  | inr later ↦ or_right (same_cell n.cell (scope_of tree number key)) _ (cell_named tree number key ns sound.1 later)
+]
+
+pub named_within : (tree : Tree) (number : ℕ) (key : List ℕ) → is_named tree number key ≡ true → slot_in (slots tree) (scope_of tree number key) < length (slots tree)
+named_within tree number key named =
+    found_within (scope_of tree number key) (slots tree)
+    (in_order_any (λ c. same_cell c (scope_of tree number key)) (map (λ (n : Naming). n.cell) (namings tree)) ∙ cell_named tree number key (namings tree) (namings_sound tree) named)
+
+-- ---- names with their slots
+
+pub listed : (tree : Tree) (number : ℕ) (keys : List (List ℕ)) → map (λ (pair : List ℕ × ℕ). pair.0) (with_slots tree number keys) ≡ keys
+listed tree number [] = refl
+listed tree number (key ∷ keys) = ap (λ ks. key ∷ ks) (listed tree number keys)
+
+true_not_false : true ≡ false → ⊥
+true_not_false is = cc
+
+-- each of these names has its slot
+found_slot : (tree : Tree) (number : ℕ) (keys : List (List ℕ)) (name : List ℕ) → Contains keys name → slot_among (with_slots tree number keys) name ≡ named_slot tree number name
+found_slot tree number [] name has = absurd (omega (arith, has.1))
+found_slot tree number (key ∷ keys) name has =
+    elim (bytes_eq key name) as (λ b. bytes_eq key name ≡ b → (if b then named_slot tree number key else slot_among (with_slots tree number keys) name) ≡ named_slot tree number name) [
+      | true ↦ λ is. ap (named_slot tree number) ((bytes_eq-Decides key name).0 is)
+      | false ↦ λ is. elim (Contains-append_cases (key ∷ []) keys name has) [
+        | inl here ↦
+            let same : name ≡ key = All-contains (λ x. x ≡ key) (key ∷ []) name (All-cons (λ x. x ≡ key) key [] refl (All-nil (λ x. x ≡ key))) here in
+            let equal : bytes_eq key name ≡ true = (bytes_eq-Decides key name).1 (sym same) in
+            absurd (true_not_false (sym equal ∙ is))
+        | inr there ↦ found_slot tree number keys name there
+      ]
+    ] refl
+
+pub slots_found : (tree : Tree) (number : ℕ) (keys : List (List ℕ)) → All (λ name. slot_among (with_slots tree number keys) name ≡ named_slot tree number name) keys
+slots_found tree number keys = All-weaker (Contains keys) (λ name. slot_among (with_slots tree number keys) name ≡ named_slot tree number name) (found_slot tree number keys) keys (All-contains_itself keys)
+
+-- ---- ports
+
+-- the key that a port of a node is given is named
+pub port_named : (tree : Tree) (number : ℕ) (ports : List Port) (name : List ℕ) (port : Port) → AreNamed tree number (port_keys ports) → port_of ports name ≡ Some port → AreNamed tree number (value_keys port.value)
+port_named tree number [] name port named found = absurd (cc)
+port_named tree number (p ∷ ports) name port named found =
+    elim (bytes_eq p.name name) as (λ b. cond b (Some p) (port_of ports name) ≡ Some port → AreNamed tree number (value_keys port.value)) [
+      | true ↦ λ is. subst (λ (o : Option Port). IfSome o (λ q. AreNamed tree number (value_keys q.value))) is (All-left (λ key. is_named tree number key ≡ true) (value_keys p.value) (port_keys ports) named)
+      | false ↦ λ rest. port_named tree number ports name port (All-right (λ key. is_named tree number key ≡ true) (value_keys p.value) (port_keys ports) named) rest
+    ] found

@@ -1,0 +1,32 @@
+use Rattle.std.proofs.Common.{replicate, refl, ap, ◌∙◌, arith}
+use Rattle.bt_arena.specs.Nodes.{at_rest}
+use Rattle.bt_arena.proofs.Making.{next_places, tree_numbered, tree_served, tree_size, tree_stands_there}
+use Rattle.bt_arena.proofs.Standing.{can_be_laid}
+use Rattle.bt_arena.proofs.joining.arena_with.Goals as goal
+
+pub nodes_of-requires-clause-can : goal.nodes_of-requires-clause-can
+nodes_of-requires-clause-can g c = can_be_laid c.args.setting.now.tree.now c.args.setting.now.world.now (g.D.Drivers.states c.args.drivers.now) c.requires.tree c.requires.joined
+
+pub nodes_of-requires-clause-places : goal.nodes_of-requires-clause-places
+nodes_of-requires-clause-places g c =
+    next_places c.args.setting.now.tree.now c.args.setting.now.world.now (g.D.Drivers.states c.args.drivers.now) c.args.runner c.args.counts.now c.deref_mut.result.now c.requires.counts
+    (c.deref_mut.ensures.value ∙ c.in_ok-next.ensures)
+
+pub returns : goal.returns
+returns g c =
+    let tree = c.args.setting.now.tree.now in
+    let world = c.args.setting.now.world.now in
+    let drivers = g.D.Drivers.states c.args.drivers.now in
+    let nodes = c.in_ok-nodes.nodes.items in
+    let next = c.deref_mut.result.now in
+    let are_next = c.deref_mut.ensures.value ∙ c.in_ok-next.ensures in
+    let laid = c.in_ok-nodes.ensures.laid in
+    let size = tree_size tree world drivers c.args.runner c.args.counts.now next c.requires.counts are_next nodes c.nodes_of.new.next laid in
+    record {
+      runner = refl;
+      stands = tree_stands_there tree world drivers c.args.runner c.args.counts.now next c.requires.counts are_next nodes c.nodes_of.new.next laid;
+      size = size;
+      kept = c.in_ok-kept.ensures ∙ ap (λ n. replicate n at_rest) (omega (arith, c.len.ensures, c.in_ok-nodes.nodes.ok.0, size));
+      numbered = tree_numbered tree world drivers c.args.runner c.args.counts.now next c.requires.counts are_next nodes c.nodes_of.new.next laid;
+      serves = tree_served tree world drivers c.args.runner c.args.counts.now next c.requires.counts are_next nodes c.nodes_of.new.next laid;
+    }

@@ -1,0 +1,100 @@
+use Rattle.std.proofs.Common.{◌≡◌, ◌+◌, ℕ, List, [], ◌∷◌, length, map, sum, drop, length-append, refl, sym, ap, subst, ◌∙◌, arith}
+use Rattle.std.proofs.lemmas.List.{drop_all}
+use Rattle.std.proofs.lemmas.Result.{on_ok_weaker}
+use Rattle.std.proofs.lemmas.List.Sums.{sum_by-cons}
+use Rattle.bt_model.specs.declared.term.Term.{Term, out-Term}
+use Rattle.bt_model.specs.BuiltIns.{has_code}
+use Rattle.bt_model.specs.Boards.{children_scope_number}
+use Rattle.bt_model.specs.Terms.{node_count}
+use Rattle.bt_arena.specs.Laying.{AreLaid, CanBeLaid, driver_of}
+use Rattle.bt_arena.proofs.Laid.{can_as, can_below, can_first, can_rest, code_fits, code_named_here, counts_below, counts_within, fit_closed, fits_here, guards_named_here, joined_here, ports_named_here, terms_here}
+use Rattle.bt_arena.proofs.Whole.{laid_length, laid_more, next_length, nothing_laid, term_laid}
+use Rattle.bt_arena.proofs.laying.+laying.Goals as goal
+
+pub lay_term-node_of-requires : goal.lay_term-node_of-requires
+lay_term-node_of-requires g t c =
+    let drivers = g.D.Drivers.states c.args.drivers.now in
+    let tree = c.args.setting.now.tree.now in
+    let world = c.args.setting.now.world.now in
+    let uid = length c.args.nodes.now.items in
+    let fits = fits_here tree world drivers c.args.term.now uid c.args.scope c.requires.can in
+    record {
+      fit = fit_closed _ fits;
+      code_fits = code_fits (has_code (out-Term c.args.term.now).kind) (out-Term c.args.term.now).code fits.code;
+      guards_fit = fits.guards;
+      code = code_named_here tree world drivers c.args.term.now uid c.args.scope c.requires.can;
+      guards = guards_named_here tree world drivers c.args.term.now uid c.args.scope c.requires.can;
+      ports = ports_named_here tree world drivers c.args.term.now uid c.args.scope c.requires.can;
+      joined = joined_here tree world drivers c.args.term.now uid c.args.scope c.requires.can;
+      world = c.requires.world;
+      found = c.requires.found;
+      places = c.requires.places;
+    }
+
+pub lay_term-lay_terms-requires : goal.lay_term-lay_terms-requires
+lay_term-lay_terms-requires g t c = λ κs lives.
+    let uid = length c.args.nodes.now.items in
+    let place : c.len-place.result ≡ uid = omega (arith, c.len-place.ensures, c.args.nodes.now.ok.0) in
+    let can = can_as c.args.setting.now.tree.now c.args.setting.now.world.now (g.D.Drivers.states c.args.drivers.now) (out-Term c.args.term.now).children c.list.result.now (uid + 1) (length c.push.new.self.items)
+    (children_scope_number (out-Term c.args.term.now).kind uid c.args.scope) c.scope_under-inner.result
+    c.list.ensures
+    (ap length c.in_ok-push.ensures.items ∙ length-append c.args.nodes.now.items (c.in_ok-node_of.field-0 ∷ []))
+    (c.scope_under-inner.ensures ∙ ap (λ u. children_scope_number (out-Term c.args.term.now).kind u c.args.scope) (c.in_ok-uid.ensures ∙ place))
+    (can_below _ _ _ c.args.term.now uid c.args.scope c.requires.can) in
+    let places = next_length (driver_of c.in_ok-node_of.field-0.leaf) c.args.next.now c.node_of.new.next c.in_ok-node_of.ensures.next ∙ c.requires.places in
+    (omega (arith, counts_below c.args.term.now, ap (λ (ts : List Term). sum (map node_count ts)) c.list.ensures, c.decreases), (λ a is. lives a is, (can, (c.requires.world, (c.requires.found, places)))))
+
+pub lay_term-close-requires : goal.lay_term-close-requires
+lay_term-close-requires g t c =
+    let laid = c.in_ok-lay_terms.ensures.laid in
+    omega (arith, ap length laid.is, length-append c.push.new.self.items laid.added, ap length c.in_ok-push.ensures.items, length-append c.args.nodes.now.items (c.in_ok-node_of.field-0 ∷ []), c.len-place.ensures)
+
+pub lay_term-returns : goal.lay_term-returns
+lay_term-returns g t c =
+    let place : c.len-place.result ≡ length c.args.nodes.now.items = omega (arith, c.len-place.ensures, c.args.nodes.now.ok.0) in record {
+      laid = on_ok_weaker c.close.result
+          (λ is. term_laid _ _ _ c.args.term.now c.args.scope c.args.nodes.now.items c.push.new.self.items c.lay_terms.new.nodes.items c.close.new.nodes.items c.in_ok-node_of.field-0
+          c.args.next.now c.node_of.new.next c.lay_terms.new.next c.len-place.result c.in_ok-uid.uid c.list.result.now c.scope_under-inner.result
+          place c.in_ok-uid.ensures c.in_ok-push.ensures.items c.list.ensures c.scope_under-inner.ensures
+          c.requires.can c.in_ok-node_of.ensures.node c.in_ok-node_of.ensures.is_next c.in_ok-node_of.ensures.next c.in_ok-lay_terms.ensures.laid is)
+          c.close.ensures;
+    }
+
+pub lay_terms-lay_term-requires : goal.lay_terms-lay_term-requires
+lay_terms-lay_term-requires g t c = λ κs lives.
+    let i = c.loop-term.term-index in
+    let here = terms_here c.args.terms.now i c.term-item.result c.loop-term-test.true c.term-item.is in
+    let can = can_first c.args.setting.now.tree.now c.args.setting.now.world.now (g.D.Drivers.states c.args.drivers.now) c.term-item.result (drop (i + 1) c.args.terms.now) (length c.loop-term.nodes.items) c.args.scope
+    (subst (λ (ts : List Term). CanBeLaid c.args.setting.now.tree.now c.args.setting.now.world.now (g.D.Drivers.states c.args.drivers.now) ts (length c.loop-term.nodes.items) c.args.scope) here c.loop-term.invariant.can) in
+    (omega (arith, counts_within c.args.terms.now i c.term-item.result c.loop-term-test.true c.term-item.is, c.decreases), (λ a is. lives a is, (can, (c.requires.world, (c.requires.found, c.loop-term.invariant.places)))))
+
+pub lay_terms-returns : goal.lay_terms-returns
+lay_terms-returns g t c =
+    let none = drop_all c.loop-term.term-index c.args.terms.now c.loop-term-test.false in
+    record {
+      laid = c.loop-term.invariant.whole c.loop-term.nodes.items c.loop-term.next
+          (subst (λ (ts : List Term). AreLaid c.args.setting.now.tree.now c.args.setting.now.world.now (g.D.Drivers.states c.args.drivers.now) ts c.args.scope c.loop-term.nodes.items c.loop-term.nodes.items c.loop-term.next c.loop-term.next) (sym none)
+          (nothing_laid _ _ _ c.args.scope c.loop-term.nodes.items c.loop-term.next));
+    }
+
+pub lay_terms-loop-term-init : goal.lay_terms-loop-term-init
+lay_terms-loop-term-init g t c = record { can = c.requires.can; whole = λ new left laid. laid; places = c.requires.places }
+
+pub lay_terms-loop-term-preserved : goal.lay_terms-loop-term-preserved
+lay_terms-loop-term-preserved g t c =
+    let i = c.loop-term.term-index in
+    let tree = c.args.setting.now.tree.now in
+    let world = c.args.setting.now.world.now in
+    let drivers = g.D.Drivers.states c.args.drivers.now in
+    let here = terms_here c.args.terms.now i c.term-item.result c.loop-term-test.true c.term-item.is in
+    let laid = c.in_ok-lay_term.ensures.laid in
+    let far : length c.lay_term.new.nodes.items ≡ length c.loop-term.nodes.items + node_count c.term-item.result =
+    omega (arith, ap length laid.is, length-append c.loop-term.nodes.items laid.added, laid.size, sum_by-cons (λ (k : ℕ). k) (node_count c.term-item.result) []) in
+    record {
+      can = can_as tree world drivers _ _ _ _ _ _ refl far refl (can_rest tree world drivers c.term-item.result (drop (i + 1) c.args.terms.now) (length c.loop-term.nodes.items) c.args.scope
+          (subst (λ (ts : List Term). CanBeLaid tree world drivers ts (length c.loop-term.nodes.items) c.args.scope) here c.loop-term.invariant.can));
+      whole = λ new left rest. c.loop-term.invariant.whole new left
+          (subst (λ (ts : List Term). AreLaid tree world drivers ts c.args.scope c.loop-term.nodes.items new c.loop-term.next left) (sym here)
+          (laid_more tree world drivers c.term-item.result (drop (i + 1) c.args.terms.now) c.args.scope c.loop-term.nodes.items c.lay_term.new.nodes.items new c.loop-term.next c.lay_term.new.next left laid rest));
+      places = laid_length laid.added c.loop-term.next c.lay_term.new.next laid.behind ∙ c.loop-term.invariant.places;
+    }

@@ -1,0 +1,12 @@
+use Rattle.std.proofs.Common.{arith}
+use Rattle.std.specs.Str.{bytes_eq}
+use Rattle.indexmap.specs.IndexMap.{get}
+use Rattle.bt_arena.proofs.Indexed.{finds_more}
+use Rattle.bt_arena.proofs.rows.index_of.Goals as goal
+
+pub loop-row-preserved : goal.loop-row-preserved
+loop-row-preserved c = record {
+  place = omega (arith, c.loop-row.invariant.place);
+  found = finds_more c.args.rows.now c.loop-row.row-index c.loop-row.number c.row-item.result (get bytes_eq c.loop-row.index) (get bytes_eq c.add_row.new.index) c.loop-row-test.true c.row-item.is c.loop-row.invariant.place
+      c.in_ok-add_row.ensures c.loop-row.invariant.found;
+}

@@ -1,0 +1,98 @@
+-- The nodes of a term while they are laid into an arena.
+use Rattle.std.specs.Prelude.{◌≡◌, ℕ, List, [], ◌∷◌, ◌++◌, length, map, sum, true, Option, Some, None, slice_index_or}
+use Rattle.std.specs.List.{All, AllByRecursion, flat_map}
+use Rattle.bt_model.specs.declared.term.Term.{Term, Term-F}
+use Rattle.bt_model.specs.declared.term.Tree.{Tree}
+use Rattle.bt_model.specs.declared.world.World.{World}
+use Rattle.bt_model.specs.Boards.{Standing, keys_named, makes_scope, scope_below, scope_of, standing_all, standing_from}
+use Rattle.bt_model.specs.BuiltIns.{PortRule, ports_of}
+use Rattle.bt_model.specs.Drivers.{DriverState, kind_of_way, place_of_kind}
+use Rattle.bt_model.specs.Leaves.{row_of}
+use Rattle.bt_model.specs.Sites.{View}
+use Rattle.bt_model.specs.Terms.{leaf_ids, node_count}
+use Rattle.bt_model.specs.Trees.{Node as TreeNode, NodeFits, nodes_of}
+use Rattle.bt_driver.specs.Rules.{rule}
+use Rattle.bt_arena.specs.declared.nodes.Node.{Node}
+use Rattle.bt_arena.specs.declared.nodes.ReadyLeaf.{ReadyLeaf}
+use Rattle.bt_arena.specs.Joins.{first_lack, place_by}
+use Rattle.bt_arena.specs.Nodes.{AreCompiled, IsCompiled, LeafStands}
+use Rattle.bt_arena.specs.Resolving.{AreNamed, GuardsAreNamed, names_if_there, port_keys, view_in}
+use Rattle.bt_arena.specs.Rows.{counted_at}
+use Rattle.bt_arena.specs.Sources.{IsSourceOf, source_at}
+use Rattle.bt_arena.specs.Stands.{StandAll}
+
+-- ---- What is asked of a term
+
+-- a node where it stands in a tree: its number leads to its scope, its uid to the scope that it makes, and the tree names
+-- what it names
+pub record StandsIn (tree : Tree) (node : Standing) : Type 0 where
+  pub scope : scope_of tree node.number ≡ node.scope
+  pub made : makes_scope node.kind ≡ true → scope_of tree node.uid ≡ scope_below node.uid node.ports node.autoremap node.scope
+  pub named : AreNamed tree node.number (keys_named node)
+
+-- a tree names what a node of it names, in the scope of a number
+pub record NodeIsNamed {X : Type 0} (tree : Tree) (number : ℕ) (node : Term-F X) : Type 0 where
+  pub code : AreNamed tree number (names_if_there node.code)
+  pub guards : GuardsAreNamed tree number node.guards
+  pub ports : AreNamed tree number (port_keys node.ports)
+
+-- some terms of a tree, of which the first has this uid, in the scope of a number: each node stands in the tree, is a
+-- valid one, and lacks nothing
+pub record CanBeLaid (tree : Tree) (world : World) (drivers : List DriverState) (ts : List Term) (uid number : ℕ) : Type 0 where
+  pub stand : AllByRecursion (StandsIn tree) (standing_all (map standing_from ts) uid number (scope_of tree number))
+  pub fit : AllByRecursion NodeFits (flat_map (λ nodes. nodes) (map nodes_of ts))
+  pub joined : first_lack world.rows drivers (flat_map (λ ids. ids) (map leaf_ids ts)) ≡ None
+
+-- ---- Nodes
+
+-- a node of an arena is this node of a term, but for its size and its leaf
+pub record IsBareNode (view : View) (written : TreeNode) (node : Node) : Type 0 where
+  pub kind : node.kind ≡ written.kind
+  pub size : node.size ≡ 0
+  pub children : node.children ≡ written.children
+  pub code : IsCompiled view written.code node.code
+  pub guards : AreCompiled view written.guards node.guards
+  pub ports : node.ports ≡ map (λ (port : PortRule). source_at view written.ports port.name) (ports_of written.kind)
+  pub slots : All (IsSourceOf (length view.slots)) node.ports
+
+-- what is asked of a node's leaf
+unfoldable pub LeafIs : View → TreeNode → Option ReadyLeaf → Type 0
+LeafIs view node leaf = LeafStands view node leaf
+
+-- ---- Instances
+
+abbrev pub driver_of : Option ReadyLeaf → Option ℕ
+driver_of (Some leaf) = Some leaf.driver
+driver_of None = None
+
+-- a leaf has the first driver of its row's kind, and the next instance there
+unfoldable pub IsNext : List DriverState → List ℕ → Option ReadyLeaf → Type 0
+IsNext drivers next None = Unit {0}
+IsNext drivers next (Some leaf) = (place_of_kind drivers (kind_of_way (rule leaf.row).way) ≡ Some leaf.driver) × (leaf.instance ≡ slice_index_or next leaf.driver 0)
+
+-- each leaf of some nodes has
+abbrev pub AreNext : List DriverState → List ℕ → List Node → Type 0
+AreNext drivers next [] = Unit {0}
+AreNext drivers next (node ∷ nodes) = IsNext drivers next node.leaf × AreNext drivers (counted_at (driver_of node.leaf) next) nodes
+
+-- the next instances behind some nodes
+abbrev pub next_behind : List Node → List ℕ → List ℕ
+next_behind [] next = next
+next_behind (node ∷ nodes) next = next_behind nodes (counted_at (driver_of node.leaf) next)
+
+-- the next instances behind the leaves of these IDs
+abbrev pub counted_all : World → List DriverState → List (List ℕ) → List ℕ → List ℕ
+counted_all world drivers [] counts = counts
+counted_all world drivers (id ∷ ids) counts = counted_all world drivers ids (counted_at (place_by (row_of world.rows id) drivers) counts)
+
+-- ---- What was laid
+
+-- the nodes of some terms were added to an arena: they stand there, and their leaves have the next instances
+pub record AreLaid (tree : Tree) (world : World) (drivers : List DriverState) (ts : List Term) (number : ℕ) (old new : List Node) (next left : List ℕ) : Type 0 where
+  pub added : List Node
+  pub is : new ≡ old ++ added
+  pub size : length added ≡ sum (map node_count ts)
+  pub stand : StandAll ts new (view_in tree world number) (length old)
+  pub next_ones : AreNext drivers next added
+  pub behind : left ≡ next_behind added next
+  pub counted : left ≡ counted_all world drivers (flat_map (λ ids. ids) (map leaf_ids ts)) next

@@ -1,0 +1,212 @@
+ghost use Rattle.std.specs.Prelude.{◌≡◌, ◌∷◌, ◌<◌, ◌-◌, ◌^◌, [], length, slice_set, None, IfOk, OnOk};
+ghost use Rattle.std.specs.Str.{bytes_eq};
+ghost use Rattle.indexmap.specs.IndexMap.{get};
+ghost use Rattle.bt_model.specs.declared.term.Term.{out-Term};
+ghost use Rattle.bt_model.specs.Boards.{children_scope_number};
+ghost use Rattle.bt_model.specs.Terms.{own_leaf_id};
+ghost use Rattle.bt_model.specs.Trees.{GuardsFit, ScriptFits};
+ghost use Rattle.bt_model.specs.Worlds.{IsValidWorld};
+ghost use Rattle.bt_arena.specs.Joins.{first_lack};
+ghost use Rattle.bt_arena.specs.Laying.{AreLaid, CanBeLaid, IsBareNode, IsNext, driver_of};
+ghost use Rattle.bt_arena.specs.Nodes.{IsFit, IsNode, node_at, nobody as no_node};
+ghost use Rattle.bt_arena.specs.Resolving.{AreNamed, GuardsAreNamed, names_if_there, port_keys, view_in};
+ghost use Rattle.bt_arena.specs.Rows.{Finds, counted_at};
+ghost use Rattle.bt_arena.specs.Stands.{written};
+
+use crate::leaves::leaf_of;
+use crate::nodes::{Node, ReadyGuards};
+use crate::ports::kind_sources;
+use crate::resolving::{Setting, ready_guards, ready_script};
+use bt_driver::Drivers;
+use bt_model::{Kind, Term};
+use bt_script::{Items, NoMemory};
+use std::alloc::Global;
+
+/// A count as a number of 32 bits. There is no memory for 2^32 nodes.
+fn narrow(count: usize) -> Result<u32, NoMemory>
+    ensures { IfOk result (λ n. n ≡ count) }
+{
+    if count > u32::MAX as usize {
+        return Err(NoMemory);
+    }
+    Ok(count as u32)
+}
+
+/// The number of the scope of a node's children: a SubTree node makes one, with its uid.
+fn scope_under(kind: Kind, uid: u32, scope: u32) -> u32
+    ensures { result ≡ children_scope_number kind uid scope }
+{
+    match kind {
+        Kind::SubTree => uid,
+        _ => scope,
+    }
+}
+
+/// The node of a term, all but its size and its leaf.
+fn bare_node(alloc: Global, term: &Term, setting: &Setting, scope: u32) -> Result<Node, NoMemory>
+    requires code_fits { ScriptFits (out-Term term.now).code }
+    requires guards_fit { GuardsFit (out-Term term.now).guards }
+    requires code { AreNamed setting.now.tree.now scope (names_if_there (out-Term term.now).code) }
+    requires guards { GuardsAreNamed setting.now.tree.now scope (out-Term term.now).guards }
+    requires ports { AreNamed setting.now.tree.now scope (port_keys (out-Term term.now).ports) }
+    ensures { IfOk result (λ node. IsBareNode (view_in setting.now.tree.now setting.now.world.now scope) (written (out-Term term.now)) node) }
+{
+    let children = narrow(term.children.list().len())?;
+    let ports = kind_sources(alloc, term.kind, term.ports.list(), setting, scope)?;
+    let code = ready_script(alloc, &term.code, setting, scope)?;
+    let guards = ready_guards(alloc, &term.guards, setting, scope)?;
+    Ok(Node {
+        kind: term.kind,
+        size: 0,
+        children,
+        code,
+        guards,
+        ports: Items::of(ports),
+        leaf: None,
+    })
+}
+
+/// The node of a term, all but its size.
+fn node_of<D: Drivers>(
+    alloc: Global,
+    term: &Term,
+    setting: &Setting,
+    scope: u32,
+    drivers: &D,
+    next: &mut [u32],
+) -> Result<Node, NoMemory>
+    requires fit { IsFit (written (out-Term term.now)) }
+    requires code_fits { ScriptFits (out-Term term.now).code }
+    requires guards_fit { GuardsFit (out-Term term.now).guards }
+    requires code { AreNamed setting.now.tree.now scope (names_if_there (out-Term term.now).code) }
+    requires guards { GuardsAreNamed setting.now.tree.now scope (out-Term term.now).guards }
+    requires ports { AreNamed setting.now.tree.now scope (port_keys (out-Term term.now).ports) }
+    requires joined { first_lack setting.now.world.now.rows (D.states drivers.now) (own_leaf_id (out-Term term.now).kind (out-Term term.now).id) ≡ None }
+    requires world { IsValidWorld setting.now.world.now }
+    requires found { Finds setting.now.world.now.rows (get bytes_eq setting.now.rows.now) }
+    requires places { length next.old ≡ length (D.states drivers.now) }
+    ensures node { IfOk result (λ node. IsNode (view_in setting.now.tree.now setting.now.world.now scope) (written (out-Term term.now)) 0 node) }
+    ensures is_next { IfOk result (λ node. IsNext (D.states drivers.now) next.old node.leaf) }
+    ensures next { IfOk result (λ node. next.new ≡ counted_at (driver_of node.leaf) next.old) }
+{
+    let mut node = bare_node(alloc, term, setting, scope)?;
+    node.leaf = leaf_of(alloc, term, setting, scope, drivers, next)?;
+    Ok(node)
+}
+
+/// Gives the node at this place its size: it and all that stands behind it.
+fn close(nodes: &mut Vec<Node>, place: usize) -> Result<(), NoMemory>
+    requires { place < length nodes.old.items }
+    ensures { OnOk result (nodes.new.items ≡ slice_set nodes.old.items place (record (node_at nodes.old.items place) { size = length nodes.old.items - place })) }
+{
+    let size = narrow(nodes.len() - place)?;
+    nodes[place].size = size;
+    Ok(())
+}
+
+/// Lays a term of a tree behind the nodes that are there.
+#[cycle(laying)]
+fn lay_term<D: Drivers>(
+    alloc: Global,
+    term: &Term,
+    setting: &Setting,
+    scope: u32,
+    drivers: &D,
+    next: &mut [u32],
+    nodes: &mut Vec<Node>,
+) -> Result<(), NoMemory>
+    requires can { CanBeLaid setting.now.tree.now setting.now.world.now (D.states drivers.now) (term.now ∷ []) (length nodes.old.items) scope }
+    requires world { IsValidWorld setting.now.world.now }
+    requires found { Finds setting.now.world.now.rows (get bytes_eq setting.now.rows.now) }
+    requires places { length next.old ≡ length (D.states drivers.now) }
+    ensures laid { OnOk result (AreLaid setting.now.tree.now setting.now.world.now (D.states drivers.now) (term.now ∷ []) scope nodes.old.items nodes.new.items next.old next.new) }
+{
+    let place = nodes.len();
+    let uid = narrow(place)?;
+    nodes.push(node_of(alloc, term, setting, scope, drivers, next)?)?;
+    let inner = scope_under(term.kind, uid, scope);
+    lay_terms(
+        alloc,
+        term.children.list(),
+        setting,
+        inner,
+        drivers,
+        next,
+        nodes,
+    )?;
+    close(nodes, place)
+}
+
+/// Lays some terms of a tree, one behind the other.
+#[cycle(laying)]
+fn lay_terms<D: Drivers>(
+    alloc: Global,
+    terms: &[Term],
+    setting: &Setting,
+    scope: u32,
+    drivers: &D,
+    next: &mut [u32],
+    nodes: &mut Vec<Node>,
+) -> Result<(), NoMemory>
+    requires can { CanBeLaid setting.now.tree.now setting.now.world.now (D.states drivers.now) terms.now (length nodes.old.items) scope }
+    requires world { IsValidWorld setting.now.world.now }
+    requires found { Finds setting.now.world.now.rows (get bytes_eq setting.now.rows.now) }
+    requires places { length next.old ≡ length (D.states drivers.now) }
+    ensures laid { OnOk result (AreLaid setting.now.tree.now setting.now.world.now (D.states drivers.now) terms.now scope nodes.old.items nodes.new.items next.old next.new) }
+{
+    for term in terms {
+        lay_term(alloc, term, setting, scope, drivers, next, nodes)?;
+    }
+    Ok(())
+}
+
+/// What stands at place 0.
+fn nobody(alloc: Global) -> Node
+    ensures { result ≡ no_node }
+{
+    Node {
+        kind: Kind::AlwaysSuccess,
+        size: 0,
+        children: 0,
+        code: None,
+        guards: ReadyGuards {
+            failure_if: None,
+            success_if: None,
+            skip_if: None,
+            while_true: None,
+            on_success: None,
+            on_failure: None,
+            post: None,
+            on_halted: None,
+        },
+        ports: Items::of(Vec::new(alloc)),
+        leaf: None,
+    }
+}
+
+/// The nodes of a tree by uid.
+pub(crate) fn nodes_of<D: Drivers>(
+    alloc: Global,
+    setting: &Setting,
+    drivers: &D,
+    next: &mut [u32],
+) -> Result<Vec<Node>, NoMemory>
+    requires can { CanBeLaid setting.now.tree.now setting.now.world.now (D.states drivers.now) (setting.now.tree.now.term ∷ []) 1 0 }
+    requires world { IsValidWorld setting.now.world.now }
+    requires found { Finds setting.now.world.now.rows (get bytes_eq setting.now.rows.now) }
+    requires places { length next.old ≡ length (D.states drivers.now) }
+    ensures laid { IfOk result (λ nodes. AreLaid setting.now.tree.now setting.now.world.now (D.states drivers.now) (setting.now.tree.now.term ∷ []) 0 (no_node ∷ []) nodes.items next.old next.new) }
+{
+    let mut nodes = Vec::new(alloc);
+    nodes.push(nobody(alloc))?;
+    lay_term(
+        alloc,
+        &setting.tree.term,
+        setting,
+        0,
+        drivers,
+        next,
+        &mut nodes,
+    )?;
+    Ok(nodes)
+}

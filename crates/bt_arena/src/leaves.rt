@@ -1,0 +1,104 @@
+ghost use Rattle.std.specs.Prelude.{◌≡◌, ◌+◌, ◌<◌, length, slice_index_or, slice_set, None, IfOk};
+ghost use Rattle.std.specs.Str.{bytes_eq};
+ghost use Rattle.indexmap.specs.IndexMap.{get};
+ghost use Rattle.bt_model.specs.declared.term.Term.{out-Term};
+ghost use Rattle.bt_model.specs.Drivers.{kind_of_row, kind_of_way};
+ghost use Rattle.bt_model.specs.Terms.{own_leaf_id};
+ghost use Rattle.bt_model.specs.Worlds.{IsValidWorld};
+ghost use Rattle.bt_driver.specs.Places.{CanBeReady};
+ghost use Rattle.bt_driver.specs.Rules.{rule};
+ghost use Rattle.bt_arena.specs.Joins.{first_lack};
+ghost use Rattle.bt_arena.specs.Laying.{IsNext, LeafIs, driver_of};
+ghost use Rattle.bt_arena.specs.Nodes.{IsLeafOf};
+ghost use Rattle.bt_arena.specs.Resolving.{AreNamed, port_keys, view_in};
+ghost use Rattle.bt_arena.specs.Rows.{Finds, counted_at};
+ghost use Rattle.bt_arena.specs.Stands.{written};
+
+use crate::nodes::ReadyLeaf;
+use crate::ports::{input_sources, output_sources};
+use crate::resolving::Setting;
+use crate::rows::row_named;
+use bt_driver::{Drivers, kind_of, ready};
+use bt_model::{Kind, Port, Row, Term};
+use bt_script::{Items, NoMemory};
+use std::alloc::Global;
+
+/// Takes the next instance of the driver at this place. There is no memory for 2^32 leaves.
+pub(crate) fn next_instance(next: &mut [u32], place: usize) -> Result<u32, NoMemory>
+    requires { place < length next.old }
+    ensures instance { IfOk result (λ instance. instance ≡ slice_index_or next.old place 0) }
+    ensures next { IfOk result (λ _. next.new ≡ slice_set next.old place (slice_index_or next.old place 0 + 1)) }
+{
+    let instance = next[place];
+    match instance.checked_add(1) {
+        Some(more) => {
+            next[place] = more;
+            Ok(instance)
+        }
+        None => Err(NoMemory),
+    }
+}
+
+/// A leaf with these ports that follows a row, with its driver and its instance.
+fn leaf_with(
+    alloc: Global,
+    ports: &[Port],
+    row: &Row,
+    driver: usize,
+    instance: u32,
+    setting: &Setting,
+    scope: u32,
+) -> Result<ReadyLeaf, NoMemory>
+    requires named { AreNamed setting.now.tree.now scope (port_keys ports.now) }
+    requires ready { CanBeReady setting.now.world.now.facts row.now }
+    ensures of_row { IfOk result (λ leaf. IsLeafOf (view_in setting.now.tree.now setting.now.world.now scope) ports.now leaf row.now) }
+    ensures kind { IfOk result (λ leaf. kind_of_way (rule leaf.row).way ≡ kind_of_row row.now) }
+    ensures driver { IfOk result (λ leaf. leaf.driver ≡ driver) }
+    ensures instance { IfOk result (λ leaf. leaf.instance ≡ instance) }
+{
+    let inputs = input_sources(alloc, row.ports.list(), ports, setting, scope)?;
+    let outputs = output_sources(alloc, row.outs.list(), ports, setting, scope)?;
+    Ok(ReadyLeaf {
+        row: ready(alloc, row, setting.world.facts.list())?,
+        driver,
+        instance,
+        inputs: Items::of(inputs),
+        outputs: Items::of(outputs),
+    })
+}
+
+/// What a node has that is a leaf: its driver is the first of its row's kind, and its instance the next
+/// one there.
+#[tactic(auto, unfolding(crate::specs::Laying::LeafIs, crate::specs::Laying::IsNext))]
+pub(crate) fn leaf_of<D: Drivers>(
+    alloc: Global,
+    node: &Term,
+    setting: &Setting,
+    scope: u32,
+    drivers: &D,
+    next: &mut [u32],
+) -> Result<Option<ReadyLeaf>, NoMemory>
+    requires named { AreNamed setting.now.tree.now scope (port_keys (out-Term node.now).ports) }
+    requires joined { first_lack setting.now.world.now.rows (D.states drivers.now) (own_leaf_id (out-Term node.now).kind (out-Term node.now).id) ≡ None }
+    requires world { IsValidWorld setting.now.world.now }
+    requires found { Finds setting.now.world.now.rows (get bytes_eq setting.now.rows.now) }
+    requires places { length next.old ≡ length (D.states drivers.now) }
+    ensures stands { IfOk result (λ leaf. LeafIs (view_in setting.now.tree.now setting.now.world.now scope) (written (out-Term node.now)) leaf) }
+    ensures is_next { IfOk result (λ leaf. IsNext (D.states drivers.now) next.old leaf) }
+    ensures next { IfOk result (λ leaf. next.new ≡ counted_at (driver_of leaf) next.old) }
+{
+    match node.kind {
+        Kind::Leaf => match row_named(setting.world.rows.list(), setting.rows, &node.id) {
+            Some(row) => match drivers.place_of(kind_of(row)) {
+                Some(driver) => {
+                    let instance = next_instance(next, driver)?;
+                    let ports = node.ports.list();
+                    Ok(Some(leaf_with(alloc, ports, row, driver, instance, setting, scope)?))
+                }
+                None => unreachable!(),
+            },
+            None => unreachable!(),
+        },
+        _ => Ok(None),
+    }
+}

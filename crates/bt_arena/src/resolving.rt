@@ -1,0 +1,185 @@
+ghost use Rattle.std.specs.Prelude.{◌≡◌, ◌∷◌, ◌++◌, [], length, IfOk, OnOk};
+ghost use Rattle.std.specs.Option.{option_copied};
+ghost use Rattle.bt_script.specs.Scripts.{names_of, stmt_names};
+ghost use Rattle.bt_model.specs.Boards.{port_of, slot_table, slots as cells};
+ghost use Rattle.bt_model.specs.Trees.{GuardsFit, ScriptFits};
+ghost use Rattle.bt_arena.specs.Nodes.{AreCompiled, IsCompiled};
+ghost use Rattle.bt_arena.specs.Resolving.{AreNamed, GuardsAreNamed, named_slot, names_if_there, names_in_script, port_keys, view_in, with_slots};
+ghost use Rattle.bt_arena.specs.Sources.{IsSourceOf, source_at as source_in};
+
+use crate::nodes::ReadyGuards;
+use crate::source::Source;
+use bt_board::{Slots, slot};
+use bt_model::{Guards, Port, PortValue, Tree, World};
+use bt_script::{Expr, Name, NoMemory, Script, Stmt};
+use bt_script_code::{Code, compile};
+use indexmap::IndexMap;
+use std::alloc::Global;
+
+/// A tree with its slots, and a world with the numbers of its rows by their IDs.
+#[derive(Drop)]
+pub(crate) struct Setting<'a> {
+    pub(crate) tree: &'a Tree,
+    pub(crate) slots: &'a Slots,
+    pub(crate) world: &'a World,
+    pub(crate) rows: &'a IndexMap<Name, u32>,
+    pub(crate) ghost table: { slots.now ≡ slot_table tree.now },
+}
+
+/// The slot of a key in the scope of this number, and 0 where the tree does not name it there.
+fn slot_of(setting: &Setting, scope: u32, key: &Name) -> u32
+    ensures { result ≡ named_slot setting.now.tree.now scope key.now }
+{
+    slot(setting.slots, scope, key).unwrap_or(0)
+}
+
+/// Adds a key with its slot.
+fn add_key(
+    alloc: Global,
+    key: &Name,
+    setting: &Setting,
+    scope: u32,
+    keys: &mut Vec<(Name, u32)>,
+) -> Result<(), NoMemory>
+    ensures { OnOk result (keys.new.items ≡ keys.old.items ++ with_slots setting.now.tree.now scope (key.now ∷ [])) }
+{
+    keys.push((key.copy(alloc)?, slot_of(setting, scope, key)))?;
+    Ok(())
+}
+
+/// Adds the names of an expression.
+fn add_expr(
+    alloc: Global,
+    e: &Expr,
+    setting: &Setting,
+    scope: u32,
+    keys: &mut Vec<(Name, u32)>,
+) -> Result<(), NoMemory>
+    ensures { OnOk result (keys.new.items ≡ keys.old.items ++ with_slots setting.now.tree.now scope (names_of e.now)) }
+{
+    match e {
+        Expr::Num(_) | Expr::Lit(_) => Ok(()),
+        Expr::Look(name) => add_key(alloc, name, setting, scope, keys),
+        Expr::Group(a) | Expr::Unary(_, a) => add_expr(alloc, a.get(), setting, scope, keys),
+        Expr::Binary(_, a, b) => {
+            add_expr(alloc, a.get(), setting, scope, keys)?;
+            add_expr(alloc, b.get(), setting, scope, keys)
+        }
+        Expr::Choose(a, b, c) => {
+            add_expr(alloc, a.get(), setting, scope, keys)?;
+            add_expr(alloc, b.get(), setting, scope, keys)?;
+            add_expr(alloc, c.get(), setting, scope, keys)
+        }
+    }
+}
+
+/// Adds the names of a statement.
+fn add_stmt(
+    alloc: Global,
+    stmt: &Stmt,
+    setting: &Setting,
+    scope: u32,
+    keys: &mut Vec<(Name, u32)>,
+) -> Result<(), NoMemory>
+    ensures { OnOk result (keys.new.items ≡ keys.old.items ++ with_slots setting.now.tree.now scope (stmt_names stmt.now)) }
+{
+    match stmt {
+        Stmt::Create(name, e) | Stmt::Assign(name, e) | Stmt::Change(_, name, e) => {
+            add_key(alloc, name, setting, scope, keys)?;
+            add_expr(alloc, e, setting, scope, keys)
+        }
+        Stmt::Plain(e) => add_expr(alloc, e, setting, scope, keys),
+    }
+}
+
+/// The names of a script with their slots.
+fn keys_of(
+    alloc: Global,
+    script: &Script,
+    setting: &Setting,
+    scope: u32,
+) -> Result<Vec<(Name, u32)>, NoMemory>
+    ensures { IfOk result (λ keys. keys.items ≡ with_slots setting.now.tree.now scope (names_in_script script.now)) }
+{
+    let mut keys = Vec::new(alloc);
+    for stmt in script.stmts.list() {
+        add_stmt(alloc, stmt, setting, scope, &mut keys)?;
+    }
+    Ok(keys)
+}
+
+/// A script compiled for the scope of this number, where there is one.
+pub(crate) fn ready_script(
+    alloc: Global,
+    script: &Option<Script>,
+    setting: &Setting,
+    scope: u32,
+) -> Result<Option<Code>, NoMemory>
+    requires fits { ScriptFits script.now }
+    requires named { AreNamed setting.now.tree.now scope (names_if_there script.now) }
+    ensures { IfOk result (λ code. IsCompiled (view_in setting.now.tree.now setting.now.world.now scope) script.now code) }
+{
+    match script {
+        None => Ok(None),
+        Some(script) => {
+            let keys = keys_of(alloc, script, setting, scope)?;
+            Ok(Some(compile(alloc, script, keys.as_slice())?))
+        }
+    }
+}
+
+/// The guards of a node compiled for the scope of this number.
+pub(crate) fn ready_guards(
+    alloc: Global,
+    guards: &Guards,
+    setting: &Setting,
+    scope: u32,
+) -> Result<ReadyGuards, NoMemory>
+    requires fit { GuardsFit guards.now }
+    requires named { GuardsAreNamed setting.now.tree.now scope guards.now }
+    ensures { IfOk result (λ ready. AreCompiled (view_in setting.now.tree.now setting.now.world.now scope) guards.now ready) }
+{
+    Ok(ReadyGuards {
+        failure_if: ready_script(alloc, &guards.failure_if, setting, scope)?,
+        success_if: ready_script(alloc, &guards.success_if, setting, scope)?,
+        skip_if: ready_script(alloc, &guards.skip_if, setting, scope)?,
+        while_true: ready_script(alloc, &guards.while_true, setting, scope)?,
+        on_success: ready_script(alloc, &guards.on_success, setting, scope)?,
+        on_failure: ready_script(alloc, &guards.on_failure, setting, scope)?,
+        post: ready_script(alloc, &guards.post, setting, scope)?,
+        on_halted: ready_script(alloc, &guards.on_halted, setting, scope)?,
+    })
+}
+
+/// The port of this name.
+fn port_named<'a>(ports: &'a [Port], name: &[u8]) -> Option<&'a Port>
+    ensures { option_copied result ≡ port_of ports.now name.now }
+{
+    for port in ports {
+        if port.name.list() == name {
+            return Some(port);
+        }
+    }
+    None
+}
+
+/// What the port of this name is given, its key resolved in the scope of this number.
+pub(crate) fn source_at(
+    alloc: Global,
+    ports: &[Port],
+    name: &[u8],
+    setting: &Setting,
+    scope: u32,
+) -> Result<Source, NoMemory>
+    requires { AreNamed setting.now.tree.now scope (port_keys ports.now) }
+    ensures source { IfOk result (λ source. source ≡ source_in (view_in setting.now.tree.now setting.now.world.now scope) ports.now name.now) }
+    ensures slot { IfOk result (λ source. IsSourceOf (length (cells setting.now.tree.now)) source) }
+{
+    match port_named(ports, name) {
+        None => Ok(Source::Absent),
+        Some(port) => match &port.value {
+            PortValue::Lit(value) => Ok(Source::Lit(value.copy(alloc)?)),
+            PortValue::Key(key) => Ok(Source::Slot(slot_of(setting, scope, key))),
+        },
+    }
+}
