@@ -3,4 +3,5 @@ pub mod Others
 pub mod Putting
 pub mod Quenched
 pub mod Results
+pub mod TickEnds
 pub mod Told

@@ -14,7 +14,7 @@ use Rattle.bt_model.specs.declared.term.Tree.{Tree}
 use Rattle.bt_model.specs.declared.world.World.{World}
 use Rattle.bt_model.specs.Done.{Call, Done}
 use Rattle.bt_model.specs.Drivers.{DriverState}
-use Rattle.bt_model.specs.Run.{RunState, Runner, root_view, runner_calls, state_of, with_runner}
+use Rattle.bt_model.specs.Run.{RunState, Runner, root_view, runner_at, runner_calls, state_of, with_runner}
 use Rattle.bt_model.specs.Sound.{Steady}
 use Rattle.bt_arena.specs.declared.nodes.Node.{Node}
 use Rattle.bt_arena.specs.Ends.{IsMade, Meets}
@@ -22,8 +22,9 @@ use Rattle.bt_arena.specs.Rosters.{AreServed, instances_of, roster_after}
 use Rattle.bt_arena.specs.Scenes.{Fits, Scene, scene, state_in}
 use Rattle.bt_arena.specs.Stands.{memory_of}
 use Rattle.bt_laws.proofs.Events.{steady_moves}
+use Rattle.bt_loop.specs.declared.parts.Part.{Part}
 use Rattle.bt_loop.specs.declared.runs.ReadyRunner.{ReadyRunner}
-use Rattle.bt_loop.specs.Parts.{AreReady, CanAct, PartEnds, PartMade, scene_of, state_of_all, state_of_runner}
+use Rattle.bt_loop.specs.Parts.{AreReady, CanAct, PartEnds, PartMade, part_of, scene_of, state_of_all, state_of_runner}
 use Rattle.bt_loop.specs.Runs.{AreApart, HeldAreTheirs, RunnerFits, RunnersFit, arenas_in, nodes_of_runner, roster_over, runner_in, runners_in}
 use Rattle.bt_loop.proofs.Lists.{set_alike, set_is}
 use Rattle.bt_loop.proofs.Others.{Apart, held_after, other_fits, other_instances, over_runner}
@@ -143,3 +144,18 @@ module _ (tree : Tree) (world : World) (runners : List ReadyRunner) (facts : Lis
       notes = m.notes;
       drivers = called_over m.made m.drivers;
     }
+
+-- a runner's part, among all runners
+pub part_among : (tree : Tree) (world : World) (last at : ℕ) (facts : List ℤ) (drivers : List DriverState) (runners : List ReadyRunner) (ready : AreReady tree world last at facts drivers runners) (part : Part)
+    (number : ℕ) (first : 1 ≤ number) (r : ReadyRunner) (is : slice_get runners (number - 1) ≡ Some r) (new : ReadyRunner) (facts1 : List ℤ) (drivers1 : List DriverState) (nodes : new.arena.nodes.items ≡ r.arena.nodes.items)
+    (result : Result (Unit {0}) (Stop NodeFault)) (old told : List Note) →
+    Meets r.arena.nodes.items at (memory_of tree.term 1) result (scene_of r facts drivers) (scene_of new facts1 drivers1) old told (part_of part tree world r.arena.runner (memory_of tree.term 1 r.arena.kept.items) (state_of_runner r facts drivers at)) →
+    (x : Runner) → runner_at (state_of_all tree.term drivers runners facts last) number ≡ Some x →
+    PartEnds result tree.term number at (state_of_all tree.term drivers runners facts last) (arenas_in runners) drivers drivers1 (set runners (number - 1) new) facts1 old told (part_of part tree world number x.memory (state_of x facts at))
+part_among tree world last at facts drivers runners ready part number first r is new facts1 drivers1 nodes result old told m x is_x =
+    let number_is : r.arena.runner ≡ number = omega (arith, (ready.fit.each (number - 1) r is).numbered, first) in
+    let found : Some (runner_in tree.term drivers r) ≡ Some x = sym (slice_get-map (runner_in tree.term drivers) runners (number - 1) ∙ ap (option_map (runner_in tree.term drivers)) is) ∙ is_x in
+    let same : runner_in tree.term drivers r ≡ x = cc in
+    subst (λ (y : Runner). PartEnds result tree.term number at (state_of_all tree.term drivers runners facts last) (arenas_in runners) drivers drivers1 (set runners (number - 1) new) facts1 old told (part_of part tree world number y.memory (state_of y facts at))) same
+    (ends tree world runners facts drivers ready.fit (number - 1) r is number last at refl new facts1 drivers1 nodes old told _ result
+    (subst (λ (n : ℕ). Meets r.arena.nodes.items at (memory_of tree.term 1) result (scene_of r facts drivers) (scene_of new facts1 drivers1) old told (part_of part tree world n (memory_of tree.term 1 r.arena.kept.items) (state_of_runner r facts drivers at))) number_is m))
