@@ -4,5 +4,7 @@ pub mod Others
 pub mod Putting
 pub mod Quenched
 pub mod Results
+pub mod Rising
+pub mod Stepping
 pub mod TickEnds
 pub mod Told

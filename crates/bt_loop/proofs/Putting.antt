@@ -107,6 +107,8 @@ module _ (tree : Tree) (world : World) (runners : List ReadyRunner) (facts : Lis
       apart = subst AreApart (sym arenas_same) fit.apart;
       theirs = subst (λ (ns : List (List Node)). HeldAreTheirs ns drivers1) (sym arenas_same) (subst (HeldAreTheirs (arenas_in runners)) (sym called) (held_after (arenas_in runners) i a (arena_at i r is) calls drivers are fit.theirs));
       many_facts = fits1.facts;
+      few_facts = fit.few_facts;
+      few_slots = fit.few_slots;
     }
 
   module _ (number last at : ℕ) (here : number - 1 ≡ i) (new : ReadyRunner) (facts1 : List ℤ) (drivers1 : List DriverState) (nodes : new.arena.nodes.items ≡ a) (old told : List Note) (d : Done (Unit {0}) Memory) where

@@ -1,8 +1,9 @@
 -- The runs of a tree in a world: the state that they keep, and what holds of them between events.
-use Rattle.std.specs.Prelude.{◌≡◌, ◌+◌, ◌-◌, ◌*◌, ℕ, ℤ, List, [], ◌∷◌, length, map, sum, slice_get, slice_index_or, Option, Some, None, true}
+use Rattle.std.specs.Prelude.{◌≡◌, ◌+◌, ◌-◌, ◌*◌, ◌<◌, ◌^◌, ℕ, ℤ, List, [], ◌∷◌, length, map, sum, slice_get, slice_index_or, Option, Some, None, true}
 use Rattle.bt_model.specs.declared.term.Term.{Term}
 use Rattle.bt_model.specs.declared.term.Tree.{Tree}
 use Rattle.bt_model.specs.declared.world.World.{World}
+use Rattle.bt_model.specs.Boards.{slots}
 use Rattle.bt_model.specs.Drivers.{DriverState, instance_at, is_held}
 use Rattle.bt_model.specs.Run.{RunState, Runner, RunnerCall, root_view}
 use Rattle.bt_model.specs.Sound.{RunSteady}
@@ -93,6 +94,8 @@ pub record RunnersFit (tree : Tree) (world : World) (facts : List ℤ) (drivers 
   pub apart : AreApart (arenas_in runners)
   pub theirs : HeldAreTheirs (arenas_in runners) drivers
   pub many_facts : length facts ≡ length world.facts
+  pub few_facts : length world.facts < 2 ^ 32
+  pub few_slots : length (slots tree) < 2 ^ 32
 
 -- what holds of the runs of a tree in a world between events, before any has stopped
 pub record AreRuns (tree : Tree) (world : World) (drivers : List DriverState) (runs : Runs) : Type 0 where

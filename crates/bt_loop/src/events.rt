@@ -1,11 +1,11 @@
-ghost use Rattle.std.specs.Prelude.{◌≡◌, ◌≤◌, ◌+◌, ◌++◌, ◌∷◌, [], ℕ, List, OnOk, OnErr, Some, Ok, Err, false, length, map};
+ghost use Rattle.std.specs.Prelude.{◌≡◌, ◌≤◌, ◌<◌, ◌+◌, ◌++◌, ◌∷◌, [], ℕ, List, OnOk, OnErr, Some, Ok, Err, false, length, map};
 ghost use Rattle.bt_script.specs.declared.stop.Stop.TheVariants as stop;
 ghost use Rattle.bt_model.specs.declared.block.Header.{Header};
 ghost use Rattle.bt_model.specs.declared.note.Note.{Note};
 ghost use Rattle.bt_model.specs.declared.term.Tree.{Tree};
 ghost use Rattle.bt_model.specs.declared.world.World.{World};
 ghost use Rattle.bt_model.specs.Drivers.{NothingHeld};
-ghost use Rattle.bt_model.specs.Run.{Runner, finish as finish_step, quenched, runner_at, step};
+ghost use Rattle.bt_model.specs.Run.{Runner, change_step, finish as finish_step, quenched, runner_at, step};
 ghost use Rattle.bt_loop.specs.Ending.{CanTell, Closes, IsQuenched, IsTelling, StayRuns, part_step};
 ghost use Rattle.bt_loop.specs.Runs.{AreRuns, RunnersFit, arenas_of, boards_in, leaves_of, state_of_runs};
 ghost use Rattle.bt_loop.specs.Steps.{CanCome, EventEnds, HaveRoom, IsSameRoster};
@@ -188,6 +188,40 @@ fn run_part<D: Drivers>(
     end_event(alloc, number, ended, runs, drivers, block)
 }
 
+/// Gives a fact a value, and tells it where it has changed.
+fn change_fact<D: Drivers>(
+    fact: u32,
+    value: i64,
+    at: u64,
+    runs: &mut Runs,
+    drivers: &mut D,
+    block: &mut Block,
+) -> Result<(), Stop<RunFault>>
+    requires there { fact < length runs.old.facts }
+    requires runs { (tree : Tree) × (world : World) × AreRuns tree world (D.states drivers.old) runs.old }
+    requires room { HaveRoom (arenas_of runs.old) block.old.notes }
+    ensures step { (tree : Tree) (world : World) → AreRuns tree world (D.states drivers.old) runs.old →
+        EventEnds result tree.term (D.states drivers.old) (D.states drivers.new) runs.new block.new (change_step fact value at (state_of_runs tree.term (D.states drivers.old) runs.old)) }
+    ensures runs { (tree : Tree) (world : World) → AreRuns tree world (D.states drivers.old) runs.old → OnOk result (StayRuns tree world (D.states drivers.new) runs.new) }
+    ensures quenched { (tree : Tree) (world : World) → AreRuns tree world (D.states drivers.old) runs.old → OnErr result (state_of_runs tree.term (D.states drivers.new) runs.new ≡ quenched tree (state_of_runs tree.term (D.states drivers.new) runs.new)) }
+    ensures none { OnErr result (NothingHeld (D.states drivers.new)) }
+    ensures usable { OnErr result (runs.new.usable ≡ false) }
+    ensures arenas { arenas_of runs.new ≡ arenas_of runs.old }
+    ensures room { block.new.notes.full ≡ block.old.notes.full }
+    ensures roster { IsSameRoster (D.states drivers.old) (D.states drivers.new) }
+{
+    begin(block, Header::Change { fact, value, at });
+    runs.last = at;
+    runs.facts.put(fact, value);
+    match tell_facts_in(&mut runs.told, &runs.facts, block) {
+        Ok(()) => Ok(()),
+        Err(NoMemory) => {
+            stop(runs, drivers, &mut block.notes);
+            Err(Stop::NoMemory)
+        }
+    }
+}
+
 /// Makes an event of runs over any drivers.
 pub fn run_event<D: Drivers>(
     alloc: Global,
@@ -208,7 +242,30 @@ pub fn run_event<D: Drivers>(
     ensures room { block.new.notes.full ≡ block.old.notes.full }
     ensures roster { IsSameRoster (D.states drivers.old) (D.states drivers.new) }
 {
-    Err(Stop::NoMemory)
+    let at = event.at;
+    match event.what {
+        What::Tick(runner) => run_part(
+            alloc,
+            Part::Tick,
+            Header::Tick { runner, at },
+            runner,
+            at,
+            runs,
+            drivers,
+            block,
+        ),
+        What::Halt(runner) => run_part(
+            alloc,
+            Part::Reset,
+            Header::Halt { runner, at },
+            runner,
+            at,
+            runs,
+            drivers,
+            block,
+        ),
+        What::Change { fact, value } => change_fact(fact, value, at, runs, drivers, block),
+    }
 }
 
 /// Finishes a runner of runs over any drivers.
@@ -232,7 +289,17 @@ pub fn run_finish<D: Drivers>(
     ensures room { block.new.notes.full ≡ block.old.notes.full }
     ensures roster { IsSameRoster (D.states drivers.old) (D.states drivers.new) }
 {
-    Err(Stop::NoMemory)
+    let at = runs.last;
+    run_part(
+        alloc,
+        Part::Reset,
+        Header::Finish { runner, at },
+        runner,
+        at,
+        runs,
+        drivers,
+        block,
+    )
 }
 
 /// Makes an event of runs: the block then has its header, what happened, and the facts and entries
