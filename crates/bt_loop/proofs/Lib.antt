@@ -8,3 +8,4 @@ pub mod Rising
 pub mod Stepping
 pub mod TickEnds
 pub mod Told
+pub mod Whole
