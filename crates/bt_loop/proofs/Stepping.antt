@@ -62,7 +62,7 @@ same_entries : (runner slot : ℕ) (entries : List (Option Value)) → changed_e
 same_entries runner slot [] = refl
 same_entries runner slot (e ∷ es) = no_change runner slot e (changed_entries runner (slot + 1) es es) ∙ same_entries runner (slot + 1) es
 
-same_boards : (runner : ℕ) (rs : List Runner) → changed_boards runner rs rs ≡ []
+pub same_boards : (runner : ℕ) (rs : List Runner) → changed_boards runner rs rs ≡ []
 same_boards runner [] = refl
 same_boards runner (r ∷ rs) = (λ i. same_entries runner 0 r.board i ++ same_boards (runner + 1) rs i)
 
@@ -93,7 +93,7 @@ boards_are : (t : Term) (drivers : List DriverState) (rs : List ReadyRunner) →
 boards_are t drivers [] = refl
 boards_are t drivers (r ∷ rs) = ap (λ xs. r.board ∷ xs) (boards_are t drivers rs)
 
-instances_are : (t : Term) (drivers : List DriverState) (rs : List ReadyRunner) → map (λ (r : Runner). r.instances) (runners_in t drivers rs) ≡ map (λ nodes. instances_of nodes drivers) (arenas_in rs)
+pub instances_are : (t : Term) (drivers : List DriverState) (rs : List ReadyRunner) → map (λ (r : Runner). r.instances) (runners_in t drivers rs) ≡ map (λ nodes. instances_of nodes drivers) (arenas_in rs)
 instances_are t drivers [] = refl
 instances_are t drivers (r ∷ rs) = ap (λ xs. instances_of r.arena.nodes.items drivers ∷ xs) (instances_are t drivers rs)
 
@@ -290,7 +290,7 @@ all_twice : (tree : Tree) (rs : List Runner) → map (quenched_runner tree) (map
 all_twice tree [] = refl
 all_twice tree (r ∷ rs) = λ i. twice tree r i ∷ all_twice tree rs i
 
-quenched_stays : (tree : Tree) (before after : List DriverState) (old new : Runs) (n0 n1 : List Note) → IsQuenched tree before after old new n0 n1 → state_of_runs tree.term after new ≡ quenched tree (state_of_runs tree.term after new)
+pub quenched_stays : (tree : Tree) (before after : List DriverState) (old new : Runs) (n0 n1 : List Note) → IsQuenched tree before after old new n0 n1 → state_of_runs tree.term after new ≡ quenched tree (state_of_runs tree.term after new)
 quenched_stays tree before after old new n0 n1 q =
     let again : map (quenched_runner tree) (runners_in tree.term after new.runners.items) ≡ runners_in tree.term after new.runners.items =
         ap (map (quenched_runner tree)) q.state ∙ all_twice tree (runners_in tree.term before old.runners.items) ∙ sym q.state in
