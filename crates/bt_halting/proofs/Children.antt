@@ -89,9 +89,9 @@ module _ (nodes : List Node) (moment : ℕ) (which : Span) (view : View) (ts : L
         let whole : length ts ≡ length k.front + length k.rest = ap length k.all ∙ length-append k.front k.rest in
         let none : length k.rest ≡ 0 = omega (arith, over, whole, k.place_is) in
         none_left k.rest none k.still where
-      none_left : (rest : List Term) → length rest ≡ 0 → ((r : Result (Unit {0}) (Stop NodeFault)) (s2 : Scene) (n2 : List Note) → Meets nodes moment (memories_of ts first) r s s2 n n2 (resets_left rest place uid s) → Meets nodes moment (memories_of ts first) r before s2 old n2 (all_resets before)) → Meets nodes moment (memories_of ts first) (Ok tt) before s old n (all_resets before)
-      none_left [] none still = still (Ok tt) s n (done_met nodes moment (memories_of ts first) tt s n)
-      none_left (t ∷ rest) none still = cc
+          none_left : (rest : List Term) → length rest ≡ 0 → ((r : Result (Unit {0}) (Stop NodeFault)) (s2 : Scene) (n2 : List Note) → Meets nodes moment (memories_of ts first) r s s2 n n2 (resets_left rest place uid s) → Meets nodes moment (memories_of ts first) r before s2 old n2 (all_resets before)) → Meets nodes moment (memories_of ts first) (Ok tt) before s old n (all_resets before)
+          none_left [] none still = still (Ok tt) s n (done_met nodes moment (memories_of ts first) tt s n)
+          none_left (t ∷ rest) none still = cc
 
     next_of : (rest : List Term) → k.rest ≡ rest → 0 < length rest → NextChild ts k.rest first place uid
     next_of [] is some = absurd (omega (arith, some))

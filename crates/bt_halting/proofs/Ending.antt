@@ -29,7 +29,6 @@ use Rattle.bt_arena.proofs.Opened.{opened}
 use Rattle.bt_arena.specs.Ends.{IsCut, IsMade, Meets, StaysFit}
 use Rattle.bt_halting.specs.Halts.{leaf_let_go, rests}
 use Rattle.bt_nodes.specs.Here.{site_at}
-use Rattle.bt_nodes.specs.Settles.{Settles}
 use Rattle.bt_arena.proofs.Follows.{done_met, followed, stopped}
 use Rattle.bt_halting.proofs.Memories.{memory_above}
 
@@ -124,14 +123,6 @@ idle_is t uid kept0 kept1 kept2 beside memo within is =
     ∙ sym (memory_above t uid kept0 kept2 (λ p low high. sym (ap (λ (k : List Kept). kept_at k p) is ∙ get_or-set_other kept1 uid p rest at_rest (λ e. absurd (omega (arith, low, e))) ∙ beside.above p low)))
 
 -- ---- What stays
-
--- what settles is met, with no note and no call
-pub settles_met : (nodes : List Node) (moment : ℕ) (r : Result (Unit {0}) (Stop NodeFault)) (s s1 : Scene) (n : List Note) (d : Done (Unit {0}) (Unit {0})) → s1.drivers ≡ s.drivers → Settles r (state_in nodes s1 moment) d → Meets nodes moment (λ (k : List Kept). tt) r s s1 n n d
-settles_met nodes moment (Ok a) s s1 n d same settles =
-    subst (λ (x : Done (Unit {0}) (Unit {0})). Meets {A = Unit {0}} nodes moment (λ (k : List Kept). tt) (Ok tt) s s1 n n x) (sym settles) (record { answer = refl; memory = refl; state = refl; notes = sym (append-nil n); drivers = same }, refl)
-settles_met nodes moment (Err (stop.Fault f)) s s1 n d same settles =
-    subst (λ (x : Done (Unit {0}) (Unit {0})). IsMade {A = Unit {0}} nodes moment (λ (k : List Kept). tt) (Err f) s s1 n n x) (sym settles) (record { answer = refl; memory = refl; state = refl; notes = sym (append-nil n); drivers = same })
-settles_met nodes moment (Err stop.NoMemory) s s1 n d same settles = nothing_cut nodes s s1 n n d same refl
 
 -- what fitted fits still, where the marks are right and each leaf is served
 pub fits_still : (nodes : List Node) (s0 s1 : Scene) → marks_of s1.kept ≡ map is_held (instances_of nodes s1.drivers) → AreServed s1.drivers nodes → length s1.board ≡ length s0.board → length s1.facts ≡ length s0.facts → StaysFit nodes s0 s1

@@ -127,7 +127,7 @@ module _ (runner : ℕ) (nodes : List Node) (kept : List Kept) (drivers drivers1
       ∙ letting_more uid (get_or now uid fresh) (drop (uid + 1) now)
       ∙ ap (λ (i : Instance). letting_one uid i ++ letting_go (uid + 1) (drop (uid + 1) now)) (instance_at_uid nodes drivers uid)
       ∙ ap (λ (l : List Instance). letting_one uid (instance_here nodes drivers uid) ++ letting_go (uid + 1) l)
-        (sym (drop-set-lt (uid + 1) now uid (let_go (instance_here nodes drivers uid)) (omega arith)) ∙ ap (drop (uid + 1)) (sym lets))
+      (sym (drop-set-lt (uid + 1) now uid (let_go (instance_here nodes drivers uid)) (omega arith)) ∙ ap (drop (uid + 1)) (sym lets))
 
   pub drivers_more : drivers1 ≡ roster_after nodes (letting_one uid (instance_here nodes drivers uid)) drivers → roster_after nodes (calls_left nodes (uid + 1) drivers1) drivers1 ≡ roster_after nodes (calls_left nodes uid drivers) drivers
   drivers_more called =

@@ -43,15 +43,17 @@ module _ (nodes : List Node) (kept : List Kept) (drivers : List DriverState) (ui
         let s1 = scene kept1 board facts drivers1 in
         let left : Instance = let_go (instance_at drivers leaf.driver leaf.instance) in
         let lets : slice_set (instances_of nodes drivers) uid (let_go (get_or (instances_of nodes drivers) uid fresh)) ≡ instances_of nodes drivers1 =
-            ap (λ (i : Instance). slice_set (instances_of nodes drivers) uid (let_go i)) here ∙ sym (instances_called nodes drivers uid leaf phase.Halted left served is) ∙ ap (instances_of nodes) (sym halted) in
-        subst (λ (o : Option ReadyLeaf). Meets nodes moment (λ (k : List Kept). tt) (Ok tt) s0 s1 n n1 (leaf_let_go o uid (state_in nodes s0 moment))) (sym is)
-        (record {
-          answer = refl;
-          memory = refl;
-          state = ap (λ (is : List Instance). let s : State = record { board = board; facts = facts; instances = is; moment = moment } in s) lets;
-          notes = noted;
-          drivers = halted ∙ sym (roster_after_call nodes drivers uid leaf phase.Halted left served is (record { uid = uid; phase = phase.Halted; left = let_go (get_or (instances_of nodes drivers) uid fresh) }) [] refl refl (ap let_go here));
-        }, refl)
+        ap (λ (i : Instance). slice_set (instances_of nodes drivers) uid (let_go i)) here ∙ sym (instances_called nodes drivers uid leaf phase.Halted left served is) ∙ ap (instances_of nodes) (sym halted) in
+        subst (λ (o : Option ReadyLeaf). Meets nodes moment (λ (k : List Kept). tt) (Ok tt) s0 s1 n n1 (leaf_let_go o uid (state_in nodes s0 moment))) (sym is) (
+          record {
+            answer = refl;
+            memory = refl;
+            state = ap (λ (is : List Instance). let s : State = record { board = board; facts = facts; instances = is; moment = moment } in s) lets;
+            notes = noted;
+            drivers = halted ∙ sym (roster_after_call nodes drivers uid leaf phase.Halted left served is (record { uid = uid; phase = phase.Halted; left = let_go (get_or (instances_of nodes drivers) uid fresh) }) [] refl refl (ap let_go here));
+          },
+          refl,
+        )
 
     -- and the marks are right again once the leaf's mark is taken away
     pub let_go_marks : (kept1 : List Kept) → kept1 ≡ slice_set kept uid (record (kept_at kept uid) { held = false }) → marks_of kept ≡ map is_held (instances_of nodes drivers) → marks_of kept1 ≡ map is_held (instances_of nodes drivers1)

@@ -38,7 +38,7 @@ module _ (nodes : List Node) (slots facts : ℕ) where
       let here : node_stands Term (λ c. c) Stands x nodes view uid = subst (λ (z : Term-F Term). node_stands Term (λ c. c) Stands z nodes view uid) (out-roll-Term x) (opened (roll-Term x) nodes view uid stands) in
       let size : (meaning (roll-Term x)).size ≡ 1 + sizes (map meaning x.children) = size_out (roll-Term x) ∙ ap (λ (z : Term-F Term). 1 + sizes (map meaning z.children)) (out-roll-Term x) in
       let children : StandAll x.children nodes (view_under view uid (written x)) (uid + 1) → (q : ℕ) → uid + 1 ≤ q → q < uid + 1 + sizes (map meaning x.children) → StandsThere nodes slots facts q =
-          subst (λ (z : Term-F Term). StandAll z.children nodes (view_under view uid (written x)) (uid + 1) → (q : ℕ) → uid + 1 ≤ q → q < uid + 1 + sizes (map meaning z.children) → StandsThere nodes slots facts q) is (λ stand q. all_reached y.children (view_under view uid (written x)) (uid + 1) stand same_slots same_facts q) in
+      subst (λ (z : Term-F Term). StandAll z.children nodes (view_under view uid (written x)) (uid + 1) → (q : ℕ) → uid + 1 ≤ q → q < uid + 1 + sizes (map meaning z.children) → StandsThere nodes slots facts q) is (λ stand q. all_reached y.children (view_under view uid (written x)) (uid + 1) stand same_slots same_facts q) in
       elim (cases_eq p uid) [
         | inl same ↦ record { term = roll-Term x; view = view; stands = subst (λ (q : ℕ). Stands (roll-Term x) nodes view q) (sym same) stands; slots_same = same_slots; facts_same = same_facts }
         | inr other ↦ children here.2 p (omega (arith, low, other)) (omega (arith, high, size))

@@ -90,7 +90,7 @@ module _ (nodes : List Node) (s : Scene) (moment : ℕ) (marks : marks_of s.kept
     all_held (e ∷ ts) view uid stand sound = λ p leaf low high is running.
         let more : sizes (map meaning (map (λ x. x.0) (e ∷ ts))) ≡ (meaning e.0).size + sizes (map meaning (map (λ x. x.0) ts)) = sum_by-cons (λ (c : Meaning). c.size) (meaning e.0) (map meaning (map (λ x. x.0) ts)) in
         let others : SoundAll (map (λ x. x.0) ts) rows (uid + (meaning e.0).size) (memories_of (map (λ x. x.0) ts) (uid + (meaning e.0).size) s.kept) (state_in nodes s moment) =
-            subst (λ (size : ℕ). SoundAll (map (λ x. x.0) ts) rows (uid + (meaning e.0).size) (memories_of (map (λ x. x.0) ts) (uid + size) s.kept) (state_in nodes s moment)) (sized e.0) sound.1 in
+        subst (λ (size : ℕ). SoundAll (map (λ x. x.0) ts) rows (uid + (meaning e.0).size) (memories_of (map (λ x. x.0) ts) (uid + size) s.kept) (state_in nodes s moment)) (sized e.0) sound.1 in
         elim (cases_lt p (uid + (meaning e.0).size)) [
           | inl first ↦ e.1 view uid stand.0 sound.0 p leaf low first is running
           | inr behind ↦ all_held ts view (uid + (meaning e.0).size) stand.1 others p leaf behind (omega (arith, high, more)) is running
@@ -101,14 +101,14 @@ module _ (nodes : List Node) (s : Scene) (moment : ℕ) (marks : marks_of s.kept
         let here : node_stands Term (λ c. c) Stands x nodes view uid = subst (λ (z : Term-F Term). node_stands Term (λ c. c) Stands z nodes view uid) (out-roll-Term x) (opened (roll-Term x) nodes view uid stands) in
         let ms : List Memory = memories_of x.children (uid + 1) s.kept in
         let memory : memory_of (roll-Term x) uid s.kept ≡ remembered (kept_at s.kept uid).status (kept_at s.kept uid).memo ms =
-            memory_out (roll-Term x) uid s.kept ∙ ap (λ (z : Term-F Term). remembered (kept_at s.kept uid).status (kept_at s.kept uid).memo (memories_of z.children (uid + 1) s.kept)) (out-roll-Term x) in
+        memory_out (roll-Term x) uid s.kept ∙ ap (λ (z : Term-F Term). remembered (kept_at s.kept uid).status (kept_at s.kept uid).memo (memories_of z.children (uid + 1) s.kept)) (out-roll-Term x) in
         let rules : states_of_node Term (λ t. t) Sound x rows None uid (remembered (kept_at s.kept uid).status (kept_at s.kept uid).memo ms) (state_in nodes s moment) =
-            subst (λ (m : Memory). states_of_node Term (λ t. t) Sound x rows None uid m (state_in nodes s moment)) memory
-            (subst (λ (r : States). r rows None uid (memory_of (roll-Term x) uid s.kept) (state_in nodes s moment)) (sound_roll x) sound) in
+        subst (λ (m : Memory). states_of_node Term (λ t. t) Sound x rows None uid m (state_in nodes s moment)) memory
+        (subst (λ (r : States). r rows None uid (memory_of (roll-Term x) uid s.kept) (state_in nodes s moment)) (sound_roll x) sound) in
         let open_rules = simp out-roll-Memory at rules in
         let size : (meaning (roll-Term x)).size ≡ 1 + sizes (map meaning x.children) = size_out (roll-Term x) ∙ ap (λ (z : Term-F Term). 1 + sizes (map meaning z.children)) (out-roll-Term x) in
         let children : StandAll x.children nodes (view_under view uid (written x)) (uid + 1) → SoundAll x.children rows (uid + 1) ms (state_in nodes s moment) → HeldIn (uid + 1) (sizes (map meaning x.children)) =
-            subst (λ (z : Term-F Term). StandAll z.children nodes (view_under view uid (written x)) (uid + 1) → SoundAll z.children rows (uid + 1) (memories_of z.children (uid + 1) s.kept) (state_in nodes s moment) → HeldIn (uid + 1) (sizes (map meaning z.children))) is (all_held y.children (view_under view uid (written x)) (uid + 1)) in
+        subst (λ (z : Term-F Term). StandAll z.children nodes (view_under view uid (written x)) (uid + 1) → SoundAll z.children rows (uid + 1) (memories_of z.children (uid + 1) s.kept) (state_in nodes s moment) → HeldIn (uid + 1) (sizes (map meaning z.children))) is (all_held y.children (view_under view uid (written x)) (uid + 1)) in
         elim (cases_eq p uid) [
           | inl same ↦
               let is_leaf : x.kind ≡ Leaf = leaf_kind view (written x) (leaf_at nodes uid) leaf (ap (leaf_at nodes) (sym same) ∙ at_leaf) here.1.leaf in

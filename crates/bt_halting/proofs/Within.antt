@@ -33,7 +33,7 @@ pub stands_within : (t : Term) (nodes : List Node) (view : View) (uid : ℕ) →
 stands_within = ind-Term IsWithin (λ x y is nodes view uid stands.
     let here : node_stands Term (λ c. c) Stands x nodes view uid = subst (λ (z : Term-F Term). node_stands Term (λ c. c) Stands z nodes view uid) (out-roll-Term x) (opened (roll-Term x) nodes view uid stands) in
     let children : StandAll x.children nodes (view_under view uid (written x)) (uid + 1) → uid + 1 + sizes (map meaning x.children) ≤ length nodes =
-        subst (λ (z : Term-F Term). StandAll z.children nodes (view_under view uid (written x)) (uid + 1) → uid + 1 + sizes (map meaning z.children) ≤ length nodes) is (all_within y.children nodes (view_under view uid (written x)) (uid + 1) (omega (arith, here.0))) in
+    subst (λ (z : Term-F Term). StandAll z.children nodes (view_under view uid (written x)) (uid + 1) → uid + 1 + sizes (map meaning z.children) ≤ length nodes) is (all_within y.children nodes (view_under view uid (written x)) (uid + 1) (omega (arith, here.0))) in
     let size : (meaning (roll-Term x)).size ≡ 1 + sizes (map meaning x.children) = size_out (roll-Term x) ∙ ap (λ (z : Term-F Term). 1 + sizes (map meaning z.children)) (out-roll-Term x) in
     omega (arith, children here.2, size))
 

@@ -50,7 +50,15 @@ pub fn halt<D: Drivers>(
     ensures reserve { notes.old.reserve ≤ notes.new.reserve }
     ensures full { notes.new.full ≡ notes.old.full }
 {
-    halt_node(alloc, &arena.nodes, &mut arena.kept, board, drivers, uid, notes)
+    halt_node(
+        alloc,
+        &arena.nodes,
+        &mut arena.kept,
+        board,
+        drivers,
+        uid,
+        notes,
+    )
 }
 
 /// Resets the node with this uid: one that is RUNNING is halted, and any other becomes IDLE. After a
@@ -76,7 +84,15 @@ pub fn reset<D: Drivers>(
     ensures reserve { notes.old.reserve ≤ notes.new.reserve }
     ensures full { notes.new.full ≡ notes.old.full }
 {
-    reset_node(alloc, &arena.nodes, &mut arena.kept, board, drivers, uid, notes)
+    reset_node(
+        alloc,
+        &arena.nodes,
+        &mut arena.kept,
+        board,
+        drivers,
+        uid,
+        notes,
+    )
 }
 
 /// Lets go of each leaf of a runner that is held, by uid, with the note `Quenched`, and brings all its

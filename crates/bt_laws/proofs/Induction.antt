@@ -25,7 +25,7 @@ module _ {X : Type 0} (term : X → Term) where
   sounds_of_terms rules (c ∷ cs) rows fault uid [] s = refl
   sounds_of_terms rules (c ∷ cs) rows fault uid (m ∷ ms) s = λ i. rules (term c) rows fault uid m s × sounds_of_terms rules cs rows fault (uid + (meaning (term c)).size) ms s i
 
-  rules_of_terms : (rules : Term → States) (node : Term-F X) → states_of_node X term (λ c. rules (term c)) node ≡ states_of_node Term (λ t. t) rules (map-Term X Term term node)
+  pub rules_of_terms : (rules : Term → States) (node : Term-F X) → states_of_node X term (λ c. rules (term c)) node ≡ states_of_node Term (λ t. t) rules (map-Term X Term term node)
   rules_of_terms rules node = λ i rows fault uid m s.
       OffPath fault uid (1 + sizes (map_twice term meaning node.children i))
       (NodeRule node.kind node.ports (row_of rows node.id) uid (out-Memory m).status (out-Memory m).memo (out-Memory m).children s)

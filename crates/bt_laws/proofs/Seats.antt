@@ -35,7 +35,7 @@ module _ (F : Family) (rows : List Row) where
     first_back fault [] m s s1 all w here = absurd all
     first_back fault (old ∷ ms) m s s1 all w here = (here, all_move F rows cs fault (uid + (F.meaning c).size) ms s s1 all.1 (λ p a b. w.above p a) (no_time_back w))
 
-    first_seat : Seat F rows (c ∷ cs) uid zero c uid
+    pub first_seat : Seat F rows (c ∷ cs) uid zero c uid
     first_seat = record { low = omega arith; high = omega (arith, size_cons F c cs); there = omega arith; is = refl; sound = first_sound; back = first_back }
 
     module _ (d : F.Child) (place at : ℕ) (seat : Seat F rows cs (uid + (F.meaning c).size) place d at) where
@@ -49,7 +49,7 @@ module _ (F : Family) (rows : List Row) where
       later_back fault (old ∷ ms) m s s1 all w here =
           ((F.keeps c).moves rows fault uid old s s1 all.0 (λ p a b. w.below p (omega (arith, b, seat.low))) (no_time_back w), seat.back fault ms m s s1 all.1 w here)
 
-      later_seat : Seat F rows (c ∷ cs) uid (suc place) d at
+      pub later_seat : Seat F rows (c ∷ cs) uid (suc place) d at
       later_seat = record {
         low = omega (arith, seat.low);
         high = omega (arith, seat.high, size_cons F c cs);

@@ -2,7 +2,6 @@
 //! one table of facts and one roster of drivers.
 #![tactic(auto)]
 
-mod below;
 mod boxed;
 mod events;
 mod making;

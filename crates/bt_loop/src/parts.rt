@@ -12,11 +12,11 @@ ghost use Rattle.bt_arena.specs.Stands.{memory_of};
 ghost use Rattle.bt_loop.specs.Parts.{AreReady, CanAct, PartEnds, StaysRunner, part_of, scene_of, state_of_all, state_of_runner};
 ghost use Rattle.bt_loop.specs.Runs.{RunnersFit, arenas_in};
 
-use crate::below::tick;
 use crate::runs::ReadyRunner;
 use bt_arena::{Kept, Notes};
 use bt_driver::{Drivers, FactTable};
 use bt_halting::reset;
+use bt_tick::tick;
 use bt_model::{Answer, NodeFault, Note, Status};
 use bt_script::{NoMemory, Stop};
 use std::alloc::Global;

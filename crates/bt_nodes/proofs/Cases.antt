@@ -6,7 +6,11 @@ use Rattle.bt_model.specs.declared.term.Kind.TheVariants.{Switch}
 use Rattle.bt_model.specs.BuiltIns.{kind_among, named_kinds}
 use Rattle.bt_model.specs.Trees.{IdFits, Node}
 use Rattle.bt_arena.specs.Nodes.{IsFit}
-use Rattle.bt_nodes.specs.Given.{FewCases}
+
+-- a Switch has 6 cases at most
+abbrev pub FewCases : Kind → Type 0
+FewCases (Switch cases) = cases ≤ 6
+FewCases _ = Unit {0}
 
 -- each Switch of a table has few cases
 abbrev HaveFewCases : List (List ℕ × Kind) → Type 0

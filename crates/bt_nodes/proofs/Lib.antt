@@ -6,6 +6,7 @@ pub mod Following
 pub mod LoneVisits
 pub mod MadeCalls
 pub mod Needed
+pub mod Phases
 pub mod PortValues
 pub mod Settled
 pub mod Standing

@@ -1,11 +1,19 @@
--- The scripts of a node need no slot but those of its view.
-use Rattle.std.proofs.Common.{◌≡◌, ℕ, length, Option, Some, None, subst}
+-- The scripts and ports of a node need no slot but those of its view.
+use Rattle.std.proofs.Common.{◌≡◌, ℕ, length, Option, Some, None, ap, subst, sym, ◌∙◌}
+use Rattle.std.specs.List.{All}
+use Rattle.std.proofs.lemmas.List.{length-map}
 use Rattle.bt_script.specs.declared.syntax.Script.{Script}
 use Rattle.bt_script_code.specs.declared.codes.Code.{Code}
 use Rattle.bt_model.specs.declared.term.Guards.{Guards}
+use Rattle.bt_model.specs.declared.term.Kind.{Kind}
+use Rattle.bt_model.specs.BuiltIns.{PortRule, ports_of}
 use Rattle.bt_model.specs.Sites.{View}
+use Rattle.bt_model.specs.Trees.{Node as TreeNode}
+use Rattle.bt_arena.specs.declared.nodes.Node.{Node}
 use Rattle.bt_arena.specs.declared.nodes.ReadyGuards.{ReadyGuards}
-use Rattle.bt_arena.specs.Nodes.{AreCompiled, IsCompiled}
+use Rattle.bt_arena.specs.Nodes.{AreCompiled, IsCompiled, IsNode}
+use Rattle.bt_arena.specs.Sources.{IsSourceOf, source_at}
+use Rattle.bt_nodes.specs.Given.{HasPorts}
 use Rattle.bt_nodes.specs.Needs.{GuardsNeedAtMost, NeedsAtMost}
 
 needed : (view : View) (script : Option Script) (code : Option Code) → IsCompiled view script code → NeedsAtMost (length view.slots) code
@@ -28,4 +36,14 @@ module _ (slots : ℕ) (view : View) (as_many : length view.slots ≡ slots) whe
     on_failure = script_needs guards.on_failure ready.on_failure k.on_failure;
     post = script_needs guards.post ready.post k.post;
     on_halted = script_needs guards.on_halted ready.on_halted k.on_halted;
+  }
+
+  -- a node has the ports of its kind
+  pub has_ports : (written : TreeNode) (whole : ℕ) (node : Node) → IsNode view written whole node → HasPorts slots node
+  has_ports written whole node k = record {
+    as_many =
+        ap length k.ports
+        ∙ length-map (ports_of written.kind) (λ (port : PortRule). source_at view written.ports port.name)
+        ∙ ap (λ (kind : Kind). length (ports_of kind)) (sym k.kind);
+    known = subst (λ (n : ℕ). All (IsSourceOf n) node.ports) as_many k.slots;
   }

@@ -24,7 +24,8 @@ use Rattle.bt_arena.specs.declared.source.Source.TheVariants.{Absent}
 use Rattle.bt_arena.specs.Nodes.{IsNode}
 use Rattle.bt_arena.specs.Sources.{source_at, source_of, source_value}
 use Rattle.bt_arena.specs.Stands.{written}
-use Rattle.bt_nodes.specs.Given.{FewCases, case_of, case_selected, first_case, port_at, source_number, source_text}
+use Rattle.bt_nodes.specs.Given.{case_of, case_selected, first_case, port_at, source_number, source_text}
+use Rattle.bt_nodes.proofs.Cases.{FewCases}
 
 -- a source has the value of what is given
 pub given_means : (site : Site) (s : State) (given : Option PortValue) → source_value s.board (source_of site.view given) ≡ value_by site s given

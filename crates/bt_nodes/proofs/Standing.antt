@@ -1,12 +1,12 @@
 -- A term that stands in an arena, as its node, and what a change at its node leaves.
-use Rattle.std.proofs.Common.{◌≡◌, ◌≢◌, ℕ, ◌+◌, List, map, length, set, Result, Ok, Err, sym, ap, subst, ◌∙◌, arith}
+use Rattle.std.proofs.Common.{◌≡◌, ◌≢◌, ℕ, ◌+◌, ◌<◌, List, map, length, set, Result, Ok, Err, sym, ap, subst, ◌∙◌, arith}
 use Rattle.std.proofs.lemmas.List.{get_or-set_other, length-map, length-set}
 use Rattle.bt_script.specs.declared.stop.Stop.{Stop}
 use Rattle.bt_script.specs.declared.stop.Stop.TheVariants as stop
 use Rattle.bt_model.specs.declared.fault.NodeFault.{NodeFault}
 use Rattle.bt_model.specs.declared.memory.Memory.{Memory}
 use Rattle.bt_model.specs.declared.note.Note.{Note}
-use Rattle.bt_model.specs.declared.term.Term.{Term, out-Term}
+use Rattle.bt_model.specs.declared.term.Term.{Term, Term-F, out-Term}
 use Rattle.bt_model.specs.declared.term.Term.TheFolds.{map-Term}
 use Rattle.bt_model.specs.Done.{Done}
 use Rattle.bt_model.specs.Drivers.{DriverState, is_held}
@@ -38,9 +38,13 @@ fits_here t view uid nodes s fits =
     }
 
 -- as much is kept as there are nodes
-pub as_many_kept : (nodes : List Node) (kept : List Kept) (drivers : List DriverState) → marks_of kept ≡ map is_held (instances_of nodes drivers) → length kept ≡ length nodes
+as_many_kept : (nodes : List Node) (kept : List Kept) (drivers : List DriverState) → marks_of kept ≡ map is_held (instances_of nodes drivers) → length kept ≡ length nodes
 as_many_kept nodes kept drivers marks =
     sym (length-map kept (λ (k : Kept). k.held)) ∙ ap length marks ∙ length-map (instances_of nodes drivers) is_held ∙ length-map nodes (λ (node : Node). leaf_instance drivers node.leaf)
+
+-- a node that fits is one of those that keep something
+pub kept_there : (term : Term-F Meaning) (view : View) (uid : ℕ) (nodes : List Node) (s : Scene) → FitsHere term view uid nodes s → uid < length s.kept
+kept_there term view uid nodes s fits = omega (arith, fits.there, as_many_kept nodes s.kept s.drivers fits.marks)
 
 -- a part that is met, its memory read in another way
 pub read_as : {A M : Type 0} (nodes : List Node) (now : ℕ) (read other : List Kept → M) (r : Result A (Stop NodeFault)) (before after : Scene) (old new : List Note) (d : Done A M) →

@@ -1,12 +1,10 @@
 -- What the ports of a node give: a truth, and the first case that has a text.
-use Rattle.std.specs.Prelude.{◌≡◌, ℕ, ◌+◌, ◌≤◌, ℤ, List, [], ◌∷◌, Bool, if◌then◌else◌, length, codes, Option, Some, None, option_map, slice_index_or}
+use Rattle.std.specs.Prelude.{◌≡◌, ℕ, ◌+◌, ℤ, List, [], ◌∷◌, Bool, if◌then◌else◌, length, codes, Option, Some, None, option_map, slice_index_or}
 use Rattle.std.specs.List.{All}
 use Rattle.std.specs.Str.{bytes_eq}
 use Rattle.bt_script.specs.declared.value.Value.{Value}
 use Rattle.bt_script.specs.declared.value.Value.TheVariants.{Text}
 use Rattle.bt_script.specs.Operators.{is_true}
-use Rattle.bt_model.specs.declared.term.Kind.{Kind}
-use Rattle.bt_model.specs.declared.term.Kind.TheVariants.{Switch}
 use Rattle.bt_model.specs.BuiltIns.{ports_of}
 use Rattle.bt_model.specs.Ports.{is_case, number_by, text_by}
 use Rattle.bt_arena.specs.declared.nodes.Node.{Node}
@@ -51,8 +49,3 @@ case_of board cases None = length cases
 abbrev pub case_selected : List (Option Value) → List Source → ℕ
 case_selected board [] = 0
 case_selected board (variable ∷ cases) = case_of board cases (source_text board variable)
-
--- a Switch has 6 cases at most
-abbrev pub FewCases : Kind → Type 0
-FewCases (Switch cases) = cases ≤ 6
-FewCases _ = Unit {0}

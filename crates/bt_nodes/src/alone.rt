@@ -1,4 +1,4 @@
-ghost use Rattle.std.specs.Prelude.{◌≡◌, ◌≤◌, ◌<◌, ◌+◌, ℕ, List, Option, Some, if◌then◌else◌, length, slice_set};
+ghost use Rattle.std.specs.Prelude.{◌≡◌, ◌≤◌, ◌<◌, ◌+◌, List, Option, Some, if◌then◌else◌, length, slice_set};
 ghost use Rattle.bt_script.specs.declared.syntax.Script.{Script};
 ghost use Rattle.bt_model.specs.declared.built_ins.Class.TheVariants.{Leaf as AloneClass};
 ghost use Rattle.bt_model.specs.declared.memory.Memory.{Memory};

@@ -192,8 +192,8 @@ fn tell(
 }
 
 /// Calls the driver of the leaf with this uid, to begin or to go on, with its inputs. On SUCCESS its
-/// outputs are written, and each answer is noted in a place that was reserved before. Refused for want
-/// of memory, no call was made.
+/// outputs are written. Room for its note is made before the call, so that no note of a call that was
+/// made is refused.
 pub fn leaf_call<D: Drivers>(
     leaf: &ReadyLeaf,
     uid: u32,

@@ -1,17 +1,16 @@
-ghost use Rattle.std.specs.Prelude.{◌≡◌, ◌≤◌, Bool, Option, length};
+ghost use Rattle.std.specs.Prelude.{◌≡◌, ◌≤◌, Option, length};
 ghost use Rattle.std.specs.List.{All};
 ghost use Rattle.bt_script.specs.declared.syntax.Script.{Script};
 ghost use Rattle.bt_script.specs.Entries.{HoldsNoText, IsAnswered};
 ghost use Rattle.bt_script.specs.Stops.{Gives};
 ghost use Rattle.bt_script_code.specs.Codes.{program};
-ghost use Rattle.bt_model.specs.declared.term.Guards.{Guards};
 ghost use Rattle.bt_model.specs.declared.term.Term.{Term-F};
 ghost use Rattle.bt_model.specs.Done.{Done, State, follow};
 ghost use Rattle.bt_model.specs.Scripts.{goes_on, guard, guards_answer, posts, script_cause, script_holds, script_if_there, script_run, truth_of};
 ghost use Rattle.bt_model.specs.Sites.{Meaning, View};
 ghost use Rattle.bt_model.specs.Visit.{site_of};
 ghost use Rattle.bt_arena.specs.Nodes.{AreCompiled, IsCodeOf, IsCompiled};
-ghost use Rattle.bt_nodes.specs.Needs.{GuardsNeedAtMost, NeedsAtMost};
+ghost use Rattle.bt_nodes.specs.Needs.{GuardsNeedAtMost, HasNoText, NeedsAtMost};
 ghost use Rattle.bt_nodes.specs.Settles.{Settles, Tries, on_board};
 
 use bt_arena::ReadyGuards;
@@ -70,6 +69,7 @@ pub fn script_if_there(
     ensures settles { (term : Term-F Meaning) (view : View) (script : Option Script) (s : State) → IsCompiled view script code.now →
         Settles result (on_board board.new s) (script_if_there (site_of term view uid) script (on_board board.old s)) }
     ensures slots { length board.new ≡ length board.old }
+    ensures memory { HasNoText code.now → All HoldsNoText board.old → IsAnswered result }
 {
     if let Some(code) = code {
         run_script(alloc, code, uid, board)?;
@@ -79,7 +79,8 @@ pub fn script_if_there(
 
 /// A value as a condition of the node with this uid.
 fn truth(value: &Value, uid: u32) -> Result<bool, Stop<NodeFault>>
-    ensures { Gives result (truth_of uid value.now) }
+    ensures gives { Gives result (truth_of uid value.now) }
+    ensures memory { IsAnswered result }
 {
     match value {
         Value::Int(n) => Ok(*n != 0),
@@ -102,6 +103,7 @@ pub fn script_holds(
     ensures settles { (term : Term-F Meaning) (view : View) (script : Script) (s : State) → IsCodeOf view script code.now →
         Settles result (on_board board.new s) (script_holds (site_of term view uid) script (on_board board.old s)) }
     ensures slots { length board.new ≡ length board.old }
+    ensures memory { (program code.now).texts ≡ 0 → All HoldsNoText board.old → IsAnswered result }
 {
     let value = run_script(alloc, code, uid, board)?;
     truth(&value, uid)
@@ -166,6 +168,7 @@ pub fn goes_on(
     ensures settles { (term : Term-F Meaning) (view : View) (s : State) → IsCompiled view term.guards.while_true guards.now.while_true →
         Settles result (on_board board.new s) (goes_on (site_of term view uid) (on_board board.old s)) }
     ensures slots { length board.new ≡ length board.old }
+    ensures memory { HasNoText guards.now.while_true → All HoldsNoText board.old → IsAnswered result }
 {
     match &guards.while_true {
         Some(code) => script_holds(alloc, code, uid, board),

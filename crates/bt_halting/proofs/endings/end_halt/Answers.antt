@@ -7,7 +7,8 @@ use Rattle.bt_arena.specs.Scenes.{scene, state_in}
 use Rattle.bt_nodes.specs.Here.{site_at}
 use Rattle.bt_nodes.proofs.Following.{stops_with}
 use Rattle.bt_nodes.proofs.Needed.{script_needs}
-use Rattle.bt_halting.proofs.Ending.{end_met, fits_still, idle_is, node_of, not_rested, nothing_cut, settles_met}
+use Rattle.bt_nodes.proofs.Settled.{settles_met}
+use Rattle.bt_halting.proofs.Ending.{end_met, fits_still, idle_is, node_of, not_rested, nothing_cut}
 use Rattle.bt_halting.proofs.Marks.{as_many_marks}
 use Rattle.bt_halting.proofs.endings.end_halt.Goals as goal
 
@@ -35,7 +36,7 @@ returns-clause-meets g c = λ term view facts moment fits.
     let s2 = scene c.come_to_rest.new.kept c.args.board.now facts (g.D.Drivers.states c.let_go.new.drivers) in
     end_met c.args.nodes.now moment term view c.args.uid fits.stands _ _ _ _ _ (c.in_ok-let_go.ensures.ok moment c.args.board.now facts) s2 _ refl refl refl c.in_ok-come_to_rest.ensures.notes _ _ _
     (idle_is term c.args.uid c.args.kept.now c.let_go.new.kept c.come_to_rest.new.kept c.let_go.ensures.beside c.let_go.ensures.memo within c.in_ok-come_to_rest.ensures.kept)
-    (settles_met c.args.nodes.now moment _ s2 _ _ _ refl (c.script_if_there.ensures.settles at.node view at.node.guards.on_halted (state_in c.args.nodes.now s2 moment) compiled))
+    (settles_met c.args.nodes.now moment tt _ s2 _ _ _ refl (c.script_if_there.ensures.settles at.node view at.node.guards.on_halted (state_in c.args.nodes.now s2 moment) compiled))
 
 pub returns-clause-fits : goal.returns-clause-fits
 returns-clause-fits g c = λ facts.

@@ -36,8 +36,12 @@ returns-then-kept_by-clause-notes g c =
 pub returns-then-kept_by-clause-reserve : goal.returns-then-kept_by-clause-reserve
 returns-then-kept_by-clause-reserve g c =
     let held = ap (λ (k : Kept). k.held) (sym c.kept_by.ensures) ∙ c.if-kept_by.true in
-    omega (arith, c.requires.room held, ap (λ (n : Noted). n.reserve) c.push_reserved.ensures,
-    held_length c.args.nodes.now _ c.args.uid c.in-Some.leaf (ap (λ (n : Node). n.leaf) (sym c.node.ensures) ∙ c.in-Some.is) c.requires.leaves (sym (mark_is c.args.nodes.now c.args.kept.now _ c.args.uid c.requires.marks) ∙ held) _ c.halted.ensures)
+    omega (
+      arith,
+      c.requires.room held,
+      ap (λ (n : Noted). n.reserve) c.push_reserved.ensures,
+      held_length c.args.nodes.now _ c.args.uid c.in-Some.leaf (ap (λ (n : Node). n.leaf) (sym c.node.ensures) ∙ c.in-Some.is) c.requires.leaves (sym (mark_is c.args.nodes.now c.args.kept.now _ c.args.uid c.requires.marks) ∙ held) _ c.halted.ensures,
+    )
 
 pub returns-else-kept_by-clause-drivers : goal.returns-else-kept_by-clause-drivers
 returns-else-kept_by-clause-drivers g c = free_drivers c.args.nodes.now _ c.args.uid (sym (mark_is c.args.nodes.now c.args.kept.now _ c.args.uid c.requires.marks) ∙ ap (λ (k : Kept). k.held) (sym c.kept_by.ensures) ∙ c.if-kept_by.false)

@@ -133,7 +133,7 @@ reset_node-returns-in_err-become_idle-in_default g t c = record {
   held = rw (stops_with c.from_residual.result stop.NoMemory c.from_residual.ensures.1) tt;
   beside = rw c.in_err-become_idle-in_default.ensures.err (beside_none _ _ _);
   reserve = omega (arith, c.become_idle.ensures.reserve);
-      full = c.become_idle.ensures.full;
+  full = c.become_idle.ensures.full;
 }
 
 pub reset_node-returns-in_ok-become_idle-in_default : goal.reset_node-returns-in_ok-become_idle-in_default

@@ -1,4 +1,4 @@
-use Rattle.std.proofs.Common.{◌+◌, arith, refl, subst, sym}
+use Rattle.std.proofs.Common.{◌+◌, refl, subst, sym}
 use Rattle.bt_model.specs.declared.term.Term.{Term, out-Term}
 use Rattle.bt_model.specs.declared.term.Term.TheFolds.{map-Term}
 use Rattle.bt_model.specs.Sites.{Meaning, remembered}
@@ -8,7 +8,7 @@ use Rattle.bt_arena.specs.Nodes.{AreCompiled, kept_at}
 use Rattle.bt_arena.specs.Scenes.{scene}
 use Rattle.bt_arena.specs.Stands.{memories_of, memory_of}
 use Rattle.bt_nodes.proofs.Needed.{guards_need}
-use Rattle.bt_nodes.proofs.Standing.{as_many_kept, fits_here, memory_now, read_as, stays_fit}
+use Rattle.bt_nodes.proofs.Standing.{fits_here, kept_there, memory_now, read_as, stays_fit}
 use Rattle.bt_nodes.proofs.ending.end_visit.Goals as goal
 
 pub node-requires : goal.node-requires
@@ -16,7 +16,7 @@ node-requires c = let f = c.requires.fits in (fits_here f.0 f.1 c.args.uid _ _ f
 
 pub end_node-requires-clause-there : goal.end_node-requires-clause-there
 end_node-requires-clause-there c =
-    let f = c.requires.fits in omega (arith, (fits_here f.0 f.1 c.args.uid _ _ f.4).there, as_many_kept c.args.nodes.now c.args.kept.now f.3 f.4.marks)
+    let f = c.requires.fits in kept_there _ f.1 c.args.uid _ _ (fits_here f.0 f.1 c.args.uid _ _ f.4)
 
 pub end_node-requires-clause-guards : goal.end_node-requires-clause-guards
 end_node-requires-clause-guards c =

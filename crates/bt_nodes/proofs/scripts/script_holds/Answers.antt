@@ -9,4 +9,4 @@ returns-in_err-value-clause-settles c = λ term view script s k.
 
 pub returns-clause-settles : goal.returns-clause-settles
 returns-clause-settles c = λ term view script s k.
-    went_on (λ value _ s1. ends (truth_of c.args.uid value) tt s1) _ _ _ _ _ (c.in_ok-value.ensures.settles term view script s k) (gives_settles _ _ _ c.truth.ensures)
+    went_on (λ value _ s1. ends (truth_of c.args.uid value) tt s1) _ _ _ _ _ (c.in_ok-value.ensures.settles term view script s k) (gives_settles _ _ _ c.truth.ensures.gives)

@@ -1,0 +1,123 @@
+-- The children of a node that stands in an arena: where they stand, what they keep, and their rules.
+use Rattle.std.proofs.Common.{◌≡◌, ℕ, zero, suc, ◌+◌, ◌<◌, ◌≤◌, List, [], ◌∷◌, map, length, take, get_or, refl, sym, ap, subst, ◌∙◌, arith}
+use Rattle.bt_model.specs.declared.term.Term.{Term, Term-F, out-Term, roll-Term, roll-out-Term}
+use Rattle.bt_model.specs.declared.term.Term.TheFolds.{rec-roll-Term}
+use Rattle.bt_model.specs.declared.world.Row.{Row}
+use Rattle.bt_model.specs.Sites.{View, child_of, children_from}
+use Rattle.bt_model.specs.Sound.{Sound, States, states_of_node}
+use Rattle.bt_model.specs.Steps.{child_at}
+use Rattle.bt_model.specs.Visit.{meaning}
+use Rattle.bt_arena.specs.declared.nodes.Kept.{Kept}
+use Rattle.bt_arena.specs.declared.nodes.Node.{Node}
+use Rattle.bt_arena.specs.Nodes.{node_at}
+use Rattle.bt_arena.specs.Stands.{Beside, StandAll, Stands, uid_of}
+use Rattle.bt_arena.proofs.Framed.{all_sizes, sizes_cons}
+use Rattle.bt_arena.proofs.Opened.{opened, size_out}
+use Rattle.bt_halting.proofs.Within.{stands_within}
+use Rattle.bt_laws.proofs.Children.{Family, Keeps}
+use Rattle.bt_laws.proofs.Induction.{rules_of_terms}
+use Rattle.bt_laws.proofs.Keeping.{family}
+use Rattle.bt_laws.proofs.Seats.{Seat, first_seat, later_seat}
+
+-- ---- Places
+
+-- the uid of the child behind the first one, in terms of those behind the first
+uid_behind : (c : Term) (cs : List Term) (place uid : ℕ) → uid_of cs (uid + (meaning c).size) place ≡ uid_of (c ∷ cs) uid (suc place)
+uid_behind c cs place uid = omega (arith, sizes_cons c (take place cs))
+
+-- a child lies within all of them
+pub child_inside : (ts : List Term) (place uid : ℕ) (t : Term) → place < length ts →
+    (uid ≤ uid_of ts uid place) × (uid_of ts uid place + (meaning (get_or ts place t)).size ≤ uid + all_sizes ts)
+child_inside [] place uid t within = absurd (omega (arith, within))
+child_inside (c ∷ cs) zero uid t within = (omega arith, omega (arith, sizes_cons c cs))
+child_inside (c ∷ cs) (suc place) uid t within =
+    let more = child_inside cs place (uid + (meaning c).size) t (omega (arith, within)) in
+    let same = uid_behind c cs place uid in
+    (omega (arith, more.0, same), omega (arith, more.1, same, sizes_cons c cs))
+
+-- the child that a node sees at a place
+pub child_seen : (view : View) (ts : List Term) (place uid first : ℕ) (t : Term) → place < length ts →
+    child_at (children_from view (map meaning ts) uid first) place ≡ child_of view (meaning (get_or ts place t)) (uid_of ts uid place) (first + place)
+child_seen view [] place uid first t within = absurd (omega (arith, within))
+child_seen view (c ∷ cs) zero uid first t within =
+    let at : uid ≡ uid + 0 = omega arith in
+    let index : first ≡ first + 0 = omega arith in
+    λ i. child_of view (meaning c) (at i) (index i)
+child_seen view (c ∷ cs) (suc place) uid first t within =
+    let index : first + 1 + place ≡ first + suc place = omega arith in
+    child_seen view cs place (uid + (meaning c).size) (first + 1) t (omega (arith, within))
+    ∙ (λ i. child_of view (meaning (get_or cs place t)) (uid_behind c cs place uid i) (index i))
+
+-- it stands there
+pub child_stands : (nodes : List Node) (view : View) (ts : List Term) (place uid : ℕ) (t : Term) → place < length ts → StandAll ts nodes view uid → Stands (get_or ts place t) nodes view (uid_of ts uid place)
+child_stands nodes view [] place uid t within stand = absurd (omega (arith, within))
+child_stands nodes view (c ∷ cs) zero uid t within stand = subst (λ (u : ℕ). Stands c nodes view u) (let e : uid ≡ uid + 0 = omega arith in e) stand.0
+child_stands nodes view (c ∷ cs) (suc place) uid t within stand =
+    subst (λ (u : ℕ). Stands (get_or cs place t) nodes view u) (uid_behind c cs place uid) (child_stands nodes view cs place (uid + (meaning c).size) t (omega (arith, within)) stand.1)
+
+-- ---- Sizes in an arena
+
+pub size_stands : (t : Term) (nodes : List Node) (view : View) (uid : ℕ) → Stands t nodes view uid → (node_at nodes uid).size ≡ (meaning t).size
+size_stands t nodes view uid stands = (opened t nodes view uid stands).1.size ∙ sym (size_out t)
+
+-- the uid behind a child
+pub uid_next : (ts : List Term) (place uid : ℕ) (t : Term) → place < length ts → uid_of ts uid place + (meaning (get_or ts place t)).size ≡ uid_of ts uid (place + 1)
+uid_next [] place uid t within = absurd (omega (arith, within))
+uid_next (c ∷ cs) zero uid t within = omega (arith, sizes_cons c (take zero cs))
+uid_next (c ∷ cs) (suc place) uid t within =
+    ap (λ (n : ℕ). n + (meaning (get_or cs place t)).size) (sym (uid_behind c cs place uid))
+    ∙ uid_next cs place (uid + (meaning c).size) t (omega (arith, within))
+    ∙ uid_behind c cs (place + 1) uid
+    ∙ ap (λ (k : ℕ). uid_of (c ∷ cs) uid k) (let e : suc (place + 1) ≡ suc place + 1 = omega arith in e)
+
+-- a child in an arena: it is there, and behind it stands the next one
+pub child_there : (ts : List Term) (nodes : List Node) (view : View) (first place at : ℕ) → StandAll ts nodes view first → place < length ts → at ≡ uid_of ts first place →
+    (at < length nodes) × (at + (node_at nodes at).size ≤ length nodes) × (at + (node_at nodes at).size ≡ uid_of ts first (place + 1))
+child_there [] nodes view first place at stand within is = absurd (omega (arith, within))
+child_there (c ∷ cs) nodes view first place at stand within is =
+    let t = get_or (c ∷ cs) place c in
+    let stands : Stands t nodes view at = subst (λ (u : ℕ). Stands t nodes view u) (sym is) (child_stands nodes view (c ∷ cs) place first c within stand) in
+    let size = size_stands t nodes view at stands in
+    let inside = stands_within t nodes view at stands in
+    ((opened t nodes view at stands).0, omega (arith, size, inside), ap (λ (n : ℕ). n + (node_at nodes at).size) is ∙ ap (λ (n : ℕ). uid_of (c ∷ cs) first place + n) size ∙ uid_next (c ∷ cs) place first c within)
+
+-- ---- What changes beside
+
+pub beside_same : (uid size : ℕ) (a : List Kept) → Beside uid size a a
+beside_same uid size a = record { below = λ p e. refl; above = λ p e. refl; as_many = refl }
+
+pub beside_both : {uid size uid1 size1 uid2 size2 : ℕ} {a b c : List Kept} → Beside uid1 size1 a b → Beside uid2 size2 b c →
+    uid ≤ uid1 → uid1 + size1 ≤ uid + size → uid ≤ uid2 → uid2 + size2 ≤ uid + size → Beside uid size a c
+beside_both k l low1 high1 low2 high2 = record {
+  below = λ p e. l.below p (omega (arith, e, low2)) ∙ k.below p (omega (arith, e, low1));
+  above = λ p e. l.above p (omega (arith, e, high2)) ∙ k.above p (omega (arith, e, high1));
+  as_many = l.as_many ∙ k.as_many;
+}
+
+pub beside_more : {uid size uid1 size1 : ℕ} {a b : List Kept} → Beside uid1 size1 a b → uid ≤ uid1 → uid1 + size1 ≤ uid + size → Beside uid size a b
+beside_more {uid} {size} {b = b} k low high = beside_both k (beside_same uid size b) low high (omega arith) (omega arith)
+
+-- of as many nodes as an arena says
+pub beside_sized : (term : Term) (uid size : ℕ) (a b : List Kept) → size ≡ (meaning term).size → Beside uid size a b → Beside uid (meaning term).size a b
+beside_sized term uid size a b is k = subst (λ (n : ℕ). Beside uid n a b) is k
+
+-- ---- Rules
+
+pub sound_roll : (x : Term-F Term) → Sound (roll-Term x) ≡ states_of_node Term (λ t. t) Sound x
+sound_roll x = rec-roll-Term States states_of_node (λ Y v k x. rules_of_terms v k x) x
+
+-- the rules of a term are that of its node and those of its children
+pub sound_out : (t : Term) → Sound t ≡ states_of_node Term (λ t. t) Sound (out-Term t)
+sound_out t = ap Sound (sym (roll-out-Term t)) ∙ sound_roll (out-Term t)
+
+module _ (keeps : (t : Term) → Keeps (meaning t) (Sound t)) where
+  -- the children of a node as terms
+  abbrev pub terms : Family
+  terms = family (λ (t : Term). t) keeps
+
+  pub seat_at : (rows : List Row) (ts : List Term) (place uid : ℕ) (t : Term) → place < length ts → Seat terms rows ts uid place (get_or ts place t) (uid_of ts uid place)
+  seat_at rows [] place uid t within = absurd (omega (arith, within))
+  seat_at rows (c ∷ cs) zero uid t within = subst (λ (u : ℕ). Seat terms rows (c ∷ cs) uid zero c u) (let e : uid ≡ uid + 0 = omega arith in e) (first_seat terms rows c cs uid)
+  seat_at rows (c ∷ cs) (suc place) uid t within =
+      subst (λ (u : ℕ). Seat terms rows (c ∷ cs) uid (suc place) (get_or cs place t) u) (uid_behind c cs place uid)
+      (later_seat terms rows c cs uid (get_or cs place t) place (uid_of cs (uid + (meaning c).size) place) (seat_at rows cs place (uid + (meaning c).size) t (omega (arith, within))))

@@ -1,0 +1,10 @@
+pub mod Bounds
+pub mod Children
+pub mod Entering
+pub mod Frames
+pub mod Held
+pub mod Moving
+pub mod Passing
+pub mod Stacks
+pub mod Starting
+pub mod Totals

@@ -1,0 +1,71 @@
+-- A visit begins no more calls than its work.
+use Rattle.std.proofs.Common.{◌≡◌, ℕ, ◌+◌, ◌≤◌, List, [], ◌∷◌, ◌++◌, length, slice_set, Option, Some, None, Result, Ok, Err, ap, arith, ⊎_elim}
+use Rattle.std.proofs.Math.Nat.{min-le_left}
+use Rattle.std.proofs.lemmas.Bool.{cases_lt}
+use Rattle.std.proofs.lemmas.List.{set_past}
+use Rattle.std.proofs.lemmas.List.Sums.{sum_by-set}
+use Rattle.bt_script.specs.declared.stop.Stop.{Stop}
+use Rattle.bt_script.specs.declared.stop.Stop.TheVariants as stop
+use Rattle.bt_model.specs.declared.fault.NodeFault.{NodeFault}
+use Rattle.bt_model.specs.declared.leaf.DriverKind.TheVariants as driver
+use Rattle.bt_model.specs.declared.leaf.Instance.{Instance}
+use Rattle.bt_model.specs.declared.leaf.Phase.{Phase}
+use Rattle.bt_model.specs.declared.leaf.Phase.TheVariants as phase
+use Rattle.bt_model.specs.declared.leaf.Totals.{Totals}
+use Rattle.bt_model.specs.declared.note.Note.{Note}
+use Rattle.bt_model.specs.declared.status.Answer.{Answer}
+use Rattle.bt_model.specs.Done.{Call, Done}
+use Rattle.bt_model.specs.Drivers.{DriverState, after_call, counted, driver_at, new_driver, raised, roster_called}
+use Rattle.bt_model.specs.Sound.{begins, begun_calls}
+use Rattle.bt_arena.specs.declared.nodes.Kept.{Kept}
+use Rattle.bt_arena.specs.declared.nodes.Node.{Node}
+use Rattle.bt_arena.specs.declared.nodes.ReadyLeaf.{ReadyLeaf}
+use Rattle.bt_arena.specs.Ends.{Meets}
+use Rattle.bt_arena.specs.Nodes.{leaf_at}
+use Rattle.bt_arena.specs.Rosters.{leaf_called, roster_after}
+use Rattle.bt_arena.specs.Scenes.{Scene}
+use Rattle.bt_laws.proofs.Spending.{begun_both}
+use Rattle.bt_tick.specs.Work.{begun_by}
+
+abbrev begun_one : DriverState → ℕ
+begun_one d = d.totals.starts + d.totals.runnings
+
+raised_most : (n : ℕ) → raised n ≤ n + 1
+raised_most n = min-le_left (n + 1) _
+
+counted_most : (t : Totals) (ph : Phase) (instance : ℕ) → (counted t ph instance).starts + (counted t ph instance).runnings ≤ t.starts + t.runnings + begins ph
+counted_most t phase.Start instance = omega (arith, raised_most t.starts)
+counted_most t phase.Running instance = omega (arith, raised_most t.runnings)
+counted_most t phase.Halted instance = omega arith
+
+called_most : (ds : List DriverState) (place : ℕ) (ph : Phase) (instance : ℕ) (left : Instance) → begun_by (roster_called ds place ph instance left) ≤ begun_by ds + begins ph
+called_most ds place ph instance left =
+    let d : DriverState = driver_at ds place in
+    let after : DriverState = after_call d ph instance left in
+    let more : begun_one after ≤ begun_one d + begins ph = counted_most d.totals ph instance in
+    ⊎_elim
+    (λ within. let sum = sum_by-set begun_one ds place after (new_driver driver.Condition) within in omega (arith, sum, more))
+    (λ past. let same : begun_by (slice_set ds place after) ≡ begun_by ds = ap (λ (x : List DriverState). begun_by x) (set_past ds place after past) in omega (arith, same))
+    (cases_lt place (length ds))
+
+leaf_most : (o : Option ReadyLeaf) (call : Call) (ds : List DriverState) → begun_by (leaf_called o call ds) ≤ begun_by ds + begins call.phase
+leaf_most (Some leaf) call ds = called_most ds leaf.driver call.phase leaf.instance call.left
+leaf_most None call ds = omega arith
+
+after_most : (nodes : List Node) (calls : List Call) (ds : List DriverState) → begun_by (roster_after nodes calls ds) ≤ begun_by ds + begun_calls calls
+after_most nodes [] ds = omega arith
+after_most nodes (c ∷ cs) ds = omega (arith, after_most nodes cs (leaf_called (leaf_at nodes c.uid) c ds), leaf_most (leaf_at nodes c.uid) c ds)
+
+-- the totals rise by no more than the calls of the definition, whatever the answer
+pub totals_most : {M : Type 0} (nodes : List Node) (moment : ℕ) (memory : List Kept → M) (r : Result Answer (Stop NodeFault)) (s s1 : Scene) (n0 n1 : List Note) (d : Done Answer M) (work : ℕ) →
+    begun_calls d.calls ≤ work → Meets nodes moment memory r s s1 n0 n1 d → begun_by s1.drivers ≤ begun_by s.drivers + work
+totals_most nodes moment memory (Ok a) s s1 n0 n1 d work most m =
+    let after : begun_by s1.drivers ≡ begun_by (roster_after nodes d.calls s.drivers) = ap (λ (x : List DriverState). begun_by x) m.0.drivers in
+    omega (arith, most, after, after_most nodes d.calls s.drivers)
+totals_most nodes moment memory (Err (stop.Fault f)) s s1 n0 n1 d work most m =
+    let after : begun_by s1.drivers ≡ begun_by (roster_after nodes d.calls s.drivers) = ap (λ (x : List DriverState). begun_by x) m.drivers in
+    omega (arith, most, after, after_most nodes d.calls s.drivers)
+totals_most nodes moment memory (Err stop.NoMemory) s s1 n0 n1 d work most m =
+    let after : begun_by s1.drivers ≡ begun_by (roster_after nodes m.made s.drivers) = ap (λ (x : List DriverState). begun_by x) m.drivers in
+    let all : begun_calls (m.made ++ m.unmade) ≡ begun_calls d.calls = ap begun_calls m.all_calls in
+    omega (arith, most, after, after_most nodes m.made s.drivers, all, begun_both m.made m.unmade)

@@ -1,0 +1,82 @@
+use Rattle.std.proofs.Common.{Err, arith, refl, sym, ◌∙◌}
+use Rattle.bt_laws.proofs.Keeping.{term_keeps}
+use Rattle.bt_tick.proofs.Passing.{met_with}
+use Rattle.bt_tick.proofs.Stacks.{back_answers, back_made, begins, can_again, can_enter, can_step, enter_made, enter_stops, none_held, on_stack, step_made, step_stays, step_stops, wait_made}
+use Rattle.bt_tick.proofs.visiting.visit.Goals as goal
+
+pub loop-turn-init : goal.loop-turn-init
+loop-turn-init g c = record {
+  all = λ term view can. on_stack term_keeps _ _ (sym c.new-stack.ensures.items) (begins term_keeps _ _ view can);
+  stays = λ term view uid fits. fits;
+  reserve = omega arith;
+  full = refl;
+}
+
+pub returns-in_err-turn-in-Enter-clause-meets : goal.returns-in_err-turn-in-Enter-clause-meets
+returns-in_err-turn-in-Enter-clause-meets g c = λ term view can.
+    met_with _ _ _ _ _ _ _ _ _ _ c.from_residual.ensures.1
+    (enter_stops term_keeps _ _ _ _ _ c.in-Enter.is (c.loop-turn.invariant.all term view can) (λ t v k. c.in_err-turn-in-Enter.ensures.goes t v k))
+
+pub go_on-requires : goal.go_on-requires
+go_on-requires g c =
+    let (term, view, can) = c.requires.can in
+    let (t, v, next, by) = can_step term_keeps _ _ c.in-GoOn.is (c.loop-turn.invariant.all term view can) in
+    record { can = (t, v, c.loop-turn.facts, next, by) }
+
+pub returns-in_err-turn-in-GoOn-clause-meets : goal.returns-in_err-turn-in-GoOn-clause-meets
+returns-in_err-turn-in-GoOn-clause-meets g c = λ term view can.
+    met_with _ _ _ _ _ _ _ _ _ _ c.from_residual-in_err-turn-in-GoOn.ensures.1
+    (step_stops term_keeps _ _ _ _ _ c.in-GoOn.is (c.loop-turn.invariant.all term view can) (λ t v next k. c.in_err-turn-in-GoOn.ensures.goes t v c.loop-turn.facts next k))
+
+pub returns-in_err-turn-in-GoOn-clause-fits : goal.returns-in_err-turn-in-GoOn-clause-fits
+returns-in_err-turn-in-GoOn-clause-fits g c =
+    let (term, view, can) = c.requires.can in
+    let stays = step_stays term_keeps _ _ _ _ (Err c.in_err-turn-in-GoOn.field-0.0) c.in-GoOn.is (c.loop-turn.invariant.all term view can) (λ t v next k. c.in_err-turn-in-GoOn.ensures.goes t v c.loop-turn.facts next k) in
+    λ t v u fits. stays t v u (c.loop-turn.invariant.stays t v u fits)
+
+pub returns-in-None-clause-meets : goal.returns-in-None-clause-meets
+returns-in-None-clause-meets g c = λ term view can.
+    back_answers term_keeps _ _ c.in-Back.is (none_held c.loop-turn.stack.items _ refl c.in-None.ensures.variant.1) (c.loop-turn.invariant.all term view can)
+
+pub returns-in-None-clause-again : goal.returns-in-None-clause-again
+returns-in-None-clause-again g c = λ term view can.
+    can_again term_keeps _ _ term view 1 _ _ _ _ c.in-Back.answer can c.loop-turn.invariant.stays
+    (back_answers term_keeps _ _ c.in-Back.is (none_held c.loop-turn.stack.items _ refl c.in-None.ensures.variant.1) (c.loop-turn.invariant.all term view can))
+
+pub loop-turn-preserved-in_ok-turn-in-Enter : goal.loop-turn-preserved-in_ok-turn-in-Enter
+loop-turn-preserved-in_ok-turn-in-Enter g c =
+    let (term, view, can) = c.requires.can in
+    let (t, v, by) = can_enter term_keeps _ _ c.in-Enter.is (c.loop-turn.invariant.all term view can) in
+    record {
+      all = λ term1 view1 can1. enter_made term_keeps _ _ _ _ c.in-Enter.is (c.loop-turn.invariant.all term1 view1 can1) (λ t1 v1 k. c.in_ok-turn-in-Enter.ensures.goes t1 v1 k);
+      stays = λ t1 v1 u fits. (c.in_ok-turn-in-Enter.ensures.goes t v by).stays t1 v1 u (c.loop-turn.invariant.stays t1 v1 u fits);
+      reserve = omega (arith, c.in_ok-turn-in-Enter.ensures.reserve, c.loop-turn.invariant.reserve);
+      full = c.in_ok-turn-in-Enter.ensures.full ∙ c.loop-turn.invariant.full;
+    }
+
+pub loop-turn-preserved-in_ok-turn-in-GoOn : goal.loop-turn-preserved-in_ok-turn-in-GoOn
+loop-turn-preserved-in_ok-turn-in-GoOn g c =
+    let (term, view, can) = c.requires.can in
+    let (t, v, next, by) = can_step term_keeps _ _ c.in-GoOn.is (c.loop-turn.invariant.all term view can) in
+    record {
+      all = λ term1 view1 can1. step_made term_keeps _ _ _ _ c.in-GoOn.is (c.loop-turn.invariant.all term1 view1 can1) (λ t1 v1 next1 k. c.in_ok-turn-in-GoOn.ensures.goes t1 v1 c.loop-turn.facts next1 k);
+      stays = λ t1 v1 u fits. (c.in_ok-turn-in-GoOn.ensures.goes t v c.loop-turn.facts next by).stays t1 v1 u (c.loop-turn.invariant.stays t1 v1 u fits);
+      reserve = omega (arith, c.in_ok-turn-in-GoOn.ensures.reserve, c.loop-turn.invariant.reserve);
+      full = c.in_ok-turn-in-GoOn.ensures.full ∙ c.loop-turn.invariant.full;
+    }
+
+pub loop-turn-preserved-in_ok-push-in-Wait : goal.loop-turn-preserved-in_ok-push-in-Wait
+loop-turn-preserved-in_ok-push-in-Wait g c = record {
+  all = λ term view can. wait_made term_keeps _ _ _ c.in-Wait.is c.in_ok-push-in-Wait.ensures.ok (c.loop-turn.invariant.all term view can);
+  stays = c.loop-turn.invariant.stays;
+  reserve = c.loop-turn.invariant.reserve;
+  full = c.loop-turn.invariant.full;
+}
+
+pub loop-turn-preserved : goal.loop-turn-preserved
+loop-turn-preserved g c = record {
+  all = λ term view can. back_made term_keeps _ _ _ _ c.in-Back.is c.in-Some.ensures.items c.hear.ensures (c.loop-turn.invariant.all term view can);
+  stays = c.loop-turn.invariant.stays;
+  reserve = c.loop-turn.invariant.reserve;
+  full = c.loop-turn.invariant.full;
+}

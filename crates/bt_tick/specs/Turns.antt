@@ -1,0 +1,287 @@
+-- What is still to come of a visit, and the turns in which it is made.
+use Rattle.std.specs.Prelude.{◌≡◌, ◌+◌, ◌-◌, ◌*◌, ◌^◌, ◌<◌, ◌≤◌, ℕ, zero, suc, sum_by, List, [], ◌∷◌, ◌++◌, length, slice_index_or, Bool, true, false, Some, None, Result, Ok, Err}
+use Rattle.bt_script.specs.declared.stop.Stop.{Stop}
+use Rattle.bt_model.specs.declared.fault.NodeFault.{NodeFault}
+use Rattle.bt_model.specs.declared.memory.Memo.{Memo}
+use Rattle.bt_model.specs.declared.memory.Memory.{Memory, out-Memory}
+use Rattle.bt_model.specs.declared.moves.Heard.{Heard}
+use Rattle.bt_model.specs.declared.moves.Heard.TheVariants.{Begin, Answered, Passed}
+use Rattle.bt_model.specs.declared.note.Note.{Note}
+use Rattle.bt_model.specs.declared.status.Answer.{Answer}
+use Rattle.bt_model.specs.declared.status.Status.{Status}
+use Rattle.bt_model.specs.declared.term.Kind.{Kind}
+use Rattle.bt_model.specs.declared.term.Kind.TheVariants.{Parallel, Switch, Leaf, ScriptNode, ScriptCondition, AlwaysSuccess, AlwaysFailure}
+use Rattle.bt_model.specs.declared.term.Term.{Term, out-Term}
+use Rattle.bt_model.specs.Done.{Call, Done, State, behind, done, follow}
+use Rattle.bt_model.specs.Moves.{Fits as FitsMoves, FitsStart, after, next_place, rest, visits_left}
+use Rattle.bt_model.specs.Sites.{View, children_of, placed, remembered}
+use Rattle.bt_model.specs.Sound.{Dated, Leaves, Sound, Sounds, held_at, is_held}
+use Rattle.bt_model.specs.Steps.{Rule, is_completed, visit}
+use Rattle.bt_model.specs.Visit.{ended, meaning, ruled, started, status_of}
+use Rattle.bt_arena.specs.declared.nodes.Kept.{Kept}
+use Rattle.bt_arena.specs.declared.nodes.Node.{Node}
+use Rattle.bt_arena.specs.Nodes.{kept_at, node_at}
+use Rattle.bt_arena.specs.Noted.{calls_named}
+use Rattle.bt_arena.specs.Rosters.{roster_after}
+use Rattle.bt_arena.specs.Scenes.{Fits, Scene, state_in}
+use Rattle.bt_arena.specs.Stands.{Beside, memories_of, memory_of, uid_of, view_under, written}
+use Rattle.bt_arena.specs.Ends.{Meets, StaysFit}
+use Rattle.bt_nodes.specs.Here.{site_at}
+use Rattle.bt_tick.specs.declared.machine.Frame.{Frame}
+use Rattle.bt_tick.specs.declared.machine.Step.{Step}
+use Rattle.bt_tick.specs.declared.machine.Turn.{Turn}
+use Rattle.bt_tick.specs.declared.machine.Turn.TheVariants as turn
+
+-- ---- What is done and what is still to come
+
+-- A part was done on the way: its notes were added, the drivers took its calls, one for each note of a call, and this is
+-- what is still to come.
+pub record Comes {A M : Type 0} (nodes : List Node) (before after : Scene) (old new : List Note) (whole rest : Done A M) : Type 0 where
+  pub told : List Note
+  pub made : List Call
+  pub all : whole ≡ behind told made rest
+  pub named : length made ≡ calls_named told
+  pub notes : new ≡ old ++ told
+  pub drivers : after.drivers ≡ roster_after nodes made before.drivers
+
+-- the visit of a node that has this status and this memo, from this rule on: the rule, and then the end
+abbrev pub ruled_by : Term → View → ℕ → Status → Memo → Rule → List Memory → State → Done Answer Memory
+ruled_by term view uid status memo rule ms s =
+    follow (rule (children_of (site_at view uid term)) ms s) (λ ms1. remembered status memo ms1)
+    (λ g ms1 s1. ended (site_at view uid term) status g ms1 s1)
+
+abbrev pub children_in : Term → ℕ → List Kept → List Memory
+children_in term uid kept = memories_of (out-Term term).children (uid + 1) kept
+
+abbrev pub memory_in : Term → ℕ → Scene → Memory
+memory_in term uid s = memory_of term uid s.kept
+
+-- .. of a node as it stands in a scene
+abbrev pub goes_by : List Node → ℕ → Term → View → ℕ → Scene → Rule → Done Answer Memory
+goes_by nodes moment term view uid s rule =
+    ruled_by term view uid (kept_at s.kept uid).status (kept_at s.kept uid).memo rule (children_in term uid s.kept) (state_in nodes s moment)
+
+-- the visit of a term as it stands in a scene
+abbrev pub visit_in : List Node → ℕ → Term → View → ℕ → Scene → Done Answer Memory
+visit_in nodes moment term view uid s = (meaning term).visit view uid (memory_in term uid s) (state_in nodes s moment)
+
+-- ---- What is asked of the nodes
+
+abbrev pub number : Term → ℕ
+number term = length (out-Term term).children
+
+abbrev pub kind_of : Term → Kind
+kind_of term = (out-Term term).kind
+
+-- a term that stands in a scene can be visited: it and all below it keep their rules, and no instance is held since a
+-- later moment
+pub record CanVisit (nodes : List Node) (moment : ℕ) (term : Term) (view : View) (uid : ℕ) (s : Scene) : Type 0 where
+  pub fits : Fits term view uid nodes s
+  pub sound : Sound term view.rows None uid (memory_in term uid s) (state_in nodes s moment)
+  pub dated : Dated (state_in nodes s moment)
+
+-- the rules of the children of a node
+abbrev pub ChildrenSound : Term → View → ℕ → List Memory → State → Type 0
+ChildrenSound term view uid ms s = Sounds (λ c. (meaning c).size) Sound (out-Term term).children view.rows None (uid + 1) ms s
+
+-- a node in the middle of its visit can go on
+pub record CanGoOn (nodes : List Node) (moment : ℕ) (term : Term) (view : View) (uid : ℕ) (s : Scene) : Type 0 where
+  pub fits : Fits term view uid nodes s
+  pub sound : ChildrenSound term view uid (children_in term uid s.kept) (state_in nodes s moment)
+  pub dated : Dated (state_in nodes s moment)
+
+-- whether a node of this kind follows a rule over its children
+abbrev pub has_rule : Kind → Bool
+has_rule Leaf = false
+has_rule ScriptNode = false
+has_rule ScriptCondition = false
+has_rule AlwaysSuccess = false
+has_rule AlwaysFailure = false
+has_rule kind = true
+
+-- what can be picked for a visit
+abbrev pub CanPick : Kind → ℕ → Type 0
+CanPick (Switch cases) picked = picked ≤ cases
+CanPick kind picked = Unit {0}
+
+-- a rule can begin with this memo, whatever is picked
+abbrev pub CanBegin : Kind → ℕ → Memo → Type 0
+CanBegin kind children memo = (picked : ℕ) → CanPick kind picked → FitsStart kind children memo picked
+
+-- the rule of a node can be followed from the status and the memo that it has: where it has children with any pick, and
+-- a leaf is held where it is RUNNING
+pub record CanFollow (nodes : List Node) (moment : ℕ) (term : Term) (view : View) (uid : ℕ) (s : Scene) : Type 0 where
+  pub can : CanGoOn nodes moment term view uid s
+  pub begins : has_rule (kind_of term) ≡ true → CanBegin (kind_of term) (number term) (kept_at s.kept uid).memo
+  pub held : has_rule (kind_of term) ≡ false → held_at (state_in nodes s moment) uid ≡ Some (is_held (kept_at s.kept uid).status (kind_of term))
+
+-- the visit of a node from its rule on
+abbrev pub ruled_in : List Node → ℕ → Term → View → ℕ → Scene → Done Answer Memory
+ruled_in nodes moment term view uid s =
+    ruled (site_at view uid term) (kept_at s.kept uid).status (kept_at s.kept uid).memo (children_in term uid s.kept) (state_in nodes s moment)
+
+-- its start, and all that follows
+abbrev pub started_in : List Node → ℕ → Term → View → ℕ → Scene → Done Answer Memory
+started_in nodes moment term view uid s = started (site_at view uid term) (memory_in term uid s) (state_in nodes s moment)
+
+-- a node has started, and its rule is still to come; or it stopped
+abbrev pub Starts : List Node → ℕ → Term → View → ℕ → Result (Unit {0}) (Stop NodeFault) → Scene → Scene → List Note → List Note → Type 0
+Starts nodes moment term view uid (Ok _) before after old new =
+    CanFollow nodes moment term view uid after × Comes nodes before after old new (started_in nodes moment term view uid before) (ruled_in nodes moment term view uid after)
+Starts nodes moment term view uid (Err e) before after old new =
+    Meets {A = Answer} nodes moment (memory_of term uid) (Err e) before after old new (started_in nodes moment term view uid before)
+
+-- ---- Turns
+
+-- the place of the child that was heard of, and of the first one where a rule begins
+abbrev pub place_heard : Heard → ℕ
+place_heard (Begin picked) = 0
+place_heard (Answered place a) = place
+place_heard (Passed place) = place
+
+-- a node goes on
+pub record GoesOnBy (nodes : List Node) (moment : ℕ) (term : Term) (view : View) (uid : ℕ) (step : Step) (s : Scene) (next : Done Answer Memory) : Type 0 where
+  pub here : step.uid ≡ uid
+  pub can : CanGoOn nodes moment term view uid s
+  pub ruled : has_rule (kind_of term) ≡ true
+  pub fits : FitsMoves (kind_of term) (number term) step.memo step.heard
+  pub child : step.child ≡ uid_of (out-Term term).children (uid + 1) (place_heard step.heard)
+  pub next_is : next ≡ goes_by nodes moment term view uid s (rest (kind_of term) (number term) moment step.memo step.heard)
+
+-- it waits for a child, which is visited
+pub record WaitsBy (nodes : List Node) (moment : ℕ) (term : Term) (view : View) (uid : ℕ) (frame : Frame) (s : Scene) (next : Done Answer Memory) : Type 0 where
+  pub here : frame.uid ≡ uid
+  pub can : CanGoOn nodes moment term view uid s
+  pub ruled : has_rule (kind_of term) ≡ true
+  pub fits : (a : Answer) → FitsMoves (kind_of term) (number term) frame.memo (Answered frame.place a)
+  pub there : frame.place < number term
+  pub child : frame.child ≡ uid_of (out-Term term).children (uid + 1) frame.place
+  pub next_is : next ≡ goes_by nodes moment term view uid s (visit frame.place (λ a. after (kind_of term) (number term) frame.memo (Answered frame.place a)))
+
+-- what a turn of this term does, which stands in this view at this uid
+abbrev pub TurnDoes : List Node → ℕ → Term → View → ℕ → Turn → Scene → Done Answer Memory → Type 0
+TurnDoes nodes moment term view uid (turn.Enter at) s next = (at ≡ uid) × CanVisit nodes moment term view uid s × (next ≡ visit_in nodes moment term view uid s)
+TurnDoes nodes moment term view uid (turn.GoOn step) s next = GoesOnBy nodes moment term view uid step s next
+TurnDoes nodes moment term view uid (turn.Wait frame) s next = WaitsBy nodes moment term view uid frame s next
+TurnDoes nodes moment term view uid (turn.Back a) s next = next ≡ done a (memory_in term uid s) (state_in nodes s moment)
+
+-- whether a child of this status is passed over: one of a Parallel is that has completed
+abbrev pub passes_over : Kind → Status → Bool
+passes_over Parallel status = is_completed status
+passes_over kind status = false
+
+-- a child is visited, or passed over
+abbrev pub turn_to : Bool → Frame → Turn
+turn_to true frame = turn.GoOn (record { uid = frame.uid; memo = frame.memo; heard = Passed frame.place; child = frame.child })
+turn_to false frame = turn.Wait frame
+
+-- a turn, and what is done and what is still to come of a whole
+pub record ComesTo (nodes : List Node) (moment : ℕ) (term : Term) (view : View) (uid : ℕ) (turn : Turn) (before after : Scene) (old new : List Note) (whole : Done Answer Memory) : Type 0 where
+  pub next : Done Answer Memory
+  pub does : TurnDoes nodes moment term view uid turn after next
+  pub comes : Comes nodes before after old new whole next
+
+-- a turn was made, and the next one goes on; or it stopped, and so all stops
+abbrev pub GoesTo : List Node → ℕ → Term → View → ℕ → Result Turn (Stop NodeFault) → Scene → Scene → List Note → List Note → Done Answer Memory → Type 0
+GoesTo nodes moment term view uid (Ok turn) before after old new whole = ComesTo nodes moment term view uid turn before after old new whole
+GoesTo nodes moment term view uid (Err e) before after old new whole = Meets {A = Answer} nodes moment (memory_of term uid) (Err e) before after old new whole
+
+-- .. and no node beside this term keeps anything else, and what fitted fits
+pub record Goes (nodes : List Node) (moment : ℕ) (term : Term) (view : View) (uid : ℕ) (result : Result Turn (Stop NodeFault)) (before after : Scene) (old new : List Note) (whole : Done Answer Memory) : Type 0 where
+  pub ends : GoesTo nodes moment term view uid result before after old new whole
+  pub beside : Beside uid (meaning term).size before.kept after.kept
+  pub stays : StaysFit nodes before after
+
+-- ---- Frames
+
+-- A visit that waits for a child: its node, and what all nodes kept and the state when the child was entered.
+pub record Waiting : Type 0 where
+  pub frame : Frame
+  pub term : Term
+  pub view : View
+  pub kept : List Kept
+  pub state : State
+
+-- the child for which it waits
+abbrev pub child_of_waiting : Waiting → Term
+child_of_waiting w = slice_index_or (out-Term w.term).children w.frame.place w.term
+
+-- what it still does behind the visit of the child
+abbrev pub goes_behind : Waiting → Done Answer Memory → Done Answer Memory
+goes_behind w d =
+    follow (placed w.frame.place (children_in w.term w.frame.uid w.kept) d)
+    (λ ms1. remembered (kept_at w.kept w.frame.uid).status (kept_at w.kept w.frame.uid).memo ms1)
+    (λ a ms1 s1. ruled_by w.term w.view w.frame.uid (kept_at w.kept w.frame.uid).status (kept_at w.kept w.frame.uid).memo
+    (after (kind_of w.term) (number w.term) w.frame.memo (Answered w.frame.place a)) ms1 s1)
+
+-- what all that wait still do, the topmost first
+abbrev pub resume : List Waiting → Done Answer Memory → Done Answer Memory
+resume [] d = d
+resume (w ∷ ws) d = resume ws (goes_behind w d)
+
+-- what a child leaves from the moment on in which it was entered
+abbrev pub ChildLeaves : Waiting → Done Answer Memory → Type 0
+ChildLeaves w d =
+    Leaves (λ fault m s. Sound (child_of_waiting w) w.view.rows fault w.frame.child m s)
+    (λ a m s. (out-Memory m).status ≡ status_of a) w.frame.child (meaning (child_of_waiting w)).size w.state d
+
+abbrev pub AllLeave : List Waiting → Done Answer Memory → Type 0
+AllLeave [] d = Unit {0}
+AllLeave (w ∷ ws) d = ChildLeaves w d × AllLeave ws (goes_behind w d)
+
+-- a visit waits for the term that stands at this uid
+pub record WaitsFor (nodes : List Node) (moment : ℕ) (s : Scene) (w : Waiting) (term : Term) (view : View) (uid : ℕ) : Type 0 where
+  pub child_is : child_of_waiting w ≡ term
+  pub view_is : view_under w.view w.frame.uid (written (out-Term w.term)) ≡ view
+  pub uid_is : w.frame.child ≡ uid
+  pub fits : Fits w.term w.view w.frame.uid nodes s
+  pub beside : Beside w.frame.child (meaning (child_of_waiting w)).size w.kept s.kept
+  pub sound : ChildrenSound w.term w.view w.frame.uid (children_in w.term w.frame.uid w.kept) w.state
+  pub dated : Dated w.state
+  pub moment_is : w.state.moment ≡ moment
+  pub ruled : has_rule (kind_of w.term) ≡ true
+  pub moves : (a : Answer) → FitsMoves (kind_of w.term) (number w.term) w.frame.memo (Answered w.frame.place a)
+  pub there : w.frame.place < number w.term
+  pub child : w.frame.child ≡ uid_of (out-Term w.term).children (w.frame.uid + 1) w.frame.place
+
+-- the frames of these visits, of which the topmost stands last and waits for the term at this uid; the lowest is that
+-- of the root
+abbrev pub StackIs : List Node → ℕ → Scene → Term → ℕ → List Frame → List Waiting → Term → View → ℕ → Type 0
+StackIs nodes moment s root first stack [] term view uid = (stack ≡ []) × (term ≡ root) × (uid ≡ first)
+StackIs nodes moment s root first stack (w ∷ ws) term view uid =
+    (below : List Frame) × (stack ≡ below ++ w.frame ∷ []) × WaitsFor nodes moment s w term view uid × StackIs nodes moment s root first below ws w.term w.view w.frame.uid
+
+-- The visit of a root came to this turn and this stack of frames.
+pub record Going (nodes : List Node) (moment : ℕ) (root : Term) (first : ℕ) (turn : Turn) (stack : List Frame) (before after : Scene) (old new : List Note) (whole : Done Answer Memory) : Type 0 where
+  pub waiting : List Waiting
+  pub term : Term
+  pub view : View
+  pub uid : ℕ
+  pub next : Done Answer Memory
+  pub does : TurnDoes nodes moment term view uid turn after next
+  pub stands : StackIs nodes moment after root first stack waiting term view uid
+  pub leaves : AllLeave waiting next
+  pub comes : Comes nodes before after old new whole (resume waiting next)
+
+-- ---- Work
+
+-- a bound on the turns of a visit of so many nodes
+abbrev pub cost : ℕ → ℕ
+cost zero = 1
+cost (suc size) = 2 ^ 40 * cost size
+
+-- a bound on those of the visits of children that are left to a node
+abbrev pub left_of : Node → Memo → ℕ → ℕ
+left_of node memo first = visits_left node.kind node.children memo first * (cost (node.size - 1) + 3)
+
+abbrev pub frame_work : List Node → Frame → ℕ
+frame_work nodes frame = 2 + left_of (node_at nodes frame.uid) frame.memo (frame.place + 1)
+
+abbrev pub stack_work : List Node → List Frame → ℕ
+stack_work nodes stack = sum_by (frame_work nodes) stack
+
+abbrev pub turn_work : List Node → Turn → ℕ
+turn_work nodes (turn.Enter uid) = cost (node_at nodes uid).size
+turn_work nodes (turn.GoOn step) = 1 + left_of (node_at nodes step.uid) step.memo (next_place step.heard)
+turn_work nodes (turn.Wait frame) = frame_work nodes frame + cost (node_at nodes frame.child).size + 1
+turn_work nodes (turn.Back a) = 0

@@ -1,0 +1,201 @@
+ghost use Rattle.std.specs.Prelude.{◌≡◌, ◌≢◌, ◌≤◌, ◌<◌, ℕ, ℤ, List, IfOk, true, false};
+ghost use Rattle.bt_model.specs.declared.status.Status.TheVariants.{Running};
+ghost use Rattle.bt_model.specs.declared.term.Term.{Term};
+ghost use Rattle.bt_model.specs.Drivers.{DriverState};
+ghost use Rattle.bt_model.specs.Shapes.{is_running};
+ghost use Rattle.bt_model.specs.Sites.{View};
+ghost use Rattle.bt_model.specs.Visit.{starts};
+ghost use Rattle.bt_arena.specs.Ends.{Meets, StaysFit};
+ghost use Rattle.bt_arena.specs.Nodes.{kept_at, node_at};
+ghost use Rattle.bt_arena.specs.Scenes.{scene};
+ghost use Rattle.bt_arena.specs.Stands.{Beside};
+ghost use Rattle.bt_tick.specs.Turns.{CanFollow, CanVisit, Goes, Starts, kind_of, ruled_in, turn_work, visit_in};
+
+use crate::machine::{Step, Turn};
+use crate::moves::has_rule;
+use bt_arena::{Kept, Node, Notes, kept_by, node, set_memo, set_status};
+use bt_board::Board;
+use bt_driver::{Drivers, FactTable};
+use bt_halting::halt_node;
+use bt_model::{Answer, Heard, Kind, Memo, NodeFault, Note, Status};
+use bt_nodes::{end_visit, goes_on, guards_answer, new_memo, picked, visit_alone};
+use bt_script::Stop;
+use std::alloc::Global;
+
+/// Whether a node of this kind with this memo starts: one with children does, but for a RunOnce with a
+/// mark.
+fn starts(kind: Kind, memo: Memo) -> bool
+    ensures { result ≡ starts kind memo }
+{
+    match kind {
+        Kind::Leaf
+        | Kind::ScriptNode
+        | Kind::ScriptCondition
+        | Kind::AlwaysSuccess
+        | Kind::AlwaysFailure => false,
+        Kind::RunOnce => !matches!(memo, Memo::Finished(Some(_))),
+        _ => true,
+    }
+}
+
+/// Follows the rule of the node with this uid from the status and the memo that it has: a node with
+/// children goes on by moves, and any other does all that it does.
+fn follow_rule<D: Drivers>(
+    alloc: Global,
+    nodes: &[Node],
+    kept: &mut [Kept],
+    board: &mut Board,
+    facts: &mut FactTable,
+    drivers: &mut D,
+    uid: u32,
+    now: u64,
+    notes: &mut Notes,
+) -> Result<Turn, Stop<NodeFault>>
+    requires can { (term : Term) × (view : View) × CanFollow nodes.now now term view uid (scene kept.old board.old facts.old (D.states drivers.old)) }
+    ensures goes { (term : Term) (view : View) → CanFollow nodes.now now term view uid (scene kept.old board.old facts.old (D.states drivers.old)) →
+        Goes nodes.now now term view uid result (scene kept.old board.old facts.old (D.states drivers.old)) (scene kept.new board.new facts.new (D.states drivers.new)) notes.old.list notes.new.list
+        (ruled_in nodes.now now term view uid (scene kept.old board.old facts.old (D.states drivers.old))) }
+    ensures reserve { notes.old.reserve ≤ notes.new.reserve }
+    ensures full { notes.new.full ≡ notes.old.full }
+    ensures work { IfOk result (λ turn. turn_work nodes.now turn < turn_work nodes.now (Turn.Enter uid)) }
+{
+    let here = node(nodes, uid);
+    if !has_rule(here.kind) {
+        let answer = visit_alone(alloc, nodes, kept, board, facts, drivers, uid, now, notes)?;
+        return Ok(Turn::Back(answer));
+    }
+    let memo = kept_by(kept, uid).memo;
+    match picked(here, uid, memo, board) {
+        Ok(picked) => Ok(Turn::GoOn(Step {
+            uid,
+            memo,
+            heard: Heard::Begin { picked },
+            child: uid + 1,
+        })),
+        Err(fault) => Err(Stop::Fault(fault)),
+    }
+}
+
+/// Starts the node with this uid, which is not RUNNING: it becomes RUNNING, which is noted, with a new
+/// memo.
+fn start(
+    nodes: &[Node],
+    kept: &mut [Kept],
+    board: &Board,
+    uid: u32,
+    now: u64,
+    notes: &mut Notes,
+) -> Result<(), Stop<NodeFault>>
+    requires can { (term : Term) × (view : View) × (facts : List ℤ) × (drivers : List DriverState) × CanVisit nodes.now now term view uid (scene kept.old board.now facts drivers) }
+    requires rests { is_running (kept_at kept.old uid).status ≡ false }
+    requires starts { starts (node_at nodes.now uid).kind (kept_at kept.old uid).memo ≡ true }
+    ensures starts { (term : Term) (view : View) (facts : List ℤ) (drivers : List DriverState) → CanVisit nodes.now now term view uid (scene kept.old board.now facts drivers) →
+        Starts nodes.now now term view uid result (scene kept.old board.now facts drivers) (scene kept.new board.now facts drivers) notes.old.list notes.new.list }
+    ensures stays { (facts : List ℤ) (drivers : List DriverState) → StaysFit nodes.now (scene kept.old board.now facts drivers) (scene kept.new board.now facts drivers) }
+    ensures beside { Beside uid 1 kept.old kept.new }
+    ensures reserve { notes.old.reserve ≤ notes.new.reserve }
+    ensures full { notes.new.full ≡ notes.old.full }
+{
+    let old = kept_by(kept, uid);
+    notes.push(Note::Changed {
+        uid,
+        old: old.status,
+        new: Status::Running,
+    })?;
+    set_status(kept, uid, Status::Running);
+    match new_memo(node(nodes, uid), uid, old.memo, board, now) {
+        Ok(memo) => {
+            set_memo(kept, uid, memo);
+            Ok(())
+        }
+        Err(fault) => Err(Stop::Fault(fault)),
+    }
+}
+
+/// Begins a visit of the node with this uid, which is not RUNNING: its guards answer, or it starts.
+fn begin<D: Drivers>(
+    alloc: Global,
+    nodes: &[Node],
+    kept: &mut [Kept],
+    board: &mut Board,
+    facts: &mut FactTable,
+    drivers: &mut D,
+    uid: u32,
+    now: u64,
+    notes: &mut Notes,
+) -> Result<Turn, Stop<NodeFault>>
+    requires can { (term : Term) × (view : View) × CanVisit nodes.now now term view uid (scene kept.old board.old facts.old (D.states drivers.old)) }
+    requires rests { is_running (kept_at kept.old uid).status ≡ false }
+    ensures goes { (term : Term) (view : View) → CanVisit nodes.now now term view uid (scene kept.old board.old facts.old (D.states drivers.old)) →
+        Goes nodes.now now term view uid result (scene kept.old board.old facts.old (D.states drivers.old)) (scene kept.new board.new facts.new (D.states drivers.new)) notes.old.list notes.new.list
+        (visit_in nodes.now now term view uid (scene kept.old board.old facts.old (D.states drivers.old))) }
+    ensures reserve { notes.old.reserve ≤ notes.new.reserve }
+    ensures full { notes.new.full ≡ notes.old.full }
+    ensures work { IfOk result (λ turn. turn_work nodes.now turn < turn_work nodes.now (Turn.Enter uid)) }
+{
+    let here = node(nodes, uid);
+    let memo = kept_by(kept, uid).memo;
+    if let Some(answer) = guards_answer(alloc, &here.guards, uid, board)? {
+        let given = end_visit(alloc, nodes, kept, board, uid, answer, memo, notes)?;
+        return Ok(Turn::Back(given));
+    }
+    if !starts(here.kind, memo) {
+        return follow_rule(alloc, nodes, kept, board, facts, drivers, uid, now, notes);
+    }
+    start(nodes, kept, board, uid, now, notes)?;
+    follow_rule(alloc, nodes, kept, board, facts, drivers, uid, now, notes)
+}
+
+/// Goes on with the node with this uid, which is RUNNING, or halts it where its guard says so.
+fn resume<D: Drivers>(
+    alloc: Global,
+    nodes: &[Node],
+    kept: &mut [Kept],
+    board: &mut Board,
+    facts: &mut FactTable,
+    drivers: &mut D,
+    uid: u32,
+    now: u64,
+    notes: &mut Notes,
+) -> Result<Turn, Stop<NodeFault>>
+    requires can { (term : Term) × (view : View) × CanVisit nodes.now now term view uid (scene kept.old board.old facts.old (D.states drivers.old)) }
+    requires running { (kept_at kept.old uid).status ≡ Running }
+    ensures goes { (term : Term) (view : View) → CanVisit nodes.now now term view uid (scene kept.old board.old facts.old (D.states drivers.old)) →
+        Goes nodes.now now term view uid result (scene kept.old board.old facts.old (D.states drivers.old)) (scene kept.new board.new facts.new (D.states drivers.new)) notes.old.list notes.new.list
+        (visit_in nodes.now now term view uid (scene kept.old board.old facts.old (D.states drivers.old))) }
+    ensures reserve { notes.old.reserve ≤ notes.new.reserve }
+    ensures full { notes.new.full ≡ notes.old.full }
+    ensures work { IfOk result (λ turn. turn_work nodes.now turn < turn_work nodes.now (Turn.Enter uid)) }
+{
+    if goes_on(alloc, &node(nodes, uid).guards, uid, board)? {
+        return follow_rule(alloc, nodes, kept, board, facts, drivers, uid, now, notes);
+    }
+    halt_node(alloc, nodes, kept, board, drivers, uid, notes)?;
+    Ok(Turn::Back(Answer::Skipped))
+}
+
+/// Visits the node with this uid, up to its answer or to where it goes on by moves.
+pub(crate) fn enter<D: Drivers>(
+    alloc: Global,
+    nodes: &[Node],
+    kept: &mut [Kept],
+    board: &mut Board,
+    facts: &mut FactTable,
+    drivers: &mut D,
+    uid: u32,
+    now: u64,
+    notes: &mut Notes,
+) -> Result<Turn, Stop<NodeFault>>
+    requires can { (term : Term) × (view : View) × CanVisit nodes.now now term view uid (scene kept.old board.old facts.old (D.states drivers.old)) }
+    ensures goes { (term : Term) (view : View) → CanVisit nodes.now now term view uid (scene kept.old board.old facts.old (D.states drivers.old)) →
+        Goes nodes.now now term view uid result (scene kept.old board.old facts.old (D.states drivers.old)) (scene kept.new board.new facts.new (D.states drivers.new)) notes.old.list notes.new.list
+        (visit_in nodes.now now term view uid (scene kept.old board.old facts.old (D.states drivers.old))) }
+    ensures reserve { notes.old.reserve ≤ notes.new.reserve }
+    ensures full { notes.new.full ≡ notes.old.full }
+    ensures work { IfOk result (λ turn. turn_work nodes.now turn < turn_work nodes.now (Turn.Enter uid)) }
+{
+    match kept_by(kept, uid).status {
+        Status::Running => resume(alloc, nodes, kept, board, facts, drivers, uid, now, notes),
+        _ => begin(alloc, nodes, kept, board, facts, drivers, uid, now, notes),
+    }
+}

@@ -1,0 +1,10 @@
+//! The tick of the engine: one visit of the root of a tree that stands in an arena.
+#![tactic(auto)]
+
+mod enter;
+mod machine;
+mod moves;
+mod onward;
+mod visiting;
+
+pub use visiting::tick;

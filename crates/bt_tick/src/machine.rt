@@ -1,0 +1,50 @@
+use bt_model::{Answer, Heard, Memo};
+
+/// A visit that waits for a child.
+#[derive(Clone, Copy, Debug)]
+pub struct Frame {
+    /// The node that is visited.
+    pub uid: u32,
+    /// The memo behind its last move.
+    pub memo: Memo,
+    /// The place of the child among the node's children, and its uid.
+    pub place: u32,
+    pub child: u32,
+}
+
+impl Default for Frame {
+    /// A frame of no node, for a place of a stack that holds none yet.
+    fn default() -> Frame {
+        Frame {
+            uid: 0,
+            memo: Memo::Nothing,
+            place: 0,
+            child: 0,
+        }
+    }
+}
+
+/// A visit that goes on with what the node hears.
+#[derive(Clone, Copy, Debug)]
+pub struct Step {
+    /// The node that is visited.
+    pub uid: u32,
+    /// The memo with which its rule begins, or that behind its last move.
+    pub memo: Memo,
+    pub heard: Heard,
+    /// The uid of the child that is heard of, and of the first one where the rule begins.
+    pub child: u32,
+}
+
+/// What comes next in a tick.
+#[derive(Clone, Copy, Debug)]
+pub enum Turn {
+    /// The node with this uid is visited.
+    Enter(u32),
+    /// A node goes on.
+    GoOn(Step),
+    /// A node waits for its child, which is visited.
+    Wait(Frame),
+    /// The node that was visited last has answered.
+    Back(Answer),
+}
