@@ -3,6 +3,7 @@ pub mod Lists
 pub mod Others
 pub mod Putting
 pub mod Quenched
+pub mod Resting
 pub mod Results
 pub mod Rising
 pub mod Stepping

@@ -18,6 +18,7 @@ use Rattle.bt_model.specs.Run.{RunState, Runner, root_view, runner_at, runner_ca
 use Rattle.bt_model.specs.Sound.{Steady}
 use Rattle.bt_arena.specs.declared.nodes.Node.{Node}
 use Rattle.bt_arena.specs.Ends.{IsMade, Meets}
+use Rattle.bt_arena.specs.Nodes.{leaf_at}
 use Rattle.bt_arena.specs.Rosters.{AreServed, instances_of, roster_after}
 use Rattle.bt_arena.specs.Scenes.{Fits, Scene, scene, state_in}
 use Rattle.bt_arena.specs.Stands.{memory_of}
@@ -94,6 +95,7 @@ module _ (tree : Tree) (world : World) (runners : List ReadyRunner) (facts : Lis
             numbered = number ∙ (fit.each i r is).numbered ∙ ap (λ p. p + 1) (sym here.0);
             fits = subst (λ (ns : List Node). Fits t (root_view tree world) 1 ns (scene_of new facts1 drivers1)) (sym nodes) fits1;
             nodes = ap length nodes ∙ (fit.each i r is).nodes;
+            nobody = ap (λ (ns : List Node). leaf_at ns 0) nodes ∙ (fit.each i r is).nobody;
           })
         | inr there ↦
             let was : RunnerFits tree world facts drivers (k + 1) y = fit.each k y there.1 in
@@ -102,6 +104,7 @@ module _ (tree : Tree) (world : World) (runners : List ReadyRunner) (facts : Lis
               fits = subst (λ (ds : List DriverState). Fits t (root_view tree world) 1 y.arena.nodes.items (scene y.arena.kept.items y.board facts1 ds)) (sym called)
                   (other_fits a y.arena.nodes.items (apart_from k y there.1 there.0) t (root_view tree world) y.arena.kept.items y.board facts facts1 calls drivers are fits1.facts was.fits);
               nodes = was.nodes;
+              nobody = was.nobody;
             }
       ];
       apart = subst AreApart (sym arenas_same) fit.apart;

@@ -81,11 +81,12 @@ HeldAreTheirs arenas drivers = (place instance : ℕ) → is_held (instance_at d
 
 -- ---- What holds of runs
 
--- a runner's tree stands in its arena, whose marks say what is held, and nothing else does
+-- a runner's tree stands in its arena, whose marks say what is held, and nothing else does: place 0 is no leaf's
 pub record RunnerFits (tree : Tree) (world : World) (facts : List ℤ) (drivers : List DriverState) (number : ℕ) (r : ReadyRunner) : Type 0 where
   pub numbered : r.arena.runner ≡ number
   pub fits : Fits tree.term (root_view tree world) 1 r.arena.nodes.items (scene r.arena.kept.items r.board facts drivers)
   pub nodes : length r.arena.nodes.items ≡ 1 + node_count tree.term
+  pub nobody : leaf_at r.arena.nodes.items 0 ≡ None
 
 -- what holds of the runners of a world also in the middle of an event
 pub record RunnersFit (tree : Tree) (world : World) (facts : List ℤ) (drivers : List DriverState) (runners : List ReadyRunner) : Type 0 where

@@ -4,6 +4,7 @@
 
 mod boxed;
 mod events;
+pub mod laws;
 mod making;
 mod parts;
 mod quenching;
