@@ -1,6 +1,12 @@
+pub mod Endings
 pub mod Lists
 pub mod Others
 pub mod Putting
 pub mod Quenched
+pub mod Resting
 pub mod Results
+pub mod Rising
+pub mod Stepping
+pub mod TickEnds
 pub mod Told
+pub mod Whole

@@ -14,16 +14,18 @@ use Rattle.bt_model.specs.declared.term.Tree.{Tree}
 use Rattle.bt_model.specs.declared.world.World.{World}
 use Rattle.bt_model.specs.Done.{Call, Done}
 use Rattle.bt_model.specs.Drivers.{DriverState}
-use Rattle.bt_model.specs.Run.{RunState, Runner, root_view, runner_calls, state_of, with_runner}
+use Rattle.bt_model.specs.Run.{RunState, Runner, root_view, runner_at, runner_calls, state_of, with_runner}
 use Rattle.bt_model.specs.Sound.{Steady}
 use Rattle.bt_arena.specs.declared.nodes.Node.{Node}
 use Rattle.bt_arena.specs.Ends.{IsMade, Meets}
+use Rattle.bt_arena.specs.Nodes.{leaf_at}
 use Rattle.bt_arena.specs.Rosters.{AreServed, instances_of, roster_after}
 use Rattle.bt_arena.specs.Scenes.{Fits, Scene, scene, state_in}
 use Rattle.bt_arena.specs.Stands.{memory_of}
 use Rattle.bt_laws.proofs.Events.{steady_moves}
+use Rattle.bt_loop.specs.declared.parts.Part.{Part}
 use Rattle.bt_loop.specs.declared.runs.ReadyRunner.{ReadyRunner}
-use Rattle.bt_loop.specs.Parts.{AreReady, CanAct, PartEnds, PartMade, scene_of, state_of_all, state_of_runner}
+use Rattle.bt_loop.specs.Parts.{AreReady, CanAct, PartEnds, PartMade, part_of, scene_of, state_of_all, state_of_runner}
 use Rattle.bt_loop.specs.Runs.{AreApart, HeldAreTheirs, RunnerFits, RunnersFit, arenas_in, nodes_of_runner, roster_over, runner_in, runners_in}
 use Rattle.bt_loop.proofs.Lists.{set_alike, set_is}
 use Rattle.bt_loop.proofs.Others.{Apart, held_after, other_fits, other_instances, over_runner}
@@ -93,6 +95,7 @@ module _ (tree : Tree) (world : World) (runners : List ReadyRunner) (facts : Lis
             numbered = number ∙ (fit.each i r is).numbered ∙ ap (λ p. p + 1) (sym here.0);
             fits = subst (λ (ns : List Node). Fits t (root_view tree world) 1 ns (scene_of new facts1 drivers1)) (sym nodes) fits1;
             nodes = ap length nodes ∙ (fit.each i r is).nodes;
+            nobody = ap (λ (ns : List Node). leaf_at ns 0) nodes ∙ (fit.each i r is).nobody;
           })
         | inr there ↦
             let was : RunnerFits tree world facts drivers (k + 1) y = fit.each k y there.1 in
@@ -101,11 +104,14 @@ module _ (tree : Tree) (world : World) (runners : List ReadyRunner) (facts : Lis
               fits = subst (λ (ds : List DriverState). Fits t (root_view tree world) 1 y.arena.nodes.items (scene y.arena.kept.items y.board facts1 ds)) (sym called)
                   (other_fits a y.arena.nodes.items (apart_from k y there.1 there.0) t (root_view tree world) y.arena.kept.items y.board facts facts1 calls drivers are fits1.facts was.fits);
               nodes = was.nodes;
+              nobody = was.nobody;
             }
       ];
       apart = subst AreApart (sym arenas_same) fit.apart;
       theirs = subst (λ (ns : List (List Node)). HeldAreTheirs ns drivers1) (sym arenas_same) (subst (HeldAreTheirs (arenas_in runners)) (sym called) (held_after (arenas_in runners) i a (arena_at i r is) calls drivers are fit.theirs));
       many_facts = fits1.facts;
+      few_facts = fit.few_facts;
+      few_slots = fit.few_slots;
     }
 
   module _ (number last at : ℕ) (here : number - 1 ≡ i) (new : ReadyRunner) (facts1 : List ℤ) (drivers1 : List DriverState) (nodes : new.arena.nodes.items ≡ a) (old told : List Note) (d : Done (Unit {0}) Memory) where
@@ -143,3 +149,18 @@ module _ (tree : Tree) (world : World) (runners : List ReadyRunner) (facts : Lis
       notes = m.notes;
       drivers = called_over m.made m.drivers;
     }
+
+-- a runner's part, among all runners
+pub part_among : (tree : Tree) (world : World) (last at : ℕ) (facts : List ℤ) (drivers : List DriverState) (runners : List ReadyRunner) (ready : AreReady tree world last at facts drivers runners) (part : Part)
+    (number : ℕ) (first : 1 ≤ number) (r : ReadyRunner) (is : slice_get runners (number - 1) ≡ Some r) (new : ReadyRunner) (facts1 : List ℤ) (drivers1 : List DriverState) (nodes : new.arena.nodes.items ≡ r.arena.nodes.items)
+    (result : Result (Unit {0}) (Stop NodeFault)) (old told : List Note) →
+    Meets r.arena.nodes.items at (memory_of tree.term 1) result (scene_of r facts drivers) (scene_of new facts1 drivers1) old told (part_of part tree world r.arena.runner (memory_of tree.term 1 r.arena.kept.items) (state_of_runner r facts drivers at)) →
+    (x : Runner) → runner_at (state_of_all tree.term drivers runners facts last) number ≡ Some x →
+    PartEnds result tree.term number at (state_of_all tree.term drivers runners facts last) (arenas_in runners) drivers drivers1 (set runners (number - 1) new) facts1 old told (part_of part tree world number x.memory (state_of x facts at))
+part_among tree world last at facts drivers runners ready part number first r is new facts1 drivers1 nodes result old told m x is_x =
+    let number_is : r.arena.runner ≡ number = omega (arith, (ready.fit.each (number - 1) r is).numbered, first) in
+    let found : Some (runner_in tree.term drivers r) ≡ Some x = sym (slice_get-map (runner_in tree.term drivers) runners (number - 1) ∙ ap (option_map (runner_in tree.term drivers)) is) ∙ is_x in
+    let same : runner_in tree.term drivers r ≡ x = cc in
+    subst (λ (y : Runner). PartEnds result tree.term number at (state_of_all tree.term drivers runners facts last) (arenas_in runners) drivers drivers1 (set runners (number - 1) new) facts1 old told (part_of part tree world number y.memory (state_of y facts at))) same
+    (ends tree world runners facts drivers ready.fit (number - 1) r is number last at refl new facts1 drivers1 nodes old told _ result
+    (subst (λ (n : ℕ). Meets r.arena.nodes.items at (memory_of tree.term 1) result (scene_of r facts drivers) (scene_of new facts1 drivers1) old told (part_of part tree world n (memory_of tree.term 1 r.arena.kept.items) (state_of_runner r facts drivers at))) number_is m))

@@ -36,7 +36,7 @@ let_go_twice [] = refl
 let_go_twice (i ∷ is) = ap (λ xs. let_go i ∷ xs) (let_go_twice is)
 
 -- a runner that is quenched stays so in a quench
-twice : (tree : Tree) (r : Runner) → quenched_runner tree (quenched_runner tree r) ≡ quenched_runner tree r
+pub twice : (tree : Tree) (r : Runner) → quenched_runner tree (quenched_runner tree r) ≡ quenched_runner tree r
 twice tree r = ap (λ (is : List Instance). let one : Runner = record { memory = idle tree.term; board = r.board; instances = is } in one) (let_go_twice r.instances)
 
 drop_set : {A : Type 0} (xs : List A) (i : ℕ) (y : A) → drop (suc i) (set xs i y) ≡ drop (suc i) xs

@@ -30,12 +30,9 @@ module _ {A : Type 0} where
 module _ {A C : Type 0} (differ : ℕ → List A → List A → List C) (adds : ℕ → A → A → List C → List C)
     (first : (k : ℕ) (o : A) (os : List A) (n : A) (ns : List A) → differ k (o ∷ os) (n ∷ ns) ≡ adds k o n (differ (k + 1) os ns))
     (olds news : List A) (k : ℕ) (within : k < length news) (same : length olds ≡ length news)
-    (before after whole : List C) (now : List A) (d n e : A) (is_new : n ≡ get_or news k e) (so_far : now ≡ take k news ++ drop k olds) where
-  abbrev o : A
-  o = get_or now k d
-
+    (before after whole : List C) (now : List A) (o d n e : A) (is_old : o ≡ get_or now k d) (is_new : n ≡ get_or news k e) (so_far : now ≡ take k news ++ drop k olds) where
   old_is : get_or olds k d ≡ o
-  old_is = sym (ap (λ xs. get_or xs k d) so_far ∙ joined_at news olds k d within)
+  old_is = sym (is_old ∙ ap (λ xs. get_or xs k d) so_far ∙ joined_at news olds k d within)
 
   -- what differs from the next place on
   pub differ_next : before ++ differ k (drop k olds) (drop k news) ≡ whole → ((rest : List C) → after ++ rest ≡ before ++ adds k o n rest) →

@@ -1,7 +1,9 @@
 -- How an event ends, behind the part of its runner.
-use Rattle.std.specs.Prelude.{◌≡◌, ◌+◌, ◌-◌, ◌≤◌, ℕ, List, ◌++◌, ◌∷◌, length, map, slice_set, false, Result, Ok, Err}
+use Rattle.std.specs.Prelude.{◌≡◌, ◌+◌, ◌-◌, ◌≤◌, ◌<◌, ◌^◌, ℕ, ℤ, List, [], ◌++◌, ◌∷◌, length, map, slice_set, slice_index_or, Option, true, Result, Ok, Err}
 use Rattle.bt_script.specs.declared.stop.Stop.{Stop}
 use Rattle.bt_script.specs.declared.stop.Stop.TheVariants as stop
+use Rattle.bt_script.specs.declared.value.Value.{Value}
+use Rattle.bt_model.specs.declared.block.Header.{Header}
 use Rattle.bt_model.specs.declared.fault.NodeFault.{NodeFault}
 use Rattle.bt_model.specs.declared.fault.RunFault.{RunFault}
 use Rattle.bt_model.specs.declared.note.Note.{Note}
@@ -9,32 +11,69 @@ use Rattle.bt_model.specs.declared.note.Note.TheVariants.{Faulted}
 use Rattle.bt_model.specs.declared.term.Tree.{Tree}
 use Rattle.bt_model.specs.declared.world.World.{World}
 use Rattle.bt_model.specs.Drivers.{DriverState}
-use Rattle.bt_model.specs.Run.{changed_entries, changed_from, quench_calls, quench_notes, quenched_runner}
+use Rattle.bt_model.specs.Run.{RunState, Runner, Stepped, changed_entries, changed_from, quench_calls, quench_notes, quenched_runner, runner_step, state_of}
 use Rattle.bt_arena.specs.declared.block.Block.{Block}
-use Rattle.bt_loop.specs.declared.runs.ReadyRunner.{ReadyRunner}
+use Rattle.bt_loop.specs.declared.parts.Part.{Part}
 use Rattle.bt_loop.specs.declared.runs.Runs.{Runs}
-use Rattle.bt_loop.specs.Runs.{RunnersFit, arenas_in, boards_in, leaves_of, nth_board, roster_over, runners_in}
+use Rattle.bt_loop.specs.declared.runs.Told.{Told}
+use Rattle.bt_loop.specs.Parts.{part_of}
+use Rattle.bt_loop.specs.Runs.{RunnersFit, arenas_of, boards_in, nth_board, roster_over, runners_in}
 use Rattle.bt_loop.specs.Telling.{boards_told, entries_told}
 
--- all runners were quenched
-pub record AreQuenched (tree : Tree) (before after : List DriverState) (old new : List ReadyRunner) (noted : List Note) : Type 0 where
-  pub state : runners_in tree.term after new ≡ map (quenched_runner tree) (runners_in tree.term before old)
-  pub notes : noted ≡ quench_notes 1 (runners_in tree.term before old)
-  pub drivers : after ≡ roster_over (arenas_in old) (quench_calls 1 (runners_in tree.term before old)) before
+-- the step of a runner's part
+abbrev pub part_step : Part → Header → Tree → World → ℕ → ℕ → RunState → Runner → Stepped
+part_step part header tree world number at s r = runner_step header tree number at s (part_of part tree world number r.memory (state_of r s.facts at))
 
--- what changed in the part of a runner was told, and nothing else was done
-pub record IsTelling (number : ℕ) (old new : Runs) (before after : Block) : Type 0 where
-  pub runs : new ≡ record old { told = new.told }
-  pub block : after ≡ record before { facts = after.facts; entries = after.entries }
-  pub facts : after.facts.items ≡ before.facts.items ++ changed_from 0 old.told.facts.items old.facts
-  pub entries : after.entries.items ≡ before.entries.items ++ changed_entries number 0 (entries_told old.told.boards.items number) (nth_board old.runners.items number)
-  pub told : new.told.facts.items ≡ old.facts
-  pub boards : boards_told new.told.boards.items ≡ slice_set (boards_told old.told.boards.items) (number - 1) (nth_board old.runners.items number)
+-- all runners were quenched, behind these notes
+pub record IsQuenched (tree : Tree) (before after : List DriverState) (old new : Runs) (told noted : List Note) : Type 0 where
+  pub state : runners_in tree.term after new.runners.items ≡ map (quenched_runner tree) (runners_in tree.term before old.runners.items)
+  pub notes : noted ≡ told ++ quench_notes 1 (runners_in tree.term before old.runners.items)
+  pub drivers : after ≡ roster_over (arenas_of old) (quench_calls 1 (runners_in tree.term before old.runners.items)) before
+  pub facts : new.facts ≡ old.facts
+  pub last : new.last ≡ old.last
+  pub arenas : arenas_of new ≡ arenas_of old
+  pub boards : boards_in new.runners.items ≡ boards_in old.runners.items
 
 -- what was told fits, so that the part of a runner can be told
 pub record CanTell (number : ℕ) (runs : Runs) : Type 0 where
   pub first : 1 ≤ number
   pub last : number ≤ length runs.runners.items
   pub facts : length runs.told.facts.items ≡ length runs.facts
+  pub few_facts : length runs.facts < 2 ^ 32
   pub boards : length runs.told.boards.items ≡ length runs.runners.items
   pub entries : length (entries_told runs.told.boards.items number) ≡ length (nth_board runs.runners.items number)
+  pub few_entries : length (nth_board runs.runners.items number) < 2 ^ 32
+
+-- what changed in the part of a runner was added to a block, and is told
+pub record IsTelling (number : ℕ) (facts : List ℤ) (boards : List (List (Option Value))) (old new : Told) (before after : Block) : Type 0 where
+  pub header : after.header ≡ before.header
+  pub changed : after.facts.items ≡ before.facts.items ++ changed_from 0 old.facts.items facts
+  pub entries : after.entries.items ≡ before.entries.items ++ changed_entries number 0 (entries_told old.boards.items number) (slice_index_or boards (number - 1) [])
+  pub told : new.facts.items ≡ facts
+  pub told_entries : boards_told new.boards.items ≡ slice_set (boards_told old.boards.items) (number - 1) (slice_index_or boards (number - 1) [])
+
+-- how an event ends whose runner's part has ended: it is told; a fault is noted, and all runners are quenched; and want
+-- of memory quenches them, whenever it comes
+abbrev pub Closing : Result (Unit {0}) (Stop NodeFault) → Result (Unit {0}) (Stop RunFault) → Tree → ℕ → List DriverState → List DriverState → Runs → Runs → Block → Block → Type 0
+Closing (Ok a) (Ok b) tree number before after old new begun block =
+    IsTelling number old.facts (boards_in old.runners.items) old.told new.told begun block × (new ≡ record old { told = new.told }) × (block.notes ≡ begun.notes) × (after ≡ before)
+Closing (Ok a) (Err stop.NoMemory) tree number before after old new begun block = IsQuenched tree before after old new begun.notes.list block.notes.list
+Closing (Err (stop.Fault f)) (Err (stop.Fault g)) tree number before after old new begun block =
+    (g ≡ record { runner = number; uid = f.uid; cause = f.cause })
+    × IsQuenched tree before after old new (begun.notes.list ++ Faulted number f.uid f.cause ∷ []) block.notes.list
+    × IsTelling number old.facts (boards_in old.runners.items) old.told new.told begun block
+Closing (Err (stop.Fault f)) (Err stop.NoMemory) tree number before after old new begun block = IsQuenched tree before after old new (begun.notes.list ++ Faulted number f.uid f.cause ∷ []) block.notes.list
+Closing (Err stop.NoMemory) (Err stop.NoMemory) tree number before after old new begun block = IsQuenched tree before after old new begun.notes.list block.notes.list
+Closing _ _ tree number before after old new begun block = ⊥
+
+-- .. and so for each tree in each world that the runs fit
+abbrev pub Closes : Result (Unit {0}) (Stop NodeFault) → Result (Unit {0}) (Stop RunFault) → ℕ → List DriverState → List DriverState → Runs → Runs → Block → Block → Type 0
+Closes ended result number before after old new begun block =
+    (tree : Tree) (world : World) → RunnersFit tree world old.facts before old.runners.items → Closing ended result tree number before after old new begun block
+
+-- what holds of runs behind an event that was made, but for the rules of states
+pub record StayRuns (tree : Tree) (world : World) (drivers : List DriverState) (runs : Runs) : Type 0 where
+  pub usable : runs.usable ≡ true
+  pub fit : RunnersFit tree world runs.facts drivers runs.runners.items
+  pub told : runs.told.facts.items ≡ runs.facts
+  pub told_entries : boards_told runs.told.boards.items ≡ boards_in runs.runners.items

@@ -1,8 +1,9 @@
 -- The runs of a tree in a world: the state that they keep, and what holds of them between events.
-use Rattle.std.specs.Prelude.{◌≡◌, ◌+◌, ◌-◌, ◌*◌, ℕ, ℤ, List, [], ◌∷◌, length, map, sum, slice_get, slice_index_or, Option, Some, None, true}
+use Rattle.std.specs.Prelude.{◌≡◌, ◌+◌, ◌-◌, ◌*◌, ◌<◌, ◌^◌, ℕ, ℤ, List, [], ◌∷◌, length, map, sum, slice_get, slice_index_or, Option, Some, None, true}
 use Rattle.bt_model.specs.declared.term.Term.{Term}
 use Rattle.bt_model.specs.declared.term.Tree.{Tree}
 use Rattle.bt_model.specs.declared.world.World.{World}
+use Rattle.bt_model.specs.Boards.{slots}
 use Rattle.bt_model.specs.Drivers.{DriverState, instance_at, is_held}
 use Rattle.bt_model.specs.Run.{RunState, Runner, RunnerCall, root_view}
 use Rattle.bt_model.specs.Sound.{RunSteady}
@@ -80,11 +81,12 @@ HeldAreTheirs arenas drivers = (place instance : ℕ) → is_held (instance_at d
 
 -- ---- What holds of runs
 
--- a runner's tree stands in its arena, whose marks say what is held, and nothing else does
+-- a runner's tree stands in its arena, whose marks say what is held, and nothing else does: place 0 is no leaf's
 pub record RunnerFits (tree : Tree) (world : World) (facts : List ℤ) (drivers : List DriverState) (number : ℕ) (r : ReadyRunner) : Type 0 where
   pub numbered : r.arena.runner ≡ number
   pub fits : Fits tree.term (root_view tree world) 1 r.arena.nodes.items (scene r.arena.kept.items r.board facts drivers)
   pub nodes : length r.arena.nodes.items ≡ 1 + node_count tree.term
+  pub nobody : leaf_at r.arena.nodes.items 0 ≡ None
 
 -- what holds of the runners of a world also in the middle of an event
 pub record RunnersFit (tree : Tree) (world : World) (facts : List ℤ) (drivers : List DriverState) (runners : List ReadyRunner) : Type 0 where
@@ -93,6 +95,8 @@ pub record RunnersFit (tree : Tree) (world : World) (facts : List ℤ) (drivers 
   pub apart : AreApart (arenas_in runners)
   pub theirs : HeldAreTheirs (arenas_in runners) drivers
   pub many_facts : length facts ≡ length world.facts
+  pub few_facts : length world.facts < 2 ^ 32
+  pub few_slots : length (slots tree) < 2 ^ 32
 
 -- what holds of the runs of a tree in a world between events, before any has stopped
 pub record AreRuns (tree : Tree) (world : World) (drivers : List DriverState) (runs : Runs) : Type 0 where

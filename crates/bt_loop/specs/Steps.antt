@@ -1,5 +1,5 @@
 -- What an event leaves of runs, against the definition's step.
-use Rattle.std.specs.Prelude.{◌≡◌, ◌≤◌, ◌+◌, ◌<◌, ◌⊎◌, ℕ, List, ◌++◌, length, map, Option, Some, None, Result, Ok, Err}
+use Rattle.std.specs.Prelude.{◌≡◌, ◌≤◌, ◌+◌, ◌<◌, ◌^◌, ◌⊎◌, ℕ, List, ◌++◌, length, map, Option, Some, None, Result, Ok, Err}
 use Rattle.bt_script.specs.declared.stop.Stop.{Stop}
 use Rattle.bt_script.specs.declared.stop.Stop.TheVariants as stop
 use Rattle.bt_model.specs.declared.fault.RunFault.{RunFault}
@@ -69,11 +69,14 @@ EventEnds (Err stop.NoMemory) term before after runs block d =
 
 -- ---- Rosters
 
--- no count has fallen
+-- a count of 64 bits has not fallen, and still is one
+abbrev pub HasNotFallen : ℕ → ℕ → Type 0
+HasNotFallen old new = old < 2 ^ 64 → (old ≤ new) × (new < 2 ^ 64)
+
 pub record HasRisen (old new : Totals) : Type 0 where
-  pub starts : old.starts ≤ new.starts
-  pub runnings : old.runnings ≤ new.runnings
-  pub haltings : old.haltings ≤ new.haltings
+  pub starts : HasNotFallen old.starts new.starts
+  pub runnings : HasNotFallen old.runnings new.runnings
+  pub haltings : HasNotFallen old.haltings new.haltings
 
 -- as many drivers, each of the same kind and mark in its place, and no total has fallen
 pub record IsSameRoster (old new : List DriverState) : Type 0 where

@@ -2,9 +2,9 @@
 //! one table of facts and one roster of drivers.
 #![tactic(auto)]
 
-mod below;
 mod boxed;
 mod events;
+pub mod laws;
 mod making;
 mod parts;
 mod quenching;

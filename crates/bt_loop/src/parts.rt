@@ -1,20 +1,23 @@
 ghost use Rattle.std.specs.Prelude.{◌≡◌, ◌≤◌, ◌<◌, ◌++◌, ◌∷◌, [], ℕ, ℤ, List, OnOk, OnErr, Some, length, slice_get, slice_set};
+ghost use Rattle.bt_model.specs.declared.note.Note.{Note as NoteOf};
+ghost use Rattle.bt_model.specs.declared.note.Note.TheVariants.{Root};
 ghost use Rattle.bt_model.specs.declared.term.Tree.{Tree};
 ghost use Rattle.bt_model.specs.declared.world.World.{World};
 ghost use Rattle.bt_model.specs.Run.{Runner, runner_at, settled, state_of};
 ghost use Rattle.bt_model.specs.Visit.{change};
 ghost use Rattle.bt_arena.specs.Ends.{Meets, StaysFit};
 ghost use Rattle.bt_arena.specs.Nodes.{kept_at};
+ghost use Rattle.bt_arena.specs.Noted.{calls_named};
 ghost use Rattle.bt_arena.specs.Stands.{memory_of};
 ghost use Rattle.bt_loop.specs.Parts.{AreReady, CanAct, PartEnds, StaysRunner, part_of, scene_of, state_of_all, state_of_runner};
 ghost use Rattle.bt_loop.specs.Runs.{RunnersFit, arenas_in};
 
-use crate::below::tick;
 use crate::runs::ReadyRunner;
-use bt_arena::{Kept, Notes, kept_by, set_status};
+use bt_arena::{Kept, Notes};
 use bt_driver::{Drivers, FactTable};
 use bt_halting::reset;
-use bt_model::{NodeFault, Note, Status};
+use bt_tick::tick;
+use bt_model::{Answer, NodeFault, Note, Status};
 use bt_script::{NoMemory, Stop};
 use std::alloc::Global;
 
@@ -38,22 +41,41 @@ fn at_end(status: Status) -> Status
 }
 
 /// A root that has succeeded or failed becomes IDLE, which is noted.
-fn settle_root(kept: &mut [Kept], notes: &mut Notes) -> Result<(), NoMemory>
-    requires { 1 < length kept.old }
-    ensures kept { OnOk result (kept.new ≡ slice_set kept.old 1 (record (kept_at kept.old 1) { status = settled (kept_at kept.old 1).status })) }
-    ensures notes { OnOk result (notes.new.list ≡ notes.old.list ++ change 1 (kept_at kept.old 1).status (settled (kept_at kept.old 1).status)) }
-    ensures err { OnErr result (kept.new ≡ kept.old) }
+fn settle_root(kept: &mut Vec<Kept>, notes: &mut Notes) -> Result<(), NoMemory>
+    requires { 1 < length kept.old.items }
+    ensures kept { OnOk result (kept.new.items ≡ slice_set kept.old.items 1 (record (kept_at kept.old.items 1) { status = settled (kept_at kept.old.items 1).status })) }
+    ensures notes { OnOk result (notes.new.list ≡ notes.old.list ++ change 1 (kept_at kept.old.items 1).status (settled (kept_at kept.old.items 1).status)) }
+    ensures err { OnErr result (kept.new.items ≡ kept.old.items) }
     ensures err_notes { OnErr result (notes.new.list ≡ notes.old.list) }
     ensures reserve { notes.new.reserve ≡ notes.old.reserve }
     ensures full { notes.new.full ≡ notes.old.full }
 {
-    let old = kept_by(kept, 1).status;
+    let old = kept[1].status;
     let new = at_end(old);
     if old != new {
         notes.push(Note::Changed { uid: 1, old, new })?;
     }
-    set_status(kept, 1, new);
+    kept[1].status = new;
     Ok(())
+}
+
+/// Ends a tick: notes the root's answer, and then the root's own end.
+fn end_tick(
+    runner: u8,
+    answer: Answer,
+    kept: &mut Vec<Kept>,
+    notes: &mut Notes,
+) -> Result<(), NoMemory>
+    requires { 1 < length kept.old.items }
+    ensures kept { OnOk result (kept.new.items ≡ slice_set kept.old.items 1 (record (kept_at kept.old.items 1) { status = settled (kept_at kept.old.items 1).status })) }
+    ensures notes { OnOk result (notes.new.list ≡ notes.old.list ++ Root runner answer ∷ change 1 (kept_at kept.old.items 1).status (settled (kept_at kept.old.items 1).status)) }
+    ensures err { OnErr result (kept.new.items ≡ kept.old.items) }
+    ensures err_notes { OnErr result ((told : List NoteOf) × (untold : List NoteOf) × (told ++ untold ≡ Root runner answer ∷ change 1 (kept_at kept.old.items 1).status (settled (kept_at kept.old.items 1).status)) × (calls_named told ≡ 0) × (notes.new.list ≡ notes.old.list ++ told)) }
+    ensures reserve { notes.new.reserve ≡ notes.old.reserve }
+    ensures full { notes.new.full ≡ notes.old.full }
+{
+    notes.push(Note::Root { runner, answer })?;
+    settle_root(kept, notes)
 }
 
 /// Ticks a runner: visits its root, and notes its answer and the root's own end.
@@ -74,6 +96,7 @@ fn tick_root<D: Drivers>(
     ensures reserve { notes.old.reserve ≤ notes.new.reserve }
     ensures full { notes.new.full ≡ notes.old.full }
 {
+    let number = runner.arena.runner;
     let answer = tick(
         alloc,
         &mut runner.arena,
@@ -83,11 +106,7 @@ fn tick_root<D: Drivers>(
         at,
         notes,
     )?;
-    notes.push(Note::Root {
-        runner: runner.arena.runner,
-        answer,
-    })?;
-    settle_root(&mut runner.arena.kept, notes)?;
+    end_tick(number, answer, &mut runner.arena.kept, notes)?;
     Ok(())
 }
 
@@ -147,21 +166,21 @@ pub fn make_part_of<D: Drivers>(
     alloc: Global,
     part: Part,
     number: u8,
-    runners: &mut [ReadyRunner],
+    runners: &mut Vec<ReadyRunner>,
     facts: &mut FactTable,
     drivers: &mut D,
     at: u64,
     notes: &mut Notes,
 ) -> Result<(), Stop<NodeFault>>
     requires first { 1 ≤ number }
-    requires last { number ≤ length runners.old }
-    requires ready { (tree : Tree) × (world : World) × (last : ℕ) × AreReady tree world last at facts.old (D.states drivers.old) runners.old }
-    ensures part { (tree : Tree) (world : World) (last : ℕ) → AreReady tree world last at facts.old (D.states drivers.old) runners.old →
-        (r : Runner) → runner_at (state_of_all tree.term (D.states drivers.old) runners.old facts.old last) number ≡ Some r →
-        PartEnds result tree.term number at (state_of_all tree.term (D.states drivers.old) runners.old facts.old last) (arenas_in runners.old) (D.states drivers.old) (D.states drivers.new) runners.new facts.new notes.old.list notes.new.list
+    requires last { number ≤ length runners.old.items }
+    requires ready { (tree : Tree) × (world : World) × (last : ℕ) × AreReady tree world last at facts.old (D.states drivers.old) runners.old.items }
+    ensures part { (tree : Tree) (world : World) (last : ℕ) → AreReady tree world last at facts.old (D.states drivers.old) runners.old.items →
+        (r : Runner) → runner_at (state_of_all tree.term (D.states drivers.old) runners.old.items facts.old last) number ≡ Some r →
+        PartEnds result tree.term number at (state_of_all tree.term (D.states drivers.old) runners.old.items facts.old last) (arenas_in runners.old.items) (D.states drivers.old) (D.states drivers.new) runners.new.items facts.new notes.old.list notes.new.list
         (part_of part tree world number r.memory (state_of r facts.old at)) }
-    ensures fit { (tree : Tree) (world : World) → RunnersFit tree world facts.old (D.states drivers.old) runners.old → RunnersFit tree world facts.new (D.states drivers.new) runners.new }
-    ensures arenas { arenas_in runners.new ≡ arenas_in runners.old }
+    ensures fit { (tree : Tree) (world : World) → RunnersFit tree world facts.old (D.states drivers.old) runners.old.items → RunnersFit tree world facts.new (D.states drivers.new) runners.new.items }
+    ensures arenas { arenas_in runners.new.items ≡ arenas_in runners.old.items }
     ensures reserve { notes.old.reserve ≤ notes.new.reserve }
     ensures full { notes.new.full ≡ notes.old.full }
 {

@@ -11,21 +11,21 @@ use bt_driver::Drivers;
 use bt_halting::quench;
 
 /// Quenches all runners, in order. It takes no memory.
-pub fn quench_all<D: Drivers>(runners: &mut [ReadyRunner], drivers: &mut D, notes: &mut Notes)
-    requires fit { (tree : Tree) × (world : World) × (facts : List ℤ) × RunnersFit tree world facts (D.states drivers.old) runners.old }
-    requires room { leaves_of (arenas_in runners.old) ≤ notes.old.reserve }
-    ensures state { (tree : Tree) (world : World) (facts : List ℤ) → RunnersFit tree world facts (D.states drivers.old) runners.old →
-        runners_in tree.term (D.states drivers.new) runners.new ≡ map (quenched_runner tree) (runners_in tree.term (D.states drivers.old) runners.old) }
-    ensures notes { (tree : Tree) (world : World) (facts : List ℤ) → RunnersFit tree world facts (D.states drivers.old) runners.old →
-        notes.new.list ≡ notes.old.list ++ quench_notes 1 (runners_in tree.term (D.states drivers.old) runners.old) }
-    ensures drivers { (tree : Tree) (world : World) (facts : List ℤ) → RunnersFit tree world facts (D.states drivers.old) runners.old →
-        D.states drivers.new ≡ roster_over (arenas_in runners.old) (quench_calls 1 (runners_in tree.term (D.states drivers.old) runners.old)) (D.states drivers.old) }
+pub fn quench_all<D: Drivers>(runners: &mut Vec<ReadyRunner>, drivers: &mut D, notes: &mut Notes)
+    requires fit { (tree : Tree) × (world : World) × (facts : List ℤ) × RunnersFit tree world facts (D.states drivers.old) runners.old.items }
+    requires room { leaves_of (arenas_in runners.old.items) ≤ notes.old.reserve }
+    ensures state { (tree : Tree) (world : World) (facts : List ℤ) → RunnersFit tree world facts (D.states drivers.old) runners.old.items →
+        runners_in tree.term (D.states drivers.new) runners.new.items ≡ map (quenched_runner tree) (runners_in tree.term (D.states drivers.old) runners.old.items) }
+    ensures notes { (tree : Tree) (world : World) (facts : List ℤ) → RunnersFit tree world facts (D.states drivers.old) runners.old.items →
+        notes.new.list ≡ notes.old.list ++ quench_notes 1 (runners_in tree.term (D.states drivers.old) runners.old.items) }
+    ensures drivers { (tree : Tree) (world : World) (facts : List ℤ) → RunnersFit tree world facts (D.states drivers.old) runners.old.items →
+        D.states drivers.new ≡ roster_over (arenas_in runners.old.items) (quench_calls 1 (runners_in tree.term (D.states drivers.old) runners.old.items)) (D.states drivers.old) }
     ensures none { NothingHeld (D.states drivers.new) }
-    ensures arenas { arenas_in runners.new ≡ arenas_in runners.old }
-    ensures boards { boards_in runners.new ≡ boards_in runners.old }
+    ensures arenas { arenas_in runners.new.items ≡ arenas_in runners.old.items }
+    ensures boards { boards_in runners.new.items ≡ boards_in runners.old.items }
     ensures full { notes.new.full ≡ notes.old.full }
 {
-    for runner in runners.iter_mut() {
-        quench(&mut runner.arena, drivers, notes);
+    for place in 0..runners.len() {
+        quench(&mut runners[place].arena, drivers, notes);
     }
 }

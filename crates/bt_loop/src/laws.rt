@@ -1,0 +1,16 @@
+ghost use Rattle.std.specs.Prelude.{◌≡◌, ℕ, List, Some, false, slice_get};
+ghost use Rattle.bt_model.specs.declared.memory.Memory.{out-Memory};
+ghost use Rattle.bt_model.specs.declared.term.Tree.{Tree};
+ghost use Rattle.bt_model.specs.declared.world.World.{World};
+ghost use Rattle.bt_model.specs.Drivers.{DriverState, NothingHeld};
+ghost use Rattle.bt_model.specs.Run.{Runner};
+ghost use Rattle.bt_model.specs.Shapes.{is_running};
+ghost use Rattle.bt_loop.specs.declared.runs.Runs.{Runs};
+ghost use Rattle.bt_loop.specs.Runs.{AreRuns, state_of_runs};
+
+/// Between events, where no runner's root is RUNNING, no driver holds an instance.
+pub fn runs_at_rest_hold_nothing()
+    ensures { (tree : Tree) (world : World) (drivers : List DriverState) (runs : Runs) → AreRuns tree world drivers runs →
+        ((k : ℕ) (r : Runner) → slice_get (state_of_runs tree.term drivers runs).runners k ≡ Some r → is_running (out-Memory r.memory).status ≡ false) →
+        NothingHeld drivers }
+{}
