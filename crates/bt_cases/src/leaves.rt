@@ -11,6 +11,7 @@ use bt_driver::{
     Driver, Drivers, FactTable, Inputs, Outs, ReadyRow, Reply, facts_of, kind_of, ready,
 };
 use bt_leaves::{Conditions, Gate, Replay, Timed};
+use bt_loop::Roster;
 use bt_model::{Totals, World};
 use bt_script::{NoMemory, Seen};
 use bt_world::read_world;
@@ -346,9 +347,10 @@ fn conditions_answer_at_once(rt: HostRuntime) -> Result<(), Fail> {
             "Broken(Overflow); facts 9223372036854775807; outputs []",
         ),
     ] {
-        let mut roster: Vec<Box<dyn Driver>> = Vec::new(alloc);
-        roster.push(Box::new(alloc, Conditions::new(alloc))?)?;
-        roster.push(Box::new(alloc, Timed::new(alloc))?)?;
+        let mut drivers: Vec<Box<dyn Driver>> = Vec::new(alloc);
+        drivers.push(Box::new(alloc, Conditions::new(alloc))?)?;
+        drivers.push(Box::new(alloc, Timed::new(alloc))?)?;
+        let mut roster = Roster { drivers };
         let text = told(&rt, alloc, &mut roster, lines, inputs, calls)?;
         assert_eq!(rt; text.as_str(), want, "{lines}");
     }
@@ -451,10 +453,11 @@ fn actions_answer_by_their_rows(rt: HostRuntime) -> Result<(), Fail> {
             "Success; Broken(NotWhole); facts 3; outputs [4, 2]",
         ),
     ] {
-        let mut roster: Vec<Box<dyn Driver>> = Vec::new(alloc);
-        roster.push(Box::new(alloc, Timed::new(alloc))?)?;
-        roster.push(Box::new(alloc, Replay::new(alloc))?)?;
-        roster.push(Box::new(alloc, Gate::new(alloc))?)?;
+        let mut drivers: Vec<Box<dyn Driver>> = Vec::new(alloc);
+        drivers.push(Box::new(alloc, Timed::new(alloc))?)?;
+        drivers.push(Box::new(alloc, Replay::new(alloc))?)?;
+        drivers.push(Box::new(alloc, Gate::new(alloc))?)?;
+        let mut roster = Roster { drivers };
         let text = told(&rt, alloc, &mut roster, lines, inputs, calls)?;
         assert_eq!(rt; text.as_str(), want, "{lines}");
     }
@@ -470,8 +473,9 @@ fn last_outcomes_stay(rt: HostRuntime) -> Result<(), Fail> {
         "{}Success; Success; facts; outputs []",
         "Failure; ".repeat(alloc, 63)?
     )?;
-    let mut roster: Vec<Box<dyn Driver>> = Vec::new(alloc);
-    roster.push(Box::new(alloc, Replay::new(alloc))?)?;
+    let mut drivers: Vec<Box<dyn Driver>> = Vec::new(alloc);
+    drivers.push(Box::new(alloc, Replay::new(alloc))?)?;
+    let mut roster = Roster { drivers };
     let text = told(&rt, alloc, &mut roster, lines.as_str(), "", calls.as_str())?;
     assert_eq!(rt; text, want);
     Ok(())
@@ -525,8 +529,9 @@ fn calls_are_counted(rt: HostRuntime) -> Result<(), Fail> {
             4,
         ),
     ] {
-        let mut roster: Vec<Box<dyn Driver>> = Vec::new(alloc);
-        roster.push(Box::new(alloc, Timed::new(alloc))?)?;
+        let mut drivers: Vec<Box<dyn Driver>> = Vec::new(alloc);
+        drivers.push(Box::new(alloc, Timed::new(alloc))?)?;
+        let mut roster = Roster { drivers };
         let totals = totals_of(&rt, alloc, &mut roster, lines, calls)?;
         let (starts, runnings, haltings) = counts;
         let want = Totals {

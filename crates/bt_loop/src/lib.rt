@@ -11,6 +11,7 @@ mod quenching;
 mod runs;
 mod telling;
 
+pub use boxed::Roster;
 pub use events::{event, finish, run_event, run_finish};
 pub use making::{leaves, make_runs, runs_of};
 pub use runs::{ReadyRunner, Runs, usable};
