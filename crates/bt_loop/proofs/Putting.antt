@@ -41,9 +41,9 @@ pub can_act : (tree : Tree) (world : World) (last at : ℕ) (facts : List ℤ) (
     (k : ℕ) (r : ReadyRunner) → slice_get runners k ≡ Some r → CanAct tree world at facts drivers r
 can_act tree world last at facts drivers runners ready k r is =
     let now : Steady tree.term world.rows (runner_in tree.term drivers r).memory (state_of (runner_in tree.term drivers r) facts last) =
-        ready.steady k (runner_in tree.term drivers r) (slice_get-map (runner_in tree.term drivers) runners k ∙ ap (option_map (runner_in tree.term drivers)) is) in
+    ready.steady k (runner_in tree.term drivers r) (slice_get-map (runner_in tree.term drivers) runners k ∙ ap (option_map (runner_in tree.term drivers)) is) in
     let then : Steady tree.term world.rows (runner_in tree.term drivers r).memory (state_of (runner_in tree.term drivers r) facts at) =
-        steady_moves tree.term world.rows (runner_in tree.term drivers r).memory (state_of (runner_in tree.term drivers r) facts last) (state_of (runner_in tree.term drivers r) facts at) refl ready.ahead now in
+    steady_moves tree.term world.rows (runner_in tree.term drivers r).memory (state_of (runner_in tree.term drivers r) facts last) (state_of (runner_in tree.term drivers r) facts at) refl ready.ahead now in
     record { fits = (ready.fit.each k r is).fits; sound = then.sound; dated = then.dated }
 
 module _ (tree : Tree) (world : World) (runners : List ReadyRunner) (facts : List ℤ) (drivers : List DriverState) (fit : RunnersFit tree world facts drivers runners)
@@ -91,10 +91,10 @@ module _ (tree : Tree) (world : World) (runners : List ReadyRunner) (facts : Lis
       many = length-set runners i new ∙ fit.many;
       each = λ k y at. elim (set_is runners i new k y at) [
         | inl here ↦ subst (λ (x : ReadyRunner). RunnerFits tree world facts1 drivers1 (k + 1) x) here.1 (record {
-            numbered = number ∙ (fit.each i r is).numbered ∙ ap (λ p. p + 1) (sym here.0);
-            fits = subst (λ (ns : List Node). Fits t (root_view tree world) 1 ns (scene_of new facts1 drivers1)) (sym nodes) fits1;
-            nodes = ap length nodes ∙ (fit.each i r is).nodes;
-          })
+          numbered = number ∙ (fit.each i r is).numbered ∙ ap (λ p. p + 1) (sym here.0);
+          fits = subst (λ (ns : List Node). Fits t (root_view tree world) 1 ns (scene_of new facts1 drivers1)) (sym nodes) fits1;
+          nodes = ap length nodes ∙ (fit.each i r is).nodes;
+        })
         | inr there ↦
             let was : RunnerFits tree world facts drivers (k + 1) y = fit.each k y there.1 in
             record {
