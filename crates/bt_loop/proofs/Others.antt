@@ -87,7 +87,7 @@ module _ (arenas : List (List Node)) (k : ℕ) (a : List Node) (is_arena : slice
   held_call call None is drivers are theirs place instance held = theirs place instance held
   held_call call (Some x) is drivers are theirs place instance held =
       let other : ((place ≡ x.driver) → (instance ≡ x.instance) → ⊥) → IsTheirs arenas place instance =
-          λ apart. theirs place instance (ap is_held (sym (instance_other drivers x.driver call.phase x.instance call.left (are.served call.uid x is).there place instance apart)) ∙ held)
+      λ apart. theirs place instance (ap is_held (sym (instance_other drivers x.driver call.phase x.instance call.left (are.served call.uid x is).there place instance apart)) ∙ held)
       in
       elim (cases_eq place x.driver) [
         | inl same ↦ elim (cases_eq instance x.instance) [

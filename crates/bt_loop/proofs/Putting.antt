@@ -42,9 +42,9 @@ pub can_act : (tree : Tree) (world : World) (last at : ℕ) (facts : List ℤ) (
     (k : ℕ) (r : ReadyRunner) → slice_get runners k ≡ Some r → CanAct tree world at facts drivers r
 can_act tree world last at facts drivers runners ready k r is =
     let now : Steady tree.term world.rows (runner_in tree.term drivers r).memory (state_of (runner_in tree.term drivers r) facts last) =
-        ready.steady k (runner_in tree.term drivers r) (slice_get-map (runner_in tree.term drivers) runners k ∙ ap (option_map (runner_in tree.term drivers)) is) in
+    ready.steady k (runner_in tree.term drivers r) (slice_get-map (runner_in tree.term drivers) runners k ∙ ap (option_map (runner_in tree.term drivers)) is) in
     let then : Steady tree.term world.rows (runner_in tree.term drivers r).memory (state_of (runner_in tree.term drivers r) facts at) =
-        steady_moves tree.term world.rows (runner_in tree.term drivers r).memory (state_of (runner_in tree.term drivers r) facts last) (state_of (runner_in tree.term drivers r) facts at) refl ready.ahead now in
+    steady_moves tree.term world.rows (runner_in tree.term drivers r).memory (state_of (runner_in tree.term drivers r) facts last) (state_of (runner_in tree.term drivers r) facts at) refl ready.ahead now in
     record { fits = (ready.fit.each k r is).fits; sound = then.sound; dated = then.dated }
 
 module _ (tree : Tree) (world : World) (runners : List ReadyRunner) (facts : List ℤ) (drivers : List DriverState) (fit : RunnersFit tree world facts drivers runners)

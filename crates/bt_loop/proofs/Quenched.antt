@@ -126,7 +126,7 @@ module _ (tree : Tree) (world : World) (facts : List ℤ) (i : ℕ) (before now 
     drivers =
         (λ j. roster_over (arenas_stay j) (quench_calls (i + 1 + 1) (rest_same j)) now1)
         ∙ ap (roster_over (arenas_in rs) (quench_calls (i + 1 + 1) (drop (i + 1) all)))
-            (called ∙ ap (λ (ns : List Node). roster_after ns calls now) (sym (nodes_are tree world rs facts now so_far.fit i r is (i + 1) (omega arith))) ∙ sym (over_runner (arenas_in rs) (i + 1) calls now))
+        (called ∙ ap (λ (ns : List Node). roster_after ns calls now) (sym (nodes_are tree world rs facts now so_far.fit i r is (i + 1) (omega arith))) ∙ sym (over_runner (arenas_in rs) (i + 1) calls now))
         ∙ sym (over_both (arenas_in rs) (runner_calls (i + 1) calls) (quench_calls (i + 1 + 1) (drop (i + 1) all)) now)
         ∙ ap (λ xs. roster_over (arenas_in rs) (quench_calls (i + 1) xs) now) (sym rest_is)
         ∙ so_far.drivers;
@@ -175,7 +175,7 @@ module _ (tree : Tree) (world : World) (facts : List ℤ) (place : ℕ) (before 
   free_leaf place instance theirs =
       let x : (x : ReadyRunner) × (slice_get rs theirs.runner ≡ Some x) = entry rs theirs.runner (omega (arith, within (arenas_in rs) theirs.runner theirs.nodes theirs.is_runner, length-map rs (λ (y : ReadyRunner). y.arena.nodes.items))) in
       let nodes_is : Some x.0.arena.nodes.items ≡ Some theirs.nodes =
-          sym (slice_get-map (λ (y : ReadyRunner). y.arena.nodes.items) rs theirs.runner ∙ ap (option_map (λ (y : ReadyRunner). y.arena.nodes.items)) x.1) ∙ theirs.is_runner in
+      sym (slice_get-map (λ (y : ReadyRunner). y.arena.nodes.items) rs theirs.runner ∙ ap (option_map (λ (y : ReadyRunner). y.arena.nodes.items)) x.1) ∙ theirs.is_runner in
       let nodes_are : x.0.arena.nodes.items ≡ theirs.nodes = cc in
       (λ j. is_held (instance_at now (sym theirs.is_driver j) (sym theirs.is_instance j)))
       ∙ ap (λ o. is_held (leaf_instance now o)) (sym theirs.is_leaf)

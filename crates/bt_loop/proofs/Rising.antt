@@ -66,8 +66,8 @@ module _ (ds : List DriverState) (place : ℕ) (p : Phase) (instance : ℕ) (lef
   called_same : IsSameRoster ds called
   called_same = record {
     as_many = length-set ds place (after_call (driver_at ds place) p instance left);
-    kind = λ other. elim (one_driver other) [ | inl e ↦ ap (λ (d : DriverState). d.kind) e | inr e ↦ ap (λ (d : DriverState). d.kind) e ];
-    mark = λ other. elim (one_driver other) [ | inl e ↦ ap (λ (d : DriverState). d.mark) e | inr e ↦ ap (λ (d : DriverState). d.mark) e ];
+    kind = λ other. elim (one_driver other) [ inl e ↦ ap (λ (d : DriverState). d.kind) e | inr e ↦ ap (λ (d : DriverState). d.kind) e ];
+    mark = λ other. elim (one_driver other) [ inl e ↦ ap (λ (d : DriverState). d.mark) e | inr e ↦ ap (λ (d : DriverState). d.mark) e ];
     totals = λ other. elim (one_driver other) [
       | inl e ↦ subst (λ (d : DriverState). HasRisen (driver_at ds other).totals d.totals) (sym e) (risen_same (driver_at ds other).totals)
       | inr e ↦ subst (λ (d : DriverState). HasRisen (driver_at ds other).totals d.totals) (sym e) (risen_counted (driver_at ds other).totals p instance)

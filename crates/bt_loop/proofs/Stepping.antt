@@ -173,19 +173,21 @@ module _ (tree : Tree) (header : Header) (number at : ℕ) (runs0 runs1 runs2 : 
       IsTelling number runs1.facts (boards_in runs1.runners.items) runs1.told runs2.told block1 block2 → runs2 ≡ record runs1 { told = runs2.told } → block2.notes ≡ block1.notes → after ≡ mid →
       EventEnds (Ok tt) t before after runs2 block2 whole
   made_told m telling same_runs same_notes same_drivers =
-      subst (λ (r : Result (Unit {0}) NodeFault). EventEnds (Ok tt) t before after runs2 block2 (step_by r)) (sym m.answer)
-      (refl, record {
-        state =
-            (λ i. state_of_runs t (same_drivers i) (same_runs i))
-            ∙ (λ i. let all : RunState = record { runners = held; facts = runs1.facts; last = last_is i } in all) ∙ m.state;
-        shown = λ i. record {
-          header = (telling.header ∙ begun) i;
-          notes = (ap (λ n. n.list) same_notes ∙ m.notes) i;
-          facts = facts_told m.state block2 runs2.told telling i;
-          entries = entries_told_are m.state block2 runs2.told telling i;
-        };
-        drivers = same_drivers ∙ m.drivers ∙ ap (λ ns. roster_over ns (runner_calls number d.calls) before) (sym arenas ∙ sym (ap arenas_of same_runs));
-      })
+      subst (λ (r : Result (Unit {0}) NodeFault). EventEnds (Ok tt) t before after runs2 block2 (step_by r)) (sym m.answer) (
+        refl,
+        record {
+          state =
+              (λ i. state_of_runs t (same_drivers i) (same_runs i))
+              ∙ (λ i. let all : RunState = record { runners = held; facts = runs1.facts; last = last_is i } in all) ∙ m.state;
+          shown = λ i. record {
+            header = (telling.header ∙ begun) i;
+            notes = (ap (λ n. n.list) same_notes ∙ m.notes) i;
+            facts = facts_told m.state block2 runs2.told telling i;
+            entries = entries_told_are m.state block2 runs2.told telling i;
+          };
+          drivers = same_drivers ∙ m.drivers ∙ ap (λ ns. roster_over ns (runner_calls number d.calls) before) (sym arenas ∙ sym (ap arenas_of same_runs));
+        },
+      )
 
   -- it was cut off behind some notes and calls
   cut_off : (r : Result (Unit {0}) NodeFault) (said unsaid : List Note) (made unmade : List Call) → said ++ unsaid ≡ d.notes → made ++ unmade ≡ d.calls → length made ≡ calls_named said →
@@ -227,17 +229,19 @@ module _ (tree : Tree) (header : Header) (number at : ℕ) (runs0 runs1 runs2 : 
     fault_told : (g : RunFault) → g ≡ record { runner = number; uid = f.uid; cause = f.cause } → IsTelling number runs1.facts (boards_in runs1.runners.items) runs1.told runs2.told block1 block2 →
         EventEnds (Err (stop.Fault g)) t before after runs2 block2 whole
     fault_told g is telling =
-        subst (λ (r : Result (Unit {0}) NodeFault). EventEnds (Err (stop.Fault g)) t before after runs2 block2 (step_by r)) (sym m.answer)
-        (ap Some (sym is), record {
-          state = λ i. record { runners = (q.state ∙ ap (map (quenched_runner tree)) (held_is m.state)) i; facts = (q.facts ∙ facts_are m.state) i; last = (q.last ∙ last_is) i };
-          shown = λ i. record {
-            header = (telling.header ∙ begun) i;
-            notes = notes_at_fault i;
-            facts = facts_told m.state block2 runs2.told telling i;
-            entries = (entries_told_are m.state block2 runs2.told telling ∙ sym (quench_boards tree 1 s.runners left.runners)) i;
-          };
-          drivers = drivers_at_fault;
-        })
+        subst (λ (r : Result (Unit {0}) NodeFault). EventEnds (Err (stop.Fault g)) t before after runs2 block2 (step_by r)) (sym m.answer) (
+          ap Some (sym is),
+          record {
+            state = λ i. record { runners = (q.state ∙ ap (map (quenched_runner tree)) (held_is m.state)) i; facts = (q.facts ∙ facts_are m.state) i; last = (q.last ∙ last_is) i };
+            shown = λ i. record {
+              header = (telling.header ∙ begun) i;
+              notes = notes_at_fault i;
+              facts = facts_told m.state block2 runs2.told telling i;
+              entries = (entries_told_are m.state block2 runs2.told telling ∙ sym (quench_boards tree 1 s.runners left.runners)) i;
+            };
+            drivers = drivers_at_fault;
+          },
+        )
 
     -- and not all was told
     fault_untold : EventEnds (Err stop.NoMemory) t before after runs2 block2 whole
@@ -250,7 +254,7 @@ module _ (tree : Tree) (header : Header) (number at : ℕ) (runs0 runs1 runs2 : 
       IsTelling number runs1.facts (boards_in runs1.runners.items) runs1.told runs2.told block1 block2 → runs2 ≡ record runs1 { told = runs2.told } → after ≡ mid → StayRuns tree world after runs2
   stays world usable fit left_is telling same_runs same_drivers =
       let boards1 : boards_in runs1.runners.items ≡ set (boards_in runs0.runners.items) (number - 1) d.state.board =
-          sym (boards_are t mid runs1.runners.items) ∙ ap (map board_of) (held_is left_is) ∙ map-set board_of s.runners (number - 1) _ ∙ ap (λ xs. set xs (number - 1) d.state.board) (boards_are t before runs0.runners.items) in
+      sym (boards_are t mid runs1.runners.items) ∙ ap (map board_of) (held_is left_is) ∙ map-set board_of s.runners (number - 1) _ ∙ ap (λ xs. set xs (number - 1) d.state.board) (boards_are t before runs0.runners.items) in
       record {
         usable = ap (λ (r : Runs). r.usable) same_runs ∙ usable;
         fit = subst (λ (ds : List DriverState). RunnersFit tree world runs2.facts ds runs2.runners.items) (sym same_drivers) (subst (λ (r : Runs). RunnersFit tree world r.facts mid r.runners.items) (sym same_runs) fit);
@@ -293,7 +297,7 @@ all_twice tree (r ∷ rs) = λ i. twice tree r i ∷ all_twice tree rs i
 pub quenched_stays : (tree : Tree) (before after : List DriverState) (old new : Runs) (n0 n1 : List Note) → IsQuenched tree before after old new n0 n1 → state_of_runs tree.term after new ≡ quenched tree (state_of_runs tree.term after new)
 quenched_stays tree before after old new n0 n1 q =
     let again : map (quenched_runner tree) (runners_in tree.term after new.runners.items) ≡ runners_in tree.term after new.runners.items =
-        ap (map (quenched_runner tree)) q.state ∙ all_twice tree (runners_in tree.term before old.runners.items) ∙ sym q.state in
+    ap (map (quenched_runner tree)) q.state ∙ all_twice tree (runners_in tree.term before old.runners.items) ∙ sym q.state in
     λ i. record { runners = sym again i; facts = new.facts; last = new.last }
 
 -- a stop leaves all quenched
@@ -342,7 +346,7 @@ pub can_tell : (tree : Tree) (world : World) (number : ℕ) (before mid : List D
     1 ≤ number → number ≤ world.runners → CanTell number runs1
 can_tell tree world number before mid runs0 runs1 are fit told first last =
     let as_many : length runs1.told.boards.items ≡ length runs0.runners.items =
-        ap (λ (x : Told). length x.boards.items) told ∙ sym (length-map runs0.told.boards.items _) ∙ ap length are.told_entries ∙ length-map runs0.runners.items _ in
+    ap (λ (x : Told). length x.boards.items) told ∙ sym (length-map runs0.told.boards.items _) ∙ ap length are.told_entries ∙ length-map runs0.runners.items _ in
     record {
       first = first;
       last = omega (arith, last, fit.many);

@@ -82,16 +82,18 @@ module _ (t : Term) (nodes : List Node) (at runner : ℕ) (answer : Answer) (s1 
       let now : Kept = record (kept_at s1.kept 1) { status = settled st } in
       let here : kept_at s2.kept 1 ≡ now = ap (λ (k : List Kept). kept_at k 1) kept ∙ get_or-set_same s1.kept 1 now at_rest there in
       let memory : remembered (settled st) (kept_at s1.kept 1).memo (memories_of (out-Term t).children 2 s1.kept) ≡ memory_of t 1 s2.kept =
-          ap (λ (k : Kept). remembered k.status k.memo (memories_of (out-Term t).children 2 s1.kept)) (sym here)
-          ∙ sym (memory_above t 1 s1.kept s2.kept (λ p low high. sym (ap (λ (k : List Kept). kept_at k p) kept ∙ get_or-set_other s1.kept 1 p now at_rest (λ e. absurd (omega (arith, low, e)))))) in
-      subst (λ (d : Done Answer Memory). Meets nodes at (memory_of t 1) (Ok tt) s1 s2 n1 n2 (unanswered d)) (sym told_is)
-      (record {
-        answer = refl;
-        memory = memory;
-        state = λ i. record { board = sym board i; facts = sym facts i; instances = instances_of nodes (sym drivers i); moment = at };
-        notes = noted ∙ ap (λ xs. n1 ++ xs) (sym (append-nil (root_notes runner answer st)));
-        drivers = drivers;
-      }, sym (ap calls_named (append-nil (root_notes runner answer st)) ∙ no_call runner answer st))
+      ap (λ (k : Kept). remembered k.status k.memo (memories_of (out-Term t).children 2 s1.kept)) (sym here)
+      ∙ sym (memory_above t 1 s1.kept s2.kept (λ p low high. sym (ap (λ (k : List Kept). kept_at k p) kept ∙ get_or-set_other s1.kept 1 p now at_rest (λ e. absurd (omega (arith, low, e)))))) in
+      subst (λ (d : Done Answer Memory). Meets nodes at (memory_of t 1) (Ok tt) s1 s2 n1 n2 (unanswered d)) (sym told_is) (
+        record {
+          answer = refl;
+          memory = memory;
+          state = λ i. record { board = sym board i; facts = sym facts i; instances = instances_of nodes (sym drivers i); moment = at };
+          notes = noted ∙ ap (λ xs. n1 ++ xs) (sym (append-nil (root_notes runner answer st)));
+          drivers = drivers;
+        },
+        sym (ap calls_named (append-nil (root_notes runner answer st)) ∙ no_call runner answer st),
+      )
 
   -- it was cut off
   pub end_cut : (said unsaid : List Note) → said ++ unsaid ≡ root_notes runner answer st → calls_named said ≡ 0 → n2 ≡ n1 ++ said → s2.drivers ≡ s1.drivers → Meets {A = Unit {0}} nodes at (memory_of t 1) (Err stop.NoMemory) s1 s2 n1 n2 (unanswered told)

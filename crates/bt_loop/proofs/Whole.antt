@@ -139,17 +139,19 @@ module _ (tree : Tree) (world : World) (fact : ℕ) (value : ℤ) (at : ℕ) (dr
   -- it was told
   pub change_told : (told : Told) (block : Block) → block ≡ record begun { facts = block.facts } → block.facts.items ≡ begun.facts.items ++ changed_from 0 runs0.told.facts.items facts1 →
       EventEnds (Ok tt) tree.term drivers drivers (runs1 told) block (change_step fact value at s0)
-  change_told told block rest changed =
-      (refl, record {
-        state = λ i. record { runners = runners_in tree.term drivers runs0.runners.items; facts = set_is i; last = at };
-        shown = λ i. record {
-          header = (ap (λ (b : Block). b.header) rest ∙ header_is) i;
-          notes = (ap (λ (b : Block). b.notes.list) rest ∙ no_notes) i;
-          facts = (changed ∙ (λ j. no_facts j ++ changed_from 0 (are.told j) (set_is j))) i;
-          entries = (ap (λ (b : Block). b.entries.items) rest ∙ no_entries ∙ sym (same_boards 1 (runners_in tree.term drivers runs0.runners.items))) i;
-        };
-        drivers = refl;
-      })
+  change_told told block rest changed = (
+    refl,
+    record {
+      state = λ i. record { runners = runners_in tree.term drivers runs0.runners.items; facts = set_is i; last = at };
+      shown = λ i. record {
+        header = (ap (λ (b : Block). b.header) rest ∙ header_is) i;
+        notes = (ap (λ (b : Block). b.notes.list) rest ∙ no_notes) i;
+        facts = (changed ∙ (λ j. no_facts j ++ changed_from 0 (are.told j) (set_is j))) i;
+        entries = (ap (λ (b : Block). b.entries.items) rest ∙ no_entries ∙ sym (same_boards 1 (runners_in tree.term drivers runs0.runners.items))) i;
+      };
+      drivers = refl;
+    },
+  )
 
   pub change_stays : (told : Told) → told.facts.items ≡ facts1 → told.boards ≡ runs0.told.boards → StayRuns tree world drivers (runs1 told)
   change_stays told facts boards = record { usable = are.usable; fit = change_fits; told = facts; told_entries = ap (λ v. boards_told v.items) boards ∙ are.told_entries }

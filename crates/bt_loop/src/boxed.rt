@@ -45,7 +45,16 @@ impl Drivers for Roster {
         outs: &mut Outs,
         now: u64,
     ) -> Reply {
-        start_at(&mut self.drivers, place, instance, row, inputs, facts, outs, now)
+        start_at(
+            &mut self.drivers,
+            place,
+            instance,
+            row,
+            inputs,
+            facts,
+            outs,
+            now,
+        )
     }
 
     fn running(
@@ -58,7 +67,16 @@ impl Drivers for Roster {
         outs: &mut Outs,
         now: u64,
     ) -> Reply {
-        run_at(&mut self.drivers, place, instance, row, inputs, facts, outs, now)
+        run_at(
+            &mut self.drivers,
+            place,
+            instance,
+            row,
+            inputs,
+            facts,
+            outs,
+            now,
+        )
     }
 
     fn halted(&mut self, place: usize, instance: u32) {

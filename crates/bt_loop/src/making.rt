@@ -1,4 +1,4 @@
-ghost use Rattle.std.specs.Prelude.{◌≡◌, ◌+◌, ℕ, IfOk, OnOk, Some, map, slice_get};
+ghost use Rattle.std.specs.Prelude.{◌≡◌, ◌+◌, ◌<◌, ◌^◌, ℕ, IfOk, OnOk, Some, length, map, slice_get};
 ghost use Rattle.bt_model.specs.Drivers.{NothingHeld, roster_prepared};
 ghost use Rattle.bt_model.specs.Run.{opening};
 ghost use Rattle.bt_model.specs.Terms.{leaf_ids};
@@ -71,7 +71,13 @@ pub fn runs_of(
 
 /// How many leaves all runners have together: a block of these runs has room for their notes.
 pub fn leaves(runs: &Runs) -> u32
+    requires few { leaves_of (arenas_of runs.now) < 2 ^ 32 }
+    requires nodes { (k : ℕ) (r : ReadyRunner) → slice_get runs.now.runners.items k ≡ Some r → length r.arena.nodes.items < 2 ^ 32 }
     ensures { result ≡ leaves_of (arenas_of runs.now) }
 {
-    0
+    let mut count = 0u32;
+    for runner in &runs.runners {
+        count += leaf_count(&runner.arena.nodes);
+    }
+    count
 }

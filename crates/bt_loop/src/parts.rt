@@ -16,9 +16,9 @@ use crate::runs::ReadyRunner;
 use bt_arena::{Kept, Notes};
 use bt_driver::{Drivers, FactTable};
 use bt_halting::reset;
-use bt_tick::tick;
 use bt_model::{Answer, NodeFault, Note, Status};
 use bt_script::{NoMemory, Stop};
+use bt_tick::tick;
 use std::alloc::Global;
 
 /// What a runner does in an event.

@@ -11,3 +11,6 @@ returns-clause-runs g c = rw (← c.replace.ensures.value) c.run_finish-ended.en
 
 pub returns-clause-quenched : goal.returns-clause-quenched
 returns-clause-quenched g c = rw (← c.replace.ensures.value) c.run_finish-ended.ensures.quenched
+
+pub returns-clause-roster : goal.returns-clause-roster
+returns-clause-roster g c = rw (← c.replace.ensures.value) c.run_finish-ended.ensures.roster

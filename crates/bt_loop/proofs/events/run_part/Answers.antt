@@ -69,6 +69,6 @@ returns-clause-roster g c =
     let after = g.D.Drivers.states c.end_event.new.drivers in
     let x = runner_there r.0.term before c.args.runs.now c.args.number c.requires.first (omega (arith, r.3, r.2.fit.many)) in
     let part = part_calls c.make_part_of-ended.result r.0.term c.args.number c.args.at _ _ before mid _ _ _ _ _
-        (c.make_part_of-ended.ensures.part r.0 r.1 c.args.runs.now.last (record { fit = r.2.fit; steady = r.2.steady; ahead = c.requires.ahead }) x.0 x.1) in
+    (c.make_part_of-ended.ensures.part r.0 r.1 c.args.runs.now.last (record { fit = r.2.fit; steady = r.2.steady; ahead = c.requires.ahead }) x.0 x.1) in
     let rest = (closing_keeps _ c.end_event.result r.0 c.args.number _ _ _ _ _ _ (c.end_event.ensures.closes r.0 r.1 (c.make_part_of-ended.ensures.fit r.0 r.1 r.2.fit))).1 in
     roster_both before mid after (subst (IsSameRoster before) (sym part.1) (over_same _ part.0 before)) (subst (IsSameRoster mid) (sym rest.1) (over_same _ rest.0 mid))

@@ -30,7 +30,7 @@ returns-clause-fit g c = λ tree world fit.
     let before = g.D.Drivers.states c.args.drivers.now in
     let after = g.D.Drivers.states c.make_part.new.drivers in
     let made = calls_of r.arena.nodes.items c.args.at (memory_of ready.0.term 1) c.make_part.result (scene_of r c.args.facts.now before) (scene_of c.make_part.new.runner c.make_part.new.facts after) _ _ _
-        (c.make_part.ensures.part ready.0 ready.1 (can_act ready.0 ready.1 ready.2 c.args.at c.args.facts.now before c.args.runners.now.items ready.3 (c.args.number - 1) r at)) in
+    (c.make_part.ensures.part ready.0 ready.1 (can_act ready.0 ready.1 ready.2 c.args.at c.args.facts.now before c.args.runners.now.items ready.3 (c.args.number - 1) r at)) in
     fit_put tree world c.args.runners.now.items c.args.facts.now before fit (c.args.number - 1) r at c.make_part.new.runner c.make_part.new.facts after c.make_part.ensures.stays.nodes made.0 made.1
     c.make_part.ensures.stays.number (c.make_part.ensures.fits tree.term (root_view tree world) 1 (fit.each (c.args.number - 1) r at).fits)
 

@@ -9,7 +9,7 @@ use Rattle.bt_loop.proofs.quenching.quench_all.Given as goal
 abbrev pub invariant-loop-place : goal.invariant-loop-place
 invariant-loop-place g l =
     ((tree : Tree) (world : World) (facts : List ℤ) → RunnersFit tree world facts (g.D.Drivers.states l.fn.drivers) l.fn.runners.items →
-      Quenching tree world facts l.place (g.D.Drivers.states l.fn.drivers) (g.D.Drivers.states l.drivers) l.fn.runners.items l.runners.items l.fn.notes.list l.notes.list)
+    Quenching tree world facts l.place (g.D.Drivers.states l.fn.drivers) (g.D.Drivers.states l.drivers) l.fn.runners.items l.runners.items l.fn.notes.list l.notes.list)
     × (leaves_of (drop l.place (arenas_in l.fn.runners.items)) ≤ l.notes.reserve)
     × (arenas_in l.runners.items ≡ arenas_in l.fn.runners.items)
     × (boards_in l.runners.items ≡ boards_in l.fn.runners.items)
