@@ -5,7 +5,6 @@
 mod boxed;
 mod events;
 pub mod laws;
-mod making;
 mod parts;
 mod quenching;
 mod runs;
@@ -13,5 +12,4 @@ mod telling;
 
 pub use boxed::Roster;
 pub use events::{event, finish, run_event, run_finish};
-pub use making::{leaves, make_runs, runs_of};
 pub use runs::{ReadyRunner, Runs, usable};
