@@ -92,11 +92,11 @@ module _ (tree : Tree) (world : World) (runners : List ReadyRunner) (facts : Lis
       many = length-set runners i new ∙ fit.many;
       each = λ k y at. elim (set_is runners i new k y at) [
         | inl here ↦ subst (λ (x : ReadyRunner). RunnerFits tree world facts1 drivers1 (k + 1) x) here.1 (record {
-            numbered = number ∙ (fit.each i r is).numbered ∙ ap (λ p. p + 1) (sym here.0);
-            fits = subst (λ (ns : List Node). Fits t (root_view tree world) 1 ns (scene_of new facts1 drivers1)) (sym nodes) fits1;
-            nodes = ap length nodes ∙ (fit.each i r is).nodes;
-            nobody = ap (λ (ns : List Node). leaf_at ns 0) nodes ∙ (fit.each i r is).nobody;
-          })
+          numbered = number ∙ (fit.each i r is).numbered ∙ ap (λ p. p + 1) (sym here.0);
+          fits = subst (λ (ns : List Node). Fits t (root_view tree world) 1 ns (scene_of new facts1 drivers1)) (sym nodes) fits1;
+          nodes = ap length nodes ∙ (fit.each i r is).nodes;
+          nobody = ap (λ (ns : List Node). leaf_at ns 0) nodes ∙ (fit.each i r is).nobody;
+        })
         | inr there ↦
             let was : RunnerFits tree world facts drivers (k + 1) y = fit.each k y there.1 in
             record {

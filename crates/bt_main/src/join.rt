@@ -19,9 +19,9 @@ use crate::trace::write_run;
 use crate::tree_file::TreeFault;
 use bt_model::{Kind, Row, Term, Tree, World, WorldFault};
 use bt_outside::Sink;
+use bt_plain::row_with;
 use bt_script::{Name, NoMemory, Stop};
 use bt_text::{TextStop, put_bytes, put_quoted, write_line};
-use bt_plain::row_with;
 use bt_world::{needs_engine, read_world};
 use std::alloc::Global;
 

@@ -8,8 +8,8 @@ ghost use Rattle.bt_model.specs.declared.memory.Memory.{out-Memory};
 ghost use Rattle.bt_main.specs.Runs.{after_step, one_runner};
 
 use bt_model::{Block, Event, Header, Memory, Note, Row, Status, Tree, What, World};
-use bt_script::{Items, NoMemory};
 use bt_plain::{Plain, note_change, plain_of, reset_root, tick};
+use bt_script::{Items, NoMemory};
 use std::alloc::Global;
 
 /// What a run with one runner keeps between events: the runner, the facts, and the moment of the
