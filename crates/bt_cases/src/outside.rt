@@ -63,21 +63,33 @@ fn sinks_that_never_fail(rt: HostRuntime) -> Result<(), Fail> {
     Ok(())
 }
 
-/// What a sink over a writer with room for four bytes answers.
-fn full_text(alloc: Global, pieces: &[&str]) -> Result<String, AllocError> {
+/// What a sink over a writer with room for four bytes answers, and then its flush.
+fn full_text(alloc: Global, pieces: &[&str]) -> Result<String, NoMemory> {
     let mut room = [0u8; 4];
-    let mut sink = OutSink::new(room.as_mut_slice());
-    answers(alloc, &mut sink, pieces)
+    let mut sink = OutSink::new(alloc, room.as_mut_slice())?;
+    let text = answers(alloc, &mut sink, pieces)?;
+    let flushed = sink.flush();
+    Ok(format!(in alloc; "{text}{flushed:?}")?)
 }
 
 #[test]
 fn sinks_over_writers(rt: HostRuntime) -> Result<(), Fail> {
-    let mut sink = OutSink::new(io::writer(&rt));
+    let alloc = rt.alloc();
+    let mut sink = OutSink::new(alloc, io::writer(&rt))?;
     assert_eq!(rt; sink.write(b"a line\n"), Ok(()));
-    assert_eq!(rt;
-        full_text(rt.alloc(), &["abc", "def"])?.as_str(),
-        "Ok(()) Err(Failed) "
-    );
+    assert_eq!(rt; sink.flush(), Ok(()));
+    // A piece that is longer than what is gathered goes to the writer itself, as far as it takes it.
+    let bytes = vec![in alloc; b'x'; 65_536]?;
+    let long = str::from_utf8(bytes.as_slice()).unwrap_or("");
+    let table: [(&[&str], &str); 4] = [
+        (&[], "Ok(())"),
+        (&["abc", "d"], "Ok(()) Ok(()) Ok(())"),
+        (&["abc", "def"], "Ok(()) Ok(()) Err(Failed)"),
+        (&[long, long], "Ok(()) Err(Failed) Err(Failed)"),
+    ];
+    for (pieces, want) in table {
+        assert_eq!(rt; full_text(alloc, pieces)?.as_str(), want);
+    }
     Ok(())
 }
 

@@ -30,7 +30,14 @@ fn main(rt: HostRuntime) -> ExitCode {
         Err(NoWords::NoMemory) => return ExitCode::from(Exit::Memory.status()),
     };
     let mut shelf = DirShelf::new(&rt);
-    let mut out = OutSink::new(io::writer(&rt));
+    let Ok(mut out) = OutSink::new(rt.alloc(), io::writer(&rt)) else {
+        return ExitCode::from(Exit::Memory.status());
+    };
     let exit = bt(rt.alloc(), words.as_slice(), &mut shelf, &mut out);
+    // A write that failed only when all was handed on is a write that failed.
+    let exit = match out.flush() {
+        Ok(()) => exit,
+        Err(_) => Exit::Write,
+    };
     ExitCode::from(exit.status())
 }
