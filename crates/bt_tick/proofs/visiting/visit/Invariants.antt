@@ -13,6 +13,7 @@ invariant-loop-turn g l = record {
       Going l.nodes l.now term 1 l.turn l.stack.items (scene l.fn.kept l.fn.board l.fn.facts (g.D.Drivers.states l.fn.drivers)) (scene l.kept l.board l.facts (g.D.Drivers.states l.drivers)) l.fn.notes.list l.notes.list
       (visit_in l.nodes l.now term view 1 (scene l.fn.kept l.fn.board l.fn.facts (g.D.Drivers.states l.fn.drivers)));
   stays : StaysFit l.nodes (scene l.fn.kept l.fn.board l.fn.facts (g.D.Drivers.states l.fn.drivers)) (scene l.kept l.board l.facts (g.D.Drivers.states l.drivers));
+  room : l.fn.stack.capacity ≤ l.stack.capacity;
   reserve : l.fn.notes.reserve ≤ l.notes.reserve;
   full : l.notes.full ≡ l.fn.notes.full;
 }
