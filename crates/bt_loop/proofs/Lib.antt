@@ -1,5 +1,6 @@
 pub mod Counting
 pub mod Endings
+pub mod Leaves
 pub mod Lists
 pub mod Opening
 pub mod Others
