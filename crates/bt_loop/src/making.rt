@@ -11,8 +11,8 @@ ghost use Rattle.bt_loop.specs.Served.{calls_made, serving_places};
 ghost use Rattle.bt_loop.specs.Steps.{IsSameRoster};
 
 use crate::boxed::Roster;
-use crate::counting::wanted;
-use crate::opening::opening_runs;
+use crate::counts::wanted;
+use crate::openings::opening_runs;
 use crate::runs::Runs;
 use bt_arena::JoinFault;
 use bt_board::Slots;
