@@ -257,3 +257,12 @@ pub finishes_end : (tree : Tree) (world : World) (place : ℕ) (s : RunState) �
 finishes_end tree world place s all =
     let none : world.runners - place ≡ 0 = omega (arith, all) in
     ap (λ (others : ℕ). finishes tree world (place + 1) others s) none
+
+-- all are left
+pub finishes_first : (tree : Tree) (world : World) (s : RunState) → finishes tree world 1 world.runners s ≡ finishes tree world (0 + 1) (world.runners - 0) s
+finishes_first tree world s =
+    let all : world.runners ≡ world.runners - 0 = omega arith in
+    ap (λ (others : ℕ). finishes tree world 1 others s) all
+
+pub going_all : (arenas : List (List Node)) (names : LineNames) (drivers : List DriverState) (a : Option (List ℕ)) (whole rest : Trace) → whole ≡ rest → Going arenas names drivers drivers a a whole rest
+going_all arenas names drivers a whole rest same = subst (λ (t : Trace). Going arenas names drivers drivers a a whole t) same (going_none arenas names drivers a whole)
