@@ -2,7 +2,7 @@ ghost use Rattle.std.specs.Prelude.{◌≡◌, ◌+◌, ◌≤◌, OnOk};
 ghost use Rattle.std.specs.List.{AllByRecursion};
 ghost use Rattle.bt_model.specs.declared.term.Term.{Term};
 ghost use Rattle.bt_model.specs.Sites.{View};
-ghost use Rattle.bt_model.specs.Terms.{work_of};
+ghost use Rattle.bt_model.specs.Terms.{depth_of, work_of};
 ghost use Rattle.bt_model.specs.Trees.{NodeFits, nodes_of};
 ghost use Rattle.bt_arena.specs.Ends.{Meets, StaysFit};
 ghost use Rattle.bt_arena.specs.Scenes.{scene};
@@ -54,6 +54,8 @@ fn visit<D: Drivers>(
         CanVisit nodes.now now term view 1 (scene kept.new board.new facts.new (D.states drivers.new))) }
     ensures fits { StaysFit nodes.now (scene kept.old board.old facts.old (D.states drivers.old)) (scene kept.new board.new facts.new (D.states drivers.new)) }
     ensures room { stack.old.capacity ≤ stack.new.capacity }
+    ensures enough { (term : Term) (view : View) → CanVisit nodes.now now term view 1 (scene kept.old board.old facts.old (D.states drivers.old)) →
+        depth_of term ≤ stack.old.capacity → stack.new.capacity ≡ stack.old.capacity }
     ensures reserve { notes.old.reserve ≤ notes.new.reserve }
     ensures full { notes.new.full ≡ notes.old.full }
 {
@@ -101,9 +103,11 @@ pub fn tick<D: Drivers>(
         AllByRecursion NodeFits (nodes_of term) → begun_by (D.states drivers.new) ≤ begun_by (D.states drivers.old) + work_of term }
     ensures nodes { arena.new.nodes ≡ arena.old.nodes }
     ensures runner { arena.new.runner ≡ arena.old.runner }
-    // The room for visits that are under way does not shrink. In an arena that was made for the tree it
-    // is enough, so that only notes and scripts take memory.
+    // The room for the visits that are under way does not shrink, and where it is as much as the tree is
+    // deep, as `arena_of` makes it, it stays: no visit takes memory for its frame.
     ensures room { arena.old.frames.capacity ≤ arena.new.frames.capacity }
+    ensures enough { (term : Term) (view : View) → CanVisit arena.old.nodes.items now term view 1 (scene arena.old.kept.items board.old facts.old (D.states drivers.old)) →
+        depth_of term ≤ arena.old.frames.capacity → arena.new.frames.capacity ≡ arena.old.frames.capacity }
     ensures reserve { notes.old.reserve ≤ notes.new.reserve }
     ensures full { notes.new.full ≡ notes.old.full }
 {
