@@ -1,4 +1,4 @@
-use Rattle.std.proofs.Common.{[], Ok, ap, ◌∙◌, sym, arith}
+use Rattle.std.proofs.Common.{[], Ok, ap, ◌∙◌}
 use Rattle.bt_loop.proofs.Rising.{roster_both}
 use Rattle.bt_run.proofs.Steps.{all_faulted, all_front, all_part, all_run}
 use Rattle.bt_run.proofs.running.write_run.Goals as goal
