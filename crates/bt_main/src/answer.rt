@@ -100,8 +100,7 @@ fn tick<S: Shelf, K: Sink>(
     roster: &mut Vec<Box<dyn Driver>>,
 ) -> Exit
     requires quiet { NothingHeld (map (λ b. state b) roster.old.items) }
-    ensures answers {
-        let old = side (K.written out.old) (K.faults out.old) (map (λ b. state b) roster.old.items) in
+    ensures answers { let old = side (K.written out.old) (K.faults out.old) (map (λ b. state b) roster.old.items) in
         let new = side (K.written out.new) (K.faults out.new) (map (λ b. state b) roster.new.items) in
         let command = Tick tree.now world.now (option_copied main.entry) in
         ReadFailed (Rose (S.faults shelf.old) (S.faults shelf.new))
@@ -132,8 +131,7 @@ fn answer_world<S: Shelf, K: Sink>(
 ) -> Exit
     requires short { length tree.now ≤ 1048576 }
     requires quiet { NothingHeld (map (λ b. state b) roster.old.items) }
-    ensures answers {
-        let old = side (K.written out.old) (K.faults out.old) (map (λ b. state b) roster.old.items) in
+    ensures answers { let old = side (K.written out.old) (K.faults out.old) (map (λ b. state b) roster.old.items) in
         let new = side (K.written out.new) (K.faults out.new) (map (λ b. state b) roster.new.items) in
         ReadFailed (Rose (S.faults shelf.old) (S.faults shelf.new))
         (λ file. (file ≡ WorldFile) × S.read_gives shelf.old world.now (Err ShelfFault.Failed) shelf.new) result old new
@@ -160,8 +158,7 @@ fn answer_command<S: Shelf, K: Sink>(
     roster: &mut Vec<Box<dyn Driver>>,
 ) -> Exit
     requires quiet { NothingHeld (map (λ b. state b) roster.old.items) }
-    ensures answers {
-        let old = side (K.written out.old) (K.faults out.old) (map (λ b. state b) roster.old.items) in
+    ensures answers { let old = side (K.written out.old) (K.faults out.old) (map (λ b. state b) roster.old.items) in
         let new = side (K.written out.new) (K.faults out.new) (map (λ b. state b) roster.new.items) in
         ReadFailed (Rose (S.faults shelf.old) (S.faults shelf.new))
         (Unread S.read_gives (S.holds shelf.old) (command_seen command.entry) shelf.old shelf.new) result old new
@@ -200,8 +197,7 @@ pub fn bt<S: Shelf, K: Sink>(
         (side (K.written out.new) (K.faults out.new) (map (λ b. state b) roster.new.items)) }
 
     // The output was given, whole or a front of it, or a read failed.
-    ensures each {
-        let old = side (K.written out.old) (K.faults out.old) (map (λ b. state b) roster.old.items) in
+    ensures each { let old = side (K.written out.old) (K.faults out.old) (map (λ b. state b) roster.old.items) in
         let new = side (K.written out.new) (K.faults out.new) (map (λ b. state b) roster.new.items) in
         EachOutput (S.holds shelf.old) (command_of words.now) old.drivers (λ o. Gave o result old new
         ⊎ ReadFailed (Rose (S.faults shelf.old) (S.faults shelf.new))
@@ -221,8 +217,7 @@ pub fn bt<S: Shelf, K: Sink>(
     ensures write { result ≡ Exit.Write → Rose (K.faults out.old) (K.faults out.new) }
 
     // Where no count rose, the whole output was written, or memory ran out.
-    ensures complete {
-        let old = side (K.written out.old) (K.faults out.old) (map (λ b. state b) roster.old.items) in
+    ensures complete { let old = side (K.written out.old) (K.faults out.old) (map (λ b. state b) roster.old.items) in
         let new = side (K.written out.new) (K.faults out.new) (map (λ b. state b) roster.new.items) in
         EachOutput (S.holds shelf.old) (command_of words.now) old.drivers (λ o.
         ¬ Rose (S.faults shelf.old) (S.faults shelf.new) → ¬ Rose old.faults new.faults

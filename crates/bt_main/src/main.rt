@@ -1,13 +1,12 @@
 //! `bt` ticks a behavior tree over the events of a world script and prints the trace.
 #![tactic(auto)]
-ghost use Rattle.std.specs.Prelude.{IfOk, map};
-ghost use Rattle.bt_model.specs.Drivers.{NothingHeld};
 
 mod answer;
 mod exit;
 mod join;
 mod printing;
 mod refusal;
+mod roster;
 #[cfg(test)]
 mod tests;
 mod tree_file;
@@ -15,26 +14,11 @@ mod words;
 
 use crate::answer::bt;
 use crate::exit::Exit;
+use crate::roster::drivers_of;
 use crate::words::{NoWords, words_of};
-use bt_driver::Driver;
-use bt_leaves::{Conditions, Gate, Replay, Timed};
 use bt_outside::{DirShelf, OutSink};
-use bt_script::NoMemory;
-use std::alloc::Global;
 use std::io;
 use std::process::ExitCode;
-
-/// The drivers of the modelled world, one of each kind.
-fn drivers_of(alloc: Global) -> Result<Vec<Box<dyn Driver>>, NoMemory>
-    ensures { IfOk result (λ roster. NothingHeld (map (λ b. state b) roster.items)) }
-{
-    let mut roster: Vec<Box<dyn Driver>> = Vec::new(alloc);
-    roster.push(Box::new(alloc, Conditions::new(alloc))?)?;
-    roster.push(Box::new(alloc, Timed::new(alloc))?)?;
-    roster.push(Box::new(alloc, Replay::new(alloc))?)?;
-    roster.push(Box::new(alloc, Gate::new(alloc))?)?;
-    Ok(roster)
-}
 
 /// Makes the shelf, the sink and the drivers of the host, answers the words and ends with the exit's
 /// status. A word that is no UTF-8 belongs to no command, and neither does an empty list of words.
