@@ -3,8 +3,9 @@
 
 use crate::answer::bt;
 use crate::exit::Exit;
-use crate::roster::drivers_of;
 use crate::words::word_of;
+use bt_driver::Driver;
+use bt_leaves::{Conditions, Gate, Replay, Timed};
 use bt_outside::{MemShelf, MemSink};
 use bt_script::NoMemory;
 use std::alloc::{AllocError, Global};
@@ -49,7 +50,11 @@ fn answer_words(
     for word in words {
         names.push(word_of(alloc, word)?)?;
     }
-    let mut roster = drivers_of(alloc)?;
+    let mut roster: Vec<Box<dyn Driver>> = Vec::new(alloc);
+    roster.push(Box::new(alloc, Conditions::new(alloc))?)?;
+    roster.push(Box::new(alloc, Timed::new(alloc))?)?;
+    roster.push(Box::new(alloc, Replay::new(alloc))?)?;
+    roster.push(Box::new(alloc, Gate::new(alloc))?)?;
     Ok(bt(alloc, names.as_slice(), shelf, sink, &mut roster))
 }
 
