@@ -7,7 +7,7 @@ use Rattle.bt_main.proofs.answer.check.Goals as goal
 pub returns-in-Err-Failed-clause-answers : goal.returns-in-Err-Failed-clause-answers
 returns-in-Err-Failed-clause-answers g c =
     let failed = c.in-Err-Failed.is ∙ ap Err c.in-Err-Failed.field-0-is in
-    λ drivers. inl (c.read.ensures.failed failed, TreeFile, rw failed at c.read.ensures.gives, c.write_last-in-Err-Failed.ensures.gave drivers drivers (λ place. refl))
+    λ drivers. inl (c.read.ensures.failed failed, TreeFile, rw failed at c.read.ensures.gives, c.write_last.ensures.gave drivers drivers (λ place. refl))
 
 pub returns-in-Err-TooLong-clause-answers : goal.returns-in-Err-TooLong-clause-answers
 returns-in-Err-TooLong-clause-answers g c =
