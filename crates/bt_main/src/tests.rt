@@ -3,6 +3,7 @@
 
 use crate::answer::bt;
 use crate::exit::Exit;
+use crate::roster::add_driver;
 use crate::words::word_of;
 use bt_driver::Driver;
 use bt_leaves::{Conditions, Gate, Replay, Timed};
@@ -51,10 +52,10 @@ fn answer_words(
         names.push(word_of(alloc, word)?)?;
     }
     let mut roster: Vec<Box<dyn Driver>> = Vec::new(alloc);
-    roster.push(Box::new(alloc, Conditions::new(alloc))?)?;
-    roster.push(Box::new(alloc, Timed::new(alloc))?)?;
-    roster.push(Box::new(alloc, Replay::new(alloc))?)?;
-    roster.push(Box::new(alloc, Gate::new(alloc))?)?;
+    add_driver(&mut roster, Box::new(alloc, Conditions::new(alloc))?)?;
+    add_driver(&mut roster, Box::new(alloc, Timed::new(alloc))?)?;
+    add_driver(&mut roster, Box::new(alloc, Replay::new(alloc))?)?;
+    add_driver(&mut roster, Box::new(alloc, Gate::new(alloc))?)?;
     Ok(bt(alloc, names.as_slice(), shelf, sink, &mut roster))
 }
 
