@@ -4,40 +4,52 @@
 mod answer;
 mod exit;
 mod join;
-mod plain;
 mod printing;
 mod refusal;
-mod run;
+mod roster;
 #[cfg(test)]
 mod tests;
-mod trace;
 mod tree_file;
 mod words;
 
 use crate::answer::bt;
 use crate::exit::Exit;
+use crate::roster::add_driver;
 use crate::words::{NoWords, words_of};
+use bt_driver::Driver;
+use bt_leaves::{Conditions, Gate, Replay, Timed};
 use bt_outside::{DirShelf, OutSink};
+use bt_script::{Name, NoMemory};
 use std::io;
 use std::process::ExitCode;
+use std::rt::Files;
 
-/// Makes the shelf and the sink of the host, answers the words and ends with the exit's status.
-/// A word that is no UTF-8 belongs to no command, and neither does an empty list of words.
+/// Makes the shelf, the sink and the drivers of the host, and answers the words over them.
+fn run(rt: &(impl Files + Print + AllocGlobal), words: &[Name]) -> Result<Exit, NoMemory> {
+    let alloc = rt.alloc();
+    let mut roster: Vec<Box<dyn Driver>> = Vec::new(alloc);
+    add_driver(&mut roster, Box::new(alloc, Conditions::new(alloc))?)?;
+    add_driver(&mut roster, Box::new(alloc, Timed::new(alloc))?)?;
+    add_driver(&mut roster, Box::new(alloc, Replay::new(alloc))?)?;
+    add_driver(&mut roster, Box::new(alloc, Gate::new(alloc))?)?;
+    let mut shelf = DirShelf::new(rt);
+    let mut out = OutSink::new(alloc, io::writer(rt))?;
+    let exit = bt(alloc, words, &mut shelf, &mut out, &mut roster);
+    // A write that fails only when all is handed on is a write that failed.
+    match out.flush() {
+        Ok(()) => Ok(exit),
+        Err(_) => Ok(Exit::Write),
+    }
+}
+
+/// Answers the words of the command line and ends with the exit's status. A word that is no UTF-8
+/// belongs to no command, and neither does an empty list of words.
 fn main(rt: HostRuntime) -> ExitCode {
     let words = match words_of(&rt) {
         Ok(words) => words,
         Err(NoWords::NotUtf8) => Vec::new(rt.alloc()),
         Err(NoWords::NoMemory) => return ExitCode::from(Exit::Memory.status()),
     };
-    let mut shelf = DirShelf::new(&rt);
-    let Ok(mut out) = OutSink::new(rt.alloc(), io::writer(&rt)) else {
-        return ExitCode::from(Exit::Memory.status());
-    };
-    let exit = bt(rt.alloc(), words.as_slice(), &mut shelf, &mut out);
-    // A write that failed only when all was handed on is a write that failed.
-    let exit = match out.flush() {
-        Ok(()) => exit,
-        Err(_) => Exit::Write,
-    };
+    let exit = run(&rt, words.as_slice()).unwrap_or(Exit::Memory);
     ExitCode::from(exit.status())
 }
