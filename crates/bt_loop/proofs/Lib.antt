@@ -1,11 +1,16 @@
+pub mod Counting
 pub mod Endings
 pub mod Lists
+pub mod Opening
 pub mod Others
+pub mod Places
+pub mod Preparing
 pub mod Putting
 pub mod Quenched
 pub mod Resting
 pub mod Results
 pub mod Rising
+pub mod Serving
 pub mod Stepping
 pub mod TickEnds
 pub mod Told

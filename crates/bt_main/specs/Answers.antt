@@ -1,13 +1,48 @@
 -- What the answer of a command says.
 use Rattle.std.specs.Prelude.{ℕ, ◌≡◌, ◌≤◌, ◌⊎◌, List, length, Option, Some, None, Result, Ok, Err}
+use Rattle.bt_loop.specs.Steps.{IsSameRoster}
 use Rattle.bt_main.specs.declared.exit.Exit.{Exit}
 use Rattle.bt_main.specs.declared.exit.Exit.TheVariants as exit
 use Rattle.bt_main.specs.Output.{Output, CommandGives, FilesGive, TickGives, tree_name, unread, words_refused, world_name}
 use Rattle.bt_main.specs.Words.{Command, File, TreeFile, WorldFile}
+use Rattle.bt_model.specs.Drivers.{DriverState, NothingHeld, driver_at}
+use Rattle.bt_run.specs.declared.ended.Ended.{Ended}
+use Rattle.bt_run.specs.declared.ended.Ended.TheVariants.{Done, Faulted}
+use Rattle.bt_text.specs.declared.stop.TextStop.{TextStop}
+use Rattle.bt_text.specs.declared.stop.TextStop.TheVariants as stop
 use Rattle.bt_outside.specs.Appending.{Appended, AppendedFront}
+use Rattle.bt_outside.specs.Counts.{Rose}
 use Rattle.bt_outside.specs.Files.{Told}
 use Rattle.bt_outside.specs.declared.shelf.ShelfFault.{ShelfFault}
 use Rattle.bt_outside.specs.declared.shelf.ShelfFault.TheVariants as fault
+
+-- ---- What is found and left
+
+-- what a command finds and what it leaves: the bytes of the sink, where it tells them, with its count of failures,
+-- and the drivers
+pub record Side : Type 0 where
+  pub written : Option (List ℕ)
+  pub faults : ℕ
+  pub drivers : List DriverState
+
+abbrev pub side : Option (List ℕ) → ℕ → List DriverState → Side
+side written faults drivers = record { written = written; faults = faults; drivers = drivers }
+
+-- the same drivers in the same places, of which none holds anything
+pub record AreKept (old new : List DriverState) : Type 0 where
+  pub same : IsSameRoster old new
+  pub none : NothingHeld new
+
+-- no driver was called
+abbrev pub AreUncalled : List DriverState → List DriverState → Type 0
+AreUncalled old new = (place : ℕ) → (driver_at new place).totals ≡ (driver_at old place).totals
+
+-- the drivers are those behind the run; where no tree was run, none was called
+abbrev pub DriversLeft : Option (List DriverState) → List DriverState → List DriverState → Type 0
+DriversLeft (Some behind) old new = new ≡ behind
+DriversLeft None old new = AreUncalled old new
+
+-- ---- Exits
 
 -- the exits with which some output was written whole
 abbrev pub IsSpoken : Exit → Type 0
@@ -22,17 +57,31 @@ IsGiven exit.Write = ⊥
 IsGiven exit.Memory = ⊥
 IsGiven _ = Unit {0}
 
--- The output was written: whole, with its exit; or a front of it, with Write where the sink's count
--- of failures rose, or with Memory.
-abbrev pub Gave : Output → Exit → Type 0 → Option (List ℕ) → Option (List ℕ) → Type 0
-Gave o exit.Write rose old new = rose × AppendedFront old new o.bytes
-Gave o exit.Memory rose old new = AppendedFront old new o.bytes
-Gave o other rose old new = (o.exit ≡ other) × Appended old new o.bytes
+-- this is the exit of the output, whose bytes were written whole, and the drivers are those that it leaves
+abbrev pub IsWhole : Output → Exit → Side → Side → Type 0
+IsWhole o result old new =
+    (o.exit ≡ result) × Appended old.written new.written o.bytes × DriversLeft o.drivers old.drivers new.drivers
+
+-- the exit of a run that was ended so
+abbrev pub exit_of : Result Ended TextStop → Exit
+exit_of (Ok Done) = exit.Done
+exit_of (Ok Faulted) = exit.Fault
+exit_of (Err stop.WriteFault) = exit.Write
+exit_of (Err stop.NoMemory) = exit.Memory
+
+-- The output was given: whole; or a front of it was written, with Write where the sink's count of failures rose, or
+-- with Memory.
+abbrev pub Gave : Output → Exit → Side → Side → Type 0
+Gave o exit.Write old new = Rose old.faults new.faults × AppendedFront old.written new.written o.bytes
+Gave o exit.Memory old new = AppendedFront old.written new.written o.bytes
+Gave o other old new = IsWhole o other old new
 
 -- one of these outputs was given, or memory ran out before one was known and nothing was written
-abbrev pub Answers : (Output → Type 0) → Exit → Type 0 → Option (List ℕ) → Option (List ℕ) → Type 0
-Answers IsOutput result rose old new =
-    ((o : Output) × IsOutput o × Gave o result rose old new) ⊎ ((result ≡ exit.Memory) × (new ≡ old))
+abbrev pub Answers : (Output → Type 0) → Exit → Side → Side → Type 0
+Answers IsOutput result old new =
+    ((o : Output) × IsOutput o × Gave o result old new) ⊎ ((result ≡ exit.Memory) × (new.written ≡ old.written))
+
+-- ---- Reads
 
 -- what reads give: a read of a name, with its answer, leads from one state of the shelf to another
 abbrev pub Reading : Type 0 → Type 1
@@ -58,9 +107,11 @@ WordsUnread read_gives holds None old new file = ⊥
 WordsUnread read_gives holds (Some command) old new file = Unread read_gives holds command old new file
 
 -- The shelf's count of failures rose: the read of a file failed, and the line of this file was given.
-abbrev pub ReadFailed : Type 0 → (File → Type 0) → Exit → Type 0 → Option (List ℕ) → Option (List ℕ) → Type 0
-ReadFailed shelf_rose IsUnread result sink_rose old new =
-    shelf_rose × (file : File) × IsUnread file × Gave (unread file) result sink_rose old new
+abbrev pub ReadFailed : Type 0 → (File → Type 0) → Exit → Side → Side → Type 0
+ReadFailed shelf_rose IsUnread result old new =
+    shelf_rose × (file : File) × IsUnread file × Gave (unread file) result old new
+
+-- ---- Answers
 
 -- what a shelf tells of a file that may be named
 abbrev pub ToldIfNamed : Option (List ℕ → List ℕ) → Option (List ℕ) → (List ℕ → Type 0) → Type 0
@@ -68,37 +119,38 @@ ToldIfNamed holds None P = Unit {0}
 ToldIfNamed holds (Some name) P = Told holds name P
 
 -- the output of these bytes of the files that a command names, which are those that the shelf tells
-pub record FilesAnswered (holds : Option (List ℕ → List ℕ)) (command : Command) (result : Exit) (rose : Type 0) (old new : Option (List ℕ)) : Type 0 where
+pub record FilesAnswered (holds : Option (List ℕ → List ℕ)) (command : Command) (result : Exit) (old new : Side) : Type 0 where
   pub tree : List ℕ
   pub world : List ℕ
   pub is_tree : Told holds (tree_name command) (λ file. tree ≡ file)
   pub is_world : ToldIfNamed holds (world_name command) (λ file. world ≡ file)
-  pub answers : Answers (FilesGive command tree world) result rose old new
+  pub answers : Answers (FilesGive command tree world old.drivers) result old new
 
 -- What words were answered, also by a shelf that tells nothing: the output of some bytes of its files was given,
 -- or the line of a file whose read failed; or the words are no command.
-abbrev pub CommandAnswered : Option Command → Option (List ℕ → List ℕ) → Type 0 → (File → Type 0) → Exit → Type 0 → Option (List ℕ) → Option (List ℕ) → Type 0
-CommandAnswered None holds shelf_rose IsUnread result sink_rose old new = Gave words_refused result sink_rose old new
-CommandAnswered (Some command) holds shelf_rose IsUnread result sink_rose old new =
-    ReadFailed shelf_rose IsUnread result sink_rose old new ⊎ FilesAnswered holds command result sink_rose old new
+abbrev pub CommandAnswered : Option Command → Option (List ℕ → List ℕ) → Type 0 → (File → Type 0) → Exit → Side → Side → Type 0
+CommandAnswered None holds shelf_rose IsUnread result old new = Gave words_refused result old new
+CommandAnswered (Some command) holds shelf_rose IsUnread result old new =
+    ReadFailed shelf_rose IsUnread result old new ⊎ FilesAnswered holds command result old new
 
--- the read of a file failed, and the line of this file was written whole
-abbrev pub UnreadLine : (File → Type 0) → Option (List ℕ) → Option (List ℕ) → Type 0
-UnreadLine IsUnread old new = (file : File) × IsUnread file × Appended old new (unread file).bytes
+-- the read of a file failed, the line of this file was written whole, and no driver was called
+abbrev pub UnreadLine : (File → Type 0) → Side → Side → Type 0
+UnreadLine IsUnread old new =
+    (file : File) × IsUnread file × Appended old.written new.written (unread file).bytes × AreUncalled old.drivers new.drivers
 
--- the output of a command over told files was written whole, and this is its exit
-abbrev pub WholeOutput : Option (List ℕ → List ℕ) → Option Command → Exit → Option (List ℕ) → Option (List ℕ) → Type 0
+-- the output of a command over told files was given whole
+abbrev pub WholeOutput : Option (List ℕ → List ℕ) → Option Command → Exit → Side → Side → Type 0
 WholeOutput None command result old new = Unit {0}
 WholeOutput (Some holds) command result old new =
-    (o : Output) × CommandGives command holds o × (o.exit ≡ result) × Appended old new o.bytes
+    (o : Output) × CommandGives command holds old.drivers o × IsWhole o result old new
 
--- a fact of each output of a command over told files
-abbrev pub EachOutput : Option (List ℕ → List ℕ) → Option Command → (Output → Type 0) → Type 0
-EachOutput None command P = Unit {0}
-EachOutput (Some holds) command P = (o : Output) → CommandGives command holds o → P o
+-- a fact of each output of a command over told files and these drivers
+abbrev pub EachOutput : Option (List ℕ → List ℕ) → Option Command → List DriverState → (Output → Type 0) → Type 0
+EachOutput None command drivers P = Unit {0}
+EachOutput (Some holds) command drivers P = (o : Output) → CommandGives command holds drivers o → P o
 
 -- the output of `tick` over the bytes of a tree file and of a world file, which are those that the shelf tells
-pub record WorldAnswered (holds : Option (List ℕ → List ℕ)) (main : Option (List ℕ)) (tree name : List ℕ) (result : Exit) (rose : Type 0) (old new : Option (List ℕ)) : Type 0 where
+pub record WorldAnswered (holds : Option (List ℕ → List ℕ)) (main : Option (List ℕ)) (tree name : List ℕ) (result : Exit) (old new : Side) : Type 0 where
   pub world : List ℕ
   pub is_world : Told holds name (λ file. world ≡ file)
-  pub answers : Answers (TickGives main tree world) result rose old new
+  pub answers : Answers (TickGives main tree world old.drivers) result old new

@@ -1,8 +1,6 @@
 pub mod Answers
 pub mod Commands
 pub mod Output
-pub mod Plain
 pub mod Refusals
-pub mod Runs
 pub mod TreeFiles
 pub mod Words

@@ -1,5 +1,7 @@
 -- The lines of refusals.
 use Rattle.std.specs.Prelude.{ℕ, List, ◌++◌, codes, decimal}
+use Rattle.bt_arena.specs.declared.join_fault.JoinFault.{JoinFault}
+use Rattle.bt_arena.specs.declared.join_fault.JoinFault.TheVariants as join
 use Rattle.bt_build.specs.declared.fault.BuildFault.{BuildFault}
 use Rattle.bt_build.specs.declared.fault.BuildFault.TheVariants as build
 use Rattle.bt_elements.specs.declared.element.ElementFault.{ElementFault}
@@ -9,6 +11,8 @@ use Rattle.bt_main.specs.declared.tree_file.TreeFault.TheVariants as fault
 use Rattle.bt_manifest.specs.declared.fault.ManifestFault.{ManifestFault}
 use Rattle.bt_manifest.specs.declared.fault.ManifestFault.TheVariants as manifest
 use Rattle.bt_model.specs.Lines.{quoted}
+use Rattle.bt_model.specs.declared.leaf.DriverKind.{DriverKind}
+use Rattle.bt_model.specs.declared.leaf.DriverKind.TheVariants as driver
 use Rattle.bt_model.specs.declared.world_fault.WorldFault.{WorldFault}
 use Rattle.bt_model.specs.declared.world_fault.WorldKind.{WorldKind}
 use Rattle.bt_model.specs.declared.world_fault.WorldKind.TheVariants as world
@@ -78,3 +82,14 @@ kind_word world.TooMany = codes "TooMany"
 -- the words of a world script's fault: what is wrong, and the line
 abbrev pub world_words : WorldFault → List ℕ
 world_words fault = numbered (kind_word fault.kind) fault.line
+
+abbrev pub driver_word : DriverKind → List ℕ
+driver_word driver.Condition = codes "Condition"
+driver_word driver.Timed = codes "Timed"
+driver_word driver.Replay = codes "Replay"
+driver_word driver.Gate = codes "Gate"
+
+-- the words of what a leaf lacks: a row of its ID, or a driver of a kind
+abbrev pub join_words : JoinFault → List ℕ
+join_words (join.NoRow id) = named (codes "NoRow") id
+join_words (join.NoDriver kind) = codes "NoDriver " ++ driver_word kind

@@ -68,6 +68,7 @@ status_of exit.Done = 0
 status_of exit.Words = 2
 status_of exit.Tree = 3
 status_of exit.World = 4
+status_of exit.Fault = 5
 status_of exit.Read = 7
 status_of exit.Write = 8
 status_of exit.Memory = 9

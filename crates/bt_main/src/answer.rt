@@ -1,17 +1,19 @@
-ghost use Rattle.std.specs.Prelude.{◌≡◌, ◌≤◌, ◌⊎◌, List, ℕ, Option, None, Some, Err, length};
+ghost use Rattle.std.specs.Prelude.{◌≡◌, ◌≤◌, ◌⊎◌, List, ℕ, Option, None, Some, Err, length, map};
 ghost use Rattle.std.specs.Option.{option_copied};
-ghost use Rattle.bt_main.specs.Answers.{Answers, CommandAnswered, EachOutput, FilesAnswered, Gave, IsGiven, ReadFailed, Unread, UnreadLine, WholeOutput, WordsUnread, WorldAnswered};
+ghost use Rattle.bt_loop.specs.Steps.{IsSameRoster};
+ghost use Rattle.bt_main.specs.Answers.{Answers, AreKept, CommandAnswered, EachOutput, FilesAnswered, Gave, IsGiven, IsWhole, ReadFailed, Unread, UnreadLine, WholeOutput, WordsUnread, WorldAnswered, side};
 ghost use Rattle.bt_main.specs.Commands.{command_seen};
 ghost use Rattle.bt_main.specs.Output.{CheckGives, CommandGives, TickGives, words_refused};
 ghost use Rattle.bt_main.specs.Words.{Check, Tick, WorldFile, command_of};
-ghost use Rattle.bt_outside.specs.Appending.{Appended};
+ghost use Rattle.bt_model.specs.Drivers.{DriverState, NothingHeld};
 ghost use Rattle.bt_outside.specs.Counts.{Rose};
 
 use crate::exit::Exit;
-use crate::join::{refuse_tree, run_plain, write_last};
+use crate::join::{refuse_tree, run_world, write_last};
 use crate::printing::print_tree;
 use crate::tree_file::read_tree;
 use crate::words::{Command, read_command};
+use bt_driver::Driver;
 use bt_elements::{element_or_fault, one_element};
 use bt_outside::{Shelf, ShelfFault, Sink};
 use bt_script::{Name, Stop};
@@ -28,15 +30,19 @@ fn answer_files<K: Sink>(
     world: &[u8],
     main: Option<&Name>,
     out: &mut K,
+    roster: &mut Vec<Box<dyn Driver>>,
 ) -> Exit
     requires tree { length tree.now ≤ 1048576 }
     requires world { length world.now ≤ 1048576 }
-    ensures answers { Answers (TickGives (option_copied main.entry) tree.now world.now) result
-        (Rose (K.faults out.old) (K.faults out.new)) (K.written out.old) (K.written out.new) }
+    requires quiet { NothingHeld (map (λ b. state b) roster.old.items) }
+    ensures answers { Answers (TickGives (option_copied main.entry) tree.now world.now (map (λ b. state b) roster.old.items)) result
+        (side (K.written out.old) (K.faults out.old) (map (λ b. state b) roster.old.items))
+        (side (K.written out.new) (K.faults out.new) (map (λ b. state b) roster.new.items)) }
+    ensures kept { AreKept (map (λ b. state b) roster.old.items) (map (λ b. state b) roster.new.items) }
     ensures count { K.faults out.old ≤ K.faults out.new }
 {
     match read_tree(alloc, tree, main) {
-        Ok(tree) => run_plain(alloc, &tree, world, out),
+        Ok(tree) => run_world(alloc, &tree, world, out, roster),
         Err(Stop::Fault(fault)) => refuse_tree(alloc, &fault, out),
         Err(Stop::NoMemory) => Exit::Memory,
     }
@@ -45,8 +51,8 @@ fn answer_files<K: Sink>(
 /// Prints the tree of a tree file.
 fn answer_check<K: Sink>(alloc: Global, tree: &[u8], main: Option<&Name>, out: &mut K) -> Exit
     requires { length tree.now ≤ 1048576 }
-    ensures answers { Answers (CheckGives (option_copied main.entry) tree.now) result
-        (Rose (K.faults out.old) (K.faults out.new)) (K.written out.old) (K.written out.new) }
+    ensures answers { (drivers : List DriverState) → Answers (CheckGives (option_copied main.entry) tree.now) result
+        (side (K.written out.old) (K.faults out.old) drivers) (side (K.written out.new) (K.faults out.new) drivers) }
     ensures count { K.faults out.old ≤ K.faults out.new }
 {
     match read_tree(alloc, tree, main) {
@@ -64,11 +70,13 @@ fn check<S: Shelf, K: Sink>(
     shelf: &mut S,
     out: &mut K,
 ) -> Exit
-    ensures answers { ReadFailed (Rose (S.faults shelf.old) (S.faults shelf.new))
-        (Unread S.read_gives (S.holds shelf.old) (Check tree.now (option_copied main.entry)) shelf.old shelf.new)
-        result (Rose (K.faults out.old) (K.faults out.new)) (K.written out.old) (K.written out.new)
-        ⊎ FilesAnswered (S.holds shelf.old) (Check tree.now (option_copied main.entry))
-        result (Rose (K.faults out.old) (K.faults out.new)) (K.written out.old) (K.written out.new) }
+    ensures answers { (drivers : List DriverState) →
+        let old = side (K.written out.old) (K.faults out.old) drivers in
+        let new = side (K.written out.new) (K.faults out.new) drivers in
+        let command = Check tree.now (option_copied main.entry) in
+        ReadFailed (Rose (S.faults shelf.old) (S.faults shelf.new))
+        (Unread S.read_gives (S.holds shelf.old) command shelf.old shelf.new) result old new
+        ⊎ FilesAnswered (S.holds shelf.old) command result old new }
     ensures read_count { S.faults shelf.old ≤ S.faults shelf.new }
     ensures count { K.faults out.old ≤ K.faults out.new }
 {
@@ -89,18 +97,22 @@ fn tick<S: Shelf, K: Sink>(
     main: Option<&Name>,
     shelf: &mut S,
     out: &mut K,
+    roster: &mut Vec<Box<dyn Driver>>,
 ) -> Exit
-    ensures answers { ReadFailed (Rose (S.faults shelf.old) (S.faults shelf.new))
-        (Unread S.read_gives (S.holds shelf.old) (Tick tree.now world.now (option_copied main.entry)) shelf.old shelf.new)
-        result (Rose (K.faults out.old) (K.faults out.new)) (K.written out.old) (K.written out.new)
-        ⊎ FilesAnswered (S.holds shelf.old) (Tick tree.now world.now (option_copied main.entry))
-        result (Rose (K.faults out.old) (K.faults out.new)) (K.written out.old) (K.written out.new) }
+    requires quiet { NothingHeld (map (λ b. state b) roster.old.items) }
+    ensures answers { let old = side (K.written out.old) (K.faults out.old) (map (λ b. state b) roster.old.items) in
+        let new = side (K.written out.new) (K.faults out.new) (map (λ b. state b) roster.new.items) in
+        let command = Tick tree.now world.now (option_copied main.entry) in
+        ReadFailed (Rose (S.faults shelf.old) (S.faults shelf.new))
+        (Unread S.read_gives (S.holds shelf.old) command shelf.old shelf.new) result old new
+        ⊎ FilesAnswered (S.holds shelf.old) command result old new }
+    ensures kept { AreKept (map (λ b. state b) roster.old.items) (map (λ b. state b) roster.new.items) }
     ensures read_count { S.faults shelf.old ≤ S.faults shelf.new }
     ensures count { K.faults out.old ≤ K.faults out.new }
 {
     let mut bytes = Vec::new(alloc);
     match shelf.read(tree, &mut bytes, MOST_BYTES) {
-        Ok(()) => answer_world(alloc, bytes.as_slice(), world, main, shelf, out),
+        Ok(()) => answer_world(alloc, bytes.as_slice(), world, main, shelf, out, roster),
         Err(ShelfFault::Failed) => write_last(out, b"refused read tree\n", Exit::Read),
         Err(ShelfFault::TooLong) => write_last(out, b"refused tree TooLong\n", Exit::Tree),
         Err(ShelfFault::NoMemory) => Exit::Memory,
@@ -115,19 +127,22 @@ fn answer_world<S: Shelf, K: Sink>(
     main: Option<&Name>,
     shelf: &mut S,
     out: &mut K,
+    roster: &mut Vec<Box<dyn Driver>>,
 ) -> Exit
-    requires { length tree.now ≤ 1048576 }
-    ensures answers { ReadFailed (Rose (S.faults shelf.old) (S.faults shelf.new))
-        (λ file. (file ≡ WorldFile) × S.read_gives shelf.old world.now (Err ShelfFault.Failed) shelf.new)
-        result (Rose (K.faults out.old) (K.faults out.new)) (K.written out.old) (K.written out.new)
-        ⊎ WorldAnswered (S.holds shelf.old) (option_copied main.entry) tree.now world.now result
-        (Rose (K.faults out.old) (K.faults out.new)) (K.written out.old) (K.written out.new) }
+    requires short { length tree.now ≤ 1048576 }
+    requires quiet { NothingHeld (map (λ b. state b) roster.old.items) }
+    ensures answers { let old = side (K.written out.old) (K.faults out.old) (map (λ b. state b) roster.old.items) in
+        let new = side (K.written out.new) (K.faults out.new) (map (λ b. state b) roster.new.items) in
+        ReadFailed (Rose (S.faults shelf.old) (S.faults shelf.new))
+        (λ file. (file ≡ WorldFile) × S.read_gives shelf.old world.now (Err ShelfFault.Failed) shelf.new) result old new
+        ⊎ WorldAnswered (S.holds shelf.old) (option_copied main.entry) tree.now world.now result old new }
+    ensures kept { AreKept (map (λ b. state b) roster.old.items) (map (λ b. state b) roster.new.items) }
     ensures read_count { S.faults shelf.old ≤ S.faults shelf.new }
     ensures count { K.faults out.old ≤ K.faults out.new }
 {
     let mut bytes = Vec::new(alloc);
     match shelf.read(world, &mut bytes, MOST_BYTES) {
-        Ok(()) => answer_files(alloc, tree, bytes.as_slice(), main, out),
+        Ok(()) => answer_files(alloc, tree, bytes.as_slice(), main, out, roster),
         Err(ShelfFault::Failed) => write_last(out, b"refused read world\n", Exit::Read),
         Err(ShelfFault::TooLong) => write_last(out, b"refused world TooLong\n", Exit::World),
         Err(ShelfFault::NoMemory) => Exit::Memory,
@@ -140,59 +155,78 @@ fn answer_command<S: Shelf, K: Sink>(
     command: Command,
     shelf: &mut S,
     out: &mut K,
+    roster: &mut Vec<Box<dyn Driver>>,
 ) -> Exit
-    ensures answers { ReadFailed (Rose (S.faults shelf.old) (S.faults shelf.new))
-        (Unread S.read_gives (S.holds shelf.old) (command_seen command.entry) shelf.old shelf.new)
-        result (Rose (K.faults out.old) (K.faults out.new)) (K.written out.old) (K.written out.new)
-        ⊎ FilesAnswered (S.holds shelf.old) (command_seen command.entry)
-        result (Rose (K.faults out.old) (K.faults out.new)) (K.written out.old) (K.written out.new) }
+    requires quiet { NothingHeld (map (λ b. state b) roster.old.items) }
+    ensures answers { let old = side (K.written out.old) (K.faults out.old) (map (λ b. state b) roster.old.items) in
+        let new = side (K.written out.new) (K.faults out.new) (map (λ b. state b) roster.new.items) in
+        ReadFailed (Rose (S.faults shelf.old) (S.faults shelf.new))
+        (Unread S.read_gives (S.holds shelf.old) (command_seen command.entry) shelf.old shelf.new) result old new
+        ⊎ FilesAnswered (S.holds shelf.old) (command_seen command.entry) result old new }
+    ensures kept { AreKept (map (λ b. state b) roster.old.items) (map (λ b. state b) roster.new.items) }
     ensures read_count { S.faults shelf.old ≤ S.faults shelf.new }
     ensures count { K.faults out.old ≤ K.faults out.new }
 {
     match command {
-        Command::Tick { tree, world, main } => tick(alloc, tree, world, main, shelf, out),
+        Command::Tick { tree, world, main } => tick(alloc, tree, world, main, shelf, out, roster),
         Command::Check { tree, main } => check(alloc, tree, main, shelf, out),
     }
 }
 
 /// Answers the words of the command line: runs the command that they are, over the files of the
-/// shelf, and writes its output line by line to the sink.
-pub fn bt<S: Shelf, K: Sink>(alloc: Global, words: &[Name], shelf: &mut S, out: &mut K) -> Exit
+/// shelf and the drivers of the roster, and writes its output line by line to the sink.
+pub fn bt<S: Shelf, K: Sink>(
+    alloc: Global,
+    words: &[Name],
+    shelf: &mut S,
+    out: &mut K,
+    roster: &mut Vec<Box<dyn Driver>>,
+) -> Exit
+    requires quiet { NothingHeld (map (λ b. state b) roster.old.items) }
+
     // Words exactly where the words are no command, but for a sink that fails and want of memory.
     ensures words { result ≡ Exit.Words → command_of words.now ≡ None }
-    ensures no_command { command_of words.now ≡ None →
-        Gave words_refused result (Rose (K.faults out.old) (K.faults out.new))
-        (K.written out.old) (K.written out.new) }
+    ensures no_command { command_of words.now ≡ None → Gave words_refused result
+        (side (K.written out.old) (K.faults out.old) (map (λ b. state b) roster.old.items))
+        (side (K.written out.new) (K.faults out.new) (map (λ b. state b) roster.new.items)) }
 
-    // At Done, Words, Tree and World the whole output of the definition was written, and this is its
-    // exit.
-    ensures whole { IsGiven result →
-        WholeOutput (S.holds shelf.old) (command_of words.now) result (K.written out.old) (K.written out.new) }
+    // At Done, Words, Tree, World and Fault the whole output of the definition was written, this is
+    // its exit, and the drivers are those behind its run; where no tree was run, none was called.
+    ensures whole { IsGiven result → WholeOutput (S.holds shelf.old) (command_of words.now) result
+        (side (K.written out.old) (K.faults out.old) (map (λ b. state b) roster.old.items))
+        (side (K.written out.new) (K.faults out.new) (map (λ b. state b) roster.new.items)) }
 
-    // The output was written, whole or a front of it, or a read failed.
-    ensures each { EachOutput (S.holds shelf.old) (command_of words.now) (λ o.
-        Gave o result (Rose (K.faults out.old) (K.faults out.new)) (K.written out.old) (K.written out.new)
+    // The output was given, whole or a front of it, or a read failed.
+    ensures each { let old = side (K.written out.old) (K.faults out.old) (map (λ b. state b) roster.old.items) in
+        let new = side (K.written out.new) (K.faults out.new) (map (λ b. state b) roster.new.items) in
+        EachOutput (S.holds shelf.old) (command_of words.now) old.drivers (λ o. Gave o result old new
         ⊎ ReadFailed (Rose (S.faults shelf.old) (S.faults shelf.new))
-        (WordsUnread S.read_gives (S.holds shelf.old) (command_of words.now) shelf.old shelf.new)
-        result (Rose (K.faults out.old) (K.faults out.new)) (K.written out.old) (K.written out.new)) }
+        (WordsUnread S.read_gives (S.holds shelf.old) (command_of words.now) shelf.old shelf.new) result old new) }
 
     // Also where the shelf tells nothing: this is so of the output of some bytes of its files.
     ensures any_shelf { CommandAnswered (command_of words.now) (S.holds shelf.old) (Rose (S.faults shelf.old) (S.faults shelf.new))
-        (WordsUnread S.read_gives (S.holds shelf.old) (command_of words.now) shelf.old shelf.new)
-        result (Rose (K.faults out.old) (K.faults out.new)) (K.written out.old) (K.written out.new) }
+        (WordsUnread S.read_gives (S.holds shelf.old) (command_of words.now) shelf.old shelf.new) result
+        (side (K.written out.old) (K.faults out.old) (map (λ b. state b) roster.old.items))
+        (side (K.written out.new) (K.faults out.new) (map (λ b. state b) roster.new.items)) }
 
     // At Read the read of a file failed, and the line of this file was written.
-    ensures read { result ≡ Exit.Read →
-        Rose (S.faults shelf.old) (S.faults shelf.new)
+    ensures read { result ≡ Exit.Read → Rose (S.faults shelf.old) (S.faults shelf.new)
         × UnreadLine (WordsUnread S.read_gives (S.holds shelf.old) (command_of words.now) shelf.old shelf.new)
-        (K.written out.old) (K.written out.new) }
+        (side (K.written out.old) (K.faults out.old) (map (λ b. state b) roster.old.items))
+        (side (K.written out.new) (K.faults out.new) (map (λ b. state b) roster.new.items)) }
     ensures write { result ≡ Exit.Write → Rose (K.faults out.old) (K.faults out.new) }
 
     // Where no count rose, the whole output was written, or memory ran out.
-    ensures complete { EachOutput (S.holds shelf.old) (command_of words.now) (λ o.
-        ¬ Rose (S.faults shelf.old) (S.faults shelf.new) → ¬ Rose (K.faults out.old) (K.faults out.new)
-        → (result ≡ Exit.Memory)
-        ⊎ ((result ≡ o.exit) × Appended (K.written out.old) (K.written out.new) o.bytes)) }
+    ensures complete { let old = side (K.written out.old) (K.faults out.old) (map (λ b. state b) roster.old.items) in
+        let new = side (K.written out.new) (K.faults out.new) (map (λ b. state b) roster.new.items) in
+        EachOutput (S.holds shelf.old) (command_of words.now) old.drivers (λ o.
+        ¬ Rose (S.faults shelf.old) (S.faults shelf.new) → ¬ Rose old.faults new.faults
+        → (result ≡ Exit.Memory) ⊎ IsWhole o result old new) }
+
+    // Whatever the answer, no driver holds anything, and the roster is the same: as many drivers, of
+    // the same kinds and marks in the same places, and no total has fallen.
+    ensures none { NothingHeld (map (λ b. state b) roster.new.items) }
+    ensures roster { IsSameRoster (map (λ b. state b) roster.old.items) (map (λ b. state b) roster.new.items) }
 
     ensures read_count { S.faults shelf.old ≤ S.faults shelf.new }
     ensures count { K.faults out.old ≤ K.faults out.new }
@@ -201,7 +235,7 @@ pub fn bt<S: Shelf, K: Sink>(alloc: Global, words: &[Name], shelf: &mut S, out: 
     element_or_fault();
     worlds_read_one_way();
     match read_command(words) {
-        Some(command) => answer_command(alloc, command, shelf, out),
+        Some(command) => answer_command(alloc, command, shelf, out, roster),
         None => write_last(out, b"refused words\n", Exit::Words),
     }
 }

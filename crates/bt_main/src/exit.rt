@@ -10,8 +10,10 @@ pub enum Exit {
     Words,
     /// The tree file is refused.
     Tree,
-    /// The world file is refused, or a leaf has no row in it.
+    /// The world file is refused, or a leaf has no row in it or no driver for its row.
     World,
+    /// The run ended in a fault.
+    Fault,
     /// A file could not be read.
     Read,
     /// The output could not be written.
@@ -30,6 +32,7 @@ impl Exit {
             Exit::Words => 2,
             Exit::Tree => 3,
             Exit::World => 4,
+            Exit::Fault => 5,
             Exit::Read => 7,
             Exit::Write => 8,
             Exit::Memory => 9,

@@ -1,7 +1,8 @@
-ghost use Rattle.std.specs.Prelude.{◌≡◌, ◌<◌, ◌≤◌, ◌^◌, ◌++◌, IfOk, OnOk, IsErrOf};
+ghost use Rattle.std.specs.Prelude.{◌≡◌, ◌<◌, ◌≤◌, ◌^◌, ◌++◌, IfOk, OnOk, IsErrOf, List};
 ghost use Rattle.std.specs.List.{concat};
-ghost use Rattle.bt_main.specs.Answers.{Gave};
+ghost use Rattle.bt_main.specs.Answers.{AreUncalled, Gave, side};
 ghost use Rattle.bt_main.specs.Output.{check_output, count_line};
+ghost use Rattle.bt_model.specs.Drivers.{DriverState};
 ghost use Rattle.bt_model.specs.PrintedTree.{tree_lines};
 ghost use Rattle.bt_model.specs.Terms.{node_count};
 ghost use Rattle.bt_model.specs.Trees.{IsValid};
@@ -62,8 +63,8 @@ fn write_check<K: Sink>(alloc: Global, tree: &Tree, out: &mut K) -> Result<(), T
 /// Prints the tree as it was read.
 pub fn print_tree<K: Sink>(alloc: Global, tree: &Tree, out: &mut K) -> Exit
     requires { IsValid tree.now }
-    ensures gave { Gave (check_output (Ok tree.now)) result
-        (Rose (K.faults out.old) (K.faults out.new)) (K.written out.old) (K.written out.new) }
+    ensures gave { (old new : List DriverState) → AreUncalled old new → Gave (check_output (Ok tree.now)) result
+        (side (K.written out.old) (K.faults out.old) old) (side (K.written out.new) (K.faults out.new) new) }
     ensures count { K.faults out.old ≤ K.faults out.new }
 {
     match write_check(alloc, tree, out) {

@@ -1,11 +1,12 @@
 ghost use Rattle.std.specs.Prelude.{◌≡◌, ◌++◌, IfOk, OnOk, codes, decimal};
-ghost use Rattle.bt_main.specs.Refusals.{build_words, element_words, kind_word, manifest_words, named, numbered, script_words, tree_words, world_words};
+ghost use Rattle.bt_main.specs.Refusals.{build_words, driver_word, element_words, join_words, kind_word, manifest_words, named, numbered, script_words, tree_words, world_words};
 
 use crate::tree_file::TreeFault;
+use bt_arena::JoinFault;
 use bt_build::BuildFault;
 use bt_elements::ElementFault;
 use bt_manifest::ManifestFault;
-use bt_model::{WorldFault, WorldKind};
+use bt_model::{DriverKind, WorldFault, WorldKind};
 use bt_script::{Name, NoMemory, ScriptFault};
 use bt_text::{put_bytes, put_number, put_quoted};
 use std::alloc::Global;
@@ -136,6 +137,44 @@ pub fn world_refusal(alloc: Global, fault: WorldFault) -> Result<Vec<u8>, NoMemo
     let mut line = Vec::new(alloc);
     put_bytes(&mut line, b"refused world ")?;
     put_numbered(&mut line, kind_word(fault.kind), fault.line)?;
+    put_bytes(&mut line, b"\n")?;
+    Ok(line)
+}
+
+fn driver_word(kind: DriverKind) -> &'static [u8]
+    ensures { result.now ≡ driver_word kind }
+{
+    match kind {
+        DriverKind::Condition => b"Condition",
+        DriverKind::Timed => b"Timed",
+        DriverKind::Replay => b"Replay",
+        DriverKind::Gate => b"Gate",
+    }
+}
+
+fn put_no_driver(out: &mut Vec<u8>, kind: DriverKind) -> Result<(), NoMemory>
+    ensures { OnOk result (out.new.items ≡ out.old.items ++ (codes "NoDriver " ++ driver_word kind)) }
+{
+    put_bytes(out, b"NoDriver ")?;
+    put_bytes(out, driver_word(kind))
+}
+
+fn put_join_fault(out: &mut Vec<u8>, fault: &JoinFault) -> Result<(), NoMemory>
+    ensures { OnOk result (out.new.items ≡ out.old.items ++ join_words fault.now) }
+{
+    match fault {
+        JoinFault::NoRow { id } => put_named(out, b"NoRow", id),
+        JoinFault::NoDriver { kind } => put_no_driver(out, *kind),
+    }
+}
+
+/// The line that refuses a world in which a leaf has no row, or whose row has no driver.
+pub fn join_refusal(alloc: Global, fault: &JoinFault) -> Result<Vec<u8>, NoMemory>
+    ensures { IfOk result (λ line. line.items ≡ codes "refused world " ++ join_words fault.now ++ codes "\n") }
+{
+    let mut line = Vec::new(alloc);
+    put_bytes(&mut line, b"refused world ")?;
+    put_join_fault(&mut line, fault)?;
     put_bytes(&mut line, b"\n")?;
     Ok(line)
 }

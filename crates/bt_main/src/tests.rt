@@ -3,6 +3,7 @@
 
 use crate::answer::bt;
 use crate::exit::Exit;
+use crate::roster::drivers_of;
 use crate::words::word_of;
 use bt_outside::{MemShelf, MemSink};
 use bt_script::NoMemory;
@@ -48,7 +49,8 @@ fn answer_words(
     for word in words {
         names.push(word_of(alloc, word)?)?;
     }
-    Ok(bt(alloc, names.as_slice(), shelf, sink))
+    let mut roster = drivers_of(alloc)?;
+    Ok(bt(alloc, names.as_slice(), shelf, sink, &mut roster))
 }
 
 /// What words give over files of which these reads fail.
@@ -278,10 +280,9 @@ fn trees_and_worlds_are_refused(rt: HostRuntime) -> Result<(), Fail> {
         (
             "<Inverter><A/></Inverter>",
             "x",
-            "refused tree Unbuilt\nTree",
+            "refused world BadLine 2\nWorld",
         ),
-        ("<A x=\"1\"/>", "tick 1", "refused tree Unbuilt\nTree"),
-        ("<A _skipIf=\"1\"/>", "tick 1", "refused tree Unbuilt\nTree"),
+        ("<A x=\"1\"/>", "tick 1", "refused world NoRow 'A'\nWorld"),
         (
             "<A/>",
             "condition A is x == 0",
@@ -304,33 +305,6 @@ fn trees_and_worlds_are_refused(rt: HostRuntime) -> Result<(), Fail> {
             "condition B when 1",
             "refused world NoRow 'A'\nWorld",
         ),
-        ("<A/>", "condition A when 1", "refused world Unbuilt\nWorld"),
-        ("<A/>", "action A gate 1", "refused world Unbuilt\nWorld"),
-        (
-            "<A/>",
-            "action A timed 1\nfails 1",
-            "refused world Unbuilt\nWorld",
-        ),
-        (
-            "<A/>",
-            "action A(p) timed 1",
-            "refused world Unbuilt\nWorld",
-        ),
-        (
-            "<A/>",
-            "action A timed 1\nout p = 1",
-            "refused world Unbuilt\nWorld",
-        ),
-        (
-            "<A/>",
-            "action A timed 1\nhalt 1",
-            "refused world Unbuilt\nWorld",
-        ),
-        (
-            "<A/>",
-            "runners 2\naction A timed 1",
-            "refused world Unbuilt\nWorld",
-        ),
         (
             "<Sequence><Sequence><A/></Sequence><Q/></Sequence>",
             "fact x 1\ncondition A is x == 1",
@@ -339,6 +313,28 @@ fn trees_and_worlds_are_refused(rt: HostRuntime) -> Result<(), Fail> {
     ] {
         let text = answered(rt.alloc(), &TICK, nodes, &[lines], &[])?;
         assert_eq!(rt; text.as_str(), want, "{nodes}");
+    }
+    Ok(())
+}
+
+#[test]
+fn runs_without_ticks_have_no_calls(rt: HostRuntime) -> Result<(), Fail> {
+    for (lines, want) in [
+        ("condition A when 1", "finish 1 at 0\nDone"),
+        ("action A gate 1", "finish 1 at 0\nDone"),
+        ("action A timed 1\nfails 1", "finish 1 at 0\nDone"),
+        ("action A(p) timed 1\nout q = p", "finish 1 at 0\nDone"),
+        (
+            "action A timed 1\nat 4\nhalt 1\nat 9",
+            "halt 1 at 4\nfinish 1 at 4\nDone",
+        ),
+        (
+            "runners 2\naction A timed 1",
+            "finish 1 at 0\nfinish 2 at 0\nDone",
+        ),
+    ] {
+        let text = answered(rt.alloc(), &TICK, "<A/>", &[lines], &[])?;
+        assert_eq!(rt; text.as_str(), want, "{lines}");
     }
     Ok(())
 }

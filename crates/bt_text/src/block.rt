@@ -1,5 +1,6 @@
 ghost use Rattle.std.specs.Prelude.{◌≡◌, ◌≤◌, OnOk, IsErrOf, map};
 ghost use Rattle.std.specs.List.{concat};
+ghost use Rattle.bt_arena.specs.Blocks.{seen};
 ghost use Rattle.bt_model.specs.Lines.{entry_line, fact_line, lines_of, note_line};
 ghost use Rattle.bt_outside.specs.Appending.{Appended, AppendedFront};
 ghost use Rattle.bt_outside.specs.Counts.{Rose};
@@ -7,7 +8,8 @@ ghost use Rattle.bt_outside.specs.Counts.{Rose};
 use crate::line::{entry_line, fact_line, header_line, note_line};
 use crate::names::Names;
 use crate::stop::TextStop;
-use bt_model::{Block, Note};
+use bt_arena::Block;
+use bt_model::Note;
 use bt_outside::Sink;
 use bt_script::Value;
 use std::alloc::Global;
@@ -23,16 +25,16 @@ pub fn write_block<K: Sink>(
     names: &Names,
 ) -> Result<(), TextStop>
     ensures whole { OnOk result
-        (Appended (K.written out.old) (K.written out.new) (concat (lines_of names.now block.now))) }
-    ensures front { AppendedFront (K.written out.old) (K.written out.new) (concat (lines_of names.now block.now)) }
+        (Appended (K.written out.old) (K.written out.new) (concat (lines_of names.now (seen block.now)))) }
+    ensures front { AppendedFront (K.written out.old) (K.written out.new) (concat (lines_of names.now (seen block.now))) }
     ensures failed { IsErrOf result TextStop.WriteFault → Rose (K.faults out.old) (K.faults out.new) }
     ensures count { K.faults out.old ≤ K.faults out.new }
 {
     let event = header_line(alloc, block.header, names)?;
     write_line(out, event.as_slice())?;
     write_notes(alloc, out, block.notes.list(), names)?;
-    write_facts(alloc, out, block.facts.list(), names)?;
-    write_entries(alloc, out, block.entries.list(), names)?;
+    write_facts(alloc, out, block.facts.as_slice(), names)?;
+    write_entries(alloc, out, block.entries.as_slice(), names)?;
     Ok(())
 }
 

@@ -11,7 +11,8 @@ mod tree;
 mod word;
 
 pub use block::{write_block, write_line};
-pub use bt_model::{Block, Header};
+pub use bt_arena::Block;
+pub use bt_model::Header;
 pub use names::{Names, names_of};
 pub use put::{put_bytes, put_number, put_quoted, put_signed};
 pub use stop::TextStop;
