@@ -203,15 +203,13 @@ fn reactive_nodes_ask_again(rt: HostRuntime) -> Result<(), Fail> {
         &[
             (
                 "<ReactiveSequence><Ok/><B/></ReactiveSequence>",
-                "\
-                fact ok 1 / condition Ok is ok == 1 / action B timed 100 / tick 1 / at 10 / \
+                "fact ok 1 / condition Ok is ok == 1 / action B timed 100 / tick 1 / at 10 / \
                 set ok 0 / tick 1",
                 HALTED_BY_A_CHECK,
             ),
             (
                 "<ReactiveFallback><A/><B/></ReactiveFallback>",
-                "\
-                fact x 0 / condition A is x == 1 / action B timed 100 / tick 1 / set x 1 / \
+                "fact x 0 / condition A is x == 1 / action B timed 100 / tick 1 / set x 1 / \
                 tick 1",
                 ENDED_BY_A_CHECK,
             ),
@@ -293,8 +291,7 @@ fn a_sequence_with_memory_goes_on_where_it_failed(rt: HostRuntime) -> Result<(),
                 REMEMBERED,
             ),
             (
-                "\
-                <Repeat num_cycles=\"2\"><SequenceWithMemory><A/><B/></SequenceWithMemory>\
+                "<Repeat num_cycles=\"2\"><SequenceWithMemory><A/><B/></SequenceWithMemory>\
                 </Repeat>",
                 "condition A when 1 / action B replay 0 FS / tick 1 / tick 1",
                 REPEATED,
@@ -370,8 +367,7 @@ fn parallels_count(rt: HostRuntime) -> Result<(), Fail> {
         &[
             (
                 "<Parallel success_count=\"2\"><A/><B _skipIf=\"true\"/><C/><D/></Parallel>",
-                "\
-                action A timed 100 / action B timed 0 / condition C when 1 / \
+                "action A timed 100 / action B timed 0 / condition C when 1 / \
                 action D timed 300 / tick 1 / at 100 / tick 1",
                 TWO_OF_FOUR,
             ),
@@ -449,12 +445,10 @@ fn switches_select(rt: HostRuntime) -> Result<(), Fail> {
         rt.alloc(),
         &[
             (
-                "\
-                <ReactiveSequence><Read v=\"{v}\"/>\
+                "<ReactiveSequence><Read v=\"{v}\"/>\
                 <Switch2 variable=\"{v}\" case_1=\"1\" case_2=\"2\"><A/><B/><C/></Switch2>\
                 </ReactiveSequence>",
-                "\
-                fact x 1 / action Read timed 0 / out v = x / action A timed 100 / \
+                "fact x 1 / action Read timed 0 / out v = x / action A timed 100 / \
                 action B timed 100 / action C timed 0 / tick 1 / set x 2 / tick 1",
                 SELECTED,
             ),
@@ -546,22 +540,19 @@ fn conditions_choose_a_branch(rt: HostRuntime) -> Result<(), Fail> {
         &[
             (
                 "<WhileDoElse><Ok/><B/></WhileDoElse>",
-                "\
-                fact ok 1 / condition Ok is ok == 1 / action B timed 100 / tick 1 / \
+                "fact ok 1 / condition Ok is ok == 1 / action B timed 100 / tick 1 / \
                 set ok 0 / tick 1",
                 WHILE_OK,
             ),
             (
                 "<WhileDoElse><Ok/><B/><C/></WhileDoElse>",
-                "\
-                fact ok 1 / condition Ok is ok == 1 / action B timed 100 / \
+                "fact ok 1 / condition Ok is ok == 1 / action B timed 100 / \
                 action C timed 100 / tick 1 / set ok 0 / tick 1",
                 WHILE_ELSE,
             ),
             (
                 "<IfThenElse><A/><B/><C/></IfThenElse>",
-                "\
-                fact x 0 / condition A is x == 1 / action B timed 10 / action C timed 10 / \
+                "fact x 0 / condition A is x == 1 / action B timed 10 / action C timed 10 / \
                 tick 1 / set x 1 / at 10 / tick 1",
                 CHOSEN,
             ),

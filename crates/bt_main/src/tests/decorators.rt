@@ -290,8 +290,7 @@ fn answers_are_turned(rt: HostRuntime) -> Result<(), Fail> {
         rt.alloc(),
         &[
             (
-                "\
-                <Sequence><ForceSuccess><A/></ForceSuccess><ForceFailure><B/></ForceFailure>\
+                "<Sequence><ForceSuccess><A/></ForceSuccess><ForceFailure><B/></ForceFailure>\
                 </Sequence>",
                 "condition A when 0 / condition B when 1 / tick 1",
                 FORCED,

@@ -113,15 +113,13 @@ fn halts_stop_what_runs(rt: HostRuntime) -> Result<(), Fail> {
         &[
             (
                 "<Parallel><A/><B/><C/></Parallel>",
-                "\
-                action A timed 100 / action B timed 100 / action C gate 0 / tick 1 / \
+                "action A timed 100 / action B timed 100 / action C gate 0 / tick 1 / \
                 at 10 / halt 1",
                 THREE_HELD,
             ),
             (
                 "<SequenceWithMemory><A/><B/></SequenceWithMemory>",
-                "\
-                condition A when 1 / action B replay 10 FS / tick 1 / at 10 / tick 1 / \
+                "condition A when 1 / action B replay 10 FS / tick 1 / at 10 / tick 1 / \
                 tick 1 / halt 1 / tick 1",
                 MEMORY_HALTED,
             ),
@@ -348,11 +346,9 @@ fn a_fault_in_a_halt_ends_the_run(rt: HostRuntime) -> Result<(), Fail> {
                 FAULT_AT_THE_END,
             ),
             (
-                "\
-                <ReactiveSequence><Ok/><Sequence _onHalted=\"1/0\"><B/></Sequence>\
+                "<ReactiveSequence><Ok/><Sequence _onHalted=\"1/0\"><B/></Sequence>\
                 </ReactiveSequence>",
-                "\
-                fact ok 1 / condition Ok is ok == 1 / action B timed 100 / tick 1 / \
+                "fact ok 1 / condition Ok is ok == 1 / action B timed 100 / tick 1 / \
                 set ok 0 / tick 1",
                 BRANCH_FAULTS,
             ),

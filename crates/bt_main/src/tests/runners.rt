@@ -115,15 +115,13 @@ fn runners_keep_what_is_theirs(rt: HostRuntime) -> Result<(), Fail> {
         &[
             (
                 "<Sequence><A/><Script code=\"y := z\"/></Sequence>",
-                "\
-                runners 2 / action A timed 100 / tick 1 / at 50 / tick 2 / halt 1 / \
+                "runners 2 / action A timed 100 / tick 1 / at 50 / tick 2 / halt 1 / \
                 halt 1 / at 60 / tick 1 / at 150 / tick 2",
                 ONE_FAULTS,
             ),
             (
                 "<Sequence><A/></Sequence>",
-                "\
-                runners 3 / action A timed 100 / tick 1 / tick 2 / tick 3 / halt 2 / \
+                "runners 3 / action A timed 100 / tick 1 / tick 2 / tick 3 / halt 2 / \
                 at 100 / tick 1 / tick 2 / tick 3",
                 ONE_IS_HALTED,
             ),

@@ -107,23 +107,20 @@ fn scripts_run_round_a_node(rt: HostRuntime) -> Result<(), Fail> {
         rt.alloc(),
         &[
             (
-                "\
-                <Sequence><A _onSuccess=\"n := 1\" _post=\"n := n + 1\"/>\
+                "<Sequence><A _onSuccess=\"n := 1\" _post=\"n := n + 1\"/>\
                 <ScriptCondition code=\"n == 2\"/></Sequence>",
                 "condition A when 1 / tick 1",
                 AFTER_SUCCESS,
             ),
             (
-                "\
-                <Fallback>\
+                "<Fallback>\
                 <A _onSuccess=\"n := 5\" _onFailure=\"n := 1\" _post=\"n := n + 2\"/>\
                 <ScriptCondition code=\"n == 3\"/></Fallback>",
                 "condition A when 0 / tick 1",
                 AFTER_FAILURE,
             ),
             (
-                "\
-                <Fallback>\
+                "<Fallback>\
                 <A _failureIf=\"f := 1\" _successIf=\"s := 1\" _skipIf=\"k := 1\"/>\
                 <B _failureIf=\"0\" _successIf=\"s := 2\" _skipIf=\"k := 2\"/></Fallback>",
                 "condition A when 1 / condition B when 1 / tick 1",
@@ -173,8 +170,7 @@ fn while_is_asked_at_each_visit(rt: HostRuntime) -> Result<(), Fail> {
         &[
             (
                 "<ReactiveSequence><Read go=\"{go}\"/><A _while=\"go == 1\"/></ReactiveSequence>",
-                "\
-                fact x 1 / action Read timed 0 / out go = x / action A timed 100 / tick 1 / \
+                "fact x 1 / action Read timed 0 / out go = x / action A timed 100 / tick 1 / \
                 set x 0 / tick 1",
                 WHILE_IT_GOES,
             ),
@@ -309,8 +305,7 @@ fn leaves_read_and_write_ports(rt: HostRuntime) -> Result<(), Fail> {
         &[
             (
                 "<Sequence><Measure from=\"3\" to=\"{gap}\"/><Go by=\"{gap}\"/></Sequence>",
-                "\
-                fact at 10 / action Measure(from) timed 0 / out to = at - from / \
+                "fact at 10 / action Measure(from) timed 0 / out to = at - from / \
                 action Go(by) gate by == 7 / sets at = 0 / tick 1",
                 MEASURED,
             ),
