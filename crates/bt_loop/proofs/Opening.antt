@@ -1,32 +1,27 @@
 -- Runs that were made are runs, and their state is the opening one.
-use Rattle.std.proofs.Common.{◌≡◌, ℕ, ℤ, zero, suc, ◌+◌, ◌-◌, ◌*◌, ◌^◌, ◌<◌, ◌≤◌, List, [], ◌∷◌, Bool, true, false, Option, Some, None, map, length, get_or, slice_get, replicate, refl, sym, ap, subst, ◌∙◌, arith}
-use Rattle.std.proofs.lemmas.Bool.{cases_lt}
+use Rattle.std.proofs.Common.{◌≡◌, ℕ, ℤ, zero, suc, ◌+◌, ◌<◌, ◌≤◌, List, [], ◌∷◌, false, Option, Some, None, map, length, slice_get, replicate, refl, sym, ap, subst, ◌∙◌, arith}
 use Rattle.std.proofs.lemmas.List.{get_or-replicate, length-map, length-replicate, length-set}
 use Rattle.bt_script.specs.declared.value.Value.{Value}
 use Rattle.bt_model.specs.declared.cell.Cell.{Cell}
-use Rattle.bt_model.specs.declared.leaf.Instance.{Instance}
-use Rattle.bt_model.specs.declared.term.Term.{Term}
 use Rattle.bt_model.specs.declared.term.Tree.{Tree}
 use Rattle.bt_model.specs.declared.world.Fact.{Fact}
 use Rattle.bt_model.specs.declared.world.World.{World}
 use Rattle.bt_model.specs.Boards.{literals, opening_board, slot_in, slots, with_literals}
 use Rattle.bt_model.specs.Drivers.{DriverState, instance_at, is_held, roster_prepared}
 use Rattle.bt_model.specs.Leaf.{fresh}
-use Rattle.bt_model.specs.Run.{RunState, Runner, RunnerCall, fresh_runner, opening, root_view}
+use Rattle.bt_model.specs.Run.{RunnerCall, fresh_runner, opening}
 use Rattle.bt_model.specs.Sound.{RunSteady}
 use Rattle.bt_model.specs.Terms.{node_count}
 use Rattle.bt_model.specs.Trees.{IsValid}
-use Rattle.bt_model.specs.Visit.{idle, meaning}
+use Rattle.bt_model.specs.Visit.{idle}
 use Rattle.bt_model.specs.Worlds.{IsValidWorld}
 use Rattle.bt_laws.proofs.Runs.{opening_steady}
-use Rattle.bt_arena.specs.declared.arena.Arena.{Arena}
 use Rattle.bt_arena.specs.declared.nodes.Kept.{Kept}
 use Rattle.bt_arena.specs.declared.nodes.Node.{Node}
 use Rattle.bt_arena.specs.declared.nodes.ReadyLeaf.{ReadyLeaf}
-use Rattle.bt_arena.specs.Made.{IsArenaOf}
 use Rattle.bt_arena.specs.Nodes.{at_rest, kept_at}
 use Rattle.bt_arena.specs.Rosters.{AreServed, instances_of, leaf_instance}
-use Rattle.bt_arena.specs.Scenes.{Fits, marks_of, scene}
+use Rattle.bt_arena.specs.Scenes.{marks_of}
 use Rattle.bt_arena.specs.Stands.{memory_of}
 use Rattle.bt_arena.proofs.Framed.{rested}
 use Rattle.bt_arena.proofs.Prepared.{numbered_are_served}
@@ -34,7 +29,7 @@ use Rattle.bt_arena.proofs.Static.{size_is}
 use Rattle.bt_loop.specs.declared.runs.ReadyRunner.{ReadyRunner}
 use Rattle.bt_loop.specs.declared.runs.Runs.{Runs}
 use Rattle.bt_loop.specs.Opening.{AreOpeningRuns, IsOpening}
-use Rattle.bt_loop.specs.Runs.{AreRuns, HeldAreTheirs, RunnerFits, RunnersFit, arenas_in, arenas_of, instances_wanted, roster_over, runner_in, runners_in, state_of_runs}
+use Rattle.bt_loop.specs.Runs.{AreRuns, HeldAreTheirs, RunnerFits, arenas_in, arenas_of, instances_wanted, roster_over, runner_in, runners_in, state_of_runs}
 use Rattle.bt_loop.specs.Served.{calls_made, serving_places}
 use Rattle.bt_loop.proofs.Counting.{wanted_length, wanted_of_arena}
 use Rattle.bt_loop.proofs.Lists.{within}

@@ -1,5 +1,5 @@
 -- The drivers of an arena's leaves are those that serve the nodes of its tree.
-use Rattle.std.proofs.Common.{◌≡◌, ℕ, zero, suc, ◌+◌, ◌<◌, List, [], ◌∷◌, ◌++◌, Bool, true, false, cond, if◌then◌else◌, Option, Some, None, map, length, sum, refl, sym, ap, subst, ◌∙◌, arith}
+use Rattle.std.proofs.Common.{◌≡◌, ℕ, zero, suc, ◌+◌, List, [], ◌∷◌, ◌++◌, Bool, cond, if◌then◌else◌, Option, Some, None, map, length, sum, refl, sym, ap, subst, ◌∙◌, arith}
 use Rattle.std.specs.List.{flat_map}
 use Rattle.std.specs.Prelude.{MatchOption, count_by}
 use Rattle.std.proofs.lemmas.List.{map-append}
@@ -30,14 +30,13 @@ use Rattle.bt_loop.specs.Served.{place_serving, served_among}
 -- ---- The nodes of an arena
 
 -- the places of the drivers of so many nodes, from a uid on
-pub places_from : List Node → ℕ → ℕ → List (Option ℕ)
+abbrev pub places_from : List Node → ℕ → ℕ → List (Option ℕ)
 places_from nodes uid zero = []
 places_from nodes uid (suc count) = driver_of (leaf_at nodes uid) ∷ places_from nodes (uid + 1) count
 
 module _ (nodes : List Node) where
   -- some nodes, and those behind them
   from_both : (m n uid : ℕ) → places_from nodes uid (m + n) ≡ places_from nodes uid m ++ places_from nodes (uid + m) n
-  unfolding places_from
   from_both zero n uid =
       let none : 0 + n ≡ n = omega arith in
       let here : uid ≡ uid + 0 = omega arith in
@@ -49,7 +48,6 @@ module _ (nodes : List Node) where
       ∙ ap (λ (ps : List (Option ℕ)). driver_of (leaf_at nodes uid) ∷ ps) (from_both m n (uid + 1) ∙ ap (λ u. places_from nodes (uid + 1) m ++ places_from nodes u n) there)
 
   from_next : (x : Node) (count uid : ℕ) → places_from (x ∷ nodes) (suc uid) count ≡ places_from nodes uid count
-  unfolding places_from
   from_next x zero uid = refl
   from_next x (suc count) uid =
       let next : suc uid + 1 ≡ suc (uid + 1) = omega arith in
@@ -57,7 +55,6 @@ module _ (nodes : List Node) where
 
 -- all nodes
 pub all_places : (nodes : List Node) → map (λ (node : Node). driver_of node.leaf) nodes ≡ places_from nodes 0 (length nodes)
-unfolding places_from
 all_places [] = refl
 all_places (x ∷ nodes) = ap (λ (ps : List (Option ℕ)). driver_of x.leaf ∷ ps) (all_places nodes ∙ sym (from_next nodes x (length nodes) 0))
 
@@ -82,9 +79,9 @@ module _ (world : World) (drivers : List DriverState) where
   own_place view node None rows stands first = sym (ap {B = Option ℕ} (λ b. if b then place_by (row_of world.rows node.id) drivers else None) stands)
   own_place view node (Some leaf) rows stands first =
       sym (
-        ap {B = Option ℕ} (λ (kind : Kind). if is_leaf kind then place_by (row_of world.rows node.id) drivers else None) stands.0
-        ∙ ap (λ (rs : List Row). place_by (row_of rs node.id) drivers) (sym rows)
-        ∙ row_place view node leaf (row_of view.rows node.id) stands.1 first
+      ap {B = Option ℕ} (λ (kind : Kind). if is_leaf kind then place_by (row_of world.rows node.id) drivers else None) stands.0
+      ∙ ap (λ (rs : List Row). place_by (row_of rs node.id) drivers) (sym rows)
+      ∙ row_place view node leaf (row_of view.rows node.id) stands.1 first
       )
 
   module _ (nodes : List Node) (first : (uid : ℕ) → HasFirst (leaf_at nodes uid)) where
@@ -96,7 +93,6 @@ module _ (world : World) (drivers : List DriverState) where
         places_from nodes uid (sum (map node_count ts)) ≡ map serving (flat_map (λ ns. ns) (map nodes_of ts))
 
     all_placed : (ts : List ((t : Term) × IsPlaced t)) → AllPlaced (map (λ e. e.0) ts)
-    unfolding places_from
     all_placed [] view uid rows stand = refl
     all_placed (e ∷ ts) view uid rows stand =
         let others : List Term = map (λ x. x.0) ts in
@@ -109,7 +105,6 @@ module _ (world : World) (drivers : List DriverState) where
 
     -- a term's nodes are served by the drivers of the arena's leaves
     pub placed : (t : Term) (view : View) (uid : ℕ) → view.rows ≡ world.rows → Stands t nodes view uid → places_from nodes uid (node_count t) ≡ map serving (nodes_of t)
-    unfolding places_from
     placed = ind-Term IsPlaced (λ x y is view uid rows stands.
         let here = subst (λ (p : Standing). p nodes view uid) (stands_roll x) stands in
         let count : node_count (roll-Term x) ≡ suc (sum (map node_count x.children)) = fold-roll-Term ℕ (λ node. 1 + sum node.children) x ∙ omega arith in

@@ -1,5 +1,5 @@
 -- Drivers that were prepared are the same ones, and no instance of theirs is held.
-use Rattle.std.proofs.Common.{◌≡◌, inl, inr, ℕ, zero, suc, List, [], ◌∷◌, length, get_or, replicate, refl, sym, ap, subst, ◌∙◌, arith}
+use Rattle.std.proofs.Common.{◌≡◌, inl, inr, ℕ, zero, suc, List, [], ◌∷◌, length, get_or, replicate, refl, sym, ap, subst, arith}
 use Rattle.std.proofs.lemmas.Bool.{cases_lt}
 use Rattle.std.proofs.lemmas.List.{get_or-replicate, get_or_past, length-replicate}
 use Rattle.bt_model.specs.declared.leaf.Instance.{Instance}
@@ -47,10 +47,10 @@ fresh_at count instance = elim (cases_lt instance count) [
 
 -- nothing is held where nothing was
 pub prepared_hold_nothing : (ds : List DriverState) (counts : List ℕ) → NothingHeld ds → NothingHeld (roster_prepared ds counts)
-prepared_hold_nothing ds [] none = none
-prepared_hold_nothing [] (n ∷ ns) none = none
-prepared_hold_nothing (d ∷ ds) (n ∷ ns) none zero = λ instance. ap is_held (fresh_at n instance)
-prepared_hold_nothing (d ∷ ds) (n ∷ ns) none (suc place) = prepared_hold_nothing ds ns (λ p. none (suc p)) place
+prepared_hold_nothing ds [] none place instance = none place instance
+prepared_hold_nothing [] (n ∷ ns) none place instance = none place instance
+prepared_hold_nothing (d ∷ ds) (n ∷ ns) none zero instance = ap is_held (fresh_at n instance)
+prepared_hold_nothing (d ∷ ds) (n ∷ ns) none (suc place) instance = prepared_hold_nothing ds ns (λ p. none (suc p)) place instance
 
 -- ---- All of them
 

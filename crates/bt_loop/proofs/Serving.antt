@@ -1,6 +1,5 @@
 -- An arena's leaves have the drivers and the instances that the tree and the world give them.
-use Rattle.std.proofs.Common.{◌≡◌, inl, inr, ℕ, zero, suc, ◌+◌, ◌-◌, ◌*◌, ◌<◌, ◌≤◌, nat_eq, List, [], ◌∷◌, Bool, true, false, cond, if◌then◌else◌, Option, Some, None, map, length, get_or, slice_get, take, refl, sym, ap, subst, ◌∙◌, arith}
-use Rattle.std.specs.Prelude.{nat_le}
+use Rattle.std.proofs.Common.{◌≡◌, inl, inr, ℕ, zero, suc, ◌+◌, ◌-◌, ◌*◌, ◌<◌, ◌≤◌, List, [], ◌∷◌, Bool, true, cond, if◌then◌else◌, Option, Some, None, map, length, get_or, slice_get, take, refl, sym, ap, subst, ◌∙◌, arith}
 use Rattle.std.proofs.Math.ListN.{get_or-map}
 use Rattle.std.proofs.Math.Nat.{add-mul, mul-le-mul_right}
 use Rattle.std.proofs.lemmas.Bool.{cases_lt, cases_order, le-leb, lt-leb}
@@ -13,13 +12,13 @@ use Rattle.bt_model.specs.declared.term.Tree.{Tree}
 use Rattle.bt_model.specs.declared.world.World.{World}
 use Rattle.bt_model.specs.Drivers.{DriverState, kind_of_way, roster_called}
 use Rattle.bt_model.specs.Run.{RunnerCall, root_view}
-use Rattle.bt_model.specs.Terms.{leaf_ids, node_count}
+use Rattle.bt_model.specs.Terms.{node_count}
 use Rattle.bt_model.specs.Trees.{nodes_of}
 use Rattle.bt_driver.specs.Rules.{rule}
 use Rattle.bt_arena.specs.declared.arena.Arena.{Arena}
 use Rattle.bt_arena.specs.declared.nodes.Node.{Node}
 use Rattle.bt_arena.specs.declared.nodes.ReadyLeaf.{ReadyLeaf}
-use Rattle.bt_arena.specs.Joins.{is_place, leaves_served}
+use Rattle.bt_arena.specs.Joins.{is_place}
 use Rattle.bt_arena.specs.Laying.{driver_of}
 use Rattle.bt_arena.specs.Made.{IsArenaOf}
 use Rattle.bt_arena.specs.Nodes.{leaf_at, nobody}
@@ -83,7 +82,6 @@ module _ (tree : Tree) (world : World) (drivers : List DriverState) where
 
     -- the places of all nodes
     all_are : map (λ (node : Node). driver_of node.leaf) nodes ≡ driver_of (leaf_at nodes 0) ∷ below
-    unfolding places_from
     all_are =
         let count : length nodes ≡ suc (node_count tree.term) = omega (arith, is.size) in
         all_places nodes
@@ -189,8 +187,7 @@ module _ (tree : Tree) (world : World) (drivers : List DriverState) where
         (x.instance ≡ k * served_among x.driver places + served_among x.driver (take uid places)) × (served_among x.driver (take uid places) + 1 ≤ served_among x.driver places)
     numbered k uid r x at leaf =
         let arena = (are k r at).arena in
-        let before : k + 1 - 1 ≡ k = omega arith in
-        (
+        let before : k + 1 - 1 ≡ k = omega arith in (
           instance_is (k + 1) r.arena arena uid x leaf ∙ ap (λ n. n * served_among x.driver places + served_among x.driver (take uid places)) before,
           counted_behind places uid x.driver (sym (place_is (k + 1) r.arena arena uid) ∙ ap driver_of leaf),
         )

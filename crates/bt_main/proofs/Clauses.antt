@@ -145,6 +145,15 @@ module _ (result : Exit) (shelf : Type 0) (IsUnread : File → Type 0) (a b : Si
   none_complete None = tt
   none_complete (Some h) = λ o e s k. whole_or_memory o result a b k (refused_gave o e)
 
+  none_exit : result ≡ exit.Read → ⊥
+  none_exit is = let gave : Gave words_refused exit.Read a b = subst (λ (e : Exit). Gave words_refused e a b) is gave in let e = gave.0 in cc
+
+  pub none_read : {A : Type 0} → result ≡ exit.Read → A
+  none_read is = absurd (none_exit is)
+
+  pub none_write : result ≡ exit.Write → Rose a.faults b.faults
+  none_write is = let gave : Gave words_refused exit.Write a b = subst (λ (e : Exit). Gave words_refused e a b) is gave in gave.0
+
 -- what is not too long, and what is
 short_is : (bytes : List ℕ) → length bytes ≤ 1048576 → is_too_long bytes ≡ false
 short_is bytes short = grind (arith, common_steps)

@@ -14,31 +14,37 @@ mod words;
 
 use crate::answer::bt;
 use crate::exit::Exit;
-use crate::roster::drivers_of;
+use crate::roster::add;
 use crate::words::{NoWords, words_of};
+use bt_driver::Driver;
+use bt_leaves::{Conditions, Gate, Replay, Timed};
 use bt_outside::{DirShelf, OutSink};
+use bt_script::{Name, NoMemory};
 use std::io;
 use std::process::ExitCode;
+use std::rt::Files;
 
-/// Makes the shelf, the sink and the drivers of the host, answers the words and ends with the exit's
-/// status. A word that is no UTF-8 belongs to no command, and neither does an empty list of words.
+/// Makes the shelf, the sink and the drivers of the host, and answers the words over them.
+fn run(rt: &(impl Files + Print + AllocGlobal), words: &[Name]) -> Result<Exit, NoMemory> {
+    let alloc = rt.alloc();
+    let mut roster: Vec<Box<dyn Driver>> = Vec::new(alloc);
+    add(&mut roster, Box::new(alloc, Conditions::new(alloc))?)?;
+    add(&mut roster, Box::new(alloc, Timed::new(alloc))?)?;
+    add(&mut roster, Box::new(alloc, Replay::new(alloc))?)?;
+    add(&mut roster, Box::new(alloc, Gate::new(alloc))?)?;
+    let mut shelf = DirShelf::new(rt);
+    let mut out = OutSink::new(io::writer(rt));
+    Ok(bt(alloc, words, &mut shelf, &mut out, &mut roster))
+}
+
+/// Answers the words of the command line and ends with the exit's status. A word that is no UTF-8
+/// belongs to no command, and neither does an empty list of words.
 fn main(rt: HostRuntime) -> ExitCode {
     let words = match words_of(&rt) {
         Ok(words) => words,
         Err(NoWords::NotUtf8) => Vec::new(rt.alloc()),
         Err(NoWords::NoMemory) => return ExitCode::from(Exit::Memory.status()),
     };
-    let Ok(mut roster) = drivers_of(rt.alloc()) else {
-        return ExitCode::from(Exit::Memory.status());
-    };
-    let mut shelf = DirShelf::new(&rt);
-    let mut out = OutSink::new(io::writer(&rt));
-    let exit = bt(
-        rt.alloc(),
-        words.as_slice(),
-        &mut shelf,
-        &mut out,
-        &mut roster,
-    );
+    let exit = run(&rt, words.as_slice()).unwrap_or(Exit::Memory);
     ExitCode::from(exit.status())
 }

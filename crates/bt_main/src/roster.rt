@@ -1,19 +1,15 @@
-ghost use Rattle.std.specs.Prelude.{IfOk, map};
-ghost use Rattle.bt_model.specs.Drivers.{NothingHeld};
+ghost use Rattle.std.specs.Prelude.{OnOk, map};
+ghost use Rattle.bt_model.specs.Drivers.{HoldsNothing, NothingHeld};
 
 use bt_driver::Driver;
-use bt_leaves::{Conditions, Gate, Replay, Timed};
 use bt_script::NoMemory;
-use std::alloc::Global;
 
-/// The drivers of the modelled world, one of each kind.
-pub fn drivers_of(alloc: Global) -> Result<Vec<Box<dyn Driver>>, NoMemory>
-    ensures { IfOk result (λ roster. NothingHeld (map (λ b. state b) roster.items)) }
+/// Adds a driver that holds nothing to a roster that holds nothing.
+pub fn add(roster: &mut Vec<Box<dyn Driver>>, driver: Box<dyn Driver>) -> Result<(), NoMemory>
+    requires quiet { NothingHeld (map (λ b. state b) roster.old.items) }
+    requires free { HoldsNothing (state driver) }
+    ensures { OnOk result (NothingHeld (map (λ b. state b) roster.new.items)) }
 {
-    let mut roster: Vec<Box<dyn Driver>> = Vec::new(alloc);
-    roster.push(Box::new(alloc, Conditions::new(alloc))?)?;
-    roster.push(Box::new(alloc, Timed::new(alloc))?)?;
-    roster.push(Box::new(alloc, Replay::new(alloc))?)?;
-    roster.push(Box::new(alloc, Gate::new(alloc))?)?;
-    Ok(roster)
+    roster.push(driver)?;
+    Ok(())
 }

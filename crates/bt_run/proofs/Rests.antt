@@ -1,9 +1,11 @@
 -- Finished runners rest, and where all rest nothing is held.
 use Rattle.std.proofs.Common.{◌≡◌, inl, inr, ℕ, ◌+◌, ◌-◌, ◌<◌, ◌≤◌, List, Option, Some, None, Result, Ok, Err, false, length, map, slice_get, option_map, refl, sym, ap, subst, ◌∙◌, arith}
 use Rattle.std.proofs.lemmas.List.{length-map}
+use Rattle.bt_script.specs.declared.stop.Stop.{Stop}
 use Rattle.bt_model.specs.declared.block.Header.{Header}
 use Rattle.bt_model.specs.declared.block.Header.TheVariants as header
 use Rattle.bt_model.specs.declared.fault.NodeFault.{NodeFault}
+use Rattle.bt_model.specs.declared.fault.RunFault.{RunFault}
 use Rattle.bt_model.specs.declared.memory.Memory.{Memory, out-Memory}
 use Rattle.bt_model.specs.declared.status.Status.TheVariants as status
 use Rattle.bt_model.specs.declared.term.Tree.{Tree}
@@ -15,9 +17,11 @@ use Rattle.bt_model.specs.Shapes.{is_running}
 use Rattle.bt_model.specs.Sound.{EndsWith, RunSteady}
 use Rattle.bt_model.specs.Visit.{meaning}
 use Rattle.bt_laws.proofs.Keeping.{term_keeps}
+use Rattle.bt_arena.specs.declared.block.Block.{Block}
 use Rattle.bt_loop.specs.declared.runs.ReadyRunner.{ReadyRunner}
 use Rattle.bt_loop.specs.declared.runs.Runs.{Runs}
 use Rattle.bt_loop.specs.Runs.{AreRuns, runner_in, state_of_runs}
+use Rattle.bt_loop.specs.Steps.{EventEnds}
 use Rattle.bt_loop.proofs.Lists.{set_is, within}
 use Rattle.bt_loop.proofs.Resting.{resting_hold_nothing}
 use Rattle.bt_run.specs.Going.{AreAtRest}
@@ -51,3 +55,16 @@ pub rest_holds_nothing : (tree : Tree) (world : World) (drivers : List DriverSta
 rest_holds_nothing tree world drivers runs are many all rest =
     resting_hold_nothing tree world drivers runs are
     (λ k r at. rest k r (omega (arith, all, within (state_of_runs tree.term drivers runs).runners k r at, length-map runs.runners.items (runner_in tree.term drivers))) at)
+
+-- behind a finish of these runs that ended in no fault
+pub rests_after : (tree : Tree) (world : World) (runner : ℕ) (runs : Runs) {before : List DriverState} → AreRuns tree world before runs → AreAtRest (runner - 1) (state_of_runs tree.term before runs) →
+    (made : Result (Unit {0}) (Stop RunFault)) (new : Runs) (block : Block) (after : List DriverState) (d : Stepped) → d ≡ finish tree world runner (state_of_runs tree.term before runs) → made ≡ Ok tt →
+    EventEnds made tree.term before after new block d → AreAtRest runner (state_of_runs tree.term after new)
+rests_after tree world runner runs {before} are rest (Ok done) new block after d is whole ends =
+    subst (AreAtRest runner) (ap (λ (x : Stepped). x.state) (sym is) ∙ sym ends.1.state)
+    (finish_rests tree world runner (state_of_runs tree.term before runs) are.steady rest (ap (λ (x : Stepped). x.fault) (sym is) ∙ ends.0))
+rests_after tree world runner runs are rest (Err e) new block after d is whole ends = cc
+
+-- before the first finish
+pub none_yet : (s : RunState) → AreAtRest 0 s
+none_yet s = λ k r low at. absurd (omega (arith, low))

@@ -1,6 +1,7 @@
 -- An event whose block was written is the first step of what is to come, and the parts of a run follow one another.
-use Rattle.std.proofs.Common.{◌≡◌, ℕ, ◌+◌, List, [], ◌∷◌, ◌++◌, Option, Some, None, Result, Ok, Err, OnOk, OnErr, true, false, refl, sym, ap, subst, ◌∙◌, append_assoc, append-nil}
+use Rattle.std.proofs.Common.{◌≡◌, ℕ, suc, ◌+◌, ◌-◌, ◌<◌, ◌≤◌, arith, List, [], ◌∷◌, ◌++◌, length, get_or, drop, Option, Some, None, Result, Ok, Err, OnOk, OnErr, true, false, refl, sym, ap, subst, ◌∙◌, append_assoc, append-nil}
 use Rattle.std.specs.List.{concat}
+use Rattle.std.proofs.lemmas.List.{drop_more}
 use Rattle.bt_script.specs.declared.stop.Stop.{Stop}
 use Rattle.bt_script.specs.declared.stop.Stop.TheVariants as stop
 use Rattle.bt_model.specs.declared.block.Block.{Block as Shown}
@@ -10,13 +11,14 @@ use Rattle.bt_model.specs.declared.block.Header.{Header}
 use Rattle.bt_model.specs.declared.note.Note.{Note}
 use Rattle.bt_model.specs.declared.term.Term.{Term}
 use Rattle.bt_model.specs.declared.term.Tree.{Tree}
+use Rattle.bt_model.specs.declared.world.Event.{Event}
 use Rattle.bt_model.specs.declared.world.What.{What}
 use Rattle.bt_model.specs.declared.world.What.TheVariants.{Tick, Halt, Change}
 use Rattle.bt_model.specs.declared.world.World.{World}
 use Rattle.bt_model.specs.Done.{Call}
 use Rattle.bt_model.specs.Drivers.{DriverState, NothingHeld}
 use Rattle.bt_model.specs.Lines.{LineNames, lines_of}
-use Rattle.bt_model.specs.Run.{RunState, Runner, RunnerCall, Stepped, Trace, before_rest, reset_step, runner_at, step_by, then_rest, tick_step, told}
+use Rattle.bt_model.specs.Run.{RunState, Runner, RunnerCall, Stepped, Trace, before_rest, finish, finishes, reset_step, run_from, runner_at, step, step_by, then_rest, tick_step, told}
 use Rattle.bt_outside.specs.Appending.{Appended, AppendedFront}
 use Rattle.bt_outside.proofs.Appends.{Appended-nil, Appended-trans, AppendedFront-after, AppendedFront-longer, AppendedFront-nothing, AppendedFront-whole}
 use Rattle.bt_text.specs.declared.stop.TextStop.{TextStop}
@@ -26,12 +28,12 @@ use Rattle.bt_arena.specs.declared.nodes.Node.{Node}
 use Rattle.bt_arena.specs.Blocks.{seen}
 use Rattle.bt_loop.specs.declared.runs.Runs.{Runs}
 use Rattle.bt_loop.specs.Runs.{AreRuns, arenas_of, roster_over, state_of_runs}
-use Rattle.bt_loop.specs.Steps.{EventEnds, IsStep}
+use Rattle.bt_loop.specs.Steps.{CanCome, EventEnds, IsStep}
 use Rattle.bt_run.specs.declared.ended.Ended.{Ended}
 use Rattle.bt_run.specs.declared.ended.Ended.TheVariants.{Done, Faulted}
 use Rattle.bt_run.specs.Going.{Goes, Going, Shows, Stand}
 use Rattle.bt_run.specs.Texts.{text_of}
-use Rattle.bt_run.specs.Traces.{IsRun, ended}
+use Rattle.bt_run.specs.Traces.{CanAllCome, IsRun, ended}
 
 -- ---- One step
 
@@ -204,3 +206,54 @@ going_stays arenas names before after a b whole rest p = subst (AppendedFront a 
 -- a run that has ended has its text
 pub run_front : (arenas : List (List Node)) (names : LineNames) (before after : List DriverState) (a b : Option (List ℕ)) (ending : Ended) (whole : Trace) → IsRun arenas names before after a b ending whole → AppendedFront a b (text_of names whole.blocks)
 run_front arenas names before after a b ending whole p = AppendedFront-whole a b (text_of names whole.blocks) p.written
+
+pub usable_of : (made : Result (Unit {0}) (Stop RunFault)) (tree : Tree) (world : World) (drivers : List DriverState) (runs : Runs) → made ≡ Ok tt → OnOk made (AreRuns tree world drivers runs) → runs.usable ≡ true
+usable_of (Ok done) tree world drivers runs is are = are.usable
+usable_of (Err e) tree world drivers runs is are = cc
+
+-- ---- The next step
+
+module _ (arenas arenas1 : List (List Node)) (names : LineNames) (d0 d1 : List DriverState) (a b : Option (List ℕ)) (whole part : Trace) (first : Stepped) (rest : RunState → Trace)
+    (is : part ≡ then_rest first rest) (same : arenas1 ≡ arenas) (so_far : Going arenas names d0 d1 a b whole part) where
+  -- a front of its block was written
+  pub next_front : (c : Option (List ℕ)) → AppendedFront b c (text_of names (then_rest first rest).blocks) → AppendedFront a c (text_of names whole.blocks)
+  next_front c p = going_front arenas names d0 d1 d1 a b c whole part part so_far (subst (λ (t : Trace). AppendedFront b c (text_of names t.blocks)) (sym is) p)
+
+  -- it was made, and more is to come
+  pub next_on : (result : Result Ended TextStop) (ending : Ended) (d2 : List DriverState) (c : Option (List ℕ)) (more : Trace) → result ≡ Ok ending → ending ≡ Done → Goes result arenas1 names d1 d2 b c (then_rest first rest) more → Going arenas names d0 d2 a c whole more
+  next_on (Ok Done) ending d2 c more ok done p =
+      going_both arenas names d0 d1 d2 a b c whole part more so_far
+      (subst (λ (t : Trace). Going arenas names d1 d2 b c t more) (sym is) (subst (λ (x : List (List Node)). Going x names d1 d2 b c (then_rest first rest) more) same p))
+  next_on (Ok Faulted) ending d2 c more ok done p = cc
+  next_on (Err stopped) ending d2 c more ok done p = cc
+
+  -- it ended the run
+  pub next_last : (result : Result Ended TextStop) (ending : Ended) (d2 : List DriverState) (c : Option (List ℕ)) (more : Trace) → result ≡ Ok ending → ending ≡ Faulted → Goes result arenas1 names d1 d2 b c (then_rest first rest) more → IsRun arenas names d0 d2 a c Faulted whole
+  next_last (Ok Faulted) ending d2 c more ok faulted p =
+      going_run arenas names d0 d1 d2 a b c whole part part Faulted so_far
+      (subst (λ (t : Trace). IsRun arenas names d1 d2 b c Faulted t) (sym is) (subst (λ (x : List (List Node)). IsRun x names d1 d2 b c Faulted (then_rest first rest)) same p))
+  next_last (Ok Done) ending d2 c more ok faulted p = cc
+  next_last (Err stopped) ending d2 c more ok faulted p = cc
+
+-- the event that comes next
+pub event_next : (tree : Tree) (world : World) (events later : List Event) (i : ℕ) (e : Event) (s : RunState) → i < length events →
+    run_from tree world (drop i events ++ later) s ≡ then_rest (step tree world (get_or events i e) s) (run_from tree world (drop (i + 1) events ++ later))
+event_next tree world events later i e s low = ap (λ (es : List Event). run_from tree world (es ++ later) s) (drop_more events i e low)
+
+-- .. can come, and those behind it
+pub come_next : (world : World) (last : ℕ) (events : List Event) (i : ℕ) (e : Event) → i < length events → CanAllCome world last (drop i events) →
+    CanCome world last (get_or events i e) × CanAllCome world (get_or events i e).at (drop (i + 1) events)
+come_next world last events i e low can = subst (CanAllCome world last) (drop_more events i e low) can
+
+-- the finish that comes next
+pub finish_next : (tree : Tree) (world : World) (place : ℕ) (s : RunState) → place < world.runners →
+    finishes tree world (place + 1) (world.runners - place) s ≡ then_rest (finish tree world (place + 1) s) (finishes tree world (place + 1 + 1) (world.runners - (place + 1)))
+finish_next tree world place s low =
+    let more : world.runners - place ≡ suc (world.runners - (place + 1)) = omega (arith, low) in
+    ap (λ (others : ℕ). finishes tree world (place + 1) others s) more
+
+-- none is left
+pub finishes_end : (tree : Tree) (world : World) (place : ℕ) (s : RunState) → world.runners ≤ place → finishes tree world (place + 1) (world.runners - place) s ≡ record { blocks = []; calls = []; state = s; fault = None }
+finishes_end tree world place s all =
+    let none : world.runners - place ≡ 0 = omega (arith, all) in
+    ap (λ (others : ℕ). finishes tree world (place + 1) others s) none

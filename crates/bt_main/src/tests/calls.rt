@@ -1,6 +1,7 @@
 //! The calls of a run, as the drivers that were handed in count them, and when they are made.
 
 use super::stage::{run, run_with};
+use crate::roster::add;
 use bt_driver::{Driver, DriverKind, FactTable, Inputs, Outs, ReadyRow, Reply, Totals};
 use bt_leaves::{Conditions, Timed};
 use bt_outside::{MemSink, Sink, SinkFault};
@@ -79,7 +80,7 @@ fn without_drivers(alloc: Global, nodes: &str, lines: &str) -> Result<String, No
 fn with_conditions(alloc: Global, nodes: &str, lines: &str) -> Result<String, NoMemory> {
     let mut sink = MemSink::new(alloc, Vec::new(alloc));
     let mut roster: Vec<Box<dyn Driver>> = Vec::new(alloc);
-    roster.push(Box::new(alloc, Conditions::new(alloc))?)?;
+    add(&mut roster, Box::new(alloc, Conditions::new(alloc))?)?;
     let exit = run_with(alloc, nodes, lines, &mut sink, &mut roster)?;
     let text = str::from_utf8(sink.list()).unwrap_or("?");
     Ok(format!(in alloc; "{text}{exit:?}")?)
@@ -134,11 +135,11 @@ fn kinds_need_their_drivers(rt: HostRuntime) -> Result<(), Fail> {
 
 // ---- Calls in time
 
-/// A row of cells that drivers and a sink share, in which each marks what it did.
+/// A row of cells that drivers and a sink share, in which each marks what it does.
 #[derive(Drop)]
 struct Marks {
     count: Cell<usize>,
-    cells: [Cell<char>; 16],
+    cells: Cell<[char; 16]>,
 }
 
 impl Marks {
@@ -146,24 +147,26 @@ impl Marks {
     fn new() -> Marks {
         Marks {
             count: Cell::new(0),
-            cells: [const { Cell::new(' ') }; 16],
+            cells: Cell::new([' '; 16]),
         }
     }
 
-    /// Marks the next cell; what is past the last one is not marked.
+    /// Marks the next cell. What is past the last one is not marked.
     fn mark(&self, mark: char) {
         let count = self.count.get();
-        if let Some(cell) = self.cells.get(count) {
-            cell.set(mark);
-            self.count.set(count.saturating_add(1));
+        let mut cells = self.cells.get();
+        if let Some(cell) = cells.get_mut(count) {
+            *cell = mark;
         }
+        self.cells.set(cells);
+        self.count.set(count.saturating_add(1));
     }
 
     /// The marks so far.
     fn text(&self, alloc: Global) -> Result<String, AllocError> {
         let mut text = String::new(alloc);
-        for cell in self.cells.iter().take(self.count.get()) {
-            text.push(cell.get())?;
+        for mark in self.cells.get().iter().take(self.count.get()) {
+            text.push(*mark)?;
         }
         Ok(text)
     }
@@ -230,24 +233,26 @@ impl<D: Driver> Driver for Marked<D> {
     }
 }
 
-/// A sink that marks each first line of a block.
+/// The first words of blocks.
+const HEADERS: [&[u8]; 4] = [b"tick ", b"halt ", b"set ", b"finish "];
+
+/// A sink that marks each first line of a block, and else does what the sink in it does.
 #[derive(Drop)]
-struct MarkedSink {
-    sink: MemSink,
+struct MarkedSink<K> {
+    sink: K,
     marks: Rc<Marks>,
 }
 
-impl Sink for MarkedSink {
-    ghost written = { λ s. MemSink.Sink.written s.sink };
+impl<K: Sink> Sink for MarkedSink<K> {
+    ghost written = { λ s. K.written s.sink };
 
-    ghost faults = { λ s. MemSink.Sink.faults s.sink };
+    ghost faults = { λ s. K.faults s.sink };
 
     fn write(&mut self, piece: &[u8]) -> Result<(), SinkFault> {
-        if [&b"tick "[..], b"halt ", b"set ", b"finish "]
-            .iter()
-            .any(|front| piece.starts_with(front))
-        {
-            self.marks.mark('|');
+        for header in HEADERS {
+            if piece.starts_with(header) {
+                self.marks.mark('|');
+            }
         }
         self.sink.write(piece)
     }
@@ -262,26 +267,22 @@ fn marks_of(alloc: Global, nodes: &str, lines: &str) -> Result<String, NoMemory>
         marks: marks.clone()?,
     };
     let mut roster: Vec<Box<dyn Driver>> = Vec::new(alloc);
-    roster.push(Box::new(
-        alloc,
-        Marked {
-            driver: Conditions::new(alloc),
-            marks: marks.clone()?,
-            start: 'C',
-            running: 'c',
-            halted: 'k',
-        },
-    )?)?;
-    roster.push(Box::new(
-        alloc,
-        Marked {
-            driver: Timed::new(alloc),
-            marks: marks.clone()?,
-            start: 'T',
-            running: 't',
-            halted: 'h',
-        },
-    )?)?;
+    let driver = Marked {
+        driver: Conditions::new(alloc),
+        marks: marks.clone()?,
+        start: 'C',
+        running: 'c',
+        halted: 'k',
+    };
+    add(&mut roster, Box::new(alloc, driver)?)?;
+    let driver = Marked {
+        driver: Timed::new(alloc),
+        marks: marks.clone()?,
+        start: 'T',
+        running: 't',
+        halted: 'h',
+    };
+    add(&mut roster, Box::new(alloc, driver)?)?;
     let exit = run_with(alloc, nodes, lines, &mut sink, &mut roster)?;
     Ok(format!(in alloc; "{} {exit:?}", marks.text(alloc)?)?)
 }

@@ -6,6 +6,7 @@ ghost use Rattle.bt_model.specs.Drivers.{NothingHeld};
 use super::{TICK, given, shelf_of, tree_of};
 use crate::answer::bt;
 use crate::exit::Exit;
+use crate::roster::add;
 use crate::words::word_of;
 use bt_driver::{Driver, Totals, hold_nothing};
 use bt_leaves::{Conditions, Gate, Replay, Timed};
@@ -95,10 +96,10 @@ pub fn run(
     sink: &mut MemSink,
 ) -> Result<Ending, NoMemory> {
     let mut roster: Vec<Box<dyn Driver>> = Vec::new(alloc);
-    roster.push(Box::new(alloc, Conditions::new(alloc))?)?;
-    roster.push(Box::new(alloc, Timed::new(alloc))?)?;
-    roster.push(Box::new(alloc, Replay::new(alloc))?)?;
-    roster.push(Box::new(alloc, Gate::new(alloc))?)?;
+    add(&mut roster, Box::new(alloc, Conditions::new(alloc))?)?;
+    add(&mut roster, Box::new(alloc, Timed::new(alloc))?)?;
+    add(&mut roster, Box::new(alloc, Replay::new(alloc))?)?;
+    add(&mut roster, Box::new(alloc, Gate::new(alloc))?)?;
     let exit = run_with(alloc, nodes, lines, sink, &mut roster)?;
     Ok(Ending {
         exit,
