@@ -1,5 +1,5 @@
 -- Lists in which one entry is set.
-use Rattle.std.proofs.Common.{◌≡◌, ◌≢◌, ◌⊎◌, inl, inr, ℕ, zero, suc, ◌<◌, List, [], ◌∷◌, Option, Some, None, map, length, slice_get, set, refl, sym, ap, ◌∙◌, arith}
+use Rattle.std.proofs.Common.{◌≡◌, ◌⊎◌, inl, inr, ℕ, zero, suc, ◌<◌, List, [], ◌∷◌, Some, map, length, slice_get, set, refl, ap, arith}
 
 -- an entry of a list in which one is set is that one, or one of another place
 pub set_is : {A : Type 0} (xs : List A) (i : ℕ) (new : A) (k : ℕ) (y : A) → slice_get (set xs i new) k ≡ Some y → ((k ≡ i) × (new ≡ y)) ⊎ ((k ≡ i → ⊥) × (slice_get xs k ≡ Some y))

@@ -1,12 +1,12 @@
 -- Calls for the leaves of one runner, and what they leave of the others.
-use Rattle.std.proofs.Common.{◌≡◌, ◌⊎◌, inl, inr, ℕ, ℤ, ◌+◌, ◌<◌, ◌≤◌, List, [], ◌∷◌, ◌++◌, Bool, true, Option, Some, None, map, length, get_or, slice_get, refl, sym, ap, subst, ◌∙◌, arith}
+use Rattle.std.proofs.Common.{◌≡◌, inl, inr, ℕ, ℤ, List, [], ◌∷◌, ◌++◌, Option, Some, None, map, length, slice_get, refl, sym, ap, ◌∙◌, arith}
 use Rattle.std.proofs.lemmas.Bool.{cases_eq}
 use Rattle.std.proofs.lemmas.List.{get_or_default, length-map, same_lists}
 use Rattle.std.proofs.Math.ListN.{get_or-map}
 use Rattle.bt_script.specs.declared.value.Value.{Value}
 use Rattle.bt_model.specs.declared.term.Term.{Term}
 use Rattle.bt_model.specs.Done.{Call}
-use Rattle.bt_model.specs.Drivers.{DriverState, instance_at, is_held, roster_called}
+use Rattle.bt_model.specs.Drivers.{DriverState, is_held, roster_called}
 use Rattle.bt_model.specs.Run.{RunnerCall, runner_calls}
 use Rattle.bt_model.specs.Sites.{View}
 use Rattle.bt_arena.specs.declared.nodes.Kept.{Kept}
@@ -14,7 +14,7 @@ use Rattle.bt_arena.specs.declared.nodes.Node.{Node}
 use Rattle.bt_arena.specs.declared.nodes.ReadyLeaf.{ReadyLeaf}
 use Rattle.bt_arena.specs.Nodes.{leaf_at, nobody}
 use Rattle.bt_arena.specs.Rosters.{AreServed, instances_of, leaf_called, leaf_instance, roster_after}
-use Rattle.bt_arena.specs.Scenes.{Fits, marks_of, scene}
+use Rattle.bt_arena.specs.Scenes.{Fits, scene}
 use Rattle.bt_arena.proofs.Called.{instance_other, served_after}
 use Rattle.bt_loop.specs.Runs.{HeldAreTheirs, IsTheirs, nodes_of_runner, roster_over}
 

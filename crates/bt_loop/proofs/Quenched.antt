@@ -1,6 +1,6 @@
 -- The quench of all runners, one after another.
-use Rattle.std.proofs.Common.{◌≡◌, ◌⊎◌, inl, inr, ℕ, ℤ, zero, suc, ◌+◌, ◌-◌, ◌<◌, ◌≤◌, Bool, true, false, List, [], ◌∷◌, ◌++◌, Option, Some, None, map, length, drop, get_or, slice_get, set, option_map, cond, is_some, refl, sym, ap, subst, ◌∙◌, append_assoc, append-nil, add-one, arith}
-use Rattle.std.proofs.lemmas.List.{drop_more, length-map, length-set}
+use Rattle.std.proofs.Common.{◌≡◌, inl, inr, ℕ, ℤ, zero, suc, ◌+◌, ◌<◌, ◌≤◌, Bool, true, false, List, [], ◌∷◌, ◌++◌, Option, Some, None, map, length, drop, get_or, slice_get, set, option_map, cond, is_some, refl, sym, ap, subst, ◌∙◌, append_assoc, append-nil, add-one, arith}
+use Rattle.std.proofs.lemmas.List.{drop_more, length-map}
 use Rattle.std.proofs.lemmas.List.Sums.{sum_by-cons}
 use Rattle.std.specs.Prelude.{if◌then◌else◌}
 use Rattle.std.proofs.lemmas.Option.{get_or_from_slice_get, slice_get-map}
@@ -14,19 +14,17 @@ use Rattle.bt_model.specs.declared.world.World.{World}
 use Rattle.bt_model.specs.Done.{Call}
 use Rattle.bt_model.specs.Drivers.{DriverState, NothingHeld, instance_at, is_held}
 use Rattle.bt_model.specs.Leaf.{fresh, let_go}
-use Rattle.bt_model.specs.Run.{Runner, RunnerCall, letting_go, quench_calls, quench_notes, quenched_notes, quenched_runner, root_view, runner_calls}
+use Rattle.bt_model.specs.Run.{Runner, letting_go, quench_calls, quench_notes, quenched_notes, quenched_runner, root_view, runner_calls}
 use Rattle.bt_model.specs.Visit.{idle}
 use Rattle.bt_arena.specs.declared.nodes.Node.{Node}
 use Rattle.bt_arena.specs.declared.nodes.ReadyLeaf.{ReadyLeaf}
 use Rattle.bt_arena.specs.Ends.{StaysFit}
-use Rattle.bt_arena.specs.Nodes.{leaf_at}
 use Rattle.bt_arena.specs.Rosters.{has_driver, instances_of, leaf_instance, leaves_in, roster_after}
-use Rattle.bt_arena.specs.Scenes.{Fits, scene}
 use Rattle.bt_arena.specs.Stands.{memory_of}
 use Rattle.bt_arena.proofs.Called.{instance_at_uid}
 use Rattle.bt_loop.specs.declared.runs.ReadyRunner.{ReadyRunner}
 use Rattle.bt_loop.specs.Parts.{scene_of}
-use Rattle.bt_loop.specs.Runs.{HeldAreTheirs, IsTheirs, RunnersFit, arenas_in, boards_in, leaves_of, roster_over, runner_in, runners_in}
+use Rattle.bt_loop.specs.Runs.{IsTheirs, RunnersFit, arenas_in, leaves_of, roster_over, runner_in, runners_in}
 use Rattle.bt_loop.proofs.Lists.{entry, map_alike, set_is, within}
 use Rattle.bt_loop.proofs.Others.{over_both, over_runner}
 use Rattle.bt_loop.proofs.Putting.{arenas_same, fit_put, nodes_are, runners_put}

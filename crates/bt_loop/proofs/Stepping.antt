@@ -1,6 +1,6 @@
 -- An event of one runner, against the definition's step.
-use Rattle.std.proofs.Common.{OnOk, OnErr, ◌≡◌, ◌⊎◌, inl, inr, ℕ, ℤ, zero, suc, ◌+◌, ◌-◌, ◌<◌, ◌≤◌, Bool, true, false, cond, List, [], ◌∷◌, ◌++◌, Option, Some, None, Result, Ok, Err, map, length, get_or, slice_get, set, option_map, refl, sym, ap, subst, ◌∙◌, append_assoc, append-nil, add-one, arith}
-use Rattle.std.proofs.lemmas.List.{length-map, map-set, get_or-map, get_or-set_same}
+use Rattle.std.proofs.Common.{OnOk, OnErr, ◌≡◌, inl, inr, ℕ, ℤ, zero, suc, ◌+◌, ◌-◌, ◌<◌, ◌≤◌, true, cond, List, [], ◌∷◌, ◌++◌, Option, Some, None, Result, Ok, Err, map, length, get_or, slice_get, set, option_map, refl, sym, ap, subst, ◌∙◌, append_assoc, append-nil, arith}
+use Rattle.std.proofs.lemmas.List.{length-map, map-set, get_or-set_same}
 use Rattle.std.proofs.lemmas.Bool.Decides.{Decides-int_eq}
 use Rattle.std.proofs.lemmas.Slice.Eq.{bytes_eq-Decides}
 use Rattle.std.proofs.lemmas.Option.{get_or_from_slice_get, slice_get-map}
@@ -10,11 +10,9 @@ use Rattle.bt_script.specs.declared.stop.Stop.{Stop}
 use Rattle.bt_script.specs.declared.stop.Stop.TheVariants as stop
 use Rattle.bt_script.specs.declared.value.Value.{Value}
 use Rattle.bt_script.specs.declared.value.Value.TheVariants.{Int, Text}
-use Rattle.bt_model.specs.declared.block.Block.{Block as Shown}
 use Rattle.bt_model.specs.declared.block.Header.{Header}
 use Rattle.bt_model.specs.declared.fault.NodeFault.{NodeFault}
 use Rattle.bt_model.specs.declared.fault.RunFault.{RunFault}
-use Rattle.bt_model.specs.declared.leaf.Instance.{Instance}
 use Rattle.bt_model.specs.declared.memory.Memory.{Memory}
 use Rattle.bt_model.specs.declared.note.Note.{Note}
 use Rattle.bt_model.specs.declared.note.Note.TheVariants.{Faulted}
@@ -24,19 +22,18 @@ use Rattle.bt_model.specs.declared.world.World.{World}
 use Rattle.bt_model.specs.Done.{Call, Done}
 use Rattle.bt_model.specs.Boards.{slots}
 use Rattle.bt_model.specs.Drivers.{DriverState}
-use Rattle.bt_model.specs.Run.{RunState, Runner, RunnerCall, Stepped, changed_boards, changed_entries, changed_from, had, quench_calls, quench_notes, quenched, quenched_runner, runner_at, runner_calls, runner_step, told, with_change, with_runner}
+use Rattle.bt_model.specs.Run.{RunState, Runner, RunnerCall, Stepped, changed_boards, changed_entries, changed_from, had, quench_calls, quench_notes, quenched, quenched_runner, runner_at, runner_calls, told, with_change, with_runner}
 use Rattle.bt_arena.specs.declared.block.Block.{Block}
 use Rattle.bt_arena.specs.declared.nodes.Node.{Node}
-use Rattle.bt_arena.specs.Blocks.{seen}
 use Rattle.bt_arena.specs.Noted.{calls_named}
 use Rattle.bt_arena.specs.Rosters.{instances_of}
 use Rattle.bt_loop.specs.declared.runs.ReadyRunner.{ReadyRunner}
 use Rattle.bt_loop.specs.declared.runs.Runs.{Runs}
 use Rattle.bt_loop.specs.declared.runs.Told.{Told}
 use Rattle.bt_loop.specs.Ending.{CanTell, Closing, IsQuenched, IsTelling, StayRuns}
-use Rattle.bt_loop.specs.Parts.{PartCut, PartEnds, PartMade, state_of_all}
+use Rattle.bt_loop.specs.Parts.{PartEnds, PartMade, state_of_all}
 use Rattle.bt_loop.specs.Runs.{AreRuns, RunnersFit, arenas_in, arenas_of, boards_in, nth_board, roster_over, runner_in, runners_in, state_of_runs}
-use Rattle.bt_loop.specs.Steps.{EventEnds, IsCutOff, IsStep, IsTold}
+use Rattle.bt_loop.specs.Steps.{EventEnds, IsCutOff}
 use Rattle.bt_loop.specs.Telling.{boards_told, entries_told}
 use Rattle.bt_loop.proofs.Lists.{entry}
 use Rattle.bt_loop.proofs.Others.{over_both}

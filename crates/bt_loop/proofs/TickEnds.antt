@@ -1,9 +1,8 @@
 -- The end of a tick, behind the visit of the root.
-use Rattle.std.proofs.Common.{◌≡◌, ℕ, ℤ, ◌+◌, ◌<◌, ◌≤◌, List, [], ◌∷◌, ◌++◌, length, set, get_or, Option, Result, Ok, Err, refl, sym, ap, subst, ◌∙◌, append-nil, arith}
+use Rattle.std.proofs.Common.{◌≡◌, ℕ, ◌<◌, List, [], ◌∷◌, ◌++◌, length, set, Result, Ok, Err, refl, sym, ap, subst, ◌∙◌, append-nil, arith}
 use Rattle.std.proofs.lemmas.List.{get_or-set_same, get_or-set_other}
 use Rattle.bt_script.specs.declared.stop.Stop.{Stop}
 use Rattle.bt_script.specs.declared.stop.Stop.TheVariants as stop
-use Rattle.bt_script.specs.declared.value.Value.{Value}
 use Rattle.bt_model.specs.declared.fault.NodeFault.{NodeFault}
 use Rattle.bt_model.specs.declared.memory.Memory.{Memory, Memory-F, out-Memory, out-roll-Memory}
 use Rattle.bt_model.specs.declared.note.Note.{Note}
@@ -13,23 +12,22 @@ use Rattle.bt_model.specs.declared.status.Status.{Status}
 use Rattle.bt_model.specs.declared.status.Status.TheVariants as status
 use Rattle.bt_model.specs.declared.term.Term.{Term, out-Term}
 use Rattle.bt_model.specs.Done.{Done, State, behind, carried, done, follow}
-use Rattle.bt_model.specs.Drivers.{DriverState}
 use Rattle.bt_model.specs.Run.{root_told, settled}
 use Rattle.bt_model.specs.Sites.{View, remembered}
-use Rattle.bt_model.specs.Visit.{change, meaning}
+use Rattle.bt_model.specs.Visit.{change}
 use Rattle.bt_arena.specs.declared.nodes.Kept.{Kept}
 use Rattle.bt_arena.specs.declared.nodes.Node.{Node}
 use Rattle.bt_arena.specs.Ends.{IsCut, Meets}
 use Rattle.bt_arena.specs.Nodes.{at_rest, kept_at}
 use Rattle.bt_arena.specs.Noted.{calls_named}
 use Rattle.bt_arena.specs.Rosters.{instances_of}
-use Rattle.bt_arena.specs.Scenes.{Fits, Scene, scene, state_in}
+use Rattle.bt_arena.specs.Scenes.{Fits, Scene, state_in}
 use Rattle.bt_arena.specs.Stands.{memories_of, memory_of}
 use Rattle.bt_arena.proofs.Follows.{followed, stopped}
 use Rattle.bt_arena.proofs.Opened.{memory_out, opened}
 use Rattle.bt_halting.proofs.Marks.{as_many_marks}
 use Rattle.bt_halting.proofs.Memories.{memory_above}
-use Rattle.bt_loop.specs.Parts.{ending_of, unanswered}
+use Rattle.bt_loop.specs.Parts.{unanswered}
 
 -- ---- No answer is wanted
 

@@ -1,25 +1,22 @@
 -- The events of runs are the definition's steps, and what holds between events still does.
-use Rattle.std.proofs.Common.{◌≡◌, ◌⊎◌, inl, inr, ℕ, ℤ, ◌+◌, ◌<◌, ◌≤◌, List, [], ◌∷◌, ◌++◌, Option, Some, None, Result, Ok, Err, OnOk, length, map, set, w64, refl, sym, ap, subst, ◌∙◌, arith}
+use Rattle.std.proofs.Common.{◌≡◌, ℕ, ℤ, ◌≤◌, List, [], ◌++◌, Some, Result, Ok, Err, OnOk, length, map, set, w64, refl, sym, ap, subst, ◌∙◌}
 use Rattle.std.proofs.lemmas.List.{length-set}
 use Rattle.std.proofs.lemmas.Int.{to_z-of_z}
 use Rattle.std.specs.Int.{cast_signed, cast_unsigned}
 use Rattle.bt_model.proofs.Canonical.{fits_from_int}
 use Rattle.bt_script.specs.declared.stop.Stop.{Stop}
-use Rattle.bt_script.specs.declared.stop.Stop.TheVariants as stop
 use Rattle.bt_model.specs.declared.block.Header.{Header}
 use Rattle.bt_model.specs.declared.block.Header.TheVariants as header
 use Rattle.bt_model.specs.declared.fault.NodeFault.{NodeFault}
 use Rattle.bt_model.specs.declared.fault.RunFault.{RunFault}
-use Rattle.bt_model.specs.declared.memory.Memory.{Memory}
 use Rattle.bt_model.specs.declared.note.Note.{Note}
-use Rattle.bt_model.specs.declared.term.Term.{Term}
 use Rattle.bt_model.specs.declared.term.Tree.{Tree}
 use Rattle.bt_model.specs.declared.world.What.{What}
 use Rattle.bt_model.specs.declared.world.What.TheVariants.{Tick, Halt, Change}
 use Rattle.bt_model.specs.declared.world.World.{World}
-use Rattle.bt_model.specs.Done.{Call, Done}
+use Rattle.bt_model.specs.Done.{Call}
 use Rattle.bt_model.specs.Drivers.{DriverState}
-use Rattle.bt_model.specs.Run.{RunState, Runner, Stepped, change_step, changed_from, finish, quench_calls, quench_notes, reset_step, root_view, runner_at, runner_step, state_of, step_by, tick_step, ticked, told}
+use Rattle.bt_model.specs.Run.{RunState, Runner, Stepped, change_step, changed_from, finish, quench_calls, quench_notes, reset_step, root_view, runner_at, state_of, step_by, tick_step, ticked, told}
 use Rattle.bt_model.specs.Sound.{RunSteady}
 use Rattle.bt_model.specs.Worlds.{IsValidWhat}
 use Rattle.bt_laws.proofs.Events.{step_steady}
@@ -30,7 +27,7 @@ use Rattle.bt_loop.specs.declared.runs.ReadyRunner.{ReadyRunner}
 use Rattle.bt_loop.specs.declared.runs.Runs.{Runs}
 use Rattle.bt_loop.specs.declared.runs.Told.{Told}
 use Rattle.bt_loop.specs.Ending.{IsQuenched, StayRuns, part_step}
-use Rattle.bt_loop.specs.Parts.{ending_of, unanswered}
+use Rattle.bt_loop.specs.Parts.{ending_of}
 use Rattle.bt_loop.specs.Runs.{AreRuns, RunnersFit, arenas_of, roster_over, runners_in, state_of_runs}
 use Rattle.bt_loop.specs.Steps.{EventEnds, IsCutOff}
 use Rattle.bt_loop.specs.Telling.{boards_told}

@@ -1,5 +1,5 @@
 -- One runner's part of an event.
-use Rattle.std.specs.Prelude.{◌≡◌, ◌≤◌, ℕ, ℤ, List, ◌++◌, length, map, None, Result, Ok, Err}
+use Rattle.std.specs.Prelude.{◌≡◌, ◌≤◌, ℕ, ℤ, List, ◌++◌, length, None, Result, Ok, Err}
 use Rattle.bt_script.specs.declared.stop.Stop.{Stop}
 use Rattle.bt_script.specs.declared.stop.Stop.TheVariants as stop
 use Rattle.bt_model.specs.declared.fault.NodeFault.{NodeFault}
@@ -10,7 +10,7 @@ use Rattle.bt_model.specs.declared.term.Tree.{Tree}
 use Rattle.bt_model.specs.declared.world.World.{World}
 use Rattle.bt_model.specs.Done.{Call, Done, State}
 use Rattle.bt_model.specs.Drivers.{DriverState}
-use Rattle.bt_model.specs.Run.{RunState, RunnerCall, root_reset, root_view, runner_calls, ticked, with_runner}
+use Rattle.bt_model.specs.Run.{RunState, root_reset, root_view, runner_calls, ticked, with_runner}
 use Rattle.bt_model.specs.Sound.{Dated, RunSteady, Sound}
 use Rattle.bt_arena.specs.declared.nodes.Node.{Node}
 use Rattle.bt_arena.specs.Noted.{calls_named}
@@ -19,7 +19,7 @@ use Rattle.bt_arena.specs.Stands.{memory_of}
 use Rattle.bt_loop.specs.declared.parts.Part.{Part}
 use Rattle.bt_loop.specs.declared.parts.Part.TheVariants.{Tick, Reset}
 use Rattle.bt_loop.specs.declared.runs.ReadyRunner.{ReadyRunner}
-use Rattle.bt_loop.specs.Runs.{RunnersFit, arenas_in, roster_over, runners_in}
+use Rattle.bt_loop.specs.Runs.{RunnersFit, roster_over, runners_in}
 
 -- ---- What a part does
 

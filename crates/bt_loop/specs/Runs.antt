@@ -13,7 +13,7 @@ use Rattle.bt_arena.specs.declared.nodes.Node.{Node}
 use Rattle.bt_arena.specs.declared.nodes.ReadyLeaf.{ReadyLeaf}
 use Rattle.bt_arena.specs.Nodes.{leaf_at}
 use Rattle.bt_arena.specs.Rosters.{instances_of, leaf_called, leaves_in}
-use Rattle.bt_arena.specs.Scenes.{Fits, Scene, scene}
+use Rattle.bt_arena.specs.Scenes.{Fits, scene}
 use Rattle.bt_arena.specs.Stands.{memory_of}
 use Rattle.bt_loop.specs.declared.runs.ReadyRunner.{ReadyRunner}
 use Rattle.bt_loop.specs.declared.runs.Runs.{Runs}

@@ -1,10 +1,12 @@
-ghost use Rattle.std.specs.Prelude.{◌≡◌, ℕ, List, IfOk, map};
+ghost use Rattle.std.specs.Prelude.{◌≡◌, ℕ, List, Err, IfOk, OnErr, map, take};
+ghost use Rattle.bt_script.specs.declared.stop.Stop.TheVariants as stop;
 ghost use Rattle.bt_model.specs.Boards.{slot_table};
 ghost use Rattle.bt_model.specs.Drivers.{DriverState, NothingHeld, driver_at, roster_prepared};
 ghost use Rattle.bt_model.specs.Run.{RunnerCall, opening};
 ghost use Rattle.bt_model.specs.Terms.{leaf_ids};
 ghost use Rattle.bt_model.specs.Trees.{IsValid};
 ghost use Rattle.bt_model.specs.Worlds.{IsValidWorld};
+ghost use Rattle.bt_arena.specs.declared.join_fault.JoinFault.{JoinFault as Lack};
 ghost use Rattle.bt_arena.specs.Joins.{Joins, first_lack};
 ghost use Rattle.bt_loop.specs.Runs.{AreRuns, arenas_of, instances_wanted, roster_over, state_of_runs};
 ghost use Rattle.bt_loop.specs.Served.{calls_made, serving_places};
@@ -40,6 +42,8 @@ pub fn make_runs<D: Drivers>(
     ensures prepared { IfOk result (λ runs. D.states drivers.new ≡ roster_prepared (D.states drivers.old) (instances_wanted tree.now world.now (D.states drivers.old))) }
     ensures calls { IfOk result (λ runs. (calls : List RunnerCall) (now : List DriverState) →
         roster_over (arenas_of runs) calls now ≡ calls_made world.now.runners (serving_places tree.now world.now (D.states drivers.old)) calls now) }
+    ensures faulted { (fault : Lack) → result ≡ Err (stop.Fault fault) → D.states drivers.new ≡ D.states drivers.old }
+    ensures cut { OnErr result ((done : ℕ) × (D.states drivers.new ≡ roster_prepared (D.states drivers.old) (take done (instances_wanted tree.now world.now (D.states drivers.old))))) }
     ensures none { NothingHeld (D.states drivers.new) }
     ensures roster { IsSameRoster (D.states drivers.old) (D.states drivers.new) }
     ensures totals { (place : ℕ) → (driver_at (D.states drivers.new) place).totals ≡ (driver_at (D.states drivers.old) place).totals }
@@ -53,7 +57,8 @@ pub fn make_runs<D: Drivers>(
 /// Makes the runs of a tree with its slots in a world: so many runners as the world has, before their
 /// first event. The drivers are prepared, each for so many instances as all runners have leaves that it
 /// serves, and none was called. The fault is that of the first leaf in pre-order that has no row, or
-/// whose row has no driver. Where memory is wanting, the first drivers may be prepared.
+/// whose row has no driver, and leaves the drivers as they were. Where memory is wanting, the first of
+/// them may be prepared.
 pub fn runs_of(
     alloc: Global,
     tree: &Tree,
@@ -71,6 +76,8 @@ pub fn runs_of(
     ensures prepared { IfOk result (λ runs. map (λ b. state b) roster.new.items ≡ roster_prepared (map (λ b. state b) roster.old.items) (instances_wanted tree.now world.now (map (λ b. state b) roster.old.items))) }
     ensures calls { IfOk result (λ runs. (calls : List RunnerCall) (now : List DriverState) →
         roster_over (arenas_of runs) calls now ≡ calls_made world.now.runners (serving_places tree.now world.now (map (λ b. state b) roster.old.items)) calls now) }
+    ensures faulted { (fault : Lack) → result ≡ Err (stop.Fault fault) → map (λ b. state b) roster.new.items ≡ map (λ b. state b) roster.old.items }
+    ensures cut { OnErr result ((done : ℕ) × (map (λ b. state b) roster.new.items ≡ roster_prepared (map (λ b. state b) roster.old.items) (take done (instances_wanted tree.now world.now (map (λ b. state b) roster.old.items))))) }
     ensures none { NothingHeld (map (λ b. state b) roster.new.items) }
     ensures roster { IsSameRoster (map (λ b. state b) roster.old.items) (map (λ b. state b) roster.new.items) }
     ensures totals { (place : ℕ) → (driver_at (map (λ b. state b) roster.new.items) place).totals ≡ (driver_at (map (λ b. state b) roster.old.items) place).totals }

@@ -14,7 +14,7 @@ mod words;
 
 use crate::answer::bt;
 use crate::exit::Exit;
-use crate::roster::add;
+use crate::roster::add_driver;
 use crate::words::{NoWords, words_of};
 use bt_driver::Driver;
 use bt_leaves::{Conditions, Gate, Replay, Timed};
@@ -28,10 +28,10 @@ use std::rt::Files;
 fn run(rt: &(impl Files + Print + AllocGlobal), words: &[Name]) -> Result<Exit, NoMemory> {
     let alloc = rt.alloc();
     let mut roster: Vec<Box<dyn Driver>> = Vec::new(alloc);
-    add(&mut roster, Box::new(alloc, Conditions::new(alloc))?)?;
-    add(&mut roster, Box::new(alloc, Timed::new(alloc))?)?;
-    add(&mut roster, Box::new(alloc, Replay::new(alloc))?)?;
-    add(&mut roster, Box::new(alloc, Gate::new(alloc))?)?;
+    add_driver(&mut roster, Box::new(alloc, Conditions::new(alloc))?)?;
+    add_driver(&mut roster, Box::new(alloc, Timed::new(alloc))?)?;
+    add_driver(&mut roster, Box::new(alloc, Replay::new(alloc))?)?;
+    add_driver(&mut roster, Box::new(alloc, Gate::new(alloc))?)?;
     let mut shelf = DirShelf::new(rt);
     let mut out = OutSink::new(io::writer(rt));
     Ok(bt(alloc, words, &mut shelf, &mut out, &mut roster))

@@ -12,7 +12,7 @@ mod stage;
 
 use self::stage::answer_with;
 use crate::exit::Exit;
-use crate::roster::add;
+use crate::roster::add_driver;
 use crate::words::word_of;
 use bt_driver::Driver;
 use bt_leaves::{Conditions, Gate, Replay, Timed};
@@ -57,10 +57,10 @@ fn answer_words(
     sink: &mut MemSink,
 ) -> Result<Exit, NoMemory> {
     let mut roster: Vec<Box<dyn Driver>> = Vec::new(alloc);
-    add(&mut roster, Box::new(alloc, Conditions::new(alloc))?)?;
-    add(&mut roster, Box::new(alloc, Timed::new(alloc))?)?;
-    add(&mut roster, Box::new(alloc, Replay::new(alloc))?)?;
-    add(&mut roster, Box::new(alloc, Gate::new(alloc))?)?;
+    add_driver(&mut roster, Box::new(alloc, Conditions::new(alloc))?)?;
+    add_driver(&mut roster, Box::new(alloc, Timed::new(alloc))?)?;
+    add_driver(&mut roster, Box::new(alloc, Replay::new(alloc))?)?;
+    add_driver(&mut roster, Box::new(alloc, Gate::new(alloc))?)?;
     answer_with(alloc, words, shelf, sink, &mut roster)
 }
 

@@ -1,8 +1,7 @@
 -- Finished runners rest, and where all rest nothing is held.
-use Rattle.std.proofs.Common.{◌≡◌, inl, inr, ℕ, ◌+◌, ◌-◌, ◌<◌, ◌≤◌, List, Option, Some, None, Result, Ok, Err, false, length, map, slice_get, option_map, refl, sym, ap, subst, ◌∙◌, arith}
+use Rattle.std.proofs.Common.{◌≡◌, inl, inr, ℕ, ◌+◌, ◌-◌, ◌≤◌, List, Option, Some, None, Result, Ok, Err, OnErr, Bool, true, false, length, slice_get, refl, sym, ap, subst, ◌∙◌, arith}
 use Rattle.std.proofs.lemmas.List.{length-map}
 use Rattle.bt_script.specs.declared.stop.Stop.{Stop}
-use Rattle.bt_model.specs.declared.block.Header.{Header}
 use Rattle.bt_model.specs.declared.block.Header.TheVariants as header
 use Rattle.bt_model.specs.declared.fault.NodeFault.{NodeFault}
 use Rattle.bt_model.specs.declared.fault.RunFault.{RunFault}
@@ -20,11 +19,11 @@ use Rattle.bt_laws.proofs.Keeping.{term_keeps}
 use Rattle.bt_arena.specs.declared.block.Block.{Block}
 use Rattle.bt_loop.specs.declared.runs.ReadyRunner.{ReadyRunner}
 use Rattle.bt_loop.specs.declared.runs.Runs.{Runs}
-use Rattle.bt_loop.specs.Runs.{AreRuns, runner_in, state_of_runs}
+use Rattle.bt_loop.specs.Runs.{AreRuns, arenas_of, runner_in, state_of_runs}
 use Rattle.bt_loop.specs.Steps.{EventEnds}
 use Rattle.bt_loop.proofs.Lists.{set_is, within}
 use Rattle.bt_loop.proofs.Resting.{resting_hold_nothing}
-use Rattle.bt_run.specs.Going.{AreAtRest}
+use Rattle.bt_run.specs.Going.{AreAtRest, Stand}
 
 module _ (tree : Tree) (world : World) (runner : ℕ) (s : RunState) (steady : RunSteady tree.term world.rows s) (before : AreAtRest (runner - 1) s) where
   abbrev Ends : Result (Unit {0}) NodeFault → Done (Unit {0}) Memory → Type 0
@@ -66,5 +65,27 @@ rests_after tree world runner runs {before} are rest (Ok done) new block after d
 rests_after tree world runner runs are rest (Err e) new block after d is whole ends = cc
 
 -- before the first finish
-pub none_yet : (s : RunState) → AreAtRest 0 s
-none_yet s = λ k r low at. absurd (omega (arith, low))
+pub none_yet : (tree : Tree) (drivers : List DriverState) (runs : Runs) → AreAtRest 0 (state_of_runs tree.term drivers runs)
+none_yet tree drivers runs = λ k r low at. absurd (omega (arith, low))
+
+-- .. and behind the finish of the next one
+pub next_rests : (tree : Tree) (place : ℕ) (d0 d1 : List DriverState) (old new : Runs) → (AreAtRest (place + 1 - 1) (state_of_runs tree.term d0 old) → AreAtRest (place + 1) (state_of_runs tree.term d1 new)) →
+    AreAtRest place (state_of_runs tree.term d0 old) → AreAtRest (place + 1) (state_of_runs tree.term d1 new)
+next_rests tree place d0 d1 old new rests rest = rests (let same : place ≡ place + 1 - 1 = omega arith in subst (λ (n : ℕ). AreAtRest n (state_of_runs tree.term d0 old)) same rest)
+
+-- where all have rested that can go on, nothing is held
+pub rest_or_stopped : (tree : Tree) (world : World) (drivers : List DriverState) (runs : Runs) (many : ℕ) → Stand tree world drivers runs → (runs.usable ≡ true → AreAtRest many (state_of_runs tree.term drivers runs)) → length runs.runners.items ≤ many → NothingHeld drivers
+rest_or_stopped tree world drivers runs many stand rest all = by runs.usable refl where
+  by : (usable : Bool) → runs.usable ≡ usable → NothingHeld drivers
+  by true is = rest_holds_nothing tree world drivers runs (stand.on is) many all (rest is)
+  by false is = stand.off is
+
+-- runs of the same arenas have as many runners
+pub same_many : (old new : Runs) → arenas_of new ≡ arenas_of old → length new.runners.items ≡ length old.runners.items
+same_many old new same =
+    sym (length-map new.runners.items (λ (x : ReadyRunner). x.arena.nodes.items)) ∙ ap length same ∙ length-map old.runners.items (λ (x : ReadyRunner). x.arena.nodes.items)
+
+-- runs that can go on have not stopped
+pub not_stopped : (made : Result (Unit {0}) (Stop RunFault)) (runs : Runs) → OnErr made (runs.usable ≡ false) → runs.usable ≡ true → made ≡ Ok tt
+not_stopped (Ok done) runs off on = refl
+not_stopped (Err e) runs off on = absurd (let w : true ≡ false = sym on ∙ off in cc)

@@ -78,9 +78,11 @@ pub fn run_events<K: Sink>(
 {
     let mut runs = runs;
     let mut block = block_for(alloc, leaves(&runs) as u32)?;
-    let written = write_run(alloc, &mut runs, events, names, roster, &mut block, out);
-    if written.is_err() {
-        let_go(alloc, &mut runs, roster, &mut block);
+    match write_run(alloc, &mut runs, events, names, roster, &mut block, out) {
+        Ok(ended) => Ok(ended),
+        Err(stopped) => {
+            let_go(alloc, &mut runs, roster, &mut block);
+            Err(stopped)
+        }
     }
-    written
 }

@@ -1,7 +1,7 @@
 //! The calls of a run, as the drivers that were handed in count them, and when they are made.
 
 use super::stage::{run, run_with};
-use crate::roster::add;
+use crate::roster::add_driver;
 use bt_driver::{Driver, DriverKind, FactTable, Inputs, Outs, ReadyRow, Reply, Totals};
 use bt_leaves::{Conditions, Timed};
 use bt_outside::{MemSink, Sink, SinkFault};
@@ -80,7 +80,7 @@ fn without_drivers(alloc: Global, nodes: &str, lines: &str) -> Result<String, No
 fn with_conditions(alloc: Global, nodes: &str, lines: &str) -> Result<String, NoMemory> {
     let mut sink = MemSink::new(alloc, Vec::new(alloc));
     let mut roster: Vec<Box<dyn Driver>> = Vec::new(alloc);
-    add(&mut roster, Box::new(alloc, Conditions::new(alloc))?)?;
+    add_driver(&mut roster, Box::new(alloc, Conditions::new(alloc))?)?;
     let exit = run_with(alloc, nodes, lines, &mut sink, &mut roster)?;
     let text = str::from_utf8(sink.list()).unwrap_or("?");
     Ok(format!(in alloc; "{text}{exit:?}")?)
@@ -274,7 +274,7 @@ fn marks_of(alloc: Global, nodes: &str, lines: &str) -> Result<String, NoMemory>
         running: 'c',
         halted: 'k',
     };
-    add(&mut roster, Box::new(alloc, driver)?)?;
+    add_driver(&mut roster, Box::new(alloc, driver)?)?;
     let driver = Marked {
         driver: Timed::new(alloc),
         marks: marks.clone()?,
@@ -282,7 +282,7 @@ fn marks_of(alloc: Global, nodes: &str, lines: &str) -> Result<String, NoMemory>
         running: 't',
         halted: 'h',
     };
-    add(&mut roster, Box::new(alloc, driver)?)?;
+    add_driver(&mut roster, Box::new(alloc, driver)?)?;
     let exit = run_with(alloc, nodes, lines, &mut sink, &mut roster)?;
     Ok(format!(in alloc; "{} {exit:?}", marks.text(alloc)?)?)
 }

@@ -6,7 +6,7 @@ ghost use Rattle.bt_model.specs.Drivers.{NothingHeld};
 use super::{TICK, given, shelf_of, tree_of};
 use crate::answer::bt;
 use crate::exit::Exit;
-use crate::roster::add;
+use crate::roster::add_driver;
 use crate::words::word_of;
 use bt_driver::{Driver, Totals, hold_nothing};
 use bt_leaves::{Conditions, Gate, Replay, Timed};
@@ -96,10 +96,10 @@ pub fn run(
     sink: &mut MemSink,
 ) -> Result<Ending, NoMemory> {
     let mut roster: Vec<Box<dyn Driver>> = Vec::new(alloc);
-    add(&mut roster, Box::new(alloc, Conditions::new(alloc))?)?;
-    add(&mut roster, Box::new(alloc, Timed::new(alloc))?)?;
-    add(&mut roster, Box::new(alloc, Replay::new(alloc))?)?;
-    add(&mut roster, Box::new(alloc, Gate::new(alloc))?)?;
+    add_driver(&mut roster, Box::new(alloc, Conditions::new(alloc))?)?;
+    add_driver(&mut roster, Box::new(alloc, Timed::new(alloc))?)?;
+    add_driver(&mut roster, Box::new(alloc, Replay::new(alloc))?)?;
+    add_driver(&mut roster, Box::new(alloc, Gate::new(alloc))?)?;
     let exit = run_with(alloc, nodes, lines, sink, &mut roster)?;
     Ok(Ending {
         exit,

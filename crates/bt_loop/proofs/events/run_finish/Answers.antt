@@ -1,4 +1,4 @@
-use Rattle.std.proofs.Common.{sym, subst, arith}
+use Rattle.std.proofs.Common.{subst, arith}
 use Rattle.bt_model.specs.Run.{Stepped, finish}
 use Rattle.bt_laws.proofs.Events.{finish_steady}
 use Rattle.bt_loop.specs.Runs.{state_of_runs}

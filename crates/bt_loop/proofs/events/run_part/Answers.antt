@@ -1,7 +1,6 @@
-use Rattle.std.proofs.Common.{◌≡◌, ◌-◌, List, [], Some, refl, sym, ap, subst, ◌∙◌, arith}
+use Rattle.std.proofs.Common.{refl, sym, ap, subst, ◌∙◌, arith}
 use Rattle.bt_arena.specs.declared.block.Block.{Block}
 use Rattle.bt_loop.specs.declared.runs.Runs.{Runs}
-use Rattle.bt_loop.specs.Ending.{Closing}
 use Rattle.bt_loop.specs.Steps.{IsSameRoster}
 use Rattle.bt_loop.proofs.Rising.{over_same, roster_both}
 use Rattle.bt_loop.proofs.Stepping.{can_tell, closing_keeps, from_none, part_calls, runner_there, stay_runs, steps, stop_quenched}

@@ -1,11 +1,9 @@
-use Rattle.std.proofs.Common.{◌≡◌, ◌+◌, ◌≤◌, Some, get_or, slice_get, option_map, refl, sym, ap, subst, ◌∙◌, arith}
+use Rattle.std.proofs.Common.{Some, sym, ap, ◌∙◌, arith}
 use Rattle.std.proofs.lemmas.List.{length-set}
-use Rattle.std.proofs.lemmas.Option.{get_or_from_slice_get, slice_get-get_or, slice_get-map}
+use Rattle.std.proofs.lemmas.Option.{get_or_from_slice_get, slice_get-get_or}
 use Rattle.std.proofs.Math.Seq.{map-set_same}
 use Rattle.bt_model.specs.Run.{root_view}
-use Rattle.bt_arena.specs.Rosters.{leaves_in}
 use Rattle.bt_loop.specs.declared.runs.ReadyRunner.{ReadyRunner}
-use Rattle.bt_loop.specs.Runs.{arenas_in, leaves_of}
 use Rattle.bt_loop.proofs.Quenched.{few_notes, nothing_held, quenched_drivers_end, quenched_notes_end, quenched_state_end, quenching_more, room_at}
 use Rattle.bt_loop.proofs.quenching.quench_all.Goals as goal
 
