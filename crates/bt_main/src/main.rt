@@ -33,8 +33,13 @@ fn run(rt: &(impl Files + Print + AllocGlobal), words: &[Name]) -> Result<Exit, 
     add_driver(&mut roster, Box::new(alloc, Replay::new(alloc))?)?;
     add_driver(&mut roster, Box::new(alloc, Gate::new(alloc))?)?;
     let mut shelf = DirShelf::new(rt);
-    let mut out = OutSink::new(io::writer(rt));
-    Ok(bt(alloc, words, &mut shelf, &mut out, &mut roster))
+    let mut out = OutSink::new(alloc, io::writer(rt))?;
+    let exit = bt(alloc, words, &mut shelf, &mut out, &mut roster);
+    // A write that fails only when all is handed on is a write that failed.
+    match out.flush() {
+        Ok(()) => Ok(exit),
+        Err(_) => Ok(Exit::Write),
+    }
 }
 
 /// Answers the words of the command line and ends with the exit's status. A word that is no UTF-8
