@@ -137,28 +137,28 @@ more_by None d rest = ((rest d.state).calls, refl)
 more_by (Some fault) d rest = ([], append-nil d.calls)
 
 module _ (made : Result (Unit {0}) (Stop RunFault)) (term : Term) (arenas : List (List Node)) (before after : List DriverState) (runs : Runs) (same : arenas_of runs ≡ arenas) (block : Block) (d : Stepped) (ends : EventEnds made term before after runs block d) where
-  part : Partly arenas before after d
-  part = subst (λ (x : List (List Node)). Partly x before after d) same (partly made term before after runs block d ends)
+  kept : Partly arenas before after d
+  kept = subst (λ (x : List (List Node)). Partly x before after d) same (partly made term before after runs block d ends)
 
   -- a run is cut off in this event, or behind it
   pub event_cut : (rest : RunState → Trace) → IsCut arenas before after (then_rest d rest)
   event_cut rest =
       let more : (more : List RunnerCall) × (d.calls ++ more ≡ (then_rest d rest).calls) = more_by d.fault d rest in
       record {
-        made = part.made;
-        unmade = part.unmade ++ more.0;
-        halts = part.halts;
-        all = sym (append_assoc part.made part.unmade more.0) ∙ ap (λ (cs : List RunnerCall). cs ++ more.0) part.all ∙ more.1;
-        are = part.are;
-        drivers = part.drivers;
+        made = kept.made;
+        unmade = kept.unmade ++ more.0;
+        halts = kept.halts;
+        all = sym (append_assoc kept.made kept.unmade more.0) ∙ ap (λ (cs : List RunnerCall). cs ++ more.0) kept.all ∙ more.1;
+        are = kept.are;
+        drivers = kept.drivers;
       }
 
   -- an event that lets go alone
   pub event_halts : AreHalts d.calls → LetGo arenas before after
   event_halts are = record {
-    halts = part.made ++ part.halts;
-    are = halts_both part.made part.halts (halts_front part.made part.unmade (subst AreHalts (sym part.all) are)) part.are;
-    drivers = part.drivers;
+    halts = kept.made ++ kept.halts;
+    are = halts_both kept.made kept.halts (halts_front kept.made kept.unmade (subst AreHalts (sym kept.all) are)) kept.are;
+    drivers = kept.drivers;
   }
 
 -- ---- Parts of a run
