@@ -1,3 +1,5 @@
+pub mod Notes
 pub mod Steps
 pub mod Rests
 pub mod Worlds
+pub mod Tallies

@@ -5,13 +5,10 @@ use Rattle.bt_script.specs.declared.stop.Stop.{Stop}
 use Rattle.bt_script.specs.declared.stop.Stop.TheVariants as stop
 use Rattle.bt_model.specs.declared.fault.RunFault.{RunFault}
 use Rattle.bt_model.specs.declared.note.Note.{Note}
-use Rattle.bt_model.specs.declared.term.Tree.{Tree}
-use Rattle.bt_model.specs.declared.world.World.{World}
-use Rattle.bt_model.specs.Drivers.{DriverState, NothingHeld}
+use Rattle.bt_model.specs.Drivers.{DriverState}
 use Rattle.bt_model.specs.Run.{RunnerCall, Trace}
 use Rattle.bt_arena.specs.declared.nodes.Node.{Node}
-use Rattle.bt_loop.specs.declared.runs.Runs.{Runs}
-use Rattle.bt_loop.specs.Runs.{AreRuns, roster_over}
+use Rattle.bt_loop.specs.Runs.{roster_over}
 use Rattle.bt_run.specs.declared.counts.Counts.{Counts}
 use Rattle.bt_run.specs.declared.ended.Ended.{Ended}
 use Rattle.bt_run.specs.declared.ended.Ended.TheVariants.{Done, Faulted}
@@ -55,8 +52,8 @@ Tells (Err (stop.Fault fault)) (Ok Faulted) = Unit {0}
 Tells (Err stop.NoMemory) (Err stopped) = Unit {0}
 Tells _ _ = ⊥
 
--- runs that go on are those of the tree in the world, and of others nothing is held
-abbrev pub Leaves : Result Ended NoMemory → Tree → World → List DriverState → Runs → Type 0
-Leaves (Ok Done) tree world drivers runs = AreRuns tree world drivers runs
-Leaves (Ok Faulted) tree world drivers runs = NothingHeld drivers
-Leaves (Err stopped) tree world drivers runs = NothingHeld drivers
+-- what holds where a run goes on, and what holds where it has ended or memory ran out
+abbrev pub Leaves : Result Ended NoMemory → Type 0 → Type 0 → Type 0
+Leaves (Ok Done) on over = on
+Leaves (Ok Faulted) on over = over
+Leaves (Err stopped) on over = over

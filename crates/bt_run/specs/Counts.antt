@@ -5,6 +5,7 @@ use Rattle.bt_model.specs.declared.block.Block.{Block}
 use Rattle.bt_model.specs.declared.note.Note.{Note}
 use Rattle.bt_model.specs.declared.note.Note.TheVariants.{Started, Ran, Halted, Root}
 use Rattle.bt_model.specs.declared.status.Answer.TheVariants.{Success}
+use Rattle.bt_outside.specs.Counts.{next}
 use Rattle.bt_run.specs.declared.counts.Counts.{Counts}
 
 -- the call `start` of a leaf
@@ -46,3 +47,13 @@ notes_in blocks = flat_map (λ (b : Block). b.notes) blocks
 -- the counts of a run with these blocks
 abbrev pub counts_of : List Block → Counts
 counts_of blocks = counts_in (notes_in blocks)
+
+-- ---- On the way
+
+-- the counts with one more note
+abbrev pub with_note : Note → Counts → Counts
+with_note (Started uid answer) c = record c { starts = next c.starts }
+with_note (Ran uid answer) c = record c { runnings = next c.runnings }
+with_note (Halted uid) c = record c { haltings = next c.haltings }
+with_note (Root runner Success) c = record c { successes = next c.successes }
+with_note _ c = c

@@ -55,7 +55,7 @@ fn count_event(
     ensures counts { (tree : Tree) (world : World) → AreRuns tree world (map (λ b. state b) roster.old.items) runs.old → CanCome world runs.old.last next.now → (rest : RunState → Trace) (earlier : List ANote) → counts.old ≡ counts_in earlier →
         CountsOn result (arenas_of runs.old) (map (λ b. state b) roster.old.items) (map (λ b. state b) roster.new.items) earlier counts.new
         (then_rest (step tree world next.now (state_of_runs tree.term (map (λ b. state b) roster.old.items) runs.old)) rest) (rest (state_of_runs tree.term (map (λ b. state b) roster.new.items) runs.new)) }
-    ensures leaves { (tree : Tree) (world : World) → AreRuns tree world (map (λ b. state b) roster.old.items) runs.old → CanCome world runs.old.last next.now → Leaves result tree world (map (λ b. state b) roster.new.items) runs.new }
+    ensures leaves { (tree : Tree) (world : World) → AreRuns tree world (map (λ b. state b) roster.old.items) runs.old → CanCome world runs.old.last next.now → Leaves result (AreRuns tree world (map (λ b. state b) roster.new.items) runs.new) (NothingHeld (map (λ b. state b) roster.new.items)) }
     ensures last { result ≡ Ok Ended.Done → runs.new.last ≡ next.now.at }
     ensures arenas { arenas_of runs.new ≡ arenas_of runs.old }
     ensures room { block.new.notes.full ≡ block.old.notes.full }
@@ -79,7 +79,7 @@ fn count_all(
     ensures counts { (tree : Tree) (world : World) → AreRuns tree world (map (λ b. state b) roster.old.items) runs.old → CanAllCome world runs.old.last events.now → (later : List AnEvent) (earlier : List ANote) → counts.old ≡ counts_in earlier →
         CountsOn result (arenas_of runs.old) (map (λ b. state b) roster.old.items) (map (λ b. state b) roster.new.items) earlier counts.new
         (run_from tree world (events.now ++ later) (state_of_runs tree.term (map (λ b. state b) roster.old.items) runs.old)) (run_from tree world later (state_of_runs tree.term (map (λ b. state b) roster.new.items) runs.new)) }
-    ensures leaves { (tree : Tree) (world : World) → AreRuns tree world (map (λ b. state b) roster.old.items) runs.old → CanAllCome world runs.old.last events.now → Leaves result tree world (map (λ b. state b) roster.new.items) runs.new }
+    ensures leaves { (tree : Tree) (world : World) → AreRuns tree world (map (λ b. state b) roster.old.items) runs.old → CanAllCome world runs.old.last events.now → Leaves result (AreRuns tree world (map (λ b. state b) roster.new.items) runs.new) (NothingHeld (map (λ b. state b) roster.new.items)) }
     ensures arenas { arenas_of runs.new ≡ arenas_of runs.old }
     ensures room { block.new.notes.full ≡ block.old.notes.full }
     ensures roster { IsSameRoster (map (λ b. state b) roster.old.items) (map (λ b. state b) roster.new.items) }
@@ -109,7 +109,7 @@ fn count_finish(
         (then_rest (finish_step tree world runner (state_of_runs tree.term (map (λ b. state b) roster.old.items) runs.old)) rest) (rest (state_of_runs tree.term (map (λ b. state b) roster.new.items) runs.new)) }
     ensures rests { (tree : Tree) (world : World) → AreRuns tree world (map (λ b. state b) roster.old.items) runs.old → runner ≤ world.runners → result ≡ Ok Ended.Done →
         AreAtRest (runner - 1) (state_of_runs tree.term (map (λ b. state b) roster.old.items) runs.old) → AreAtRest runner (state_of_runs tree.term (map (λ b. state b) roster.new.items) runs.new) }
-    ensures leaves { (tree : Tree) (world : World) → AreRuns tree world (map (λ b. state b) roster.old.items) runs.old → runner ≤ world.runners → Leaves result tree world (map (λ b. state b) roster.new.items) runs.new }
+    ensures leaves { (tree : Tree) (world : World) → AreRuns tree world (map (λ b. state b) roster.old.items) runs.old → runner ≤ world.runners → Leaves result (AreRuns tree world (map (λ b. state b) roster.new.items) runs.new) (NothingHeld (map (λ b. state b) roster.new.items)) }
     ensures arenas { arenas_of runs.new ≡ arenas_of runs.old }
     ensures room { block.new.notes.full ≡ block.old.notes.full }
     ensures roster { IsSameRoster (map (λ b. state b) roster.old.items) (map (λ b. state b) roster.new.items) }

@@ -1,6 +1,6 @@
-ghost use Rattle.std.specs.Prelude.{◌≡◌, ◌++◌, [], ◌∷◌, List};
+ghost use Rattle.std.specs.Prelude.{◌≡◌, ◌++◌, [], List};
 ghost use Rattle.bt_model.specs.declared.note.Note.{Note as ANote};
-ghost use Rattle.bt_run.specs.Counts.{counts_in};
+ghost use Rattle.bt_run.specs.Counts.{counts_in, with_note};
 
 use bt_model::{Answer, Note};
 
@@ -32,7 +32,7 @@ pub fn no_counts() -> Counts
 
 /// Counts one more note.
 fn count_note(counts: &mut Counts, note: Note)
-    ensures { (earlier : List ANote) → counts.old ≡ counts_in earlier → counts.new ≡ counts_in (earlier ++ note ∷ []) }
+    ensures { counts.new ≡ with_note note counts.old }
 {
     match note {
         Note::Started { .. } => counts.starts = counts.starts.saturating_add(1),
