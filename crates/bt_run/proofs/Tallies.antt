@@ -1,5 +1,7 @@
 -- An event that was counted is the first step of what is to come, and the parts of a run that is counted follow one another.
-use Rattle.std.proofs.Common.{◌≡◌, ℕ, ◌+◌, ◌-◌, ◌<◌, List, [], ◌∷◌, ◌++◌, Option, Some, None, Result, Ok, Err, IfOk, OnOk, OnErr, refl, sym, ap, subst, ◌∙◌, append_assoc, append-nil}
+use Rattle.std.proofs.Common.{◌≡◌, ℕ, ◌≤◌, drop, length, List, [], ◌∷◌, ◌++◌, Option, Some, None, Result, Ok, Err, IfOk, OnOk, OnErr, refl, sym, ap, subst, ◌∙◌, append_assoc, append-nil}
+use Rattle.std.specs.Result.{IsErr}
+use Rattle.std.proofs.lemmas.List.{drop_all}
 use Rattle.std.proofs.lemmas.List.Concat.{flat_map-cons}
 use Rattle.bt_script.specs.declared.stop.NoMemory.{NoMemory}
 use Rattle.bt_script.specs.declared.stop.Stop.{Stop}
@@ -113,6 +115,13 @@ module _ (on over : Type 0) where
   left_stopped (Ok Done) stopped err p = cc
   left_stopped (Ok Faulted) stopped err p = cc
 
+  -- an answer that is handed on
+  pub left_handed : (result : Result Ended NoMemory) (stopped : NoMemory) (handed : Result Ended NoMemory) → result ≡ Err stopped → IsErr handed → Leaves result on over → Leaves handed on over
+  left_handed (Err e) stopped (Err f) err is p = p
+  left_handed (Err e) stopped (Ok f) err is p = cc
+  left_handed (Ok Done) stopped handed err is p = cc
+  left_handed (Ok Faulted) stopped handed err is p = cc
+
 -- ---- Parts of a run
 
 module _ (arenas : List (List Node)) (d0 d1 d2 : List DriverState) (earlier : List Note) (c1 c2 : Counts) (whole part rest : Trace) (p : Counting arenas d0 d1 earlier c1 whole part) where
@@ -159,6 +168,12 @@ counting_end arenas before after earlier counts whole rest p blocks calls fault 
   counted = p.counted ∙ ap (λ (z : List Note). counts_in (earlier ++ z)) (sym (append-nil p.told) ∙ ap (λ (x : List Shown). p.told ++ notes_in x) (sym blocks) ∙ p.notes);
   drivers = p.drivers ∙ ap (λ (z : List RunnerCall). roster_over arenas z before) (sym (append-nil p.made) ∙ ap (λ (x : List RunnerCall). p.made ++ x) (sym calls) ∙ p.calls);
 }
+
+-- no event is left
+pub counting_last : (arenas : List (List Node)) (before after : List DriverState) (earlier : List Note) (counts : Counts) (whole : Trace) (tree : Tree) (world : World) (events later : List Event) (i : ℕ) (s : RunState) → length events ≤ i →
+    Counting arenas before after earlier counts whole (run_from tree world (drop i events ++ later) s) → Counting arenas before after earlier counts whole (run_from tree world later s)
+counting_last arenas before after earlier counts whole tree world events later i s all p =
+    subst (λ (es : List Event). Counting arenas before after earlier counts whole (run_from tree world (es ++ later) s)) (drop_all i events all) p
 
 -- ---- The next step
 
