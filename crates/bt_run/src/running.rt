@@ -24,7 +24,7 @@ use bt_text::{Names, TextStop};
 use std::alloc::Global;
 
 /// STUB
-pub fn leaves(runs: &Runs) -> usize
+fn leaves(runs: &Runs) -> usize
     requires impossible { ⊥ }
     requires runs { (tree : Tree) × (world : World) × (drivers : List DriverState) × IsValid tree × IsValidWorld world × AreRuns tree world drivers runs.now }
     ensures { result ≡ leaves_of (arenas_of runs.now) }
