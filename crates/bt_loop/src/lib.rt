@@ -3,13 +3,18 @@
 #![tactic(auto)]
 
 mod boxed;
+mod counts;
 mod events;
 pub mod laws;
+mod making;
+mod openings;
 mod parts;
 mod quenching;
 mod runs;
 mod telling;
 
 pub use boxed::Roster;
+pub use counts::leaves;
 pub use events::{event, finish, run_event, run_finish};
+pub use making::{make_runs, runs_of};
 pub use runs::{ReadyRunner, Runs, usable};

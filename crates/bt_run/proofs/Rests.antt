@@ -1,8 +1,7 @@
 -- Finished runners rest, and where all rest nothing is held.
-use Rattle.std.proofs.Common.{◌≡◌, inl, inr, ℕ, ◌+◌, ◌-◌, ◌<◌, ◌≤◌, List, Option, Some, None, Result, Ok, Err, OnErr, Bool, true, false, length, map, slice_get, option_map, refl, sym, ap, subst, ◌∙◌, arith}
+use Rattle.std.proofs.Common.{◌≡◌, inl, inr, ℕ, ◌+◌, ◌-◌, ◌≤◌, List, Option, Some, None, Result, Ok, Err, OnErr, Bool, true, false, length, slice_get, refl, sym, ap, subst, ◌∙◌, arith}
 use Rattle.std.proofs.lemmas.List.{length-map}
 use Rattle.bt_script.specs.declared.stop.Stop.{Stop}
-use Rattle.bt_model.specs.declared.block.Header.{Header}
 use Rattle.bt_model.specs.declared.block.Header.TheVariants as header
 use Rattle.bt_model.specs.declared.fault.NodeFault.{NodeFault}
 use Rattle.bt_model.specs.declared.fault.RunFault.{RunFault}

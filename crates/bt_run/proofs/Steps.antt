@@ -1,5 +1,5 @@
 -- An event whose block was written is the first step of what is to come, and the parts of a run follow one another.
-use Rattle.std.proofs.Common.{◌≡◌, ℕ, suc, ◌+◌, ◌-◌, ◌<◌, ◌≤◌, arith, List, [], ◌∷◌, ◌++◌, length, get_or, drop, Option, Some, None, Result, Ok, Err, OnOk, OnErr, true, false, refl, sym, ap, subst, ◌∙◌, append_assoc, append-nil}
+use Rattle.std.proofs.Common.{◌≡◌, ℕ, suc, ◌+◌, ◌-◌, ◌<◌, ◌≤◌, arith, List, [], ◌∷◌, ◌++◌, length, get_or, drop, Option, Some, None, Result, Ok, Err, IfOk, OnOk, OnErr, true, false, refl, sym, ap, subst, ◌∙◌, append_assoc, append-nil}
 use Rattle.std.specs.List.{concat}
 use Rattle.std.proofs.lemmas.List.{drop_more}
 use Rattle.bt_script.specs.declared.stop.Stop.{Stop}
@@ -266,3 +266,42 @@ finishes_first tree world s =
 
 pub going_all : (arenas : List (List Node)) (names : LineNames) (drivers : List DriverState) (a : Option (List ℕ)) (whole rest : Trace) → whole ≡ rest → Going arenas names drivers drivers a a whole rest
 going_all arenas names drivers a whole rest same = subst (λ (t : Trace). Going arenas names drivers drivers a a whole t) same (going_none arenas names drivers a whole)
+
+-- ---- The events, and then the finishes
+
+module _ (arenas : List (List Node)) (names : LineNames) (d0 d1 : List DriverState) (a b : Option (List ℕ)) (whole part : Trace) where
+  goes_done : (result : Result Ended TextStop) (ending : Ended) → result ≡ Ok ending → ending ≡ Done → Goes result arenas names d0 d1 a b whole part → Going arenas names d0 d1 a b whole part
+  goes_done (Ok Done) ending ok done p = p
+  goes_done (Ok Faulted) ending ok done p = cc
+  goes_done (Err stopped) ending ok done p = cc
+
+  goes_faulted : (result : Result Ended TextStop) (ending : Ended) → result ≡ Ok ending → ending ≡ Faulted → Goes result arenas names d0 d1 a b whole part → IsRun arenas names d0 d1 a b Faulted whole
+  goes_faulted (Ok Faulted) ending ok faulted p = p
+  goes_faulted (Ok Done) ending ok faulted p = cc
+  goes_faulted (Err stopped) ending ok faulted p = cc
+
+-- a front was written
+pub all_front : (tree : Tree) (world : World) (events : List Event) (s : RunState) (names : LineNames) (a b : Option (List ℕ)) → AppendedFront a b (text_of names (run_from tree world (events ++ []) s).blocks) → AppendedFront a b (text_of names (run_from tree world events s).blocks)
+all_front tree world events s names a b p = subst (λ (es : List Event). AppendedFront a b (text_of names (run_from tree world es s).blocks)) (append-nil events) p
+
+module _ (tree : Tree) (world : World) (events : List Event) (s : RunState) (arenas : List (List Node)) (names : LineNames) (d0 d1 : List DriverState) (a b : Option (List ℕ)) where
+  abbrev all_of : List Event → Trace
+  all_of es = run_from tree world es s
+
+  -- an event ended the run
+  pub all_faulted : (result : Result Ended TextStop) (ending : Ended) (more : Trace) → result ≡ Ok ending → ending ≡ Faulted → Goes result arenas names d0 d1 a b (all_of (events ++ [])) more → IsRun arenas names d0 d1 a b Faulted (all_of events)
+  all_faulted result ending more ok faulted p =
+      subst (λ (es : List Event). IsRun arenas names d0 d1 a b Faulted (all_of es)) (append-nil events) (goes_faulted arenas names d0 d1 a b (all_of (events ++ [])) more result ending ok faulted p)
+
+  module _ (result : Result Ended TextStop) (ending : Ended) (part : Trace) (ok : result ≡ Ok ending) (done : ending ≡ Done) (goes : Goes result arenas names d0 d1 a b (all_of (events ++ [])) part) where
+    going : Going arenas names d0 d1 a b (all_of events) part
+    going = subst (λ (es : List Event). Going arenas names d0 d1 a b (all_of es) part) (append-nil events) (goes_done arenas names d0 d1 a b (all_of (events ++ [])) part result ending ok done goes)
+
+    -- what comes behind the events was written
+    pub all_run : (d2 : List DriverState) (c : Option (List ℕ)) (arenas1 : List (List Node)) → arenas1 ≡ arenas → (last : Result Ended TextStop) → IfOk last (λ e. IsRun arenas1 names d1 d2 b c e part) → IfOk last (λ e. IsRun arenas names d0 d2 a c e (all_of events))
+    all_run d2 c arenas1 same (Ok e) p = going_run arenas names d0 d1 d2 a b c (all_of events) part part e going (subst (λ (x : List (List Node)). IsRun x names d1 d2 b c e part) same p)
+    all_run d2 c arenas1 same (Err stopped) p = tt
+
+    -- or a front of it
+    pub all_part : (c : Option (List ℕ)) → AppendedFront b c (text_of names part.blocks) → AppendedFront a c (text_of names (all_of events).blocks)
+    all_part c p = going_front arenas names d0 d1 d1 a b c (all_of events) part part going p

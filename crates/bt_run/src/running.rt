@@ -1,12 +1,10 @@
-ghost use Rattle.std.specs.Prelude.{◌≡◌, ◌≤◌, ◌<◌, ◌^◌, OnOk, IfOk, IsErrOf, List, length, map};
+ghost use Rattle.std.specs.Prelude.{◌≡◌, ◌≤◌, ◌<◌, ◌^◌, OnOk, IfOk, IsErrOf, length, map};
 ghost use Rattle.bt_model.specs.declared.term.Tree.{Tree};
 ghost use Rattle.bt_model.specs.declared.world.World.{World};
-ghost use Rattle.bt_model.specs.Drivers.{DriverState, NothingHeld};
-ghost use Rattle.bt_model.specs.Trees.{IsValid};
-ghost use Rattle.bt_model.specs.Worlds.{IsValidWorld};
+ghost use Rattle.bt_model.specs.Drivers.{NothingHeld};
 ghost use Rattle.bt_outside.specs.Appending.{AppendedFront};
 ghost use Rattle.bt_outside.specs.Counts.{Rose};
-ghost use Rattle.bt_loop.specs.Runs.{AreRuns, arenas_of, leaves_of};
+ghost use Rattle.bt_loop.specs.Runs.{AreRuns, arenas_of};
 ghost use Rattle.bt_loop.specs.Steps.{HaveRoom, IsSameRoster};
 ghost use Rattle.bt_run.specs.Going.{Stand};
 ghost use Rattle.bt_run.specs.Texts.{text_of};
@@ -17,20 +15,11 @@ use crate::events::write_events;
 use crate::finishes::{let_go, write_finishes};
 use bt_arena::{Block, block_for};
 use bt_driver::Driver;
-use bt_loop::Runs;
+use bt_loop::{Runs, leaves};
 use bt_model::Event;
 use bt_outside::Sink;
 use bt_text::{Names, TextStop};
 use std::alloc::Global;
-
-/// STUB
-fn leaves(runs: &Runs) -> usize
-    requires impossible { ⊥ }
-    requires runs { (tree : Tree) × (world : World) × (drivers : List DriverState) × IsValid tree × IsValidWorld world × AreRuns tree world drivers runs.now }
-    ensures { result ≡ leaves_of (arenas_of runs.now) }
-{
-    unreachable!()
-}
 
 /// Makes the events in order and then finishes all runners, and writes the block of each.
 fn write_run<K: Sink>(
@@ -89,9 +78,11 @@ pub fn run_events<K: Sink>(
 {
     let mut runs = runs;
     let mut block = block_for(alloc, leaves(&runs) as u32)?;
-    let written = write_run(alloc, &mut runs, events, names, roster, &mut block, out);
-    if written.is_err() {
-        let_go(alloc, &mut runs, roster, &mut block);
+    match write_run(alloc, &mut runs, events, names, roster, &mut block, out) {
+        Ok(ended) => Ok(ended),
+        Err(stopped) => {
+            let_go(alloc, &mut runs, roster, &mut block);
+            Err(stopped)
+        }
     }
-    written
 }

@@ -16,9 +16,10 @@ returns-clause-stand g c = λ tree world are can.
 pub returns-clause-on : goal.returns-clause-on
 returns-clause-on g c = λ done.
     let r = c.requires.runs in
-    let whole = made_whole c.event-made.result c.show.result _ _ _ c.show.ensures.shown done in
-    (usable_of c.event-made.result r.0 r.1 _ c.event-made.new.runs whole (c.event-made.ensures.runs r.0 r.1 r.2 r.3),
-    last_is c.event-made.result r.0 r.1 _ _ c.event-made.new.runs c.event-made.new.block c.args.next.now.what c.args.next.now.at _ whole (c.event-made.ensures.step r.0 r.1 r.2 r.3))
+    let whole = made_whole c.event-made.result c.show.result _ _ _ c.show.ensures.shown done in (
+      usable_of c.event-made.result r.0 r.1 _ c.event-made.new.runs whole (c.event-made.ensures.runs r.0 r.1 r.2 r.3),
+      last_is c.event-made.result r.0 r.1 _ _ c.event-made.new.runs c.event-made.new.block c.args.next.now.what c.args.next.now.at _ whole (c.event-made.ensures.step r.0 r.1 r.2 r.3),
+    )
 
 pub returns-clause-off : goal.returns-clause-off
 returns-clause-off g c = λ faulted. made_fault c.event-made.result c.show.result _ _ _ c.show.ensures.shown faulted c.event-made.ensures.usable

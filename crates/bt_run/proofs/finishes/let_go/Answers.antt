@@ -1,4 +1,4 @@
-use Rattle.std.proofs.Common.{◌≡◌, ℕ, ◌<◌, ◌≤◌, ◌+◌, ◌∙◌, ap, length, map, true, refl, sym, arith}
+use Rattle.std.proofs.Common.{◌≡◌, ◌≤◌, ◌+◌, ◌∙◌, map, true, refl, arith}
 use Rattle.bt_loop.proofs.Rising.{roster_both, same_roster}
 use Rattle.bt_run.proofs.Rests.{next_rests, none_yet, not_stopped, rest_or_stopped, rests_after, same_many}
 use Rattle.bt_run.proofs.Steps.{stands}

@@ -1,7 +1,7 @@
 use Rattle.std.proofs.Common.{◌≡◌, map, true}
 use Rattle.bt_model.specs.declared.term.Tree.{Tree}
 use Rattle.bt_model.specs.declared.world.World.{World}
-use Rattle.bt_loop.specs.Runs.{AreRuns, arenas_of, state_of_runs}
+use Rattle.bt_loop.specs.Runs.{arenas_of, state_of_runs}
 use Rattle.bt_loop.specs.Steps.{IsSameRoster}
 use Rattle.bt_run.specs.Going.{AreAtRest, Stand}
 use Rattle.bt_run.proofs.finishes.let_go.Given as goal

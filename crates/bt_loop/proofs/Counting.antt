@@ -1,0 +1,53 @@
+-- How many instances each driver needs, as the nodes of an arena show it.
+use Rattle.std.proofs.Common.{◌≡◌, ℕ, zero, suc, ◌+◌, ◌*◌, ◌<◌, List, [], ◌∷◌, length, get_or, refl, sym, ap, ◌∙◌, arith}
+use Rattle.std.proofs.lemmas.List.{get_or_default, same_lists}
+use Rattle.bt_model.specs.declared.term.Tree.{Tree}
+use Rattle.bt_model.specs.declared.world.World.{World}
+use Rattle.bt_model.specs.Drivers.{DriverState}
+use Rattle.bt_model.specs.Terms.{leaf_ids}
+use Rattle.bt_arena.specs.declared.arena.Arena.{Arena}
+use Rattle.bt_arena.specs.Joins.{leaves_served}
+use Rattle.bt_arena.specs.Made.{IsArenaOf}
+use Rattle.bt_arena.specs.Rosters.{served}
+use Rattle.bt_loop.specs.Runs.{instances_wanted, wanted_from}
+
+module _ (tree : Tree) (world : World) (drivers : List DriverState) where
+  abbrev needed : ℕ → ℕ
+  needed place = world.runners * leaves_served world.rows drivers place (leaf_ids tree.term)
+
+  from_length : (place : ℕ) (ds : List DriverState) → length (wanted_from tree world drivers place ds) ≡ length ds
+  from_length place [] = refl
+  from_length place (d ∷ ds) = ap suc (from_length (place + 1) ds)
+
+  from_at : (place : ℕ) (ds : List DriverState) (p : ℕ) → p < length ds → get_or (wanted_from tree world drivers place ds) p 0 ≡ needed (place + p)
+  from_at place [] p low = absurd (omega (arith, low))
+  from_at place (d ∷ ds) zero low = let same : place ≡ place + 0 = omega arith in ap needed same
+  from_at place (d ∷ ds) (suc p) low = let same : place + 1 + p ≡ place + suc p = omega arith in from_at (place + 1) ds p (omega (arith, low)) ∙ ap needed same
+
+  pub wanted_length : length (instances_wanted tree world drivers) ≡ length drivers
+  wanted_length = from_length 0 drivers
+
+  pub wanted_at : (place : ℕ) → place < length drivers → get_or (instances_wanted tree world drivers) place 0 ≡ needed place
+  wanted_at place low = let same : 0 + place ≡ place = omega arith in from_at 0 drivers place low ∙ ap needed same
+
+  -- counts for each driver are those wanted, where they are as many for each runner as the tree has leaves for it
+  pub counts_are_wanted : (counts : List ℕ) → length counts ≡ length drivers → ((place : ℕ) → place < length drivers → get_or counts place 0 ≡ needed place) → counts ≡ instances_wanted tree world drivers
+  counts_are_wanted counts places are =
+      same_lists counts (instances_wanted tree world drivers) (omega (arith, places, wanted_length))
+      (λ place d low.
+      let there : place < length drivers = omega (arith, low, places) in
+      get_or_default counts place d 0 low
+      ∙ are place there
+      ∙ sym (wanted_at place there)
+      ∙ sym (get_or_default (instances_wanted tree world drivers) place d 0 (omega (arith, there, wanted_length))))
+
+  -- .. and as an arena has
+  pub arena_counts_are_wanted : (number : ℕ) (arena : Arena) → IsArenaOf tree world drivers number arena → (counts : List ℕ) → length counts ≡ length drivers →
+      ((place : ℕ) → place < length drivers → get_or counts place 0 ≡ world.runners * served place arena.nodes.items) → counts ≡ instances_wanted tree world drivers
+  arena_counts_are_wanted number arena is counts places are =
+      counts_are_wanted counts places (λ place low. are place low ∙ ap (λ n. world.runners * n) (is.serves place low))
+
+  -- what is wanted, as an arena has it
+  pub wanted_of_arena : (number : ℕ) (arena : Arena) → IsArenaOf tree world drivers number arena → (place : ℕ) → place < length drivers →
+      get_or (instances_wanted tree world drivers) place 0 ≡ world.runners * served place arena.nodes.items
+  wanted_of_arena number arena is place low = wanted_at place low ∙ ap (λ n. world.runners * n) (sym (is.serves place low))

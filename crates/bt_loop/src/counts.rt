@@ -1,0 +1,56 @@
+ghost use Rattle.std.specs.Prelude.{◌≡◌, ◌≤◌, ◌<◌, ◌*◌, ◌^◌, ℕ, List, IfOk, length, slice_index_or};
+ghost use Rattle.bt_model.specs.declared.term.Tree.{Tree};
+ghost use Rattle.bt_model.specs.declared.world.World.{World};
+ghost use Rattle.bt_model.specs.Drivers.{DriverState};
+ghost use Rattle.bt_model.specs.Trees.{IsValid};
+ghost use Rattle.bt_model.specs.Worlds.{IsValidWorld};
+ghost use Rattle.bt_arena.specs.Rosters.{served};
+ghost use Rattle.bt_loop.specs.Opening.{AreOpeningRuns};
+ghost use Rattle.bt_loop.specs.Runs.{AreRuns, arenas_of, instances_wanted, leaves_of};
+
+use crate::runs::Runs;
+use bt_arena::{Node, leaf_count, leaves_at};
+use bt_driver::Drivers;
+use bt_script::NoMemory;
+use std::alloc::Global;
+
+/// How many leaves all runners have together: a block needs room for one note more.
+pub fn leaves(runs: &Runs) -> usize
+    requires { (tree : Tree) × (world : World) × (drivers : List DriverState) × IsValid tree × IsValidWorld world × AreRuns tree world drivers runs.now }
+    ensures { result ≡ leaves_of (arenas_of runs.now) }
+{
+    let mut count = 0usize;
+    for runner in &runs.runners {
+        count += leaf_count(runner.arena.nodes.as_slice()) as usize;
+    }
+    count
+}
+
+/// For each driver, how many instances so many runners need of it, each with these nodes.
+fn counts_of<D: Drivers>(
+    alloc: Global,
+    nodes: &[Node],
+    runners: u32,
+    drivers: &D,
+) -> Result<Vec<u32>, NoMemory>
+    requires nodes { length nodes.now < 2 ^ 16 }
+    requires runners { runners < 2 ^ 16 }
+    ensures many { IfOk result (λ counts. length counts.items ≡ length (D.states drivers.now)) }
+    ensures counts { IfOk result (λ counts. (place : ℕ) → place < length (D.states drivers.now) → slice_index_or counts.items place 0 ≡ runners * served place nodes.now) }
+{
+    let mut counts = Vec::new(alloc);
+    for place in 0..drivers.count() {
+        counts.push(runners * leaves_at(nodes, place))?;
+    }
+    Ok(counts)
+}
+
+/// For each driver, how many instances these runs need of it.
+pub fn wanted<D: Drivers>(alloc: Global, runs: &Runs, drivers: &D) -> Result<Vec<u32>, NoMemory>
+    requires { (tree : Tree) × (world : World) × IsValid tree × IsValidWorld world × AreOpeningRuns tree world (D.states drivers.now) runs.now }
+    ensures { (tree : Tree) (world : World) → AreOpeningRuns tree world (D.states drivers.now) runs.now →
+        IfOk result (λ counts. counts.items ≡ instances_wanted tree world (D.states drivers.now)) }
+{
+    let nodes = runs.runners[0].arena.nodes.as_slice();
+    counts_of(alloc, nodes, runs.runners.len() as u32, drivers)
+}

@@ -1,0 +1,84 @@
+ghost use Rattle.std.specs.Prelude.{◌≡◌, ℕ, List, IfOk, map};
+ghost use Rattle.bt_model.specs.Boards.{slot_table};
+ghost use Rattle.bt_model.specs.Drivers.{DriverState, NothingHeld, driver_at, roster_prepared};
+ghost use Rattle.bt_model.specs.Run.{RunnerCall, opening};
+ghost use Rattle.bt_model.specs.Terms.{leaf_ids};
+ghost use Rattle.bt_model.specs.Trees.{IsValid};
+ghost use Rattle.bt_model.specs.Worlds.{IsValidWorld};
+ghost use Rattle.bt_arena.specs.Joins.{Joins, first_lack};
+ghost use Rattle.bt_loop.specs.Runs.{AreRuns, arenas_of, instances_wanted, roster_over, state_of_runs};
+ghost use Rattle.bt_loop.specs.Served.{calls_made, serving_places};
+ghost use Rattle.bt_loop.specs.Steps.{IsSameRoster};
+
+use crate::boxed::Roster;
+use crate::counts::wanted;
+use crate::openings::opening_runs;
+use crate::runs::Runs;
+use bt_arena::JoinFault;
+use bt_board::Slots;
+use bt_driver::{Driver, Drivers};
+use bt_model::{Tree, World};
+use bt_script::Stop;
+use std::alloc::Global;
+use std::mem;
+
+/// Makes the runs of a tree in a world over any drivers, and prepares the drivers.
+pub fn make_runs<D: Drivers>(
+    alloc: Global,
+    tree: &Tree,
+    slots: &Slots,
+    world: &World,
+    drivers: &mut D,
+) -> Result<Runs, Stop<JoinFault>>
+    requires tree { IsValid tree.now }
+    requires slots { slots.now ≡ slot_table tree.now }
+    requires world { IsValidWorld world.now }
+    requires quiet { NothingHeld (D.states drivers.old) }
+    ensures fault { Joins result (first_lack world.now.rows (D.states drivers.old) (leaf_ids tree.now.term)) }
+    ensures runs { IfOk result (λ runs. AreRuns tree.now world.now (D.states drivers.new) runs) }
+    ensures opening { IfOk result (λ runs. state_of_runs tree.now.term (D.states drivers.new) runs ≡ opening tree.now world.now) }
+    ensures prepared { IfOk result (λ runs. D.states drivers.new ≡ roster_prepared (D.states drivers.old) (instances_wanted tree.now world.now (D.states drivers.old))) }
+    ensures calls { IfOk result (λ runs. (calls : List RunnerCall) (now : List DriverState) →
+        roster_over (arenas_of runs) calls now ≡ calls_made world.now.runners (serving_places tree.now world.now (D.states drivers.old)) calls now) }
+    ensures none { NothingHeld (D.states drivers.new) }
+    ensures roster { IsSameRoster (D.states drivers.old) (D.states drivers.new) }
+    ensures totals { (place : ℕ) → (driver_at (D.states drivers.new) place).totals ≡ (driver_at (D.states drivers.old) place).totals }
+{
+    let runs = opening_runs(alloc, tree, slots, world, drivers)?;
+    let counts = wanted(alloc, &runs, drivers)?;
+    drivers.prepare(counts.as_slice())?;
+    Ok(runs)
+}
+
+/// Makes the runs of a tree with its slots in a world: so many runners as the world has, before their
+/// first event. The drivers are prepared, each for so many instances as all runners have leaves that it
+/// serves, and none was called. The fault is that of the first leaf in pre-order that has no row, or
+/// whose row has no driver. Where memory is wanting, the first drivers may be prepared.
+pub fn runs_of(
+    alloc: Global,
+    tree: &Tree,
+    slots: &Slots,
+    world: &World,
+    roster: &mut Vec<Box<dyn Driver>>,
+) -> Result<Runs, Stop<JoinFault>>
+    requires tree { IsValid tree.now }
+    requires slots { slots.now ≡ slot_table tree.now }
+    requires world { IsValidWorld world.now }
+    requires quiet { NothingHeld (map (λ b. state b) roster.old.items) }
+    ensures fault { Joins result (first_lack world.now.rows (map (λ b. state b) roster.old.items) (leaf_ids tree.now.term)) }
+    ensures runs { IfOk result (λ runs. AreRuns tree.now world.now (map (λ b. state b) roster.new.items) runs) }
+    ensures opening { IfOk result (λ runs. state_of_runs tree.now.term (map (λ b. state b) roster.new.items) runs ≡ opening tree.now world.now) }
+    ensures prepared { IfOk result (λ runs. map (λ b. state b) roster.new.items ≡ roster_prepared (map (λ b. state b) roster.old.items) (instances_wanted tree.now world.now (map (λ b. state b) roster.old.items))) }
+    ensures calls { IfOk result (λ runs. (calls : List RunnerCall) (now : List DriverState) →
+        roster_over (arenas_of runs) calls now ≡ calls_made world.now.runners (serving_places tree.now world.now (map (λ b. state b) roster.old.items)) calls now) }
+    ensures none { NothingHeld (map (λ b. state b) roster.new.items) }
+    ensures roster { IsSameRoster (map (λ b. state b) roster.old.items) (map (λ b. state b) roster.new.items) }
+    ensures totals { (place : ℕ) → (driver_at (map (λ b. state b) roster.new.items) place).totals ≡ (driver_at (map (λ b. state b) roster.old.items) place).totals }
+{
+    let mut held = Roster {
+        drivers: mem::replace(roster, Vec::new(alloc)),
+    };
+    let made = make_runs(alloc, tree, slots, world, &mut held);
+    *roster = held.drivers;
+    made
+}

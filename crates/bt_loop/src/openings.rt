@@ -1,0 +1,131 @@
+ghost use Rattle.std.specs.Prelude.{◌≡◌, ◌≤◌, IfOk, length};
+ghost use Rattle.bt_model.specs.Boards.{slot_table};
+ghost use Rattle.bt_model.specs.Terms.{leaf_ids};
+ghost use Rattle.bt_model.specs.Trees.{IsValid};
+ghost use Rattle.bt_model.specs.Worlds.{IsValidWorld};
+ghost use Rattle.bt_arena.specs.Joins.{Joins, first_lack};
+ghost use Rattle.bt_loop.specs.Opening.{AreOpening, AreOpeningRuns, IsOpening};
+ghost use Rattle.bt_loop.specs.Runs.{boards_in};
+ghost use Rattle.bt_loop.specs.Telling.{boards_told};
+
+use crate::runs::{ReadyRunner, Runs, Told};
+use bt_arena::{JoinFault, arena_of};
+use bt_board::{Slots, board_of};
+use bt_driver::{Drivers, FactTable, facts_of};
+use bt_model::{Tree, World};
+use bt_script::{NoMemory, Stop, Value};
+use std::alloc::Global;
+
+/// An equal entry of a blackboard.
+fn copy_entry(alloc: Global, entry: &Option<Value>) -> Result<Option<Value>, NoMemory>
+    ensures { IfOk result (λ copied. copied ≡ entry.now) }
+{
+    match entry {
+        Some(value) => Ok(Some(value.copy(alloc)?)),
+        None => Ok(None),
+    }
+}
+
+/// Equal entries, by slot.
+fn copy_entries(alloc: Global, entries: &[Option<Value>]) -> Result<Vec<Option<Value>>, NoMemory>
+    ensures { IfOk result (λ copied. copied.items ≡ entries.now) }
+{
+    let mut copied = Vec::new(alloc);
+    for entry in entries {
+        copied.push(copy_entry(alloc, entry)?)?;
+    }
+    Ok(copied)
+}
+
+/// The entries of each runner's blackboard.
+fn entries_of(alloc: Global, runners: &[ReadyRunner]) -> Result<Vec<Vec<Option<Value>>>, NoMemory>
+    ensures { IfOk result (λ boards. boards_told boards.items ≡ boards_in runners.now) }
+{
+    let mut boards = Vec::new(alloc);
+    for runner in runners {
+        boards.push(copy_entries(alloc, runner.board.list())?)?;
+    }
+    Ok(boards)
+}
+
+/// Before the first block, all facts and entries are told: a block tells what changed.
+fn told_of(alloc: Global, facts: &FactTable, runners: &[ReadyRunner]) -> Result<Told, NoMemory>
+    ensures facts { IfOk result (λ told. told.facts.items ≡ facts.now) }
+    ensures boards { IfOk result (λ told. boards_told told.boards.items ≡ boards_in runners.now) }
+{
+    Ok(Told {
+        facts: facts.list().to_vec(alloc)?,
+        boards: entries_of(alloc, runners)?,
+    })
+}
+
+/// The runner of this number before the first event.
+fn runner_of<D: Drivers>(
+    alloc: Global,
+    tree: &Tree,
+    slots: &Slots,
+    world: &World,
+    drivers: &D,
+    number: u8,
+) -> Result<ReadyRunner, Stop<JoinFault>>
+    requires tree { IsValid tree.now }
+    requires slots { slots.now ≡ slot_table tree.now }
+    requires world { IsValidWorld world.now }
+    requires first { 1 ≤ number }
+    requires last { number ≤ world.now.runners }
+    ensures fault { Joins result (first_lack world.now.rows (D.states drivers.now) (leaf_ids tree.now.term)) }
+    ensures runner { IfOk result (λ runner. IsOpening tree.now world.now (D.states drivers.now) number runner) }
+{
+    let arena = arena_of(alloc, tree, slots, world, drivers, number)?;
+    let board = board_of(alloc, tree, slots)?;
+    Ok(ReadyRunner { arena, board })
+}
+
+/// The runners of a world before the first event.
+fn runners_of<D: Drivers>(
+    alloc: Global,
+    tree: &Tree,
+    slots: &Slots,
+    world: &World,
+    drivers: &D,
+) -> Result<Vec<ReadyRunner>, Stop<JoinFault>>
+    requires tree { IsValid tree.now }
+    requires slots { slots.now ≡ slot_table tree.now }
+    requires world { IsValidWorld world.now }
+    ensures fault { Joins result (first_lack world.now.rows (D.states drivers.now) (leaf_ids tree.now.term)) }
+    ensures many { IfOk result (λ runners. length runners.items ≡ world.now.runners) }
+    ensures runners { IfOk result (λ runners. AreOpening tree.now world.now (D.states drivers.now) runners.items) }
+{
+    let mut runners = Vec::new(alloc);
+    for before in 0..world.runners {
+        let runner = runner_of(alloc, tree, slots, world, drivers, before + 1)?;
+        runners.push(runner)?;
+    }
+    Ok(runners)
+}
+
+/// The runs of a tree in a world before the first event, for drivers that are still to be prepared.
+pub fn opening_runs<D: Drivers>(
+    alloc: Global,
+    tree: &Tree,
+    slots: &Slots,
+    world: &World,
+    drivers: &D,
+) -> Result<Runs, Stop<JoinFault>>
+    requires tree { IsValid tree.now }
+    requires slots { slots.now ≡ slot_table tree.now }
+    requires world { IsValidWorld world.now }
+    ensures fault { Joins result (first_lack world.now.rows (D.states drivers.now) (leaf_ids tree.now.term)) }
+    ensures runs { IfOk result (AreOpeningRuns tree.now world.now (D.states drivers.now)) }
+{
+    let runners = runners_of(alloc, tree, slots, world, drivers)?;
+    let facts = facts_of(alloc, world)?;
+    let told = told_of(alloc, &facts, runners.as_slice())?;
+    Ok(Runs {
+        runners,
+        facts,
+        told,
+        last: 0,
+        usable: true,
+    })
+}
