@@ -58,9 +58,10 @@ loop-next-preserved g c =
           (c.count_event.ensures.counts tree world at.0 (come_next world _ _ _ _ low at.1).0 _ _ so_far.counted);
       are = λ tree world are can.
           let at = c.loop-next.invariant.are tree world are can in
-          let next = come_next world _ _ _ _ low at.1 in
-          (left_done _ _ c.count_event.result c.in_ok-count_event.field-0 c.in_ok-count_event.was c.in_default.is (c.count_event.ensures.leaves tree world at.0 next.0),
-          subst (λ (last : ℕ). CanAllCome world last (drop (c.loop-next.next-index + 1) c.args.events.now)) (sym last) next.1);
+          let next = come_next world _ _ _ _ low at.1 in (
+            left_done _ _ c.count_event.result c.in_ok-count_event.field-0 c.in_ok-count_event.was c.in_default.is (c.count_event.ensures.leaves tree world at.0 next.0),
+            subst (λ (last : ℕ). CanAllCome world last (drop (c.loop-next.next-index + 1) c.args.events.now)) (sym last) next.1,
+          );
       arenas = c.count_event.ensures.arenas ∙ c.loop-next.invariant.arenas;
       room = c.count_event.ensures.room ∙ c.loop-next.invariant.room;
       roster = roster_both _ _ _ c.loop-next.invariant.roster c.count_event.ensures.roster;

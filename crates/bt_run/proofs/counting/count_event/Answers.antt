@@ -1,4 +1,3 @@
-use Rattle.std.proofs.Common.{refl}
 use Rattle.bt_run.proofs.Steps.{last_is}
 use Rattle.bt_run.proofs.Tallies.{event_counts, event_leaves, told_whole}
 use Rattle.bt_run.proofs.counting.count_event.Goals as goal

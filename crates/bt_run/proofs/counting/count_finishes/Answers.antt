@@ -1,4 +1,4 @@
-use Rattle.std.proofs.Common.{◌≡◌, ℕ, ◌<◌, ◌≤◌, ◌+◌, ◌∙◌, Ok, ap, length, map, refl, sym, arith}
+use Rattle.std.proofs.Common.{◌<◌, ◌≤◌, ◌+◌, ◌∙◌, Ok, ap, map, refl, arith}
 use Rattle.bt_loop.specs.Runs.{state_of_runs}
 use Rattle.bt_loop.proofs.Rising.{roster_both, same_roster}
 use Rattle.bt_run.proofs.Rests.{next_rests, none_yet, rest_holds_nothing}
@@ -63,9 +63,10 @@ loop-place-preserved g c =
           (c.count_finish.ensures.counts tree world (c.loop-place.invariant.are tree world are).0 next _ _ so_far.counted);
       are = λ tree world are.
           let next : c.loop-place.place + 1 ≤ world.runners = omega (arith, c.loop-place-test.true, c.len-place-end.ensures, are.fit.many) in
-          let at = c.loop-place.invariant.are tree world are in
-          (left_done _ _ c.count_finish.result c.in_ok-count_finish.field-0 c.in_ok-count_finish.was c.in_default.is (c.count_finish.ensures.leaves tree world at.0 next),
-          next_rests tree c.loop-place.place _ _ c.loop-place.runs c.count_finish.new.runs (c.count_finish.ensures.rests tree world at.0 next done) at.1);
+          let at = c.loop-place.invariant.are tree world are in (
+            left_done _ _ c.count_finish.result c.in_ok-count_finish.field-0 c.in_ok-count_finish.was c.in_default.is (c.count_finish.ensures.leaves tree world at.0 next),
+            next_rests tree c.loop-place.place _ _ c.loop-place.runs c.count_finish.new.runs (c.count_finish.ensures.rests tree world at.0 next done) at.1,
+          );
       arenas = c.count_finish.ensures.arenas ∙ c.loop-place.invariant.arenas;
       room = c.count_finish.ensures.room ∙ c.loop-place.invariant.room;
       roster = roster_both _ _ _ c.loop-place.invariant.roster c.count_finish.ensures.roster;

@@ -1,4 +1,4 @@
-use Rattle.std.proofs.Common.{◌≡◌, ◌+◌, ◌-◌, List, length, map}
+use Rattle.std.proofs.Common.{◌≡◌, ◌+◌, ◌-◌, List, map}
 use Rattle.bt_model.specs.declared.note.Note.{Note}
 use Rattle.bt_model.specs.declared.term.Tree.{Tree}
 use Rattle.bt_model.specs.declared.world.World.{World}

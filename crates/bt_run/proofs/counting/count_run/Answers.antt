@@ -1,4 +1,4 @@
-use Rattle.std.proofs.Common.{[], Ok, ap, ◌∙◌, sym, arith}
+use Rattle.std.proofs.Common.{[]}
 use Rattle.bt_loop.proofs.Rising.{roster_both}
 use Rattle.bt_run.proofs.Tallies.{all_faulted, all_run, counting, left_done, left_faulted, left_stopped}
 use Rattle.bt_run.proofs.counting.count_run.Goals as goal

@@ -1,4 +1,4 @@
-use Rattle.std.proofs.Common.{◌≡◌, ◌++◌, ◌∙◌, List, ◌<◌, ◌≤◌, length, take, ap, arith}
+use Rattle.std.proofs.Common.{◌++◌, ◌∙◌, List, ◌≤◌, length, ap, arith}
 use Rattle.std.proofs.lemmas.List.{take_all}
 use Rattle.bt_model.specs.declared.note.Note.{Note}
 use Rattle.bt_run.specs.Counts.{counts_in}
