@@ -1,4 +1,4 @@
-ghost use Rattle.std.specs.Prelude.{◌≡◌, IfOk};
+ghost use Rattle.std.specs.Prelude.{◌≡◌, ◌++◌, IfOk, OnOk, decimal};
 ghost use Rattle.bt_load.specs.Summaries.{summary_line};
 
 use bt_run::Counts;
@@ -6,11 +6,11 @@ use bt_script::NoMemory;
 use bt_text::{put_bytes, put_number};
 use std::alloc::Global;
 
-/// Puts a word with a blank on each side, and the number behind it.
-fn put_count(out: &mut Vec<u8>, word: &[u8], count: u64) -> Result<(), NoMemory>
-    ensures { OnOk result (out.new.items ≡ out.old.items ++ (word.now ++ decimal count)) }
+/// Puts words and the number behind them.
+fn put_count(out: &mut Vec<u8>, words: &[u8], count: u64) -> Result<(), NoMemory>
+    ensures { OnOk result (out.new.items ≡ out.old.items ++ (words.now ++ decimal count)) }
 {
-    put_bytes(out, word)?;
+    put_bytes(out, words)?;
     put_number(out, count)
 }
 
