@@ -1,5 +1,5 @@
 -- The texts of a load are files that can be read.
-use Rattle.std.proofs.Common.{◌≡◌, ℕ, ◌+◌, ◌*◌, ◌%◌, ◌==◌, ◌<◌, ◌≤◌, ◌^◌, List, ◌++◌, Bool, true, false, if◌then◌else◌, length, arith}
+use Rattle.std.proofs.Common.{ℕ, ◌*◌, ◌%◌, ◌==◌, ◌<◌, ◌≤◌, ◌++◌, Bool, true, false, if◌then◌else◌, length, arith}
 use Rattle.std.specs.Prelude.{codes, decimal}
 use Rattle.std.proofs.lemmas.List.{length-append}
 use Rattle.std.proofs.lemmas.Fmt.{length-decimal-le}
