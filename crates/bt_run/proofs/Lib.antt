@@ -1,4 +1,6 @@
+pub mod Notes
 pub mod Steps
 pub mod Cuts
 pub mod Rests
 pub mod Worlds
+pub mod Tallies

@@ -1,3 +1,5 @@
+pub mod Counted
+pub mod Counts
 pub mod Cuts
 pub mod Going
 pub mod Texts
