@@ -1,3 +1,4 @@
-pub mod Steps
+pub mod Lives
 pub mod Rests
+pub mod Steps
 pub mod Worlds
