@@ -1,6 +1,7 @@
 -- Rounds at the moments of a clock, against the rounds of the definition.
 use Rattle.std.proofs.Common.{◌≡◌, ℕ, zero, suc, ◌+◌, ◌-◌, ◌<◌, ◌≤◌, max, arith, List, [], ◌∷◌, ◌++◌, length, take, drop, replicate, Option, Some, None, IfSome, IsSome, Result, Ok, Err, IfOk, refl, sym, ap, subst, ◌∙◌, append_assoc, append-nil}
 use Rattle.std.specs.Option.{option_map}
+use Rattle.std.specs.Result.{IsErr}
 use Rattle.std.proofs.lemmas.List.{length-append, length-replicate, take-append-drop, take-append-le, take_at}
 use Rattle.bt_model.specs.declared.fault.RunFault.{RunFault}
 use Rattle.bt_model.specs.declared.term.Tree.{Tree}
@@ -186,10 +187,68 @@ are_all rounds old new given has all = record { many = all; given = by old has }
   by None has = tt
   by (Some m) has = has.told ∙ ap (λ (k : ℕ). taken k m) all
 
+-- ---- The next round
+
+module _ (tree : Tree) (world : World) (opened last : ℕ) (given : List ℕ) (arenas : List (List Node)) (names : LineNames) (d0 d1 : List DriverState) (a b : Option (List ℕ)) (s0 s1 : RunState)
+    (so_far : (later : List ℕ) (rest : RunState → Trace) → Going arenas names d0 d1 a b (events_then tree world (live_events world opened (given ++ later)) rest s0) (events_then tree world (live_events world last later) rest s1)) where
+  -- no round is left
+  pub rounds_all : (rest : RunState → Trace) → Going arenas names d0 d1 a b (events_then tree world (live_events world opened given) rest s0) (rest s1)
+  rounds_all rest = subst (λ (ms : List ℕ). Going arenas names d0 d1 a b (events_then tree world (live_events world opened ms) rest s0) (rest s1)) (append-nil given) (so_far [] rest)
+
+  module _ (moment at : ℕ) (is : at ≡ max moment last) (arenas1 : List (List Node)) (same : arenas1 ≡ arenas) where
+    next_is : (later : List ℕ) (rest : RunState → Trace) →
+        events_then tree world (live_events world last (moment ∷ later)) rest s1 ≡ events_then tree world (round_of world.runners at) (events_then tree world (live_events world at later) rest) s1
+    next_is later rest =
+        subst (λ (k : ℕ). events_then tree world (live_events world last (moment ∷ later)) rest s1 ≡ events_then tree world (round_of world.runners k) (events_then tree world (live_events world k later) rest) s1) (sym is)
+        (round_next tree world last moment later rest s1)
+
+    -- a front of it was written
+    pub round_front : (c : Option (List ℕ)) → ((rest : RunState → Trace) → AppendedFront b c (text_of names (events_then tree world (round_of world.runners at) rest s1).blocks)) →
+        (later : List ℕ) (rest : RunState → Trace) → AppendedFront a c (text_of names (events_then tree world (live_events world opened ((given ++ moment ∷ []) ++ later)) rest s0).blocks)
+    round_front c front later rest =
+        subst (λ (ms : List ℕ). AppendedFront a c (text_of names (events_then tree world (live_events world opened ms) rest s0).blocks)) (sym (append_assoc given (moment ∷ []) later))
+        (part_front arenas arenas1 names d0 d1 a b _ _ _ (next_is later rest) same (so_far (moment ∷ later) rest) c (front (events_then tree world (live_events world at later) rest)))
+
+    -- it was made, and more is to come
+    pub round_on : (result : Result Ended TextStop) (ending : Ended) (d2 : List DriverState) (c : Option (List ℕ)) (s2 : RunState) → result ≡ Ok ending → ending ≡ Done →
+        ((rest : RunState → Trace) → Goes result arenas1 names d1 d2 b c (events_then tree world (round_of world.runners at) rest s1) (rest s2)) →
+        (later : List ℕ) (rest : RunState → Trace) → Going arenas names d0 d2 a c (events_then tree world (live_events world opened ((given ++ moment ∷ []) ++ later)) rest s0) (events_then tree world (live_events world at later) rest s2)
+    round_on result ending d2 c s2 ok done goes later rest =
+        subst (λ (ms : List ℕ). Going arenas names d0 d2 a c (events_then tree world (live_events world opened ms) rest s0) (events_then tree world (live_events world at later) rest s2)) (sym (append_assoc given (moment ∷ []) later))
+        (part_on arenas arenas1 names d0 d1 a b _ _ _ (next_is later rest) same (so_far (moment ∷ later) rest) result ending d2 c _ ok done (goes (events_then tree world (live_events world at later) rest)))
+
+    -- it ended the run
+    pub round_last : (result : Result Ended TextStop) (ending : Ended) (d2 : List DriverState) (c : Option (List ℕ)) (s2 : RunState) → result ≡ Ok ending → ending ≡ Faulted →
+        ((rest : RunState → Trace) → Goes result arenas1 names d1 d2 b c (events_then tree world (round_of world.runners at) rest s1) (rest s2)) →
+        RoundsGo (Ok Faulted) tree world opened (given ++ moment ∷ []) arenas names d0 d2 a c s0 s2
+    round_last result ending d2 c s2 ok faulted goes = (
+      λ later rest.
+          subst (λ (ms : List ℕ). IsRun arenas names d0 d2 a c Faulted (events_then tree world (live_events world opened ms) rest s0)) (sym (append_assoc given (moment ∷ []) later))
+          (part_last arenas arenas1 names d0 d1 a b _ _ _ (next_is later rest) same (so_far (moment ∷ later) rest) result ending d2 c _ ok faulted (goes (events_then tree world (live_events world at later) rest))),
+      (let longer : length (given ++ moment ∷ []) ≡ length given + 1 = length-append given (moment ∷ []) in
+      let many : length given ≡ length (given ++ moment ∷ []) - 1 = omega (arith, longer) in
+      subst (λ (ms : List ℕ). fault_in tree world opened ms s0 ≡ None) (sym (take_at given (moment ∷ []) (length (given ++ moment ∷ []) - 1) many)) (sym (rounds_all nothing_more).fault)),
+    )
+
+-- one moment more
+pub one_more : (given : List ℕ) (moment : ℕ) → length (given ++ moment ∷ []) ≡ length given + 1
+one_more given moment = length-append given (moment ∷ [])
+
+-- where an answer says that no block was written, it says nothing else
+pub not_done : (result : Result Ended TextStop) {P : Type 0} → IsErr result → result ≡ Ok Done → P
+not_done (Err stopped) err done = cc
+not_done (Ok ending) err done = cc
+
+pub stopped_go : (result : Result Ended TextStop) → IsErr result → (tree : Tree) (world : World) (last : ℕ) (given : List ℕ) (arenas : List (List Node)) (names : LineNames) (before after : List DriverState) (old new : Option (List ℕ)) (s now : RunState) →
+    ((later : List ℕ) (rest : RunState → Trace) → AppendedFront old new (text_of names (events_then tree world (live_events world last (given ++ later)) rest s).blocks)) →
+    RoundsGo result tree world last given arenas names before after old new s now
+stopped_go (Err stopped) err tree world last given arenas names before after old new s now front = front
+stopped_go (Ok ending) err tree world last given arenas names before after old new s now front = cc
+
 -- ---- All rounds
 
 is_fault : (o : Option RunFault) → Faulted ≡ ended o → IsSome o
-is_fault (Some fault) is = tt
+is_fault (Some fault) is = refl
 is_fault None is = cc
 
 module _ (tree : Tree) (world : World) (last : ℕ) (given : List ℕ) (arenas : List (List Node)) (names : LineNames) (d0 d1 : List DriverState) (a b : Option (List ℕ)) (s now : RunState) where
