@@ -1,5 +1,5 @@
 -- Rounds at the moments of a clock, against the rounds of the definition.
-use Rattle.std.proofs.Common.{◌≡◌, ℕ, zero, suc, ◌+◌, ◌-◌, ◌<◌, ◌≤◌, max, arith, List, [], ◌∷◌, ◌++◌, length, take, drop, replicate, Option, Some, None, IfSome, IsSome, Result, Ok, Err, IfOk, refl, sym, ap, subst, ◌∙◌, append_assoc, append-nil}
+use Rattle.std.proofs.Common.{◌≡◌, ℕ, zero, suc, ◌+◌, ◌-◌, ◌<◌, ◌≤◌, max, arith, List, [], ◌∷◌, ◌++◌, length, take, drop, replicate, Option, Some, None, IfSome, IsSome, Result, Ok, Err, IfOk, OnOk, refl, sym, ap, subst, ◌∙◌, append_assoc, append-nil}
 use Rattle.std.specs.Option.{option_map}
 use Rattle.std.specs.Result.{IsErr}
 use Rattle.std.proofs.lemmas.List.{length-append, length-replicate, take-append-drop, take-append-le, take_at}
@@ -305,3 +305,36 @@ module _ (tree : Tree) (world : World) (last : ℕ) (given : List ℕ) (arenas :
   }
   begun_all (Ok Faulted) ending ok done p = cc
   begun_all (Err stopped) ending ok done p = cc
+
+-- ---- Answers
+
+pub if_err : (result : Result Ended TextStop) (P : Ended → Type 0) → IsErr result → IfOk result P
+if_err (Err stopped) P err = tt
+if_err (Ok ending) P err = cc
+
+on_any : (ends : Result Ended TextStop) {P : Type 0} → P → OnOk ends P
+on_any (Ok ending) p = p
+on_any (Err stopped) p = tt
+
+on_err : (ends : Result Ended TextStop) (P : Type 0) → IsErr ends → OnOk ends P
+on_err (Err stopped) P err = tt
+on_err (Ok ending) P err = cc
+
+pub none_begun : (ends : Result Ended TextStop) → IsErr ends → (old : Option Moments) (P : Moments → Type 0) → IfSome old (λ m. OnOk ends (P m))
+none_begun ends err None P = tt
+none_begun ends err (Some m) P = on_err ends (P m) err
+
+module _ (tree : Tree) (world : World) (last : ℕ) (given : List ℕ) (arenas : List (List Node)) (names : LineNames) (d0 d1 : List DriverState) (a b : Option (List ℕ)) (s now : RunState) (rounds : ℕ) (new : Option Moments)
+    (result : Result Ended TextStop) (ending : Ended) (ok : result ≡ Ok ending) (go : RoundsGo result tree world last given arenas names d0 d1 a b s now) where
+  pub last_begun : ending ≡ Faulted → length given ≤ rounds → (old : Option Moments) → HasGiven old new given → IfSome old (λ m. AreBegun tree world last (taken rounds m) s (length given))
+  last_begun faulted within None has = tt
+  last_begun faulted within (Some m) has =
+      subst (λ (ms : List ℕ). AreBegun tree world last ms s (length given)) (are_moments rounds (Some m) new given has within).given
+      (begun_last tree world last given arenas names d0 d1 a b s now result ending ok faulted go (to_come (rounds - length given) new))
+
+  pub all_begun : ending ≡ Done → length given ≡ rounds → (ends : Result Ended TextStop) → (old : Option Moments) → HasGiven old new given → IfSome old (λ m. OnOk ends (AreBegun tree world last (taken rounds m) s (length given)))
+  all_begun done all ends None has = tt
+  all_begun done all ends (Some m) has =
+      on_any ends
+      (subst (λ (ms : List ℕ). AreBegun tree world last ms s (length given)) (are_all rounds (Some m) new given has all).given
+      (begun_all tree world last given arenas names d0 d1 a b s now result ending ok done go))
