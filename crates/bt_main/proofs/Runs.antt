@@ -69,37 +69,37 @@ module _ (tree : Tree) (world : World) (drivers made after : List DriverState) (
     (calls : (calls : List RunnerCall) (now : List DriverState) → roster_over arenas calls now ≡ calls_made world.runners (serving_places tree world drivers) calls now)
     (a b : Option (List ℕ)) (fell rose : ℕ)
   where
-  abbrev trace : Trace
-  trace = run_from tree world events s
+    abbrev trace : Trace
+    trace = run_from tree world events s
 
-  -- the run of the state in which they began is the run of the world
-  trace_is : trace ≡ run tree world
-  trace_is = ap (λ (es : List Event). run_from tree world es s) listed ∙ ap (λ (z : RunState). run_from tree world world.events z) opened
+    -- the run of the state in which they began is the run of the world
+    trace_is : trace ≡ run tree world
+    trace_is = ap (λ (es : List Event). run_from tree world es s) listed ∙ ap (λ (z : RunState). run_from tree world world.events z) opened
 
-  text_is : text_of names trace.blocks ≡ (run_output tree world drivers).bytes
-  text_is = ap (λ (n : LineNames). text_of n trace.blocks) named ∙ ap (λ (t : Trace). text_of (line_names tree world) t.blocks) trace_is
+    text_is : text_of names trace.blocks ≡ (run_output tree world drivers).bytes
+    text_is = ap (λ (n : LineNames). text_of n trace.blocks) named ∙ ap (λ (t : Trace). text_of (line_names tree world) t.blocks) trace_is
 
-  drivers_are : after ≡ roster_over arenas trace.calls made → after ≡ roster_after_run tree world drivers (run tree world).calls
-  drivers_are e =
-      e
-      ∙ calls trace.calls made
-      ∙ ap (λ (t : Trace). calls_made world.runners (serving_places tree world drivers) t.calls made) trace_is
-      ∙ ap (λ (ds : List DriverState). calls_made world.runners (serving_places tree world drivers) (run tree world).calls ds) prepared
+    drivers_are : after ≡ roster_over arenas trace.calls made → after ≡ roster_after_run tree world drivers (run tree world).calls
+    drivers_are e =
+        e
+        ∙ calls trace.calls made
+        ∙ ap (λ (t : Trace). calls_made world.runners (serving_places tree world drivers) t.calls made) trace_is
+        ∙ ap (λ (ds : List DriverState). calls_made world.runners (serving_places tree world drivers) (run tree world).calls ds) prepared
 
-  whole_run : (ending : Ended) → IsRun arenas names made after a b ending trace → IsWhole (run_output tree world drivers) (exit_of (Ok ending)) (side a fell drivers) (side b rose after)
-  whole_run ending is = (
-    ap (λ (t : Trace). run_exit t.fault) (sym trace_is) ∙ ended_exit trace.fault ending is.ends,
-    subst (Appended a b) text_is is.written,
-    drivers_are is.drivers,
-  )
+    whole_run : (ending : Ended) → IsRun arenas names made after a b ending trace → IsWhole (run_output tree world drivers) (exit_of (Ok ending)) (side a fell drivers) (side b rose after)
+    whole_run ending is = (
+      ap (λ (t : Trace). run_exit t.fault) (sym trace_is) ∙ ended_exit trace.fault ending is.ends,
+      subst (Appended a b) text_is is.written,
+      drivers_are is.drivers,
+    )
 
-  gave_ending : (ending : Ended) → IsRun arenas names made after a b ending trace → Gave (run_output tree world drivers) (exit_of (Ok ending)) (side a fell drivers) (side b rose after)
-  gave_ending Done is = whole_run Done is
-  gave_ending Faulted is = whole_run Faulted is
+    gave_ending : (ending : Ended) → IsRun arenas names made after a b ending trace → Gave (run_output tree world drivers) (exit_of (Ok ending)) (side a fell drivers) (side b rose after)
+    gave_ending Done is = whole_run Done is
+    gave_ending Faulted is = whole_run Faulted is
 
-  -- however a run has ended, its output was given
-  pub run_gave : (result : Result Ended TextStop) → IfOk result (λ ending. IsRun arenas names made after a b ending trace) → AppendedFront a b (text_of names trace.blocks) → (IsErrOf result stop.WriteFault → Rose fell rose) →
-      Gave (run_output tree world drivers) (exit_of result) (side a fell drivers) (side b rose after)
-  run_gave (Ok ending) whole front failed = gave_ending ending whole
-  run_gave (Err stop.WriteFault) whole front failed = (failed refl, subst (AppendedFront a b) text_is front)
-  run_gave (Err stop.NoMemory) whole front failed = subst (AppendedFront a b) text_is front
+    -- however a run has ended, its output was given
+    pub run_gave : (result : Result Ended TextStop) → IfOk result (λ ending. IsRun arenas names made after a b ending trace) → AppendedFront a b (text_of names trace.blocks) → (IsErrOf result stop.WriteFault → Rose fell rose) →
+        Gave (run_output tree world drivers) (exit_of result) (side a fell drivers) (side b rose after)
+    run_gave (Ok ending) whole front failed = gave_ending ending whole
+    run_gave (Err stop.WriteFault) whole front failed = (failed refl, subst (AppendedFront a b) text_is front)
+    run_gave (Err stop.NoMemory) whole front failed = subst (AppendedFront a b) text_is front
