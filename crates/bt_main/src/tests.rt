@@ -7,7 +7,7 @@ use crate::roster::add_driver;
 use crate::words::word_of;
 use bt_driver::Driver;
 use bt_leaves::{Conditions, Gate, Replay, Timed};
-use bt_outside::{MemShelf, MemSink};
+use bt_outside::{MemClock, MemShelf, MemSink};
 use bt_script::NoMemory;
 use std::alloc::{AllocError, Global};
 use std::test::Fail;
@@ -56,7 +56,8 @@ fn answer_words(
     add_driver(&mut roster, Box::new(alloc, Timed::new(alloc))?)?;
     add_driver(&mut roster, Box::new(alloc, Replay::new(alloc))?)?;
     add_driver(&mut roster, Box::new(alloc, Gate::new(alloc))?)?;
-    Ok(bt(alloc, names.as_slice(), shelf, sink, &mut roster))
+    let mut clock = MemClock::new(Vec::new(alloc));
+    Ok(bt(alloc, names.as_slice(), shelf, sink, &mut clock, &mut roster))
 }
 
 /// What words give over files of which these reads fail.
