@@ -18,8 +18,8 @@ returns-in-Err-Fault-clause-answers g c = record {
   moments = some_moments (g.C.Clock.moments c.args.clock.now);
   told = some_told (g.C.Clock.moments c.args.clock.now);
   holds = run_answers (option_copied c.args.main) c.args.tree.now c.args.world.now _ (Err c.in-Err-Fault.fault) _ _ _ c.requires.tree c.requires.world (rw c.in-Err-Fault.field-0-is at c.in-Err-Fault.ensures.reads)
-      (inl (tree_refused c.in-Err-Fault.fault, refl, c.refuse_tree.ensures.gave (g.C.Clock.moments c.args.clock.now) _ _ (λ place. refl)));
+      (inl (tree_refused c.in-Err-Fault.fault, refl, (rw c.in-Err-Fault.field-0-is at c.refuse_tree.ensures.gave) (g.C.Clock.moments c.args.clock.now) _ _ (λ place. refl)));
 }
 
-pub returns-clause-answers : goal.returns-clause-answers
-returns-clause-answers g c = record { moments = some_moments (g.C.Clock.moments c.args.clock.now); told = some_told (g.C.Clock.moments c.args.clock.now); holds = inr (refl, refl) }
+pub returns-in-Err-NoMemory-clause-answers : goal.returns-in-Err-NoMemory-clause-answers
+returns-in-Err-NoMemory-clause-answers g c = record { moments = some_moments (g.C.Clock.moments c.args.clock.now); told = some_told (g.C.Clock.moments c.args.clock.now); holds = inr (refl, refl) }
