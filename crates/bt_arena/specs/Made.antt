@@ -1,10 +1,10 @@
 -- What an arena is that was made for a runner.
-use Rattle.std.specs.Prelude.{◌≡◌, ℕ, ◌+◌, ◌<◌, List, length, replicate}
+use Rattle.std.specs.Prelude.{◌≡◌, ℕ, ◌+◌, ◌<◌, ◌≤◌, List, length, replicate}
 use Rattle.bt_model.specs.declared.term.Tree.{Tree}
 use Rattle.bt_model.specs.declared.world.World.{World}
 use Rattle.bt_model.specs.Drivers.{DriverState}
 use Rattle.bt_model.specs.Run.{root_view}
-use Rattle.bt_model.specs.Terms.{leaf_ids, node_count}
+use Rattle.bt_model.specs.Terms.{depth_of, leaf_ids, node_count}
 use Rattle.bt_arena.specs.declared.arena.Arena.{Arena}
 use Rattle.bt_arena.specs.Joins.{leaves_served}
 use Rattle.bt_arena.specs.Nodes.{at_rest}
@@ -12,7 +12,8 @@ use Rattle.bt_arena.specs.Rosters.{AreNumbered, served}
 use Rattle.bt_arena.specs.Stands.{Stands}
 
 -- The tree stands there in the view of its root, with nothing beside it but place 0; all is at rest; its leaves have
--- their drivers and their instances; and each driver serves so many of them as the tree has leaves for it.
+-- their drivers and their instances; each driver serves so many of them as the tree has leaves for it; and there is room
+-- for the visits that can be under way at once, one below the other.
 pub record IsArenaOf (tree : Tree) (world : World) (drivers : List DriverState) (number : ℕ) (arena : Arena) : Type 0 where
   pub runner : arena.runner ≡ number
   pub stands : Stands tree.term arena.nodes.items (root_view tree world) 1
@@ -20,3 +21,4 @@ pub record IsArenaOf (tree : Tree) (world : World) (drivers : List DriverState) 
   pub kept : arena.kept.items ≡ replicate (1 + node_count tree.term) at_rest
   pub numbered : AreNumbered drivers number arena.nodes.items
   pub serves : (place : ℕ) → place < length drivers → served place arena.nodes.items ≡ leaves_served world.rows drivers place (leaf_ids tree.term)
+  pub room : depth_of tree.term ≤ arena.frames.capacity

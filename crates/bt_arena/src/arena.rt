@@ -2,8 +2,10 @@ ghost use Rattle.std.specs.Prelude.{◌≡◌, ◌<◌, ◌^◌, length, slice_s
 ghost use Rattle.bt_arena.specs.Nodes.{kept_at, node_at};
 ghost use Rattle.bt_arena.specs.Rosters.{has_driver, is_served_at, leaves_in, served};
 
+use crate::frame::Frame;
 use crate::nodes::{Kept, Node};
 use bt_model::{Memo, Status};
+use smallvec::SmallVec;
 
 /// The nodes of a runner's tree by uid, in pre-order, and what each keeps. Place 0 is no node's.
 #[derive(Debug, Drop)]
@@ -12,6 +14,8 @@ pub struct Arena {
     /// What never changes.
     pub nodes: Vec<Node>,
     pub kept: Vec<Kept>,
+    /// The visits of a tick that wait for a child, the topmost last.
+    pub frames: SmallVec<Frame, 32>,
 }
 
 /// The status of the node with this uid. It takes no memory.

@@ -14,6 +14,7 @@ ghost use Rattle.bt_arena.specs.Made.{IsArenaOf};
 ghost use Rattle.bt_arena.specs.Rows.{Finds};
 
 use crate::arena::Arena;
+use crate::frame::frames_for;
 use crate::join_fault::JoinFault;
 use crate::laying::nodes_of;
 use crate::leaves::next_instance;
@@ -163,15 +164,17 @@ fn arena_with<D: Drivers>(
     let mut next = firsts_of(alloc, counts, runner)?;
     let nodes = nodes_of(alloc, setting, drivers, &mut next)?;
     let kept = at_rest(alloc, nodes.len())?;
+    let frames = frames_for(alloc, &setting.tree.term)?;
     Ok(Arena {
         runner,
         nodes,
         kept,
+        frames,
     })
 }
 
 /// Makes the arena of a runner of a world for a tree with its slots: each node stands with what its
-/// visits need, and keeps nothing yet. A leaf has the first driver of its row's kind; its instance is
+/// visits need, and keeps nothing yet, and there is room for the visits that can be under way at once. A leaf has the first driver of its row's kind; its instance is
 /// numbered by runner, then by uid, among the leaves that this driver serves. The fault is that of the
 /// first leaf in pre-order that has no row, or whose row has no driver.
 pub fn arena_of<D: Drivers>(

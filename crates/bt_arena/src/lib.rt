@@ -4,6 +4,7 @@
 
 mod arena;
 mod block;
+mod frame;
 mod join_fault;
 mod joining;
 pub mod laws;
@@ -20,6 +21,7 @@ pub use arena::{
     Arena, keep, kept_by, leaf_count, leaves_at, memo, node, set_held, set_memo, set_status, status,
 };
 pub use block::{Block, block_for};
+pub use frame::Frame;
 pub use join_fault::JoinFault;
 pub use joining::arena_of;
 pub use nodes::{Kept, Node, ReadyGuards, ReadyLeaf};

@@ -266,3 +266,57 @@ pub fn halt_at(roster: &mut Vec<Box<dyn Driver>>, place: usize, instance: u32)
 {
     halt_one(&mut roster[place], instance)
 }
+
+impl Drivers for Vec<Box<dyn Driver>> {
+    ghost states = { λ roster. map (λ b. (Driver-box b).state b.value) roster.items };
+
+    fn count(&self) -> usize {
+        self.len()
+    }
+
+    fn place_of(&self, kind: DriverKind) -> Option<usize> {
+        find_kind(self, kind)
+    }
+
+    fn totals(&self, place: usize) -> Totals {
+        totals_of(&self[place])
+    }
+
+    fn holds_nothing(&self) -> bool {
+        hold_nothing(self)
+    }
+
+    fn prepare(&mut self, counts: &[u32]) -> Result<(), NoMemory> {
+        prepare_all(self, counts)
+    }
+
+    fn start(
+        &mut self,
+        place: usize,
+        instance: u32,
+        row: &ReadyRow,
+        inputs: &Inputs,
+        facts: &mut FactTable,
+        outs: &mut Outs,
+        now: u64,
+    ) -> Reply {
+        start_at(self, place, instance, row, inputs, facts, outs, now)
+    }
+
+    fn running(
+        &mut self,
+        place: usize,
+        instance: u32,
+        row: &ReadyRow,
+        inputs: &Inputs,
+        facts: &mut FactTable,
+        outs: &mut Outs,
+        now: u64,
+    ) -> Reply {
+        run_at(self, place, instance, row, inputs, facts, outs, now)
+    }
+
+    fn halted(&mut self, place: usize, instance: u32) {
+        halt_at(self, place, instance)
+    }
+}

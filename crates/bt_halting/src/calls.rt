@@ -47,6 +47,7 @@ pub fn halt<D: Drivers>(
     ensures beside { Beside uid (node_at arena.old.nodes.items uid).size arena.old.kept.items arena.new.kept.items }
     ensures nodes { arena.new.nodes.items ≡ arena.old.nodes.items }
     ensures runner { arena.new.runner ≡ arena.old.runner }
+    ensures frames { arena.new.frames ≡ arena.old.frames }
     ensures reserve { notes.old.reserve ≤ notes.new.reserve }
     ensures full { notes.new.full ≡ notes.old.full }
 {
@@ -81,6 +82,7 @@ pub fn reset<D: Drivers>(
     ensures beside { Beside uid (node_at arena.old.nodes.items uid).size arena.old.kept.items arena.new.kept.items }
     ensures nodes { arena.new.nodes.items ≡ arena.old.nodes.items }
     ensures runner { arena.new.runner ≡ arena.old.runner }
+    ensures frames { arena.new.frames ≡ arena.old.frames }
     ensures reserve { notes.old.reserve ≤ notes.new.reserve }
     ensures full { notes.new.full ≡ notes.old.full }
 {
@@ -108,6 +110,7 @@ pub fn quench<D: Drivers>(arena: &mut Arena, drivers: &mut D, notes: &mut Notes)
     ensures fits { (board : List (Option Value)) (facts : List ℤ) → StaysFit arena.old.nodes.items (scene arena.old.kept.items board facts (D.states drivers.old)) (scene arena.new.kept.items board facts (D.states drivers.new)) }
     ensures nodes { arena.new.nodes.items ≡ arena.old.nodes.items }
     ensures same_runner { arena.new.runner ≡ arena.old.runner }
+    ensures frames { arena.new.frames ≡ arena.old.frames }
     ensures reserve { notes.new.reserve + length (letting_go 0 (instances_of arena.old.nodes.items (D.states drivers.old))) ≡ notes.old.reserve }
     ensures full { notes.new.full ≡ notes.old.full }
 {

@@ -34,9 +34,14 @@ fn run(rt: &(impl Files + Print + Clock + AllocGlobal), words: &[Name]) -> Resul
     add_driver(&mut roster, Box::new(alloc, Replay::new(alloc))?)?;
     add_driver(&mut roster, Box::new(alloc, Gate::new(alloc))?)?;
     let mut shelf = DirShelf::new(rt);
-    let mut out = OutSink::new(io::writer(rt));
+    let mut out = OutSink::new(alloc, io::writer(rt))?;
     let mut clock = HostClock::new(rt);
-    Ok(bt(alloc, words, &mut shelf, &mut out, &mut clock, &mut roster))
+    let exit = bt(alloc, words, &mut shelf, &mut out, &mut clock, &mut roster);
+    // A write that fails only when all is handed on is a write that failed.
+    match out.flush() {
+        Ok(()) => Ok(exit),
+        Err(_) => Ok(Exit::Write),
+    }
 }
 
 /// Answers the words of the command line and ends with the exit's status. A word that is no UTF-8

@@ -1,13 +1,22 @@
 //! Whole programs over objects in memory: rows of words, files and what comes out, which is the
 //! output with the exit behind it.
 
-use crate::answer::bt;
+mod calls;
+mod controls;
+mod decorators;
+mod failing;
+mod halts;
+mod runners;
+mod scripts;
+mod stage;
+
+use self::stage::answer_with;
 use crate::exit::Exit;
 use crate::roster::add_driver;
 use crate::words::word_of;
 use bt_driver::Driver;
 use bt_leaves::{Conditions, Gate, Replay, Timed};
-use bt_outside::{MemClock, MemShelf, MemSink};
+use bt_outside::{MemShelf, MemSink};
 use bt_script::NoMemory;
 use std::alloc::{AllocError, Global};
 use std::test::Fail;
@@ -40,24 +49,19 @@ fn shelf_of(alloc: Global, tree: &[u8], world: &[u8], fails: &[u64]) -> Result<M
     Ok(MemShelf::new(files, Vec::from_slice(alloc, fails)?))
 }
 
-/// Answers these words.
+/// Answers these words with the four drivers of the modelled world.
 fn answer_words(
     alloc: Global,
     words: &[&str],
     shelf: &mut MemShelf,
     sink: &mut MemSink,
 ) -> Result<Exit, NoMemory> {
-    let mut names = Vec::new(alloc);
-    for word in words {
-        names.push(word_of(alloc, word)?)?;
-    }
     let mut roster: Vec<Box<dyn Driver>> = Vec::new(alloc);
     add_driver(&mut roster, Box::new(alloc, Conditions::new(alloc))?)?;
     add_driver(&mut roster, Box::new(alloc, Timed::new(alloc))?)?;
     add_driver(&mut roster, Box::new(alloc, Replay::new(alloc))?)?;
     add_driver(&mut roster, Box::new(alloc, Gate::new(alloc))?)?;
-    let mut clock = MemClock::new(Vec::new(alloc));
-    Ok(bt(alloc, names.as_slice(), shelf, sink, &mut clock, &mut roster))
+    answer_with(alloc, words, shelf, sink, &mut roster)
 }
 
 /// What words give over files of which these reads fail.
@@ -419,62 +423,6 @@ fn a_read_that_fails_has_its_line(rt: HostRuntime) -> Result<(), Fail> {
     ] {
         let text = answered(rt.alloc(), &TICK, TWO_CHECKS, &[lines], &[call])?;
         assert_eq!(rt; text.as_str(), want, "{call}");
-    }
-    Ok(())
-}
-
-/// Whether the front is that of the whole up to its line of this number, and some bytes of it.
-fn is_cut(front: &[u8], whole: &[u8], line: u8, taken: u8) -> bool {
-    let lines = front.iter().filter(|b| **b == b'\n').count();
-    let rest = front.iter().rev().take_while(|b| **b != b'\n').count();
-    whole.starts_with(front) && lines + 1 == usize::from(line) && rest == usize::from(taken)
-}
-
-/// Whether a sink whose write of this line fails after some bytes is left with that front of the trace.
-fn fails_at(
-    alloc: Global,
-    lines: &str,
-    trace: &str,
-    line: u8,
-    taken: u8,
-) -> Result<bool, NoMemory> {
-    let tree = tree_of(alloc, TWO_CHECKS)?;
-    let world = world_of(alloc, &[lines])?;
-    let mut shelf = shelf_of(alloc, tree.as_bytes(), world.as_bytes(), &[])?;
-    let fails = vec![in alloc; (u64::from(line), u64::from(taken))]?;
-    let mut sink = MemSink::new(alloc, fails);
-    let exit = answer_words(alloc, &TICK, &mut shelf, &mut sink)?;
-    Ok(exit == Exit::Write && is_cut(sink.list(), trace.as_bytes(), line, taken))
-}
-
-/// The first line up to the last that leaves something else, if there is one.
-fn first_wrong(
-    alloc: Global,
-    lines: &str,
-    trace: &[&str],
-    last: u8,
-    taken: u8,
-) -> Result<Option<u8>, NoMemory> {
-    let whole = joined(alloc, trace)?;
-    for line in 1..=last {
-        if !fails_at(alloc, lines, whole.as_str(), line, taken)? {
-            return Ok(Some(line));
-        }
-    }
-    Ok(None)
-}
-
-#[test]
-fn a_write_that_fails_leaves_a_front(rt: HostRuntime) -> Result<(), Fail> {
-    let table: [(&str, &[&str], u8, u8); 4] = [
-        (TWO_CONDITIONS, &[TWO_CHECKS_TRACE], 12, 0),
-        (TWO_CONDITIONS, &[TWO_CHECKS_TRACE], 12, 3),
-        (CHECK_THEN_ACT, &[HELD_TRACE, HALTED_TRACE], 15, 0),
-        (CHECK_THEN_ACT, &[HELD_TRACE, HALTED_TRACE], 15, 3),
-    ];
-    for (lines, trace, last, taken) in table {
-        let wrong = first_wrong(rt.alloc(), lines, trace, last, taken)?;
-        assert_eq!(rt; wrong, None, "{taken} of {lines}");
     }
     Ok(())
 }

@@ -1,45 +1,79 @@
-ghost use Rattle.std.specs.Prelude.{◌≡◌, ◌≤◌, OnOk, IsErrOf};
+ghost use Rattle.std.specs.Prelude.{◌≡◌, ◌≤◌, [], IfOk, OnOk, IsErrOf};
+ghost use Rattle.std.specs.Io.KnownBytes.{Keeps};
 ghost use Rattle.bt_outside.specs.Appending.{Appended, AppendedFront};
 ghost use Rattle.bt_outside.specs.Counts.{Rose, next};
+ghost use Rattle.bt_outside.specs.OutSink.{written_so_far};
 
 use crate::sink::{Sink, SinkFault};
-use std::io::Write;
+use bt_script::NoMemory;
+use std::alloc::Global;
+use std::io::{BufWriter, Write};
 use std::marker::Model;
 
-/// A sink over a writer of the host: `io::writer(&rt)` is its standard output, which is written
-/// unbuffered and tells nothing of what it wrote. A writer that tells its bytes makes a sink that does.
+/// A sink over a writer of the host, which gathers pieces and hands them on when its room is full:
+/// `io::writer(&rt)` is the standard output of the host, which tells nothing of what it wrote. A writer
+/// that tells its bytes makes a sink that does. What a failure leaves unwritten stays gathered, so that
+/// no byte is written twice or passed over. Who is done calls `flush`, which says whether all was
+/// written; a sink that is dropped tries it and tells nobody.
 #[derive(Drop)]
 pub struct OutSink<W: Write + Drop> {
-    writer: W,
+    writer: BufWriter<W>,
     faults: u64,
 }
 
 impl<W: Write + Drop> Model for OutSink<W> {
+    ghost use Rattle.std.specs.Io.Buffered.{writer_buffer, writer_inner};
     ghost use Rattle.bt_outside.specs.OutSink.{OutState};
 
     ghost Value = { OutState };
 
-    ghost view = { λ s. record { written = W.contents s.writer; faults = s.faults } };
+    ghost view = { λ s. record { told = W.contents (writer_inner s.writer); gathered = writer_buffer s.writer; faults = s.faults } };
 }
 
+// The most bytes that are gathered.
+const ROOM: usize = 65_536;
+
 impl<W: Write + Drop> OutSink<W> {
-    /// A sink over this writer. It takes no memory.
-    pub fn new(writer: W) -> OutSink<W>
-        ensures { result ≡ record { written = W.contents writer; faults = 0 } }
+    /// A sink over this writer. Refused, the writer is dropped.
+    pub fn new(alloc: Global, writer: W) -> Result<OutSink<W>, NoMemory>
+        ensures { IfOk result (λ sink. sink ≡ record { told = W.contents writer; gathered = []; faults = 0 }) }
     {
-        OutSink { writer, faults: 0 }
+        match BufWriter::with_capacity(alloc, ROOM, writer) {
+            Ok(writer) => Ok(OutSink { writer, faults: 0 }),
+            Err(_) => Err(NoMemory),
+        }
+    }
+
+    /// Hands what is gathered to the writer. `SinkFault::Failed` comes only where the writer fails, and
+    /// raises the count of failures; what was not written stays gathered. It takes no memory.
+    pub fn flush(&mut self) -> Result<(), SinkFault>
+        ensures whole { OnOk result (self.new.gathered ≡ []) }
+        ensures kept { Keeps (written_so_far self.old) (written_so_far self.new) }
+        ensures raised { IsErrOf result SinkFault.Failed → self.new.faults ≡ next self.old.faults }
+        ensures calm { OnOk result (self.new.faults ≡ self.old.faults) }
+        ensures no_memory { ¬ IsErrOf result SinkFault.NoMemory }
+    {
+        match self.writer.flush() {
+            Ok(()) => Ok(()),
+            Err(_) => {
+                self.faults = self.faults.saturating_add(1);
+                Err(SinkFault::Failed)
+            }
+        }
     }
 }
 
 impl<W: Write + Drop> Sink for OutSink<W> {
-    ghost written = { λ s. s.written };
+    ghost use Rattle.bt_outside.specs.OutSink.{written_so_far as written_by};
+
+    ghost written = { written_by };
 
     ghost faults = { λ s. s.faults };
 
     // In turns that each take at least one byte: a turn that takes none is a failure.
     fn write(&mut self, piece: &[u8]) -> Result<(), SinkFault>
-        ensures whole { OnOk result (Appended self.old.written self.new.written piece.now) }
-        ensures front { AppendedFront self.old.written self.new.written piece.now }
+        ensures whole { OnOk result (Appended (written_so_far self.old) (written_so_far self.new) piece.now) }
+        ensures front { AppendedFront (written_so_far self.old) (written_so_far self.new) piece.now }
         ensures failed { IsErrOf result SinkFault.Failed → Rose self.old.faults self.new.faults }
         ensures count { self.old.faults ≤ self.new.faults }
 

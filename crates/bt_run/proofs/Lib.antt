@@ -1,3 +1,4 @@
 pub mod Steps
+pub mod Cuts
 pub mod Rests
 pub mod Worlds

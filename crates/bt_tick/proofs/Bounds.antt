@@ -16,7 +16,7 @@ use Rattle.bt_arena.specs.Nodes.{node_at}
 use Rattle.bt_arena.specs.Scenes.{Fits, Scene}
 use Rattle.bt_arena.specs.Stands.{uid_of}
 use Rattle.bt_arena.proofs.Opened.{size_out}
-use Rattle.bt_tick.specs.declared.machine.Frame.{Frame}
+use Rattle.bt_arena.specs.declared.frame.Frame.{Frame}
 use Rattle.bt_tick.specs.declared.machine.Step.{Step}
 use Rattle.bt_tick.specs.declared.machine.Turn.{Turn}
 use Rattle.bt_tick.specs.declared.machine.Turn.TheVariants as turn

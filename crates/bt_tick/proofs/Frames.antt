@@ -21,7 +21,7 @@ use Rattle.bt_arena.proofs.Framed.{memory_set}
 use Rattle.bt_arena.proofs.Opened.{memory_out, size_out}
 use Rattle.bt_arena.specs.Ends.{Meets, StaysFit}
 use Rattle.bt_arena.proofs.Follows.{stopped}
-use Rattle.bt_tick.specs.declared.machine.Frame.{Frame}
+use Rattle.bt_arena.specs.declared.frame.Frame.{Frame}
 use Rattle.bt_tick.specs.Turns.{AllLeave, Comes, StackIs, Waiting, WaitsFor, child_of_waiting, children_in, goes_behind, kind_of, number, resume, ruled_by}
 use Rattle.bt_tick.proofs.Children.{beside_both, child_inside}
 use Rattle.bt_tick.proofs.Passing.{follow_behind}

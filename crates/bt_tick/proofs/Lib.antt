@@ -1,5 +1,6 @@
 pub mod Bounds
 pub mod Children
+pub mod Depths
 pub mod Entering
 pub mod Frames
 pub mod Held

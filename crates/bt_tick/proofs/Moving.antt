@@ -43,7 +43,7 @@ use Rattle.bt_laws.proofs.Children.{Keeps, SoundAll}
 use Rattle.bt_laws.proofs.Resting.{Rested, span_leaves}
 use Rattle.bt_model.specs.Sound.{Sound}
 use Rattle.bt_nodes.proofs.Following.{stops_with}
-use Rattle.bt_tick.specs.declared.machine.Frame.{Frame}
+use Rattle.bt_arena.specs.declared.frame.Frame.{Frame}
 use Rattle.bt_tick.specs.declared.machine.Step.{Step}
 use Rattle.bt_tick.specs.declared.machine.Turn.{Turn}
 use Rattle.bt_tick.specs.declared.machine.Turn.TheVariants as turn

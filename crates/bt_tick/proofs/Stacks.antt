@@ -28,7 +28,7 @@ use Rattle.bt_arena.specs.Ends.{Meets, StaysFit}
 use Rattle.bt_arena.proofs.Follows.{done_met}
 use Rattle.bt_laws.proofs.Children.{Keeps}
 use Rattle.bt_laws.proofs.Seats.{Seat}
-use Rattle.bt_tick.specs.declared.machine.Frame.{Frame}
+use Rattle.bt_arena.specs.declared.frame.Frame.{Frame}
 use Rattle.bt_tick.specs.declared.machine.Step.{Step}
 use Rattle.bt_tick.specs.declared.machine.Turn.{Turn}
 use Rattle.bt_tick.specs.declared.machine.Turn.TheVariants as turn

@@ -27,7 +27,7 @@ use Rattle.bt_arena.specs.Scenes.{Fits, Scene, state_in}
 use Rattle.bt_arena.specs.Stands.{Beside, memories_of, memory_of, uid_of, view_under, written}
 use Rattle.bt_arena.specs.Ends.{Meets, StaysFit}
 use Rattle.bt_nodes.specs.Here.{site_at}
-use Rattle.bt_tick.specs.declared.machine.Frame.{Frame}
+use Rattle.bt_arena.specs.declared.frame.Frame.{Frame}
 use Rattle.bt_tick.specs.declared.machine.Step.{Step}
 use Rattle.bt_tick.specs.declared.machine.Turn.{Turn}
 use Rattle.bt_tick.specs.declared.machine.Turn.TheVariants as turn

@@ -1,28 +1,5 @@
+use bt_arena::Frame;
 use bt_model::{Answer, Heard, Memo};
-
-/// A visit that waits for a child.
-#[derive(Clone, Copy, Debug)]
-pub struct Frame {
-    /// The node that is visited.
-    pub uid: u32,
-    /// The memo behind its last move.
-    pub memo: Memo,
-    /// The place of the child among the node's children, and its uid.
-    pub place: u32,
-    pub child: u32,
-}
-
-impl Default for Frame {
-    /// A frame of no node, for a place of a stack that holds none yet.
-    fn default() -> Frame {
-        Frame {
-            uid: 0,
-            memo: Memo::Nothing,
-            place: 0,
-            child: 0,
-        }
-    }
-}
 
 /// A visit that goes on with what the node hears.
 #[derive(Clone, Copy, Debug)]

@@ -12,9 +12,9 @@ ghost use Rattle.bt_arena.specs.Stands.{Beside, StandAll, uid_of};
 ghost use Rattle.bt_nodes.specs.Here.{site_at};
 ghost use Rattle.bt_tick.specs.Turns.{CanGoOn, Goes, GoesOnBy, children_in, has_rule, kind_of, passes_over, place_heard, turn_to, turn_work};
 
-use crate::machine::{Frame, Step, Turn};
+use crate::machine::{Step, Turn};
 use crate::moves::{child_from, is_completed, next_move};
-use bt_arena::{Kept, Node, Notes, kept_by, node};
+use bt_arena::{Frame, Kept, Node, Notes, kept_by, node};
 use bt_board::Board;
 use bt_driver::Drivers;
 use bt_halting::reset_children;

@@ -2,7 +2,7 @@ ghost use Rattle.std.specs.Prelude.{◌≡◌, ◌+◌, ◌≤◌, OnOk};
 ghost use Rattle.std.specs.List.{AllByRecursion};
 ghost use Rattle.bt_model.specs.declared.term.Term.{Term};
 ghost use Rattle.bt_model.specs.Sites.{View};
-ghost use Rattle.bt_model.specs.Terms.{work_of};
+ghost use Rattle.bt_model.specs.Terms.{depth_of, work_of};
 ghost use Rattle.bt_model.specs.Trees.{NodeFits, nodes_of};
 ghost use Rattle.bt_arena.specs.Ends.{Meets, StaysFit};
 ghost use Rattle.bt_arena.specs.Scenes.{scene};
@@ -11,9 +11,9 @@ ghost use Rattle.bt_tick.specs.Turns.{CanVisit, visit_in};
 ghost use Rattle.bt_tick.specs.Work.{begun_by};
 
 use crate::enter::enter;
-use crate::machine::{Frame, Step, Turn};
+use crate::machine::{Step, Turn};
 use crate::onward::go_on;
-use bt_arena::{Arena, Kept, Node, Notes};
+use bt_arena::{Arena, Frame, Kept, Node, Notes};
 use bt_board::Board;
 use bt_driver::{Drivers, FactTable};
 use bt_model::{Answer, Heard, NodeFault};
@@ -33,8 +33,8 @@ fn hear(frame: Frame, answer: Answer) -> Step
     }
 }
 
-/// Visits the root, turn by turn, with the visits that wait on a stack. It takes memory for them in a
-/// tree of more than 32 levels alone.
+/// Visits the root, turn by turn, with the visits that wait on a stack. It takes memory for them only
+/// where the stack has no room for all that can be under way at once.
 fn visit<D: Drivers>(
     alloc: Global,
     nodes: &[Node],
@@ -42,6 +42,7 @@ fn visit<D: Drivers>(
     board: &mut Board,
     facts: &mut FactTable,
     drivers: &mut D,
+    stack: &mut SmallVec<Frame, 32>,
     now: u64,
     notes: &mut Notes,
 ) -> Result<Answer, Stop<NodeFault>>
@@ -52,10 +53,13 @@ fn visit<D: Drivers>(
     ensures again { OnOk result ((term : Term) (view : View) → CanVisit nodes.now now term view 1 (scene kept.old board.old facts.old (D.states drivers.old)) →
         CanVisit nodes.now now term view 1 (scene kept.new board.new facts.new (D.states drivers.new))) }
     ensures fits { StaysFit nodes.now (scene kept.old board.old facts.old (D.states drivers.old)) (scene kept.new board.new facts.new (D.states drivers.new)) }
+    ensures room { stack.old.capacity ≤ stack.new.capacity }
+    ensures enough { (term : Term) (view : View) → CanVisit nodes.now now term view 1 (scene kept.old board.old facts.old (D.states drivers.old)) →
+        depth_of term ≤ stack.old.capacity → stack.new.capacity ≡ stack.old.capacity }
     ensures reserve { notes.old.reserve ≤ notes.new.reserve }
     ensures full { notes.new.full ≡ notes.old.full }
 {
-    let mut stack: SmallVec<Frame, 32> = SmallVec::new(alloc);
+    stack.clear();
     let mut turn = Turn::Enter(1);
     loop {
         turn = match turn {
@@ -99,6 +103,11 @@ pub fn tick<D: Drivers>(
         AllByRecursion NodeFits (nodes_of term) → begun_by (D.states drivers.new) ≤ begun_by (D.states drivers.old) + work_of term }
     ensures nodes { arena.new.nodes ≡ arena.old.nodes }
     ensures runner { arena.new.runner ≡ arena.old.runner }
+    // The room for the visits that are under way does not shrink, and where it is as much as the tree is
+    // deep, as `arena_of` makes it, it stays: no visit takes memory for its frame.
+    ensures room { arena.old.frames.capacity ≤ arena.new.frames.capacity }
+    ensures enough { (term : Term) (view : View) → CanVisit arena.old.nodes.items now term view 1 (scene arena.old.kept.items board.old facts.old (D.states drivers.old)) →
+        depth_of term ≤ arena.old.frames.capacity → arena.new.frames.capacity ≡ arena.old.frames.capacity }
     ensures reserve { notes.old.reserve ≤ notes.new.reserve }
     ensures full { notes.new.full ≡ notes.old.full }
 {
@@ -109,6 +118,7 @@ pub fn tick<D: Drivers>(
         board,
         facts,
         drivers,
+        &mut arena.frames,
         now,
         notes,
     )

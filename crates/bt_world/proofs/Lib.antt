@@ -1,13 +1,2 @@
-pub mod Alone
-pub mod Ascii
-pub mod Canonical
-pub mod Grown
-pub mod Named
 pub mod Onward
-pub mod Parts
-pub mod Rests
 pub mod Saying
-pub mod Sound
-pub mod SoundRows
-pub mod Validity
-pub mod WellFormed

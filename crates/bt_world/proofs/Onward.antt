@@ -12,7 +12,6 @@ use Rattle.bt_model.specs.declared.world_fault.WorldKind.{WorldKind}
 use Rattle.bt_model.specs.Worlds.{IsValidWorld}
 use Rattle.bt_model.specs.WorldFile.{Reading, AfterLines, AfterText, GoesOn, ReadsWorld, lines_in, without_empty_rest}
 use Rattle.bt_world.specs.Readings.{Gives}
-use Rattle.bt_world.proofs.Validity.{valid_world}
 
 module _ {X : Type 0} (f : X → List ℕ) (d : X) (xs : List X) (i : ℕ) (r : Reading) (within : i < length xs) where
   next_line : (n : ℕ) (said : Result Reading WorldFault) (next : Result Reading WorldKind) → AfterText r (f (get_or xs i d)) next → GoesOn n (λ left. AfterLines (n + 1) (map f (drop (i + 1) xs)) left said) said next → AfterLines n (map f (drop i xs)) r said
@@ -37,6 +36,6 @@ shorter ((c ∷ cs) ∷ u ∷ us) = omega (arith, shorter (u ∷ us))
 pub few_lines : (bytes : List ℕ) → length (lines_in bytes) ≤ length bytes + 1
 few_lines bytes = omega (arith, shorter (slice_split (λ b. b == 10) bytes), length-slice_split (λ b. b == 10) bytes, count_by-le-length (λ b. b == 10) bytes)
 
-pub valid_if_read : (bytes : List ℕ) (result : Result World (Stop WorldFault)) → Gives result (ReadsWorld bytes) → IfOk result IsValidWorld
-valid_if_read bytes (Ok w) h = valid_world bytes w h
-valid_if_read bytes (Err s) h = tt
+pub valid_if_read : (bytes : List ℕ) → ((w : World) → ReadsWorld bytes (Ok w) → IsValidWorld w) → (result : Result World (Stop WorldFault)) → Gives result (ReadsWorld bytes) → IfOk result IsValidWorld
+valid_if_read bytes law (Ok w) h = law w h
+valid_if_read bytes law (Err s) h = tt

@@ -1,7 +1,7 @@
 -- What a call leaves is what the definition says of a line of a row.
-use Rattle.std.proofs.Common.{◌≡◌, ℕ, Bool, true, false, not, ◌||◌, ◌&&◌, ◌==◌, List, [], map, length, Option, Some, None, Result, Ok, Err, ℤ, refl, sym, ◌∙◌, ap, subst, if◌then◌else◌}
-use Rattle.std.specs.Prelude.{bytes_eq, nat_abs, nat_le, nat_lt, option_map, option_and_then}
-use Rattle.std.specs.List.{list_all, list_any}
+use Rattle.std.proofs.Common.{◌≡◌, ℕ, Bool, true, false, ◌||◌, ◌&&◌, ◌==◌, List, map, length, Option, Some, None, Result, Ok, Err, ℤ, refl, sym, ◌∙◌, ap, subst, if◌then◌else◌}
+use Rattle.std.specs.Prelude.{nat_abs, nat_le, nat_lt, option_map, option_and_then}
+use Rattle.std.specs.List.{list_all}
 use Rattle.std.specs.Str.Parse.{signed_digits_value}
 use Rattle.bt_script.specs.declared.stop.Stop.{Stop}
 use Rattle.bt_script.specs.declared.stop.Stop.TheVariants as stop
@@ -9,15 +9,12 @@ use Rattle.bt_script.specs.declared.syntax.Expr.{Expr}
 use Rattle.bt_model.specs.declared.world.Row.{Row}
 use Rattle.bt_model.specs.declared.world.RowSort.{RowSort}
 use Rattle.bt_model.specs.declared.world_fault.WorldKind.{WorldKind}
-use Rattle.bt_model.specs.declared.world_fault.WorldKind.TheVariants.{Header, BadLine, Range, DoubleName, NoName, MomentBack, TooMany}
-use Rattle.bt_model.specs.Names.{is_reserved}
-use Rattle.bt_model.specs.Worlds.{ids_of_rows}
-use Rattle.bt_model.specs.WorldFile.{Line, TimedLine, ReplayLine, AfterForm, AfterLine, Reading, behind, ends_after, is_canonical, is_ms, number_in, outcomes_in, replay_line, timed_line, with_action, word, ReadsNumeric, SaysOf, by_expr, closed, is_taken, knows_sort, plain_row, ranged, repeats, with_head}
+use Rattle.bt_model.specs.WorldFile.{Line, TimedLine, ReplayLine, AfterForm, AfterLine, Reading, behind, ends_after, is_canonical, is_ms, number_in, outcomes_in, replay_line, timed_line, with_action, word, ReadsNumeric, SaysOf, closed, ranged, with_head}
 use Rattle.bt_model.specs.WorldFile as file
-use Rattle.bt_world.specs.Drafts.{DraftSays, HeadChecked, is_double, row_of}
-use Rattle.bt_world.specs.Readings.{Leaves, Passes}
-use Rattle.bt_world.specs.declared.draft.Draft.{Draft}
-use Rattle.bt_world.proofs.Sound.{not_both}
+use Rattle.bt_lines.specs.Ranges.{Passes}
+use Rattle.bt_reading.specs.Drafts.{DraftSays, row_of}
+use Rattle.bt_reading.specs.Readings.{Leaves}
+use Rattle.bt_reading.specs.declared.draft.Draft.{Draft}
 
 pub leaves_map : {A X F : Type 0} (result : Result A (Stop F)) (left : X) (P Q : Result X F → Type 0) → ((said : Result X F) → P said → Q said) → Leaves result left P → Leaves result left Q
 leaves_map (Ok a) left P Q h k = h (Ok left) k
@@ -35,39 +32,6 @@ of_head r left line head word result is h = subst (λ (o : Option file.Head). Le
 -- the same of a line that a head alone makes
 pub of_mapped : {A : Type 0} (r left : Reading) (line : file.Head → Line) (head : file.Head) (word : List ℕ) (result : Result A (Stop WorldKind)) → Some head ≡ file.head_in word → Leaves result left (AfterForm r (Some (line head))) → Leaves result left (AfterForm r (option_map line (file.head_in word)))
 of_mapped r left line head word result is h = subst (λ (o : Option file.Head). Leaves result left (AfterForm r (option_map line o))) is h
-
--- ---- Heads
-
-module _ (head : file.Head) (sort : RowSort) (r : Reading) where
-  double : (t : Bool) → is_double r head.id head.ports ≡ t → (add : Row → Reading → Result Reading WorldKind) → with_head head add sort r ≡ (if t then Err DoubleName else (if not (knows_sort head.ports r.facts sort) then Err NoName else (if nat_lt 8 (length head.ports) then Err TooMany else add (plain_row head.id head.ports sort) r)))
-  double t h add = ap (λ (b : Bool). if b then Err DoubleName else (if not (knows_sort head.ports r.facts sort) then Err NoName else (if nat_lt 8 (length head.ports) then Err TooMany else add (plain_row head.id head.ports sort) r))) h
-
-  known : (k : Bool) → is_double r head.id head.ports ≡ false → knows_sort head.ports r.facts sort ≡ k → (add : Row → Reading → Result Reading WorldKind) → with_head head add sort r ≡ (if not k then Err NoName else (if nat_lt 8 (length head.ports) then Err TooMany else add (plain_row head.id head.ports sort) r))
-  known k single h add = double false single add ∙ ap (λ (b : Bool). if not b then Err NoName else (if nat_lt 8 (length head.ports) then Err TooMany else add (plain_row head.id head.ports sort) r)) h
-
-  many : (t : Bool) → is_double r head.id head.ports ≡ false → knows_sort head.ports r.facts sort ≡ true → nat_lt 8 (length head.ports) ≡ t → (add : Row → Reading → Result Reading WorldKind) → with_head head add sort r ≡ (if t then Err TooMany else add (plain_row head.id head.ports sort) r)
-  many t single knows h add = known true single knows add ∙ ap (λ (b : Bool). if b then Err TooMany else add (plain_row head.id head.ports sort) r) h
-
-  -- a head that was checked is the row's
-  pub draft_made : (d : Draft) (id : List ℕ) (ports : List (List ℕ)) → HeadChecked (Ok (id, ports)) head.id head.ports sort r → row_of d ≡ plain_row id ports sort → DraftSays (Ok d) head sort r
-  draft_made d id ports h is =
-      let same : row_of d ≡ plain_row head.id head.ports sort = is ∙ ap (λ (i : List ℕ). plain_row i ports sort) h.1.0 ∙ ap (λ (ps : List (List ℕ)). plain_row head.id ps sort) h.1.1 in
-      let single = not_both (is_taken r.rows head.id) (repeats [] head.ports) h.0 in
-      let own = not_both (is_reserved head.id) (list_any (bytes_eq head.id) (ids_of_rows r.rows)) single.0 in
-      (ap (λ (row : Row). list_any (bytes_eq row.id) (ids_of_rows r.rows)) same ∙ own.1, λ add. many false h.0 h.1.2 h.1.3 add ∙ ap (λ (row : Row). add row r) (sym same))
-
-  -- and its fault is the line's
-  pub draft_refused : (s : Stop WorldKind) → HeadChecked (Err s) head.id head.ports sort r → DraftSays (Err s) head sort r
-  draft_refused stop.NoMemory h = tt
-  draft_refused (stop.Fault DoubleName) h = double true h
-  draft_refused (stop.Fault NoName) h = known false h.0 h.1
-  draft_refused (stop.Fault TooMany) h = many true h.0 h.1.0 h.1.1
-  draft_refused (stop.Fault Header) h = absurd h.1
-  draft_refused (stop.Fault BadLine) h = absurd h.1
-  draft_refused (stop.Fault Range) h = absurd h.1
-  draft_refused (stop.Fault MomentBack) h = absurd h.1
-
--- ---- Rows
 
 -- what is added is what is said of the head
 pub adds : {A : Type 0} (result : Result A (Stop WorldKind)) (left now : Reading) (head : file.Head) (sort : RowSort) (add : Row → Reading → Result Reading WorldKind) (d : Draft) (row : Row) → DraftSays (Ok d) head sort now → row ≡ row_of d → Leaves result left (λ said. said ≡ add row now) → Leaves result left (λ said. said ≡ with_head head add sort now)

@@ -5,18 +5,12 @@ ghost use Rattle.bt_model.specs.Worlds as worlds;
 ghost use Rattle.bt_model.specs.Worlds.{is_int};
 ghost use Rattle.bt_model.specs.WorldFile as file;
 ghost use Rattle.bt_model.specs.WorldFile.{AfterForm, GateLine, WhenLine, action_line, ranged, with_comparison, comparison_in, condition_line, is_line, is_line_byte, outcomes_in, replay_line, timed_line};
-ghost use Rattle.bt_world.specs.Readings.{Leaves};
+ghost use Rattle.bt_reading.specs.Readings.{Leaves};
 
-use crate::draft::Draft;
-use crate::exprs::numeric;
-use crate::head::{Head, head_in};
-use crate::lines::{cut, is};
-use crate::names::{is_name, name_of};
-use crate::numbers::{int, is_canonical, ms};
-use crate::ports::Ports;
-use crate::reading::Reading;
-use bt_model::{Row, RowSort, WorldKind, is_reserved};
-use bt_script::{Cmp, Items, NoMemory, Stop};
+use bt_lines::{cut, head_in, int, is, is_canonical, is_name, ms, name_of, numeric};
+use bt_model::{Row, RowSort, WorldKind};
+use bt_reading::Reading;
+use bt_script::{Cmp, Items, Stop};
 use std::alloc::{AllocError, Global};
 
 /// The comparison that the word names.
@@ -71,184 +65,206 @@ fn outcomes(alloc: Global, word: &[u8]) -> Result<Vec<bool>, AllocError>
     word.iter().map(|letter| is_success(*letter)).collect(alloc)
 }
 
-impl Reading {
-    /// `condition ROW is NAME OP INT`, or `condition ROW when EXPR`
-    pub fn read_condition(&mut self, alloc: Global, text: &[u8]) -> Result<(), Stop<WorldKind>>
-        requires { list_all is_line_byte text.now ≡ true }
-        ensures { Leaves result self.new (AfterForm self.old (condition_line text.now)) }
-    {
-        let (row, rest) = cut(text);
-        let (verb, rest) = cut(rest);
-        if is(verb, "is") {
-            self.read_comparison(alloc, row, rest)
-        } else if is(verb, "when") {
-            self.read_when(alloc, row, rest)
-        } else {
-            Err(Stop::Fault(WorldKind::BadLine))
-        }
+/// `condition ROW is NAME OP INT`, or `condition ROW when EXPR`
+pub fn read_condition(
+    alloc: Global,
+    reading: &mut Reading,
+    text: &[u8],
+) -> Result<(), Stop<WorldKind>>
+    requires { list_all is_line_byte text.now ≡ true }
+    ensures { Leaves result reading.new (AfterForm reading.old (condition_line text.now)) }
+{
+    let (row, rest) = cut(text);
+    let (verb, rest) = cut(rest);
+    if is(verb, "is") {
+        read_comparison(alloc, reading, row, rest)
+    } else if is(verb, "when") {
+        read_when(alloc, reading, row, rest)
+    } else {
+        Err(Stop::Fault(WorldKind::BadLine))
     }
+}
 
-    /// `action ROW timed MS`, `action ROW replay MS OUTCOMES` or `action ROW gate EXPR`
-    pub fn read_action(&mut self, alloc: Global, text: &[u8]) -> Result<(), Stop<WorldKind>>
-        requires { list_all is_line_byte text.now ≡ true }
-        ensures { Leaves result self.new (AfterForm self.old (action_line text.now)) }
-    {
-        let (row, rest) = cut(text);
-        let (verb, rest) = cut(rest);
-        if is(verb, "timed") {
-            self.read_timed(alloc, row, rest)
-        } else if is(verb, "replay") {
-            self.read_replay(alloc, row, rest)
-        } else if is(verb, "gate") {
-            self.read_gate(alloc, row, rest)
-        } else {
-            Err(Stop::Fault(WorldKind::BadLine))
-        }
+/// `action ROW timed MS`, `action ROW replay MS OUTCOMES` or `action ROW gate EXPR`
+pub fn read_action(alloc: Global, reading: &mut Reading, text: &[u8]) -> Result<(), Stop<WorldKind>>
+    requires { list_all is_line_byte text.now ≡ true }
+    ensures { Leaves result reading.new (AfterForm reading.old (action_line text.now)) }
+{
+    let (row, rest) = cut(text);
+    let (verb, rest) = cut(rest);
+    if is(verb, "timed") {
+        read_timed(alloc, reading, row, rest)
+    } else if is(verb, "replay") {
+        read_replay(alloc, reading, row, rest)
+    } else if is(verb, "gate") {
+        read_gate(alloc, reading, row, rest)
+    } else {
+        Err(Stop::Fault(WorldKind::BadLine))
     }
+}
 
-    /// `NAME OP INT` of the condition of this ID
-    fn read_comparison(
-        &mut self,
-        alloc: Global,
-        id: &[u8],
-        text: &[u8],
-    ) -> Result<(), Stop<WorldKind>>
-        ensures { Leaves result self.new (AfterForm self.old (is_line id.now text.now)) }
-    {
-        let (fact, rest) = cut(text);
-        let (sign, rest) = cut(rest);
-        let (number, rest) = cut(rest);
-        if !is_name(id) || !is_name(fact) || !rest.is_empty() {
-            return Err(Stop::Fault(WorldKind::BadLine));
-        }
-        match comparison(sign) {
-            Some(op) if is_canonical(number) => {
-                self.close(alloc)?;
-                self.compare(alloc, id, fact, op, number)
-            }
-            _ => Err(Stop::Fault(WorldKind::BadLine)),
-        }
+/// `NAME OP INT` of the condition of this ID
+fn read_comparison(
+    alloc: Global,
+    reading: &mut Reading,
+    id: &[u8],
+    text: &[u8],
+) -> Result<(), Stop<WorldKind>>
+    ensures { Leaves result reading.new (AfterForm reading.old (is_line id.now text.now)) }
+{
+    let (fact, rest) = cut(text);
+    let (sign, rest) = cut(rest);
+    let (number, rest) = cut(rest);
+    if !is_name(id) || !is_name(fact) || !rest.is_empty() {
+        return Err(Stop::Fault(WorldKind::BadLine));
     }
-
-    /// Adds a condition that compares the fact with a number.
-    fn compare(
-        &mut self,
-        alloc: Global,
-        id: &[u8],
-        fact: &[u8],
-        op: Cmp,
-        number: &[u8],
-    ) -> Result<(), Stop<WorldKind>>
-        requires named { IsTrue (worlds.is_name id.now) }
-        requires canonical { file.is_canonical number.now ≡ true }
-        requires open { self.old.open_row ≡ None }
-        ensures { Leaves result self.new (λ said. said ≡ ranged (is_int (signed_digits_value 10 number.now)) (with_comparison id.now fact.now op (signed_digits_value 10 number.now) self.old)) }
-    {
-        let Some(value) = int(number) else {
-            return Err(Stop::Fault(WorldKind::Range));
-        };
-        if self.has_taken(id) {
-            return Err(Stop::Fault(WorldKind::DoubleName));
+    match comparison(sign) {
+        Some(op) if is_canonical(number) => {
+            reading.close(alloc)?;
+            compare(alloc, reading, id, fact, op, number)
         }
-        let Some(fact) = self.fact_number(fact) else {
-            return Err(Stop::Fault(WorldKind::NoName));
-        };
-        let id = name_of(alloc, id)?;
-        self.add_condition(
-            alloc,
-            Row {
-                id,
-                ports: Items::of(Vec::new(alloc)),
-                sort: RowSort::Is { fact, op, value },
-                needs: Items::of(Vec::new(alloc)),
-                sets: Items::of(Vec::new(alloc)),
-                outs: Items::of(Vec::new(alloc)),
-            },
-        )
+        _ => Err(Stop::Fault(WorldKind::BadLine)),
     }
+}
 
-    /// `EXPR` of the condition of this head
-    fn read_when(&mut self, alloc: Global, row: &[u8], text: &[u8]) -> Result<(), Stop<WorldKind>>
-        requires { list_all is_line_byte text.now ≡ true }
-        ensures { Leaves result self.new (AfterForm self.old (option_map (λ head. WhenLine head text.now) (file.head_in row.now))) }
-    {
-        let Some(head) = head_in(alloc, row)? else {
-            return Err(Stop::Fault(WorldKind::BadLine));
-        };
-        let Some(expr) = numeric(alloc, text)? else {
-            return Err(Stop::Fault(WorldKind::BadLine));
-        };
-        self.close(alloc)?;
-        match self.draft_of(alloc, head.id, head.ports, RowSort::When(expr)) {
-            Ok(draft) => self.add_condition(alloc, draft.into_row()),
-            Err(stop) => Err(stop),
-        }
+/// Adds a condition that compares the fact with a number.
+fn compare(
+    alloc: Global,
+    reading: &mut Reading,
+    id: &[u8],
+    fact: &[u8],
+    op: Cmp,
+    number: &[u8],
+) -> Result<(), Stop<WorldKind>>
+    requires named { IsTrue (worlds.is_name id.now) }
+    requires canonical { file.is_canonical number.now ≡ true }
+    requires open { reading.old.open_row ≡ None }
+    ensures { Leaves result reading.new (λ said. said ≡ ranged (is_int (signed_digits_value 10 number.now)) (with_comparison id.now fact.now op (signed_digits_value 10 number.now) reading.old)) }
+{
+    let Some(value) = int(number) else {
+        return Err(Stop::Fault(WorldKind::Range));
+    };
+    if reading.has_taken(id) {
+        return Err(Stop::Fault(WorldKind::DoubleName));
     }
+    let Some(fact) = reading.fact_number(fact) else {
+        return Err(Stop::Fault(WorldKind::NoName));
+    };
+    let id = name_of(alloc, id)?;
+    reading.add_condition(
+        alloc,
+        Row {
+            id,
+            ports: Items::of(Vec::new(alloc)),
+            sort: RowSort::Is { fact, op, value },
+            needs: Items::of(Vec::new(alloc)),
+            sets: Items::of(Vec::new(alloc)),
+            outs: Items::of(Vec::new(alloc)),
+        },
+    )
+}
 
-    /// `EXPR` of the gate of this head
-    fn read_gate(&mut self, alloc: Global, row: &[u8], text: &[u8]) -> Result<(), Stop<WorldKind>>
-        requires { list_all is_line_byte text.now ≡ true }
-        ensures { Leaves result self.new (AfterForm self.old (option_map (λ head. GateLine head text.now) (file.head_in row.now))) }
-    {
-        let Some(head) = head_in(alloc, row)? else {
-            return Err(Stop::Fault(WorldKind::BadLine));
-        };
-        let Some(expr) = numeric(alloc, text)? else {
-            return Err(Stop::Fault(WorldKind::BadLine));
-        };
-        self.close(alloc)?;
-        match self.draft_of(alloc, head.id, head.ports, RowSort::Gate(expr)) {
-            Ok(draft) => self.open_action(draft),
-            Err(stop) => Err(stop),
-        }
+/// `EXPR` of the condition of this head
+fn read_when(
+    alloc: Global,
+    reading: &mut Reading,
+    row: &[u8],
+    text: &[u8],
+) -> Result<(), Stop<WorldKind>>
+    requires { list_all is_line_byte text.now ≡ true }
+    ensures { Leaves result reading.new (AfterForm reading.old (option_map (λ head. WhenLine head text.now) (file.head_in row.now))) }
+{
+    let Some(head) = head_in(alloc, row)? else {
+        return Err(Stop::Fault(WorldKind::BadLine));
+    };
+    let Some(expr) = numeric(alloc, text)? else {
+        return Err(Stop::Fault(WorldKind::BadLine));
+    };
+    reading.close(alloc)?;
+    match reading.draft_of(alloc, head.id, head.ports, RowSort::When(expr)) {
+        Ok(draft) => reading.add_condition(alloc, draft.into_row()),
+        Err(stop) => Err(stop),
     }
+}
 
-    /// `MS` of the action of this head
-    fn read_timed(&mut self, alloc: Global, row: &[u8], text: &[u8]) -> Result<(), Stop<WorldKind>>
-        ensures { Leaves result self.new (AfterForm self.old (option_and_then (timed_line text.now) (file.head_in row.now))) }
-    {
-        let Some(head) = head_in(alloc, row)? else {
-            return Err(Stop::Fault(WorldKind::BadLine));
-        };
-        let (number, rest) = cut(text);
-        if !rest.is_empty() || !is_canonical(number) {
-            return Err(Stop::Fault(WorldKind::BadLine));
-        }
-        self.close(alloc)?;
-        let Some(ms) = ms(number) else {
-            return Err(Stop::Fault(WorldKind::Range));
-        };
-        match self.draft_of(
-            alloc,
-            head.id,
-            head.ports,
-            RowSort::Timed { ms, fails: None },
-        ) {
-            Ok(draft) => self.open_action(draft),
-            Err(stop) => Err(stop),
-        }
+/// `EXPR` of the gate of this head
+fn read_gate(
+    alloc: Global,
+    reading: &mut Reading,
+    row: &[u8],
+    text: &[u8],
+) -> Result<(), Stop<WorldKind>>
+    requires { list_all is_line_byte text.now ≡ true }
+    ensures { Leaves result reading.new (AfterForm reading.old (option_map (λ head. GateLine head text.now) (file.head_in row.now))) }
+{
+    let Some(head) = head_in(alloc, row)? else {
+        return Err(Stop::Fault(WorldKind::BadLine));
+    };
+    let Some(expr) = numeric(alloc, text)? else {
+        return Err(Stop::Fault(WorldKind::BadLine));
+    };
+    reading.close(alloc)?;
+    match reading.draft_of(alloc, head.id, head.ports, RowSort::Gate(expr)) {
+        Ok(draft) => reading.open_action(draft),
+        Err(stop) => Err(stop),
     }
+}
 
-    /// `MS OUTCOMES` of the action of this head
-    fn read_replay(&mut self, alloc: Global, row: &[u8], text: &[u8]) -> Result<(), Stop<WorldKind>>
-        ensures { Leaves result self.new (AfterForm self.old (option_and_then (replay_line text.now) (file.head_in row.now))) }
-    {
-        let Some(head) = head_in(alloc, row)? else {
-            return Err(Stop::Fault(WorldKind::BadLine));
-        };
-        let (number, rest) = cut(text);
-        let (letters, rest) = cut(rest);
-        if !rest.is_empty() || !is_canonical(number) || !are_outcomes(letters) {
-            return Err(Stop::Fault(WorldKind::BadLine));
-        }
-        self.close(alloc)?;
-        let Some(ms) = ms(number) else {
-            return Err(Stop::Fault(WorldKind::Range));
-        };
-        let outcomes = Items::of(outcomes(alloc, letters)?);
-        match self.draft_of(alloc, head.id, head.ports, RowSort::Replay { ms, outcomes }) {
-            Ok(draft) => self.open_action(draft),
-            Err(stop) => Err(stop),
-        }
+/// `MS` of the action of this head
+fn read_timed(
+    alloc: Global,
+    reading: &mut Reading,
+    row: &[u8],
+    text: &[u8],
+) -> Result<(), Stop<WorldKind>>
+    ensures { Leaves result reading.new (AfterForm reading.old (option_and_then (timed_line text.now) (file.head_in row.now))) }
+{
+    let Some(head) = head_in(alloc, row)? else {
+        return Err(Stop::Fault(WorldKind::BadLine));
+    };
+    let (number, rest) = cut(text);
+    if !rest.is_empty() || !is_canonical(number) {
+        return Err(Stop::Fault(WorldKind::BadLine));
+    }
+    reading.close(alloc)?;
+    let Some(ms) = ms(number) else {
+        return Err(Stop::Fault(WorldKind::Range));
+    };
+    match reading.draft_of(
+        alloc,
+        head.id,
+        head.ports,
+        RowSort::Timed { ms, fails: None },
+    ) {
+        Ok(draft) => reading.open_action(draft),
+        Err(stop) => Err(stop),
+    }
+}
+
+/// `MS OUTCOMES` of the action of this head
+fn read_replay(
+    alloc: Global,
+    reading: &mut Reading,
+    row: &[u8],
+    text: &[u8],
+) -> Result<(), Stop<WorldKind>>
+    ensures { Leaves result reading.new (AfterForm reading.old (option_and_then (replay_line text.now) (file.head_in row.now))) }
+{
+    let Some(head) = head_in(alloc, row)? else {
+        return Err(Stop::Fault(WorldKind::BadLine));
+    };
+    let (number, rest) = cut(text);
+    let (letters, rest) = cut(rest);
+    if !rest.is_empty() || !is_canonical(number) || !are_outcomes(letters) {
+        return Err(Stop::Fault(WorldKind::BadLine));
+    }
+    reading.close(alloc)?;
+    let Some(ms) = ms(number) else {
+        return Err(Stop::Fault(WorldKind::Range));
+    };
+    let outcomes = Items::of(outcomes(alloc, letters)?);
+    match reading.draft_of(alloc, head.id, head.ports, RowSort::Replay { ms, outcomes }) {
+        Ok(draft) => reading.open_action(draft),
+        Err(stop) => Err(stop),
     }
 }

@@ -3,22 +3,9 @@
 
 mod actions;
 mod additions;
-mod draft;
 mod events;
-mod exprs;
-mod facts;
 mod forms;
-mod head;
 pub mod laws;
-mod lines;
-mod names;
-mod numbers;
-mod ports;
 mod read;
-mod reading;
-mod rows;
-mod tables;
-mod today;
 
 pub use read::read_world;
-pub use today::needs_engine;

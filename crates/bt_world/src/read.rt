@@ -1,13 +1,16 @@
 ghost use Rattle.std.specs.Prelude.{◌≡◌, ◌≤◌, length, map, IfOk};
 ghost use Rattle.bt_model.specs.WorldFile.{AfterLines, LinesMake, LinesRead, ReadsWorld};
 ghost use Rattle.bt_model.specs.Worlds.{IsValidWorld};
-ghost use Rattle.bt_world.specs.Readings.{Gives, Leaves};
+ghost use Rattle.bt_reading.specs.Readings.{Leaves};
+ghost use Rattle.bt_world.specs.Readings.{Gives};
 ghost use Rattle.bt_world.specs.Readings as readings;
 
-use crate::lines::{is, parts, trimmed, without_rest};
-use crate::reading::Reading;
+use crate::forms::read_text;
+use bt_lines::{is, parts, trimmed, without_rest};
 use bt_model::{World, WorldFault, WorldKind};
+use bt_reading::Reading;
 use bt_script::Stop;
+use bt_world_laws::read_worlds_are_valid;
 use std::alloc::Global;
 
 /// The world that a world script describes, or its first faulty line. The world is valid.
@@ -16,6 +19,7 @@ pub fn read_world(alloc: Global, bytes: &[u8]) -> Result<World, Stop<WorldFault>
     ensures reads { Gives result (ReadsWorld bytes.now) }
     ensures valid { IfOk result IsValidWorld }
 {
+    read_worlds_are_valid();
     let parts = parts(alloc, bytes, b'\n')?;
     world_of(alloc, without_rest(parts.as_slice()))
 }
@@ -63,7 +67,7 @@ fn read_lines(alloc: Global, reading: &mut Reading, lines: &[&[u8]]) -> Result<(
 {
     let mut line = 2;
     for text in lines {
-        if let Err(stop) = reading.read_text(alloc, text) {
+        if let Err(stop) = read_text(alloc, reading, text) {
             return Err(located(stop, line));
         }
         line += 1;

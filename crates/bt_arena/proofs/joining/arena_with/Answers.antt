@@ -29,4 +29,5 @@ returns g c =
       kept = c.in_ok-kept.ensures ∙ ap (λ n. replicate n at_rest) (omega (arith, c.len.ensures, c.in_ok-nodes.nodes.ok.0, size));
       numbered = tree_numbered tree world drivers c.args.runner c.args.counts.now next c.requires.counts are_next nodes c.nodes_of.new.next laid;
       serves = tree_served tree world drivers c.args.runner c.args.counts.now next c.requires.counts are_next nodes c.nodes_of.new.next laid;
+      room = c.in_ok-frames.ensures;
     }

@@ -1,13 +1,16 @@
 use Rattle.std.proofs.Common.{Err, arith, refl, sym, ◌∙◌}
 use Rattle.bt_laws.proofs.Keeping.{term_keeps}
+use Rattle.bt_tick.proofs.Depths.{level_left}
 use Rattle.bt_tick.proofs.Passing.{met_with}
 use Rattle.bt_tick.proofs.Stacks.{back_answers, back_made, begins, can_again, can_enter, can_step, enter_made, enter_stops, none_held, on_stack, step_made, step_stays, step_stops, wait_made}
 use Rattle.bt_tick.proofs.visiting.visit.Goals as goal
 
 pub loop-turn-init : goal.loop-turn-init
 loop-turn-init g c = record {
-  all = λ term view can. on_stack term_keeps _ _ (sym c.new-stack.ensures.items) (begins term_keeps _ _ view can);
+  all = λ term view can. on_stack term_keeps _ _ (sym c.clear.ensures.items) (begins term_keeps _ _ view can);
   stays = λ term view uid fits. fits;
+  room = omega (arith, c.clear.ensures.capacity);
+  enough = λ term view can deep. c.clear.ensures.capacity;
   reserve = omega arith;
   full = refl;
 }
@@ -50,6 +53,8 @@ loop-turn-preserved-in_ok-turn-in-Enter g c =
     record {
       all = λ term1 view1 can1. enter_made term_keeps _ _ _ _ c.in-Enter.is (c.loop-turn.invariant.all term1 view1 can1) (λ t1 v1 k. c.in_ok-turn-in-Enter.ensures.goes t1 v1 k);
       stays = λ t1 v1 u fits. (c.in_ok-turn-in-Enter.ensures.goes t v by).stays t1 v1 u (c.loop-turn.invariant.stays t1 v1 u fits);
+      room = c.loop-turn.invariant.room;
+      enough = c.loop-turn.invariant.enough;
       reserve = omega (arith, c.in_ok-turn-in-Enter.ensures.reserve, c.loop-turn.invariant.reserve);
       full = c.in_ok-turn-in-Enter.ensures.full ∙ c.loop-turn.invariant.full;
     }
@@ -61,6 +66,8 @@ loop-turn-preserved-in_ok-turn-in-GoOn g c =
     record {
       all = λ term1 view1 can1. step_made term_keeps _ _ _ _ c.in-GoOn.is (c.loop-turn.invariant.all term1 view1 can1) (λ t1 v1 next1 k. c.in_ok-turn-in-GoOn.ensures.goes t1 v1 c.loop-turn.facts next1 k);
       stays = λ t1 v1 u fits. (c.in_ok-turn-in-GoOn.ensures.goes t v c.loop-turn.facts next by).stays t1 v1 u (c.loop-turn.invariant.stays t1 v1 u fits);
+      room = c.loop-turn.invariant.room;
+      enough = c.loop-turn.invariant.enough;
       reserve = omega (arith, c.in_ok-turn-in-GoOn.ensures.reserve, c.loop-turn.invariant.reserve);
       full = c.in_ok-turn-in-GoOn.ensures.full ∙ c.loop-turn.invariant.full;
     }
@@ -69,6 +76,11 @@ pub loop-turn-preserved-in_ok-push-in-Wait : goal.loop-turn-preserved-in_ok-push
 loop-turn-preserved-in_ok-push-in-Wait g c = record {
   all = λ term view can. wait_made term_keeps _ _ _ c.in-Wait.is c.in_ok-push-in-Wait.ensures.ok (c.loop-turn.invariant.all term view can);
   stays = c.loop-turn.invariant.stays;
+  room = omega (arith, c.in_ok-push-in-Wait.ensures.capacity, c.loop-turn.invariant.room);
+  enough = λ term view can deep.
+      let left = level_left _ _ _ _ _ _ _ _ _ _ _ (c.loop-turn.invariant.all term view can) in
+      let same = c.loop-turn.invariant.enough term view can deep in
+      c.in_ok-push-in-Wait.ensures.had_room (omega (arith, left, same, deep)) ∙ same;
   reserve = c.loop-turn.invariant.reserve;
   full = c.loop-turn.invariant.full;
 }
@@ -77,6 +89,8 @@ pub loop-turn-preserved : goal.loop-turn-preserved
 loop-turn-preserved g c = record {
   all = λ term view can. back_made term_keeps _ _ _ _ c.in-Back.is c.in-Some.ensures.items c.hear.ensures (c.loop-turn.invariant.all term view can);
   stays = c.loop-turn.invariant.stays;
+  room = omega (arith, c.in-Some.ensures.capacity, c.loop-turn.invariant.room);
+  enough = λ term view can deep. c.in-Some.ensures.capacity ∙ c.loop-turn.invariant.enough term view can deep;
   reserve = c.loop-turn.invariant.reserve;
   full = c.loop-turn.invariant.full;
 }

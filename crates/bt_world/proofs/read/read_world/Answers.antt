@@ -16,4 +16,4 @@ pub returns-clause-valid : goal.returns-clause-valid
 returns-clause-valid c =
     let lines : map (λ part. part.now) c.without_rest.result.now ≡ lines_in c.args.bytes.now =
     c.without_rest.ensures ∙ ap without_empty_rest (ap (map (λ part. part.now)) c.as_slice.ensures.value ∙ c.in_ok-parts.ensures) in
-    valid_if_read c.args.bytes.now c.world_of.result (subst (λ (ls : List (List ℕ)). Gives c.world_of.result (LinesRead ls)) lines c.world_of.ensures)
+    valid_if_read c.args.bytes.now (c.read_worlds_are_valid.ensures c.args.bytes.now) c.world_of.result (subst (λ (ls : List (List ℕ)). Gives c.world_of.result (LinesRead ls)) lines c.world_of.ensures)

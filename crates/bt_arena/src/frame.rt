@@ -1,0 +1,51 @@
+ghost use Rattle.std.specs.Prelude.{◌≡◌, ◌≤◌, IfOk};
+ghost use Rattle.bt_model.specs.Terms.{depth_of};
+
+use bt_model::{Memo, Term};
+use bt_script::NoMemory;
+use smallvec::SmallVec;
+use std::alloc::Global;
+
+/// A visit that waits for a child.
+#[derive(Clone, Copy, Debug)]
+pub struct Frame {
+    /// The node that is visited.
+    pub uid: u32,
+    /// The memo behind its last move.
+    pub memo: Memo,
+    /// The place of the child among the node's children, and its uid.
+    pub place: u32,
+    pub child: u32,
+}
+
+impl Default for Frame {
+    /// A frame of no node, for a place of a stack that holds none yet.
+    fn default() -> Frame {
+        Frame {
+            uid: 0,
+            memo: Memo::Nothing,
+            place: 0,
+            child: 0,
+        }
+    }
+}
+
+/// How many nodes of a term stand one below the other at most.
+fn depth(term: &Term) -> usize
+    requires { depth_of term.now ≤ 256 }
+    ensures { result ≡ depth_of term.now }
+{
+    let mut below = 0;
+    for child in term.children.list() {
+        below = depth(child).max(below);
+    }
+    below + 1
+}
+
+/// An empty stack with room for the visits of this term that can be under way at once.
+pub(crate) fn frames_for(alloc: Global, term: &Term) -> Result<SmallVec<Frame, 32>, NoMemory>
+    requires { depth_of term.now ≤ 256 }
+    ensures { IfOk result (λ frames. depth_of term.now ≤ frames.capacity) }
+{
+    Ok(SmallVec::with_capacity(alloc, depth(term))?)
+}

@@ -1,0 +1,13 @@
+use Rattle.std.proofs.Common.{◌≡◌, length}
+use Rattle.bt_model.specs.Drivers.{kind_of_way}
+use Rattle.bt_driver.specs.Rules.{rule}
+use Rattle.bt_cases_leaves.specs.Stages.{IsAtWork}
+use Rattle.bt_cases_leaves.proofs.leaves.answers_text.Given as goal
+
+-- the roster is at work on the row
+abbrev pub invariant-loop-call : goal.invariant-loop-call
+invariant-loop-call g l =
+    (goal.iterator-loop-call g).can_next l.call-iterator
+    × (goal.iterator-loop-call g).is_finite l.call-iterator
+    × IsAtWork (g.D.Drivers.states l.drivers) l.stage.place (kind_of_way (rule l.stage.row).way) l.stage.since.items
+    × (length l.stage.facts ≡ l.stage.row.facts)

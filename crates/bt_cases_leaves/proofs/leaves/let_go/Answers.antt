@@ -1,0 +1,16 @@
+use Rattle.std.proofs.Common.{List, None, refl, set, sym, subst}
+use Rattle.bt_model.specs.declared.leaf.Phase.TheVariants as phase
+use Rattle.bt_model.specs.Drivers.{DriverState, instance_at, kind_of_way}
+use Rattle.bt_model.specs.Leaf as leaf
+use Rattle.bt_driver.specs.Rules.{rule}
+use Rattle.bt_cases_leaves.specs.Stages.{IsAtWork}
+use Rattle.bt_cases_leaves.proofs.AtWork.{after}
+use Rattle.bt_cases_leaves.proofs.leaves.let_go.Goals as goal
+
+pub returns-clause-work : goal.returns-clause-work
+returns-clause-work g c =
+    let stage = c.args.stage.now in
+    let ds = g.D.Drivers.states c.args.drivers.now in
+    let kind = kind_of_way (rule stage.row).way in
+    subst (λ (drivers : List DriverState). IsAtWork drivers stage.place kind (set stage.since.items c.args.instance None)) (sym c.halted.ensures)
+    (after ds stage.place kind stage.since.items c.requires.work c.args.instance phase.Halted (leaf.let_go (instance_at ds stage.place c.args.instance)) None refl)

@@ -1,0 +1,9 @@
+//! Tests alone: tables of boards, printed trees and the lines of blocks.
+#![tactic(auto)]
+
+#[cfg(test)]
+mod boards;
+#[cfg(test)]
+mod text;
+#[cfg(test)]
+mod trees;

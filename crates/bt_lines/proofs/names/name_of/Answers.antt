@@ -1,0 +1,14 @@
+use Rattle.std.proofs.Common.{◌≡◌, ℕ, true, List, subst, sym}
+use Rattle.std.specs.Str.{IsUtf8}
+use Rattle.bt_script.specs.Identifiers.{is_identifier}
+use Rattle.bt_script.proofs.Bools.{both}
+use Rattle.bt_script.proofs.Identifiers.{IsUtf8-from_is_identifier}
+use Rattle.bt_model.specs.Worlds.{is_name}
+use Rattle.bt_lines.proofs.names.name_of.Goals as goal
+
+-- a name is UTF-8
+IsUtf8-from_is_name : (word : List ℕ) → is_name word ≡ true → IsUtf8 word
+IsUtf8-from_is_name word h = IsUtf8-from_is_identifier word (both (is_identifier word) _ h).0
+
+pub of-requires : goal.of-requires
+of-requires c = subst IsUtf8 (sym c.in_ok-bytes.ensures.items) (IsUtf8-from_is_name c.args.word.now c.requires)

@@ -1,0 +1,57 @@
+ghost use Rattle.std.specs.Prelude.{◌≡◌, map, IfOk, option_map};
+ghost use Rattle.bt_model.specs.WorldFile.{head_of, head_with, head_before};
+ghost use Rattle.bt_model.specs.WorldFile as file;
+ghost use Rattle.bt_lines.specs.Heads.{seen_head};
+
+use crate::lines::parts;
+use crate::names::{is_name, name_of, names_of};
+use bt_script::{Name, NoMemory};
+use std::alloc::Global;
+
+/// The ID of a row and its input ports, which may repeat.
+#[derive(Drop)]
+pub struct Head {
+    pub id: Name,
+    pub ports: Vec<Name>,
+}
+
+/// `ID`, or `ID(p,q)`.
+pub fn head_in(alloc: Global, word: &[u8]) -> Result<Option<Head>, NoMemory>
+    ensures { IfOk result (λ head. option_map seen_head head ≡ file.head_in word.now) }
+{
+    let pieces = parts(alloc, word, b'(')?;
+    match pieces.as_slice() {
+        [id] => with_ports(alloc, id, &[]),
+        [id, rest] => before_ports(alloc, id, rest),
+        _ => Ok(None),
+    }
+}
+
+/// An ID, with what stands behind its `(`.
+fn before_ports(alloc: Global, id: &[u8], rest: &[u8]) -> Result<Option<Head>, NoMemory>
+    ensures { IfOk result (λ head. option_map seen_head head ≡ head_before id.now rest.now) }
+{
+    match rest.strip_suffix(b")".as_slice()) {
+        Some(list) => {
+            let ports = parts(alloc, list, b',')?;
+            with_ports(alloc, id, ports.as_slice())
+        }
+        None => Ok(None),
+    }
+}
+
+/// An ID with these ports, where all are names.
+fn with_ports(alloc: Global, id: &[u8], ports: &[&[u8]]) -> Result<Option<Head>, NoMemory>
+    ensures { IfOk result (λ head. option_map seen_head head ≡ head_with id.now (map (λ port. port.now) ports.now)) }
+{
+    if !is_name(id) {
+        return Ok(None);
+    }
+    match names_of(alloc, ports)? {
+        Some(ports) => {
+            let id = name_of(alloc, id)?;
+            Ok(Some(Head { id, ports }))
+        }
+        None => Ok(None),
+    }
+}

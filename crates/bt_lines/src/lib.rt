@@ -1,0 +1,15 @@
+//! The lines of world scripts, and what stands in a line: words, numbers, names, heads of rows, and
+//! expressions.
+#![tactic(auto)]
+
+mod exprs;
+mod head;
+mod lines;
+mod names;
+mod numbers;
+
+pub use exprs::numeric;
+pub use head::{Head, head_in};
+pub use lines::{content, cut, is, is_line, is_read_over, parts, trimmed, without_rest};
+pub use names::{is_name, name_of};
+pub use numbers::{int, is_canonical, ms, one_of};

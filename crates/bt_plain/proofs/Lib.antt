@@ -1,4 +1,0 @@
-pub mod Follow
-pub mod Rounds
-pub mod Sizes
-pub mod Undone

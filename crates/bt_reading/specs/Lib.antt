@@ -1,0 +1,4 @@
+pub mod Drafts
+pub mod Readings
+pub mod Rows
+pub mod Tables

@@ -1,0 +1,6 @@
+pub mod Alone
+pub mod Grown
+pub mod Sound
+pub mod SoundRows
+pub mod Validity
+pub mod WellFormed

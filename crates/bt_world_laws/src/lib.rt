@@ -1,0 +1,6 @@
+//! Laws of world scripts: a file reads in one way, and as a valid world.
+#![tactic(auto)]
+
+mod laws;
+
+pub use laws::{read_worlds_are_valid, worlds_read_one_way};
