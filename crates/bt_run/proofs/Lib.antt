@@ -1,4 +1,5 @@
-pub mod Steps
 pub mod Cuts
+pub mod Lives
 pub mod Rests
+pub mod Steps
 pub mod Worlds

@@ -1,4 +1,5 @@
 pub mod Cuts
 pub mod Going
+pub mod Rounds
 pub mod Texts
 pub mod Traces

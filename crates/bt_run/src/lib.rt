@@ -1,12 +1,14 @@
-//! Runs the events of a world: one block for each, written to a sink, and then the finish of all
-//! runners.
+//! Runs the events of a world, or rounds by a clock: one block for each event, written to a sink, and
+//! then the finish of all runners.
 #![tactic(auto)]
 
 mod ended;
 mod events;
 mod finishes;
+mod rounds;
 mod running;
 mod showing;
 
 pub use ended::Ended;
+pub use rounds::run_rounds;
 pub use running::run_events;
