@@ -74,51 +74,51 @@ module _ (tree : Tree) (world : World) (g : Given) (made after : List DriverStat
     (calls : (calls : List RunnerCall) (now : List DriverState) → roster_over arenas calls now ≡ calls_made world.runners (serving_places tree world g.drivers) calls now)
     (a b : Option (List ℕ)) (fell rose : ℕ) (clock asked : Option Moments)
   where
-  abbrev trace : Trace
-  trace = run_from tree world events s
+    abbrev trace : Trace
+    trace = run_from tree world events s
 
-  abbrev whole_trace : Trace
-  whole_trace = run_over tree world (g.events world)
+    abbrev whole_trace : Trace
+    whole_trace = run_over tree world (g.events world)
 
-  -- the run of the state in which they began is the run of the world
-  trace_is : trace ≡ whole_trace
-  trace_is = ap (λ (es : List Event). run_from tree world es s) listed ∙ ap (λ (z : RunState). run_from tree world (g.events world) z) opened
+    -- the run of the state in which they began is the run of the world
+    trace_is : trace ≡ whole_trace
+    trace_is = ap (λ (es : List Event). run_from tree world es s) listed ∙ ap (λ (z : RunState). run_from tree world (g.events world) z) opened
 
-  text_is : text_of names trace.blocks ≡ (run_output tree world g).bytes
-  text_is = ap (λ (n : LineNames). text_of n trace.blocks) named ∙ ap (λ (t : Trace). text_of (line_names tree world) t.blocks) trace_is
+    text_is : text_of names trace.blocks ≡ (run_output tree world g).bytes
+    text_is = ap (λ (n : LineNames). text_of n trace.blocks) named ∙ ap (λ (t : Trace). text_of (line_names tree world) t.blocks) trace_is
 
-  drivers_are : after ≡ roster_over arenas trace.calls made → after ≡ roster_after_run tree world g.drivers whole_trace.calls
-  drivers_are e =
-      e
-      ∙ calls trace.calls made
-      ∙ ap (λ (t : Trace). calls_made world.runners (serving_places tree world g.drivers) t.calls made) trace_is
-      ∙ ap (λ (ds : List DriverState). calls_made world.runners (serving_places tree world g.drivers) whole_trace.calls ds) prepared
+    drivers_are : after ≡ roster_over arenas trace.calls made → after ≡ roster_after_run tree world g.drivers whole_trace.calls
+    drivers_are e =
+        e
+        ∙ calls trace.calls made
+        ∙ ap (λ (t : Trace). calls_made world.runners (serving_places tree world g.drivers) t.calls made) trace_is
+        ∙ ap (λ (ds : List DriverState). calls_made world.runners (serving_places tree world g.drivers) whole_trace.calls ds) prepared
 
-  -- how a run has ended says how often the clock was asked
-  abbrev Asking : Ended → Type 0
-  Asking ending = (fault : Option RunFault) → ending ≡ ended fault → ClockLeft (g.asked tree world fault) clock asked
+    -- how a run has ended says how often the clock was asked
+    abbrev Asking : Ended → Type 0
+    Asking ending = (fault : Option RunFault) → ending ≡ ended fault → ClockLeft (g.asked tree world fault) clock asked
 
-  whole_run : (ending : Ended) → IsRun arenas names made after a b ending trace → Asking ending → IsWhole (run_output tree world g) (exit_of (Ok ending)) (side a fell clock g.drivers) (side b rose asked after)
-  whole_run ending is asking = (
-    ap (λ (t : Trace). run_exit t.fault) (sym trace_is) ∙ ended_exit trace.fault ending is.ends,
-    subst (Appended a b) text_is is.written,
-    drivers_are is.drivers,
-    asking whole_trace.fault (is.ends ∙ ap (λ (t : Trace). ended t.fault) trace_is),
-  )
+    whole_run : (ending : Ended) → IsRun arenas names made after a b ending trace → Asking ending → IsWhole (run_output tree world g) (exit_of (Ok ending)) (side a fell clock g.drivers) (side b rose asked after)
+    whole_run ending is asking = (
+      ap (λ (t : Trace). run_exit t.fault) (sym trace_is) ∙ ended_exit trace.fault ending is.ends,
+      subst (Appended a b) text_is is.written,
+      drivers_are is.drivers,
+      asking whole_trace.fault (is.ends ∙ ap (λ (t : Trace). ended t.fault) trace_is),
+    )
 
-  pub ending_gave : (ending : Ended) → IsRun arenas names made after a b ending trace → Asking ending → Gave (run_output tree world g) (exit_of (Ok ending)) (side a fell clock g.drivers) (side b rose asked after)
-  ending_gave Done is asking = whole_run Done is asking
-  ending_gave Faulted is asking = whole_run Faulted is asking
+    pub ending_gave : (ending : Ended) → IsRun arenas names made after a b ending trace → Asking ending → Gave (run_output tree world g) (exit_of (Ok ending)) (side a fell clock g.drivers) (side b rose asked after)
+    ending_gave Done is asking = whole_run Done is asking
+    ending_gave Faulted is asking = whole_run Faulted is asking
 
-  pub stopped_gave : (stopped : TextStop) → AppendedFront a b (text_of names trace.blocks) → (stopped ≡ stop.WriteFault → Rose fell rose) → Gave (run_output tree world g) (exit_of (Err stopped)) (side a fell clock g.drivers) (side b rose asked after)
-  stopped_gave stop.WriteFault front failed = (failed refl, subst (AppendedFront a b) text_is front)
-  stopped_gave stop.NoMemory front failed = subst (AppendedFront a b) text_is front
+    pub stopped_gave : (stopped : TextStop) → AppendedFront a b (text_of names trace.blocks) → (stopped ≡ stop.WriteFault → Rose fell rose) → Gave (run_output tree world g) (exit_of (Err stopped)) (side a fell clock g.drivers) (side b rose asked after)
+    stopped_gave stop.WriteFault front failed = (failed refl, subst (AppendedFront a b) text_is front)
+    stopped_gave stop.NoMemory front failed = subst (AppendedFront a b) text_is front
 
-  -- however a run has ended, its output was given
-  pub run_gave : (result : Result Ended TextStop) → IfOk result (λ ending. IsRun arenas names made after a b ending trace) → AppendedFront a b (text_of names trace.blocks) → (IsErrOf result stop.WriteFault → Rose fell rose) →
-      IfOk result Asking → Gave (run_output tree world g) (exit_of result) (side a fell clock g.drivers) (side b rose asked after)
-  run_gave (Ok ending) whole front failed asking = ending_gave ending whole asking
-  run_gave (Err stopped) whole front failed asking = stopped_gave stopped front (λ e. failed (ap Err e))
+    -- however a run has ended, its output was given
+    pub run_gave : (result : Result Ended TextStop) → IfOk result (λ ending. IsRun arenas names made after a b ending trace) → AppendedFront a b (text_of names trace.blocks) → (IsErrOf result stop.WriteFault → Rose fell rose) →
+        IfOk result Asking → Gave (run_output tree world g) (exit_of result) (side a fell clock g.drivers) (side b rose asked after)
+    run_gave (Ok ending) whole front failed asking = ending_gave ending whole asking
+    run_gave (Err stopped) whole front failed asking = stopped_gave stopped front (λ e. failed (ap Err e))
 
 -- ---- Courses
 
@@ -175,8 +175,8 @@ module _ (tree : Tree) (world : World) (rounds : ℕ) (clock asked : Option Mome
   faulted_asks (Some m) moments same begun is are = (
     begun,
     subst (λ (z : RunState). AreBegun tree world 0 (taken rounds moments) z begun) opened
-    (subst (λ (n : ℕ). AreBegun tree world n (taken rounds moments) s begun) zero_last
-    (subst (λ (k : Moments). Begun k begun) (sym same) are)),
+        (subst (λ (n : ℕ). AreBegun tree world n (taken rounds moments) s begun) zero_last
+        (subst (λ (k : Moments). Begun k begun) (sym same) are)),
     is,
   )
 
@@ -201,32 +201,32 @@ module _ (tree : Tree) (world : World) (drivers made after : List DriverState) (
     (calls : (calls : List RunnerCall) (now : List DriverState) → roster_over arenas calls now ≡ calls_made world.runners (serving_places tree world drivers) calls now)
     (a b : Option (List ℕ)) (fell rose : ℕ) (clock asked : Option Moments) (result : Exit) (lack : Option JoinFault) (none : lack ≡ None)
   where
-  abbrev Answered : Moments → Type 0
-  Answered moments = Gave (joined_output lack tree world (given (course.Rounds rounds) moments drivers)) result (side a fell clock drivers) (side b rose asked after)
+    abbrev Answered : Moments → Type 0
+    Answered moments = Gave (joined_output lack tree world (given (course.Rounds rounds) moments drivers)) result (side a fell clock drivers) (side b rose asked after)
 
-  listed : (ms : List ℕ) (moments : Moments) → ms ≡ taken rounds moments → live_events world last ms ≡ live_events world 0 (taken rounds moments)
-  listed ms moments e = ap (λ (n : ℕ). live_events world n ms) zero_last ∙ ap (λ (l : List ℕ). live_events world 0 l) e
+    listed : (ms : List ℕ) (moments : Moments) → ms ≡ taken rounds moments → live_events world last ms ≡ live_events world 0 (taken rounds moments)
+    listed ms moments e = ap (λ (n : ℕ). live_events world n ms) zero_last ∙ ap (λ (l : List ℕ). live_events world 0 l) e
 
-  pub rounds_gave : (ran : Result Ended TextStop) → result ≡ exit_of ran →
-      (ms : List ℕ) × AreMoments rounds clock ms × IfOk ran (λ ending. IsRun arenas names made after a b ending (run_from tree world (live_events world last ms) s)) →
-      (ms : List ℕ) × AreMoments rounds clock ms × AppendedFront a b (text_of names (run_from tree world (live_events world last ms) s).blocks) →
-      (IsErrOf ran stop.WriteFault → Rose fell rose) →
-      (begun : ℕ) × (begun ≤ rounds) × (asked ≡ option_map (moments_after begun) clock) × IfSome clock (λ m. OnOk ran (AreBegun tree world last (taken rounds m) s begun)) →
-      (ran ≡ Ok Done → asked ≡ option_map (moments_after rounds) clock) → AtMoments clock Answered
-  rounds_gave (Ok ending) is whole front failed begun all =
-      let m = gives rounds clock whole.0 whole.1 in
-      record {
-        moments = m.moments;
-        told = m.told;
-        holds = joined_gave lack tree world (given (course.Rounds rounds) m.moments drivers) result (exit_of (Ok ending)) _ _ none is
-            (ending_gave tree world (given (course.Rounds rounds) m.moments drivers) made after arenas names (live_events world last whole.0) s named (listed whole.0 m.moments m.is) opened prepared calls a b fell rose clock asked ending whole.2
-            (asks tree world rounds clock asked s last opened zero_last ending m.moments m.told begun.0 begun.2 begun.3 (λ e. all (ap Ok e))));
-      }
-  rounds_gave (Err stopped) is whole front failed begun all =
-      let m = gives rounds clock front.0 front.1 in
-      record {
-        moments = m.moments;
-        told = m.told;
-        holds = joined_gave lack tree world (given (course.Rounds rounds) m.moments drivers) result (exit_of (Err stopped)) _ _ none is
-            (stopped_gave tree world (given (course.Rounds rounds) m.moments drivers) made after arenas names (live_events world last front.0) s named (listed front.0 m.moments m.is) opened prepared calls a b fell rose clock asked stopped front.2 (λ e. failed (ap Err e)));
-      }
+    pub rounds_gave : (ran : Result Ended TextStop) → result ≡ exit_of ran →
+        (ms : List ℕ) × AreMoments rounds clock ms × IfOk ran (λ ending. IsRun arenas names made after a b ending (run_from tree world (live_events world last ms) s)) →
+        (ms : List ℕ) × AreMoments rounds clock ms × AppendedFront a b (text_of names (run_from tree world (live_events world last ms) s).blocks) →
+        (IsErrOf ran stop.WriteFault → Rose fell rose) →
+        (begun : ℕ) × (begun ≤ rounds) × (asked ≡ option_map (moments_after begun) clock) × IfSome clock (λ m. OnOk ran (AreBegun tree world last (taken rounds m) s begun)) →
+        (ran ≡ Ok Done → asked ≡ option_map (moments_after rounds) clock) → AtMoments clock Answered
+    rounds_gave (Ok ending) is whole front failed begun all =
+        let m = gives rounds clock whole.0 whole.1 in
+        record {
+          moments = m.moments;
+          told = m.told;
+          holds = joined_gave lack tree world (given (course.Rounds rounds) m.moments drivers) result (exit_of (Ok ending)) _ _ none is
+              (ending_gave tree world (given (course.Rounds rounds) m.moments drivers) made after arenas names (live_events world last whole.0) s named (listed whole.0 m.moments m.is) opened prepared calls a b fell rose clock asked ending whole.2
+              (asks tree world rounds clock asked s last opened zero_last ending m.moments m.told begun.0 begun.2 begun.3 (λ e. all (ap Ok e))));
+        }
+    rounds_gave (Err stopped) is whole front failed begun all =
+        let m = gives rounds clock front.0 front.1 in
+        record {
+          moments = m.moments;
+          told = m.told;
+          holds = joined_gave lack tree world (given (course.Rounds rounds) m.moments drivers) result (exit_of (Err stopped)) _ _ none is
+              (stopped_gave tree world (given (course.Rounds rounds) m.moments drivers) made after arenas names (live_events world last front.0) s named (listed front.0 m.moments m.is) opened prepared calls a b fell rose clock asked stopped front.2 (λ e. failed (ap Err e)));
+        }

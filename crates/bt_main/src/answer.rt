@@ -39,8 +39,7 @@ fn answer_files<K: Sink, C: Clock>(
     requires tree { length tree.now ≤ 1048576 }
     requires world { length world.now ≤ 1048576 }
     requires quiet { NothingHeld (map (λ b. state b) roster.old.items) }
-    ensures answers {
-        let old = side (K.written out.old) (K.faults out.old) (C.moments clock.old) (map (λ b. state b) roster.old.items) in
+    ensures answers { let old = side (K.written out.old) (K.faults out.old) (C.moments clock.old) (map (λ b. state b) roster.old.items) in
         let new = side (K.written out.new) (K.faults out.new) (C.moments clock.new) (map (λ b. state b) roster.new.items) in
         AtMoments old.clock (λ moments.
         Answers (RunGives (option_copied main.entry) tree.now world.now (given course moments old.drivers)) result old new) }
@@ -120,7 +119,17 @@ fn run_files<S: Shelf, K: Sink, C: Clock>(
 {
     let mut bytes = Vec::new(alloc);
     match shelf.read(tree, &mut bytes, MOST_BYTES) {
-        Ok(()) => answer_world(alloc, bytes.as_slice(), world, main, course, shelf, out, clock, roster),
+        Ok(()) => answer_world(
+            alloc,
+            bytes.as_slice(),
+            world,
+            main,
+            course,
+            shelf,
+            out,
+            clock,
+            roster,
+        ),
         Err(ShelfFault::Failed) => write_last(out, b"refused read tree\n", Exit::Read),
         Err(ShelfFault::TooLong) => write_last(out, b"refused tree TooLong\n", Exit::Tree),
         Err(ShelfFault::NoMemory) => Exit::Memory,
@@ -152,7 +161,16 @@ fn answer_world<S: Shelf, K: Sink, C: Clock>(
 {
     let mut bytes = Vec::new(alloc);
     match shelf.read(world, &mut bytes, MOST_BYTES) {
-        Ok(()) => answer_files(alloc, tree, bytes.as_slice(), main, course, out, clock, roster),
+        Ok(()) => answer_files(
+            alloc,
+            tree,
+            bytes.as_slice(),
+            main,
+            course,
+            out,
+            clock,
+            roster,
+        ),
         Err(ShelfFault::Failed) => write_last(out, b"refused read world\n", Exit::Read),
         Err(ShelfFault::TooLong) => write_last(out, b"refused world TooLong\n", Exit::World),
         Err(ShelfFault::NoMemory) => Exit::Memory,

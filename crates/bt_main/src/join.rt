@@ -85,8 +85,7 @@ pub fn run_world<K: Sink, C: Clock>(
     requires valid { IsValid tree.now }
     requires short { length world.now ≤ 1048576 }
     requires quiet { NothingHeld (map (λ b. state b) roster.old.items) }
-    ensures answers {
-        let old = side (K.written out.old) (K.faults out.old) (C.moments clock.old) (map (λ b. state b) roster.old.items) in
+    ensures answers { let old = side (K.written out.old) (K.faults out.old) (C.moments clock.old) (map (λ b. state b) roster.old.items) in
         let new = side (K.written out.new) (K.faults out.new) (C.moments clock.new) (map (λ b. state b) roster.new.items) in
         AtMoments old.clock (λ moments. Answers (WorldGives tree.now world.now (given course moments old.drivers)) result old new) }
     ensures kept { AreKept (map (λ b. state b) roster.old.items) (map (λ b. state b) roster.new.items) }
@@ -113,8 +112,7 @@ fn run_joined<K: Sink, C: Clock>(
     requires valid { IsValid tree.now }
     requires world { IsValidWorld world.now }
     requires quiet { NothingHeld (map (λ b. state b) roster.old.items) }
-    ensures gave {
-        let old = side (K.written out.old) (K.faults out.old) (C.moments clock.old) (map (λ b. state b) roster.old.items) in
+    ensures gave { let old = side (K.written out.old) (K.faults out.old) (C.moments clock.old) (map (λ b. state b) roster.old.items) in
         let new = side (K.written out.new) (K.faults out.new) (C.moments clock.new) (map (λ b. state b) roster.new.items) in
         AtMoments old.clock (λ moments.
         Gave (joined_output (lack_of tree.now world.now old.drivers) tree.now world.now (given course moments old.drivers)) result old new) }
