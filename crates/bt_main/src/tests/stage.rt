@@ -21,7 +21,7 @@ pub fn script(alloc: Global, lines: &str) -> Result<String, AllocError> {
 }
 
 /// Answers these words with this clock and these drivers.
-pub fn answer_by<K: Sink>(
+pub fn answer_at<K: Sink>(
     alloc: Global,
     words: &[&str],
     shelf: &mut MemShelf,
@@ -38,7 +38,7 @@ pub fn answer_by<K: Sink>(
     Ok(bt(alloc, names.as_slice(), shelf, sink, clock, roster))
 }
 
-/// Answers these words with these drivers.
+/// Answers these words, which ask no clock, with these drivers.
 pub fn answer_with<K: Sink>(
     alloc: Global,
     words: &[&str],
@@ -49,7 +49,7 @@ pub fn answer_with<K: Sink>(
     requires { NothingHeld (map (λ b. state b) roster.old.items) }
 {
     let mut clock = MemClock::new(Vec::new(alloc));
-    answer_by(alloc, words, shelf, sink, &mut clock, roster)
+    answer_at(alloc, words, shelf, sink, &mut clock, roster)
 }
 
 /// Runs these nodes in a world of these lines with these drivers.
