@@ -1,4 +1,4 @@
-ghost use Rattle.std.specs.Prelude.{◌≡◌, ◌≤◌, ◌<◌, ◌==◌, ◌&&◌, true, not, IfOk, IsUtf8, length, take, drop};
+ghost use Rattle.std.specs.Prelude.{◌≡◌, ◌≤◌, ◌<◌, ◌==◌, ◌&&◌, ◌||◌, true, not, IfOk, IsUtf8, length, take, drop};
 ghost use Rattle.std.specs.Char.{is_ascii};
 ghost use Rattle.std.specs.List.{prefix_len, list_all, list_any};
 ghost use Rattle.std.specs.Str.{bytes_eq};
@@ -10,7 +10,6 @@ ghost use Rattle.bt_elements.specs.Reading.{Scans, after_white, begins, behind, 
 use crate::mark::{Front, Mark, NoMark};
 use crate::reference::decode;
 use bt_script::{Items, Name, NoMemory, Stop, is_identifier_start, is_white};
-use memchr::memchr2;
 use std::alloc::Global;
 use std::collections::BTreeSet;
 
@@ -318,19 +317,29 @@ fn end_at(alloc: Global, bytes: &[u8]) -> Result<(Mark, &[u8]), Stop<NoMark>>
     Ok((Mark::End(name), rest))
 }
 
+/// Whether the byte is neither 0 nor the first of an ending.
+fn passed_byte(first: u8, c: u8) -> bool
+    ensures { result ≡ not (c == first || c == 0) }
+{
+    !(c == first || c == 0)
+}
+
+#[tactic(auto, using(crate::proofs::Fronts::fronts))]
+fn passed_len(first: u8, bytes: &[u8]) -> usize
+    ensures value { result ≡ prefix_len (λ c. not (c == first || c == 0)) bytes.now }
+    ensures within { result ≤ length bytes.now }
+{
+    bytes.iter().take_while(|c| passed_byte(first, **c)).count()
+}
+
 /// What is left from the first byte on that is 0 or that the ending may begin with.
 fn skipped<'a>(bytes: &'a [u8], ending: &[u8]) -> &'a [u8]
     requires { 0 < length ending.now }
     ensures read { behind_first ending.now result.now ≡ behind_first ending.now bytes.now }
     ensures within { length result.now ≤ length bytes.now }
 {
-    match memchr2(ending[0], 0, bytes) {
-        Some(len) => {
-            let (_, rest) = bytes.split_at(len);
-            rest
-        }
-        None => &[],
-    }
+    let (_, rest) = bytes.split_at(passed_len(ending[0], bytes));
+    rest
 }
 
 /// What follows the first of these endings, before which no byte is 0.
