@@ -25,7 +25,8 @@ fn put_escaped_byte(out: &mut Vec<u8>, byte: u8) -> Result<(), NoMemory>
         put_number(out, u64::from(byte))?;
         put_bytes(out, b";")
     } else {
-        put_bytes(out, &[byte])
+        out.push(byte)?;
+        Ok(())
     }
 }
 
