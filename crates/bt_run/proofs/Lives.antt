@@ -171,8 +171,10 @@ pub are_moments : (rounds : ℕ) (old new : Option Moments) (given : List ℕ) �
 are_moments rounds old new given has within = record { many = many; given = by old has } where
   all : length given + (rounds - length given) ≡ rounds
   all = omega (arith, within)
+
   many : length (given ++ to_come (rounds - length given) new) ≡ rounds
   many = length-append given (to_come (rounds - length given) new) ∙ ap (λ (k : ℕ). length given + k) (length_to_come (rounds - length given) new) ∙ all
+
   by : (old : Option Moments) → HasGiven old new given → IfSome old (λ m. given ++ to_come (rounds - length given) new ≡ taken rounds m)
   by None has = tt
   by (Some m) has =
@@ -226,8 +228,8 @@ module _ (tree : Tree) (world : World) (opened last : ℕ) (given : List ℕ) (a
           subst (λ (ms : List ℕ). IsRun arenas names d0 d2 a c Faulted (events_then tree world (live_events world opened ms) rest s0)) (sym (append_assoc given (moment ∷ []) later))
           (part_last arenas arenas1 names d0 d1 a b _ _ _ (next_is later rest) same (so_far (moment ∷ later) rest) result ending d2 c _ ok faulted (goes (events_then tree world (live_events world at later) rest))),
       (let longer : length (given ++ moment ∷ []) ≡ length given + 1 = length-append given (moment ∷ []) in
-      let many : length given ≡ length (given ++ moment ∷ []) - 1 = omega (arith, longer) in
-      subst (λ (ms : List ℕ). fault_in tree world opened ms s0 ≡ None) (sym (take_at given (moment ∷ []) (length (given ++ moment ∷ []) - 1) many)) (sym (rounds_all nothing_more).fault)),
+          let many : length given ≡ length (given ++ moment ∷ []) - 1 = omega (arith, longer) in
+          subst (λ (ms : List ℕ). fault_in tree world opened ms s0 ≡ None) (sym (take_at given (moment ∷ []) (length (given ++ moment ∷ []) - 1) many)) (sym (rounds_all nothing_more).fault)),
     )
 
 -- one moment more
