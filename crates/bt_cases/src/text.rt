@@ -1,9 +1,9 @@
 //! The lines of blocks, and texts in quotes.
 
+use bt_arena::{Block, block_for};
 use bt_board::slots_of;
 use bt_model::{
-    Answer, Block, Cause, Guards, Header, Kind, Note, Port, PortId, PortValue, Status, Term, Tree,
-    World,
+    Answer, Cause, Guards, Header, Kind, Note, Port, PortId, PortValue, Status, Term, Tree, World,
 };
 use bt_outside::{MemSink, SureSink};
 use bt_script::{Items, Name, NoMemory, Txt, Value};
@@ -66,6 +66,24 @@ fn some_names(alloc: Global) -> Result<Names, NoMemory> {
     names_of(alloc, &tree, &a_world(alloc)?, &slots)
 }
 
+/// A block of these notes, facts and entries.
+fn a_block(
+    alloc: Global,
+    header: Header,
+    notes: &[Note],
+    facts: Vec<(u32, i64)>,
+    entries: Vec<(u8, u32, Value)>,
+) -> Result<Block, NoMemory> {
+    let mut block = block_for(alloc, 0)?;
+    block.header = header;
+    for note in notes {
+        block.notes.push(*note)?;
+    }
+    block.facts = facts;
+    block.entries = entries;
+    Ok(block)
+}
+
 /// What the block is as lines to a sink of which these calls fail, and the answer to it.
 fn block_text(
     alloc: Global,
@@ -74,12 +92,8 @@ fn block_text(
     facts: &[(u32, i64)],
     fails: &[(u64, u64)],
 ) -> Result<String, NoMemory> {
-    let block = Block {
-        header,
-        notes: Items::of(Vec::from_slice(alloc, notes)?),
-        facts: Items::of(Vec::from_slice(alloc, facts)?),
-        entries: Items::of(Vec::new(alloc)),
-    };
+    let facts = Vec::from_slice(alloc, facts)?;
+    let block = a_block(alloc, header, notes, facts, Vec::new(alloc))?;
     text_of(alloc, &block, fails)
 }
 
@@ -225,12 +239,8 @@ fn faults_have_their_lines(rt: HostRuntime) -> Result<(), Fail> {
 fn entry_text(alloc: Global, runner: u8, value: Value) -> Result<String, NoMemory> {
     let mut entries = Vec::new(alloc);
     entries.push((runner, 0, value))?;
-    let block = Block {
-        header: Header::Tick { runner, at: 0 },
-        notes: Items::of(Vec::new(alloc)),
-        facts: Items::of(Vec::new(alloc)),
-        entries: Items::of(entries),
-    };
+    let header = Header::Tick { runner, at: 0 };
+    let block = a_block(alloc, header, &[], Vec::new(alloc), entries)?;
     text_of(alloc, &block, &[])
 }
 

@@ -1,3 +1,4 @@
+pub mod Cuts
 pub mod Lives
 pub mod Rests
 pub mod Steps

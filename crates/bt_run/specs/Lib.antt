@@ -1,3 +1,4 @@
+pub mod Cuts
 pub mod Going
 pub mod Rounds
 pub mod Texts
