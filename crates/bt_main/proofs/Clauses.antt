@@ -5,25 +5,29 @@ use Rattle.bt_elements.specs.declared.element.Element.{Element}
 use Rattle.bt_elements.specs.declared.element.ElementFault.{ElementFault}
 use Rattle.bt_elements.specs.Elements.{Spells}
 use Rattle.bt_elements.specs.Faults.{ElementFaultOf}
+use Rattle.bt_main.specs.declared.course.Course.{Course}
+use Rattle.bt_main.specs.declared.course.Course.TheVariants as course
 use Rattle.bt_main.specs.declared.exit.Exit.{Exit}
 use Rattle.bt_main.specs.declared.exit.Exit.TheVariants as exit
 use Rattle.bt_main.specs.declared.tree_file.TreeFault.{TreeFault}
 use Rattle.bt_main.specs.declared.tree_file.TreeFault.TheVariants as fault
-use Rattle.bt_main.specs.Answers.{Answers, AreUncalled, DriversLeft, EachOutput, FilesAnswered, Gave, IsGiven, IsWhole, ReadFailed, Reading, Side, ToldIfNamed, Unread, UnreadLine, WholeOutput, WorldAnswered}
-use Rattle.bt_main.specs.Output.{CheckGives, CommandGives, FilesGive, Output, TickGives, TreeGives, WorldGives, check_output, held_by, is_too_long, joined_output, lack_of, run_exit, tree_name, tree_refused, tree_too_long, unread, words_refused, world_name, world_output, world_too_long}
+use Rattle.bt_main.specs.Answers.{Answers, AreUncalled, AtMoments, DriversLeft, EachOutput, FilesAnswered, Gave, IfTold, IsGiven, IsWhole, ReadFailed, Reading, Side, ToldIfNamed, Unread, UnreadLine, WholeOutput, WorldAnswered, WorldUnread, moments_for, no_moments}
+use Rattle.bt_main.specs.Output.{CheckGives, CommandGives, FilesGive, Given, Output, RunGives, TreeGives, WorldGives, check_output, given, held_by, is_too_long, joined_output, lack_of, run_exit, tree_name, tree_refused, tree_too_long, unread, words_refused, world_name, world_output, world_too_long}
+use Rattle.bt_main.specs.Commands.{run_command}
 use Rattle.bt_main.specs.TreeFiles.{TreeReads, element_read}
-use Rattle.bt_main.specs.Words.{Command, File, Tick, Check, TreeFile, WorldFile}
+use Rattle.bt_main.specs.Words.{Command, File, Tick, Live, Check, TreeFile, WorldFile}
 use Rattle.bt_arena.specs.declared.join_fault.JoinFault.{JoinFault}
 use Rattle.bt_model.specs.declared.fault.RunFault.{RunFault}
 use Rattle.bt_model.specs.declared.term.Tree.{Tree}
 use Rattle.bt_model.specs.declared.world.World.{World}
 use Rattle.bt_model.specs.declared.world_fault.WorldFault.{WorldFault}
 use Rattle.bt_model.specs.Drivers.{DriverState}
-use Rattle.bt_model.specs.Run.{run}
+use Rattle.bt_model.specs.Run.{run_over}
 use Rattle.bt_model.specs.WorldFile.{ReadsWorld}
 use Rattle.bt_outside.specs.Appending.{Appended, AppendedFront}
 use Rattle.bt_outside.specs.Counts.{Rose}
 use Rattle.bt_outside.specs.Files.{Told}
+use Rattle.bt_outside.specs.Moments.{Moments}
 use Rattle.bt_outside.specs.declared.shelf.ShelfFault.TheVariants as shelf_fault
 use Rattle.bt_outside.proofs.Appends.{AppendedFront-nothing}
 use Rattle.bt_outside.proofs.Rises.{Rose-after}
@@ -48,27 +52,28 @@ one_if : (b : Bool) (x y z : Output) (P Q : Type 0) → MatchBool b (x ≡ z) P 
 one_if true x y z P Q p q k = p ∙ sym q
 one_if false x y z P Q p q k = k p q
 
-one_world : OneReading → (tree : Tree) (world : List ℕ) (drivers : List DriverState) (x y : Output) → WorldGives tree world drivers x → WorldGives tree world drivers y → x ≡ y
-one_world one tree world drivers x y p q =
-    p.2 ∙ ap (λ (r : Result World WorldFault). world_output r tree drivers) (one.world world p.0 q.0 p.1 q.1) ∙ sym q.2
+one_world : OneReading → (tree : Tree) (world : List ℕ) (g : Given) (x y : Output) → WorldGives tree world g x → WorldGives tree world g y → x ≡ y
+one_world one tree world g x y p q =
+    p.2 ∙ ap (λ (r : Result World WorldFault). world_output r tree g) (one.world world p.0 q.0 p.1 q.1) ∙ sym q.2
 
-one_reading : OneReading → (r : Result Tree TreeFault) (world : List ℕ) (drivers : List DriverState) (x y : Output) → TreeGives r world drivers x → TreeGives r world drivers y → x ≡ y
-one_reading one (Ok tree) world drivers x y p q = one_world one tree world drivers x y p q
-one_reading one (Err f) world drivers x y p q = p ∙ sym q
+one_reading : OneReading → (r : Result Tree TreeFault) (world : List ℕ) (g : Given) (x y : Output) → TreeGives r world g x → TreeGives r world g y → x ≡ y
+one_reading one (Ok tree) world g x y p q = one_world one tree world g x y p q
+one_reading one (Err f) world g x y p q = p ∙ sym q
 
-one_tick : OneReading → (main : Option (List ℕ)) (tree world : List ℕ) (drivers : List DriverState) (x y : Output) → TickGives main tree world drivers x → TickGives main tree world drivers y → x ≡ y
-one_tick one main tree world drivers x y p q =
+one_run : OneReading → (main : Option (List ℕ)) (tree world : List ℕ) (g : Given) (x y : Output) → RunGives main tree world g x → RunGives main tree world g y → x ≡ y
+one_run one main tree world g x y p q =
     one_if (is_too_long tree) x y tree_too_long _ _ p q (λ p1 q1. one_if (is_too_long world) x y world_too_long _ _ p1 q1
-    (λ p2 q2. one_reading one q2.0 world drivers x y (subst (λ (r : Result Tree TreeFault). TreeGives r world drivers x) (one_tree one main tree p2.0 q2.0 p2.1 q2.1) p2.2) q2.2))
+    (λ p2 q2. one_reading one q2.0 world g x y (subst (λ (r : Result Tree TreeFault). TreeGives r world g x) (one_tree one main tree p2.0 q2.0 p2.1 q2.1) p2.2) q2.2))
 
 one_check : OneReading → (main : Option (List ℕ)) (tree : List ℕ) (x y : Output) → CheckGives main tree x → CheckGives main tree y → x ≡ y
 one_check one main tree x y p q =
     one_if (is_too_long tree) x y tree_too_long _ _ p q (λ p1 q1. p1.2 ∙ ap check_output (one_tree one main tree p1.0 q1.0 p1.1 q1.1) ∙ sym q1.2)
 
 -- the files of a command have one output
-one_files : OneReading → (c : Command) (tree world : List ℕ) (drivers : List DriverState) (x y : Output) → FilesGive c tree world drivers x → FilesGive c tree world drivers y → x ≡ y
-one_files one (Tick t w main) tree world drivers x y p q = one_tick one main tree world drivers x y p q
-one_files one (Check t main) tree world drivers x y p q = one_check one main tree x y p q
+one_files : OneReading → (c : Command) (tree world : List ℕ) (moments : Moments) (drivers : List DriverState) (x y : Output) → FilesGive c tree world moments drivers x → FilesGive c tree world moments drivers y → x ≡ y
+one_files one (Tick t w main) tree world moments drivers x y p q = one_run one main tree world (given course.Script moments drivers) x y p q
+one_files one (Live t w rounds main) tree world moments drivers x y p q = one_run one main tree world (given (course.Rounds rounds) moments drivers) x y p q
+one_files one (Check t main) tree world moments drivers x y p q = one_check one main tree x y p q
 
 -- nothing was written for want of memory
 nothing_gave : (o : Output) (result : Exit) (a b : Side) → result ≡ exit.Memory → b.written ≡ a.written → Gave o result a b
@@ -98,35 +103,84 @@ whole_or_memory o exit.Write a b n p = absurd (n p.0)
 whole_or_memory o exit.Memory a b n p = inl refl
 
 -- the bytes that the shelf tells are those of the answer
-files_told : (h : List ℕ → List ℕ) (c : Command) (tree world : List ℕ) (drivers : List DriverState) (o : Output) → tree ≡ h (tree_name c) → ToldIfNamed (Some h) (world_name c) (λ file. world ≡ file)
-    → FilesGive c (h (tree_name c)) (held_by h (world_name c)) drivers o → FilesGive c tree world drivers o
-files_told h (Tick t w main) tree world drivers o is_tree is_world p =
-    subst (λ (z : List ℕ). TickGives main tree z drivers o) (sym is_world) (subst (λ (z : List ℕ). TickGives main z (h w) drivers o) (sym is_tree) p)
-files_told h (Check t main) tree world drivers o is_tree is_world p = subst (λ (z : List ℕ). CheckGives main z o) (sym is_tree) p
+files_told : (h : List ℕ → List ℕ) (c : Command) (tree world : List ℕ) (moments : Moments) (drivers : List DriverState) (o : Output) → tree ≡ h (tree_name c) → ToldIfNamed (Some h) (world_name c) (λ file. world ≡ file)
+    → FilesGive c (h (tree_name c)) (held_by h (world_name c)) moments drivers o → FilesGive c tree world moments drivers o
+files_told h (Tick t w main) tree world moments drivers o is_tree is_world p =
+    subst (λ (z : List ℕ). RunGives main tree z (given course.Script moments drivers) o) (sym is_world) (subst (λ (z : List ℕ). RunGives main z (h w) (given course.Script moments drivers) o) (sym is_tree) p)
+files_told h (Live t w rounds main) tree world moments drivers o is_tree is_world p =
+    subst (λ (z : List ℕ). RunGives main tree z (given (course.Rounds rounds) moments drivers) o) (sym is_world) (subst (λ (z : List ℕ). RunGives main z (h w) (given (course.Rounds rounds) moments drivers) o) (sym is_tree) p)
+files_told h (Check t main) tree world moments drivers o is_tree is_world p = subst (λ (z : List ℕ). CheckGives main z o) (sym is_tree) p
+
+-- ---- Moments
+
+-- a fact of any moments, and one that follows
+-- the moments of a clock, or none
+abbrev pub some_moments : Option Moments → Moments
+some_moments None = no_moments
+some_moments (Some told) = told
+
+pub some_told : (clock : Option Moments) → IfTold clock (λ told. some_moments clock ≡ told)
+some_told None = tt
+some_told (Some told) = refl
+
+pub at_any : (clock : Option Moments) (P : Moments → Type 0) → ((moments : Moments) → P moments) → AtMoments clock P
+at_any clock P p = record { moments = some_moments clock; told = some_told clock; holds = p (some_moments clock) }
+
+pub at_more : (clock : Option Moments) (P Q : Moments → Type 0) → ((moments : Moments) → P moments → Q moments) → AtMoments clock P → AtMoments clock Q
+at_more clock P Q more x = record { moments = x.moments; told = x.told; holds = more x.moments x.holds }
+
+each_always : (clock : Option Moments) {P : Moments → Type 0} → ((moments : Moments) → P moments) → IfTold clock P
+each_always None p = tt
+each_always (Some told) p = p told
+
+if_more : (clock : Option Moments) (P Q : Moments → Type 0) → ((moments : Moments) → P moments → Q moments) → IfTold clock P → IfTold clock Q
+if_more None P Q more x = tt
+if_more (Some told) P Q more x = more told x
+
+-- what is so of some moments is so of those that have to be told
+needed : (c : Command) (tree world : List ℕ) (result : Exit) (a b : Side) (clock : Option Moments) →
+    AtMoments clock (λ moments. Answers (FilesGive c tree world moments a.drivers) result a b) → IfTold (moments_for (Some c) clock) (λ moments. Answers (FilesGive c tree world moments a.drivers) result a b)
+needed (Tick t w main) tree world result a b clock x = x.holds
+needed (Live t w rounds main) tree world result a b None x = tt
+needed (Live t w rounds main) tree world result a b (Some told) x = subst (λ (moments : Moments). Answers (FilesGive (Live t w rounds main) tree world moments a.drivers) result a b) x.told x.holds
+needed (Check t main) tree world result a b clock x = x.holds
+
+-- ---- Clauses
 
 -- the clauses of a command
 module _ (one : OneReading) (c : Command) (result : Exit) (shelf : Type 0) (IsUnread : File → Type 0) (a b : Side) where
-  answered_gave : (tree world : List ℕ) (o : Output) → FilesGive c tree world a.drivers o → Answers (FilesGive c tree world a.drivers) result a b → Gave o result a b
-  answered_gave tree world o p (inl x) = subst (λ (z : Output). Gave z result a b) (one_files one c tree world a.drivers x.0 o x.1 p) x.2
-  answered_gave tree world o p (inr y) = nothing_gave o result a b y.0 y.1
+  answered_gave : (tree world : List ℕ) (moments : Moments) (o : Output) → FilesGive c tree world moments a.drivers o → Answers (FilesGive c tree world moments a.drivers) result a b → Gave o result a b
+  answered_gave tree world moments o p (inl x) = subst (λ (z : Output). Gave z result a b) (one_files one c tree world moments a.drivers x.0 o x.1 p) x.2
+  answered_gave tree world moments o p (inr y) = nothing_gave o result a b y.0 y.1
 
-  each_told : (h : List ℕ → List ℕ) (o : Output) → CommandGives (Some c) h a.drivers o → ReadFailed shelf IsUnread result a b ⊎ FilesAnswered (Some h) c result a b → Gave o result a b ⊎ ReadFailed shelf IsUnread result a b
-  each_told h o p (inl r) = inr r
-  each_told h o p (inr f) = inl (answered_gave f.tree f.world o (files_told h c f.tree f.world a.drivers o f.is_tree f.is_world p) f.answers)
+  each_answered : (h : List ℕ → List ℕ) (f : FilesAnswered (Some h) c result a b) → EachOutput (Some h) (Some c) a (λ o. Gave o result a b)
+  each_answered h f =
+      if_more (moments_for (Some c) a.clock) (λ moments. Answers (FilesGive c f.tree f.world moments a.drivers) result a b) (λ moments. (o : Output) → CommandGives (Some c) h moments a.drivers o → Gave o result a b)
+      (λ moments answers o p. answered_gave f.tree f.world moments o (files_told h c f.tree f.world moments a.drivers o f.is_tree f.is_world p) answers)
+      (needed c f.tree f.world result a b a.clock f.answers)
+
+  each_told : (h : List ℕ → List ℕ) → ReadFailed shelf IsUnread result a b ⊎ FilesAnswered (Some h) c result a b → EachOutput (Some h) (Some c) a (λ o. Gave o result a b ⊎ ReadFailed shelf IsUnread result a b)
+  each_told h (inl r) = each_always (moments_for (Some c) a.clock) (λ moments o p. inr r)
+  each_told h (inr f) =
+      if_more (moments_for (Some c) a.clock) (λ moments. (o : Output) → CommandGives (Some c) h moments a.drivers o → Gave o result a b) (λ moments. (o : Output) → CommandGives (Some c) h moments a.drivers o → Gave o result a b ⊎ ReadFailed shelf IsUnread result a b)
+      (λ moments each o p. inl (each o p)) (each_answered h f)
 
   -- each output of the command was given, or a read failed
-  pub each_clause : (holds : Option (List ℕ → List ℕ)) → ReadFailed shelf IsUnread result a b ⊎ FilesAnswered holds c result a b → EachOutput holds (Some c) a.drivers (λ o. Gave o result a b ⊎ ReadFailed shelf IsUnread result a b)
+  pub each_clause : (holds : Option (List ℕ → List ℕ)) → ReadFailed shelf IsUnread result a b ⊎ FilesAnswered holds c result a b → EachOutput holds (Some c) a (λ o. Gave o result a b ⊎ ReadFailed shelf IsUnread result a b)
   each_clause None x = tt
-  each_clause (Some h) x = λ o p. each_told h o p x
+  each_clause (Some h) x = each_told h x
 
   complete_told : (o : Output) → Gave o result a b ⊎ ReadFailed shelf IsUnread result a b → (shelf → ⊥) → (Rose a.faults b.faults → ⊥) → (result ≡ exit.Memory) ⊎ IsWhole o result a b
   complete_told o (inl p) s k = whole_or_memory o result a b k p
   complete_told o (inr r) s k = absurd (s r.0)
 
   -- where no count rose, the output is whole or memory ran out
-  pub complete_clause : (holds : Option (List ℕ → List ℕ)) → ReadFailed shelf IsUnread result a b ⊎ FilesAnswered holds c result a b → EachOutput holds (Some c) a.drivers (λ o. (shelf → ⊥) → (Rose a.faults b.faults → ⊥) → (result ≡ exit.Memory) ⊎ IsWhole o result a b)
+  pub complete_clause : (holds : Option (List ℕ → List ℕ)) → ReadFailed shelf IsUnread result a b ⊎ FilesAnswered holds c result a b → EachOutput holds (Some c) a (λ o. (shelf → ⊥) → (Rose a.faults b.faults → ⊥) → (result ≡ exit.Memory) ⊎ IsWhole o result a b)
   complete_clause None x = tt
-  complete_clause (Some h) x = λ o p. complete_told o (each_told h o p x)
+  complete_clause (Some h) x =
+      if_more (moments_for (Some c) a.clock) (λ moments. (o : Output) → CommandGives (Some c) h moments a.drivers o → Gave o result a b ⊎ ReadFailed shelf IsUnread result a b)
+      (λ moments. (o : Output) → CommandGives (Some c) h moments a.drivers o → (shelf → ⊥) → (Rose a.faults b.faults → ⊥) → (result ≡ exit.Memory) ⊎ IsWhole o result a b)
+      (λ moments each o p. complete_told o (each o p)) (each_told h x)
 
 -- the clauses of words that are no command
 module _ (result : Exit) (shelf : Type 0) (IsUnread : File → Type 0) (a b : Side) (gave : Gave words_refused result a b) where
@@ -137,11 +191,11 @@ module _ (result : Exit) (shelf : Type 0) (IsUnread : File → Type 0) (a b : Si
   refused_gave : (o : Output) → o ≡ words_refused → Gave o result a b
   refused_gave o e = subst (λ (z : Output). Gave z result a b) (sym e) gave
 
-  pub none_each : (holds : Option (List ℕ → List ℕ)) → EachOutput holds None a.drivers (λ o. Gave o result a b ⊎ ReadFailed shelf IsUnread result a b)
+  pub none_each : (holds : Option (List ℕ → List ℕ)) → EachOutput holds None a (λ o. Gave o result a b ⊎ ReadFailed shelf IsUnread result a b)
   none_each None = tt
   none_each (Some h) = λ o e. inl (refused_gave o e)
 
-  pub none_complete : (holds : Option (List ℕ → List ℕ)) → EachOutput holds None a.drivers (λ o. (shelf → ⊥) → (Rose a.faults b.faults → ⊥) → (result ≡ exit.Memory) ⊎ IsWhole o result a b)
+  pub none_complete : (holds : Option (List ℕ → List ℕ)) → EachOutput holds None a (λ o. (shelf → ⊥) → (Rose a.faults b.faults → ⊥) → (result ≡ exit.Memory) ⊎ IsWhole o result a b)
   none_complete None = tt
   none_complete (Some h) = λ o e s k. whole_or_memory o result a b k (refused_gave o e)
 
@@ -170,19 +224,19 @@ match_true true P Q e p = p
 match_true false P Q e p = cc
 
 -- the output of files that are not too long
-pub tick_gives : (main : Option (List ℕ)) (tree world : List ℕ) (drivers : List DriverState) (r : Result Tree TreeFault) (o : Output) → length tree ≤ 1048576 → length world ≤ 1048576
-    → TreeReads main tree r → TreeGives r world drivers o → TickGives main tree world drivers o
-tick_gives main tree world drivers r o st sw reads_as e =
+pub run_gives : (main : Option (List ℕ)) (tree world : List ℕ) (g : Given) (r : Result Tree TreeFault) (o : Output) → length tree ≤ 1048576 → length world ≤ 1048576
+    → TreeReads main tree r → TreeGives r world g o → RunGives main tree world g o
+run_gives main tree world g r o st sw reads_as e =
     match_false (is_too_long tree) _ _ (short_is tree st) (match_false (is_too_long world) _ _ (short_is world sw) (r, reads_as, e))
 
 pub check_gives : (main : Option (List ℕ)) (tree : List ℕ) (r : Result Tree TreeFault) → length tree ≤ 1048576 → TreeReads main tree r → CheckGives main tree (check_output r)
 check_gives main tree r short reads_as = match_false (is_too_long tree) _ _ (short_is tree short) (r, reads_as, refl)
 
 -- a tree that was read, with what a run of it was answered
-pub tick_answers : (main : Option (List ℕ)) (tree world : List ℕ) (r : Result Tree TreeFault) (result : Exit) (a b : Side) → length tree ≤ 1048576 → length world ≤ 1048576
-    → TreeReads main tree r → Answers (TreeGives r world a.drivers) result a b → Answers (TickGives main tree world a.drivers) result a b
-tick_answers main tree world r result a b st sw reads_as (inl x) = inl (x.0, tick_gives main tree world a.drivers r x.0 st sw reads_as x.1, x.2)
-tick_answers main tree world r result a b st sw reads_as (inr y) = inr y
+pub run_answers : (main : Option (List ℕ)) (tree world : List ℕ) (g : Given) (r : Result Tree TreeFault) (result : Exit) (a b : Side) → length tree ≤ 1048576 → length world ≤ 1048576
+    → TreeReads main tree r → Answers (TreeGives r world g) result a b → Answers (RunGives main tree world g) result a b
+run_answers main tree world g r result a b st sw reads_as (inl x) = inl (x.0, run_gives main tree world g r x.0 st sw reads_as x.1, x.2)
+run_answers main tree world g r result a b st sw reads_as (inr y) = inr y
 
 -- what a file holds, where the shelf tells it
 record Contents (holds : Option (List ℕ → List ℕ)) (name : List ℕ) : Type 0 where
@@ -213,8 +267,12 @@ named_contents holds None = record { bytes = []; told = tt }
 named_contents holds (Some name) = record { bytes = (contents_of holds name).bytes; told = (contents_of holds name).told }
 
 -- memory ran out before the output was known
-pub world_out_of_memory : (holds : Option (List ℕ → List ℕ)) (main : Option (List ℕ)) (tree name : List ℕ) (a b : Side) → b.written ≡ a.written → WorldAnswered holds main tree name exit.Memory a b
-world_out_of_memory holds main tree name a b same = record { world = (contents_of holds name).bytes; is_world = (contents_of holds name).told; answers = inr (refl, same) }
+pub world_out_of_memory : (holds : Option (List ℕ → List ℕ)) (main : Option (List ℕ)) (course : Course) (tree name : List ℕ) (a b : Side) → b.written ≡ a.written → WorldAnswered holds main course tree name exit.Memory a b
+world_out_of_memory holds main course tree name a b same = record {
+  world = (contents_of holds name).bytes;
+  is_world = (contents_of holds name).told;
+  answers = at_any a.clock (λ moments. Answers (RunGives main tree (contents_of holds name).bytes (given course moments a.drivers)) exit.Memory a b) (λ moments. inr (refl, same));
+}
 
 pub tree_out_of_memory : (holds : Option (List ℕ → List ℕ)) (c : Command) (a b : Side) → b.written ≡ a.written → FilesAnswered holds c exit.Memory a b
 tree_out_of_memory holds c a b same = record {
@@ -222,19 +280,25 @@ tree_out_of_memory holds c a b same = record {
   world = (named_contents holds (world_name c)).bytes;
   is_tree = (contents_of holds (tree_name c)).told;
   is_world = (named_contents holds (world_name c)).told;
-  answers = inr (refl, same);
+  answers = at_any a.clock (λ moments. Answers (FilesGive c (contents_of holds (tree_name c)).bytes (named_contents holds (world_name c)).bytes moments a.drivers) exit.Memory a b) (λ moments. inr (refl, same));
 }
 
 -- the world file is too long
-pub long_world : (holds : Option (List ℕ → List ℕ)) (main : Option (List ℕ)) (tree name room : List ℕ) (result : Exit) (a b : Side) → length tree ≤ 1048576 → length room ≡ 1048577 → Told holds name (λ file. 1048576 < length file)
-    → Gave world_too_long result a b → WorldAnswered holds main tree name result a b
-long_world holds main tree name room result a b short e h gave =
+pub long_world : (holds : Option (List ℕ → List ℕ)) (main : Option (List ℕ)) (course : Course) (tree name room : List ℕ) (result : Exit) (a b : Side) → length tree ≤ 1048576 → length room ≡ 1048577 → Told holds name (λ file. 1048576 < length file)
+    → Gave world_too_long result a b → WorldAnswered holds main course tree name result a b
+long_world holds main course tree name room result a b short e h gave =
     let f = long_file holds name room e h in
-    record { world = f.bytes; is_world = f.told; answers = inl (world_too_long, match_false (is_too_long tree) _ _ (short_is tree short) (match_true (is_too_long f.bytes) _ _ (long_is f.bytes f.long) refl), gave) }
+    record {
+      world = f.bytes;
+      is_world = f.told;
+      answers = at_any a.clock (λ moments. Answers (RunGives main tree f.bytes (given course moments a.drivers)) result a b)
+          (λ moments. inl (world_too_long, match_false (is_too_long tree) _ _ (short_is tree short) (match_true (is_too_long f.bytes) _ _ (long_is f.bytes f.long) refl), gave));
+    }
 
-long_gives : (c : Command) (tree world : List ℕ) (drivers : List DriverState) → 1048576 < length tree → FilesGive c tree world drivers tree_too_long
-long_gives (Tick t w main) tree world drivers long = match_true (is_too_long tree) _ _ (long_is tree long) refl
-long_gives (Check t main) tree world drivers long = match_true (is_too_long tree) _ _ (long_is tree long) refl
+long_gives : (c : Command) (tree world : List ℕ) (moments : Moments) (drivers : List DriverState) → 1048576 < length tree → FilesGive c tree world moments drivers tree_too_long
+long_gives (Tick t w main) tree world moments drivers long = match_true (is_too_long tree) _ _ (long_is tree long) refl
+long_gives (Live t w rounds main) tree world moments drivers long = match_true (is_too_long tree) _ _ (long_is tree long) refl
+long_gives (Check t main) tree world moments drivers long = match_true (is_too_long tree) _ _ (long_is tree long) refl
 
 -- the tree file is too long
 pub long_tree : (holds : Option (List ℕ → List ℕ)) (c : Command) (room : List ℕ) (result : Exit) (a b : Side) → length room ≡ 1048577 → Told holds (tree_name c) (λ file. 1048576 < length file)
@@ -246,13 +310,20 @@ long_tree holds c room result a b e h gave =
       world = (named_contents holds (world_name c)).bytes;
       is_tree = f.told;
       is_world = (named_contents holds (world_name c)).told;
-      answers = inl (tree_too_long, long_gives c f.bytes (named_contents holds (world_name c)).bytes a.drivers f.long, gave);
+      answers = at_any a.clock (λ moments. Answers (FilesGive c f.bytes (named_contents holds (world_name c)).bytes moments a.drivers) result a b)
+          (λ moments. inl (tree_too_long, long_gives c f.bytes (named_contents holds (world_name c)).bytes moments a.drivers f.long, gave));
     }
 
 -- a tree file that was read, with what a check of it was answered
 pub check_ends : (holds : Option (List ℕ → List ℕ)) (main : Option (List ℕ)) (tree bytes : List ℕ) (result : Exit) (a b : Side) → Told holds tree (λ file. bytes ≡ file)
     → Answers (CheckGives main bytes) result a b → FilesAnswered holds (Check tree main) result a b
-check_ends holds main tree bytes result a b told answers = record { tree = bytes; world = []; is_tree = told; is_world = tt; answers = answers }
+check_ends holds main tree bytes result a b told answers = record {
+  tree = bytes;
+  world = [];
+  is_tree = told;
+  is_world = tt;
+  answers = at_any a.clock (λ moments. Answers (CheckGives main bytes) result a b) (λ moments. answers);
+}
 
 -- a file that is told is as long as its bytes
 told_short : (holds : Option (List ℕ → List ℕ)) (name bytes : List ℕ) → Told holds name (λ file. bytes ≡ file) → length bytes ≤ 1048576 → Told holds name (λ file. length file ≤ 1048576)
@@ -261,12 +332,29 @@ told_short (Some h) name bytes told short = subst (λ (file : List ℕ). length 
 
 -- a tree file that was read, with what a run of it was answered, the world file being read behind it
 module _ {Shelf : Type 0} (read_gives : Reading Shelf) (holds : Option (List ℕ → List ℕ)) (main : Option (List ℕ)) (tree world bytes : List ℕ) (old between new : Shelf) (fell rose last : ℕ) (result : Exit) (a b : Side) where
-  pub tick_ends : fell ≤ rose → read_gives old tree (Ok tt) between → Told holds tree (λ file. bytes ≡ file) → length bytes ≤ 1048576
-      → ReadFailed (Rose rose last) (λ file. (file ≡ WorldFile) × read_gives between world (Err shelf_fault.Failed) new) result a b ⊎ WorldAnswered holds main bytes world result a b
-      → ReadFailed (Rose fell last) (Unread read_gives holds (Tick tree world main) old new) result a b ⊎ FilesAnswered holds (Tick tree world main) result a b
-  tick_ends less read told short (inl r) =
-      inl (Rose-after fell rose last less r.0, WorldFile, (between, read, told_short holds tree bytes told short, r.2.1), subst (λ (f : File). Gave (unread f) result a b) r.2.0 r.3)
-  tick_ends less read told short (inr w) = inr (record { tree = bytes; world = w.world; is_tree = told; is_world = w.is_world; answers = w.answers })
+  ran_ends : (course : Course) → WorldAnswered holds main course bytes world result a b → Told holds tree (λ file. bytes ≡ file) → FilesAnswered holds (run_command course tree world main) result a b
+  ran_ends course.Script w told = record { tree = bytes; world = w.world; is_tree = told; is_world = w.is_world; answers = w.answers }
+  ran_ends (course.Rounds rounds) w told = record { tree = bytes; world = w.world; is_tree = told; is_world = w.is_world; answers = w.answers }
+
+  unread_ends : (course : Course) → WorldUnread read_gives holds tree (Some world) old new → Unread read_gives holds (run_command course tree world main) old new WorldFile
+  unread_ends course.Script u = u
+  unread_ends (course.Rounds rounds) u = u
+
+  pub run_ends : (course : Course) → fell ≤ rose → read_gives old tree (Ok tt) between → Told holds tree (λ file. bytes ≡ file) → length bytes ≤ 1048576
+      → ReadFailed (Rose rose last) (λ file. (file ≡ WorldFile) × read_gives between world (Err shelf_fault.Failed) new) result a b ⊎ WorldAnswered holds main course bytes world result a b
+      → ReadFailed (Rose fell last) (Unread read_gives holds (run_command course tree world main) old new) result a b ⊎ FilesAnswered holds (run_command course tree world main) result a b
+  run_ends course less read told short (inl r) =
+      inl (Rose-after fell rose last less r.0, WorldFile, unread_ends course (between, read, told_short holds tree bytes told short, r.2.1), subst (λ (f : File). Gave (unread f) result a b) r.2.0 r.3)
+  run_ends course less read told short (inr w) = inr (ran_ends course w told)
+
+-- the tree file of a run could not be read, or is named so
+pub tree_unread : {Shelf : Type 0} (read_gives : Reading Shelf) (holds : Option (List ℕ → List ℕ)) (main : Option (List ℕ)) (tree world : List ℕ) (old new : Shelf) (course : Course) → read_gives old tree (Err shelf_fault.Failed) new → Unread read_gives holds (run_command course tree world main) old new TreeFile
+tree_unread read_gives holds main tree world old new course.Script u = u
+tree_unread read_gives holds main tree world old new (course.Rounds rounds) u = u
+
+pub tree_is_named : (holds : Option (List ℕ → List ℕ)) (main : Option (List ℕ)) (tree world : List ℕ) (course : Course) (P : List ℕ → Type 0) → Told holds tree P → Told holds (tree_name (run_command course tree world main)) P
+tree_is_named holds main tree world course.Script P told = told
+tree_is_named holds main tree world (course.Rounds rounds) P told = told
 
 -- no output of files has the exit of a failed read
 read_exit : (o z : Output) → o ≡ z → o.exit ≡ exit.Read → z.exit ≡ exit.Read
@@ -276,21 +364,21 @@ unread_ended : (fault : Option RunFault) → run_exit fault ≡ exit.Read → �
 unread_ended None e = cc
 unread_ended (Some fault) e = cc
 
-unread_joined : (lack : Option JoinFault) (tree : Tree) (world : World) (drivers : List DriverState) → (joined_output lack tree world drivers).exit ≡ exit.Read → ⊥
-unread_joined None tree world drivers e = unread_ended (run tree world).fault e
-unread_joined (Some fault) tree world drivers e = cc
+unread_joined : (lack : Option JoinFault) (tree : Tree) (world : World) (g : Given) → (joined_output lack tree world g).exit ≡ exit.Read → ⊥
+unread_joined None tree world g e = unread_ended (run_over tree world (g.events world)).fault e
+unread_joined (Some fault) tree world g e = cc
 
-unread_world : (r : Result World WorldFault) (tree : Tree) (drivers : List DriverState) → (world_output r tree drivers).exit ≡ exit.Read → ⊥
-unread_world (Ok world) tree drivers e = unread_joined (lack_of tree world drivers) tree world drivers e
-unread_world (Err f) tree drivers e = cc
+unread_world : (r : Result World WorldFault) (tree : Tree) (g : Given) → (world_output r tree g).exit ≡ exit.Read → ⊥
+unread_world (Ok world) tree g e = unread_joined (lack_of tree world g.drivers) tree world g e
+unread_world (Err f) tree g e = cc
 
 unread_check : (r : Result Tree TreeFault) → (check_output r).exit ≡ exit.Read → ⊥
 unread_check (Ok tree) e = cc
 unread_check (Err f) e = cc
 
-unread_tree : (r : Result Tree TreeFault) (world : List ℕ) (drivers : List DriverState) (o : Output) → TreeGives r world drivers o → o.exit ≡ exit.Read → ⊥
-unread_tree (Ok tree) world drivers o p e = unread_world p.0 tree drivers (read_exit o _ p.2 e)
-unread_tree (Err f) world drivers o p e = let x = read_exit o (tree_refused f) p e in cc
+unread_tree : (r : Result Tree TreeFault) (world : List ℕ) (g : Given) (o : Output) → TreeGives r world g o → o.exit ≡ exit.Read → ⊥
+unread_tree (Ok tree) world g o p e = unread_world p.0 tree g (read_exit o _ p.2 e)
+unread_tree (Err f) world g o p e = let x = read_exit o (tree_refused f) p e in cc
 
 unread_if : (b : Bool) (o z : Output) (P : Type 0) → (z.exit ≡ exit.Read → ⊥) → MatchBool b (o ≡ z) P → (P → o.exit ≡ exit.Read → ⊥) → o.exit ≡ exit.Read → ⊥
 unread_if true o z P nz p k e = nz (read_exit o z p e)
@@ -302,19 +390,25 @@ long_tree_read e = cc
 long_world_read : world_too_long.exit ≡ exit.Read → ⊥
 long_world_read e = cc
 
-unread_files : (c : Command) (tree world : List ℕ) (drivers : List DriverState) (o : Output) → FilesGive c tree world drivers o → o.exit ≡ exit.Read → ⊥
-unread_files (Tick t w main) tree world drivers o p e =
+unread_run : (main : Option (List ℕ)) (tree world : List ℕ) (g : Given) (o : Output) → RunGives main tree world g o → o.exit ≡ exit.Read → ⊥
+unread_run main tree world g o p e =
     unread_if (is_too_long tree) o tree_too_long _ long_tree_read p
-    (λ p1 e1. unread_if (is_too_long world) o world_too_long _ long_world_read p1 (λ p2 e2. unread_tree p2.0 world drivers o p2.2 e2) e1) e
-unread_files (Check t main) tree world drivers o p e =
+    (λ p1 e1. unread_if (is_too_long world) o world_too_long _ long_world_read p1 (λ p2 e2. unread_tree p2.0 world g o p2.2 e2) e1) e
+
+unread_files : (c : Command) (tree world : List ℕ) (moments : Moments) (drivers : List DriverState) (o : Output) → FilesGive c tree world moments drivers o → o.exit ≡ exit.Read → ⊥
+unread_files (Tick t w main) tree world moments drivers o p e = unread_run main tree world (given course.Script moments drivers) o p e
+unread_files (Live t w rounds main) tree world moments drivers o p e = unread_run main tree world (given (course.Rounds rounds) moments drivers) o p e
+unread_files (Check t main) tree world moments drivers o p e =
     unread_if (is_too_long tree) o tree_too_long _ long_tree_read p (λ p1 e1. unread_check p1.0 (read_exit o _ p1.2 e1)) e
 
 -- the bytes of the answer are those that the shelf tells
-told_files : (h : List ℕ → List ℕ) (c : Command) (tree world : List ℕ) (drivers : List DriverState) (o : Output) → tree ≡ h (tree_name c) → ToldIfNamed (Some h) (world_name c) (λ file. world ≡ file)
-    → FilesGive c tree world drivers o → FilesGive c (h (tree_name c)) (held_by h (world_name c)) drivers o
-told_files h (Tick t w main) tree world drivers o is_tree is_world p =
-    subst (λ (z : List ℕ). TickGives main z (h w) drivers o) is_tree (subst (λ (z : List ℕ). TickGives main tree z drivers o) is_world p)
-told_files h (Check t main) tree world drivers o is_tree is_world p = subst (λ (z : List ℕ). CheckGives main z o) is_tree p
+told_files : (h : List ℕ → List ℕ) (c : Command) (tree world : List ℕ) (moments : Moments) (drivers : List DriverState) (o : Output) → tree ≡ h (tree_name c) → ToldIfNamed (Some h) (world_name c) (λ file. world ≡ file)
+    → FilesGive c tree world moments drivers o → FilesGive c (h (tree_name c)) (held_by h (world_name c)) moments drivers o
+told_files h (Tick t w main) tree world moments drivers o is_tree is_world p =
+    subst (λ (z : List ℕ). RunGives main z (h w) (given course.Script moments drivers) o) is_tree (subst (λ (z : List ℕ). RunGives main tree z (given course.Script moments drivers) o) is_world p)
+told_files h (Live t w rounds main) tree world moments drivers o is_tree is_world p =
+    subst (λ (z : List ℕ). RunGives main z (h w) (given (course.Rounds rounds) moments drivers) o) is_tree (subst (λ (z : List ℕ). RunGives main tree z (given (course.Rounds rounds) moments drivers) o) is_world p)
+told_files h (Check t main) tree world moments drivers o is_tree is_world p = subst (λ (z : List ℕ). CheckGives main z o) is_tree p
 
 -- no tree was run where a file was not read
 unread_left : (f : File) (a b : Side) → DriversLeft (unread f).drivers a.drivers b.drivers → AreUncalled a.drivers b.drivers
@@ -327,24 +421,29 @@ not_given WorldFile x = x
 
 -- what was given whole, and what a failed read gave
 module _ (c : Command) (result : Exit) (shelf : Type 0) (IsUnread : File → Type 0) (a b : Side) where
-  whole_answered : (h : List ℕ → List ℕ) (f : FilesAnswered (Some h) c result a b) → IsGiven result → Answers (FilesGive c f.tree f.world a.drivers) result a b → WholeOutput (Some h) (Some c) result a b
-  whole_answered h f given (inl x) =
-      (x.0, told_files h c f.tree f.world a.drivers x.0 f.is_tree f.is_world x.1, whole_given x.0 result a b given x.2)
-  whole_answered h f given (inr y) = absurd (subst IsGiven y.0 given)
+  whole_answered : (h : List ℕ → List ℕ) (f : FilesAnswered (Some h) c result a b) → IsGiven result → (moments : Moments) → Answers (FilesGive c f.tree f.world moments a.drivers) result a b
+      → (o : Output) × CommandGives (Some c) h moments a.drivers o × IsWhole o result a b
+  whole_answered h f given moments (inl x) = (x.0, told_files h c f.tree f.world moments a.drivers x.0 f.is_tree f.is_world x.1, whole_given x.0 result a b given x.2)
+  whole_answered h f given moments (inr y) = absurd (subst IsGiven y.0 given)
 
   pub whole_clause : (holds : Option (List ℕ → List ℕ)) → ReadFailed shelf IsUnread result a b ⊎ FilesAnswered holds c result a b → IsGiven result → WholeOutput holds (Some c) result a b
   whole_clause None x given = tt
   whole_clause (Some h) (inl r) given = absurd (not_given r.1 (subst IsGiven (sym (whole_given (unread r.1) result a b given r.3).0) given))
-  whole_clause (Some h) (inr f) given = whole_answered h f given f.answers
+  whole_clause (Some h) (inr f) given =
+      if_more (moments_for (Some c) a.clock) (λ moments. Answers (FilesGive c f.tree f.world moments a.drivers) result a b) (λ moments. (o : Output) × CommandGives (Some c) h moments a.drivers o × IsWhole o result a b)
+      (whole_answered h f given) (needed c f.tree f.world result a b a.clock f.answers)
 
-  read_answered : (tree world : List ℕ) → result ≡ exit.Read → Answers (FilesGive c tree world a.drivers) result a b → ⊥
-  read_answered tree world is (inl x) =
+  read_answered : (tree world : List ℕ) (moments : Moments) → result ≡ exit.Read → Answers (FilesGive c tree world moments a.drivers) result a b → ⊥
+  read_answered tree world moments is (inl x) =
       let gave : Gave x.0 exit.Read a b = subst (λ (e : Exit). Gave x.0 e a b) is x.2 in
-      unread_files c tree world a.drivers x.0 x.1 gave.0
-  read_answered tree world is (inr y) = let e : exit.Memory ≡ exit.Read = sym y.0 ∙ is in cc
+      unread_files c tree world moments a.drivers x.0 x.1 gave.0
+  read_answered tree world moments is (inr y) = let e : exit.Memory ≡ exit.Read = sym y.0 ∙ is in cc
+
+  never_read : (clock : Option Moments) (tree world : List ℕ) → result ≡ exit.Read → AtMoments clock (λ moments. Answers (FilesGive c tree world moments a.drivers) result a b) → ⊥
+  never_read clock tree world is x = read_answered tree world x.moments is x.holds
 
   pub read_clause : (holds : Option (List ℕ → List ℕ)) → ReadFailed shelf IsUnread result a b ⊎ FilesAnswered holds c result a b → result ≡ exit.Read → shelf × UnreadLine IsUnread a b
   read_clause holds (inl r) is =
       let gave : Gave (unread r.1) exit.Read a b = subst (λ (e : Exit). Gave (unread r.1) e a b) is r.3 in
       (r.0, (r.1, r.2, gave.1, unread_left r.1 a b gave.2))
-  read_clause holds (inr f) is = absurd (read_answered f.tree f.world is f.answers)
+  read_clause holds (inr f) is = absurd (never_read a.clock f.tree f.world is f.answers)

@@ -1,10 +1,11 @@
 -- What the answer of a command says.
-use Rattle.std.specs.Prelude.{ℕ, ◌≡◌, ◌≤◌, ◌⊎◌, List, length, Option, Some, None, Result, Ok, Err}
+use Rattle.std.specs.Prelude.{ℕ, ◌≡◌, ◌≤◌, ◌⊎◌, List, [], length, Option, Some, None, option_map, Result, Ok, Err}
 use Rattle.bt_loop.specs.Steps.{IsSameRoster}
+use Rattle.bt_main.specs.declared.course.Course.{Course}
 use Rattle.bt_main.specs.declared.exit.Exit.{Exit}
 use Rattle.bt_main.specs.declared.exit.Exit.TheVariants as exit
-use Rattle.bt_main.specs.Output.{Output, CommandGives, FilesGive, TickGives, tree_name, unread, words_refused, world_name}
-use Rattle.bt_main.specs.Words.{Command, File, TreeFile, WorldFile}
+use Rattle.bt_main.specs.Output.{Asked, Never, Times, UpToFault, Output, CommandGives, FilesGive, RunGives, given, tree_name, unread, words_refused, world_name}
+use Rattle.bt_main.specs.Words.{Command, Live, File, TreeFile, WorldFile}
 use Rattle.bt_model.specs.Drivers.{DriverState, NothingHeld, driver_at}
 use Rattle.bt_run.specs.declared.ended.Ended.{Ended}
 use Rattle.bt_run.specs.declared.ended.Ended.TheVariants.{Done, Faulted}
@@ -13,20 +14,24 @@ use Rattle.bt_text.specs.declared.stop.TextStop.TheVariants as stop
 use Rattle.bt_outside.specs.Appending.{Appended, AppendedFront}
 use Rattle.bt_outside.specs.Counts.{Rose}
 use Rattle.bt_outside.specs.Files.{Told}
+use Rattle.bt_outside.specs.Moments.{Moments}
+use Rattle.bt_model.specs.Run.{opening}
+use Rattle.bt_run.specs.Rounds.{AreBegun, moments_after}
 use Rattle.bt_outside.specs.declared.shelf.ShelfFault.{ShelfFault}
 use Rattle.bt_outside.specs.declared.shelf.ShelfFault.TheVariants as fault
 
 -- ---- What is found and left
 
--- what a command finds and what it leaves: the bytes of the sink, where it tells them, with its count of failures,
--- and the drivers
+-- what a command finds and what it leaves: the bytes of the sink, where it tells them, with its count of failures; the
+-- moments of the clock, where it tells them; and the drivers
 pub record Side : Type 0 where
   pub written : Option (List ℕ)
   pub faults : ℕ
+  pub clock : Option Moments
   pub drivers : List DriverState
 
-abbrev pub side : Option (List ℕ) → ℕ → List DriverState → Side
-side written faults drivers = record { written = written; faults = faults; drivers = drivers }
+abbrev pub side : Option (List ℕ) → ℕ → Option Moments → List DriverState → Side
+side written faults clock drivers = record { written = written; faults = faults; clock = clock; drivers = drivers }
 
 -- the same drivers in the same places, of which none holds anything
 pub record AreKept (old new : List DriverState) : Type 0 where
@@ -41,6 +46,14 @@ AreUncalled old new = (place : ℕ) → (driver_at new place).totals ≡ (driver
 abbrev pub DriversLeft : Option (List DriverState) → List DriverState → List DriverState → Type 0
 DriversLeft (Some behind) old new = new ≡ behind
 DriversLeft None old new = AreUncalled old new
+
+-- the clock was asked so often
+abbrev pub ClockLeft : Asked → Option Moments → Option Moments → Type 0
+ClockLeft Never old new = new ≡ old
+ClockLeft (Times times) old new = new ≡ option_map (moments_after times) old
+ClockLeft (UpToFault tree world moments) None new = Unit {0}
+ClockLeft (UpToFault tree world moments) (Some old) new =
+    (begun : ℕ) × AreBegun tree world 0 moments (opening tree world) begun × (new ≡ Some (moments_after begun old))
 
 -- ---- Exits
 
@@ -57,10 +70,11 @@ IsGiven exit.Write = ⊥
 IsGiven exit.Memory = ⊥
 IsGiven _ = Unit {0}
 
--- this is the exit of the output, whose bytes were written whole, and the drivers are those that it leaves
+-- this is the exit of the output, whose bytes were written whole, and the drivers and the clock are as it leaves them
 abbrev pub IsWhole : Output → Exit → Side → Side → Type 0
 IsWhole o result old new =
-    (o.exit ≡ result) × Appended old.written new.written o.bytes × DriversLeft o.drivers old.drivers new.drivers
+    (o.exit ≡ result) × Appended old.written new.written o.bytes
+    × DriversLeft o.drivers old.drivers new.drivers × ClockLeft o.asked old.clock new.clock
 
 -- the exit of a run that was ended so
 abbrev pub exit_of : Result Ended TextStop → Exit
@@ -80,6 +94,28 @@ Gave o other old new = IsWhole o other old new
 abbrev pub Answers : (Output → Type 0) → Exit → Side → Side → Type 0
 Answers IsOutput result old new =
     ((o : Output) × IsOutput o × Gave o result old new) ⊎ ((result ≡ exit.Memory) × (new.written ≡ old.written))
+
+-- ---- Moments
+
+-- a fact of the moments that a clock tells, where it does
+abbrev pub IfTold : Option Moments → (Moments → Type 0) → Type 0
+IfTold (Some told) P = P told
+IfTold None P = Unit {0}
+
+-- a fact of the moments that a clock tells, or of some where it tells none
+pub record AtMoments (clock : Option Moments) (P : Moments → Type 0) : Type 0 where
+  pub moments : Moments
+  pub told : IfTold clock (λ told. moments ≡ told)
+  pub holds : P moments
+
+-- no moments at all
+abbrev pub no_moments : Moments
+no_moments = record { ahead = []; last = 0 }
+
+-- what has to be told of a clock for the output of a command: its moments for `live`, and nothing for others
+abbrev pub moments_for : Option Command → Option Moments → Option Moments
+moments_for (Some (Live tree world rounds main)) clock = clock
+moments_for _ clock = Some no_moments
 
 -- ---- Reads
 
@@ -118,16 +154,17 @@ abbrev pub ToldIfNamed : Option (List ℕ → List ℕ) → Option (List ℕ) �
 ToldIfNamed holds None P = Unit {0}
 ToldIfNamed holds (Some name) P = Told holds name P
 
--- the output of these bytes of the files that a command names, which are those that the shelf tells
+-- the output of these bytes of the files that a command names, and of these moments, which are those that the shelf
+-- and the clock tell
 pub record FilesAnswered (holds : Option (List ℕ → List ℕ)) (command : Command) (result : Exit) (old new : Side) : Type 0 where
   pub tree : List ℕ
   pub world : List ℕ
   pub is_tree : Told holds (tree_name command) (λ file. tree ≡ file)
   pub is_world : ToldIfNamed holds (world_name command) (λ file. world ≡ file)
-  pub answers : Answers (FilesGive command tree world old.drivers) result old new
+  pub answers : AtMoments old.clock (λ moments. Answers (FilesGive command tree world moments old.drivers) result old new)
 
--- What words were answered, also by a shelf that tells nothing: the output of some bytes of its files was given,
--- or the line of a file whose read failed; or the words are no command.
+-- What words were answered, also by a shelf or a clock that tells nothing: the output of some bytes of its files and of
+-- some moments was given, or the line of a file whose read failed; or the words are no command.
 abbrev pub CommandAnswered : Option Command → Option (List ℕ → List ℕ) → Type 0 → (File → Type 0) → Exit → Side → Side → Type 0
 CommandAnswered None holds shelf_rose IsUnread result old new = Gave words_refused result old new
 CommandAnswered (Some command) holds shelf_rose IsUnread result old new =
@@ -138,19 +175,20 @@ abbrev pub UnreadLine : (File → Type 0) → Side → Side → Type 0
 UnreadLine IsUnread old new =
     (file : File) × IsUnread file × Appended old.written new.written (unread file).bytes × AreUncalled old.drivers new.drivers
 
--- the output of a command over told files was given whole
+-- the output of a command over told files and moments was given whole
 abbrev pub WholeOutput : Option (List ℕ → List ℕ) → Option Command → Exit → Side → Side → Type 0
 WholeOutput None command result old new = Unit {0}
-WholeOutput (Some holds) command result old new =
-    (o : Output) × CommandGives command holds old.drivers o × IsWhole o result old new
+WholeOutput (Some holds) command result old new = IfTold (moments_for command old.clock) (λ moments.
+    (o : Output) × CommandGives command holds moments old.drivers o × IsWhole o result old new)
 
--- a fact of each output of a command over told files and these drivers
-abbrev pub EachOutput : Option (List ℕ → List ℕ) → Option Command → List DriverState → (Output → Type 0) → Type 0
-EachOutput None command drivers P = Unit {0}
-EachOutput (Some holds) command drivers P = (o : Output) → CommandGives command holds drivers o → P o
+-- a fact of each output of a command over told files and moments, and what it found
+abbrev pub EachOutput : Option (List ℕ → List ℕ) → Option Command → Side → (Output → Type 0) → Type 0
+EachOutput None command old P = Unit {0}
+EachOutput (Some holds) command old P = IfTold (moments_for command old.clock) (λ moments.
+    (o : Output) → CommandGives command holds moments old.drivers o → P o)
 
--- the output of `tick` over the bytes of a tree file and of a world file, which are those that the shelf tells
-pub record WorldAnswered (holds : Option (List ℕ → List ℕ)) (main : Option (List ℕ)) (tree name : List ℕ) (result : Exit) (old new : Side) : Type 0 where
+-- the output of a run over the bytes of a tree file and of a world file, which are those that the shelf tells
+pub record WorldAnswered (holds : Option (List ℕ → List ℕ)) (main : Option (List ℕ)) (course : Course) (tree name : List ℕ) (result : Exit) (old new : Side) : Type 0 where
   pub world : List ℕ
   pub is_world : Told holds name (λ file. world ≡ file)
-  pub answers : Answers (TickGives main tree world old.drivers) result old new
+  pub answers : AtMoments old.clock (λ moments. Answers (RunGives main tree world (given course moments old.drivers)) result old new)

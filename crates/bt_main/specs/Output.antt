@@ -4,33 +4,46 @@ use Rattle.std.specs.List.{concat}
 use Rattle.bt_arena.specs.declared.join_fault.JoinFault.{JoinFault}
 use Rattle.bt_arena.specs.Joins.{first_lack}
 use Rattle.bt_loop.specs.Served.{roster_after_run}
+use Rattle.bt_main.specs.declared.course.Course.{Course}
+use Rattle.bt_main.specs.declared.course.Course.TheVariants as course
 use Rattle.bt_main.specs.declared.exit.Exit.{Exit}
 use Rattle.bt_main.specs.declared.exit.Exit.TheVariants as exit
 use Rattle.bt_main.specs.declared.tree_file.TreeFault.{TreeFault}
 use Rattle.bt_main.specs.Refusals.{join_words, tree_words, world_words}
 use Rattle.bt_main.specs.TreeFiles.{TreeReads}
-use Rattle.bt_main.specs.Words.{Command, Tick, Check, File, TreeFile, WorldFile}
+use Rattle.bt_main.specs.Words.{Command, Tick, Live, Check, File, TreeFile, WorldFile}
 use Rattle.bt_model.specs.declared.fault.RunFault.{RunFault}
 use Rattle.bt_model.specs.declared.term.Tree.{Tree}
+use Rattle.bt_model.specs.declared.world.Event.{Event}
 use Rattle.bt_model.specs.declared.world.World.{World}
 use Rattle.bt_model.specs.declared.world_fault.WorldFault.{WorldFault}
 use Rattle.bt_model.specs.Drivers.{DriverState}
 use Rattle.bt_model.specs.Lines.{line_names}
 use Rattle.bt_model.specs.PrintedTree.{tree_lines}
-use Rattle.bt_model.specs.Run.{Trace, run}
+use Rattle.bt_model.specs.Run.{Trace, run_over}
 use Rattle.bt_model.specs.Terms.{leaf_ids, node_count, work_of}
 use Rattle.bt_model.specs.WorldFile.{ReadsWorld}
+use Rattle.bt_outside.specs.Moments.{Moments}
+use Rattle.bt_run.specs.Rounds.{live_events, taken}
 use Rattle.bt_run.specs.Texts.{text_of}
 
--- the bytes that are written, the exit, and the drivers behind the run, where a tree was run
+-- how often the clock was asked: never, so many times, or once for each round at these moments up to the one that faults
+pub data Asked : Type 0 where
+  Never : Asked
+  Times : (times : ℕ) → Asked
+  UpToFault : (tree : Tree) (world : World) (moments : List ℕ) → Asked
+
+-- the bytes that are written, the exit, the drivers behind the run, where a tree was run, and how often the clock was
+-- asked
 pub record Output : Type 0 where
   pub bytes : List ℕ
   pub exit : Exit
   pub drivers : Option (List DriverState)
+  pub asked : Asked
 
 -- a refusal is one line, and no tree was run
 abbrev pub refused : List ℕ → Exit → Output
-refused line exit = record { bytes = line ++ codes "\n"; exit = exit; drivers = None }
+refused line exit = record { bytes = line ++ codes "\n"; exit = exit; drivers = None; asked = Never }
 
 abbrev pub words_refused : Output
 words_refused = refused (codes "refused words") exit.Words
@@ -68,7 +81,7 @@ count_line tree = codes "<!-- nodes " ++ decimal (node_count tree.term) ++ codes
 
 -- a check prints the tree as it was read
 abbrev pub check_output : Result Tree TreeFault → Output
-check_output (Ok tree) = record { bytes = concat (tree_lines tree) ++ count_line tree; exit = exit.Done; drivers = None }
+check_output (Ok tree) = record { bytes = concat (tree_lines tree) ++ count_line tree; exit = exit.Done; drivers = None; asked = Never }
 check_output (Err fault) = tree_refused fault
 
 -- ---- Runs
@@ -78,43 +91,63 @@ abbrev pub run_exit : Option RunFault → Exit
 run_exit None = exit.Done
 run_exit (Some fault) = exit.Fault
 
+-- the events that are run: those of the world's script, or rounds at the moments of a clock
+abbrev pub events_by : Course → Moments → World → List Event
+events_by course.Script moments world = world.events
+events_by (course.Rounds rounds) moments world = live_events world 0 (taken rounds moments)
+
+-- how often a run asks the clock: once a round, and never for a script
+abbrev pub asked_by : Course → Moments → Tree → World → Option RunFault → Asked
+asked_by course.Script moments tree world fault = Never
+asked_by (course.Rounds rounds) moments tree world None = Times rounds
+asked_by (course.Rounds rounds) moments tree world (Some fault) = UpToFault tree world (taken rounds moments)
+
+-- what a run is given beside its files: its events, how often they ask the clock, and the drivers
+pub record Given : Type 0 where
+  pub events : World → List Event
+  pub asked : Tree → World → Option RunFault → Asked
+  pub drivers : List DriverState
+
+abbrev pub given : Course → Moments → List DriverState → Given
+given course moments drivers = record { events = events_by course moments; asked = asked_by course moments; drivers = drivers }
+
 -- what is written of a run: its trace, block by block; the drivers were prepared and then made its calls
-abbrev pub traced : Tree → World → List DriverState → Trace → Output
-traced tree world drivers trace = record {
+abbrev pub traced : Tree → World → Given → Trace → Output
+traced tree world g trace = record {
   bytes = text_of (line_names tree world) trace.blocks;
   exit = run_exit trace.fault;
-  drivers = Some (roster_after_run tree world drivers trace.calls);
+  drivers = Some (roster_after_run tree world g.drivers trace.calls);
+  asked = g.asked tree world trace.fault;
 }
 
--- the run of a tree in a world, over the events of the world's script
-abbrev pub run_output : Tree → World → List DriverState → Output
-run_output tree world drivers = traced tree world drivers (run tree world)
+-- the run of a tree in a world
+abbrev pub run_output : Tree → World → Given → Output
+run_output tree world g = traced tree world g (run_over tree world (g.events world))
 
 -- a tree and a world run where every leaf has a row and a driver; else the first that lacks one is told
-abbrev pub joined_output : Option JoinFault → Tree → World → List DriverState → Output
-joined_output None tree world drivers = run_output tree world drivers
-joined_output (Some fault) tree world drivers = join_refused fault
+abbrev pub joined_output : Option JoinFault → Tree → World → Given → Output
+joined_output None tree world g = run_output tree world g
+joined_output (Some fault) tree world g = join_refused fault
 
 -- what the first leaf in pre-order lacks that lacks a row or a driver
 abbrev pub lack_of : Tree → World → List DriverState → Option JoinFault
 lack_of tree world drivers = first_lack world.rows drivers (leaf_ids tree.term)
 
 -- a tree with what the world file reads as
-abbrev pub world_output : Result World WorldFault → Tree → List DriverState → Output
-world_output (Ok world) tree drivers = joined_output (lack_of tree world drivers) tree world drivers
-world_output (Err fault) tree drivers = world_refused fault
+abbrev pub world_output : Result World WorldFault → Tree → Given → Output
+world_output (Ok world) tree g = joined_output (lack_of tree world g.drivers) tree world g
+world_output (Err fault) tree g = world_refused fault
 
 -- ---- Files
 
 -- the output of a tree over the bytes of a world file
-abbrev pub WorldGives : Tree → List ℕ → List DriverState → Output → Type 0
-WorldGives tree world drivers output =
-    (described : Result World WorldFault) × ReadsWorld world described × (output ≡ world_output described tree drivers)
+abbrev pub WorldGives : Tree → List ℕ → Given → Output → Type 0
+WorldGives tree world g output = (described : Result World WorldFault) × ReadsWorld world described × (output ≡ world_output described tree g)
 
 -- the output of what a tree file reads as over the bytes of a world file
-abbrev pub TreeGives : Result Tree TreeFault → List ℕ → List DriverState → Output → Type 0
-TreeGives (Ok tree) world drivers output = WorldGives tree world drivers output
-TreeGives (Err fault) world drivers output = output ≡ tree_refused fault
+abbrev pub TreeGives : Result Tree TreeFault → List ℕ → Given → Output → Type 0
+TreeGives (Ok tree) world g output = WorldGives tree world g output
+TreeGives (Err fault) world g output = output ≡ tree_refused fault
 
 -- ---- Commands
 
@@ -122,12 +155,12 @@ TreeGives (Err fault) world drivers output = output ≡ tree_refused fault
 abbrev pub OrTooLong : List ℕ → Output → Output → Type 0 → Type 0
 OrTooLong bytes refusal output Given = MatchBool (is_too_long bytes) (output ≡ refusal) Given
 
--- the output of `tick` over the bytes of both files and these drivers, with the main tree that is asked for, if one is
-abbrev pub TickGives : Option (List ℕ) → List ℕ → List ℕ → List DriverState → Output → Type 0
-TickGives main tree world drivers output =
+-- the output of a run over the bytes of both files, with the main tree that is asked for, if one is
+abbrev pub RunGives : Option (List ℕ) → List ℕ → List ℕ → Given → Output → Type 0
+RunGives main tree world g output =
     OrTooLong tree tree_too_long output
     (OrTooLong world world_too_long output
-    ((read : Result Tree TreeFault) × TreeReads main tree read × TreeGives read world drivers output))
+    ((read : Result Tree TreeFault) × TreeReads main tree read × TreeGives read world g output))
 
 -- the output of `check` over the bytes of its file
 abbrev pub CheckGives : Option (List ℕ) → List ℕ → Output → Type 0
@@ -135,18 +168,21 @@ CheckGives main tree output =
     OrTooLong tree tree_too_long output
     ((read : Result Tree TreeFault) × TreeReads main tree read × (output ≡ check_output read))
 
--- the output of a command over these bytes of the files that it names, and these drivers
-abbrev pub FilesGive : Command → List ℕ → List ℕ → List DriverState → Output → Type 0
-FilesGive (Tick _ _ main) tree world drivers output = TickGives main tree world drivers output
-FilesGive (Check _ main) tree world drivers output = CheckGives main tree output
+-- the output of a command over these bytes of the files that it names, these moments and these drivers
+abbrev pub FilesGive : Command → List ℕ → List ℕ → Moments → List DriverState → Output → Type 0
+FilesGive (Tick _ _ main) tree world moments drivers output = RunGives main tree world (given course.Script moments drivers) output
+FilesGive (Live _ _ rounds main) tree world moments drivers output = RunGives main tree world (given (course.Rounds rounds) moments drivers) output
+FilesGive (Check _ main) tree world moments drivers output = CheckGives main tree output
 
 -- the files that a command names
 abbrev pub tree_name : Command → List ℕ
 tree_name (Tick tree world main) = tree
+tree_name (Live tree world rounds main) = tree
 tree_name (Check tree main) = tree
 
 abbrev pub world_name : Command → Option (List ℕ)
 world_name (Tick tree world main) = Some world
+world_name (Live tree world rounds main) = Some world
 world_name (Check tree main) = None
 
 -- what a file holds that may be named
@@ -155,6 +191,7 @@ held_by holds (Some name) = holds name
 held_by holds None = []
 
 -- the output of a command over what the files hold; words that are no command are refused
-abbrev pub CommandGives : Option Command → (List ℕ → List ℕ) → List DriverState → Output → Type 0
-CommandGives None holds drivers output = output ≡ words_refused
-CommandGives (Some command) holds drivers output = FilesGive command (holds (tree_name command)) (held_by holds (world_name command)) drivers output
+abbrev pub CommandGives : Option Command → (List ℕ → List ℕ) → Moments → List DriverState → Output → Type 0
+CommandGives None holds moments drivers output = output ≡ words_refused
+CommandGives (Some command) holds moments drivers output =
+    FilesGive command (holds (tree_name command)) (held_by holds (world_name command)) moments drivers output

@@ -1,8 +1,9 @@
 -- The words of the command line.
-use Rattle.std.specs.Prelude.{ℕ, List, [], ◌∷◌, codes, Bool, true, false, ◌&&◌, Option, Some, None, is_none, option_and_then, option_map, if◌then◌else◌}
+use Rattle.std.specs.Prelude.{ℕ, nat_le, ℤ, pos, List, [], ◌∷◌, codes, Bool, true, false, ◌&&◌, ◌||◌, Option, Some, None, is_none, option_and_then, option_map, if◌then◌else◌}
 use Rattle.std.specs.Str.{bytes_eq}
 use Rattle.bt_main.specs.declared.exit.Exit.{Exit}
 use Rattle.bt_main.specs.declared.exit.Exit.TheVariants as exit
+use Rattle.bt_model.specs.Numbers.{int_in}
 
 -- ---- Options
 
@@ -24,29 +25,47 @@ are_options is_name (name ∷ value ∷ options) = is_name name && is_unset name
 
 -- ---- Commands
 
--- a command: its files, and the main tree where it names one
+-- a command: its files, how many rounds, and the main tree where it names one
 pub data Command : Type 0 where
   Tick : (tree world : List ℕ) (main : Option (List ℕ)) → Command
+  Live : (tree world : List ℕ) (rounds : ℕ) (main : Option (List ℕ)) → Command
   Check : (tree : List ℕ) (main : Option (List ℕ)) → Command
 
--- the options of both: the ID of the main tree
-unfoldable pub is_tree_option : List ℕ → Bool
-is_tree_option name = bytes_eq name (codes "--main")
+-- the options: the ID of the main tree, and for some commands a number of ticks
+unfoldable pub is_option : Bool → List ℕ → Bool
+is_option ticks name = bytes_eq name (codes "--main") || ticks && bytes_eq name (codes "--ticks")
+
+-- a number from 1 to 100,000
+abbrev pub as_rounds : Option ℤ → Option ℕ
+as_rounds (Some (pos n)) = if nat_le 1 n && nat_le n 100000 then Some n else None
+as_rounds _ = None
+
+-- the number that the option `--ticks` gives, written canonically
+unfoldable pub rounds_in : List (List ℕ) → Option ℕ
+rounds_in options = option_and_then (λ word. as_rounds (int_in word)) (value_of (codes "--ticks") options)
 
 -- `TREE WORLD [--main ID]`
 abbrev pub tick_of : List (List ℕ) → Option Command
 tick_of (tree ∷ world ∷ options) =
-    if are_options is_tree_option options then Some (Tick tree world (value_of (codes "--main") options)) else None
+    if are_options (is_option false) options then Some (Tick tree world (value_of (codes "--main") options)) else None
 tick_of _ = None
+
+-- `TREE WORLD --ticks N [--main ID]`
+abbrev pub live_of : List (List ℕ) → Option Command
+live_of (tree ∷ world ∷ options) =
+    if are_options (is_option true) options
+    then option_map (λ rounds. Live tree world rounds (value_of (codes "--main") options)) (rounds_in options)
+    else None
+live_of _ = None
 
 -- `TREE [--main ID]`
 abbrev pub check_of : List (List ℕ) → Option Command
-check_of (tree ∷ options) = if are_options is_tree_option options then Some (Check tree (value_of (codes "--main") options)) else None
+check_of (tree ∷ options) = if are_options (is_option false) options then Some (Check tree (value_of (codes "--main") options)) else None
 check_of _ = None
 
 -- the commands by their first words, each with what it makes of the words behind it
 abbrev pub commands : List (List ℕ × (List (List ℕ) → Option Command))
-commands = (codes "tick", tick_of) ∷ (codes "check", check_of) ∷ []
+commands = (codes "tick", tick_of) ∷ (codes "live", live_of) ∷ (codes "check", check_of) ∷ []
 
 abbrev pub command_among : List (List ℕ × (List (List ℕ) → Option Command)) → List ℕ → List (List ℕ) → Option Command
 command_among [] word words = None

@@ -1,13 +1,15 @@
 ghost use Rattle.std.specs.Prelude.{◌≡◌, ◌≤◌, ◌⊎◌, List, ℕ, Option, None, Some, Err, length, map};
 ghost use Rattle.std.specs.Option.{option_copied};
 ghost use Rattle.bt_loop.specs.Steps.{IsSameRoster};
-ghost use Rattle.bt_main.specs.Answers.{Answers, AreKept, CommandAnswered, EachOutput, FilesAnswered, Gave, IsGiven, IsWhole, ReadFailed, Unread, UnreadLine, WholeOutput, WordsUnread, WorldAnswered, side};
-ghost use Rattle.bt_main.specs.Commands.{command_seen};
-ghost use Rattle.bt_main.specs.Output.{CheckGives, CommandGives, TickGives, words_refused};
-ghost use Rattle.bt_main.specs.Words.{Check, Tick, WorldFile, command_of};
+ghost use Rattle.bt_main.specs.Answers.{Answers, AreKept, AtMoments, CommandAnswered, EachOutput, FilesAnswered, Gave, IsGiven, IsWhole, ReadFailed, Unread, UnreadLine, WholeOutput, WordsUnread, WorldAnswered, side};
+ghost use Rattle.bt_main.specs.Commands.{command_seen, run_command};
+ghost use Rattle.bt_main.specs.Output.{CheckGives, CommandGives, RunGives, given, words_refused};
+ghost use Rattle.bt_main.specs.Words.{Check, WorldFile, command_of};
 ghost use Rattle.bt_model.specs.Drivers.{DriverState, NothingHeld};
 ghost use Rattle.bt_outside.specs.Counts.{Rose};
+ghost use Rattle.bt_outside.specs.Moments.{Moments};
 
+use crate::course::Course;
 use crate::exit::Exit;
 use crate::join::{refuse_tree, run_world, write_last};
 use crate::printing::print_tree;
@@ -15,7 +17,7 @@ use crate::tree_file::read_tree;
 use crate::words::{Command, read_command};
 use bt_driver::Driver;
 use bt_elements::{element_or_fault, one_element};
-use bt_outside::{Shelf, ShelfFault, Sink};
+use bt_outside::{Clock, Shelf, ShelfFault, Sink};
 use bt_script::{Name, Stop};
 use bt_world::laws::worlds_read_one_way;
 use std::alloc::Global;
@@ -24,25 +26,28 @@ use std::alloc::Global;
 const MOST_BYTES: u64 = 1_048_576;
 
 /// Runs the tree of a tree file over the world of a world file.
-fn answer_files<K: Sink>(
+fn answer_files<K: Sink, C: Clock>(
     alloc: Global,
     tree: &[u8],
     world: &[u8],
     main: Option<&Name>,
+    course: Course,
     out: &mut K,
+    clock: &mut C,
     roster: &mut Vec<Box<dyn Driver>>,
 ) -> Exit
     requires tree { length tree.now ≤ 1048576 }
     requires world { length world.now ≤ 1048576 }
     requires quiet { NothingHeld (map (λ b. state b) roster.old.items) }
-    ensures answers { Answers (TickGives (option_copied main.entry) tree.now world.now (map (λ b. state b) roster.old.items)) result
-        (side (K.written out.old) (K.faults out.old) (map (λ b. state b) roster.old.items))
-        (side (K.written out.new) (K.faults out.new) (map (λ b. state b) roster.new.items)) }
+    ensures answers { let old = side (K.written out.old) (K.faults out.old) (C.moments clock.old) (map (λ b. state b) roster.old.items) in
+        let new = side (K.written out.new) (K.faults out.new) (C.moments clock.new) (map (λ b. state b) roster.new.items) in
+        AtMoments old.clock (λ moments.
+        Answers (RunGives (option_copied main.entry) tree.now world.now (given course moments old.drivers)) result old new) }
     ensures kept { AreKept (map (λ b. state b) roster.old.items) (map (λ b. state b) roster.new.items) }
     ensures count { K.faults out.old ≤ K.faults out.new }
 {
     match read_tree(alloc, tree, main) {
-        Ok(tree) => run_world(alloc, &tree, world, out, roster),
+        Ok(tree) => run_world(alloc, &tree, world, course, out, clock, roster),
         Err(Stop::Fault(fault)) => refuse_tree(alloc, &fault, out),
         Err(Stop::NoMemory) => Exit::Memory,
     }
@@ -51,8 +56,8 @@ fn answer_files<K: Sink>(
 /// Prints the tree of a tree file.
 fn answer_check<K: Sink>(alloc: Global, tree: &[u8], main: Option<&Name>, out: &mut K) -> Exit
     requires { length tree.now ≤ 1048576 }
-    ensures answers { (drivers : List DriverState) → Answers (CheckGives (option_copied main.entry) tree.now) result
-        (side (K.written out.old) (K.faults out.old) drivers) (side (K.written out.new) (K.faults out.new) drivers) }
+    ensures answers { (clock : Option Moments) (drivers : List DriverState) → Answers (CheckGives (option_copied main.entry) tree.now) result
+        (side (K.written out.old) (K.faults out.old) clock drivers) (side (K.written out.new) (K.faults out.new) clock drivers) }
     ensures count { K.faults out.old ≤ K.faults out.new }
 {
     match read_tree(alloc, tree, main) {
@@ -70,9 +75,9 @@ fn check<S: Shelf, K: Sink>(
     shelf: &mut S,
     out: &mut K,
 ) -> Exit
-    ensures answers { (drivers : List DriverState) →
-        let old = side (K.written out.old) (K.faults out.old) drivers in
-        let new = side (K.written out.new) (K.faults out.new) drivers in
+    ensures answers { (clock : Option Moments) (drivers : List DriverState) →
+        let old = side (K.written out.old) (K.faults out.old) clock drivers in
+        let new = side (K.written out.new) (K.faults out.new) clock drivers in
         let command = Check tree.now (option_copied main.entry) in
         ReadFailed (Rose (S.faults shelf.old) (S.faults shelf.new))
         (Unread S.read_gives (S.holds shelf.old) command shelf.old shelf.new) result old new
@@ -90,19 +95,21 @@ fn check<S: Shelf, K: Sink>(
 }
 
 /// Reads both files of a run and answers them.
-fn tick<S: Shelf, K: Sink>(
+fn run_files<S: Shelf, K: Sink, C: Clock>(
     alloc: Global,
     tree: &Name,
     world: &Name,
     main: Option<&Name>,
+    course: Course,
     shelf: &mut S,
     out: &mut K,
+    clock: &mut C,
     roster: &mut Vec<Box<dyn Driver>>,
 ) -> Exit
     requires quiet { NothingHeld (map (λ b. state b) roster.old.items) }
-    ensures answers { let old = side (K.written out.old) (K.faults out.old) (map (λ b. state b) roster.old.items) in
-        let new = side (K.written out.new) (K.faults out.new) (map (λ b. state b) roster.new.items) in
-        let command = Tick tree.now world.now (option_copied main.entry) in
+    ensures answers { let old = side (K.written out.old) (K.faults out.old) (C.moments clock.old) (map (λ b. state b) roster.old.items) in
+        let new = side (K.written out.new) (K.faults out.new) (C.moments clock.new) (map (λ b. state b) roster.new.items) in
+        let command = run_command course tree.now world.now (option_copied main.entry) in
         ReadFailed (Rose (S.faults shelf.old) (S.faults shelf.new))
         (Unread S.read_gives (S.holds shelf.old) command shelf.old shelf.new) result old new
         ⊎ FilesAnswered (S.holds shelf.old) command result old new }
@@ -112,7 +119,17 @@ fn tick<S: Shelf, K: Sink>(
 {
     let mut bytes = Vec::new(alloc);
     match shelf.read(tree, &mut bytes, MOST_BYTES) {
-        Ok(()) => answer_world(alloc, bytes.as_slice(), world, main, shelf, out, roster),
+        Ok(()) => answer_world(
+            alloc,
+            bytes.as_slice(),
+            world,
+            main,
+            course,
+            shelf,
+            out,
+            clock,
+            roster,
+        ),
         Err(ShelfFault::Failed) => write_last(out, b"refused read tree\n", Exit::Read),
         Err(ShelfFault::TooLong) => write_last(out, b"refused tree TooLong\n", Exit::Tree),
         Err(ShelfFault::NoMemory) => Exit::Memory,
@@ -120,29 +137,40 @@ fn tick<S: Shelf, K: Sink>(
 }
 
 /// Reads the world file of a run, whose tree file was read, and answers both.
-fn answer_world<S: Shelf, K: Sink>(
+fn answer_world<S: Shelf, K: Sink, C: Clock>(
     alloc: Global,
     tree: &[u8],
     world: &Name,
     main: Option<&Name>,
+    course: Course,
     shelf: &mut S,
     out: &mut K,
+    clock: &mut C,
     roster: &mut Vec<Box<dyn Driver>>,
 ) -> Exit
     requires short { length tree.now ≤ 1048576 }
     requires quiet { NothingHeld (map (λ b. state b) roster.old.items) }
-    ensures answers { let old = side (K.written out.old) (K.faults out.old) (map (λ b. state b) roster.old.items) in
-        let new = side (K.written out.new) (K.faults out.new) (map (λ b. state b) roster.new.items) in
+    ensures answers { let old = side (K.written out.old) (K.faults out.old) (C.moments clock.old) (map (λ b. state b) roster.old.items) in
+        let new = side (K.written out.new) (K.faults out.new) (C.moments clock.new) (map (λ b. state b) roster.new.items) in
         ReadFailed (Rose (S.faults shelf.old) (S.faults shelf.new))
         (λ file. (file ≡ WorldFile) × S.read_gives shelf.old world.now (Err ShelfFault.Failed) shelf.new) result old new
-        ⊎ WorldAnswered (S.holds shelf.old) (option_copied main.entry) tree.now world.now result old new }
+        ⊎ WorldAnswered (S.holds shelf.old) (option_copied main.entry) course tree.now world.now result old new }
     ensures kept { AreKept (map (λ b. state b) roster.old.items) (map (λ b. state b) roster.new.items) }
     ensures read_count { S.faults shelf.old ≤ S.faults shelf.new }
     ensures count { K.faults out.old ≤ K.faults out.new }
 {
     let mut bytes = Vec::new(alloc);
     match shelf.read(world, &mut bytes, MOST_BYTES) {
-        Ok(()) => answer_files(alloc, tree, bytes.as_slice(), main, out, roster),
+        Ok(()) => answer_files(
+            alloc,
+            tree,
+            bytes.as_slice(),
+            main,
+            course,
+            out,
+            clock,
+            roster,
+        ),
         Err(ShelfFault::Failed) => write_last(out, b"refused read world\n", Exit::Read),
         Err(ShelfFault::TooLong) => write_last(out, b"refused world TooLong\n", Exit::World),
         Err(ShelfFault::NoMemory) => Exit::Memory,
@@ -150,16 +178,17 @@ fn answer_world<S: Shelf, K: Sink>(
 }
 
 /// Runs a command over its files.
-fn answer_command<S: Shelf, K: Sink>(
+fn answer_command<S: Shelf, K: Sink, C: Clock>(
     alloc: Global,
     command: Command,
     shelf: &mut S,
     out: &mut K,
+    clock: &mut C,
     roster: &mut Vec<Box<dyn Driver>>,
 ) -> Exit
     requires quiet { NothingHeld (map (λ b. state b) roster.old.items) }
-    ensures answers { let old = side (K.written out.old) (K.faults out.old) (map (λ b. state b) roster.old.items) in
-        let new = side (K.written out.new) (K.faults out.new) (map (λ b. state b) roster.new.items) in
+    ensures answers { let old = side (K.written out.old) (K.faults out.old) (C.moments clock.old) (map (λ b. state b) roster.old.items) in
+        let new = side (K.written out.new) (K.faults out.new) (C.moments clock.new) (map (λ b. state b) roster.new.items) in
         ReadFailed (Rose (S.faults shelf.old) (S.faults shelf.new))
         (Unread S.read_gives (S.holds shelf.old) (command_seen command.entry) shelf.old shelf.new) result old new
         ⊎ FilesAnswered (S.holds shelf.old) (command_seen command.entry) result old new }
@@ -168,18 +197,31 @@ fn answer_command<S: Shelf, K: Sink>(
     ensures count { K.faults out.old ≤ K.faults out.new }
 {
     match command {
-        Command::Tick { tree, world, main } => tick(alloc, tree, world, main, shelf, out, roster),
+        Command::Tick { tree, world, main } => {
+            let course = Course::Script;
+            run_files(alloc, tree, world, main, course, shelf, out, clock, roster)
+        }
+        Command::Live {
+            tree,
+            world,
+            rounds,
+            main,
+        } => {
+            let course = Course::Rounds(rounds);
+            run_files(alloc, tree, world, main, course, shelf, out, clock, roster)
+        }
         Command::Check { tree, main } => check(alloc, tree, main, shelf, out),
     }
 }
 
 /// Answers the words of the command line: runs the command that they are, over the files of the
-/// shelf and the drivers of the roster, and writes its output line by line to the sink.
-pub fn bt<S: Shelf, K: Sink>(
+/// shelf, the moments of the clock and the drivers of the roster, and writes its output line by line to the sink.
+pub fn bt<S: Shelf, K: Sink, C: Clock>(
     alloc: Global,
     words: &[Name],
     shelf: &mut S,
     out: &mut K,
+    clock: &mut C,
     roster: &mut Vec<Box<dyn Driver>>,
 ) -> Exit
     requires quiet { NothingHeld (map (λ b. state b) roster.old.items) }
@@ -187,39 +229,41 @@ pub fn bt<S: Shelf, K: Sink>(
     // Words exactly where the words are no command, but for a sink that fails and want of memory.
     ensures words { result ≡ Exit.Words → command_of words.now ≡ None }
     ensures no_command { command_of words.now ≡ None → Gave words_refused result
-        (side (K.written out.old) (K.faults out.old) (map (λ b. state b) roster.old.items))
-        (side (K.written out.new) (K.faults out.new) (map (λ b. state b) roster.new.items)) }
+        (side (K.written out.old) (K.faults out.old) (C.moments clock.old) (map (λ b. state b) roster.old.items))
+        (side (K.written out.new) (K.faults out.new) (C.moments clock.new) (map (λ b. state b) roster.new.items)) }
 
     // At Done, Words, Tree, World and Fault the whole output of the definition was written, this is
-    // its exit, and the drivers are those behind its run; where no tree was run, none was called.
+    // its exit, and the drivers are those behind its run; where no tree was run, none was called. The
+    // clock was asked once a round by a run by the clock that is done, and by no other command.
     ensures whole { IsGiven result → WholeOutput (S.holds shelf.old) (command_of words.now) result
-        (side (K.written out.old) (K.faults out.old) (map (λ b. state b) roster.old.items))
-        (side (K.written out.new) (K.faults out.new) (map (λ b. state b) roster.new.items)) }
+        (side (K.written out.old) (K.faults out.old) (C.moments clock.old) (map (λ b. state b) roster.old.items))
+        (side (K.written out.new) (K.faults out.new) (C.moments clock.new) (map (λ b. state b) roster.new.items)) }
 
     // The output was given, whole or a front of it, or a read failed.
-    ensures each { let old = side (K.written out.old) (K.faults out.old) (map (λ b. state b) roster.old.items) in
-        let new = side (K.written out.new) (K.faults out.new) (map (λ b. state b) roster.new.items) in
-        EachOutput (S.holds shelf.old) (command_of words.now) old.drivers (λ o. Gave o result old new
+    ensures each { let old = side (K.written out.old) (K.faults out.old) (C.moments clock.old) (map (λ b. state b) roster.old.items) in
+        let new = side (K.written out.new) (K.faults out.new) (C.moments clock.new) (map (λ b. state b) roster.new.items) in
+        EachOutput (S.holds shelf.old) (command_of words.now) old (λ o. Gave o result old new
         ⊎ ReadFailed (Rose (S.faults shelf.old) (S.faults shelf.new))
         (WordsUnread S.read_gives (S.holds shelf.old) (command_of words.now) shelf.old shelf.new) result old new) }
 
-    // Also where the shelf tells nothing: this is so of the output of some bytes of its files.
+    // Also where the shelf or the clock tells nothing: this is so of the output of some bytes of its
+    // files, and of some moments.
     ensures any_shelf { CommandAnswered (command_of words.now) (S.holds shelf.old) (Rose (S.faults shelf.old) (S.faults shelf.new))
         (WordsUnread S.read_gives (S.holds shelf.old) (command_of words.now) shelf.old shelf.new) result
-        (side (K.written out.old) (K.faults out.old) (map (λ b. state b) roster.old.items))
-        (side (K.written out.new) (K.faults out.new) (map (λ b. state b) roster.new.items)) }
+        (side (K.written out.old) (K.faults out.old) (C.moments clock.old) (map (λ b. state b) roster.old.items))
+        (side (K.written out.new) (K.faults out.new) (C.moments clock.new) (map (λ b. state b) roster.new.items)) }
 
     // At Read the read of a file failed, and the line of this file was written.
     ensures read { result ≡ Exit.Read → Rose (S.faults shelf.old) (S.faults shelf.new)
         × UnreadLine (WordsUnread S.read_gives (S.holds shelf.old) (command_of words.now) shelf.old shelf.new)
-        (side (K.written out.old) (K.faults out.old) (map (λ b. state b) roster.old.items))
-        (side (K.written out.new) (K.faults out.new) (map (λ b. state b) roster.new.items)) }
+        (side (K.written out.old) (K.faults out.old) (C.moments clock.old) (map (λ b. state b) roster.old.items))
+        (side (K.written out.new) (K.faults out.new) (C.moments clock.new) (map (λ b. state b) roster.new.items)) }
     ensures write { result ≡ Exit.Write → Rose (K.faults out.old) (K.faults out.new) }
 
     // Where no count rose, the whole output was written, or memory ran out.
-    ensures complete { let old = side (K.written out.old) (K.faults out.old) (map (λ b. state b) roster.old.items) in
-        let new = side (K.written out.new) (K.faults out.new) (map (λ b. state b) roster.new.items) in
-        EachOutput (S.holds shelf.old) (command_of words.now) old.drivers (λ o.
+    ensures complete { let old = side (K.written out.old) (K.faults out.old) (C.moments clock.old) (map (λ b. state b) roster.old.items) in
+        let new = side (K.written out.new) (K.faults out.new) (C.moments clock.new) (map (λ b. state b) roster.new.items) in
+        EachOutput (S.holds shelf.old) (command_of words.now) old (λ o.
         ¬ Rose (S.faults shelf.old) (S.faults shelf.new) → ¬ Rose old.faults new.faults
         → (result ≡ Exit.Memory) ⊎ IsWhole o result old new) }
 
@@ -235,7 +279,7 @@ pub fn bt<S: Shelf, K: Sink>(
     element_or_fault();
     worlds_read_one_way();
     match read_command(words) {
-        Some(command) => answer_command(alloc, command, shelf, out, roster),
+        Some(command) => answer_command(alloc, command, shelf, out, clock, roster),
         None => write_last(out, b"refused words\n", Exit::Words),
     }
 }

@@ -1,10 +1,12 @@
-ghost use Rattle.std.specs.Prelude.{◌≡◌, ◌≤◌, List, None, length, map};
-ghost use Rattle.bt_main.specs.Answers.{Answers, AreKept, AreUncalled, Gave, IsSpoken, exit_of, side};
-ghost use Rattle.bt_main.specs.Output.{WorldGives, join_refused, joined_output, lack_of, tree_refused, world_refused};
+ghost use Rattle.std.specs.Prelude.{◌≡◌, ◌≤◌, List, Option, None, length, map};
+ghost use Rattle.bt_main.specs.Answers.{Answers, AreKept, AreUncalled, AtMoments, Gave, IsSpoken, exit_of, side};
+ghost use Rattle.bt_main.specs.Output.{Never, WorldGives, given, join_refused, joined_output, lack_of, tree_refused, world_refused};
 ghost use Rattle.bt_model.specs.Drivers.{DriverState, NothingHeld};
 ghost use Rattle.bt_model.specs.Trees.{IsValid};
 ghost use Rattle.bt_model.specs.Worlds.{IsValidWorld};
+ghost use Rattle.bt_outside.specs.Moments.{Moments};
 
+use crate::course::Course;
 use crate::exit::Exit;
 use crate::refusal::{join_refusal, tree_refusal, world_refusal};
 use crate::tree_file::TreeFault;
@@ -13,8 +15,8 @@ use bt_board::slots_of;
 use bt_driver::Driver;
 use bt_loop::runs_of;
 use bt_model::{Tree, World, WorldFault};
-use bt_outside::Sink;
-use bt_run::{Ended, run_events};
+use bt_outside::{Clock, Sink};
+use bt_run::{Ended, run_events, run_rounds};
 use bt_script::{NoMemory, Stop};
 use bt_text::{TextStop, names_of, write_line};
 use bt_world::read_world;
@@ -23,8 +25,8 @@ use std::alloc::Global;
 /// Writes a line that ends the program with this exit.
 pub fn write_last<K: Sink>(out: &mut K, line: &[u8], exit: Exit) -> Exit
     requires { IsSpoken exit }
-    ensures gave { (old new : List DriverState) → AreUncalled old new → Gave (record { bytes = line.now; exit = exit; drivers = None }) result
-        (side (K.written out.old) (K.faults out.old) old) (side (K.written out.new) (K.faults out.new) new) }
+    ensures gave { (clock : Option Moments) (old new : List DriverState) → AreUncalled old new → Gave (record { bytes = line.now; exit = exit; drivers = None; asked = Never }) result
+        (side (K.written out.old) (K.faults out.old) clock old) (side (K.written out.new) (K.faults out.new) clock new) }
     ensures count { K.faults out.old ≤ K.faults out.new }
 {
     match write_line(out, line) {
@@ -36,8 +38,8 @@ pub fn write_last<K: Sink>(out: &mut K, line: &[u8], exit: Exit) -> Exit
 
 /// Refuses a tree file for its fault.
 pub fn refuse_tree<K: Sink>(alloc: Global, fault: &TreeFault, out: &mut K) -> Exit
-    ensures gave { (old new : List DriverState) → AreUncalled old new → Gave (tree_refused fault.now) result
-        (side (K.written out.old) (K.faults out.old) old) (side (K.written out.new) (K.faults out.new) new) }
+    ensures gave { (clock : Option Moments) (old new : List DriverState) → AreUncalled old new → Gave (tree_refused fault.now) result
+        (side (K.written out.old) (K.faults out.old) clock old) (side (K.written out.new) (K.faults out.new) clock new) }
     ensures count { K.faults out.old ≤ K.faults out.new }
 {
     match tree_refusal(alloc, fault) {
@@ -48,8 +50,8 @@ pub fn refuse_tree<K: Sink>(alloc: Global, fault: &TreeFault, out: &mut K) -> Ex
 
 /// Refuses a world file for its fault.
 fn refuse_world<K: Sink>(alloc: Global, fault: WorldFault, out: &mut K) -> Exit
-    ensures gave { (old new : List DriverState) → AreUncalled old new → Gave (world_refused fault) result
-        (side (K.written out.old) (K.faults out.old) old) (side (K.written out.new) (K.faults out.new) new) }
+    ensures gave { (clock : Option Moments) (old new : List DriverState) → AreUncalled old new → Gave (world_refused fault) result
+        (side (K.written out.old) (K.faults out.old) clock old) (side (K.written out.new) (K.faults out.new) clock new) }
     ensures count { K.faults out.old ≤ K.faults out.new }
 {
     match world_refusal(alloc, fault) {
@@ -60,8 +62,8 @@ fn refuse_world<K: Sink>(alloc: Global, fault: WorldFault, out: &mut K) -> Exit
 
 /// Refuses a world for what a leaf lacks in it, or in the roster.
 fn refuse_join<K: Sink>(alloc: Global, fault: &JoinFault, out: &mut K) -> Exit
-    ensures gave { (old new : List DriverState) → AreUncalled old new → Gave (join_refused fault.now) result
-        (side (K.written out.old) (K.faults out.old) old) (side (K.written out.new) (K.faults out.new) new) }
+    ensures gave { (clock : Option Moments) (old new : List DriverState) → AreUncalled old new → Gave (join_refused fault.now) result
+        (side (K.written out.old) (K.faults out.old) clock old) (side (K.written out.new) (K.faults out.new) clock new) }
     ensures count { K.faults out.old ≤ K.faults out.new }
 {
     match join_refusal(alloc, fault) {
@@ -71,24 +73,26 @@ fn refuse_join<K: Sink>(alloc: Global, fault: &JoinFault, out: &mut K) -> Exit
 }
 
 /// Reads the world file, and runs the tree over its world.
-pub fn run_world<K: Sink>(
+pub fn run_world<K: Sink, C: Clock>(
     alloc: Global,
     tree: &Tree,
     world: &[u8],
+    course: Course,
     out: &mut K,
+    clock: &mut C,
     roster: &mut Vec<Box<dyn Driver>>,
 ) -> Exit
     requires valid { IsValid tree.now }
     requires short { length world.now ≤ 1048576 }
     requires quiet { NothingHeld (map (λ b. state b) roster.old.items) }
-    ensures answers { Answers (WorldGives tree.now world.now (map (λ b. state b) roster.old.items)) result
-        (side (K.written out.old) (K.faults out.old) (map (λ b. state b) roster.old.items))
-        (side (K.written out.new) (K.faults out.new) (map (λ b. state b) roster.new.items)) }
+    ensures answers { let old = side (K.written out.old) (K.faults out.old) (C.moments clock.old) (map (λ b. state b) roster.old.items) in
+        let new = side (K.written out.new) (K.faults out.new) (C.moments clock.new) (map (λ b. state b) roster.new.items) in
+        AtMoments old.clock (λ moments. Answers (WorldGives tree.now world.now (given course moments old.drivers)) result old new) }
     ensures kept { AreKept (map (λ b. state b) roster.old.items) (map (λ b. state b) roster.new.items) }
     ensures count { K.faults out.old ≤ K.faults out.new }
 {
     match read_world(alloc, world) {
-        Ok(world) => run_joined(alloc, tree, &world, out, roster),
+        Ok(world) => run_joined(alloc, tree, &world, course, out, clock, roster),
         Err(Stop::Fault(fault)) => refuse_world(alloc, fault, out),
         Err(Stop::NoMemory) => Exit::Memory,
     }
@@ -96,20 +100,22 @@ pub fn run_world<K: Sink>(
 
 /// Runs the tree over the world and writes its trace, where every leaf has a row and a driver; else
 /// refuses the first that lacks one.
-fn run_joined<K: Sink>(
+fn run_joined<K: Sink, C: Clock>(
     alloc: Global,
     tree: &Tree,
     world: &World,
+    course: Course,
     out: &mut K,
+    clock: &mut C,
     roster: &mut Vec<Box<dyn Driver>>,
 ) -> Exit
     requires valid { IsValid tree.now }
     requires world { IsValidWorld world.now }
     requires quiet { NothingHeld (map (λ b. state b) roster.old.items) }
-    ensures gave { let found = map (λ b. state b) roster.old.items in
-        Gave (joined_output (lack_of tree.now world.now found) tree.now world.now found) result
-        (side (K.written out.old) (K.faults out.old) found)
-        (side (K.written out.new) (K.faults out.new) (map (λ b. state b) roster.new.items)) }
+    ensures gave { let old = side (K.written out.old) (K.faults out.old) (C.moments clock.old) (map (λ b. state b) roster.old.items) in
+        let new = side (K.written out.new) (K.faults out.new) (C.moments clock.new) (map (λ b. state b) roster.new.items) in
+        AtMoments old.clock (λ moments.
+        Gave (joined_output (lack_of tree.now world.now old.drivers) tree.now world.now (given course moments old.drivers)) result old new) }
     ensures kept { AreKept (map (λ b. state b) roster.old.items) (map (λ b. state b) roster.new.items) }
     ensures count { K.faults out.old ≤ K.faults out.new }
 {
@@ -120,7 +126,14 @@ fn run_joined<K: Sink>(
         return Exit::Memory;
     };
     match runs_of(alloc, tree, &slots, world, roster) {
-        Ok(runs) => exit_of(run_events(alloc, runs, world.events.list(), &names, roster, out)),
+        Ok(runs) => match course {
+            Course::Script => {
+                exit_of(run_events(alloc, runs, world.events.list(), &names, roster, out))
+            }
+            Course::Rounds(rounds) => {
+                exit_of(run_rounds(alloc, runs, rounds, &names, roster, clock, out))
+            }
+        },
         Err(Stop::Fault(fault)) => refuse_join(alloc, &fault, out),
         Err(Stop::NoMemory) => Exit::Memory,
     }

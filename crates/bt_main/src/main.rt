@@ -2,6 +2,7 @@
 #![tactic(auto)]
 
 mod answer;
+mod course;
 mod exit;
 mod join;
 mod printing;
@@ -18,14 +19,14 @@ use crate::roster::add_driver;
 use crate::words::{NoWords, words_of};
 use bt_driver::Driver;
 use bt_leaves::{Conditions, Gate, Replay, Timed};
-use bt_outside::{DirShelf, OutSink};
+use bt_outside::{DirShelf, HostClock, OutSink};
 use bt_script::{Name, NoMemory};
 use std::io;
 use std::process::ExitCode;
-use std::rt::Files;
+use std::rt::{Clock, Files};
 
-/// Makes the shelf, the sink and the drivers of the host, and answers the words over them.
-fn run(rt: &(impl Files + Print + AllocGlobal), words: &[Name]) -> Result<Exit, NoMemory> {
+/// Makes the shelf, the sink, the clock and the drivers of the host, and answers the words over them.
+fn run(rt: &(impl Files + Print + Clock + AllocGlobal), words: &[Name]) -> Result<Exit, NoMemory> {
     let alloc = rt.alloc();
     let mut roster: Vec<Box<dyn Driver>> = Vec::new(alloc);
     add_driver(&mut roster, Box::new(alloc, Conditions::new(alloc))?)?;
@@ -34,7 +35,8 @@ fn run(rt: &(impl Files + Print + AllocGlobal), words: &[Name]) -> Result<Exit, 
     add_driver(&mut roster, Box::new(alloc, Gate::new(alloc))?)?;
     let mut shelf = DirShelf::new(rt);
     let mut out = OutSink::new(alloc, io::writer(rt))?;
-    let exit = bt(alloc, words, &mut shelf, &mut out, &mut roster);
+    let mut clock = HostClock::new(rt);
+    let exit = bt(alloc, words, &mut shelf, &mut out, &mut clock, &mut roster);
     // A write that fails only when all is handed on is a write that failed.
     match out.flush() {
         Ok(()) => Ok(exit),

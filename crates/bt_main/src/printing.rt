@@ -1,4 +1,4 @@
-ghost use Rattle.std.specs.Prelude.{◌≡◌, ◌<◌, ◌≤◌, ◌^◌, ◌++◌, IfOk, OnOk, IsErrOf, List};
+ghost use Rattle.std.specs.Prelude.{◌≡◌, ◌<◌, ◌≤◌, ◌^◌, ◌++◌, IfOk, OnOk, IsErrOf, List, Option};
 ghost use Rattle.std.specs.List.{concat};
 ghost use Rattle.bt_main.specs.Answers.{AreUncalled, Gave, side};
 ghost use Rattle.bt_main.specs.Output.{check_output, count_line};
@@ -8,6 +8,7 @@ ghost use Rattle.bt_model.specs.Terms.{node_count};
 ghost use Rattle.bt_model.specs.Trees.{IsValid};
 ghost use Rattle.bt_outside.specs.Appending.{Appended, AppendedFront};
 ghost use Rattle.bt_outside.specs.Counts.{Rose};
+ghost use Rattle.bt_outside.specs.Moments.{Moments};
 
 use crate::exit::Exit;
 use bt_build::work;
@@ -63,8 +64,8 @@ fn write_check<K: Sink>(alloc: Global, tree: &Tree, out: &mut K) -> Result<(), T
 /// Prints the tree as it was read.
 pub fn print_tree<K: Sink>(alloc: Global, tree: &Tree, out: &mut K) -> Exit
     requires { IsValid tree.now }
-    ensures gave { (old new : List DriverState) → AreUncalled old new → Gave (check_output (Ok tree.now)) result
-        (side (K.written out.old) (K.faults out.old) old) (side (K.written out.new) (K.faults out.new) new) }
+    ensures gave { (clock : Option Moments) (old new : List DriverState) → AreUncalled old new → Gave (check_output (Ok tree.now)) result
+        (side (K.written out.old) (K.faults out.old) clock old) (side (K.written out.new) (K.faults out.new) clock new) }
     ensures count { K.faults out.old ≤ K.faults out.new }
 {
     match write_check(alloc, tree, out) {

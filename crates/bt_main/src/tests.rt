@@ -6,6 +6,7 @@ mod controls;
 mod decorators;
 mod failing;
 mod halts;
+mod live;
 mod runners;
 mod scripts;
 mod stage;

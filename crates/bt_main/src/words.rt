@@ -2,21 +2,30 @@ ghost use Rattle.std.specs.Prelude.{◌≡◌, ◌↔◌, IfOk, MatchOption, Som
 ghost use Rattle.std.specs.IoError.{error_kind};
 ghost use Rattle.std.specs.Option.{option_copied};
 ghost use Rattle.bt_main.specs.Commands.{command_seen};
-ghost use Rattle.bt_main.specs.Words.{are_options, check_of, command_of, is_tree_option, is_unset, tick_of, value_of};
+ghost use Rattle.bt_main.specs.Words.{are_options, check_of, command_of, is_option, is_unset, live_of, rounds_in, as_rounds, tick_of, value_of};
 
+use bt_model::int;
 use bt_script::{Name, NoMemory};
 use std::alloc::{AllocFailed, Global};
 use std::env::Env;
 use std::io::ErrorKind;
 use std::{env, io};
 
-/// A command: the files that it names, and the ID of the main tree where it names one.
+/// A command: the files that it names, how many rounds, and the ID of the main tree where it names one.
 #[derive(Clone, Copy)]
 pub enum Command<'a> {
     /// `tick TREE WORLD [--main ID]`
     Tick {
         tree: &'a Name,
         world: &'a Name,
+        main: Option<&'a Name>,
+    },
+    /// `live TREE WORLD --ticks N [--main ID]`
+    Live {
+        tree: &'a Name,
+        world: &'a Name,
+        /// 1 to 100,000.
+        rounds: u32,
         main: Option<&'a Name>,
     },
     /// `check TREE [--main ID]`
@@ -48,21 +57,21 @@ fn is_unset(options: &[Name], name: &Name) -> bool
     value_of(options, name.list()).is_none()
 }
 
-/// Whether this is the name of an option of the commands that read a tree file.
-#[tactic(auto, unfolding(crate::specs::Words::is_tree_option))]
-fn is_tree_option(name: &Name) -> bool
-    ensures { result ≡ is_tree_option name.now }
+/// Whether this is the name of an option, `--ticks` among them where the command has it.
+#[tactic(auto, unfolding(crate::specs::Words::is_option))]
+fn is_option(ticks: bool, name: &Name) -> bool
+    ensures { result ≡ is_option ticks name.now }
 {
-    name.list() == b"--main".as_slice()
+    name.list() == b"--main".as_slice() || ticks && name.list() == b"--ticks".as_slice()
 }
 
-/// Whether the words are options of the commands that read a tree file, each at most once.
-fn are_tree_options(options: &[Name]) -> bool
-    ensures { result ≡ are_options is_tree_option options.now }
+/// Whether the words are options, each at most once, `--ticks` among them where the command has it.
+fn are_options(options: &[Name], ticks: bool) -> bool
+    ensures { result ≡ are_options (is_option ticks) options.now }
 {
     let mut rest = options;
     while let [name, _value, more @ ..] = rest {
-        if !is_tree_option(name) {
+        if !is_option(ticks, name) {
             return false;
         }
         if !is_unset(more, name) {
@@ -80,6 +89,27 @@ fn main_of<'a>(options: &'a [Name]) -> Option<&'a Name>
     value_of(options, b"--main")
 }
 
+/// A number from 1 to 100,000.
+fn as_rounds(number: Option<i64>) -> Option<u32>
+    ensures { result ≡ as_rounds number }
+{
+    match number {
+        Some(n @ 1..=100_000) => Some(n as u32),
+        _ => None,
+    }
+}
+
+/// The number that the option `--ticks` gives.
+#[tactic(auto, unfolding(crate::specs::Words::rounds_in))]
+fn rounds_in(options: &[Name]) -> Option<u32>
+    ensures { result ≡ rounds_in options.now }
+{
+    match value_of(options, b"--ticks") {
+        Some(word) => as_rounds(int(word.list())),
+        None => None,
+    }
+}
+
 /// The command `tick` with these words behind it.
 fn read_tick<'a>(words: &'a [Name]) -> Option<Command<'a>>
     ensures { MatchOption result (tick_of words.now ≡ None) (λ c. tick_of words.now ≡ Some (command_seen c)) }
@@ -87,7 +117,7 @@ fn read_tick<'a>(words: &'a [Name]) -> Option<Command<'a>>
     let [tree, world, options @ ..] = words else {
         return None;
     };
-    if !are_tree_options(options) {
+    if !are_options(options, false) {
         return None;
     }
     Some(Command::Tick {
@@ -97,6 +127,27 @@ fn read_tick<'a>(words: &'a [Name]) -> Option<Command<'a>>
     })
 }
 
+/// The command `live` with these words behind it.
+fn read_live<'a>(words: &'a [Name]) -> Option<Command<'a>>
+    ensures { MatchOption result (live_of words.now ≡ None) (λ c. live_of words.now ≡ Some (command_seen c)) }
+{
+    let [tree, world, options @ ..] = words else {
+        return None;
+    };
+    if !are_options(options, true) {
+        return None;
+    }
+    match rounds_in(options) {
+        Some(rounds) => Some(Command::Live {
+            tree,
+            world,
+            rounds,
+            main: main_of(options),
+        }),
+        None => None,
+    }
+}
+
 /// The command `check` with these words behind it.
 fn read_check<'a>(words: &'a [Name]) -> Option<Command<'a>>
     ensures { MatchOption result (check_of words.now ≡ None) (λ c. check_of words.now ≡ Some (command_seen c)) }
@@ -104,7 +155,7 @@ fn read_check<'a>(words: &'a [Name]) -> Option<Command<'a>>
     let [tree, options @ ..] = words else {
         return None;
     };
-    if !are_tree_options(options) {
+    if !are_options(options, false) {
         return None;
     }
     Some(Command::Check {
@@ -122,6 +173,8 @@ pub fn read_command<'a>(words: &'a [Name]) -> Option<Command<'a>>
     };
     if word.list() == b"tick".as_slice() {
         read_tick(words)
+    } else if word.list() == b"live".as_slice() {
+        read_live(words)
     } else if word.list() == b"check".as_slice() {
         read_check(words)
     } else {

@@ -1,3 +1,7 @@
-pub mod Steps
+pub mod Cuts
+pub mod Lives
+pub mod Notes
 pub mod Rests
+pub mod Steps
+pub mod Tallies
 pub mod Worlds

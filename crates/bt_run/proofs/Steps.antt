@@ -294,14 +294,15 @@ module _ (tree : Tree) (world : World) (events : List Event) (s : RunState) (are
       subst (λ (es : List Event). IsRun arenas names d0 d1 a b Faulted (all_of es)) (append-nil events) (goes_faulted arenas names d0 d1 a b (all_of (events ++ [])) more result ending ok faulted p)
 
   module _ (result : Result Ended TextStop) (ending : Ended) (part : Trace) (ok : result ≡ Ok ending) (done : ending ≡ Done) (goes : Goes result arenas names d0 d1 a b (all_of (events ++ [])) part) where
-    going : Going arenas names d0 d1 a b (all_of events) part
-    going = subst (λ (es : List Event). Going arenas names d0 d1 a b (all_of es) part) (append-nil events) (goes_done arenas names d0 d1 a b (all_of (events ++ [])) part result ending ok done goes)
+    -- more is to come
+    pub all_going : Going arenas names d0 d1 a b (all_of events) part
+    all_going = subst (λ (es : List Event). Going arenas names d0 d1 a b (all_of es) part) (append-nil events) (goes_done arenas names d0 d1 a b (all_of (events ++ [])) part result ending ok done goes)
 
     -- what comes behind the events was written
     pub all_run : (d2 : List DriverState) (c : Option (List ℕ)) (arenas1 : List (List Node)) → arenas1 ≡ arenas → (last : Result Ended TextStop) → IfOk last (λ e. IsRun arenas1 names d1 d2 b c e part) → IfOk last (λ e. IsRun arenas names d0 d2 a c e (all_of events))
-    all_run d2 c arenas1 same (Ok e) p = going_run arenas names d0 d1 d2 a b c (all_of events) part part e going (subst (λ (x : List (List Node)). IsRun x names d1 d2 b c e part) same p)
+    all_run d2 c arenas1 same (Ok e) p = going_run arenas names d0 d1 d2 a b c (all_of events) part part e all_going (subst (λ (x : List (List Node)). IsRun x names d1 d2 b c e part) same p)
     all_run d2 c arenas1 same (Err stopped) p = tt
 
     -- or a front of it
     pub all_part : (c : Option (List ℕ)) → AppendedFront b c (text_of names part.blocks) → AppendedFront a c (text_of names (all_of events).blocks)
-    all_part c p = going_front arenas names d0 d1 d1 a b c (all_of events) part part going p
+    all_part c p = going_front arenas names d0 d1 d1 a b c (all_of events) part part all_going p

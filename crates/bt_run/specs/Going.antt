@@ -1,5 +1,6 @@
 -- A run on its way: what was written and called so far, against the traces of the whole run and of its rest.
-use Rattle.std.specs.Prelude.{◌≡◌, ◌<◌, ℕ, List, ◌++◌, Option, Some, Result, Ok, Err, true, false, slice_get}
+use Rattle.std.specs.Prelude.{◌≡◌, ◌-◌, ◌<◌, ℕ, List, ◌++◌, length, take, Option, Some, None, IfSome, Result, Ok, Err, true, false, slice_get}
+use Rattle.std.specs.Option.{option_map}
 use Rattle.bt_script.specs.declared.stop.Stop.{Stop}
 use Rattle.bt_script.specs.declared.stop.Stop.TheVariants as stop
 use Rattle.bt_model.specs.declared.fault.RunFault.{RunFault}
@@ -11,6 +12,7 @@ use Rattle.bt_model.specs.Lines.{LineNames}
 use Rattle.bt_model.specs.Run.{Runner, RunnerCall, RunState, Trace}
 use Rattle.bt_model.specs.Shapes.{is_running}
 use Rattle.bt_outside.specs.Appending.{Appended, AppendedFront}
+use Rattle.bt_outside.specs.Moments.{Moments}
 use Rattle.bt_text.specs.declared.stop.TextStop.{TextStop}
 use Rattle.bt_text.specs.declared.stop.TextStop.TheVariants as text_stop
 use Rattle.bt_arena.specs.declared.nodes.Node.{Node}
@@ -18,6 +20,7 @@ use Rattle.bt_loop.specs.declared.runs.Runs.{Runs}
 use Rattle.bt_loop.specs.Runs.{AreRuns, roster_over}
 use Rattle.bt_run.specs.declared.ended.Ended.{Ended}
 use Rattle.bt_run.specs.declared.ended.Ended.TheVariants.{Done, Faulted}
+use Rattle.bt_run.specs.Rounds.{events_then, fault_in, live_events, moments_after, taken}
 use Rattle.bt_run.specs.Texts.{text_of}
 use Rattle.bt_run.specs.Traces.{IsRun}
 
@@ -54,3 +57,21 @@ pub record Stand (tree : Tree) (world : World) (drivers : List DriverState) (run
 -- the roots of the first so many runners rest
 abbrev pub AreAtRest : ℕ → RunState → Type 0
 AreAtRest many s = (k : ℕ) (r : Runner) → k < many → slice_get s.runners k ≡ Some r → is_running (out-Memory r.memory).status ≡ false
+
+-- ---- Rounds
+
+-- a clock has given these moments since
+pub record HasGiven (old new : Option Moments) (given : List ℕ) : Type 0 where
+  pub told : IfSome old (λ m. given ≡ taken (length given) m)
+  pub left : new ≡ option_map (moments_after (length given)) old
+
+-- Rounds at the moments given go on with what follows. A fault in the last one of them ends every run that begins so, and
+-- of every such run a front was written.
+abbrev pub RoundsGo : Result Ended TextStop → Tree → World → ℕ → List ℕ → List (List Node) → LineNames → List DriverState → List DriverState → Option (List ℕ) → Option (List ℕ) → RunState → RunState → Type 0
+RoundsGo (Ok Done) tree world last given arenas names before after old new s now =
+    (rest : RunState → Trace) → Going arenas names before after old new (events_then tree world (live_events world last given) rest s) (rest now)
+RoundsGo (Ok Faulted) tree world last given arenas names before after old new s now =
+    ((later : List ℕ) (rest : RunState → Trace) → IsRun arenas names before after old new Faulted (events_then tree world (live_events world last (given ++ later)) rest s))
+    × (fault_in tree world last (take (length given - 1) given) s ≡ None)
+RoundsGo (Err stopped) tree world last given arenas names before after old new s now =
+    (later : List ℕ) (rest : RunState → Trace) → AppendedFront old new (text_of names (events_then tree world (live_events world last (given ++ later)) rest s).blocks)

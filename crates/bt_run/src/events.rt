@@ -1,4 +1,4 @@
-ghost use Rattle.std.specs.Prelude.{◌≡◌, ◌≤◌, ◌++◌, Ok, IsErrOf, List, false, true, map};
+ghost use Rattle.std.specs.Prelude.{◌≡◌, ◌≤◌, ◌++◌, Ok, OnErr, IsErrOf, List, false, true, map};
 ghost use Rattle.bt_model.specs.declared.term.Tree.{Tree};
 ghost use Rattle.bt_model.specs.declared.world.Event.{Event as AnEvent};
 ghost use Rattle.bt_model.specs.declared.world.World.{World};
@@ -7,6 +7,7 @@ ghost use Rattle.bt_outside.specs.Appending.{AppendedFront};
 ghost use Rattle.bt_outside.specs.Counts.{Rose};
 ghost use Rattle.bt_loop.specs.Runs.{AreRuns, arenas_of, state_of_runs};
 ghost use Rattle.bt_loop.specs.Steps.{CanCome, HaveRoom, IsSameRoster};
+ghost use Rattle.bt_run.specs.Cuts.{IsCut};
 ghost use Rattle.bt_run.specs.Going.{Goes, Stand};
 ghost use Rattle.bt_run.specs.Texts.{text_of};
 ghost use Rattle.bt_run.specs.Traces.{CanAllCome};
@@ -38,6 +39,8 @@ pub fn write_event<K: Sink>(
         (then_rest (step tree world next.now (state_of_runs tree.term (map (λ b. state b) roster.old.items) runs.old)) rest) (rest (state_of_runs tree.term (map (λ b. state b) roster.new.items) runs.new)) }
     ensures front { (tree : Tree) (world : World) → AreRuns tree world (map (λ b. state b) roster.old.items) runs.old → CanCome world runs.old.last next.now → (rest : RunState → Trace) →
         AppendedFront (K.written out.old) (K.written out.new) (text_of names.now (then_rest (step tree world next.now (state_of_runs tree.term (map (λ b. state b) roster.old.items) runs.old)) rest).blocks) }
+    ensures cut { (tree : Tree) (world : World) → AreRuns tree world (map (λ b. state b) roster.old.items) runs.old → CanCome world runs.old.last next.now → (rest : RunState → Trace) →
+        OnErr result (IsCut (arenas_of runs.old) (map (λ b. state b) roster.old.items) (map (λ b. state b) roster.new.items) (then_rest (step tree world next.now (state_of_runs tree.term (map (λ b. state b) roster.old.items) runs.old)) rest)) }
     ensures stand { (tree : Tree) (world : World) → AreRuns tree world (map (λ b. state b) roster.old.items) runs.old → CanCome world runs.old.last next.now → Stand tree world (map (λ b. state b) roster.new.items) runs.new }
     ensures on { result ≡ Ok Ended.Done → (runs.new.usable ≡ true) × (runs.new.last ≡ next.now.at) }
     ensures off { result ≡ Ok Ended.Faulted → runs.new.usable ≡ false }
@@ -68,6 +71,8 @@ pub fn write_events<K: Sink>(
         (run_from tree world (events.now ++ later) (state_of_runs tree.term (map (λ b. state b) roster.old.items) runs.old)) (run_from tree world later (state_of_runs tree.term (map (λ b. state b) roster.new.items) runs.new)) }
     ensures front { (tree : Tree) (world : World) → AreRuns tree world (map (λ b. state b) roster.old.items) runs.old → CanAllCome world runs.old.last events.now → (later : List AnEvent) →
         AppendedFront (K.written out.old) (K.written out.new) (text_of names.now (run_from tree world (events.now ++ later) (state_of_runs tree.term (map (λ b. state b) roster.old.items) runs.old)).blocks) }
+    ensures cut { (tree : Tree) (world : World) → AreRuns tree world (map (λ b. state b) roster.old.items) runs.old → CanAllCome world runs.old.last events.now → (later : List AnEvent) →
+        OnErr result (IsCut (arenas_of runs.old) (map (λ b. state b) roster.old.items) (map (λ b. state b) roster.new.items) (run_from tree world (events.now ++ later) (state_of_runs tree.term (map (λ b. state b) roster.old.items) runs.old))) }
     ensures stand { (tree : Tree) (world : World) → AreRuns tree world (map (λ b. state b) roster.old.items) runs.old → CanAllCome world runs.old.last events.now → Stand tree world (map (λ b. state b) roster.new.items) runs.new }
     ensures on { result ≡ Ok Ended.Done → runs.new.usable ≡ true }
     ensures off { result ≡ Ok Ended.Faulted → runs.new.usable ≡ false }

@@ -1,4 +1,4 @@
-ghost use Rattle.std.specs.Prelude.{◌≡◌, ◌≤◌, ◌<◌, ◌-◌, ◌^◌, Ok, OnOk, IfOk, IsErrOf, false, true, length, map};
+ghost use Rattle.std.specs.Prelude.{◌≡◌, ◌≤◌, ◌<◌, ◌-◌, ◌^◌, Ok, OnOk, OnErr, IfOk, IsErrOf, false, true, length, map};
 ghost use Rattle.bt_model.specs.declared.term.Tree.{Tree};
 ghost use Rattle.bt_model.specs.declared.world.World.{World};
 ghost use Rattle.bt_model.specs.Drivers.{NothingHeld};
@@ -7,6 +7,7 @@ ghost use Rattle.bt_outside.specs.Appending.{AppendedFront};
 ghost use Rattle.bt_outside.specs.Counts.{Rose};
 ghost use Rattle.bt_loop.specs.Runs.{AreRuns, arenas_of, state_of_runs};
 ghost use Rattle.bt_loop.specs.Steps.{HaveRoom, IsSameRoster};
+ghost use Rattle.bt_run.specs.Cuts.{IsCut, LetGo};
 ghost use Rattle.bt_run.specs.Going.{AreAtRest, Goes, Stand};
 ghost use Rattle.bt_run.specs.Texts.{text_of};
 ghost use Rattle.bt_run.specs.Traces.{IsRun};
@@ -38,6 +39,8 @@ fn write_finish<K: Sink>(
         (then_rest (finish_step tree world runner (state_of_runs tree.term (map (λ b. state b) roster.old.items) runs.old)) rest) (rest (state_of_runs tree.term (map (λ b. state b) roster.new.items) runs.new)) }
     ensures front { (tree : Tree) (world : World) → AreRuns tree world (map (λ b. state b) roster.old.items) runs.old → runner ≤ world.runners → (rest : RunState → Trace) →
         AppendedFront (K.written out.old) (K.written out.new) (text_of names.now (then_rest (finish_step tree world runner (state_of_runs tree.term (map (λ b. state b) roster.old.items) runs.old)) rest).blocks) }
+    ensures cut { (tree : Tree) (world : World) → AreRuns tree world (map (λ b. state b) roster.old.items) runs.old → runner ≤ world.runners → (rest : RunState → Trace) →
+        OnErr result (IsCut (arenas_of runs.old) (map (λ b. state b) roster.old.items) (map (λ b. state b) roster.new.items) (then_rest (finish_step tree world runner (state_of_runs tree.term (map (λ b. state b) roster.old.items) runs.old)) rest)) }
     ensures rests { (tree : Tree) (world : World) → AreRuns tree world (map (λ b. state b) roster.old.items) runs.old → runner ≤ world.runners → result ≡ Ok Ended.Done →
         AreAtRest (runner - 1) (state_of_runs tree.term (map (λ b. state b) roster.old.items) runs.old) → AreAtRest runner (state_of_runs tree.term (map (λ b. state b) roster.new.items) runs.new) }
     ensures stand { (tree : Tree) (world : World) → AreRuns tree world (map (λ b. state b) roster.old.items) runs.old → runner ≤ world.runners → Stand tree world (map (λ b. state b) roster.new.items) runs.new }
@@ -70,6 +73,8 @@ pub fn write_finishes<K: Sink>(
         (finishes tree world 1 world.runners (state_of_runs tree.term (map (λ b. state b) roster.old.items) runs.old))) }
     ensures front { (tree : Tree) (world : World) → AreRuns tree world (map (λ b. state b) roster.old.items) runs.old →
         AppendedFront (K.written out.old) (K.written out.new) (text_of names.now (finishes tree world 1 world.runners (state_of_runs tree.term (map (λ b. state b) roster.old.items) runs.old)).blocks) }
+    ensures cut { (tree : Tree) (world : World) → AreRuns tree world (map (λ b. state b) roster.old.items) runs.old →
+        OnErr result (IsCut (arenas_of runs.old) (map (λ b. state b) roster.old.items) (map (λ b. state b) roster.new.items) (finishes tree world 1 world.runners (state_of_runs tree.term (map (λ b. state b) roster.old.items) runs.old))) }
     ensures none { OnOk result (NothingHeld (map (λ b. state b) roster.new.items)) }
     ensures stand { (tree : Tree) (world : World) → AreRuns tree world (map (λ b. state b) roster.old.items) runs.old → Stand tree world (map (λ b. state b) roster.new.items) runs.new }
     ensures arenas { arenas_of runs.new ≡ arenas_of runs.old }
@@ -91,6 +96,7 @@ pub fn let_go(alloc: Global, runs: &mut Runs, roster: &mut Vec<Box<dyn Driver>>,
     requires stand { (tree : Tree) × (world : World) × Stand tree world (map (λ b. state b) roster.old.items) runs.old }
     requires few { length runs.old.runners.items < 2 ^ 8 }
     requires room { HaveRoom (arenas_of runs.old) block.old.notes }
+    ensures halts { LetGo (arenas_of runs.old) (map (λ b. state b) roster.old.items) (map (λ b. state b) roster.new.items) }
     ensures none { NothingHeld (map (λ b. state b) roster.new.items) }
     ensures roster { IsSameRoster (map (λ b. state b) roster.old.items) (map (λ b. state b) roster.new.items) }
 {

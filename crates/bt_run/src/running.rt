@@ -1,4 +1,4 @@
-ghost use Rattle.std.specs.Prelude.{◌≡◌, ◌≤◌, ◌<◌, ◌^◌, OnOk, IfOk, IsErrOf, length, map};
+ghost use Rattle.std.specs.Prelude.{◌≡◌, ◌≤◌, ◌<◌, ◌^◌, OnOk, OnErr, IfOk, IsErrOf, length, map};
 ghost use Rattle.bt_model.specs.declared.term.Tree.{Tree};
 ghost use Rattle.bt_model.specs.declared.world.World.{World};
 ghost use Rattle.bt_model.specs.Drivers.{NothingHeld};
@@ -6,6 +6,7 @@ ghost use Rattle.bt_outside.specs.Appending.{AppendedFront};
 ghost use Rattle.bt_outside.specs.Counts.{Rose};
 ghost use Rattle.bt_loop.specs.Runs.{AreRuns, arenas_of};
 ghost use Rattle.bt_loop.specs.Steps.{HaveRoom, IsSameRoster};
+ghost use Rattle.bt_run.specs.Cuts.{IsCut};
 ghost use Rattle.bt_run.specs.Going.{Stand};
 ghost use Rattle.bt_run.specs.Texts.{text_of};
 ghost use Rattle.bt_run.specs.Traces.{CanAllCome, CanRun, IsRun, trace_of};
@@ -39,6 +40,8 @@ fn write_run<K: Sink>(
         (trace_of tree world (map (λ b. state b) roster.old.items) runs.old events.now)) }
     ensures front { (tree : Tree) (world : World) → AreRuns tree world (map (λ b. state b) roster.old.items) runs.old → CanAllCome world runs.old.last events.now →
         AppendedFront (K.written out.old) (K.written out.new) (text_of names.now (trace_of tree world (map (λ b. state b) roster.old.items) runs.old events.now).blocks) }
+    ensures cut { (tree : Tree) (world : World) → AreRuns tree world (map (λ b. state b) roster.old.items) runs.old → CanAllCome world runs.old.last events.now →
+        OnErr result (IsCut (arenas_of runs.old) (map (λ b. state b) roster.old.items) (map (λ b. state b) roster.new.items) (trace_of tree world (map (λ b. state b) roster.old.items) runs.old events.now)) }
     ensures none { OnOk result (NothingHeld (map (λ b. state b) roster.new.items)) }
     ensures stand { (tree : Tree) (world : World) → AreRuns tree world (map (λ b. state b) roster.old.items) runs.old → CanAllCome world runs.old.last events.now → Stand tree world (map (λ b. state b) roster.new.items) runs.new }
     ensures arenas { arenas_of runs.new ≡ arenas_of runs.old }
@@ -71,6 +74,8 @@ pub fn run_events<K: Sink>(
         (trace_of tree world (map (λ b. state b) roster.old.items) runs events.now)) }
     ensures front { (tree : Tree) (world : World) → CanRun tree world names.now (map (λ b. state b) roster.old.items) runs → CanAllCome world runs.last events.now →
         AppendedFront (K.written out.old) (K.written out.new) (text_of names.now (trace_of tree world (map (λ b. state b) roster.old.items) runs events.now).blocks) }
+    ensures cut { (tree : Tree) (world : World) → CanRun tree world names.now (map (λ b. state b) roster.old.items) runs → CanAllCome world runs.last events.now →
+        OnErr result (IsCut (arenas_of runs) (map (λ b. state b) roster.old.items) (map (λ b. state b) roster.new.items) (trace_of tree world (map (λ b. state b) roster.old.items) runs events.now)) }
     ensures none { NothingHeld (map (λ b. state b) roster.new.items) }
     ensures roster { IsSameRoster (map (λ b. state b) roster.old.items) (map (λ b. state b) roster.new.items) }
     ensures failed { IsErrOf result TextStop.WriteFault → Rose (K.faults out.old) (K.faults out.new) }

@@ -10,7 +10,7 @@ use crate::roster::add_driver;
 use crate::words::word_of;
 use bt_driver::{Driver, Totals, hold_nothing};
 use bt_leaves::{Conditions, Gate, Replay, Timed};
-use bt_outside::{MemShelf, MemSink, Sink};
+use bt_outside::{MemClock, MemShelf, MemSink, Sink};
 use bt_script::NoMemory;
 use std::alloc::{AllocError, Global};
 use std::process::Abort;
@@ -20,7 +20,25 @@ pub fn script(alloc: Global, lines: &str) -> Result<String, AllocError> {
     format!(in alloc; "bt-world 1\n{}\n", lines.replace(alloc, " / ", "\n")?)
 }
 
-/// Answers these words with these drivers.
+/// Answers these words with this clock and these drivers.
+pub fn answer_at<K: Sink>(
+    alloc: Global,
+    words: &[&str],
+    shelf: &mut MemShelf,
+    sink: &mut K,
+    clock: &mut MemClock,
+    roster: &mut Vec<Box<dyn Driver>>,
+) -> Result<Exit, NoMemory>
+    requires { NothingHeld (map (λ b. state b) roster.old.items) }
+{
+    let mut names = Vec::new(alloc);
+    for word in words {
+        names.push(word_of(alloc, word)?)?;
+    }
+    Ok(bt(alloc, names.as_slice(), shelf, sink, clock, roster))
+}
+
+/// Answers these words, which ask no clock, with these drivers.
 pub fn answer_with<K: Sink>(
     alloc: Global,
     words: &[&str],
@@ -30,11 +48,8 @@ pub fn answer_with<K: Sink>(
 ) -> Result<Exit, NoMemory>
     requires { NothingHeld (map (λ b. state b) roster.old.items) }
 {
-    let mut names = Vec::new(alloc);
-    for word in words {
-        names.push(word_of(alloc, word)?)?;
-    }
-    Ok(bt(alloc, names.as_slice(), shelf, sink, roster))
+    let mut clock = MemClock::new(Vec::new(alloc));
+    answer_at(alloc, words, shelf, sink, &mut clock, roster)
 }
 
 /// Runs these nodes in a world of these lines with these drivers.

@@ -7,16 +7,16 @@ use Rattle.bt_main.proofs.answer.check.Goals as goal
 pub returns-in-Err-Failed-clause-answers : goal.returns-in-Err-Failed-clause-answers
 returns-in-Err-Failed-clause-answers g c =
     let failed = c.in-Err-Failed.is ∙ ap Err c.in-Err-Failed.field-0-is in
-    λ drivers. inl (c.read.ensures.failed failed, TreeFile, rw failed at c.read.ensures.gives, c.write_last.ensures.gave drivers drivers (λ place. refl))
+    λ clock drivers. inl (c.read.ensures.failed failed, TreeFile, rw failed at c.read.ensures.gives, c.write_last.ensures.gave clock drivers drivers (λ place. refl))
 
 pub returns-in-Err-TooLong-clause-answers : goal.returns-in-Err-TooLong-clause-answers
 returns-in-Err-TooLong-clause-answers g c =
     let too_long = c.in-Err-TooLong.is ∙ ap Err c.in-Err-TooLong.field-0-is in
-    λ drivers. inr (long_tree (g.S.Shelf.holds c.args.shelf.now) (Check c.args.tree.now (option_copied c.args.main)) c.read.new.room.items _ _ _ (c.read.ensures.past too_long) (c.read.ensures.longer too_long) (c.write_last-in-Err-TooLong.ensures.gave drivers drivers (λ place. refl)))
+    λ clock drivers. inr (long_tree (g.S.Shelf.holds c.args.shelf.now) (Check c.args.tree.now (option_copied c.args.main)) c.read.new.room.items _ _ _ (c.read.ensures.past too_long) (c.read.ensures.longer too_long) (c.write_last-in-Err-TooLong.ensures.gave clock drivers drivers (λ place. refl)))
 
 pub returns-clause-answers : goal.returns-clause-answers
-returns-clause-answers g c = λ drivers. inr (tree_out_of_memory (g.S.Shelf.holds c.args.shelf.now) (Check c.args.tree.now (option_copied c.args.main)) _ _ refl)
+returns-clause-answers g c = λ clock drivers. inr (tree_out_of_memory (g.S.Shelf.holds c.args.shelf.now) (Check c.args.tree.now (option_copied c.args.main)) _ _ refl)
 
 pub returns-in-Ok-clause-answers : goal.returns-in-Ok-clause-answers
 returns-in-Ok-clause-answers g c =
-    λ drivers. inr (check_ends (g.S.Shelf.holds c.args.shelf.now) (option_copied c.args.main) c.args.tree.now c.read.new.room.items _ _ _ (rw c.in-Ok.is at c.read.ensures.whole) (rw c.as_slice.ensures.value at c.answer_check.ensures.answers drivers))
+    λ clock drivers. inr (check_ends (g.S.Shelf.holds c.args.shelf.now) (option_copied c.args.main) c.args.tree.now c.read.new.room.items _ _ _ (rw c.in-Ok.is at c.read.ensures.whole) (rw c.as_slice.ensures.value at c.answer_check.ensures.answers clock drivers))

@@ -1,3 +1,4 @@
+use Rattle.bt_run.proofs.Cuts.{event_cut, on_err}
 use Rattle.bt_run.proofs.Steps.{event_front, event_goes, last_is, made_fault, made_whole, stands, usable_of}
 use Rattle.bt_run.proofs.events.write_event.Goals as goal
 
@@ -23,3 +24,7 @@ returns-clause-on g c = λ done.
 
 pub returns-clause-off : goal.returns-clause-off
 returns-clause-off g c = λ faulted. made_fault c.event-made.result c.show.result _ _ _ c.show.ensures.shown faulted c.event-made.ensures.usable
+
+pub returns-clause-cut : goal.returns-clause-cut
+returns-clause-cut g c = λ tree world are can rest.
+    on_err c.show.result (event_cut c.event-made.result tree.term _ _ _ c.event-made.new.runs c.event-made.ensures.arenas c.event-made.new.block _ (c.event-made.ensures.step tree world are can) rest)

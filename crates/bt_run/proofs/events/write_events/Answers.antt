@@ -1,6 +1,7 @@
 use Rattle.std.proofs.Common.{ℕ, ◌<◌, ◌+◌, ◌∙◌, Ok, ap, drop, length, refl, subst, sym, arith}
 use Rattle.bt_loop.proofs.Rising.{roster_both, same_roster}
 use Rattle.bt_run.specs.Traces.{CanAllCome}
+use Rattle.bt_run.proofs.Cuts.{cut_after, cut_as, on_err}
 use Rattle.bt_run.proofs.Steps.{come_next, event_next, going_none, next_front, next_last, next_on}
 use Rattle.bt_run.proofs.events.write_events.Goals as goal
 
@@ -68,3 +69,11 @@ loop-next-preserved g c =
       roster = roster_both _ _ _ c.loop-next.invariant.roster c.write_event.ensures.roster;
       count = omega (arith, c.loop-next.invariant.count, c.write_event.ensures.count);
     }
+
+pub returns-in_err-write_event-clause-cut : goal.returns-in_err-write_event-clause-cut
+returns-in_err-write_event-clause-cut g c = λ tree world are can later.
+    let low : c.loop-next.next-index < length c.args.events.now = omega arith in
+    let at = c.loop-next.invariant.are tree world are can in
+    on_err c.from_residual.result
+    (cut_after _ _ _ _ _ _ _ _ _ _ c.loop-next.invariant.arenas (c.loop-next.invariant.goes tree world are can later)
+    (cut_as _ _ _ _ _ (sym (event_next tree world _ later _ _ _ low)) (c.in_err-write_event.ensures.cut tree world at.0 (come_next world _ _ _ _ low at.1).0 _)))

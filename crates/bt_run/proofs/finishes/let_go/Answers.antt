@@ -1,5 +1,7 @@
 use Rattle.std.proofs.Common.{◌≡◌, ◌≤◌, ◌+◌, ◌∙◌, map, true, refl, arith}
+use Rattle.bt_loop.specs.Runs.{arenas_of}
 use Rattle.bt_loop.proofs.Rising.{roster_both, same_roster}
+use Rattle.bt_run.proofs.Cuts.{event_halts, finish_halts, let_go_both, let_go_none}
 use Rattle.bt_run.proofs.Rests.{next_rests, none_yet, not_stopped, rest_or_stopped, rests_after, same_many}
 use Rattle.bt_run.proofs.Steps.{stands}
 use Rattle.bt_run.proofs.finishes.let_go.Goals as goal
@@ -11,6 +13,7 @@ loop-place-init g c =
     record {
       stand = λ tree world stand. stand;
       rest = λ tree world stand usable. none_yet tree drivers c.args.runs.now;
+      halts = let_go_none _ drivers;
       arenas = refl;
       room = refl;
       roster = same_roster drivers;
@@ -39,6 +42,12 @@ loop-place-preserved g c =
           next_rests tree l.place _ _ l.runs c.finish.new.runs
           (λ before. rests_after tree world (l.place + 1) l.runs are before c.finish.result c.finish.new.runs c.finish.new.block _ _ refl (not_stopped c.finish.result c.finish.new.runs c.finish.ensures.usable usable) (c.finish.ensures.step tree world are next))
           (l.invariant.rest tree world stand on);
+      halts =
+          let s = c.requires.stand in
+          let are = (l.invariant.stand s.0 s.1 s.2).on on in
+          let next : l.place + 1 ≤ s.1.runners = omega (arith, c.loop-place-test.true, c.len-place-end.ensures, are.fit.many, same_many c.args.runs.now l.runs l.invariant.arenas) in
+          let_go_both _ (arenas_of l.runs) _ _ _ l.invariant.arenas l.invariant.halts
+          (event_halts c.finish.result s.0.term (arenas_of l.runs) _ _ c.finish.new.runs c.finish.ensures.arenas c.finish.new.block _ (c.finish.ensures.step s.0 s.1 are next) (finish_halts s.0 s.1 (l.place + 1) _));
       arenas = c.finish.ensures.arenas ∙ l.invariant.arenas;
       room = c.finish.ensures.room ∙ l.invariant.room;
       roster = roster_both _ _ _ l.invariant.roster c.finish.ensures.roster;

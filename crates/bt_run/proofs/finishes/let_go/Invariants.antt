@@ -3,6 +3,7 @@ use Rattle.bt_model.specs.declared.term.Tree.{Tree}
 use Rattle.bt_model.specs.declared.world.World.{World}
 use Rattle.bt_loop.specs.Runs.{arenas_of, state_of_runs}
 use Rattle.bt_loop.specs.Steps.{IsSameRoster}
+use Rattle.bt_run.specs.Cuts.{LetGo}
 use Rattle.bt_run.specs.Going.{AreAtRest, Stand}
 use Rattle.bt_run.proofs.finishes.let_go.Given as goal
 
@@ -15,6 +16,7 @@ invariant-loop-place g l =
     record {
       stand : (tree : Tree) (world : World) → Stand tree world before l.fn.runs → Stand tree world now l.runs;
       rest : (tree : Tree) (world : World) → Stand tree world before l.fn.runs → l.runs.usable ≡ true → AreAtRest l.place (state_of_runs tree.term now l.runs);
+      halts : LetGo (arenas_of l.fn.runs) before now;
       arenas : arenas_of l.runs ≡ arenas_of l.fn.runs;
       room : l.block.notes.full ≡ l.fn.block.notes.full;
       roster : IsSameRoster before now;

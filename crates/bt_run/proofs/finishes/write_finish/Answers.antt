@@ -1,4 +1,5 @@
 use Rattle.std.proofs.Common.{refl}
+use Rattle.bt_run.proofs.Cuts.{event_cut, on_err}
 use Rattle.bt_run.proofs.Rests.{rests_after}
 use Rattle.bt_run.proofs.Steps.{event_front, event_goes, made_fault, made_whole, stands, usable_of}
 use Rattle.bt_run.proofs.finishes.write_finish.Goals as goal
@@ -27,3 +28,7 @@ returns-clause-on g c = λ done.
 
 pub returns-clause-off : goal.returns-clause-off
 returns-clause-off g c = λ faulted. made_fault c.finish-made.result c.show.result _ _ _ c.show.ensures.shown faulted c.finish-made.ensures.usable
+
+pub returns-clause-cut : goal.returns-clause-cut
+returns-clause-cut g c = λ tree world are can rest.
+    on_err c.show.result (event_cut c.finish-made.result tree.term _ _ _ c.finish-made.new.runs c.finish-made.ensures.arenas c.finish-made.new.block _ (c.finish-made.ensures.step tree world are can) rest)

@@ -1,6 +1,7 @@
-use Rattle.std.proofs.Common.{◌<◌, ◌≤◌, ◌+◌, ◌∙◌, Ok, ap, map, refl, arith}
+use Rattle.std.proofs.Common.{◌<◌, ◌≤◌, ◌+◌, ◌∙◌, Ok, ap, map, refl, sym, arith}
 use Rattle.bt_loop.specs.Runs.{state_of_runs}
 use Rattle.bt_loop.proofs.Rising.{roster_both, same_roster}
+use Rattle.bt_run.proofs.Cuts.{cut_after, cut_as, on_err}
 use Rattle.bt_run.proofs.Rests.{next_rests, none_yet, rest_holds_nothing}
 use Rattle.bt_run.proofs.Steps.{finish_next, finishes_end, finishes_first, going_all, going_end, next_front, next_last, next_on}
 use Rattle.bt_run.proofs.finishes.write_finishes.Goals as goal
@@ -90,3 +91,11 @@ returns-clause-none g c =
     let r = c.requires.runs in
     let at = c.loop-place.invariant.are r.0 r.1 r.2 in
     rest_holds_nothing r.0 r.1 _ c.loop-place.runs at.0 c.loop-place.place (omega (arith, c.loop-place-test.false, c.len-place-end.ensures, r.2.fit.many, at.0.fit.many)) at.1
+
+pub returns-in_err-write_finish-clause-cut : goal.returns-in_err-write_finish-clause-cut
+returns-in_err-write_finish-clause-cut g c = λ tree world are.
+    let low : c.loop-place.place < world.runners = omega (arith, c.loop-place-test.true, c.len-place-end.ensures, are.fit.many) in
+    let next : c.loop-place.place + 1 ≤ world.runners = omega (arith, low) in
+    on_err c.from_residual.result
+    (cut_after _ _ _ _ _ _ _ _ _ _ c.loop-place.invariant.arenas (c.loop-place.invariant.goes tree world are)
+    (cut_as _ _ _ _ _ (sym (finish_next tree world c.loop-place.place _ low)) (c.in_err-write_finish.ensures.cut tree world (c.loop-place.invariant.are tree world are).0 next _)))

@@ -21,7 +21,7 @@ returns-in-Ok c =
     let line = replay_is text w letters c.cut-2.result.1.now head c.cut.ensures.front (c.cut-2.ensures.front ∙ ap front_word c.cut.ensures.rest) (c.cut-2.ensures.rest ∙ ap behind_word c.cut.ensures.rest)
     (sym c.is_empty.ensures ∙ c.if-not-is_empty.false) (sym c.is_canonical.ensures ∙ c.if-not-is_canonical.false) (sym c.are_outcomes.ensures ∙ c.if-not-are_outcomes.false) in
     let left = c.open_action.new.self in
-    of_head r left (replay_line text) head c.args.row.now c.open_action.result (ap (option_map seen_head) (sym c.in-Some.is) ∙ c.in_ok-head.ensures.head)
+    of_head r left (replay_line text) head c.args.row.now c.open_action.result (ap (option_map seen_head) (sym c.in-Some.is) ∙ c.in_ok-head.ensures)
     (lasts c.open_action.result left r now (replay_line text head) (signed_digits_value 10 w) c.in-Some-ms.ms head (λ n. Replay n list) (λ x. ReplayLine head x list) (λ x said k. k)
     c.in_ok-close.ensures line c.in-Some-ms.ensures
     (adds c.open_action.result left now head (Replay c.in-Some-ms.ms list) with_action c.in-Ok.draft (row_of c.in-Ok.draft)
@@ -39,7 +39,7 @@ returns-in-Err c =
     let same : c.of-outcomes.result ≡ list = c.of-outcomes.ensures ∙ c.in_ok-outcomes.ensures in
     let line = replay_is text w letters c.cut-2.result.1.now head c.cut.ensures.front (c.cut-2.ensures.front ∙ ap front_word c.cut.ensures.rest) (c.cut-2.ensures.rest ∙ ap behind_word c.cut.ensures.rest)
     (sym c.is_empty.ensures ∙ c.if-not-is_empty.false) (sym c.is_canonical.ensures ∙ c.if-not-is_canonical.false) (sym c.are_outcomes.ensures ∙ c.if-not-are_outcomes.false) in
-    of_head {A = Unit {0}} r now (replay_line text) head c.args.row.now (Err c.in-Err.stop) (ap (option_map seen_head) (sym c.in-Some.is) ∙ c.in_ok-head.ensures.head)
+    of_head {A = Unit {0}} r now (replay_line text) head c.args.row.now (Err c.in-Err.stop) (ap (option_map seen_head) (sym c.in-Some.is) ∙ c.in_ok-head.ensures)
     (lasts {A = Unit {0}} (Err c.in-Err.stop) now r now (replay_line text head) (signed_digits_value 10 w) c.in-Some-ms.ms head (λ n. Replay n list) (λ x. ReplayLine head x list) (λ x said k. k)
     c.in_ok-close.ensures line c.in-Some-ms.ensures
     (refuses c.in-Err.stop now now head (Replay c.in-Some-ms.ms list) with_action

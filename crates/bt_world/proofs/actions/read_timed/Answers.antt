@@ -17,7 +17,7 @@ returns-in-Ok c =
     let head = seen_head c.in-Some.head in
     let w = c.cut.result.0.now in
     let line = timed_is text w c.cut.result.1.now head c.cut.ensures.front c.cut.ensures.rest (sym c.is_empty.ensures ∙ c.if-not-is_empty.false) (sym c.is_canonical.ensures ∙ c.if-not-is_canonical.false) in
-    of_head r left (timed_line text) head c.args.row.now c.open_action.result (ap (option_map seen_head) (sym c.in-Some.is) ∙ c.in_ok-head.ensures.head)
+    of_head r left (timed_line text) head c.args.row.now c.open_action.result (ap (option_map seen_head) (sym c.in-Some.is) ∙ c.in_ok-head.ensures)
     (lasts c.open_action.result left r now (timed_line text head) (signed_digits_value 10 w) c.in-Some-ms.ms head (λ n. Timed n None) (TimedLine head) (λ x said k. k)
     c.in_ok-close.ensures line c.in-Some-ms.ensures
     (adds c.open_action.result left now head (Timed c.in-Some-ms.ms None) with_action c.in-Ok.draft (row_of c.in-Ok.draft) c.in-Ok.ensures refl c.open_action.ensures))
@@ -30,7 +30,7 @@ returns-in-Err c =
     let head = seen_head c.in-Some.head in
     let w = c.cut.result.0.now in
     let line = timed_is text w c.cut.result.1.now head c.cut.ensures.front c.cut.ensures.rest (sym c.is_empty.ensures ∙ c.if-not-is_empty.false) (sym c.is_canonical.ensures ∙ c.if-not-is_canonical.false) in
-    of_head {A = Unit {0}} r now (timed_line text) head c.args.row.now (Err c.in-Err.stop) (ap (option_map seen_head) (sym c.in-Some.is) ∙ c.in_ok-head.ensures.head)
+    of_head {A = Unit {0}} r now (timed_line text) head c.args.row.now (Err c.in-Err.stop) (ap (option_map seen_head) (sym c.in-Some.is) ∙ c.in_ok-head.ensures)
     (lasts {A = Unit {0}} (Err c.in-Err.stop) now r now (timed_line text head) (signed_digits_value 10 w) c.in-Some-ms.ms head (λ n. Timed n None) (TimedLine head) (λ x said k. k)
     c.in_ok-close.ensures line c.in-Some-ms.ensures
     (refuses c.in-Err.stop now now head (Timed c.in-Some-ms.ms None) with_action c.in-Err.ensures))

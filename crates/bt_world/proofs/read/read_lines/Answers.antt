@@ -8,5 +8,5 @@ loop-text-preserved c =
     record {
       line = omega arith;
       said = λ said rest. c.loop-text.invariant.said said
-          (goes_on (λ text. text.now) _ c.args.lines.now c.loop-text.text-index c.loop-text.reading within c.read_text.new.self said c.in_default.ensures rest);
+          (goes_on (λ text. text.now) _ c.args.lines.now c.loop-text.text-index c.loop-text.reading within c.read_text.new.reading said c.in_default.ensures rest);
     }

@@ -1,10 +1,10 @@
 use Rattle.std.proofs.Common.{◌≡◌, length}
-use Rattle.bt_main.specs.Words.{are_options, is_tree_option}
-use Rattle.bt_main.proofs.words.are_tree_options.Given as goal
+use Rattle.bt_main.specs.Words.{are_options, is_option}
+use Rattle.bt_main.proofs.words.are_options.Given as goal
 
 -- what the options that are left say is what all say
 abbrev pub invariant-loop-rest : goal.invariant-loop-rest
-invariant-loop-rest l = are_options is_tree_option l.rest ≡ are_options is_tree_option l.options
+invariant-loop-rest l = are_options (is_option l.ticks) l.rest ≡ are_options (is_option l.ticks) l.options
 
 abbrev pub decreases-loop-rest : goal.decreases-loop-rest
 decreases-loop-rest l = length l.rest

@@ -1,0 +1,11 @@
+//! The texts of a load, the tree and the world that are made from one number, and its summary.
+#![tactic(auto)]
+
+mod leaf;
+mod summary;
+mod tree;
+mod world;
+
+pub use summary::summary_line;
+pub use tree::load_tree;
+pub use world::load_world;
