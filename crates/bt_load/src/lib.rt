@@ -2,10 +2,13 @@
 #![tactic(auto)]
 
 mod leaf;
+mod nodes;
+mod run;
 mod summary;
 mod tree;
 mod world;
 
+pub use run::run_load;
 pub use summary::summary_line;
 pub use tree::load_tree;
 pub use world::load_world;
