@@ -1,4 +1,4 @@
-//! The texts of a load, the tree and the world that are made from one number, and its summary.
+//! A load: the tree and the world that are made from one number, its run, and the line that sums it up.
 #![tactic(auto)]
 
 mod leaf;

@@ -1,5 +1,4 @@
-use Rattle.std.proofs.Common.{◌≡◌, ◌+◌, ℕ, length, refl, arith}
-use Rattle.bt_model.specs.Terms.{node_count}
+use Rattle.std.proofs.Common.{refl, arith}
 use Rattle.bt_loop.proofs.Growing.{indexed}
 use Rattle.bt_load.proofs.nodes.nodes.Goals as goal
 
