@@ -1,4 +1,4 @@
-use Rattle.std.proofs.Common.{◌≡◌, ◌≤◌, ◌+◌, ◌++◌, ◌∙◌, [], ◌∷◌, Ok, length, max, ap, refl, arith}
+use Rattle.std.proofs.Common.{◌≤◌, ◌++◌, ◌∙◌, [], ◌∷◌, Ok, max, ap, refl, arith}
 use Rattle.std.proofs.Math.Nat.{le-max_right}
 use Rattle.bt_loop.proofs.Rising.{roster_both, same_roster}
 use Rattle.bt_run.proofs.Lives.{given_next, given_none, not_done, one_more, round_cut, round_front, round_last, round_on, rounds_all, stopped_go}
