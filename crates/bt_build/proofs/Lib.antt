@@ -4,6 +4,7 @@ pub mod Fits
 pub mod HeadFits
 pub mod KindFits
 pub mod ModelTexts
+pub mod NoGuards
 pub mod Nodes
 pub mod PortFits
 pub mod PortLists

@@ -1,6 +1,8 @@
 ghost use Rattle.std.specs.Prelude.{◌≡◌};
+ghost use Rattle.std.specs.List.{list_any};
 ghost use Rattle.std.specs.Option.{option_copied};
 ghost use Rattle.bt_script.specs.Stops.{Gives};
+ghost use Rattle.bt_model.specs.Boards.{is_private};
 ghost use Rattle.bt_model.specs.BuiltIns.{has_code};
 ghost use Rattle.bt_build.specs.Content.{all_known, autoremap_in, code_text, content_in, guard_in, guards_in, known_in, rest_in, scripts_in, said_or_false, script_of, truth_in};
 ghost use Rattle.bt_build.specs.Seen.{rules_seen, text_seen};
@@ -54,8 +56,21 @@ fn guard_in(
     script_of(alloc, uid, attribute(attributes, name))
 }
 
-/// The guards of a node.
-fn guards_in(
+/// Whether the name begins with `_`, as those of all guards do.
+fn begins_private(name: &Name) -> bool
+    ensures { result ≡ is_private name.now }
+{
+    name.list().first() == Some(&b'_')
+}
+
+fn any_private(attributes: &[(Name, Name)]) -> bool
+    ensures { result ≡ list_any (λ a. is_private a.0) attributes.now }
+{
+    attributes.iter().any(|(name, _)| begins_private(name))
+}
+
+/// The guards of a node, each looked for by its name.
+fn written_guards(
     alloc: Global,
     uid: u32,
     attributes: &[(Name, Name)],
@@ -79,6 +94,30 @@ fn guards_in(
         on_failure,
         post,
         on_halted,
+    })
+}
+
+/// The guards of a node. Most nodes have none, and then no name is looked for.
+#[tactic(auto, using(crate::proofs::NoGuards::no_guards))]
+fn guards_in(
+    alloc: Global,
+    uid: u32,
+    attributes: &[(Name, Name)],
+) -> Result<Guards, Stop<BuildFault>>
+    ensures { Gives result (guards_in uid attributes.now) }
+{
+    if any_private(attributes) {
+        return written_guards(alloc, uid, attributes);
+    }
+    Ok(Guards {
+        failure_if: None,
+        success_if: None,
+        skip_if: None,
+        while_true: None,
+        on_success: None,
+        on_failure: None,
+        post: None,
+        on_halted: None,
     })
 }
 

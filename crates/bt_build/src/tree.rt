@@ -81,17 +81,18 @@ fn name_in(alloc: Global, attributes: &[(Name, Name)], id: &Name) -> Result<Name
 /// The node of all that was read.
 fn term_of(
     alloc: Global,
-    head: &Head,
+    head: Head,
     attributes: &[(Name, Name)],
     content: Content,
     children: Items<Term>,
 ) -> Result<Term, NoMemory>
-    ensures { IfOk result (λ term. term ≡ term_of head.now attributes.now content children) }
+    ensures { IfOk result (λ term. term ≡ term_of head attributes.now content children) }
 {
+    let name = name_in(alloc, attributes, &head.id)?;
     Ok(Term {
         kind: head.kind,
-        id: head.id.copy(alloc)?,
-        name: name_in(alloc, attributes, &head.id)?,
+        id: head.id,
+        name,
         ports: content.ports,
         code: content.code,
         guards: content.guards,
@@ -128,16 +129,16 @@ fn node_of(
     alloc: Global,
     file: &File<'_>,
     left: u32,
-    head: &Head,
+    head: Head,
     attributes: &[(Name, Name)],
     opened: &[&Name],
     children: &[Element],
     numbers: Numbers,
     uid: u32,
 ) -> Result<(Term, Numbers), Stop<BuildFault>>
-    ensures { Gives result (node_of (file_seen file.now).models (read_node (file_seen file.now) left) head.now attributes.now (ids_seen opened.now) children.now numbers uid) }
+    ensures { Gives result (node_of (file_seen file.now).models (read_node (file_seen file.now) left) head attributes.now (ids_seen opened.now) children.now numbers uid) }
 {
-    let content = content_in(alloc, uid, file.models, head, attributes)?;
+    let content = content_in(alloc, uid, file.models, &head, attributes)?;
     let (terms, numbers) = nodes_by(alloc, file, left, opened, children, numbers)?;
     let term = term_of(alloc, head, attributes, content, terms)?;
     Ok((term, numbers))
@@ -149,13 +150,13 @@ fn opened_by(
     alloc: Global,
     file: &File<'_>,
     left: u32,
-    head: &Head,
+    head: Head,
     element: &Element,
     opened: &[&Name],
     numbers: Numbers,
 ) -> Result<(Term, Numbers), Stop<BuildFault>>
     requires { numbers.nodes < 4096 }
-    ensures { Gives result (opened_by (file_seen file.now) (read_node (file_seen file.now) left) head.now element.now (ids_seen opened.now) numbers (tree_of head.now.id (file_seen file.now).trees)) }
+    ensures { Gives result (opened_by (file_seen file.now) (read_node (file_seen file.now) left) head element.now (ids_seen opened.now) numbers (tree_of head.id (file_seen file.now).trees)) }
 {
     let Some(tree) = tree_of(&file.trees, &head.id) else {
         let id = head.id.copy(alloc)?;
@@ -173,7 +174,8 @@ fn opened_by(
     if !element.children.list().is_empty() || roots.len() != 1 {
         return Err(Stop::Fault(BuildFault::ChildCount { uid }));
     }
-    let inner = with_opened(alloc, &*opened, &head.id)?;
+    let own = head.id.copy(alloc)?;
+    let inner = with_opened(alloc, &*opened, &own)?;
     let numbers = Numbers {
         nodes: uid,
         scopes: numbers.scopes + 1,
@@ -198,13 +200,13 @@ fn node_by(
     alloc: Global,
     file: &File<'_>,
     left: u32,
-    head: &Head,
+    head: Head,
     element: &Element,
     opened: &[&Name],
     numbers: Numbers,
 ) -> Result<(Term, Numbers), Stop<BuildFault>>
     requires { numbers.nodes < 4096 }
-    ensures { Gives result (node_by (file_seen file.now) (read_node (file_seen file.now) left) head.now element.now (ids_seen opened.now) numbers) }
+    ensures { Gives result (node_by (file_seen file.now) (read_node (file_seen file.now) left) head element.now (ids_seen opened.now) numbers) }
 {
     if is_subtree(head.kind) {
         return opened_by(alloc, file, left, head, element, opened, numbers);
@@ -244,7 +246,7 @@ pub fn read_node(
         return Err(Stop::Fault(BuildFault::TooDeep { uid }));
     }
     match head_of(alloc, element)? {
-        Some(head) => node_by(alloc, file, left - 1, &head, element, opened, numbers),
+        Some(head) => node_by(alloc, file, left - 1, head, element, opened, numbers),
         None => Err(Stop::Fault(BuildFault::UnknownNode { uid })),
     }
 }

@@ -1,6 +1,7 @@
 pub mod Ascii
 pub mod Asides
 pub mod Cuts
+pub mod FewNames
 pub mod Files
 pub mod Found
 pub mod Fronts
@@ -9,6 +10,7 @@ pub mod Names
 pub mod Nesting
 pub mod Outcomes
 pub mod References
+pub mod Skips
 pub mod Standings
 pub mod Verdicts
 pub mod Writing

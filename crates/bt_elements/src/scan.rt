@@ -1,6 +1,7 @@
-ghost use Rattle.std.specs.Prelude.{◌≡◌, ◌≤◌, ◌<◌, ◌==◌, ◌&&◌, true, not, IfOk, IsUtf8, length, take, drop};
+ghost use Rattle.std.specs.Prelude.{◌≡◌, ◌≤◌, ◌<◌, ◌==◌, ◌&&◌, ◌||◌, true, not, IfOk, IsUtf8, length, take, drop};
 ghost use Rattle.std.specs.Char.{is_ascii};
-ghost use Rattle.std.specs.List.{prefix_len, list_all};
+ghost use Rattle.std.specs.List.{prefix_len, list_all, list_any};
+ghost use Rattle.std.specs.Str.{bytes_eq};
 ghost use Rattle.bt_script.specs.Identifiers as identifiers;
 ghost use Rattle.bt_elements.specs.Marks.{is_name_first, is_name_rest, is_quote, is_value_byte, instruction_end, comment_end, no_name_twice};
 ghost use Rattle.bt_elements.specs.Elements.{is_text_byte};
@@ -219,10 +220,39 @@ fn attributes_at(alloc: Global, bytes: &[u8]) -> Result<(Items<(Name, Name)>, &[
     Ok((Items::of(attributes), rest))
 }
 
+fn has_name(attributes: &[(Name, Name)], name: &Name) -> bool
+    ensures { result ≡ list_any (λ a. bytes_eq a.0 name.now) attributes.now }
+{
+    attributes.iter().any(|(other, _)| other == name)
+}
+
+/// Whether no name of a few attributes occurs twice. Each is compared with those behind it.
+#[tactic(auto, using(crate::proofs::FewNames::few_names))]
+fn few_single_names(attributes: &[(Name, Name)]) -> bool
+    ensures { result ≡ no_name_twice attributes.now }
+{
+    let mut rest = attributes;
+    'names: loop {
+        let Some((first, more)) = rest.split_first() else {
+            return true;
+        };
+        if has_name(more, &first.0) {
+            return false;
+        }
+        rest = more;
+    }
+}
+
+/// Up to so many attributes it costs least to compare each name with all behind it.
+const FEW_NAMES: usize = 8;
+
 /// Whether no attribute's name occurs twice.
 pub fn single_names(alloc: Global, attributes: &[(Name, Name)]) -> Result<bool, NoMemory>
     ensures { IfOk result (λ single. single ≡ no_name_twice attributes.now) }
 {
+    if attributes.len() <= FEW_NAMES {
+        return Ok(few_single_names(attributes));
+    }
     let mut names = BTreeSet::new(alloc);
     for (name, _) in attributes {
         if !names.insert(name.list())? {
@@ -287,6 +317,31 @@ fn end_at(alloc: Global, bytes: &[u8]) -> Result<(Mark, &[u8]), Stop<NoMark>>
     Ok((Mark::End(name), rest))
 }
 
+/// Whether the byte is neither 0 nor the first of an ending.
+fn passed_byte(first: u8, c: u8) -> bool
+    ensures { result ≡ not (c == first || c == 0) }
+{
+    !(c == first || c == 0)
+}
+
+#[tactic(auto, using(crate::proofs::Fronts::fronts))]
+fn passed_len(first: u8, bytes: &[u8]) -> usize
+    ensures value { result ≡ prefix_len (λ c. not (c == first || c == 0)) bytes.now }
+    ensures within { result ≤ length bytes.now }
+{
+    bytes.iter().take_while(|c| passed_byte(first, **c)).count()
+}
+
+/// What is left from the first byte on that is 0 or that the ending may begin with.
+fn skipped<'a>(bytes: &'a [u8], ending: &[u8]) -> &'a [u8]
+    requires { 0 < length ending.now }
+    ensures read { behind_first ending.now result.now ≡ behind_first ending.now bytes.now }
+    ensures within { length result.now ≤ length bytes.now }
+{
+    let (_, rest) = bytes.split_at(passed_len(ending[0], bytes));
+    rest
+}
+
 /// What follows the first of these endings, before which no byte is 0.
 fn ending_at<'a>(bytes: &'a [u8], ending: &[u8]) -> Result<&'a [u8], Stop<NoMark>>
     requires utf8 { IsUtf8 bytes.now }
@@ -298,11 +353,12 @@ fn ending_at<'a>(bytes: &'a [u8], ending: &[u8]) -> Result<&'a [u8], Stop<NoMark
 {
     let mut rest = bytes;
     'body: loop {
-        if rest.starts_with(ending) {
-            let (_, behind) = rest.split_at(ending.len());
+        let found = skipped(rest, ending);
+        if found.starts_with(ending) {
+            let (_, behind) = found.split_at(ending.len());
             return Ok(behind);
         }
-        let Some((c, more)) = rest.split_first() else {
+        let Some((c, more)) = found.split_first() else {
             return Err(Stop::Fault(NoMark));
         };
         if *c == 0 {

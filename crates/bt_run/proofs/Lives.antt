@@ -17,10 +17,12 @@ use Rattle.bt_text.specs.declared.stop.TextStop.{TextStop}
 use Rattle.bt_arena.specs.declared.nodes.Node.{Node}
 use Rattle.bt_run.specs.declared.ended.Ended.{Ended}
 use Rattle.bt_run.specs.declared.ended.Ended.TheVariants.{Done, Faulted}
+use Rattle.bt_run.specs.Cuts.{IsCut}
 use Rattle.bt_run.specs.Going.{Goes, Going, HasGiven, RoundsGo}
 use Rattle.bt_run.specs.Rounds.{AreBegun, AreMoments, events_then, fault_in, live_events, moments_after, nothing_more, round_of, taken, ticks_from}
 use Rattle.bt_run.specs.Texts.{text_of}
 use Rattle.bt_run.specs.Traces.{IsRun, ended}
+use Rattle.bt_run.proofs.Cuts.{cut_after, cut_as}
 use Rattle.bt_run.proofs.Steps.{going_both, going_front, going_run}
 
 -- ---- Events, and what follows them
@@ -211,6 +213,13 @@ module _ (tree : Tree) (world : World) (opened last : ℕ) (given : List ℕ) (a
         subst (λ (ms : List ℕ). AppendedFront a c (text_of names (events_then tree world (live_events world opened ms) rest s0).blocks)) (sym (append_assoc given (moment ∷ []) later))
         (part_front arenas arenas1 names d0 d1 a b _ _ _ (next_is later rest) same (so_far (moment ∷ later) rest) c (front (events_then tree world (live_events world at later) rest)))
 
+    -- the run was cut off in it
+    pub round_cut : (d2 : List DriverState) → ((rest : RunState → Trace) → IsCut arenas1 d1 d2 (events_then tree world (round_of world.runners at) rest s1)) →
+        (later : List ℕ) (rest : RunState → Trace) → IsCut arenas d0 d2 (events_then tree world (live_events world opened ((given ++ moment ∷ []) ++ later)) rest s0)
+    round_cut d2 cut later rest =
+        subst (λ (ms : List ℕ). IsCut arenas d0 d2 (events_then tree world (live_events world opened ms) rest s0)) (sym (append_assoc given (moment ∷ []) later))
+        (cut_after arenas arenas1 names d0 d1 d2 a b _ _ same (so_far (moment ∷ later) rest) (cut_as arenas1 d1 d2 _ _ (sym (next_is later rest)) (cut (events_then tree world (live_events world at later) rest))))
+
     -- it was made, and more is to come
     pub round_on : (result : Result Ended TextStop) (ending : Ended) (d2 : List DriverState) (c : Option (List ℕ)) (s2 : RunState) → result ≡ Ok ending → ending ≡ Done →
         ((rest : RunState → Trace) → Goes result arenas1 names d1 d2 b c (events_then tree world (round_of world.runners at) rest s1) (rest s2)) →
@@ -243,9 +252,10 @@ not_done (Ok ending) err done = cc
 
 pub stopped_go : (result : Result Ended TextStop) → IsErr result → (tree : Tree) (world : World) (last : ℕ) (given : List ℕ) (arenas : List (List Node)) (names : LineNames) (before after : List DriverState) (old new : Option (List ℕ)) (s now : RunState) →
     ((later : List ℕ) (rest : RunState → Trace) → AppendedFront old new (text_of names (events_then tree world (live_events world last (given ++ later)) rest s).blocks)) →
+    ((later : List ℕ) (rest : RunState → Trace) → IsCut arenas before after (events_then tree world (live_events world last (given ++ later)) rest s)) →
     RoundsGo result tree world last given arenas names before after old new s now
-stopped_go (Err stopped) err tree world last given arenas names before after old new s now front = front
-stopped_go (Ok ending) err tree world last given arenas names before after old new s now front = cc
+stopped_go (Err stopped) err tree world last given arenas names before after old new s now front cut = λ later rest. (front later rest, cut later rest)
+stopped_go (Ok ending) err tree world last given arenas names before after old new s now front cut = cc
 
 -- ---- All rounds
 
@@ -265,11 +275,16 @@ module _ (tree : Tree) (world : World) (last : ℕ) (given : List ℕ) (arenas :
 
   -- a front of it was written
   pub live_front : (result : Result Ended TextStop) (stopped : TextStop) → result ≡ Err stopped → RoundsGo result tree world last given arenas names d0 d1 a b s now → (later : List ℕ) → AppendedFront a b (text_of names (Live (given ++ later)).blocks)
-  live_front (Err e) stopped err p later = subst (λ (t : Trace). AppendedFront a b (text_of names t.blocks)) (run_is tree world (live_events world last (given ++ later)) s) (p later (finishes tree world 1 world.runners))
+  live_front (Err e) stopped err p later = subst (λ (t : Trace). AppendedFront a b (text_of names t.blocks)) (run_is tree world (live_events world last (given ++ later)) s) (p later (finishes tree world 1 world.runners)).0
   live_front (Ok ending) stopped err p later = cc
 
+  -- .. and then it was cut off
+  pub live_cut : (result : Result Ended TextStop) (stopped : TextStop) → result ≡ Err stopped → RoundsGo result tree world last given arenas names d0 d1 a b s now → (later : List ℕ) → IsCut arenas d0 d1 (Live (given ++ later))
+  live_cut (Err e) stopped err p later = subst (IsCut arenas d0 d1) (run_is tree world (live_events world last (given ++ later)) s) (p later (finishes tree world 1 world.runners)).1
+  live_cut (Ok ending) stopped err p later = cc
+
   -- the finishes follow
-  live_on : (result : Result Ended TextStop) (ending : Ended) → result ≡ Ok ending → ending ≡ Done → RoundsGo result tree world last given arenas names d0 d1 a b s now → Going arenas names d0 d1 a b (Live given) (finishes tree world 1 world.runners now)
+  pub live_on : (result : Result Ended TextStop) (ending : Ended) → result ≡ Ok ending → ending ≡ Done → RoundsGo result tree world last given arenas names d0 d1 a b s now → Going arenas names d0 d1 a b (Live given) (finishes tree world 1 world.runners now)
   live_on (Ok Done) ending ok done p = subst (λ (t : Trace). Going arenas names d0 d1 a b t (finishes tree world 1 world.runners now)) (run_is tree world (live_events world last given) s) (p (finishes tree world 1 world.runners))
   live_on (Ok Faulted) ending ok done p = cc
   live_on (Err stopped) ending ok done p = cc

@@ -20,6 +20,7 @@ use Rattle.bt_loop.specs.declared.runs.Runs.{Runs}
 use Rattle.bt_loop.specs.Runs.{AreRuns, roster_over}
 use Rattle.bt_run.specs.declared.ended.Ended.{Ended}
 use Rattle.bt_run.specs.declared.ended.Ended.TheVariants.{Done, Faulted}
+use Rattle.bt_run.specs.Cuts.{IsCut}
 use Rattle.bt_run.specs.Rounds.{events_then, fault_in, live_events, moments_after, taken}
 use Rattle.bt_run.specs.Texts.{text_of}
 use Rattle.bt_run.specs.Traces.{IsRun}
@@ -65,8 +66,8 @@ pub record HasGiven (old new : Option Moments) (given : List ℕ) : Type 0 where
   pub told : IfSome old (λ m. given ≡ taken (length given) m)
   pub left : new ≡ option_map (moments_after (length given)) old
 
--- Rounds at the moments given go on with what follows. A fault in the last one of them ends every run that begins so, and
--- of every such run a front was written.
+-- Rounds at the moments given go on with what follows. A fault in the last one of them ends every run that begins so. Where
+-- they stopped, every such run was cut off, and a front of it was written.
 abbrev pub RoundsGo : Result Ended TextStop → Tree → World → ℕ → List ℕ → List (List Node) → LineNames → List DriverState → List DriverState → Option (List ℕ) → Option (List ℕ) → RunState → RunState → Type 0
 RoundsGo (Ok Done) tree world last given arenas names before after old new s now =
     (rest : RunState → Trace) → Going arenas names before after old new (events_then tree world (live_events world last given) rest s) (rest now)
@@ -74,4 +75,6 @@ RoundsGo (Ok Faulted) tree world last given arenas names before after old new s 
     ((later : List ℕ) (rest : RunState → Trace) → IsRun arenas names before after old new Faulted (events_then tree world (live_events world last (given ++ later)) rest s))
     × (fault_in tree world last (take (length given - 1) given) s ≡ None)
 RoundsGo (Err stopped) tree world last given arenas names before after old new s now =
-    (later : List ℕ) (rest : RunState → Trace) → AppendedFront old new (text_of names (events_then tree world (live_events world last (given ++ later)) rest s).blocks)
+    (later : List ℕ) (rest : RunState → Trace) →
+    AppendedFront old new (text_of names (events_then tree world (live_events world last (given ++ later)) rest s).blocks)
+    × IsCut arenas before after (events_then tree world (live_events world last (given ++ later)) rest s)

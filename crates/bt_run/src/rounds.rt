@@ -1,4 +1,4 @@
-ghost use Rattle.std.specs.Prelude.{◌≡◌, ◌≤◌, ◌<◌, ◌^◌, List, ℕ, Ok, OnOk, IfOk, IfSome, IsErrOf, false, true, length, map};
+ghost use Rattle.std.specs.Prelude.{◌≡◌, ◌≤◌, ◌<◌, ◌^◌, List, ℕ, Ok, OnOk, OnErr, IfOk, IfSome, IsErrOf, false, true, length, map};
 ghost use Rattle.std.specs.Option.{option_map};
 ghost use Rattle.bt_model.specs.declared.term.Tree.{Tree};
 ghost use Rattle.bt_model.specs.declared.world.World.{World};
@@ -8,6 +8,7 @@ ghost use Rattle.bt_outside.specs.Appending.{AppendedFront};
 ghost use Rattle.bt_outside.specs.Counts.{Rose};
 ghost use Rattle.bt_loop.specs.Runs.{AreRuns, arenas_of, state_of_runs};
 ghost use Rattle.bt_loop.specs.Steps.{HaveRoom, IsSameRoster};
+ghost use Rattle.bt_run.specs.Cuts.{IsCut};
 ghost use Rattle.bt_run.specs.Going.{Goes, HasGiven, RoundsGo, Stand};
 ghost use Rattle.bt_run.specs.Rounds.{AreBegun, AreMoments, events_then, live_events, moments_after, round_of, taken};
 ghost use Rattle.bt_run.specs.Texts.{text_of};
@@ -43,6 +44,8 @@ fn write_round<K: Sink>(
         (events_then tree world (round_of world.runners at) rest (state_of_runs tree.term (map (λ b. state b) roster.old.items) runs.old)) (rest (state_of_runs tree.term (map (λ b. state b) roster.new.items) runs.new)) }
     ensures front { (tree : Tree) (world : World) → AreRuns tree world (map (λ b. state b) roster.old.items) runs.old → (rest : RunState → Trace) →
         AppendedFront (K.written out.old) (K.written out.new) (text_of names.now (events_then tree world (round_of world.runners at) rest (state_of_runs tree.term (map (λ b. state b) roster.old.items) runs.old)).blocks) }
+    ensures cut { (tree : Tree) (world : World) → AreRuns tree world (map (λ b. state b) roster.old.items) runs.old → (rest : RunState → Trace) →
+        OnErr result (IsCut (arenas_of runs.old) (map (λ b. state b) roster.old.items) (map (λ b. state b) roster.new.items) (events_then tree world (round_of world.runners at) rest (state_of_runs tree.term (map (λ b. state b) roster.old.items) runs.old))) }
     ensures stand { (tree : Tree) (world : World) → AreRuns tree world (map (λ b. state b) roster.old.items) runs.old → Stand tree world (map (λ b. state b) roster.new.items) runs.new }
     ensures on { result ≡ Ok Ended.Done → (runs.new.usable ≡ true) × (runs.new.last ≤ at) }
     ensures off { result ≡ Ok Ended.Faulted → runs.new.usable ≡ false }
@@ -122,6 +125,8 @@ fn write_live<K: Sink, C: Clock>(
         (trace_of tree world (map (λ b. state b) roster.old.items) runs.old (live_events world runs.old.last moments)))) }
     ensures front { (moments : List ℕ) × AreMoments rounds (C.moments clock.old) moments × ((tree : Tree) (world : World) → AreRuns tree world (map (λ b. state b) roster.old.items) runs.old →
         AppendedFront (K.written out.old) (K.written out.new) (text_of names.now (trace_of tree world (map (λ b. state b) roster.old.items) runs.old (live_events world runs.old.last moments)).blocks)) }
+    ensures cut { (moments : List ℕ) × AreMoments rounds (C.moments clock.old) moments × ((tree : Tree) (world : World) → AreRuns tree world (map (λ b. state b) roster.old.items) runs.old →
+        OnErr result (IsCut (arenas_of runs.old) (map (λ b. state b) roster.old.items) (map (λ b. state b) roster.new.items) (trace_of tree world (map (λ b. state b) roster.old.items) runs.old (live_events world runs.old.last moments)))) }
     ensures begun { (begun : ℕ) × (begun ≤ rounds) × (C.moments clock.new ≡ option_map (moments_after begun) (C.moments clock.old)) × ((tree : Tree) (world : World) → AreRuns tree world (map (λ b. state b) roster.old.items) runs.old →
         IfSome (C.moments clock.old) (λ m. OnOk result (AreBegun tree world runs.old.last (taken rounds m) (state_of_runs tree.term (map (λ b. state b) roster.old.items) runs.old) begun))) }
     ensures all_begun { result ≡ Ok Ended.Done → C.moments clock.new ≡ option_map (moments_after rounds) (C.moments clock.old) }
@@ -160,6 +165,8 @@ pub fn run_rounds<K: Sink, C: Clock>(
         (trace_of tree world (map (λ b. state b) roster.old.items) runs (live_events world runs.last moments)))) }
     ensures front { (moments : List ℕ) × AreMoments rounds (C.moments clock.old) moments × ((tree : Tree) (world : World) → CanRun tree world names.now (map (λ b. state b) roster.old.items) runs →
         AppendedFront (K.written out.old) (K.written out.new) (text_of names.now (trace_of tree world (map (λ b. state b) roster.old.items) runs (live_events world runs.last moments)).blocks)) }
+    ensures cut { (moments : List ℕ) × AreMoments rounds (C.moments clock.old) moments × ((tree : Tree) (world : World) → CanRun tree world names.now (map (λ b. state b) roster.old.items) runs →
+        OnErr result (IsCut (arenas_of runs) (map (λ b. state b) roster.old.items) (map (λ b. state b) roster.new.items) (trace_of tree world (map (λ b. state b) roster.old.items) runs (live_events world runs.last moments)))) }
     ensures begun { (begun : ℕ) × (begun ≤ rounds) × (C.moments clock.new ≡ option_map (moments_after begun) (C.moments clock.old)) × ((tree : Tree) (world : World) → CanRun tree world names.now (map (λ b. state b) roster.old.items) runs →
         IfSome (C.moments clock.old) (λ m. OnOk result (AreBegun tree world runs.last (taken rounds m) (state_of_runs tree.term (map (λ b. state b) roster.old.items) runs) begun))) }
     ensures all_begun { result ≡ Ok Ended.Done → C.moments clock.new ≡ option_map (moments_after rounds) (C.moments clock.old) }

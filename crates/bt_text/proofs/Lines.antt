@@ -8,6 +8,10 @@ use Rattle.bt_model.specs.Lines.{LineNames, entry_line, fact_line, header_line, 
 use Rattle.bt_outside.specs.Appending.{Appended, AppendedFront}
 use Rattle.bt_outside.proofs.Appends.{Appended-trans, AppendedFront-whole, AppendedFront-longer, AppendedFront-after}
 
+-- a text that was put behind nothing
+pub alone : {line old : List ℕ} (text : List ℕ) → old ≡ [] → line ≡ old ++ text → line ≡ text
+alone text none put = put ∙ ap (λ (z : List ℕ). z ++ text) none
+
 -- the texts up to one more
 pub concat-map_more :
     {X : Type 0} (f : X → List ℕ) (xs : List X) (i : ℕ) (d : X) →

@@ -5,8 +5,9 @@ ghost use Rattle.bt_model.specs.Lines.{entry_line, fact_line, lines_of, note_lin
 ghost use Rattle.bt_outside.specs.Appending.{Appended, AppendedFront};
 ghost use Rattle.bt_outside.specs.Counts.{Rose};
 
-use crate::line::{entry_line, fact_line, header_line, note_line};
+use crate::line::{put_entry, put_fact, put_header, put_note};
 use crate::names::Names;
+use crate::put::empty_line;
 use crate::stop::TextStop;
 use bt_arena::Block;
 use bt_model::Note;
@@ -30,11 +31,12 @@ pub fn write_block<K: Sink>(
     ensures failed { IsErrOf result TextStop.WriteFault → Rose (K.faults out.old) (K.faults out.new) }
     ensures count { K.faults out.old ≤ K.faults out.new }
 {
-    let event = header_line(alloc, block.header, names)?;
-    write_line(out, event.as_slice())?;
-    write_notes(alloc, out, block.notes.list(), names)?;
-    write_facts(alloc, out, block.facts.as_slice(), names)?;
-    write_entries(alloc, out, block.entries.as_slice(), names)?;
+    let mut line = empty_line(alloc)?;
+    put_header(&mut line, block.header, names)?;
+    write_line(out, line.as_slice())?;
+    write_notes(&mut line, out, block.notes.list(), names)?;
+    write_facts(&mut line, out, block.facts.as_slice(), names)?;
+    write_entries(&mut line, out, block.entries.as_slice(), names)?;
     Ok(())
 }
 
@@ -50,9 +52,10 @@ pub fn write_line<K: Sink>(out: &mut K, line: &[u8]) -> Result<(), TextStop>
     Ok(())
 }
 
+// Writes the lines of the notes. The room of `line` is used for one after another.
 #[tactic(auto, using(bt_outside::proofs::Appends::appending))]
 fn write_notes<K: Sink>(
-    alloc: Global,
+    line: &mut Vec<u8>,
     out: &mut K,
     notes: &[Note],
     names: &Names,
@@ -64,15 +67,17 @@ fn write_notes<K: Sink>(
     ensures count { K.faults out.old ≤ K.faults out.new }
 {
     for note in notes {
-        let line = note_line(alloc, *note, names)?;
+        line.clear();
+        put_note(line, *note, names)?;
         write_line(out, line.as_slice())?;
     }
     Ok(())
 }
 
+// Writes the lines of the facts in the same way.
 #[tactic(auto, using(bt_outside::proofs::Appends::appending))]
 fn write_facts<K: Sink>(
-    alloc: Global,
+    line: &mut Vec<u8>,
     out: &mut K,
     facts: &[(u32, i64)],
     names: &Names,
@@ -84,15 +89,17 @@ fn write_facts<K: Sink>(
     ensures count { K.faults out.old ≤ K.faults out.new }
 {
     for fact in facts {
-        let line = fact_line(alloc, *fact, names)?;
+        line.clear();
+        put_fact(line, *fact, names)?;
         write_line(out, line.as_slice())?;
     }
     Ok(())
 }
 
+// Writes the lines of the entries in the same way.
 #[tactic(auto, using(bt_outside::proofs::Appends::appending))]
 fn write_entries<K: Sink>(
-    alloc: Global,
+    line: &mut Vec<u8>,
     out: &mut K,
     entries: &[(u8, u32, Value)],
     names: &Names,
@@ -104,7 +111,8 @@ fn write_entries<K: Sink>(
     ensures count { K.faults out.old ≤ K.faults out.new }
 {
     for entry in entries {
-        let line = entry_line(alloc, entry, names)?;
+        line.clear();
+        put_entry(line, entry, names)?;
         write_line(out, line.as_slice())?;
     }
     Ok(())

@@ -1,4 +1,4 @@
-ghost use Rattle.std.specs.Prelude.{◌≡◌, ◌++◌, IfOk, OnOk, codes, decimal};
+ghost use Rattle.std.specs.Prelude.{◌≡◌, ◌++◌, OnOk, codes, decimal};
 ghost use Rattle.bt_model.specs.Lines.{answer_word, entry_line, fact_line, header_line, note_line};
 
 use crate::names::Names;
@@ -6,18 +6,9 @@ use crate::put::{put_bytes, put_number, put_signed};
 use crate::word::{answer_word, put_cause, put_value, status_word};
 use bt_model::{Answer, Header, Note};
 use bt_script::{NoMemory, Value};
-use std::alloc::Global;
 
-/// The line of the event.
-pub fn header_line(alloc: Global, header: Header, names: &Names) -> Result<Vec<u8>, NoMemory>
-    ensures { IfOk result (λ line. line.items ≡ header_line names.now header) }
-{
-    let mut line = Vec::new(alloc);
-    put_header(&mut line, header, names)?;
-    Ok(line)
-}
-
-fn put_header(out: &mut Vec<u8>, header: Header, names: &Names) -> Result<(), NoMemory>
+/// Puts the line of the event at the end.
+pub fn put_header(out: &mut Vec<u8>, header: Header, names: &Names) -> Result<(), NoMemory>
     ensures { OnOk result (out.new.items ≡ out.old.items ++ header_line names.now header) }
 {
     match header {
@@ -48,16 +39,8 @@ fn put_runner_event(out: &mut Vec<u8>, event: &[u8], runner: u8, at: u64) -> Res
     put_bytes(out, b"\n")
 }
 
-/// The line of the note.
-pub fn note_line(alloc: Global, note: Note, names: &Names) -> Result<Vec<u8>, NoMemory>
-    ensures { IfOk result (λ line. line.items ≡ note_line names.now note) }
-{
-    let mut line = Vec::new(alloc);
-    put_note(&mut line, note, names)?;
-    Ok(line)
-}
-
-fn put_note(out: &mut Vec<u8>, note: Note, names: &Names) -> Result<(), NoMemory>
+/// Puts the line of the note at the end.
+pub fn put_note(out: &mut Vec<u8>, note: Note, names: &Names) -> Result<(), NoMemory>
     ensures { OnOk result (out.new.items ≡ out.old.items ++ note_line names.now note) }
 {
     match note {
@@ -115,36 +98,29 @@ fn put_answer(out: &mut Vec<u8>, uid: u32, call: &[u8], answer: Answer) -> Resul
     put_bytes(out, b"\n")
 }
 
-/// The line of a fact that changed, with its new value.
-pub fn fact_line(alloc: Global, fact: (u32, i64), names: &Names) -> Result<Vec<u8>, NoMemory>
-    ensures { IfOk result (λ line. line.items ≡ fact_line names.now fact) }
+/// Puts the line of a fact that changed at the end, with its new value.
+pub fn put_fact(out: &mut Vec<u8>, fact: (u32, i64), names: &Names) -> Result<(), NoMemory>
+    ensures { OnOk result (out.new.items ≡ out.old.items ++ fact_line names.now fact) }
 {
     let (number, value) = fact;
-    let mut line = Vec::new(alloc);
-    put_bytes(&mut line, b"fact ")?;
-    put_bytes(&mut line, names.fact_name(number))?;
-    put_bytes(&mut line, b" ")?;
-    put_signed(&mut line, value)?;
-    put_bytes(&mut line, b"\n")?;
-    Ok(line)
+    put_bytes(out, b"fact ")?;
+    put_bytes(out, names.fact_name(number))?;
+    put_bytes(out, b" ")?;
+    put_signed(out, value)?;
+    put_bytes(out, b"\n")
 }
 
-/// The line of an entry of a runner's board that changed or is new, with its new value.
-pub fn entry_line(
-    alloc: Global,
-    entry: &(u8, u32, Value),
-    names: &Names,
-) -> Result<Vec<u8>, NoMemory>
-    ensures { IfOk result (λ line. line.items ≡ entry_line names.now entry.now) }
+/// Puts the line of an entry of a runner's board that changed or is new at the end, with its new
+/// value.
+pub fn put_entry(out: &mut Vec<u8>, entry: &(u8, u32, Value), names: &Names) -> Result<(), NoMemory>
+    ensures { OnOk result (out.new.items ≡ out.old.items ++ entry_line names.now entry.now) }
 {
     let (runner, slot, value) = entry;
-    let mut line = Vec::new(alloc);
-    put_bytes(&mut line, b"board ")?;
-    put_number(&mut line, u64::from(*runner))?;
-    put_bytes(&mut line, b" ")?;
-    names.put_cell(&mut line, *slot)?;
-    put_bytes(&mut line, b" ")?;
-    put_value(&mut line, value)?;
-    put_bytes(&mut line, b"\n")?;
-    Ok(line)
+    put_bytes(out, b"board ")?;
+    put_number(out, u64::from(*runner))?;
+    put_bytes(out, b" ")?;
+    names.put_cell(out, *slot)?;
+    put_bytes(out, b" ")?;
+    put_value(out, value)?;
+    put_bytes(out, b"\n")
 }

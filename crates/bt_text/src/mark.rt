@@ -4,7 +4,7 @@ ghost use Rattle.std.specs.Str.{bytes_eq};
 ghost use Rattle.bt_model.specs.PrintedTree.{attribute_if, attribute_text, deeper, element_name, escaped_byte, explicit_name, guard_attributes, indented, is_compact, node_attributes, opening_text, port_attribute, port_text, script_attribute};
 ghost use Rattle.bt_model.specs.declared.term.Term.{out-Term};
 
-use crate::put::{put_bytes, put_number};
+use crate::put::{empty_line, put_bytes, put_number};
 use bt_model::{Guards, Kind, Port, PortValue, Term, is_reserved};
 use bt_script::{Name, NoMemory, Script, Value, is_identifier};
 use itoa::Buffer;
@@ -25,7 +25,8 @@ fn put_escaped_byte(out: &mut Vec<u8>, byte: u8) -> Result<(), NoMemory>
         put_number(out, u64::from(byte))?;
         put_bytes(out, b";")
     } else {
-        put_bytes(out, &[byte])
+        out.push(byte)?;
+        Ok(())
     }
 }
 
@@ -182,9 +183,6 @@ fn put_node(out: &mut Vec<u8>, term: &Term) -> Result<(), NoMemory>
     Ok(())
 }
 
-/// The room that a line has at first: most marks need no more, so that their lines do not grow.
-const LINE_ROOM: usize = 256;
-
 /// The line of a node's mark, which ends with these bytes.
 pub fn node_line(
     alloc: Global,
@@ -196,7 +194,7 @@ pub fn node_line(
         ++ opening_text (element_name (out-Term term.now).kind (out-Term term.now).id) (node_attributes (out-Term term.now))
         ++ ending.now)) }
 {
-    let mut line = Vec::with_capacity(alloc, LINE_ROOM)?;
+    let mut line = empty_line(alloc)?;
     put_bytes(&mut line, blanks)?;
     put_bytes(&mut line, b"<")?;
     put_node(&mut line, term)?;

@@ -1,10 +1,21 @@
-ghost use Rattle.std.specs.Prelude.{◌≡◌, ◌<◌, ◌++◌, OnOk, decimal};
+ghost use Rattle.std.specs.Prelude.{◌≡◌, ◌<◌, [], ◌++◌, IfOk, OnOk, decimal};
 ghost use Rattle.std.specs.Fmt.{signed_decimal};
 ghost use Rattle.std.specs.List.{flat_map};
 ghost use Rattle.bt_model.specs.Lines.{hex_digit, quoted, quoted_byte};
 
 use bt_script::NoMemory;
 use itoa::Buffer;
+use std::alloc::Global;
+
+/// The room that a line has at first: most lines need no more, so that they do not grow.
+const LINE_ROOM: usize = 256;
+
+/// A line that has no bytes yet.
+pub fn empty_line(alloc: Global) -> Result<Vec<u8>, NoMemory>
+    ensures { IfOk result (λ line. line.items ≡ []) }
+{
+    Ok(Vec::with_capacity(alloc, LINE_ROOM)?)
+}
 
 /// Puts the bytes at the end.
 pub fn put_bytes(out: &mut Vec<u8>, bytes: &[u8]) -> Result<(), NoMemory>

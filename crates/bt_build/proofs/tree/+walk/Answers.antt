@@ -1,4 +1,4 @@
-use Rattle.std.proofs.Common.{◌≡◌, ◌<◌, length, Result, ap, sym, ◌∙◌, subst, arith}
+use Rattle.std.proofs.Common.{◌≡◌, ◌<◌, ℕ, List, [], ◌∷◌, ◌++◌, length, Result, ap, sym, ◌∙◌, subst, arith}
 use Rattle.std.proofs.lemmas.Bool.Decides.{nat_tests}
 use Rattle.std.proofs.lemmas.Result.{err_from_is_err_and}
 use Rattle.bt_script.specs.Stops.{Gives}
@@ -24,7 +24,7 @@ read_node-returns-in-Some t c =
 pub node_by-returns : goal.node_by-returns
 node_by-returns t c =
     let file = file_seen c.args.file.now in
-    let e = node_plain file (read_node file c.args.left) c.args.head.now c.args.element.now (ids_seen c.args.opened.now) c.args.numbers
+    let e = node_plain file (read_node file c.args.left) c.args.head c.args.element.now (ids_seen c.args.opened.now) c.args.numbers
     c.list-attributes.result.now c.list-children.result.now c.list-attributes.ensures c.list-children.ensures
     (sym c.is_subtree.ensures ∙ c.if-is_subtree.false) (sym c.takes.ensures ∙ c.if-not-takes.false) in
     subst (λ (r : Read). Gives c.node_of.result r) (sym e) c.node_of.ensures
@@ -35,9 +35,9 @@ opened_by-returns t c =
     let few : c.args.numbers.scopes < 256 = omega arith in
     let none : length c.list.result.now ≡ 0 = grind (arith, nat_tests) in
     let one : length c.list-roots.result.now ≡ 1 = omega arith in
-    let e = node_opened file (read_node file c.args.left) c.args.head.now c.args.element.now c.in-Some.tree.now (ids_seen c.args.opened.now) (ids_seen c.as_slice.result.now) c.args.numbers
+    let e = node_opened file (read_node file c.args.left) c.args.head c.args.element.now c.in-Some.tree.now (ids_seen c.args.opened.now) (ids_seen c.as_slice.result.now) c.args.numbers
     c.list-attributes.result.now c.list.result.now c.list-roots.result.now c.list-attributes.ensures c.list.ensures c.list-roots.ensures
-    c.in-Some.ensures (sym c.is_opened.ensures ∙ c.if-is_opened.false) few none one (ap ids_seen c.as_slice.ensures.value ∙ c.in_ok-inner.ensures) in
+    c.in-Some.ensures (sym c.is_opened.ensures ∙ c.if-is_opened.false) few none one (ap ids_seen c.as_slice.ensures.value ∙ c.in_ok-inner.ensures ∙ ap (λ (id : List ℕ). ids_seen c.args.opened.now ++ id ∷ []) c.in_ok-own.ensures) in
     subst (λ (r : Read). Gives c.node_of.result r) (sym e) c.node_of.ensures
 
 pub node_of-returns-in_err-terms : goal.node_of-returns-in_err-terms
@@ -48,9 +48,9 @@ node_of-returns-in_err-terms t c =
     let opened = ids_seen c.args.opened.now in
     rw (p.1, p.2) (passed c.in_err-terms.field-0.0
     (nodes_by below opened c.args.children.now c.args.numbers)
-    (node_of models below c.args.head.now c.args.attributes.now opened c.args.children.now c.args.numbers c.args.uid)
+    (node_of models below c.args.head c.args.attributes.now opened c.args.children.now c.args.numbers c.args.uid)
     c.in_err-terms.ensures
-    (λ f h. node_fault models below c.args.head.now c.args.attributes.now opened c.args.children.now c.args.numbers c.args.uid c.in_ok-content.content f c.in_ok-content.ensures h))
+    (λ f h. node_fault models below c.args.head c.args.attributes.now opened c.args.children.now c.args.numbers c.args.uid c.in_ok-content.content f c.in_ok-content.ensures h))
 
 pub nodes_by-loop-element-preserved : goal.nodes_by-loop-element-preserved
 nodes_by-loop-element-preserved t c =

@@ -2,7 +2,8 @@ use Rattle.std.proofs.Common.{◌++◌, ◌-◌, ◌∙◌, ℕ, Ok, length, ap}
 use Rattle.std.specs.Option.{option_map}
 use Rattle.bt_loop.proofs.Rising.{roster_both}
 use Rattle.bt_run.specs.Rounds.{AreBegun, moments_after, taken}
-use Rattle.bt_run.proofs.Lives.{all_begun, are_all, are_moments, if_err, last_begun, live_front, live_last, live_part, live_run, none_begun, not_done, to_come}
+use Rattle.bt_run.proofs.Cuts.{cut_after, err_gives, on_err}
+use Rattle.bt_run.proofs.Lives.{all_begun, are_all, are_moments, if_err, last_begun, live_cut, live_front, live_last, live_on, live_part, live_run, none_begun, not_done, to_come}
 use Rattle.bt_run.proofs.Steps.{run_front}
 use Rattle.bt_run.proofs.rounds.write_live.Goals as goal
 
@@ -112,3 +113,31 @@ pub returns-in-Faulted-clause-none : goal.returns-in-Faulted-clause-none
 returns-in-Faulted-clause-none g c =
     let r = c.requires.runs in
     (c.write_rounds.ensures.stand r.0 r.1 r.2).off (c.write_rounds.ensures.off (c.in_ok-write_rounds.was ∙ ap Ok c.in-Faulted.is))
+
+pub returns-in_err-write_rounds-clause-cut : goal.returns-in_err-write_rounds-clause-cut
+returns-in_err-write_rounds-clause-cut g c =
+    let p = c.write_rounds.ensures.rounds in (
+      p.0 ++ to_come (c.args.rounds - length p.0) _,
+      are_moments c.args.rounds _ _ p.0 p.3 p.1,
+      λ tree world are. on_err c.from_residual.result (live_cut tree world _ p.0 _ _ _ _ _ _ _ _ c.write_rounds.result _ c.in_err-write_rounds.was (p.4 tree world are) _),
+    )
+
+pub returns-in-Done-clause-cut : goal.returns-in-Done-clause-cut
+returns-in-Done-clause-cut g c =
+    let p = c.write_rounds.ensures.rounds in
+    let done = c.in_ok-write_rounds.was ∙ ap Ok c.in-Done.is in (
+      p.0,
+      are_all c.args.rounds _ _ p.0 p.3 (p.2 done),
+      λ tree world are.
+          let now = (c.write_rounds.ensures.stand tree world are).on (c.write_rounds.ensures.on done) in
+          err_gives c.write_finishes.result
+          (λ cut.
+          cut_after _ _ _ _ _ _ _ _ _ _ c.write_rounds.ensures.arenas
+          (live_on tree world _ p.0 _ _ _ _ _ _ _ _ c.write_rounds.result c.in_ok-write_rounds.field-0 c.in_ok-write_rounds.was c.in-Done.is (p.4 tree world are)) cut)
+          (c.write_finishes.ensures.cut tree world now),
+    )
+
+pub returns-in-Faulted-clause-cut : goal.returns-in-Faulted-clause-cut
+returns-in-Faulted-clause-cut g c =
+    let p = c.write_rounds.ensures.rounds in
+    (p.0 ++ to_come (c.args.rounds - length p.0) _, are_moments c.args.rounds _ _ p.0 p.3 p.1, λ tree world are. tt)

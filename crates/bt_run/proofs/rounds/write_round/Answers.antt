@@ -1,6 +1,7 @@
-use Rattle.std.proofs.Common.{◌<◌, ◌≤◌, ◌+◌, ◌∙◌, Ok, ap, map, refl, arith}
+use Rattle.std.proofs.Common.{◌<◌, ◌≤◌, ◌+◌, ◌∙◌, Ok, ap, map, refl, sym, arith}
 use Rattle.bt_loop.specs.Runs.{state_of_runs}
 use Rattle.bt_loop.proofs.Rising.{roster_both, same_roster}
+use Rattle.bt_run.proofs.Cuts.{cut_after, cut_as, on_err}
 use Rattle.bt_run.proofs.Lives.{going_to, part_front, part_last, part_on, tick_next, ticks_end, ticks_first}
 use Rattle.bt_run.proofs.Steps.{going_all, going_stays}
 use Rattle.bt_run.proofs.rounds.write_round.Goals as goal
@@ -30,6 +31,14 @@ returns-in_err-write_event-clause-front g c = λ tree world are rest.
     let can : (1 ≤ c.loop-place.place + 1) × (c.loop-place.place + 1 ≤ world.runners) = (omega arith, omega (arith, low)) in
     part_front _ _ _ _ _ _ _ _ _ _ (tick_next tree world c.loop-place.place c.args.at rest _ low) c.loop-place.invariant.arenas (c.loop-place.invariant.goes tree world are rest) _
     (c.write_event.ensures.front tree world (c.loop-place.invariant.are tree world are) (can, c.loop-place.invariant.behind) _)
+
+pub returns-in_err-write_event-clause-cut : goal.returns-in_err-write_event-clause-cut
+returns-in_err-write_event-clause-cut g c = λ tree world are rest.
+    let low : c.loop-place.place < world.runners = omega (arith, c.loop-place-test.true, c.len-place-end.ensures, are.fit.many) in
+    let can : (1 ≤ c.loop-place.place + 1) × (c.loop-place.place + 1 ≤ world.runners) = (omega arith, omega (arith, low)) in
+    on_err c.from_residual.result
+    (cut_after _ _ _ _ _ _ _ _ _ _ c.loop-place.invariant.arenas (c.loop-place.invariant.goes tree world are rest)
+    (cut_as _ _ _ _ _ (sym (tick_next tree world c.loop-place.place c.args.at rest _ low)) (c.in_err-write_event.ensures.cut tree world (c.loop-place.invariant.are tree world are) (can, c.loop-place.invariant.behind) _)))
 
 pub returns-in_err-write_event-clause-roster : goal.returns-in_err-write_event-clause-roster
 returns-in_err-write_event-clause-roster g c = roster_both _ _ _ c.loop-place.invariant.roster c.write_event.ensures.roster

@@ -1,7 +1,7 @@
 use Rattle.std.proofs.Common.{◌≡◌, ◌≤◌, ◌+◌, ◌++◌, ◌∙◌, [], ◌∷◌, Ok, length, max, ap, refl, arith}
 use Rattle.std.proofs.Math.Nat.{le-max_right}
 use Rattle.bt_loop.proofs.Rising.{roster_both, same_roster}
-use Rattle.bt_run.proofs.Lives.{given_next, given_none, not_done, one_more, round_front, round_last, round_on, rounds_all, stopped_go}
+use Rattle.bt_run.proofs.Lives.{given_next, given_none, not_done, one_more, round_cut, round_front, round_last, round_on, rounds_all, stopped_go}
 use Rattle.bt_run.proofs.Steps.{going_none}
 use Rattle.bt_run.proofs.rounds.write_rounds.Goals as goal
 
@@ -36,7 +36,8 @@ returns-in_err-write_round-clause-rounds g c =
       λ tree world are.
           let at = c.loop.invariant.are tree world are in
           stopped_go c.from_residual.result c.from_residual.ensures.0 tree world _ _ _ _ _ _ _ _ _ _
-          (round_front tree world _ _ inv.0 _ _ _ _ _ _ _ _ (inv.3 tree world are) c.now.result c.max-last.result c.max-last.ensures _ c.loop.invariant.arenas _ (c.write_round.ensures.front tree world at)),
+          (round_front tree world _ _ inv.0 _ _ _ _ _ _ _ _ (inv.3 tree world are) c.now.result c.max-last.result c.max-last.ensures _ c.loop.invariant.arenas _ (c.write_round.ensures.front tree world at))
+          (round_cut tree world _ _ inv.0 _ _ _ _ _ _ _ _ (inv.3 tree world are) c.now.result c.max-last.result c.max-last.ensures _ c.loop.invariant.arenas _ (c.in_err-write_round.ensures.cut tree world at)),
     )
 
 pub returns-in_err-write_round-clause-stand : goal.returns-in_err-write_round-clause-stand

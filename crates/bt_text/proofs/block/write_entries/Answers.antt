@@ -2,17 +2,17 @@ use Rattle.std.proofs.Common.{ℕ, ◌<◌, ◌∙◌, arith, length, subst}
 use Rattle.bt_script.specs.declared.value.Value.{Value}
 use Rattle.bt_outside.specs.Appending.{Appended, AppendedFront}
 use Rattle.bt_model.specs.Lines.{entry_line}
-use Rattle.bt_text.proofs.Lines.{Appended-map_more, AppendedFront-map_next, AppendedFront-map_some}
+use Rattle.bt_text.proofs.Lines.{Appended-map_more, AppendedFront-map_next, AppendedFront-map_some, alone}
 use Rattle.bt_text.proofs.block.write_entries.Goals as goal
 
-pub returns-in_err-line-clause-front : goal.returns-in_err-line-clause-front
-returns-in_err-line-clause-front g c =
+pub returns-in_err-put_entry-clause-front : goal.returns-in_err-put_entry-clause-front
+returns-in_err-put_entry-clause-front g c =
     AppendedFront-map_some (entry_line c.args.names.now) c.args.entries.now c.loop-entry.entry-index _ _ c.loop-entry.invariant.text
 
 pub returns-in_err-write_line-clause-front : goal.returns-in_err-write_line-clause-front
 returns-in_err-write_line-clause-front g c =
     let within : c.loop-entry.entry-index < length c.args.entries.now = omega arith in
-    let front = rw (c.as_slice.ensures.value ∙ c.in_ok-line.ensures) at c.in_err-write_line.ensures.front in
+    let front = rw (c.as_slice.ensures.value ∙ alone _ c.clear.ensures.items c.in_ok-put_entry.ensures) at c.in_err-write_line.ensures.front in
     let here = subst (λ (entry : ℕ × ℕ × Value). AppendedFront (g.K.Sink.written c.loop-entry.out) (g.K.Sink.written c.write_line.new.out) (entry_line c.args.names.now entry)) c.entry-item.is front in
     AppendedFront-map_next (entry_line c.args.names.now) c.args.entries.now c.loop-entry.entry-index c.entry-item.result _ _ _ within
     c.loop-entry.invariant.text here
@@ -20,7 +20,7 @@ returns-in_err-write_line-clause-front g c =
 pub loop-entry-preserved : goal.loop-entry-preserved
 loop-entry-preserved g c =
     let within : c.loop-entry.entry-index < length c.args.entries.now = omega arith in
-    let whole = rw (c.as_slice.ensures.value ∙ c.in_ok-line.ensures) at c.in_ok-write_line.ensures.whole in
+    let whole = rw (c.as_slice.ensures.value ∙ alone _ c.clear.ensures.items c.in_ok-put_entry.ensures) at c.in_ok-write_line.ensures.whole in
     let here = subst (λ (entry : ℕ × ℕ × Value). Appended (g.K.Sink.written c.loop-entry.out) (g.K.Sink.written c.write_line.new.out) (entry_line c.args.names.now entry)) c.entry-item.is whole in
     record {
       text = Appended-map_more (entry_line c.args.names.now) c.args.entries.now c.loop-entry.entry-index c.entry-item.result _ _ _ within
