@@ -24,7 +24,7 @@ use Rattle.bt_model.specs.declared.world_fault.WorldFault.{WorldFault}
 use Rattle.bt_model.specs.Drivers.{DriverState}
 use Rattle.bt_model.specs.Run.{run_over}
 use Rattle.bt_model.specs.WorldFile.{ReadsWorld}
-use Rattle.bt_outside.specs.Appending.{Appended, AppendedFront}
+use Rattle.bt_outside.specs.Appending.{AppendedFront}
 use Rattle.bt_outside.specs.Counts.{Rose}
 use Rattle.bt_outside.specs.Files.{Told}
 use Rattle.bt_outside.specs.Moments.{Moments}

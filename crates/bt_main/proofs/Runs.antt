@@ -8,10 +8,8 @@ use Rattle.bt_loop.specs.Runs.{AreRuns, instances_wanted, roster_over}
 use Rattle.bt_loop.specs.Served.{calls_made, roster_after_run, serving_places}
 use Rattle.bt_loop.specs.Steps.{IsSameRoster}
 use Rattle.bt_loop.proofs.Rising.{roster_both, same_roster}
-use Rattle.bt_main.specs.declared.course.Course.{Course}
 use Rattle.bt_main.specs.declared.course.Course.TheVariants as course
 use Rattle.bt_main.specs.declared.exit.Exit.{Exit}
-use Rattle.bt_main.specs.declared.exit.Exit.TheVariants as exit
 use Rattle.bt_main.specs.Answers.{AreKept, AtMoments, ClockLeft, Gave, IfTold, IsWhole, Side, exit_of, side}
 use Rattle.bt_main.specs.Output.{Given, UpToFault, asked_by, given, join_refused, joined_output, run_exit, run_output}
 use Rattle.bt_main.proofs.Clauses.{at_any}
