@@ -6,27 +6,27 @@ use crate::put::{put_bytes, put_quoted, put_signed};
 use bt_model::{Answer, Cause, PortId, Status};
 use bt_script::{NoMemory, Value};
 
-/// The word of the status.
-pub fn status_word(status: Status) -> &'static [u8]
-    ensures { result.now ≡ status_word status }
+/// Puts the word of the status at the end.
+pub fn put_status(out: &mut Vec<u8>, status: Status) -> Result<(), NoMemory>
+    ensures { OnOk result (out.new.items ≡ out.old.items ++ status_word status) }
 {
     match status {
-        Status::Idle => b"IDLE",
-        Status::Running => b"RUNNING",
-        Status::Success => b"SUCCESS",
-        Status::Failure => b"FAILURE",
+        Status::Idle => put_bytes(out, b"IDLE"),
+        Status::Running => put_bytes(out, b"RUNNING"),
+        Status::Success => put_bytes(out, b"SUCCESS"),
+        Status::Failure => put_bytes(out, b"FAILURE"),
     }
 }
 
-/// The word of the answer.
-pub fn answer_word(answer: Answer) -> &'static [u8]
-    ensures { result.now ≡ answer_word answer }
+/// Puts the word of the answer at the end.
+pub fn put_answer(out: &mut Vec<u8>, answer: Answer) -> Result<(), NoMemory>
+    ensures { OnOk result (out.new.items ≡ out.old.items ++ answer_word answer) }
 {
     match answer {
-        Answer::Running => b"RUNNING",
-        Answer::Success => b"SUCCESS",
-        Answer::Failure => b"FAILURE",
-        Answer::Skipped => b"SKIPPED",
+        Answer::Running => put_bytes(out, b"RUNNING"),
+        Answer::Success => put_bytes(out, b"SUCCESS"),
+        Answer::Failure => put_bytes(out, b"FAILURE"),
+        Answer::Skipped => put_bytes(out, b"SKIPPED"),
     }
 }
 
