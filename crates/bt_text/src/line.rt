@@ -56,8 +56,7 @@ pub fn put_note(out: &mut Vec<u8>, note: Note, names: &Names) -> Result<(), NoMe
             put_bytes(out, b"root ")?;
             put_number(out, u64::from(runner))?;
             put_bytes(out, b" ")?;
-            put_answer(out, answer)?;
-            put_bytes(out, b"\n")
+            put_answer(out, answer)
         }
         Note::Faulted { runner, uid, cause } => {
             put_bytes(out, b"fault ")?;
@@ -85,9 +84,7 @@ fn put_changed(out: &mut Vec<u8>, uid: u32, old: Status, new: Status) -> Result<
 {
     put_bytes(out, b"node ")?;
     put_number(out, u64::from(uid))?;
-    put_bytes(out, b" ")?;
     put_status(out, old)?;
-    put_bytes(out, b" ")?;
     put_status(out, new)?;
     put_bytes(out, b"\n")
 }
@@ -100,8 +97,7 @@ fn put_started(out: &mut Vec<u8>, uid: u32, answer: Answer) -> Result<(), NoMemo
     put_bytes(out, b"call ")?;
     put_number(out, u64::from(uid))?;
     put_bytes(out, b" start ")?;
-    put_answer(out, answer)?;
-    put_bytes(out, b"\n")
+    put_answer(out, answer)
 }
 
 // Puts the line of a call of what runs and its answer.
@@ -112,8 +108,7 @@ fn put_ran(out: &mut Vec<u8>, uid: u32, answer: Answer) -> Result<(), NoMemory>
     put_bytes(out, b"call ")?;
     put_number(out, u64::from(uid))?;
     put_bytes(out, b" running ")?;
-    put_answer(out, answer)?;
-    put_bytes(out, b"\n")
+    put_answer(out, answer)
 }
 
 /// Puts the line of a fact that changed at the end, with its new value.
