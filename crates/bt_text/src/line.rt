@@ -1,10 +1,10 @@
 ghost use Rattle.std.specs.Prelude.{◌≡◌, ◌++◌, OnOk, codes, decimal};
-ghost use Rattle.bt_model.specs.Lines.{answer_word, entry_line, fact_line, header_line, note_line};
+ghost use Rattle.bt_model.specs.Lines.{answer_word, entry_line, fact_line, header_line, note_line, status_word};
 
 use crate::names::Names;
 use crate::put::{put_bytes, put_number, put_signed};
-use crate::word::{answer_word, put_cause, put_value, status_word};
-use bt_model::{Answer, Header, Note};
+use crate::word::{put_answer, put_cause, put_status, put_value};
+use bt_model::{Answer, Header, Note, Status};
 use bt_script::{NoMemory, Value};
 
 /// Puts the line of the event at the end.
@@ -44,17 +44,9 @@ pub fn put_note(out: &mut Vec<u8>, note: Note, names: &Names) -> Result<(), NoMe
     ensures { OnOk result (out.new.items ≡ out.old.items ++ note_line names.now note) }
 {
     match note {
-        Note::Changed { uid, old, new } => {
-            put_bytes(out, b"node ")?;
-            put_number(out, u64::from(uid))?;
-            put_bytes(out, b" ")?;
-            put_bytes(out, status_word(old))?;
-            put_bytes(out, b" ")?;
-            put_bytes(out, status_word(new))?;
-            put_bytes(out, b"\n")
-        }
-        Note::Started { uid, answer } => put_answer(out, uid, b" start ", answer),
-        Note::Ran { uid, answer } => put_answer(out, uid, b" running ", answer),
+        Note::Changed { uid, old, new } => put_changed(out, uid, old, new),
+        Note::Started { uid, answer } => put_started(out, uid, answer),
+        Note::Ran { uid, answer } => put_ran(out, uid, answer),
         Note::Halted { uid } => {
             put_bytes(out, b"call ")?;
             put_number(out, u64::from(uid))?;
@@ -64,8 +56,7 @@ pub fn put_note(out: &mut Vec<u8>, note: Note, names: &Names) -> Result<(), NoMe
             put_bytes(out, b"root ")?;
             put_number(out, u64::from(runner))?;
             put_bytes(out, b" ")?;
-            put_bytes(out, answer_word(answer))?;
-            put_bytes(out, b"\n")
+            put_answer(out, answer)
         }
         Note::Faulted { runner, uid, cause } => {
             put_bytes(out, b"fault ")?;
@@ -86,16 +77,38 @@ pub fn put_note(out: &mut Vec<u8>, note: Note, names: &Names) -> Result<(), NoMe
     }
 }
 
-// Puts the line of a call that answered.
-fn put_answer(out: &mut Vec<u8>, uid: u32, call: &[u8], answer: Answer) -> Result<(), NoMemory>
+// Puts the line of a node whose status changed.
+fn put_changed(out: &mut Vec<u8>, uid: u32, old: Status, new: Status) -> Result<(), NoMemory>
+    ensures { OnOk result (out.new.items ≡ out.old.items ++ (codes "node " ++ decimal uid ++ codes " "
+        ++ status_word old ++ codes " " ++ status_word new ++ codes "\n")) }
+{
+    put_bytes(out, b"node ")?;
+    put_number(out, u64::from(uid))?;
+    put_status(out, old)?;
+    put_status(out, new)?;
+    put_bytes(out, b"\n")
+}
+
+// Puts the line of a start and its answer.
+fn put_started(out: &mut Vec<u8>, uid: u32, answer: Answer) -> Result<(), NoMemory>
     ensures { OnOk result (out.new.items ≡
-        out.old.items ++ (codes "call " ++ decimal uid ++ call.now ++ answer_word answer ++ codes "\n")) }
+        out.old.items ++ (codes "call " ++ decimal uid ++ codes " start " ++ answer_word answer ++ codes "\n")) }
 {
     put_bytes(out, b"call ")?;
     put_number(out, u64::from(uid))?;
-    put_bytes(out, call)?;
-    put_bytes(out, answer_word(answer))?;
-    put_bytes(out, b"\n")
+    put_bytes(out, b" start ")?;
+    put_answer(out, answer)
+}
+
+// Puts the line of a call of what runs and its answer.
+fn put_ran(out: &mut Vec<u8>, uid: u32, answer: Answer) -> Result<(), NoMemory>
+    ensures { OnOk result (out.new.items ≡
+        out.old.items ++ (codes "call " ++ decimal uid ++ codes " running " ++ answer_word answer ++ codes "\n")) }
+{
+    put_bytes(out, b"call ")?;
+    put_number(out, u64::from(uid))?;
+    put_bytes(out, b" running ")?;
+    put_answer(out, answer)
 }
 
 /// Puts the line of a fact that changed at the end, with its new value.

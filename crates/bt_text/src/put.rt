@@ -17,7 +17,9 @@ pub fn empty_line(alloc: Global) -> Result<Vec<u8>, NoMemory>
     Ok(Vec::with_capacity(alloc, LINE_ROOM)?)
 }
 
-/// Puts the bytes at the end.
+/// Puts the bytes at the end. It is inlined as most calls put a short constant, of which then only
+/// a store is left.
+#[inline]
 pub fn put_bytes(out: &mut Vec<u8>, bytes: &[u8]) -> Result<(), NoMemory>
     ensures { OnOk result (out.new.items ≡ out.old.items ++ bytes.now) }
 {

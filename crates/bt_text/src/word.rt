@@ -1,4 +1,4 @@
-ghost use Rattle.std.specs.Prelude.{◌≡◌, ◌++◌, OnOk};
+ghost use Rattle.std.specs.Prelude.{◌≡◌, ◌++◌, OnOk, codes};
 ghost use Rattle.bt_model.specs.Lines.{answer_word, cause_words, port_word, status_word, value_words};
 
 use crate::names::Names;
@@ -6,27 +6,27 @@ use crate::put::{put_bytes, put_quoted, put_signed};
 use bt_model::{Answer, Cause, PortId, Status};
 use bt_script::{NoMemory, Value};
 
-/// The word of the status.
-pub fn status_word(status: Status) -> &'static [u8]
-    ensures { result.now ≡ status_word status }
+/// Puts a blank and the word of the status at the end.
+pub fn put_status(out: &mut Vec<u8>, status: Status) -> Result<(), NoMemory>
+    ensures { OnOk result (out.new.items ≡ out.old.items ++ (codes " " ++ status_word status)) }
 {
     match status {
-        Status::Idle => b"IDLE",
-        Status::Running => b"RUNNING",
-        Status::Success => b"SUCCESS",
-        Status::Failure => b"FAILURE",
+        Status::Idle => put_bytes(out, b" IDLE"),
+        Status::Running => put_bytes(out, b" RUNNING"),
+        Status::Success => put_bytes(out, b" SUCCESS"),
+        Status::Failure => put_bytes(out, b" FAILURE"),
     }
 }
 
-/// The word of the answer.
-pub fn answer_word(answer: Answer) -> &'static [u8]
-    ensures { result.now ≡ answer_word answer }
+/// Puts the word of the answer at the end, and the end of its line.
+pub fn put_answer(out: &mut Vec<u8>, answer: Answer) -> Result<(), NoMemory>
+    ensures { OnOk result (out.new.items ≡ out.old.items ++ (answer_word answer ++ codes "\n")) }
 {
     match answer {
-        Answer::Running => b"RUNNING",
-        Answer::Success => b"SUCCESS",
-        Answer::Failure => b"FAILURE",
-        Answer::Skipped => b"SKIPPED",
+        Answer::Running => put_bytes(out, b"RUNNING\n"),
+        Answer::Success => put_bytes(out, b"SUCCESS\n"),
+        Answer::Failure => put_bytes(out, b"FAILURE\n"),
+        Answer::Skipped => put_bytes(out, b"SKIPPED\n"),
     }
 }
 
