@@ -6,7 +6,8 @@ use crate::put::{put_bytes, put_quoted, put_signed};
 use bt_model::{Answer, Cause, PortId, Status};
 use bt_script::{NoMemory, Value};
 
-/// Puts a blank and the word of the status at the end.
+/// Puts a blank and the word of the status at the end. It is inlined as every second line has two.
+#[inline(always)]
 pub fn put_status(out: &mut Vec<u8>, status: Status) -> Result<(), NoMemory>
     ensures { OnOk result (out.new.items ≡ out.old.items ++ (codes " " ++ status_word status)) }
 {
