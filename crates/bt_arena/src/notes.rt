@@ -42,6 +42,7 @@ pub fn notes_of(alloc: Global, leaves: u32) -> Result<Notes, NoMemory>
 }
 
 /// Makes room for one note beside the reserve.
+#[inline(always)]
 fn make_room(notes: &mut Vec<Note>, reserve: usize) -> Result<(), NoMemory>
     requires { vec_len notes.old + reserve ≤ vec_capacity notes.old }
     ensures same { notes.new.items ≡ notes.old.items }
@@ -63,6 +64,7 @@ impl Notes {
     }
 
     /// Adds a note and keeps the reserve. Refused, it changes nothing.
+    #[inline(always)]
     pub fn push(&mut self, note: Note) -> Result<(), NoMemory>
         ensures ok { OnOk result (self.new ≡ record self.old { list = self.old.list ++ note ∷ [] }) }
         ensures err { OnErr result (self.new ≡ self.old) }
@@ -73,6 +75,7 @@ impl Notes {
     }
 
     /// Adds one place to the reserve. Refused, it changes nothing.
+    #[inline(always)]
     pub fn room(&mut self) -> Result<(), NoMemory>
         ensures ok { OnOk result (self.new ≡ record self.old { reserve = self.old.reserve + 1 }) }
         ensures err { OnErr result (self.new ≡ self.old) }
@@ -83,6 +86,7 @@ impl Notes {
     }
 
     /// Adds a note in a place of the reserve. It takes no memory.
+    #[inline(always)]
     pub fn push_reserved(&mut self, note: Note)
         requires { 0 < self.old.reserve }
         ensures { self.new ≡ record self.old { list = self.old.list ++ note ∷ []; reserve = self.old.reserve - 1 } }

@@ -34,6 +34,7 @@ fn has(span: Span, place: u32) -> bool
 }
 
 /// A node becomes IDLE, which is noted where it was not.
+#[inline(always)]
 fn become_idle(kept: &mut [Kept], uid: u32, notes: &mut Notes) -> Result<(), NoMemory>
     requires { uid < length kept.old }
     ensures kept { OnOk result (kept.new ≡ slice_set kept.old uid (record (kept_at kept.old uid) { status = Idle })) }
@@ -50,6 +51,7 @@ fn become_idle(kept: &mut [Kept], uid: u32, notes: &mut Notes) -> Result<(), NoM
 
 /// Resets the node with this uid, among nodes of which what they keep is `kept`: one that is RUNNING is
 /// halted, and any other becomes IDLE.
+#[inline(always)]
 #[cycle(resetting)]
 pub fn reset_node<D: Drivers>(
     alloc: Global,
@@ -81,6 +83,7 @@ pub fn reset_node<D: Drivers>(
 }
 
 /// Halts the RUNNING node with this uid.
+#[inline(never)]
 #[cycle(resetting)]
 pub fn halt_node<D: Drivers>(
     alloc: Global,
@@ -148,6 +151,7 @@ pub fn reset_children<D: Drivers>(
 }
 
 /// Resets the node with this uid where this is wanted.
+#[inline(always)]
 #[cycle(resetting)]
 fn reset_wanted<D: Drivers>(
     wanted: bool,

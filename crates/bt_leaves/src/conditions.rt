@@ -47,6 +47,7 @@ impl Conditions {
     }
 
     /// The reply of a leaf, and the instance that it leaves. A condition has no outputs.
+    #[inline(always)]
     fn answer(
         row: &ReadyRow,
         before: Instance,

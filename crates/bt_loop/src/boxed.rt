@@ -35,6 +35,7 @@ impl Drivers for Roster {
         prepare_all(&mut self.drivers, counts)
     }
 
+    #[inline(always)]
     fn start(
         &mut self,
         place: usize,
@@ -57,6 +58,7 @@ impl Drivers for Roster {
         )
     }
 
+    #[inline(always)]
     fn running(
         &mut self,
         place: usize,

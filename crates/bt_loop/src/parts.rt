@@ -79,6 +79,7 @@ fn end_tick(
 }
 
 /// Ticks a runner: visits its root, and notes its answer and the root's own end.
+#[inline(never)]
 fn tick_root<D: Drivers>(
     alloc: Global,
     runner: &mut ReadyRunner,

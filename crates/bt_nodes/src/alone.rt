@@ -83,6 +83,7 @@ fn answer_where(holds: bool) -> Answer
 
 /// Applies the rule of the node with this uid, which has no children: a leaf's driver is called, a
 /// script node runs its code, and two answer as their names say. It keeps nothing in its memo.
+#[inline(always)]
 pub fn lone_rule<D: Drivers>(
     alloc: Global,
     node: &Node,
@@ -123,6 +124,7 @@ pub fn lone_rule<D: Drivers>(
 
 /// Applies the rule of the node with this uid, which has no children and is not held back by a guard,
 /// and ends its visit.
+#[inline(always)]
 pub fn visit_alone<D: Drivers>(
     alloc: Global,
     nodes: &[Node],

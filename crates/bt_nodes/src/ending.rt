@@ -32,6 +32,7 @@ fn status_of(answer: Answer) -> Status
 }
 
 /// Notes the change of a node's status to a different one. Refused, it changes nothing.
+#[inline(always)]
 pub fn note_change(notes: &mut Notes, uid: u32, old: Status, new: Status) -> Result<(), NoMemory>
     ensures ok { OnOk result (notes.new ≡ record notes.old { list = notes.old.list ++ change uid old new }) }
     ensures err { OnErr result (notes.new ≡ notes.old) }
@@ -44,6 +45,7 @@ pub fn note_change(notes: &mut Notes, uid: u32, old: Status, new: Status) -> Res
 
 /// Ends the visit of a node with these guards that has given an answer and a memo: the memo is kept,
 /// the scripts after the answer run, and then the status becomes that of the answer, which is noted.
+#[inline(always)]
 fn end_node(
     alloc: Global,
     guards: &ReadyGuards,
@@ -75,6 +77,7 @@ fn end_node(
 /// Ends the visit of the node with this uid that has given an answer and a memo: the memo is kept, the
 /// scripts after the answer run, and then the status becomes that of the answer, which is noted. A
 /// fault of a script leaves the status as it was.
+#[inline(always)]
 pub fn end_visit(
     alloc: Global,
     nodes: &[Node],

@@ -25,6 +25,7 @@ use bt_model::{Answer, NodeFault, Note, Reply, Status};
 use bt_script::{Cells, Seen, Stop};
 
 /// What a driver sees of these inputs; those behind them are absent.
+#[inline(always)]
 fn inputs_of(sources: &[Source], board: &Board) -> Inputs
     requires read { All (IsSourceOf (length board.now)) sources.now }
     requires few { length sources.now ≤ 8 }
@@ -38,6 +39,7 @@ fn inputs_of(sources: &[Source], board: &Board) -> Inputs
 }
 
 /// Writes an output where a slot is given.
+#[inline(never)]
 fn write_output(source: &Source, n: i64, board: &mut Board)
     requires { IsSourceOf (length board.old) source.now }
     ensures written { board.new ≡ number_written source.now n board.old }
@@ -50,6 +52,7 @@ fn write_output(source: &Source, n: i64, board: &mut Board)
 }
 
 /// Writes the outputs in order, each where a slot is given.
+#[inline(always)]
 fn write_outputs(sources: &[Source], outputs: &[i64], board: &mut Board)
     requires { All (IsSourceOf (length board.old)) sources.now }
     ensures written { board.new ≡ outputs_written sources.now outputs.now board.old }
@@ -64,6 +67,7 @@ fn write_outputs(sources: &[Source], outputs: &[i64], board: &mut Board)
 }
 
 /// Calls the driver of a leaf of this status, to begin or to go on.
+#[inline(always)]
 fn call_driver<D: Drivers>(
     leaf: &ReadyLeaf,
     status: Status,
@@ -104,6 +108,7 @@ fn call_driver<D: Drivers>(
 }
 
 /// Writes the outputs of a call where it answered SUCCESS.
+#[inline(always)]
 fn write_answer(reply: Reply, leaf: &ReadyLeaf, outs: &Outs, board: &mut Board)
     requires { All (IsSourceOf (length board.old)) leaf.now.outputs }
     ensures written { board.new ≡ board_left reply leaf.now.outputs outs.now board.old }
@@ -116,6 +121,7 @@ fn write_answer(reply: Reply, leaf: &ReadyLeaf, outs: &Outs, board: &mut Board)
 }
 
 /// Calls the driver of a leaf of this status with its inputs, and writes its outputs.
+#[inline(always)]
 fn make_call<D: Drivers>(
     leaf: &ReadyLeaf,
     status: Status,
@@ -139,6 +145,7 @@ fn make_call<D: Drivers>(
 }
 
 /// Marks a leaf by the reply of its driver: it is held while it runs.
+#[inline(always)]
 fn mark(reply: Reply, uid: u32, kept: &mut [Kept])
     requires { uid < length kept.old }
     ensures { kept.new ≡ slice_set kept.old uid (record (kept_at kept.old uid) { held = mark_left reply (kept_at kept.old uid).held }) }
@@ -174,6 +181,7 @@ fn answer_of(reply: Reply, uid: u32) -> Result<Answer, Stop<NodeFault>>
 
 /// Notes the call of a leaf of this status that had this reply, in a reserved place; a call that broke
 /// has no note. It gives the answer, or the fault.
+#[inline(always)]
 fn tell(
     reply: Reply,
     status: Status,
@@ -194,6 +202,7 @@ fn tell(
 /// Calls the driver of the leaf with this uid, to begin or to go on, with its inputs. On SUCCESS its
 /// outputs are written. Room for its note is made before the call, so that no note of a call that was
 /// made is refused.
+#[inline(always)]
 pub fn leaf_call<D: Drivers>(
     leaf: &ReadyLeaf,
     uid: u32,

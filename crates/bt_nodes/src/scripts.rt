@@ -36,6 +36,7 @@ fn cause_of(fault: ExecFault) -> Cause
 
 /// Runs a script of the node with this uid, and gives its value. A fault of the script is one of its
 /// node, and the writes before it stand. Want of memory comes only where there are texts.
+#[inline(never)]
 pub fn run_script(
     alloc: Global,
     code: &Code,
@@ -93,6 +94,7 @@ fn truth(value: &Value, uid: u32) -> Result<bool, Stop<NodeFault>>
 
 /// Runs a script of the node with this uid as a condition: a number other than 0 is true, and a text
 /// is a fault.
+#[inline(never)]
 pub fn script_holds(
     alloc: Global,
     code: &Code,
@@ -131,6 +133,7 @@ fn is_answered(
 /// The answer of the guards of the node with this uid, which is not RUNNING: that of the first of
 /// `_failureIf`, `_successIf`, `_skipIf` and `_while` that answers, if one does. Those behind it do
 /// not run.
+#[inline(always)]
 pub fn guards_answer(
     alloc: Global,
     guards: &ReadyGuards,
@@ -177,6 +180,7 @@ pub fn goes_on(
 }
 
 /// Runs two scripts of the node with this uid, one after the other, each where it is there.
+#[inline(always)]
 fn both_if_there(
     alloc: Global,
     first: &Option<Code>,
@@ -196,6 +200,7 @@ fn both_if_there(
 
 /// Runs the scripts of the node with this uid after its answer: `_onSuccess` after SUCCESS and
 /// `_onFailure` after FAILURE, and then `_post` after either.
+#[inline(always)]
 pub fn posts(
     alloc: Global,
     guards: &ReadyGuards,

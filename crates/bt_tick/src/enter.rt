@@ -24,6 +24,7 @@ use std::alloc::Global;
 
 /// Whether a node of this kind with this memo starts: one with children does, but for a RunOnce with a
 /// mark.
+#[inline(always)]
 fn starts(kind: Kind, memo: Memo) -> bool
     ensures { result ≡ starts kind memo }
 {
@@ -40,6 +41,7 @@ fn starts(kind: Kind, memo: Memo) -> bool
 
 /// Follows the rule of the node with this uid from the status and the memo that it has: a node with
 /// children goes on by moves, and any other does all that it does.
+#[inline(always)]
 fn follow_rule<D: Drivers>(
     alloc: Global,
     nodes: &[Node],
@@ -78,6 +80,7 @@ fn follow_rule<D: Drivers>(
 
 /// Starts the node with this uid, which is not RUNNING: it becomes RUNNING, which is noted, with a new
 /// memo.
+#[inline(always)]
 fn start(
     nodes: &[Node],
     kept: &mut [Kept],
@@ -113,6 +116,7 @@ fn start(
 }
 
 /// Begins a visit of the node with this uid, which is not RUNNING: its guards answer, or it starts.
+#[inline(always)]
 fn begin<D: Drivers>(
     alloc: Global,
     nodes: &[Node],
@@ -147,6 +151,7 @@ fn begin<D: Drivers>(
 }
 
 /// Goes on with the node with this uid, which is RUNNING, or halts it where its guard says so.
+#[inline(always)]
 fn resume<D: Drivers>(
     alloc: Global,
     nodes: &[Node],
@@ -175,6 +180,7 @@ fn resume<D: Drivers>(
 }
 
 /// Visits the node with this uid, up to its answer or to where it goes on by moves.
+#[inline(always)]
 pub(crate) fn enter<D: Drivers>(
     alloc: Global,
     nodes: &[Node],

@@ -13,6 +13,7 @@ use bt_decorators::decorator_next;
 use bt_model::{Heard, Kind, Memo, Move, Status};
 
 /// Whether a node of this kind follows a rule over its children.
+#[inline(always)]
 pub(crate) fn has_rule(kind: Kind) -> bool
     ensures { result ≡ has_rule kind }
 {
@@ -55,6 +56,7 @@ pub(crate) fn is_completed(status: Status) -> bool
 }
 
 /// The next move of a node with `n` children at the moment `now`, and the memo behind it.
+#[inline(always)]
 pub(crate) fn next_move(kind: Kind, memo: Memo, n: u32, now: u64, heard: Heard) -> (Memo, Move)
     requires ruled { has_rule kind ≡ true }
     requires takes { IsTrue (takes kind n) }

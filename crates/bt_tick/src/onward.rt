@@ -34,6 +34,7 @@ fn place_heard(heard: Heard) -> u32
 }
 
 /// The uid of the child at this place, of a node that has heard of a child.
+#[inline(always)]
 fn child_at(nodes: &[Node], step: Step, place: u32) -> u32
     requires there { (ts : List Term) × (view : View) × StandAll ts nodes.now view (step.uid + 1) × (place < length ts) × (step.child ≡ uid_of ts (step.uid + 1) (place_heard step.heard)) }
     requires few { length nodes.now < 2 ^ 30 }
@@ -59,6 +60,7 @@ fn passes_over(kind: Kind, status: Status) -> bool
 }
 
 /// The turn to a child: it is visited or passed over.
+#[inline(always)]
 fn turn_to(passes: bool, frame: Frame) -> Turn
     ensures { result ≡ turn_to passes frame }
 {
@@ -75,6 +77,7 @@ fn turn_to(passes: bool, frame: Frame) -> Turn
 }
 
 /// Resets the children of a span of the node with this uid, in order.
+#[inline(always)]
 fn reset_before<D: Drivers>(
     alloc: Global,
     nodes: &[Node],
@@ -101,6 +104,7 @@ fn reset_before<D: Drivers>(
 }
 
 /// A node goes on: it makes its next move, up to its answer or to the visit of a child.
+#[inline(always)]
 pub(crate) fn go_on<D: Drivers>(
     alloc: Global,
     nodes: &[Node],
