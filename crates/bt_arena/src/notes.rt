@@ -1,30 +1,36 @@
-ghost use Rattle.std.specs.Prelude.{◌≡◌, ◌+◌, ◌-◌, ◌<◌, ◌≤◌, [], ◌∷◌, ◌++◌, IfOk, OnOk, OnErr, vec_capacity, vec_len};
+ghost use Rattle.std.specs.Prelude.{◌≡◌, ◌+◌, ◌-◌, ◌<◌, ◌≤◌, [], ◌∷◌, ◌++◌, ℕ, IfOk, OnOk, OnErr, length, take};
 
 use bt_model::Note;
 use bt_script::NoMemory;
 use std::alloc::Global;
 use std::marker::Model;
 
+/// What stands in a place that has no note yet.
+const BLANK: Note = Note::Halted { uid: 0 };
+
 /// The notes of an event, with reserved room: so many notes can be added without memory. Contracts
 /// see the notes, the reserve that is left, and the whole reserve.
 #[derive(Debug, Drop)]
 pub struct Notes {
-    notes: Vec<Note>,
+    /// The notes, and behind them the places that are free.
+    places: Vec<Note>,
+    /// How many notes there are.
+    len: usize,
     reserve: usize,
     full: usize,
 }
 
 impl Model for Notes {
-    ghost use Rattle.std.specs.Prelude.{◌+◌, ◌≤◌, vec_capacity, vec_len};
+    ghost use Rattle.std.specs.Prelude.{◌+◌, ◌≤◌, length, take};
     ghost use Rattle.bt_arena.specs.Noted.{Noted};
 
     ghost Value = { Noted };
 
-    ghost view = { λ n. record { list = n.notes.items; reserve = n.reserve; full = n.full } };
+    ghost view = { λ n. record { list = take n.len n.places.items; reserve = n.reserve; full = n.full } };
 
     ghost invariant = { λ n. record {
-      room : vec_len n.notes + n.reserve ≤ vec_capacity n.notes;
-      whole : n.full ≤ vec_capacity n.notes;
+      room : n.len + n.reserve ≤ length n.places.items;
+      whole : n.full ≤ length n.places.items;
     } };
 }
 
@@ -35,24 +41,24 @@ pub fn notes_of(alloc: Global, leaves: u32) -> Result<Notes, NoMemory>
 {
     let full = leaves as usize + 1;
     Ok(Notes {
-        notes: Vec::with_capacity(alloc, full)?,
+        places: vec![in alloc; BLANK; full]?,
+        len: 0,
         reserve: full,
         full,
     })
 }
 
-/// Makes room for one note beside the reserve.
-#[inline(always)]
-fn make_room(notes: &mut Vec<Note>, reserve: usize) -> Result<(), NoMemory>
-    requires { vec_len notes.old + reserve ≤ vec_capacity notes.old }
-    ensures same { notes.new.items ≡ notes.old.items }
-    ensures ok { OnOk result (vec_len notes.new + reserve < vec_capacity notes.new) }
-    ensures room { vec_capacity notes.old ≤ vec_capacity notes.new }
+/// Adds free places, one at least. It is not inlined as few notes ask for more.
+#[inline(never)]
+fn add_places(places: &mut Vec<Note>) -> Result<(), NoMemory>
+    ensures same { (n : ℕ) → n ≤ length places.old.items → take n places.new.items ≡ take n places.old.items }
+    ensures more { OnOk result (length places.old.items < length places.new.items) }
+    ensures many { length places.old.items ≤ length places.new.items }
 {
-    match reserve.checked_add(1) {
-        Some(places) => Ok(notes.reserve(places)?),
-        None => Err(NoMemory),
-    }
+    places.reserve(1)?;
+    let all = places.capacity();
+    places.resize(all, BLANK)?;
+    Ok(())
 }
 
 impl Notes {
@@ -60,7 +66,7 @@ impl Notes {
     pub fn list(&self) -> &[Note]
         ensures { result.now ≡ self.now.list }
     {
-        self.notes.as_slice()
+        &self.places[..self.len]
     }
 
     /// Adds a note and keeps the reserve. Refused, it changes nothing.
@@ -69,8 +75,11 @@ impl Notes {
         ensures ok { OnOk result (self.new ≡ record self.old { list = self.old.list ++ note ∷ [] }) }
         ensures err { OnErr result (self.new ≡ self.old) }
     {
-        make_room(&mut self.notes, self.reserve)?;
-        self.notes.push(note)?;
+        if self.len + self.reserve == self.places.len() {
+            add_places(&mut self.places)?;
+        }
+        self.places[self.len] = note;
+        self.len += 1;
         Ok(())
     }
 
@@ -80,7 +89,9 @@ impl Notes {
         ensures ok { OnOk result (self.new ≡ record self.old { reserve = self.old.reserve + 1 }) }
         ensures err { OnErr result (self.new ≡ self.old) }
     {
-        make_room(&mut self.notes, self.reserve)?;
+        if self.len + self.reserve == self.places.len() {
+            add_places(&mut self.places)?;
+        }
         self.reserve += 1;
         Ok(())
     }
@@ -92,16 +103,15 @@ impl Notes {
         ensures { self.new ≡ record self.old { list = self.old.list ++ note ∷ []; reserve = self.old.reserve - 1 } }
     {
         self.reserve -= 1;
-        if self.notes.push(note).is_err() {
-            unreachable!()
-        }
+        self.places[self.len] = note;
+        self.len += 1;
     }
 
     /// Removes all notes and restores the reserve. It takes no memory.
     pub fn clear(&mut self)
         ensures { self.new ≡ record { list = []; reserve = self.old.full; full = self.old.full } }
     {
-        self.notes.clear();
+        self.len = 0;
         self.reserve = self.full;
     }
 }
