@@ -1,5 +1,6 @@
-ghost use Rattle.std.specs.Prelude.{◌≡◌, ◌+◌, ◌≤◌, ◌<◌, ◌++◌, List, Some, length, slice_set};
+ghost use Rattle.std.specs.Prelude.{◌≡◌, ◌+◌, ◌≤◌, ◌<◌, ◌++◌, List, Some, length, replicate, slice_set};
 ghost use Rattle.std.specs.List.{All};
+ghost use Rattle.bt_script.specs.declared.cells.Seen.TheVariants.{Absent};
 ghost use Rattle.bt_model.specs.declared.memory.Memory.{Memory};
 ghost use Rattle.bt_model.specs.declared.term.Term.{Term-F};
 ghost use Rattle.bt_model.specs.Drivers.{instance_at, roster_answer, roster_called};
@@ -24,18 +25,17 @@ use bt_driver::{Drivers, FactTable, Inputs, Outs};
 use bt_model::{Answer, NodeFault, Note, Reply, Status};
 use bt_script::{Cells, Seen, Stop};
 
-/// What a driver sees of these inputs; those behind them are absent.
+/// Puts in what a driver sees of these inputs; those behind them stay absent.
 #[inline(always)]
-fn inputs_of(sources: &[Source], board: &Board) -> Inputs
+fn see_inputs(sources: &[Source], board: &Board, inputs: &mut Inputs)
     requires read { All (IsSourceOf (length board.now)) sources.now }
     requires few { length sources.now ≤ 8 }
-    ensures { result ≡ padded (seen_inputs board.now sources.now) }
+    requires absent { inputs.old ≡ replicate 8 Absent }
+    ensures { inputs.new ≡ padded (seen_inputs board.now sources.now) }
 {
-    let mut inputs = [Seen::Absent; 8];
     for (place, source) in sources.iter().enumerate() {
         inputs[place] = seen_of(source, board);
     }
-    inputs
 }
 
 /// Writes an output where a slot is given.
@@ -137,7 +137,8 @@ fn make_call<D: Drivers>(
     ensures board { let a = leaf_answer leaf.now status board.old facts.old (D.states drivers.old) now in board.new ≡ board_left a.reply leaf.now.outputs a.outputs board.old }
     ensures slots { length board.new ≡ length board.old }
 {
-    let inputs = inputs_of(leaf.inputs.list(), board);
+    let mut inputs = [Seen::Absent; 8];
+    see_inputs(leaf.inputs.list(), board, &mut inputs);
     let mut outs = Outs::new();
     let reply = call_driver(leaf, status, &inputs, facts, &mut outs, drivers, now);
     write_answer(reply, leaf, &outs, board);

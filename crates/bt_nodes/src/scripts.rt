@@ -130,11 +130,10 @@ fn is_answered(
     }
 }
 
-/// The answer of the guards of the node with this uid, which is not RUNNING: that of the first of
-/// `_failureIf`, `_successIf`, `_skipIf` and `_while` that answers, if one does. Those behind it do
-/// not run.
-#[inline(always)]
-pub fn guards_answer(
+/// Tries the guards of the node with this uid, which is not RUNNING, one behind the other. It is not
+/// inlined as most nodes have none.
+#[inline(never)]
+fn try_guards(
     alloc: Global,
     guards: &ReadyGuards,
     uid: u32,
@@ -160,6 +159,33 @@ pub fn guards_answer(
     Ok(None)
 }
 
+/// The answer of the guards of the node with this uid, which is not RUNNING: that of the first of
+/// `_failureIf`, `_successIf`, `_skipIf` and `_while` that answers, if one does. Those behind it do
+/// not run.
+#[inline(always)]
+pub fn guards_answer(
+    alloc: Global,
+    guards: &ReadyGuards,
+    uid: u32,
+    board: &mut Board,
+) -> Result<Option<Answer>, Stop<NodeFault>>
+    requires { GuardsNeedAtMost (length board.old) guards.now }
+    ensures settles { (term : Term-F Meaning) (view : View) (s : State) → AreCompiled view term.guards guards.now →
+        Settles result (on_board board.new s) (guards_answer (site_of term view uid) (on_board board.old s)) }
+    ensures slots { length board.new ≡ length board.old }
+{
+    match guards {
+        ReadyGuards {
+            failure_if: None,
+            success_if: None,
+            skip_if: None,
+            while_true: None,
+            ..
+        } => Ok(None),
+        _ => try_guards(alloc, guards, uid, board),
+    }
+}
+
 /// Whether the node with this uid, which is RUNNING, goes on: it does unless its `_while` is false.
 pub fn goes_on(
     alloc: Global,
@@ -179,6 +205,26 @@ pub fn goes_on(
     }
 }
 
+/// Runs two scripts of the node with this uid, one after the other, each where it is there. It is not
+/// inlined as most nodes have neither.
+#[inline(never)]
+fn run_both(
+    alloc: Global,
+    first: &Option<Code>,
+    second: &Option<Code>,
+    uid: u32,
+    board: &mut Board,
+) -> Result<(), Stop<NodeFault>>
+    requires first { NeedsAtMost (length board.old) first.now }
+    requires second { NeedsAtMost (length board.old) second.now }
+    ensures settles { (term : Term-F Meaning) (view : View) (one other : Option Script) (s : State) → IsCompiled view one first.now → IsCompiled view other second.now →
+        Settles result (on_board board.new s) (follow (script_if_there (site_of term view uid) one (on_board board.old s)) (λ _. tt) (λ _ _ s1. script_if_there (site_of term view uid) other s1)) }
+    ensures slots { length board.new ≡ length board.old }
+{
+    script_if_there(alloc, first, uid, board)?;
+    script_if_there(alloc, second, uid, board)
+}
+
 /// Runs two scripts of the node with this uid, one after the other, each where it is there.
 #[inline(always)]
 fn both_if_there(
@@ -194,8 +240,10 @@ fn both_if_there(
         Settles result (on_board board.new s) (follow (script_if_there (site_of term view uid) one (on_board board.old s)) (λ _. tt) (λ _ _ s1. script_if_there (site_of term view uid) other s1)) }
     ensures slots { length board.new ≡ length board.old }
 {
-    script_if_there(alloc, first, uid, board)?;
-    script_if_there(alloc, second, uid, board)
+    match (first, second) {
+        (None, None) => Ok(()),
+        _ => run_both(alloc, first, second, uid, board),
+    }
 }
 
 /// Runs the scripts of the node with this uid after its answer: `_onSuccess` after SUCCESS and

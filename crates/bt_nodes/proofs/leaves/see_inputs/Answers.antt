@@ -3,7 +3,7 @@ use Rattle.bt_model.specs.Leaves.{sight}
 use Rattle.bt_arena.specs.Sources.{source_value}
 use Rattle.bt_script.specs.declared.cells.Seen.TheVariants.{Absent}
 use Rattle.bt_nodes.proofs.Filling.{filled_more}
-use Rattle.bt_nodes.proofs.leaves.inputs_of.Goals as goal
+use Rattle.bt_nodes.proofs.leaves.see_inputs.Goals as goal
 
 pub loop-place-preserved : goal.loop-place-preserved
 loop-place-preserved c =
