@@ -341,9 +341,6 @@ module _ (keeps : (t : Term) → Keeps (meaning t) (Sound t)) (nodes : List Node
           ((term : Term) (view : View) (next : Done Answer Memory) → GoesOnBy nodes moment term view step.uid step s next → Goes nodes moment term view step.uid r s s1 n n1 next) → StaysFit nodes s s1
       step_stays r is g goes = let h = step_at (as_turn is g) in (goes h.term h.view h.next h.does).stays
 
-    pub wait_made : {t : Turn} {frame : Frame} (stack1 : List Frame) → t ≡ turn.Wait frame → stack1 ≡ stack ++ frame ∷ [] → Going nodes moment root first t stack s0 s n0 n whole → Going nodes moment root first (turn.Enter frame.child) stack1 s0 s n0 n whole
-    wait_made {frame = frame} stack1 is pushed g = subst (λ (fs : List Frame). Going nodes moment root first (turn.Enter frame.child) fs s0 s n0 n whole) (sym pushed) (entered (as_turn is g))
-
     -- want of memory for the stack
     pub cut_here : {t : Turn} → Going nodes moment root first t stack s0 s n0 n whole → Meets {A = Answer} nodes moment (memory_of root first) (Err stop.NoMemory) s0 s n0 n whole
     cut_here g = met_behind nodes moment (memory_of root first) s0 s s n0 n n whole (resume g.waiting g.next) (Err stop.NoMemory) g.comes (none_told nodes s n (resume g.waiting g.next))
@@ -356,6 +353,35 @@ module _ (keeps : (t : Term) → Keeps (meaning t) (Sound t)) (nodes : List Node
 
     pub back_answers : {t : Turn} {a : Answer} → t ≡ turn.Back a → stack ≡ [] → Going nodes moment root first t stack s0 s n0 n whole → Meets nodes moment (memory_of root first) (Ok a) s0 s n0 n whole
     back_answers {a = a} is empty g = answers (subst (λ (fs : List Frame). Going nodes moment root first (turn.Back a) fs s0 s n0 n whole) empty (as_turn is g))
+
+  -- ---- A child is visited before its node's frame is put on the stack
+
+  module _ {root : Term} {first : ℕ} {stack : List Frame} {s0 s : Scene} {n0 n : List Note} {whole : Done Answer Memory} {t : Turn} {frame : Frame} (is : t ≡ turn.Wait frame) (g : Going nodes moment root first t stack s0 s n0 n whole) where
+    entering : Going nodes moment root first (turn.Enter frame.child) (stack ++ frame ∷ []) s0 s n0 n whole
+    entering = entered (as_turn is g)
+
+    pub can_child : (term : Term) × (view : View) × CanVisit nodes moment term view frame.child s
+    can_child = can_enter refl entering
+
+    module _ (s1 : Scene) (n1 : List Note) where
+      abbrev ChildGoes : Result Turn (Stop NodeFault) → Type 0
+      ChildGoes r = (term : Term) (view : View) → CanVisit nodes moment term view frame.child s → Goes nodes moment term view frame.child r s s1 n n1 (visit_in nodes moment term view frame.child s)
+
+      pub child_made : {t1 : Turn} → ChildGoes (Ok t1) → Going nodes moment root first t1 (stack ++ frame ∷ []) s0 s1 n0 n1 whole
+      child_made goes = enter_made s1 n1 refl entering goes
+
+      pub child_stops : (e : Stop NodeFault) → ChildGoes (Err e) → Meets {A = Answer} nodes moment (memory_of root first) (Err e) s0 s1 n0 n1 whole
+      child_stops e goes = enter_stops s1 n1 e refl entering goes
+
+      pub child_heard : {t1 : Turn} {a : Answer} (step : Step) → t1 ≡ turn.Back a → step ≡ record { uid = frame.uid; memo = frame.memo; heard = Answered frame.place a; child = frame.child } →
+          ChildGoes (Ok t1) → Going nodes moment root first (turn.GoOn step) stack s0 s1 n0 n1 whole
+      child_heard step back hears goes = back_made stack step back refl hears (child_made goes)
+
+      pub child_waits : {t1 : Turn} (stack1 : List Frame) → stack1 ≡ stack ++ frame ∷ [] → ChildGoes (Ok t1) → Going nodes moment root first t1 stack1 s0 s1 n0 n1 whole
+      child_waits stack1 pushed goes = on_stack (sym pushed) (child_made goes)
+
+      pub child_cut : {t1 : Turn} → ChildGoes (Ok t1) → Meets {A = Answer} nodes moment (memory_of root first) (Err stop.NoMemory) s0 s1 n0 n1 whole
+      child_cut goes = cut_here (child_made goes)
 
 -- ---- Behind a visit
 

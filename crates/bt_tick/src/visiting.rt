@@ -34,7 +34,8 @@ fn hear(frame: Frame, answer: Answer) -> Step
 }
 
 /// Visits the root, turn by turn, with the visits that wait on a stack. It takes memory for them only
-/// where the stack has no room for all that can be under way at once.
+/// where the stack has no room for all that can be under way at once. A child that answers at once is
+/// heard at once: its node then does not go over the stack, as most visits are those of leaves.
 fn visit<D: Drivers>(
     alloc: Global,
     nodes: &[Node],
@@ -66,8 +67,23 @@ fn visit<D: Drivers>(
             Turn::Enter(uid) => enter(alloc, nodes, kept, board, facts, drivers, uid, now, notes)?,
             Turn::GoOn(step) => go_on(alloc, nodes, kept, board, drivers, step, now, notes)?,
             Turn::Wait(frame) => {
-                stack.push(frame)?;
-                Turn::Enter(frame.child)
+                match enter(
+                    alloc,
+                    nodes,
+                    kept,
+                    board,
+                    facts,
+                    drivers,
+                    frame.child,
+                    now,
+                    notes,
+                )? {
+                    Turn::Back(answer) => Turn::GoOn(hear(frame, answer)),
+                    next => {
+                        stack.push(frame)?;
+                        next
+                    }
+                }
             }
             Turn::Back(answer) => match stack.pop() {
                 None => return Ok(answer),

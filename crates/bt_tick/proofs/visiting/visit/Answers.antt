@@ -2,7 +2,7 @@ use Rattle.std.proofs.Common.{Err, arith, refl, sym, ◌∙◌}
 use Rattle.bt_laws.proofs.Keeping.{term_keeps}
 use Rattle.bt_tick.proofs.Depths.{level_left}
 use Rattle.bt_tick.proofs.Passing.{met_with}
-use Rattle.bt_tick.proofs.Stacks.{back_answers, back_made, begins, can_again, can_enter, can_step, enter_made, enter_stops, none_held, on_stack, step_made, step_stays, step_stops, wait_made}
+use Rattle.bt_tick.proofs.Stacks.{back_answers, back_made, begins, can_again, can_child, can_enter, can_step, child_cut, child_heard, child_stops, child_waits, enter_made, enter_stops, none_held, on_stack, step_made, step_stays, step_stops}
 use Rattle.bt_tick.proofs.visiting.visit.Goals as goal
 
 pub loop-turn-init : goal.loop-turn-init
@@ -36,6 +36,33 @@ returns-in_err-turn-in-GoOn-clause-fits g c =
     let (term, view, can) = c.requires.can in
     let stays = step_stays term_keeps _ _ _ _ (Err c.in_err-turn-in-GoOn.field-0.0) c.in-GoOn.is (c.loop-turn.invariant.all term view can) (λ t v next k. c.in_err-turn-in-GoOn.ensures.goes t v c.loop-turn.facts next k) in
     λ t v u fits. stays t v u (c.loop-turn.invariant.stays t v u fits)
+
+pub enter-requires-in-Wait : goal.enter-requires-in-Wait
+enter-requires-in-Wait g c =
+    let (term, view, can) = c.requires.can in
+    record { can = can_child term_keeps _ _ c.in-Wait.is (c.loop-turn.invariant.all term view can) }
+
+pub returns-in_err-next-in-Wait-clause-meets : goal.returns-in_err-next-in-Wait-clause-meets
+returns-in_err-next-in-Wait-clause-meets g c = λ term view can.
+    met_with _ _ _ _ _ _ _ _ _ _ c.from_residual-in_err-next-in-Wait.ensures.1
+    (child_stops term_keeps _ _ c.in-Wait.is (c.loop-turn.invariant.all term view can) _ _ _ (λ t v k. c.in_err-next-in-Wait.ensures.goes t v k))
+
+pub returns-in_err-next-in-Wait-clause-fits : goal.returns-in_err-next-in-Wait-clause-fits
+returns-in_err-next-in-Wait-clause-fits g c =
+    let (term, view, can) = c.requires.can in
+    let (t, v, by) = can_child term_keeps _ _ c.in-Wait.is (c.loop-turn.invariant.all term view can) in
+    λ t1 v1 u fits. (c.in_err-next-in-Wait.ensures.goes t v by).stays t1 v1 u (c.loop-turn.invariant.stays t1 v1 u fits)
+
+pub returns-in_err-push-in_default-clause-meets : goal.returns-in_err-push-in_default-clause-meets
+returns-in_err-push-in_default-clause-meets g c = λ term view can.
+    met_with _ _ _ _ _ _ _ _ _ _ c.from_residual-in_err-push-in_default.ensures.1
+    (child_cut term_keeps _ _ c.in-Wait.is (c.loop-turn.invariant.all term view can) _ _ (λ t v k. c.in_ok-next-in-Wait.ensures.goes t v k))
+
+pub returns-in_err-push-in_default-clause-fits : goal.returns-in_err-push-in_default-clause-fits
+returns-in_err-push-in_default-clause-fits g c =
+    let (term, view, can) = c.requires.can in
+    let (t, v, by) = can_child term_keeps _ _ c.in-Wait.is (c.loop-turn.invariant.all term view can) in
+    λ t1 v1 u fits. (c.in_ok-next-in-Wait.ensures.goes t v by).stays t1 v1 u (c.loop-turn.invariant.stays t1 v1 u fits)
 
 pub returns-in-None-clause-meets : goal.returns-in-None-clause-meets
 returns-in-None-clause-meets g c = λ term view can.
@@ -72,22 +99,38 @@ loop-turn-preserved-in_ok-turn-in-GoOn g c =
       full = c.in_ok-turn-in-GoOn.ensures.full ∙ c.loop-turn.invariant.full;
     }
 
-pub loop-turn-preserved-in_ok-push-in-Wait : goal.loop-turn-preserved-in_ok-push-in-Wait
-loop-turn-preserved-in_ok-push-in-Wait g c = record {
-  all = λ term view can. wait_made term_keeps _ _ _ c.in-Wait.is c.in_ok-push-in-Wait.ensures.ok (c.loop-turn.invariant.all term view can);
-  stays = c.loop-turn.invariant.stays;
-  room = omega (arith, c.in_ok-push-in-Wait.ensures.capacity, c.loop-turn.invariant.room);
-  enough = λ term view can deep.
-      let left = level_left _ _ _ _ _ _ _ _ _ _ _ (c.loop-turn.invariant.all term view can) in
-      let same = c.loop-turn.invariant.enough term view can deep in
-      c.in_ok-push-in-Wait.ensures.had_room (omega (arith, left, same, deep)) ∙ same;
-  reserve = c.loop-turn.invariant.reserve;
-  full = c.loop-turn.invariant.full;
-}
+pub loop-turn-preserved-in-Back-2 : goal.loop-turn-preserved-in-Back-2
+loop-turn-preserved-in-Back-2 g c =
+    let (term, view, can) = c.requires.can in
+    let (t, v, by) = can_child term_keeps _ _ c.in-Wait.is (c.loop-turn.invariant.all term view can) in
+    record {
+      all = λ term1 view1 can1. child_heard term_keeps _ _ c.in-Wait.is (c.loop-turn.invariant.all term1 view1 can1) _ _ _ c.in-Back-2.is c.hear.ensures (λ t1 v1 k. c.in_ok-next-in-Wait.ensures.goes t1 v1 k);
+      stays = λ t1 v1 u fits. (c.in_ok-next-in-Wait.ensures.goes t v by).stays t1 v1 u (c.loop-turn.invariant.stays t1 v1 u fits);
+      room = c.loop-turn.invariant.room;
+      enough = c.loop-turn.invariant.enough;
+      reserve = omega (arith, c.in_ok-next-in-Wait.ensures.reserve, c.loop-turn.invariant.reserve);
+      full = c.in_ok-next-in-Wait.ensures.full ∙ c.loop-turn.invariant.full;
+    }
+
+pub loop-turn-preserved-in_ok-push-in_default : goal.loop-turn-preserved-in_ok-push-in_default
+loop-turn-preserved-in_ok-push-in_default g c =
+    let (term, view, can) = c.requires.can in
+    let (t, v, by) = can_child term_keeps _ _ c.in-Wait.is (c.loop-turn.invariant.all term view can) in
+    record {
+      all = λ term1 view1 can1. child_waits term_keeps _ _ c.in-Wait.is (c.loop-turn.invariant.all term1 view1 can1) _ _ _ c.in_ok-push-in_default.ensures.ok (λ t1 v1 k. c.in_ok-next-in-Wait.ensures.goes t1 v1 k);
+      stays = λ t1 v1 u fits. (c.in_ok-next-in-Wait.ensures.goes t v by).stays t1 v1 u (c.loop-turn.invariant.stays t1 v1 u fits);
+      room = omega (arith, c.in_ok-push-in_default.ensures.capacity, c.loop-turn.invariant.room);
+      enough = λ term1 view1 can1 deep.
+          let left = level_left _ _ _ _ _ _ _ _ _ _ _ (c.loop-turn.invariant.all term1 view1 can1) in
+          let same = c.loop-turn.invariant.enough term1 view1 can1 deep in
+          c.in_ok-push-in_default.ensures.had_room (omega (arith, left, same, deep)) ∙ same;
+      reserve = omega (arith, c.in_ok-next-in-Wait.ensures.reserve, c.loop-turn.invariant.reserve);
+      full = c.in_ok-next-in-Wait.ensures.full ∙ c.loop-turn.invariant.full;
+    }
 
 pub loop-turn-preserved : goal.loop-turn-preserved
 loop-turn-preserved g c = record {
-  all = λ term view can. back_made term_keeps _ _ _ _ c.in-Back.is c.in-Some.ensures.items c.hear.ensures (c.loop-turn.invariant.all term view can);
+  all = λ term view can. back_made term_keeps _ _ _ _ c.in-Back.is c.in-Some.ensures.items c.hear-in-Some.ensures (c.loop-turn.invariant.all term view can);
   stays = c.loop-turn.invariant.stays;
   room = omega (arith, c.in-Some.ensures.capacity, c.loop-turn.invariant.room);
   enough = λ term view can deep. c.in-Some.ensures.capacity ∙ c.loop-turn.invariant.enough term view can deep;
