@@ -38,12 +38,17 @@ impl Board {
 impl Cells for Board {
     ghost entries = { λ board. board };
 
+    #[inline(always)]
     fn get(&self, slot: u32) -> Option<&Value> {
         self.entries[slot as usize].as_ref()
     }
 
+    #[inline(always)]
     fn put_int(&mut self, slot: u32, n: i64) {
-        self.entries[slot as usize] = Some(Value::Int(n));
+        match &mut self.entries[slot as usize] {
+            Some(Value::Int(held)) => *held = n,
+            entry => *entry = Some(Value::Int(n)),
+        }
     }
 
     fn put_text(&mut self, slot: u32, text: Txt) {

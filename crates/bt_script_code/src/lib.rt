@@ -3,6 +3,7 @@
 
 mod codes;
 mod compiling;
+mod ints;
 mod numbers;
 mod operators;
 mod running;

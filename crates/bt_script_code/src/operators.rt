@@ -7,6 +7,7 @@ use bt_script::{BinOp, Cmp, ExecFault, Stop, Txt, UnOp, Value};
 use std::cmp::Ordering;
 
 /// A truth as a number.
+#[inline(always)]
 pub fn as_number(holds: bool) -> i64
     ensures { result ≡ truth holds }
 {
@@ -14,6 +15,7 @@ pub fn as_number(holds: bool) -> i64
 }
 
 /// The whole quotient.
+#[inline(always)]
 fn divide(x: i64, y: i64) -> Result<i64, ExecFault>
     ensures { result ≡ quotient x y }
 {
@@ -29,6 +31,7 @@ fn divide(x: i64, y: i64) -> Result<i64, ExecFault>
 }
 
 /// Whether the comparison holds of two that stand in this order.
+#[inline(always)]
 fn holds(cmp: Cmp, order: Ordering) -> bool
     ensures { result ≡ compares cmp order }
 {
@@ -43,6 +46,7 @@ fn holds(cmp: Cmp, order: Ordering) -> bool
 }
 
 /// An operator before a number.
+#[inline(always)]
 pub fn unary_int(op: UnOp, x: i64) -> Result<i64, ExecFault>
     ensures { result ≡ on_int op x }
 {
@@ -54,6 +58,7 @@ pub fn unary_int(op: UnOp, x: i64) -> Result<i64, ExecFault>
 }
 
 /// An operator between two numbers.
+#[inline(always)]
 pub fn binary_ints(op: BinOp, x: i64, y: i64) -> Result<i64, ExecFault>
     ensures { result ≡ on_ints op x y }
 {

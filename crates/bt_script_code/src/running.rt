@@ -7,6 +7,7 @@ ghost use Rattle.bt_script.specs.Evaluation.{written, if_there};
 ghost use Rattle.bt_script_code.specs.SlotTrees.{tree_value, tree_reach, tree_texts, slot_stmt, slot_stmt_reach, slot_stmt_texts};
 
 use crate::codes::Code;
+use crate::ints::step_int;
 use crate::operators::{as_int, as_number, binary_values, unary_value};
 use crate::slots::{SlotExpr, SlotStmt};
 use bt_script::{Cells, ExecFault, Stop, Value};
@@ -114,8 +115,13 @@ fn assign<B: Cells>(
     }
 }
 
-/// Runs a statement.
-fn step<B: Cells>(alloc: Global, stmt: &SlotStmt, cells: &mut B) -> Result<Value, Stop<ExecFault>>
+/// Runs a statement, whatever it gives.
+#[inline(never)]
+fn step_value<B: Cells>(
+    alloc: Global,
+    stmt: &SlotStmt,
+    cells: &mut B,
+) -> Result<Value, Stop<ExecFault>>
     requires { slot_stmt_reach stmt.now ≤ length (B.entries cells.old) }
     ensures answer { Gives result (slot_stmt stmt.now (B.entries cells.old)).answer }
     ensures entries { UnlessMemory result (B.entries cells.new ≡ (slot_stmt stmt.now (B.entries cells.old)).entries) }
@@ -134,6 +140,23 @@ fn step<B: Cells>(alloc: Global, stmt: &SlotStmt, cells: &mut B) -> Result<Value
             assign(alloc, *slot, value, cells)
         }
         SlotStmt::Plain(e) => eval(alloc, e, cells),
+    }
+}
+
+/// Runs a statement.
+#[inline(always)]
+fn step<B: Cells>(alloc: Global, stmt: &SlotStmt, cells: &mut B) -> Result<Value, Stop<ExecFault>>
+    requires { slot_stmt_reach stmt.now ≤ length (B.entries cells.old) }
+    ensures answer { Gives result (slot_stmt stmt.now (B.entries cells.old)).answer }
+    ensures entries { UnlessMemory result (B.entries cells.new ≡ (slot_stmt stmt.now (B.entries cells.old)).entries) }
+    ensures slots { length (B.entries cells.new) ≡ length (B.entries cells.old) }
+    ensures ints { slot_stmt_texts stmt.now ≡ 0 → All HoldsNoText (B.entries cells.old) → GivesInt result }
+    ensures left { slot_stmt_texts stmt.now ≡ 0 →
+        All HoldsNoText (B.entries cells.old) → All HoldsNoText (B.entries cells.new) }
+{
+    match step_int(stmt, cells) {
+        Some(n) => Ok(Value::Int(n)),
+        None => step_value(alloc, stmt, cells),
     }
 }
 

@@ -1,0 +1,126 @@
+ghost use Rattle.std.specs.Prelude.{◌≡◌, ◌+◌, ◌<◌, ◌≤◌, IfNone, IfSome, Ok, length};
+ghost use Rattle.std.specs.List.{All};
+ghost use Rattle.bt_script.specs.declared.value.Value.TheVariants.{Int};
+ghost use Rattle.bt_script.specs.Entries.{entry_of, HoldsNoText};
+ghost use Rattle.bt_script.specs.Evaluation.{Run, written, if_there};
+ghost use Rattle.bt_script_code.specs.SlotTrees.{tree_value, tree_reach, slot_stmt, slot_stmt_reach};
+
+use crate::operators::{as_number, binary_ints, unary_int};
+use crate::slots::{SlotExpr, SlotStmt};
+use bt_script::{Cells, Value};
+
+/// The number of a slot that holds one.
+#[inline(always)]
+fn int_at<B: Cells>(slot: u32, cells: &B) -> Option<i64>
+    requires { slot < length (B.entries cells.now) }
+    ensures { IfSome result (λ n. entry_of (B.entries cells.now) slot ≡ Ok (Int n)) }
+{
+    match cells.get(slot) {
+        Some(Value::Int(n)) => Some(*n),
+        _ => None,
+    }
+}
+
+/// The number of an operand that is a number, or a slot that holds one.
+#[inline(always)]
+fn near_int<B: Cells>(e: &SlotExpr, cells: &B) -> Option<i64>
+    requires { tree_reach e.now ≤ length (B.entries cells.now) }
+    ensures { IfSome result (λ n. tree_value (entry_of (B.entries cells.now)) e.now ≡ Ok (Int n)) }
+{
+    match e {
+        SlotExpr::Num(n) => Some(*n),
+        SlotExpr::Look(slot) => int_at(*slot, cells),
+        _ => None,
+    }
+}
+
+/// The number that an expression gives where no text stands in it. None where it gives no number.
+pub fn int_of<B: Cells>(e: &SlotExpr, cells: &B) -> Option<i64>
+    requires { tree_reach e.now ≤ length (B.entries cells.now) }
+    ensures { IfSome result (λ n. tree_value (entry_of (B.entries cells.now)) e.now ≡ Ok (Int n)) }
+{
+    match e {
+        SlotExpr::Num(n) => Some(*n),
+        SlotExpr::Lit(_) => None,
+        SlotExpr::Look(slot) => int_at(*slot, cells),
+        SlotExpr::Unary(op, a) => {
+            let x = int_of(a.get(), cells)?;
+            unary_int(*op, x).ok()
+        }
+        SlotExpr::Binary(op, a, b) => {
+            let x = match near_int(a.get(), cells) {
+                Some(x) => x,
+                None => int_of(a.get(), cells)?,
+            };
+            let y = match near_int(b.get(), cells) {
+                Some(y) => y,
+                None => int_of(b.get(), cells)?,
+            };
+            binary_ints(*op, x, y).ok()
+        }
+        SlotExpr::Both(a, b) => {
+            if int_of(a.get(), cells)? == 0 {
+                return Some(0);
+            }
+            let y = int_of(b.get(), cells)?;
+            Some(as_number(y != 0))
+        }
+        SlotExpr::Either(a, b) => {
+            if int_of(a.get(), cells)? != 0 {
+                return Some(1);
+            }
+            let y = int_of(b.get(), cells)?;
+            Some(as_number(y != 0))
+        }
+        SlotExpr::Choose(a, b, c) => {
+            if int_of(a.get(), cells)? != 0 {
+                int_of(b.get(), cells)
+            } else {
+                int_of(c.get(), cells)
+            }
+        }
+    }
+}
+
+/// Writes the number to a slot that has an entry, and gives it. None where the slot has none.
+#[inline(always)]
+fn assign_int<B: Cells>(slot: u32, n: i64, cells: &mut B) -> Option<i64>
+    requires { slot < length (B.entries cells.old) }
+    ensures gives { let old = B.entries cells.old in
+        IfSome result (λ m. written slot old (if_there slot old (Ok (Int n))) ≡ record { answer = Ok (Int m); entries = B.entries cells.new }) }
+    ensures nothing { IfNone result (B.entries cells.new ≡ B.entries cells.old) }
+    ensures slots { length (B.entries cells.new) ≡ length (B.entries cells.old) }
+    ensures left { All HoldsNoText (B.entries cells.old) → All HoldsNoText (B.entries cells.new) }
+{
+    match cells.get(slot) {
+        None => None,
+        Some(_) => {
+            cells.put_int(slot, n);
+            Some(n)
+        }
+    }
+}
+
+/// Runs a statement that gives a number and in which no text stands. None where it does not, and then
+/// nothing is written.
+#[inline(always)]
+pub fn step_int<B: Cells>(stmt: &SlotStmt, cells: &mut B) -> Option<i64>
+    requires { slot_stmt_reach stmt.now ≤ length (B.entries cells.old) }
+    ensures gives { IfSome result (λ n. slot_stmt stmt.now (B.entries cells.old) ≡ record { answer = Ok (Int n); entries = B.entries cells.new }) }
+    ensures nothing { IfNone result (B.entries cells.new ≡ B.entries cells.old) }
+    ensures slots { length (B.entries cells.new) ≡ length (B.entries cells.old) }
+    ensures left { All HoldsNoText (B.entries cells.old) → All HoldsNoText (B.entries cells.new) }
+{
+    match stmt {
+        SlotStmt::Create(slot, e) => {
+            let n = int_of(e, cells)?;
+            cells.put_int(*slot, n);
+            Some(n)
+        }
+        SlotStmt::Assign(slot, e) => {
+            let n = int_of(e, cells)?;
+            assign_int(*slot, n, cells)
+        }
+        SlotStmt::Plain(e) => int_of(e, cells),
+    }
+}
