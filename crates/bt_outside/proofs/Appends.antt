@@ -26,12 +26,11 @@ Appended-of_WriteAppends (Some old) None (Err e) x p = absurd p
 Appended-of_WriteAppends (Some old) (Some new) (Ok n) x p = ap Some p
 Appended-of_WriteAppends (Some old) (Some new) (Err e) x p = ap Some (p ∙ sym (append-nil old))
 
--- the first bytes of a piece, and what a writer of std takes of the rest in one turn
-pub Appended-turn : {E : Type 0} (a b c : Option (List ℕ)) (r : Result ℕ E) (x : List ℕ) (i : ℕ)
-    → Appended a b (take i x) → WriteAppends b c r (take (length x - i) (drop i x)) → Appended a c (take (i + result_unwrap_or r 0) x)
-Appended-turn a b c r x i p q =
-    let n = result_unwrap_or r 0 in
-    let rest : Appended b c (take n (drop i x)) = subst (λ (z : List ℕ). Appended b c (take n z)) (take_rest x i) (Appended-of_WriteAppends b c r _ q) in
+-- the first bytes of a piece, and some of the rest
+pub Appended-more : (a b c : Option (List ℕ)) (x : List ℕ) (i n : ℕ)
+    → Appended a b (take i x) → Appended b c (take n (take (length x - i) (drop i x))) → Appended a c (take (i + n) x)
+Appended-more a b c x i n p q =
+    let rest : Appended b c (take n (drop i x)) = subst (λ (z : List ℕ). Appended b c (take n z)) (take_rest x i) q in
     subst (λ (z : List ℕ). Appended a c z) (sym (take-add i n x)) (Appended-trans a b c (take i x) (take n (drop i x)) p rest)
 
 -- a front of nothing
@@ -65,6 +64,13 @@ AppendedFront-after a b c x y p q =
       parts = ap (λ (z : List ℕ). x ++ z) q.parts ∙ sym (append_assoc x q.front q.rest);
       appended = Appended-trans a b c x q.front p q.appended;
     }
+
+-- the first bytes of a piece, and a front of the rest
+pub AppendedFront-more : (a b c : Option (List ℕ)) (x : List ℕ) (n : ℕ)
+    → Appended a b (take n x) → AppendedFront b c (take (length x - n) (drop n x)) → AppendedFront a c x
+AppendedFront-more a b c x n p q =
+    let rest : AppendedFront b c (drop n x) = subst (λ (z : List ℕ). AppendedFront b c z) (take_rest x n) q in
+    subst (λ (z : List ℕ). AppendedFront a c z) (take-append-drop n x) (AppendedFront-after a b c (take n x) (drop n x) p rest)
 
 -- the facts by which a text is written piece by piece
 pub ruleset appending = (Appended-nil, Appended-trans, AppendedFront-nothing, AppendedFront-whole, AppendedFront-longer, AppendedFront-after)

@@ -1,4 +1,4 @@
-ghost use Rattle.std.specs.Prelude.{◌≡◌, ◌≤◌, [], IfOk, OnOk, IsErrOf};
+ghost use Rattle.std.specs.Prelude.{◌≡◌, ◌≤◌, [], length, take, Err, IfOk, OnOk, IsErrOf};
 ghost use Rattle.std.specs.Io.KnownBytes.{Keeps};
 ghost use Rattle.bt_outside.specs.Appending.{Appended, AppendedFront};
 ghost use Rattle.bt_outside.specs.Counts.{Rose, next};
@@ -55,11 +55,54 @@ impl<W: Write + Drop> OutSink<W> {
     {
         match self.writer.flush() {
             Ok(()) => Ok(()),
-            Err(_) => {
-                self.faults = self.faults.saturating_add(1);
-                Err(SinkFault::Failed)
-            }
+            Err(_) => self.fail(),
         }
+    }
+
+    // One turn: how many bytes of the piece the writer takes, and none where it fails.
+    #[inline(always)]
+    fn turn(&mut self, piece: &[u8]) -> usize
+        ensures bound { result ≤ length piece.now }
+        ensures text { Appended (written_so_far self.old) (written_so_far self.new) (take result piece.now) }
+        ensures calm { self.new.faults ≡ self.old.faults }
+    {
+        self.writer.write(piece).unwrap_or(0)
+    }
+
+    // Writes the piece in turns that each take at least one byte: a turn that takes none is a failure.
+    #[cold]
+    #[inline(never)]
+    fn write_turns(&mut self, piece: &[u8]) -> Result<(), SinkFault>
+        ensures whole { OnOk result (Appended (written_so_far self.old) (written_so_far self.new) piece.now) }
+        ensures front { AppendedFront (written_so_far self.old) (written_so_far self.new) piece.now }
+        ensures failed { IsErrOf result SinkFault.Failed → Rose self.old.faults self.new.faults }
+        ensures count { self.old.faults ≤ self.new.faults }
+        ensures raised { IsErrOf result SinkFault.Failed → self.new.faults ≡ next self.old.faults }
+        ensures calm { OnOk result (self.new.faults ≡ self.old.faults) }
+        ensures no_memory { ¬ IsErrOf result SinkFault.NoMemory }
+    {
+        let mut at = 0;
+        'turns: while at < piece.len() {
+            let taken = self.turn(&piece[at..]);
+            if taken == 0 {
+                return self.fail();
+            }
+            at += taken;
+        }
+        Ok(())
+    }
+
+    // Counts a failure.
+    #[cold]
+    fn fail(&mut self) -> Result<(), SinkFault>
+        ensures result { result ≡ Err SinkFault.Failed }
+        ensures written { written_so_far self.new ≡ written_so_far self.old }
+        ensures raised { self.new.faults ≡ next self.old.faults }
+        ensures rose { Rose self.old.faults self.new.faults }
+        ensures count { self.old.faults ≤ self.new.faults }
+    {
+        self.faults = self.faults.saturating_add(1);
+        Err(SinkFault::Failed)
     }
 }
 
@@ -70,7 +113,8 @@ impl<W: Write + Drop> Sink for OutSink<W> {
 
     ghost faults = { λ s. s.faults };
 
-    // In turns that each take at least one byte: a turn that takes none is a failure.
+    // Most pieces have room beside what is gathered, and are taken at once.
+    #[inline]
     fn write(&mut self, piece: &[u8]) -> Result<(), SinkFault>
         ensures whole { OnOk result (Appended (written_so_far self.old) (written_so_far self.new) piece.now) }
         ensures front { AppendedFront (written_so_far self.old) (written_so_far self.new) piece.now }
@@ -81,15 +125,13 @@ impl<W: Write + Drop> Sink for OutSink<W> {
         ensures calm { OnOk result (self.new.faults ≡ self.old.faults) }
         ensures no_memory { ¬ IsErrOf result SinkFault.NoMemory }
     {
-        let mut at = 0;
-        'turns: while at < piece.len() {
-            let taken = self.writer.write(&piece[at..]).unwrap_or(0);
-            if taken == 0 {
-                self.faults = self.faults.saturating_add(1);
-                return Err(SinkFault::Failed);
-            }
-            at += taken;
+        let taken = self.turn(piece);
+        if taken == piece.len() {
+            return Ok(());
         }
-        Ok(())
+        if taken == 0 {
+            return self.fail();
+        }
+        self.write_turns(&piece[taken..])
     }
 }

@@ -1,16 +1,21 @@
-use Rattle.std.proofs.Common.{arith}
-use Rattle.std.proofs.lemmas.Grind.{common_steps}
-use Rattle.bt_outside.proofs.Appends.{Appended-turn, AppendedFront-taken}
+use Rattle.std.proofs.Common.{subst, ◌≤◌}
+use Rattle.bt_outside.specs.Counts.{Rose}
+use Rattle.bt_outside.proofs.Appends.{AppendedFront-more}
 use Rattle.bt_outside.proofs.out_sink.OutSinkSink.write.Goals as goal
 
-pub turns-preserved : goal.turns-preserved
-turns-preserved g c =
-    record {
-      within = grind (arith, common_steps);
-      text = rw c.unwrap_or-taken.ensures (Appended-turn _ _ _ c.write.result c.args.piece.now c.turns.at c.turns.invariant.text c.write.ensures.bytes);
-      calm = c.turns.invariant.calm;
-    }
+pub returns-then-taken-eq0-clause-failed : goal.returns-then-taken-eq0-clause-failed
+returns-then-taken-eq0-clause-failed g c = λ _. subst (λ old. Rose old c.fail.new.self.faults) c.turn-taken.ensures.calm c.fail.ensures.rose
 
-pub returns-then-taken-eq0-clause-front : goal.returns-then-taken-eq0-clause-front
-returns-then-taken-eq0-clause-front g c =
-    AppendedFront-taken _ _ c.args.piece.now _ (Appended-turn _ _ _ c.write.result c.args.piece.now c.turns.at c.turns.invariant.text c.write.ensures.bytes)
+pub returns-then-taken-eq0-clause-count : goal.returns-then-taken-eq0-clause-count
+returns-then-taken-eq0-clause-count g c = subst (λ old. old ≤ c.fail.new.self.faults) c.turn-taken.ensures.calm c.fail.ensures.count
+
+pub returns-clause-front : goal.returns-clause-front
+returns-clause-front g c =
+    AppendedFront-more _ _ _ c.args.piece.now c.turn-taken.result c.turn-taken.ensures.text c.write_turns.ensures.front
+
+pub returns-clause-failed : goal.returns-clause-failed
+returns-clause-failed g c =
+    λ failed. subst (λ old. Rose old c.write_turns.new.self.faults) c.turn-taken.ensures.calm (c.write_turns.ensures.failed failed)
+
+pub returns-clause-count : goal.returns-clause-count
+returns-clause-count g c = subst (λ old. old ≤ c.write_turns.new.self.faults) c.turn-taken.ensures.calm c.write_turns.ensures.count

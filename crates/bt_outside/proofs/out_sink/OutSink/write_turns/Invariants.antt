@@ -1,15 +1,14 @@
 use Rattle.std.proofs.Common.{length, take, ◌-◌, ◌≡◌, ◌≤◌}
-use Rattle.std.specs.Io.Buffered.{writer_contents}
 use Rattle.bt_outside.specs.Appending.{Appended}
 use Rattle.bt_outside.specs.OutSink.{written_so_far}
-use Rattle.bt_outside.proofs.out_sink.OutSinkSink.write.Given as goal
+use Rattle.bt_outside.proofs.out_sink.OutSink.write_turns.Given as goal
 
 abbrev pub invariant-turns : goal.invariant-turns
 invariant-turns g l =
     record {
       within : l.at ≤ length l.piece;
-      text : Appended (written_so_far l.fn.self) (writer_contents g.W.Write.contents l.self-inside.writer) (take l.at l.piece);
-      calm : l.self-inside.faults ≡ l.fn.self.faults;
+      text : Appended (written_so_far l.fn.self) (written_so_far l.self) (take l.at l.piece);
+      calm : l.self.faults ≡ l.fn.self.faults;
     }
 
 abbrev pub decreases-turns : goal.decreases-turns
