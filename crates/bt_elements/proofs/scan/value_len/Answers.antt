@@ -1,4 +1,4 @@
-use Rattle.std.proofs.Common.{ℕ, refl, ◌∙◌}
+use Rattle.std.proofs.Common.{refl, ◌∙◌}
 use Rattle.memchr.specs.Find.{is_byte3}
 use Rattle.bt_elements.specs.Marks.{is_value_byte}
 use Rattle.bt_elements.proofs.Searches.{before_found}
