@@ -1,4 +1,5 @@
 pub mod CellOrder
+pub mod NameCounts
 pub mod Named
 pub mod Openings
 pub mod Ordered

@@ -1,12 +1,12 @@
 -- What is named while a tree is gone through.
-use Rattle.std.specs.Prelude.{ℕ, List, ◌++◌, map}
+use Rattle.std.specs.Prelude.{ℕ, ◌+◌, List, ◌++◌, length, map, sum, if◌then◌else◌}
 use Rattle.std.specs.List.{flat_map}
 use Rattle.bt_script.specs.declared.syntax.Script.{Script}
 use Rattle.bt_script.specs.Scripts.{stmt_names}
 use Rattle.bt_model.specs.declared.cell.Naming.{Naming}
 use Rattle.bt_model.specs.declared.term.Port.{Port}
-use Rattle.bt_model.specs.declared.term.Term.{Term, out-Term}
-use Rattle.bt_model.specs.Boards.{named_in, namings_at, scripts_of, standing_from, standing_all, value_keys}
+use Rattle.bt_model.specs.declared.term.Term.{Term, Term-F, fold-Term, out-Term}
+use Rattle.bt_model.specs.Boards.{makes_scope, named_in, namings_at, scripts_of, standing_from, standing_all, value_keys}
 use Rattle.bt_model.specs.Boards as model
 use Rattle.bt_board.specs.declared.scope.Scope.{Scope}
 use Rattle.bt_board.specs.Scopes.{number_of, cells_of}
@@ -31,3 +31,13 @@ namings_of_term term uid number scope = flat_map namings_at (standing_from term 
 -- what some terms name, one after the other
 abbrev pub namings_of_terms : List Term → ℕ → ℕ → model.Scope → List Naming
 namings_of_terms terms uid number scope = flat_map namings_at (standing_all (map standing_from terms) uid number scope)
+
+-- how many keys a node names: in its scripts and by its ports, and a SubTree node its ports in the scope that it makes
+abbrev pub own_name_count : {A : Type 0} → Term-F A → ℕ
+own_name_count node =
+    length (script_names (scripts_of node.code node.guards)) + length (flat_map (λ (port : Port). value_keys port.value) node.ports)
+    + (if makes_scope node.kind then length node.ports else 0)
+
+-- how many the nodes of a term name
+abbrev pub name_count : Term → ℕ
+name_count = fold-Term ℕ (λ node. own_name_count node + sum node.children)

@@ -4,10 +4,12 @@
 #![tactic(auto)]
 
 mod board;
+mod limit;
 mod naming;
 mod order;
 mod scope;
 mod slots;
 
 pub use board::{Board, board_of};
+pub use limit::is_within_slots;
 pub use slots::{Slots, cells, slot, slot_count, slots_of};

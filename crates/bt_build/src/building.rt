@@ -11,7 +11,7 @@ use crate::fault::BuildFault;
 use crate::tree::{File, Numbers, read_node};
 use crate::trees::{Trees, not_root, says_format, tree_of, trees_of};
 use crate::working::is_within_work;
-use bt_board::{slot_count, slots_of};
+use bt_board::is_within_slots;
 use bt_elements::{Element, Elements};
 use bt_manifest::{Manifest, attribute};
 use bt_model::{Term, Tree};
@@ -84,8 +84,7 @@ fn read_root(
 fn within_limits(alloc: Global, tree: Tree) -> Result<Tree, Stop<BuildFault>>
     ensures { Gives result (within_limits tree) }
 {
-    let slots = slots_of(alloc, &tree)?;
-    if slot_count(&slots) > MOST_SLOTS {
+    if !is_within_slots(alloc, &tree, MOST_SLOTS)? {
         return Err(Stop::Fault(BuildFault::TooManyKeys));
     }
     if !is_within_work(&tree.term, MOST_WORK) {

@@ -113,7 +113,7 @@ fn nodes_by(
 ) -> Result<(Items<Term>, Numbers), Stop<BuildFault>>
     ensures { Gives result (nodes_by (read_node (file_seen file.now) left) (ids_seen opened.now) elements.now numbers) }
 {
-    let mut terms = Vec::new(alloc);
+    let mut terms = Vec::with_capacity(alloc, elements.len())?;
     let mut so_far = numbers;
     for element in elements {
         let (term, next) = read_node(alloc, file, left, element, opened, so_far)?;

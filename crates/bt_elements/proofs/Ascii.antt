@@ -1,7 +1,9 @@
 -- Texts in ASCII can be written.
-use Rattle.std.proofs.Common.{◌≡◌, ℕ, ◌<◌, Bool, true, nat_lt, List, [], ◌∷◌, subst, arith}
+use Rattle.std.proofs.Common.{◌≡◌, ℕ, ◌+◌, ◌<◌, ◌≤◌, ◌⊎◌, inl, inr, Bool, true, nat_lt, bit_or, List, [], ◌∷◌, slice_index, sym, subst, arith}
+use Rattle.std.proofs.Math.Nat.{eq-or-lt_of_le}
 use Rattle.std.proofs.Math.Utf8.{low_scalar}
 use Rattle.std.proofs.lemmas.Bool.Decides.{nat_tests}
+use Rattle.std.proofs.lemmas.Nat.{le_or_l, le_or_r}
 use Rattle.std.proofs.lemmas.Str.{encode_ascii, is_utf8-from_IsUtf8, IsUtf8-append, IsUtf8-encode, IsUtf8-nil}
 use Rattle.std.specs.Cmp.Derive.{both_true}
 use Rattle.std.specs.List.{list_all}
@@ -30,3 +32,11 @@ literal name is low = both_true is (is_utf8-from_IsUtf8 name (utf8_low name low)
 
 pub literal_value : (value : List ℕ) → list_all is_not_zero value ≡ true → list_all is_low value ≡ true → value_stands value ≡ true
 literal_value value some low = both_true some (is_utf8-from_IsUtf8 value (utf8_low value low))
+
+by_place : (bytes : List ℕ) (i all k : ℕ) → ((j : ℕ) → j < i → slice_index bytes j ≤ all) → (k ≡ i) ⊎ (k < i) → slice_index bytes k ≤ bit_or all (slice_index bytes i)
+by_place bytes i all k h (inl is) = subst (λ (j : ℕ). slice_index bytes j ≤ bit_or all (slice_index bytes i)) (sym is) (le_or_r all (slice_index bytes i))
+by_place bytes i all k h (inr below) = omega (arith, h k below, le_or_l all (slice_index bytes i))
+
+-- no byte so far is above the bits of all of them, and neither is one more
+pub one_more : (bytes : List ℕ) (i all : ℕ) → ((k : ℕ) → k < i → slice_index bytes k ≤ all) → (k : ℕ) → k < i + 1 → slice_index bytes k ≤ bit_or all (slice_index bytes i)
+one_more bytes i all h k within = by_place bytes i all k h (eq-or-lt_of_le (omega (arith, within)))

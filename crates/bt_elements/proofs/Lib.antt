@@ -10,6 +10,7 @@ pub mod Names
 pub mod Nesting
 pub mod Outcomes
 pub mod References
+pub mod Searches
 pub mod Skips
 pub mod Standings
 pub mod Verdicts

@@ -87,7 +87,7 @@ impl Nest {
     pub fn allows(&self, text: &[u8]) -> bool
         ensures { result ≡ may_stand (seen self.now) text.now }
     {
-        self.done.is_none() && self.inside() || all_white(text)
+        all_white(text) || self.done.is_none() && self.inside()
     }
 
     /// The document element, if it has ended where the file ends.

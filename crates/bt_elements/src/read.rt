@@ -1,4 +1,7 @@
-ghost use Rattle.std.specs.Prelude.{◌≡◌, ◌≤◌, IfOk, IsUtf8, length, drop};
+ghost use Rattle.std.specs.Prelude.{◌≡◌, ◌≤◌, IfOk, IsTrue, IsUtf8, length, drop};
+ghost use Rattle.std.specs.Option.{MatchOption};
+ghost use Rattle.std.specs.Str.{IsAscii};
+ghost use Rattle.std.specs.Str.Lossy.{utf8_valid_len};
 ghost use Rattle.bt_script.specs.Stops.{Gives};
 ghost use Rattle.bt_elements.specs.Elements.{IsValid, Spells, order_mark_len};
 ghost use Rattle.bt_elements.specs.Faults.{ElementFaultOf, WhenFault};
@@ -20,15 +23,37 @@ pub fn read_elements(alloc: Global, bytes: &[u8]) -> Result<Elements, Stop<Eleme
     ensures fault { WhenFault result (λ fault. ElementFaultOf bytes.now fault) }
     ensures valid { IfOk result (λ elements. IsValid elements.root) }
 {
-    match std::str::from_utf8(bytes) {
-        Ok(_) => {
+    match utf8_fault(bytes) {
+        None => {
             let root = document(alloc, bytes)?;
             Ok(Elements { root })
         }
-        Err(error) => {
-            let place = error.valid_up_to() as u32;
-            Err(Stop::Fault(ElementFault::NotUtf8 { place }))
-        }
+        Some(place) => Err(Stop::Fault(ElementFault::NotUtf8 { place })),
+    }
+}
+
+/// Whether all bytes are ASCII. It goes through all of them without a test, so that many are taken at once.
+fn all_ascii(bytes: &[u8]) -> bool
+    ensures { IsTrue result → IsAscii bytes.now }
+{
+    let mut all = 0;
+    for byte in bytes {
+        all |= *byte;
+    }
+    all < 128
+}
+
+/// The length of the longest front that is UTF-8, where not all is.
+fn utf8_fault(bytes: &[u8]) -> Option<u32>
+    requires { length bytes.now ≤ 1048576 }
+    ensures { MatchOption result (IsUtf8 bytes.now) (λ place. ¬ (IsUtf8 bytes.now) × (place ≡ utf8_valid_len bytes.now)) }
+{
+    if all_ascii(bytes) {
+        return None;
+    }
+    match std::str::from_utf8(bytes) {
+        Ok(_) => None,
+        Err(error) => Some(error.valid_up_to() as u32),
     }
 }
 

@@ -10,6 +10,7 @@ ghost use Rattle.bt_elements.specs.Reading.{Scans, after_white, begins, behind, 
 use crate::mark::{Front, Mark, NoMark};
 use crate::reference::decode;
 use bt_script::{Items, Name, NoMemory, Stop, is_identifier_start, is_white};
+use memchr::{memchr2, memchr3};
 use std::alloc::Global;
 use std::collections::BTreeSet;
 
@@ -22,7 +23,10 @@ fn name_first(c: u8) -> bool
 fn name_rest(c: u8) -> bool
     ensures { result ≡ is_name_rest c }
 {
-    name_first(c) || c.is_ascii_digit() || c == b'-' || c == b'.' || c == b':'
+    match c {
+        b'a'..=b'z' | b'A'..=b'Z' | b'0'..=b'9' | b'_' | b'-' | b'.' | b':' | 128..=255 => true,
+        _ => false,
+    }
 }
 
 fn quote(c: u8) -> bool
@@ -66,7 +70,7 @@ fn value_len(quote: u8, bytes: &[u8]) -> usize
     ensures value { result ≡ prefix_len (is_value_byte quote) bytes.now }
     ensures within { result ≤ length bytes.now }
 {
-    bytes.iter().take_while(|c| value_byte(quote, **c)).count()
+    memchr3(quote, b'<', 0, bytes).unwrap_or(bytes.len())
 }
 
 fn text_byte(c: u8) -> bool
@@ -324,12 +328,37 @@ fn passed_byte(first: u8, c: u8) -> bool
     !(c == first || c == 0)
 }
 
+/// How many of a few bytes are passed.
 #[tactic(auto, using(crate::proofs::Fronts::fronts))]
-fn passed_len(first: u8, bytes: &[u8]) -> usize
+fn passed_near(first: u8, bytes: &[u8]) -> usize
     ensures value { result ≡ prefix_len (λ c. not (c == first || c == 0)) bytes.now }
     ensures within { result ≤ length bytes.now }
 {
     bytes.iter().take_while(|c| passed_byte(first, **c)).count()
+}
+
+/// The same for many.
+#[inline(never)]
+fn passed_far(first: u8, bytes: &[u8]) -> usize
+    ensures value { result ≡ prefix_len (λ c. not (c == first || c == 0)) bytes.now }
+    ensures within { result ≤ length bytes.now }
+{
+    memchr2(first, 0, bytes).unwrap_or(bytes.len())
+}
+
+/// Up to so many bytes it costs least to look at each.
+const FEW_BYTES: usize = 8;
+
+fn passed_len(first: u8, bytes: &[u8]) -> usize
+    ensures value { result ≡ prefix_len (λ c. not (c == first || c == 0)) bytes.now }
+    ensures within { result ≤ length bytes.now }
+{
+    let (few, more) = bytes.split_at(bytes.len().min(FEW_BYTES));
+    let len = passed_near(first, few);
+    if len < few.len() {
+        return len;
+    }
+    len + passed_far(first, more)
 }
 
 /// What is left from the first byte on that is 0 or that the ending may begin with.

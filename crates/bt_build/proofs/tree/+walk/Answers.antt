@@ -62,7 +62,7 @@ nodes_by-loop-element-preserved t c =
 
 pub nodes_by-returns-in_err-term : goal.nodes_by-returns-in_err-term
 nodes_by-returns-in_err-term t c =
-    let p = err_from_is_err_and c.from_residual.result c.from_residual.ensures.1 in
+    let p = err_from_is_err_and c.from_residual-in_err-term.result c.from_residual-in_err-term.ensures.1 in
     let below = read_node (file_seen c.args.file.now) c.args.left in
     let opened = ids_seen c.args.opened.now in
     let within : c.loop-element.element-index < length c.args.elements.now = omega arith in
