@@ -170,9 +170,11 @@ impl Reading {
         ensures { Allowed result id ports sort.now self.now }
     {
         if !self.knows_sort(&ports, sort) {
+            drop(ports);
             return Err(Stop::Fault(WorldKind::NoName));
         }
         if ports.len() > MOST_PORTS {
+            drop(ports);
             return Err(Stop::Fault(WorldKind::TooMany));
         }
         Ok((id, ports))
