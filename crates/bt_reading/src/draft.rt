@@ -10,6 +10,7 @@ use crate::ports::Ports;
 use bt_model::{Out, Row, RowSort, Set, WorldKind};
 use bt_script::{Expr, Items, Name, Stop};
 use std::alloc::Global;
+use std::mem::replace;
 
 const MOST_NEEDS: usize = 16;
 
@@ -74,20 +75,27 @@ impl Draft {
         match &self.sort {
             RowSort::Timed { ms, fails: None } => {
                 if !known {
+                    drop(expr);
                     return Err(Stop::Fault(WorldKind::NoName));
                 }
-                let ms = *ms;
-                self.sort = RowSort::Timed {
-                    ms,
+                let sort = RowSort::Timed {
+                    ms: *ms,
                     fails: Some(expr),
                 };
+                drop(replace(&mut self.sort, sort));
                 Ok(())
             }
             RowSort::Timed {
                 ms: _,
                 fails: Some(_),
-            } => Err(Stop::Fault(WorldKind::DoubleName)),
-            _ => Err(Stop::Fault(WorldKind::BadLine)),
+            } => {
+                drop(expr);
+                Err(Stop::Fault(WorldKind::DoubleName))
+            }
+            _ => {
+                drop(expr);
+                Err(Stop::Fault(WorldKind::BadLine))
+            }
         }
     }
 
@@ -146,12 +154,15 @@ impl Draft {
         ensures id { self.new.id ≡ self.old.id }
     {
         if self.writes(out.port.list()) {
+            drop(out);
             return Err(Stop::Fault(WorldKind::DoubleName));
         }
         if !knows_all(facts, &self.ports, &out.expr) {
+            drop(out);
             return Err(Stop::Fault(WorldKind::NoName));
         }
         if self.outs.len() >= MOST_OUTPUTS {
+            drop(out);
             return Err(Stop::Fault(WorldKind::TooMany));
         }
         self.outs.push(out)?;

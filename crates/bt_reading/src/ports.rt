@@ -34,6 +34,7 @@ impl Ports {
         for name in names.as_slice() {
             let key = Vec::from_slice(alloc, name.list())?;
             if !set.insert(key)? {
+                drop(set);
                 return Ok(None);
             }
         }

@@ -86,12 +86,13 @@ impl Reading {
         let Reading {
             facts,
             rows,
-            draft: _,
+            draft,
             goals,
             runners,
             events,
             moment: _,
         } = self;
+        drop(draft);
         let facts = facts.into_items(alloc)?;
         let rows = rows.into_items(alloc)?;
         Ok(World {
@@ -169,9 +170,11 @@ impl Reading {
         ensures { Allowed result id ports sort.now self.now }
     {
         if !self.knows_sort(&ports, sort) {
+            drop(ports);
             return Err(Stop::Fault(WorldKind::NoName));
         }
         if ports.len() > MOST_PORTS {
+            drop(ports);
             return Err(Stop::Fault(WorldKind::TooMany));
         }
         Ok((id, ports))
@@ -208,7 +211,10 @@ impl Reading {
     {
         match self.checked_head(alloc, id, names, &sort) {
             Ok((id, ports)) => Ok(Draft::new(alloc, id, ports, sort)),
-            Err(stop) => Err(stop),
+            Err(stop) => {
+                drop(sort);
+                Err(stop)
+            }
         }
     }
 
@@ -233,6 +239,7 @@ impl Reading {
         ensures { Leaves result self.new (λ said. said ≡ with_row row self.old) }
     {
         if self.rows.len() >= MOST_ROWS {
+            drop(row);
             return Err(Stop::Fault(WorldKind::TooMany));
         }
         self.rows.add(alloc, row)?;
@@ -246,9 +253,10 @@ impl Reading {
         ensures { Leaves result self.new (λ said. said ≡ with_action (row_of draft) self.old) }
     {
         if self.rows.len() >= MOST_ROWS {
+            drop(draft);
             return Err(Stop::Fault(WorldKind::TooMany));
         }
-        self.draft = Some(draft);
+        drop(self.draft.replace(draft));
         Ok(())
     }
 
@@ -265,7 +273,10 @@ impl Reading {
     {
         match &mut self.draft {
             Some(draft) => draft.add_fails(&self.facts, expr),
-            None => Err(Stop::Fault(WorldKind::BadLine)),
+            None => {
+                drop(expr);
+                Err(Stop::Fault(WorldKind::BadLine))
+            }
         }
     }
 
@@ -295,7 +306,10 @@ impl Reading {
     {
         match &mut self.draft {
             Some(draft) => draft.add_out(&self.facts, out),
-            None => Err(Stop::Fault(WorldKind::BadLine)),
+            None => {
+                drop(out);
+                Err(Stop::Fault(WorldKind::BadLine))
+            }
         }
     }
 

@@ -76,8 +76,13 @@ impl Rows {
         requires room { length self.old < 1024 }
         ensures { OnOk result (self.new ≡ self.old ++ row ∷ []) }
     {
-        let id = row.id.copy(alloc)?;
-        add(alloc, &mut self.map, id.list(), row)
+        match row.id.copy(alloc) {
+            Ok(id) => add(alloc, &mut self.map, id.list(), row),
+            Err(stop) => {
+                drop(row);
+                Err(stop)
+            }
+        }
     }
 
     /// The rows in the order of their numbers.

@@ -142,7 +142,9 @@ fn binary(alloc: Global, op: BinOp, a: Built, b: Built) -> Result<Built, NoMemor
 {
     let height = 1 + a.height.max(b.height);
     let next = b.next;
-    let expr = Expr::Binary(op, Boxed::of(alloc, a.expr)?, Boxed::of(alloc, b.expr)?);
+    let a = Boxed::of(alloc, a.expr);
+    let b = Boxed::of(alloc, b.expr);
+    let expr = Expr::Binary(op, a?, b?);
     Ok(Built { expr, height, next })
 }
 
@@ -153,11 +155,10 @@ fn choice(alloc: Global, a: Built, b: Built, c: Built) -> Result<Built, NoMemory
 {
     let height = 1 + a.height.max(b.height.max(c.height));
     let next = c.next;
-    let expr = Expr::Choose(
-        Boxed::of(alloc, a.expr)?,
-        Boxed::of(alloc, b.expr)?,
-        Boxed::of(alloc, c.expr)?,
-    );
+    let a = Boxed::of(alloc, a.expr);
+    let b = Boxed::of(alloc, b.expr);
+    let c = Boxed::of(alloc, c.expr);
+    let expr = Expr::Choose(a?, b?, c?);
     Ok(Built { expr, height, next })
 }
 
@@ -275,12 +276,20 @@ fn otherwise(
     ensures sound { IfOk result (λ found. sound tokens.now (limit + 1) found) }
 {
     if !is_colon(tokens, b.next) {
+        drop((a, b));
         return Ok(None);
     }
-    let Some(c) = climb(alloc, tokens, b.next + 1, LOOSEST, limit)? else {
-        return Ok(None);
-    };
-    Ok(Some(choice(alloc, a, b, c)?))
+    match climb(alloc, tokens, b.next + 1, LOOSEST, limit) {
+        Ok(Some(c)) => Ok(Some(choice(alloc, a, b, c)?)),
+        Ok(None) => {
+            drop((a, b));
+            Ok(None)
+        }
+        Err(stop) => {
+            drop((a, b));
+            Err(stop)
+        }
+    }
 }
 
 /// The parts of a choice, behind its test.
@@ -323,15 +332,18 @@ pub fn climb(
             Follow::Nothing => return Ok(Some(a)),
             Follow::Choosing => {
                 if a.height >= limit {
+                    drop(a);
                     return Ok(None);
                 }
                 return chosen(alloc, tokens, a, limit - 1);
             }
             Follow::Operation(op) => {
                 if a.height >= limit {
+                    drop(a);
                     return Ok(None);
                 }
                 let Some(b) = climb(alloc, tokens, a.next + 1, level(op) + 1, limit - 1)? else {
+                    drop(a);
                     return Ok(None);
                 };
                 a = binary(alloc, op, a, b)?;
@@ -386,22 +398,25 @@ fn statement(alloc: Global, tokens: &[Placed], at: usize) -> Result<Option<(Stmt
     let sign = at + 1;
     match peek(tokens, sign) {
         Some(Token::Creates) => {
+            let name = name.copy(alloc)?;
             let Some(e) = expression(alloc, tokens, sign + 1)? else {
                 return Ok(None);
             };
-            Ok(Some((Stmt::Create(name.copy(alloc)?, e.expr), e.next)))
+            Ok(Some((Stmt::Create(name, e.expr), e.next)))
         }
         Some(Token::Assigns) => {
+            let name = name.copy(alloc)?;
             let Some(e) = expression(alloc, tokens, sign + 1)? else {
                 return Ok(None);
             };
-            Ok(Some((Stmt::Assign(name.copy(alloc)?, e.expr), e.next)))
+            Ok(Some((Stmt::Assign(name, e.expr), e.next)))
         }
         Some(Token::Changes(op)) => {
+            let name = name.copy(alloc)?;
             let Some(e) = expression(alloc, tokens, sign + 1)? else {
                 return Ok(None);
             };
-            Ok(Some((Stmt::Change(*op, name.copy(alloc)?, e.expr), e.next)))
+            Ok(Some((Stmt::Change(*op, name, e.expr), e.next)))
         }
         _ => evaluated(alloc, tokens, at),
     }

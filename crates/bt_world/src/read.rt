@@ -9,7 +9,7 @@ use crate::forms::read_text;
 use bt_lines::{is, parts, trimmed, without_rest};
 use bt_model::{World, WorldFault, WorldKind};
 use bt_reading::Reading;
-use bt_script::Stop;
+use bt_script::{NoMemory, Stop};
 use bt_world_laws::read_worlds_are_valid;
 use std::alloc::Global;
 
@@ -44,11 +44,17 @@ fn world_behind(alloc: Global, lines: &[&[u8]]) -> Result<World, Stop<WorldFault
 {
     let mut reading = Reading::new(alloc);
     match read_lines(alloc, &mut reading, lines) {
-        Ok(()) => {
-            reading.close(alloc)?;
-            Ok(reading.into_world(alloc)?)
+        Ok(()) => match reading.close(alloc) {
+            Ok(()) => Ok(reading.into_world(alloc)?),
+            Err(NoMemory) => {
+                drop(reading);
+                Err(Stop::NoMemory)
+            }
+        },
+        Err(stop) => {
+            drop(reading);
+            Err(stop)
         }
-        Err(stop) => Err(stop),
     }
 }
 

@@ -4,7 +4,8 @@ use Rattle.std.specs.Str.Parse.{ParsesSigned, signed_digits_value}
 use mir.Syntax.{w64}
 use Rattle.bt_model.specs.Worlds.{is_int}
 use Rattle.bt_lines.specs.Ranges.{Passes}
-use Rattle.bt_lines.proofs.Canonical.{IsUtf8-from_is_canonical, parsed_canonical}
+use Rattle.bt_model.proofs.Canonical.{IsUtf8-from_is_canonical}
+use Rattle.bt_lines.proofs.Canonical.{parsed_canonical}
 use Rattle.bt_lines.proofs.numbers.int.Goals as goal
 
 pub returns-in-Ok : goal.returns-in-Ok
