@@ -8,4 +8,6 @@ mod elements;
 #[cfg(test)]
 mod manifest;
 #[cfg(test)]
+mod rows;
+#[cfg(test)]
 mod worlds;

@@ -4,6 +4,8 @@
 #[cfg(test)]
 mod outside;
 #[cfg(test)]
+mod rows;
+#[cfg(test)]
 mod script;
 #[cfg(test)]
 mod script_code;

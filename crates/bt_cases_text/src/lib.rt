@@ -4,6 +4,8 @@
 #[cfg(test)]
 mod boards;
 #[cfg(test)]
+mod rows;
+#[cfg(test)]
 mod text;
 #[cfg(test)]
 mod trees;

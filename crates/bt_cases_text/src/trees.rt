@@ -1,32 +1,25 @@
 //! Trees as they are printed: each printed file is printed as itself.
 
-use bt_build::build;
-use bt_elements::read_elements;
-use bt_manifest::manifest_of;
+use crate::rows::{compare, file_told};
+use bt_model::Tree;
 use bt_outside::SureSink;
+use bt_script::NoMemory;
 use bt_text::write_tree;
-use std::alloc::{AllocError, Global};
-use std::test::Fail;
+use std::alloc::Global;
+
+/// What a tree is printed as.
+fn tree_text(alloc: Global, tree: &Tree) -> Result<String, NoMemory> {
+    let mut sink = SureSink::new(alloc);
+    if write_tree(alloc, &mut sink, tree).is_err() {
+        return Err(NoMemory);
+    }
+    let text = str::from_utf8(sink.list()).unwrap_or("?");
+    Ok(String::from_str(alloc, text)?)
+}
 
 /// What the tree of a file is printed as.
-fn printed(alloc: Global, file: &str) -> Result<String, AllocError> {
-    if file.len() > 1_048_576 {
-        return format!(in alloc; "too long");
-    }
-    let Ok(elements) = read_elements(alloc, file.as_bytes()) else {
-        return format!(in alloc; "no elements");
-    };
-    let Ok(models) = manifest_of(alloc, &elements) else {
-        return format!(in alloc; "no models");
-    };
-    let Ok(tree) = build(alloc, &elements, &models, None) else {
-        return format!(in alloc; "no tree");
-    };
-    let mut sink = SureSink::new(alloc);
-    if write_tree(alloc, &mut sink, &tree).is_err() {
-        return format!(in alloc; "not written");
-    }
-    format!(in alloc; "{}", str::from_utf8(sink.list()).unwrap_or("?"))
+fn printed(alloc: Global, file: &str) -> Result<String, NoMemory> {
+    file_told(alloc, file, tree_text)
 }
 
 /// A file as Groot2 saves it, and its printed form.
@@ -121,11 +114,12 @@ const NODES: (&str, &str) = (
 );
 
 #[test]
-fn printed_trees(rt: HostRuntime) -> Result<(), Fail> {
-    let alloc = rt.alloc();
-    for (file, wanted) in [SAVED, TREES, NODES] {
-        assert_eq!(rt; printed(alloc, file)?.as_str(), wanted);
-        assert_eq!(rt; printed(alloc, wanted)?.as_str(), wanted);
-    }
-    Ok(())
+fn printed_trees(rt: HostRuntime) -> Result<(), NoMemory> {
+    compare(&rt, rt.alloc(), printed, &[SAVED, TREES, NODES])
+}
+
+#[test]
+fn printed_trees_are_printed_as_themselves(rt: HostRuntime) -> Result<(), NoMemory> {
+    let rows = [(SAVED.1, SAVED.1), (TREES.1, TREES.1), (NODES.1, NODES.1)];
+    compare(&rt, rt.alloc(), printed, &rows)
 }

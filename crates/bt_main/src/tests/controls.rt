@@ -1,10 +1,11 @@
 //! Runs of control nodes.
 
-use super::stage::{compare_rows, script};
-use super::{TICK, given};
-use std::test::Fail;
+use super::given;
+use super::stage::{compare, compare_rows};
+use bt_script::NoMemory;
+use std::alloc::Global;
 
-pub const TWO_CHECKS: &str = "\
+const TWO_CHECKS: &str = "\
 tick 1 at 0
 node 1 IDLE RUNNING
 call 2 start SUCCESS
@@ -40,7 +41,7 @@ finish 1 at 0
 Done";
 
 #[test]
-fn sequences_and_fallbacks_go_on(rt: HostRuntime) -> Result<(), Fail> {
+fn sequences_and_fallbacks_go_on(rt: HostRuntime) -> Result<(), NoMemory> {
     compare_rows(
         &rt,
         rt.alloc(),
@@ -61,8 +62,7 @@ fn sequences_and_fallbacks_go_on(rt: HostRuntime) -> Result<(), Fail> {
                 ONE_SKIPPED,
             ),
         ],
-    )?;
-    Ok(())
+    )
 }
 
 const DOOR: &str = "\
@@ -87,9 +87,17 @@ const DOOR: &str = "\
 ";
 
 const LOCKED: &str = "\
-fact closed 1 / condition IsDoorClosed is closed == 1 / \
-action OpenDoor timed 0 / fails 1 / action PickLock replay 0 FFS / sets closed = 0 / \
-action SmashDoor timed 0 / action PassThroughDoor timed 0 / tick 1";
+bt-world 1
+fact closed 1
+condition IsDoorClosed is closed == 1
+action OpenDoor timed 0
+fails 1
+action PickLock replay 0 FFS
+sets closed = 0
+action SmashDoor timed 0
+action PassThroughDoor timed 0
+tick 1
+";
 
 const DOOR_TRACE: &str = "\
 tick 1 at 0
@@ -134,22 +142,32 @@ fact closed 0
 finish 1 at 0
 Done";
 
-#[test]
-fn a_locked_door_is_crossed(rt: HostRuntime) -> Result<(), Fail> {
-    let alloc = rt.alloc();
-    let world = script(alloc, LOCKED)?;
-    let table: [(&[&str], &str); 2] = [
-        (&["tick", "T", "W", "--main", "MainTree"], DOOR_TRACE),
-        (&TICK, "refused tree NoMain\nTree"),
-    ];
-    for (words, want) in table {
-        let text = given(alloc, words, DOOR.as_bytes(), world.as_bytes(), &[])?;
-        assert_eq!(rt; text.as_str(), want);
-    }
-    Ok(())
+/// What these words give over the door.
+fn crossed(alloc: Global, words: &str, world: &str) -> Result<String, NoMemory> {
+    let words: Vec<&str> = words.split_whitespace().collect(alloc)?;
+    given(
+        alloc,
+        words.as_slice(),
+        DOOR.as_bytes(),
+        world.as_bytes(),
+        &[],
+    )
 }
 
-pub const HALTED_BY_A_CHECK: &str = "\
+#[test]
+fn a_locked_door_is_crossed(rt: HostRuntime) -> Result<(), NoMemory> {
+    compare(
+        &rt,
+        rt.alloc(),
+        crossed,
+        &[
+            ("tick T W --main MainTree", LOCKED, DOOR_TRACE),
+            ("tick T W", LOCKED, "refused tree NoMain\nTree"),
+        ],
+    )
+}
+
+const HALTED_BY_A_CHECK: &str = "\
 tick 1 at 0
 node 1 IDLE RUNNING
 call 2 start SUCCESS
@@ -196,7 +214,7 @@ finish 1 at 0
 Done";
 
 #[test]
-fn reactive_nodes_ask_again(rt: HostRuntime) -> Result<(), Fail> {
+fn reactive_nodes_ask_again(rt: HostRuntime) -> Result<(), NoMemory> {
     compare_rows(
         &rt,
         rt.alloc(),
@@ -214,8 +232,7 @@ fn reactive_nodes_ask_again(rt: HostRuntime) -> Result<(), Fail> {
                 ENDED_BY_A_CHECK,
             ),
         ],
-    )?;
-    Ok(())
+    )
 }
 
 const REMEMBERED: &str = "\
@@ -280,7 +297,7 @@ finish 1 at 0
 Done";
 
 #[test]
-fn a_sequence_with_memory_goes_on_where_it_failed(rt: HostRuntime) -> Result<(), Fail> {
+fn a_sequence_with_memory_goes_on_where_it_failed(rt: HostRuntime) -> Result<(), NoMemory> {
     compare_rows(
         &rt,
         rt.alloc(),
@@ -297,8 +314,7 @@ fn a_sequence_with_memory_goes_on_where_it_failed(rt: HostRuntime) -> Result<(),
                 REPEATED,
             ),
         ],
-    )?;
-    Ok(())
+    )
 }
 
 const TWO_OF_FOUR: &str = "\
@@ -360,7 +376,7 @@ finish 1 at 0
 Done";
 
 #[test]
-fn parallels_count(rt: HostRuntime) -> Result<(), Fail> {
+fn parallels_count(rt: HostRuntime) -> Result<(), NoMemory> {
     compare_rows(
         &rt,
         rt.alloc(),
@@ -392,8 +408,7 @@ fn parallels_count(rt: HostRuntime) -> Result<(), Fail> {
                 FIRST_FAILS,
             ),
         ],
-    )?;
-    Ok(())
+    )
 }
 
 const SELECTED: &str = "\
@@ -439,7 +454,7 @@ finish 1 at 0
 Done";
 
 #[test]
-fn switches_select(rt: HostRuntime) -> Result<(), Fail> {
+fn switches_select(rt: HostRuntime) -> Result<(), NoMemory> {
     compare_rows(
         &rt,
         rt.alloc(),
@@ -458,8 +473,7 @@ fn switches_select(rt: HostRuntime) -> Result<(), Fail> {
                 NO_ENTRY,
             ),
         ],
-    )?;
-    Ok(())
+    )
 }
 
 const WHILE_OK: &str = "\
@@ -533,7 +547,7 @@ finish 1 at 10
 Done";
 
 #[test]
-fn conditions_choose_a_branch(rt: HostRuntime) -> Result<(), Fail> {
+fn conditions_choose_a_branch(rt: HostRuntime) -> Result<(), NoMemory> {
     compare_rows(
         &rt,
         rt.alloc(),
@@ -557,6 +571,5 @@ fn conditions_choose_a_branch(rt: HostRuntime) -> Result<(), Fail> {
                 CHOSEN,
             ),
         ],
-    )?;
-    Ok(())
+    )
 }
