@@ -58,7 +58,8 @@ use Rattle.bt_nodes.proofs.Standing.{beside_one, children_same, fits_here, stays
 use Rattle.bt_tick.specs.declared.machine.Turn.{Turn}
 use Rattle.bt_tick.specs.declared.machine.Turn.TheVariants as turn
 use Rattle.bt_nodes.specs.Here.{site_at}
-use Rattle.bt_tick.specs.Turns.{CanBegin, CanFollow, CanGoOn, CanPick, CanVisit, ChildrenSound, Comes, Goes, GoesTo, Starts, children_in, cost, goes_by, has_rule, kind_of, left_of, memory_in, number, ruled_in, started_in, visit_in}
+use Rattle.bt_tick.specs.declared.machine.Entered.TheVariants as entered
+use Rattle.bt_tick.specs.Turns.{CanBegin, CanFollow, CanGoOn, CanPick, CanVisit, ChildrenSound, Comes, Goes, GoesTo, Starts, children_in, cost, goes_by, has_rule, kind_of, left_of, memory_in, number, ruled_in, started_in, turn_after, visit_in}
 use Rattle.bt_tick.proofs.Children.{beside_both, beside_more, beside_same, terms}
 use Rattle.bt_tick.proofs.Bounds.{begins_less, visits_few}
 use Rattle.bt_tick.proofs.Held.{leaf_kind, sound_opened}
@@ -325,14 +326,12 @@ module _ {nodes : List Node} {moment : ℕ} {term : Term} {view : View} {uid : �
   module _ (with_rule : has_rule (kind_of term) ≡ true) (n : List Note) (k : Kept) (read : k ≡ kept_at s.kept uid) where
     -- a node with children goes on by its moves
     pub goes_follow : (place : ℕ) → Ok place ≡ or_bad_port uid (picked (kind_of term) (site_at view uid term) k.memo (state_in nodes s moment)) →
-        Goes nodes moment term view uid (Ok (turn.GoOn (record { uid = uid; memo = k.memo; heard = Begin place; child = uid + 1 }))) s s n n (ruled_in nodes moment term view uid s)
-    goes_follow place is =
-        subst (λ (x : Kept). Goes nodes moment term view uid (Ok (turn.GoOn (record { uid = uid; memo = x.memo; heard = Begin place; child = uid + 1 }))) s s n n (ruled_in nodes moment term view uid s)) (sym read)
-        (record {
-          ends = follows_on nodes moment term view uid s n follow with_rule place (subst (λ (x : Kept). Ok place ≡ or_bad_port uid (picked (kind_of term) (site_at view uid term) x.memo (state_in nodes s moment))) read is);
-          beside = beside_same uid (meaning term).size s.kept;
-          stays = λ t v u fits. fits;
-        })
+        Goes nodes moment term view uid (Ok (turn_after uid s.kept (entered.Begins place))) s s n n (ruled_in nodes moment term view uid s)
+    goes_follow place is = record {
+      ends = follows_on nodes moment term view uid s n follow with_rule place (subst (λ (x : Kept). Ok place ≡ or_bad_port uid (picked (kind_of term) (site_at view uid term) x.memo (state_in nodes s moment))) read is);
+      beside = beside_same uid (meaning term).size s.kept;
+      stays = λ t v u fits. fits;
+    }
 
     -- a bad port ends its visit
     pub goes_fault : (f : NodeFault) → Err f ≡ or_bad_port uid (picked (kind_of term) (site_at view uid term) k.memo (state_in nodes s moment)) →
@@ -345,7 +344,7 @@ module _ {nodes : List Node} {moment : ℕ} {term : Term} {view : View} {uid : �
     }
 
     -- and its first turn is less than its visit
-    pub begin_less : (place : ℕ) → Ok place ≡ or_bad_port uid (picked (kind_of term) (site_at view uid term) k.memo (state_in nodes s moment)) → 1 + left_of (node_at nodes uid) k.memo 0 < cost (node_at nodes uid).size
+    pub begin_less : (place : ℕ) → Ok place ≡ or_bad_port uid (picked (kind_of term) (site_at view uid term) k.memo (state_in nodes s moment)) → 1 + left_of (node_at nodes uid) (kept_at s.kept uid).memo 0 < cost (node_at nodes uid).size
     begin_less place is =
         let memo : k.memo ≡ (kept_at s.kept uid).memo = ap (λ (x : Kept). x.memo) read in
         let pick : CanPick (kind_of term) place = picks_so (kind_of term) (site_at view uid term) k.memo (state_in nodes s moment) place (picked_so uid place _ is) in
@@ -354,7 +353,8 @@ module _ {nodes : List Node} {moment : ℕ} {term : Term} {view : View} {uid : �
         let few : visits_left (node_at nodes uid).kind (node_at nodes uid).children k.memo 0 ≤ 2 ^ 32 + 1 =
         subst (λ (kd : Kind). visits_left kd (node_at nodes uid).children k.memo 0 ≤ 2 ^ 32 + 1) (sym (kind_is follow.can.fits))
         (subst (λ (m : ℕ). visits_left (kind_of term) m k.memo 0 ≤ 2 ^ 32 + 1) (sym (number_is follow.can.fits)) (visits_few (kind_of term) (number term) k.memo place many fits)) in
-        begins_less (node_at nodes uid) k.memo (omega (arith, size_is follow.can.fits, size_out term)) few
+        subst (λ (m : Memo). 1 + left_of (node_at nodes uid) m 0 < cost (node_at nodes uid).size) memo
+        (begins_less (node_at nodes uid) k.memo (omega (arith, size_is follow.can.fits, size_out term)) few)
 
 -- ---- A part of a visit, and what goes on behind it
 

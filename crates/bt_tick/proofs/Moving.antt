@@ -44,11 +44,12 @@ use Rattle.bt_laws.proofs.Resting.{Rested, span_leaves}
 use Rattle.bt_model.specs.Sound.{Sound}
 use Rattle.bt_nodes.proofs.Following.{stops_with}
 use Rattle.bt_arena.specs.declared.frame.Frame.{Frame}
+use Rattle.bt_tick.specs.declared.machine.Entered.{Entered}
 use Rattle.bt_tick.specs.declared.machine.Step.{Step}
 use Rattle.bt_tick.specs.declared.machine.Turn.{Turn}
 use Rattle.bt_tick.specs.declared.machine.Turn.TheVariants as turn
 use Rattle.bt_nodes.specs.Here.{site_at}
-use Rattle.bt_tick.specs.Turns.{CanGoOn, ChildrenSound, Comes, Goes, GoesOnBy, GoesTo, TurnDoes, children_in, goes_by, has_rule, kind_of, memory_in, number, passes_over, ruled_by, turn_to}
+use Rattle.bt_tick.specs.Turns.{CanGoOn, ChildrenSound, Comes, Goes, GoesOnBy, GoesTo, TurnDoes, children_in, goes_by, has_rule, kind_of, memory_in, number, passes_over, ruled_by, turn_to, turned}
 use Rattle.bt_tick.proofs.Children.{beside_both, beside_more, child_seen, terms}
 use Rattle.bt_tick.proofs.Passing.{comes_both, follow_follow, met_behind, met_comes, part_made}
 
@@ -260,6 +261,11 @@ ends_so nodes moment term view uid s s1 s2 n0 n1 n2 d e (Err x) k m = met_behind
 pub goes_with : (nodes : List Node) (moment : ℕ) (term : Term) (view : View) (uid : ℕ) (r : Result Turn (Stop NodeFault)) (e : Stop NodeFault) (s s1 : Scene) (n0 n1 : List Note) (d : Done Answer Memory) →
     IsErrAnd r (λ x. x ≡ e) → Goes nodes moment term view uid (Err e) s s1 n0 n1 d → Goes nodes moment term view uid r s s1 n0 n1 d
 goes_with nodes moment term view uid r e s s1 n0 n1 d is goes = subst (λ (x : Result Turn (Stop NodeFault)). Goes nodes moment term view uid x s s1 n0 n1 d) (sym (stops_with r e is)) goes
+
+-- .. when a node was entered
+pub turned_with : (nodes : List Node) (moment : ℕ) (term : Term) (view : View) (uid : ℕ) (r : Result Entered (Stop NodeFault)) (e : Stop NodeFault) (s s1 : Scene) (n0 n1 : List Note) (d : Done Answer Memory) →
+    IsErrAnd r (λ x. x ≡ e) → Goes nodes moment term view uid (Err e) s s1 n0 n1 d → Goes nodes moment term view uid (turned uid s1.kept r) s s1 n0 n1 d
+turned_with nodes moment term view uid r e s s1 n0 n1 d is goes = subst (λ (x : Result Entered (Stop NodeFault)). Goes nodes moment term view uid (turned uid s1.kept x) s s1 n0 n1 d) (sym (stops_with r e is)) goes
 
 -- ---- A step
 

@@ -308,7 +308,7 @@ module _ (keeps : (t : Term) → Keeps (meaning t) (Sound t)) (nodes : List Node
       comes = g.comes;
     }
 
-    abbrev as_turn : {t t1 : Turn} → t ≡ t1 → Going nodes moment root first t stack s0 s n0 n whole → Going nodes moment root first t1 stack s0 s n0 n whole
+    abbrev pub as_turn : {t t1 : Turn} → t ≡ t1 → Going nodes moment root first t stack s0 s n0 n whole → Going nodes moment root first t1 stack s0 s n0 n whole
     as_turn is g = subst (λ (x : Turn). Going nodes moment root first x stack s0 s n0 n whole) is g
 
     pub on_stack : {t : Turn} {stack1 : List Frame} → stack ≡ stack1 → Going nodes moment root first t stack s0 s n0 n whole → Going nodes moment root first t stack1 s0 s n0 n whole

@@ -28,6 +28,8 @@ use Rattle.bt_arena.specs.Stands.{Beside, memories_of, memory_of, uid_of, view_u
 use Rattle.bt_arena.specs.Ends.{Meets, StaysFit}
 use Rattle.bt_nodes.specs.Here.{site_at}
 use Rattle.bt_arena.specs.declared.frame.Frame.{Frame}
+use Rattle.bt_tick.specs.declared.machine.Entered.{Entered}
+use Rattle.bt_tick.specs.declared.machine.Entered.TheVariants.{Begins, Answers}
 use Rattle.bt_tick.specs.declared.machine.Step.{Step}
 use Rattle.bt_tick.specs.declared.machine.Turn.{Turn}
 use Rattle.bt_tick.specs.declared.machine.Turn.TheVariants as turn
@@ -164,6 +166,15 @@ TurnDoes nodes moment term view uid (turn.Enter at) s next = (at ≡ uid) × Can
 TurnDoes nodes moment term view uid (turn.GoOn step) s next = GoesOnBy nodes moment term view uid step s next
 TurnDoes nodes moment term view uid (turn.Wait frame) s next = WaitsBy nodes moment term view uid frame s next
 TurnDoes nodes moment term view uid (turn.Back a) s next = next ≡ done a (memory_in term uid s) (state_in nodes s moment)
+
+-- what a visit that was entered goes on with: with the memo that its node keeps where a rule begins
+abbrev pub turn_after : ℕ → List Kept → Entered → Turn
+turn_after uid kept (Begins picked) = turn.GoOn (record { uid = uid; memo = (kept_at kept uid).memo; heard = Begin picked; child = uid + 1 })
+turn_after uid kept (Answers a) = turn.Back a
+
+abbrev pub turned : ℕ → List Kept → Result Entered (Stop NodeFault) → Result Turn (Stop NodeFault)
+turned uid kept (Ok entered) = Ok (turn_after uid kept entered)
+turned uid kept (Err e) = Err e
 
 -- whether a child of this status is passed over: one of a Parallel is that has completed
 abbrev pub passes_over : Kind → Status → Bool

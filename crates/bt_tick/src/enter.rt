@@ -1,4 +1,4 @@
-ghost use Rattle.std.specs.Prelude.{◌≡◌, ◌≢◌, ◌≤◌, ◌<◌, ℕ, ℤ, List, IfOk, true, false};
+ghost use Rattle.std.specs.Prelude.{◌≡◌, ◌≢◌, ◌≤◌, ◌<◌, ◌^◌, ℕ, ℤ, List, IfOk, length, true, false};
 ghost use Rattle.bt_model.specs.declared.status.Status.TheVariants.{Running};
 ghost use Rattle.bt_model.specs.declared.term.Term.{Term};
 ghost use Rattle.bt_model.specs.Drivers.{DriverState};
@@ -9,9 +9,9 @@ ghost use Rattle.bt_arena.specs.Ends.{Meets, StaysFit};
 ghost use Rattle.bt_arena.specs.Nodes.{kept_at, node_at};
 ghost use Rattle.bt_arena.specs.Scenes.{scene};
 ghost use Rattle.bt_arena.specs.Stands.{Beside};
-ghost use Rattle.bt_tick.specs.Turns.{CanFollow, CanVisit, Goes, Starts, kind_of, ruled_in, turn_work, visit_in};
+ghost use Rattle.bt_tick.specs.Turns.{CanFollow, CanVisit, Goes, Starts, kind_of, ruled_in, turn_after, turn_work, turned, visit_in};
 
-use crate::machine::{Step, Turn};
+use crate::machine::{Entered, Step, Turn};
 use crate::moves::has_rule;
 use bt_arena::{Kept, Node, Notes, kept_by, node, set_memo, set_status};
 use bt_board::Board;
@@ -52,29 +52,42 @@ fn follow_rule<D: Drivers>(
     uid: u32,
     now: u64,
     notes: &mut Notes,
-) -> Result<Turn, Stop<NodeFault>>
+) -> Result<Entered, Stop<NodeFault>>
     requires can { (term : Term) × (view : View) × CanFollow nodes.now now term view uid (scene kept.old board.old facts.old (D.states drivers.old)) }
     ensures goes { (term : Term) (view : View) → CanFollow nodes.now now term view uid (scene kept.old board.old facts.old (D.states drivers.old)) →
-        Goes nodes.now now term view uid result (scene kept.old board.old facts.old (D.states drivers.old)) (scene kept.new board.new facts.new (D.states drivers.new)) notes.old.list notes.new.list
+        Goes nodes.now now term view uid (turned uid kept.new result) (scene kept.old board.old facts.old (D.states drivers.old)) (scene kept.new board.new facts.new (D.states drivers.new)) notes.old.list notes.new.list
         (ruled_in nodes.now now term view uid (scene kept.old board.old facts.old (D.states drivers.old))) }
     ensures reserve { notes.old.reserve ≤ notes.new.reserve }
     ensures full { notes.new.full ≡ notes.old.full }
-    ensures work { IfOk result (λ turn. turn_work nodes.now turn < turn_work nodes.now (Turn.Enter uid)) }
+    ensures work { IfOk result (λ entered. turn_work nodes.now (turn_after uid kept.new entered) < turn_work nodes.now (Turn.Enter uid)) }
 {
     let here = node(nodes, uid);
     if !has_rule(here.kind) {
         let answer = visit_alone(alloc, nodes, kept, board, facts, drivers, uid, now, notes)?;
-        return Ok(Turn::Back(answer));
+        return Ok(Entered::Answers(answer));
     }
     let memo = kept_by(kept, uid).memo;
     match picked(here, uid, memo, board) {
-        Ok(picked) => Ok(Turn::GoOn(Step {
+        Ok(picked) => Ok(Entered::Begins(picked)),
+        Err(fault) => Err(Stop::Fault(fault)),
+    }
+}
+
+/// What a visit that was entered goes on with: with the memo that its node keeps where a rule begins.
+#[inline(always)]
+pub(crate) fn turn_after(uid: u32, kept: &[Kept], entered: Entered) -> Turn
+    requires there { uid < length kept.now }
+    requires few { length kept.now < 2 ^ 30 }
+    ensures { result ≡ turn_after uid kept.now entered }
+{
+    match entered {
+        Entered::Begins(picked) => Turn::GoOn(Step {
             uid,
-            memo,
+            memo: kept_by(kept, uid).memo,
             heard: Heard::Begin { picked },
             child: uid + 1,
-        })),
-        Err(fault) => Err(Stop::Fault(fault)),
+        }),
+        Entered::Answers(answer) => Turn::Back(answer),
     }
 }
 
@@ -127,21 +140,21 @@ fn begin<D: Drivers>(
     uid: u32,
     now: u64,
     notes: &mut Notes,
-) -> Result<Turn, Stop<NodeFault>>
+) -> Result<Entered, Stop<NodeFault>>
     requires can { (term : Term) × (view : View) × CanVisit nodes.now now term view uid (scene kept.old board.old facts.old (D.states drivers.old)) }
     requires rests { is_running (kept_at kept.old uid).status ≡ false }
     ensures goes { (term : Term) (view : View) → CanVisit nodes.now now term view uid (scene kept.old board.old facts.old (D.states drivers.old)) →
-        Goes nodes.now now term view uid result (scene kept.old board.old facts.old (D.states drivers.old)) (scene kept.new board.new facts.new (D.states drivers.new)) notes.old.list notes.new.list
+        Goes nodes.now now term view uid (turned uid kept.new result) (scene kept.old board.old facts.old (D.states drivers.old)) (scene kept.new board.new facts.new (D.states drivers.new)) notes.old.list notes.new.list
         (visit_in nodes.now now term view uid (scene kept.old board.old facts.old (D.states drivers.old))) }
     ensures reserve { notes.old.reserve ≤ notes.new.reserve }
     ensures full { notes.new.full ≡ notes.old.full }
-    ensures work { IfOk result (λ turn. turn_work nodes.now turn < turn_work nodes.now (Turn.Enter uid)) }
+    ensures work { IfOk result (λ entered. turn_work nodes.now (turn_after uid kept.new entered) < turn_work nodes.now (Turn.Enter uid)) }
 {
     let here = node(nodes, uid);
     let memo = kept_by(kept, uid).memo;
     if let Some(answer) = guards_answer(alloc, &here.guards, uid, board)? {
         let given = end_visit(alloc, nodes, kept, board, uid, answer, memo, notes)?;
-        return Ok(Turn::Back(given));
+        return Ok(Entered::Answers(given));
     }
     if !starts(here.kind, memo) {
         return follow_rule(alloc, nodes, kept, board, facts, drivers, uid, now, notes);
@@ -162,21 +175,21 @@ fn resume<D: Drivers>(
     uid: u32,
     now: u64,
     notes: &mut Notes,
-) -> Result<Turn, Stop<NodeFault>>
+) -> Result<Entered, Stop<NodeFault>>
     requires can { (term : Term) × (view : View) × CanVisit nodes.now now term view uid (scene kept.old board.old facts.old (D.states drivers.old)) }
     requires running { (kept_at kept.old uid).status ≡ Running }
     ensures goes { (term : Term) (view : View) → CanVisit nodes.now now term view uid (scene kept.old board.old facts.old (D.states drivers.old)) →
-        Goes nodes.now now term view uid result (scene kept.old board.old facts.old (D.states drivers.old)) (scene kept.new board.new facts.new (D.states drivers.new)) notes.old.list notes.new.list
+        Goes nodes.now now term view uid (turned uid kept.new result) (scene kept.old board.old facts.old (D.states drivers.old)) (scene kept.new board.new facts.new (D.states drivers.new)) notes.old.list notes.new.list
         (visit_in nodes.now now term view uid (scene kept.old board.old facts.old (D.states drivers.old))) }
     ensures reserve { notes.old.reserve ≤ notes.new.reserve }
     ensures full { notes.new.full ≡ notes.old.full }
-    ensures work { IfOk result (λ turn. turn_work nodes.now turn < turn_work nodes.now (Turn.Enter uid)) }
+    ensures work { IfOk result (λ entered. turn_work nodes.now (turn_after uid kept.new entered) < turn_work nodes.now (Turn.Enter uid)) }
 {
     if goes_on(alloc, &node(nodes, uid).guards, uid, board)? {
         return follow_rule(alloc, nodes, kept, board, facts, drivers, uid, now, notes);
     }
     halt_node(alloc, nodes, kept, board, drivers, uid, notes)?;
-    Ok(Turn::Back(Answer::Skipped))
+    Ok(Entered::Answers(Answer::Skipped))
 }
 
 /// Visits the node with this uid, up to its answer or to where it goes on by moves.
@@ -191,14 +204,14 @@ pub(crate) fn enter<D: Drivers>(
     uid: u32,
     now: u64,
     notes: &mut Notes,
-) -> Result<Turn, Stop<NodeFault>>
+) -> Result<Entered, Stop<NodeFault>>
     requires can { (term : Term) × (view : View) × CanVisit nodes.now now term view uid (scene kept.old board.old facts.old (D.states drivers.old)) }
     ensures goes { (term : Term) (view : View) → CanVisit nodes.now now term view uid (scene kept.old board.old facts.old (D.states drivers.old)) →
-        Goes nodes.now now term view uid result (scene kept.old board.old facts.old (D.states drivers.old)) (scene kept.new board.new facts.new (D.states drivers.new)) notes.old.list notes.new.list
+        Goes nodes.now now term view uid (turned uid kept.new result) (scene kept.old board.old facts.old (D.states drivers.old)) (scene kept.new board.new facts.new (D.states drivers.new)) notes.old.list notes.new.list
         (visit_in nodes.now now term view uid (scene kept.old board.old facts.old (D.states drivers.old))) }
     ensures reserve { notes.old.reserve ≤ notes.new.reserve }
     ensures full { notes.new.full ≡ notes.old.full }
-    ensures work { IfOk result (λ turn. turn_work nodes.now turn < turn_work nodes.now (Turn.Enter uid)) }
+    ensures work { IfOk result (λ entered. turn_work nodes.now (turn_after uid kept.new entered) < turn_work nodes.now (Turn.Enter uid)) }
 {
     match kept_by(kept, uid).status {
         Status::Running => resume(alloc, nodes, kept, board, facts, drivers, uid, now, notes),

@@ -25,3 +25,12 @@ pub enum Turn {
     /// The node that was visited last has answered.
     Back(Answer),
 }
+
+/// What the visit of a node has come to when it was entered.
+#[derive(Clone, Copy, Debug)]
+pub enum Entered {
+    /// Its rule begins, with this pick.
+    Begins(u32),
+    /// It has answered.
+    Answers(Answer),
+}

@@ -10,8 +10,8 @@ ghost use Rattle.bt_arena.specs.Stands.{memory_of};
 ghost use Rattle.bt_tick.specs.Turns.{CanVisit, visit_in};
 ghost use Rattle.bt_tick.specs.Work.{begun_by};
 
-use crate::enter::enter;
-use crate::machine::{Step, Turn};
+use crate::enter::{enter, turn_after};
+use crate::machine::{Entered, Step, Turn};
 use crate::onward::go_on;
 use bt_arena::{Arena, Frame, Kept, Node, Notes};
 use bt_board::Board;
@@ -64,7 +64,10 @@ fn visit<D: Drivers>(
     let mut turn = Turn::Enter(1);
     loop {
         turn = match turn {
-            Turn::Enter(uid) => enter(alloc, nodes, kept, board, facts, drivers, uid, now, notes)?,
+            Turn::Enter(uid) => {
+                let entered = enter(alloc, nodes, kept, board, facts, drivers, uid, now, notes)?;
+                turn_after(uid, kept, entered)
+            }
             Turn::GoOn(step) => go_on(alloc, nodes, kept, board, drivers, step, now, notes)?,
             Turn::Wait(frame) => {
                 match enter(
@@ -78,10 +81,10 @@ fn visit<D: Drivers>(
                     now,
                     notes,
                 )? {
-                    Turn::Back(answer) => Turn::GoOn(hear(frame, answer)),
-                    next => {
+                    Entered::Answers(answer) => Turn::GoOn(hear(frame, answer)),
+                    begins => {
                         stack.push(frame)?;
-                        next
+                        turn_after(frame.child, kept, begins)
                     }
                 }
             }

@@ -4,7 +4,7 @@ use Rattle.bt_laws.proofs.Keeping.{term_keeps}
 use Rattle.bt_nodes.proofs.Needed.{guards_need}
 use Rattle.bt_tick.proofs.Bounds.{cost_positive}
 use Rattle.bt_tick.proofs.Entering.{answers_so, as_node, begin_ends, begin_goes, begins_so_far, can_keep, ended_goes, goes_after, keeps_so, node_here, one_within, start_stops, starts_here, still_can}
-use Rattle.bt_tick.proofs.Moving.{as_many_kept, goes_with, node_there}
+use Rattle.bt_tick.proofs.Moving.{as_many_kept, node_there, turned_with}
 use Rattle.bt_tick.proofs.enter.begin.Goals as goal
 
 pub node-here-requires : goal.node-here-requires
@@ -22,13 +22,13 @@ guards_answer-requires g c =
 
 pub returns-in_err-answer-clause-goes : goal.returns-in_err-answer-clause-goes
 returns-in_err-answer-clause-goes g c = λ term view can.
-    goes_with _ _ _ _ _ _ _ _ _ _ _ _ c.from_residual.ensures.1
+    turned_with _ _ _ _ _ _ _ _ _ _ _ _ c.from_residual.ensures.1
     (begin_ends _ _ term view _ _ _ _ _ _ _ c.in_err-answer.ensures.slots c.requires.rests _ (c.in_err-answer.ensures.settles (as_node term) view (state_in c.args.nodes.now (scene c.args.kept.now c.args.board.now c.args.facts.now (g.D.Drivers.states c.args.drivers.now)) c.args.now) (node_here term view _ _ _ can.fits c.node-here.result.now c.node-here.ensures).guards))
 
 pub returns-in_err-given-clause-goes : goal.returns-in_err-given-clause-goes
 returns-in_err-given-clause-goes g c = λ term view can.
     let still = still_can term_keeps _ _ term view _ _ _ _ _ _ c.in_ok-answer.ensures.slots can in
-    goes_with _ _ _ _ _ _ _ _ _ _ _ _ c.from_residual-in_err-given.ensures.1
+    turned_with _ _ _ _ _ _ _ _ _ _ _ _ c.from_residual-in_err-given.ensures.1
     (begin_goes _ _ term view _ _ _ _ _ _ c.args.notes.now.list c.in_ok-answer.ensures.slots c.requires.rests c.in_ok-answer.field-0 (c.in_ok-answer.ensures.settles (as_node term) view (state_in c.args.nodes.now (scene c.args.kept.now c.args.board.now c.args.facts.now (g.D.Drivers.states c.args.drivers.now)) c.args.now) (node_here term view _ _ _ can.fits c.node-here.result.now c.node-here.ensures).guards) _
     (answers_so _ _ term view _ _ _ _ _ _ c.args.notes.now.list c.in_ok-answer.ensures.slots c.in_ok-answer.field-0 c.in-Some.answer c.in-Some.is c.kept_by-memo.result c.kept_by-memo.ensures) _ _ _
     (ended_goes _ _ term view _ (Err c.in_err-given.field-0.0) _ _ _ _ _ (c.in_err-given.ensures.fits _ _) c.in_err-given.ensures.beside (c.in_err-given.ensures.meets term view _ _ c.args.now still.fits)))
@@ -69,7 +69,7 @@ returns-in_err-start-clause-goes g c = λ term view can.
     let still = still_can term_keeps _ _ term view _ _ _ _ _ _ c.in_ok-answer.ensures.slots can in
     let b : c.starts.result ≡ true = cc in
     let start = starts_here can.fits c.node-here.result.now c.kept_by-memo.result c.node-here.ensures c.kept_by-memo.ensures c.starts.result c.starts.ensures ∙ b in
-    goes_with _ _ _ _ _ _ _ _ _ _ _ _ c.from_residual-in_err-start.ensures.1
+    turned_with _ _ _ _ _ _ _ _ _ _ _ _ c.from_residual-in_err-start.ensures.1
     (begin_goes _ _ term view _ _ _ _ _ _ c.args.notes.now.list c.in_ok-answer.ensures.slots c.requires.rests c.in_ok-answer.field-0 (c.in_ok-answer.ensures.settles (as_node term) view (state_in c.args.nodes.now (scene c.args.kept.now c.args.board.now c.args.facts.now (g.D.Drivers.states c.args.drivers.now)) c.args.now) (node_here term view _ _ _ can.fits c.node-here.result.now c.node-here.ensures).guards) _
     (begins_so_far _ _ term view _ _ _ _ _ _ c.args.notes.now.list c.in_ok-answer.ensures.slots c.in_ok-answer.field-0 c.in_default.is start) _ _ _
     (start_stops _ _ term view _ _ _ _ _ _ (c.in_err-start.ensures.stays _ _) c.in_err-start.ensures.beside (c.in_err-start.ensures.starts term view _ _ still)))

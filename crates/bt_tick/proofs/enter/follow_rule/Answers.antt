@@ -5,7 +5,7 @@ use Rattle.bt_nodes.proofs.Needed.{has_ports}
 use Rattle.bt_tick.specs.Turns.{kind_of}
 use Rattle.bt_tick.proofs.Bounds.{cost_positive}
 use Rattle.bt_tick.proofs.Entering.{alone_goes, alone_here, begin_less, class_alone, goes_fault, goes_follow, node_here, phase_here}
-use Rattle.bt_tick.proofs.Moving.{as_many_kept, goes_with, kind_is, node_there}
+use Rattle.bt_tick.proofs.Moving.{as_many_kept, kind_is, node_there, turned_with}
 use Rattle.bt_tick.proofs.enter.follow_rule.Goals as goal
 
 pub node-here-requires : goal.node-here-requires
@@ -25,7 +25,7 @@ visit_alone-requires-clause-phase g c =
 
 pub returns-in_err-answer-clause-goes : goal.returns-in_err-answer-clause-goes
 returns-in_err-answer-clause-goes g c = λ term view follow.
-    goes_with _ _ _ _ _ _ _ _ _ _ _ _ c.from_residual.ensures.1
+    turned_with _ _ _ _ _ _ _ _ _ _ _ _ c.from_residual.ensures.1
     (alone_goes follow (Err c.in_err-answer.field-0.0) _ _ _ c.in_err-answer.ensures.fits c.in_err-answer.ensures.beside (c.in_err-answer.ensures.meets term view follow.can.fits))
 
 pub returns-then-not-has_rule-clause-goes : goal.returns-then-not-has_rule-clause-goes

@@ -6,7 +6,7 @@ use Rattle.bt_halting.proofs.Sounding.{sound_marks}
 use Rattle.bt_tick.proofs.Bounds.{cost_positive}
 use Rattle.bt_tick.proofs.Children.{beside_sized}
 use Rattle.bt_tick.proofs.Entering.{again_so, as_node, can_run, halt_goes, halt_stops, halts_so, node_here, resume_ends, resume_goes, still_can}
-use Rattle.bt_tick.proofs.Moving.{goes_with, size_is}
+use Rattle.bt_tick.proofs.Moving.{size_is, turned_with}
 use Rattle.bt_tick.proofs.enter.resume.Goals as goal
 
 pub goes_on-requires : goal.goes_on-requires
@@ -16,7 +16,7 @@ goes_on-requires g c =
 
 pub returns-in_err-goes_on-clause-goes : goal.returns-in_err-goes_on-clause-goes
 returns-in_err-goes_on-clause-goes g c = λ term view can.
-    goes_with _ _ _ _ _ _ _ _ _ _ _ _ c.from_residual.ensures.1
+    turned_with _ _ _ _ _ _ _ _ _ _ _ _ c.from_residual.ensures.1
     (resume_ends _ _ term view _ _ _ _ _ _ _ c.in_err-goes_on.ensures.slots c.requires.running _ (c.in_err-goes_on.ensures.settles (as_node term) view (state_in c.args.nodes.now (scene c.args.kept.now c.args.board.now c.args.facts.now (g.D.Drivers.states c.args.drivers.now)) c.args.now) (node_here term view _ _ _ can.fits c.node.result.now c.node.ensures).guards.while_true))
 
 pub follow_rule-requires : goal.follow_rule-requires
@@ -39,7 +39,7 @@ halt_node-requires-clause-held g c =
 pub returns-in_err-halt_node-clause-goes : goal.returns-in_err-halt_node-clause-goes
 returns-in_err-halt_node-clause-goes g c = λ term view can.
     let still = still_can term_keeps _ _ term view _ _ _ _ _ _ c.in_ok-goes_on.ensures.slots can in
-    goes_with _ _ _ _ _ _ _ _ _ _ _ _ c.from_residual-in_err-halt_node.ensures.1
+    turned_with _ _ _ _ _ _ _ _ _ _ _ _ c.from_residual-in_err-halt_node.ensures.1
     (resume_goes _ _ term view _ _ _ _ _ _ _ c.in_ok-goes_on.ensures.slots c.requires.running c.in_ok-goes_on.field-0 (c.in_ok-goes_on.ensures.settles (as_node term) view (state_in c.args.nodes.now (scene c.args.kept.now c.args.board.now c.args.facts.now (g.D.Drivers.states c.args.drivers.now)) c.args.now) (node_here term view _ _ _ can.fits c.node.result.now c.node.ensures).guards.while_true)
     _ (halts_so _ _ term view _ _ _ _ _ _ c.args.notes.now.list c.in_ok-goes_on.ensures.slots c.requires.running c.in_ok-goes_on.field-0 c.if-branch.false) _ _ _
     (halt_stops _ _ term view _ _ _ _ _ _ (beside_sized term _ _ _ _ (size_is can.fits) c.in_err-halt_node.ensures.beside) (c.in_err-halt_node.ensures.fits c.args.facts.now) (c.in_err-halt_node.ensures.meets term view c.args.facts.now c.args.now still.fits)))
