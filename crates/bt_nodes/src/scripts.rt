@@ -1,4 +1,4 @@
-ghost use Rattle.std.specs.Prelude.{◌≡◌, ◌≤◌, Option, length};
+ghost use Rattle.std.specs.Prelude.{◌≡◌, ◌≤◌, Option, Some, length};
 ghost use Rattle.std.specs.List.{All};
 ghost use Rattle.bt_script.specs.declared.syntax.Script.{Script};
 ghost use Rattle.bt_script.specs.Entries.{HoldsNoText, IsAnswered};
@@ -58,7 +58,26 @@ pub fn run_script(
     }
 }
 
+/// Runs a script of the node with this uid for what it writes alone.
+#[inline(never)]
+fn run_for_writes(
+    alloc: Global,
+    code: &Code,
+    uid: u32,
+    board: &mut Board,
+) -> Result<(), Stop<NodeFault>>
+    requires { (program code.now).reach ≤ length board.old }
+    ensures settles { (term : Term-F Meaning) (view : View) (script : Script) (s : State) → IsCodeOf view script code.now →
+        Settles result (on_board board.new s) (script_if_there (site_of term view uid) (Some script) (on_board board.old s)) }
+    ensures slots { length board.new ≡ length board.old }
+    ensures memory { (program code.now).texts ≡ 0 → All HoldsNoText board.old → IsAnswered result }
+{
+    run_script(alloc, code, uid, board)?;
+    Ok(())
+}
+
 /// Runs a script of the node with this uid where it is there.
+#[inline(always)]
 pub fn script_if_there(
     alloc: Global,
     code: &Option<Code>,
@@ -71,10 +90,10 @@ pub fn script_if_there(
     ensures slots { length board.new ≡ length board.old }
     ensures memory { HasNoText code.now → All HoldsNoText board.old → IsAnswered result }
 {
-    if let Some(code) = code {
-        run_script(alloc, code, uid, board)?;
+    match code {
+        Some(code) => run_for_writes(alloc, code, uid, board),
+        None => Ok(()),
     }
-    Ok(())
 }
 
 /// A value as a condition of the node with this uid.
@@ -177,6 +196,7 @@ pub fn goes_on(
 }
 
 /// Runs two scripts of the node with this uid, one after the other, each where it is there.
+#[inline(always)]
 fn both_if_there(
     alloc: Global,
     first: &Option<Code>,
@@ -196,6 +216,7 @@ fn both_if_there(
 
 /// Runs the scripts of the node with this uid after its answer: `_onSuccess` after SUCCESS and
 /// `_onFailure` after FAILURE, and then `_post` after either.
+#[inline(always)]
 pub fn posts(
     alloc: Global,
     guards: &ReadyGuards,
