@@ -1,4 +1,4 @@
-ghost use Rattle.std.specs.Prelude.{◌≡◌, ◌≤◌, Option, length};
+ghost use Rattle.std.specs.Prelude.{◌≡◌, ◌≤◌, Option, Some, length};
 ghost use Rattle.std.specs.List.{All};
 ghost use Rattle.bt_script.specs.declared.syntax.Script.{Script};
 ghost use Rattle.bt_script.specs.Entries.{HoldsNoText, IsAnswered};
@@ -59,7 +59,26 @@ pub fn run_script(
     }
 }
 
+/// Runs a script of the node with this uid for what it writes alone.
+#[inline(never)]
+fn run_for_writes(
+    alloc: Global,
+    code: &Code,
+    uid: u32,
+    board: &mut Board,
+) -> Result<(), Stop<NodeFault>>
+    requires { (program code.now).reach ≤ length board.old }
+    ensures settles { (term : Term-F Meaning) (view : View) (script : Script) (s : State) → IsCodeOf view script code.now →
+        Settles result (on_board board.new s) (script_if_there (site_of term view uid) (Some script) (on_board board.old s)) }
+    ensures slots { length board.new ≡ length board.old }
+    ensures memory { (program code.now).texts ≡ 0 → All HoldsNoText board.old → IsAnswered result }
+{
+    run_script(alloc, code, uid, board)?;
+    Ok(())
+}
+
 /// Runs a script of the node with this uid where it is there.
+#[inline(always)]
 pub fn script_if_there(
     alloc: Global,
     code: &Option<Code>,
@@ -72,10 +91,10 @@ pub fn script_if_there(
     ensures slots { length board.new ≡ length board.old }
     ensures memory { HasNoText code.now → All HoldsNoText board.old → IsAnswered result }
 {
-    if let Some(code) = code {
-        run_script(alloc, code, uid, board)?;
+    match code {
+        Some(code) => run_for_writes(alloc, code, uid, board),
+        None => Ok(()),
     }
-    Ok(())
 }
 
 /// A value as a condition of the node with this uid.
@@ -205,26 +224,6 @@ pub fn goes_on(
     }
 }
 
-/// Runs two scripts of the node with this uid, one after the other, each where it is there. It is not
-/// inlined as most nodes have neither.
-#[inline(never)]
-fn run_both(
-    alloc: Global,
-    first: &Option<Code>,
-    second: &Option<Code>,
-    uid: u32,
-    board: &mut Board,
-) -> Result<(), Stop<NodeFault>>
-    requires first { NeedsAtMost (length board.old) first.now }
-    requires second { NeedsAtMost (length board.old) second.now }
-    ensures settles { (term : Term-F Meaning) (view : View) (one other : Option Script) (s : State) → IsCompiled view one first.now → IsCompiled view other second.now →
-        Settles result (on_board board.new s) (follow (script_if_there (site_of term view uid) one (on_board board.old s)) (λ _. tt) (λ _ _ s1. script_if_there (site_of term view uid) other s1)) }
-    ensures slots { length board.new ≡ length board.old }
-{
-    script_if_there(alloc, first, uid, board)?;
-    script_if_there(alloc, second, uid, board)
-}
-
 /// Runs two scripts of the node with this uid, one after the other, each where it is there.
 #[inline(always)]
 fn both_if_there(
@@ -240,10 +239,8 @@ fn both_if_there(
         Settles result (on_board board.new s) (follow (script_if_there (site_of term view uid) one (on_board board.old s)) (λ _. tt) (λ _ _ s1. script_if_there (site_of term view uid) other s1)) }
     ensures slots { length board.new ≡ length board.old }
 {
-    match (first, second) {
-        (None, None) => Ok(()),
-        _ => run_both(alloc, first, second, uid, board),
-    }
+    script_if_there(alloc, first, uid, board)?;
+    script_if_there(alloc, second, uid, board)
 }
 
 /// Runs the scripts of the node with this uid after its answer: `_onSuccess` after SUCCESS and

@@ -34,7 +34,7 @@ fn near_int<B: Cells>(e: &SlotExpr, cells: &B) -> Option<i64>
     }
 }
 
-/// The number that an expression gives where no text stands in it. None where it gives no number.
+/// The number that an expression gives. None where it gives none, or where a text is evaluated.
 pub fn int_of<B: Cells>(e: &SlotExpr, cells: &B) -> Option<i64>
     requires { tree_reach e.now ≤ length (B.entries cells.now) }
     ensures { IfSome result (λ n. tree_value (entry_of (B.entries cells.now)) e.now ≡ Ok (Int n)) }
@@ -101,8 +101,8 @@ fn assign_int<B: Cells>(slot: u32, n: i64, cells: &mut B) -> Option<i64>
     }
 }
 
-/// Runs a statement that gives a number and in which no text stands. None where it does not, and then
-/// nothing is written.
+/// Runs a statement, and gives its number. None where it gives none, or where a text is evaluated, and
+/// then nothing is written.
 #[inline(always)]
 pub fn step_int<B: Cells>(stmt: &SlotStmt, cells: &mut B) -> Option<i64>
     requires { slot_stmt_reach stmt.now ≤ length (B.entries cells.old) }
