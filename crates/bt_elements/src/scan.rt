@@ -144,6 +144,7 @@ fn begins_name(bytes: &[u8]) -> bool
 }
 
 /// The name at the front.
+#[inline(always)]
 fn name_at(alloc: Global, bytes: &[u8]) -> Result<(Name, &[u8]), Stop<NoMark>>
     requires { IsUtf8 bytes.now }
     ensures read { Scans (λ x. (x.0, x.1.now)) result (name_of bytes.now) }
