@@ -42,6 +42,7 @@ pub fn write_block<K: Sink>(
 
 /// Writes the line by one write. After a stop some front of it was written.
 /// `TextStop::WriteFault` comes only where the sink's count of failures rose in this call.
+#[inline(always)]
 pub fn write_line<K: Sink>(out: &mut K, line: &[u8]) -> Result<(), TextStop>
     ensures whole { OnOk result (Appended (K.written out.old) (K.written out.new) line.now) }
     ensures front { AppendedFront (K.written out.old) (K.written out.new) line.now }

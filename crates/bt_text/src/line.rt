@@ -1,10 +1,10 @@
 ghost use Rattle.std.specs.Prelude.{◌≡◌, ◌++◌, OnOk, codes, decimal};
-ghost use Rattle.bt_model.specs.Lines.{answer_word, entry_line, fact_line, header_line, note_line, status_word};
+ghost use Rattle.bt_model.specs.Lines.{cause_words, entry_line, fact_line, header_line, note_line};
 
 use crate::names::Names;
-use crate::put::{put_bytes, put_number, put_signed};
-use crate::word::{put_answer, put_cause, put_status, put_value};
-use bt_model::{Answer, Header, Note, Status};
+use crate::put::{put_array, put_bytes, put_number, put_numbered, put_signed};
+use crate::word::{put_answer, put_cause, put_change, put_run, put_start, put_value};
+use bt_model::{Cause, Header, Note};
 use bt_script::{NoMemory, Value};
 
 /// Puts the line of the event at the end.
@@ -40,75 +40,70 @@ fn put_runner_event(out: &mut Vec<u8>, event: &[u8], runner: u8, at: u64) -> Res
 }
 
 /// Puts the line of the note at the end.
+#[inline]
 pub fn put_note(out: &mut Vec<u8>, note: Note, names: &Names) -> Result<(), NoMemory>
     ensures { OnOk result (out.new.items ≡ out.old.items ++ note_line names.now note) }
 {
     match note {
-        Note::Changed { uid, old, new } => put_changed(out, uid, old, new),
-        Note::Started { uid, answer } => put_started(out, uid, answer),
-        Note::Ran { uid, answer } => put_ran(out, uid, answer),
+        Note::Changed { uid, old, new } => {
+            put_numbered(out, *b"node ", uid)?;
+            put_change(out, old, new)
+        }
+        Note::Started { uid, answer } => {
+            put_numbered(out, *b"call ", uid)?;
+            put_start(out, answer)
+        }
+        Note::Ran { uid, answer } => {
+            put_numbered(out, *b"call ", uid)?;
+            put_run(out, answer)
+        }
         Note::Halted { uid } => {
-            put_bytes(out, b"call ")?;
-            put_number(out, u64::from(uid))?;
-            put_bytes(out, b" halted\n")
+            put_numbered(out, *b"call ", uid)?;
+            put_array(out, *b" halted\n")
         }
         Note::Root { runner, answer } => {
-            put_bytes(out, b"root ")?;
-            put_number(out, u64::from(runner))?;
-            put_bytes(out, b" ")?;
+            put_numbered(out, *b"root ", u32::from(runner))?;
             put_answer(out, answer)
         }
-        Note::Faulted { runner, uid, cause } => {
-            put_bytes(out, b"fault ")?;
-            put_number(out, u64::from(runner))?;
-            put_bytes(out, b" ")?;
-            put_number(out, u64::from(uid))?;
-            put_bytes(out, b" ")?;
-            put_cause(out, uid, cause, names)?;
-            put_bytes(out, b"\n")
-        }
-        Note::Quenched { runner, uid } => {
-            put_bytes(out, b"quench ")?;
-            put_number(out, u64::from(runner))?;
-            put_bytes(out, b" ")?;
-            put_number(out, u64::from(uid))?;
-            put_bytes(out, b"\n")
-        }
+        Note::Faulted { runner, uid, cause } => put_faulted(out, runner, uid, cause, names),
+        Note::Quenched { runner, uid } => put_quenched(out, runner, uid),
     }
 }
 
-// Puts the line of a node whose status changed.
-fn put_changed(out: &mut Vec<u8>, uid: u32, old: Status, new: Status) -> Result<(), NoMemory>
-    ensures { OnOk result (out.new.items ≡ out.old.items ++ (codes "node " ++ decimal uid ++ codes " "
-        ++ status_word old ++ codes " " ++ status_word new ++ codes "\n")) }
+// Puts the line of a fault. It stands apart as few blocks have one.
+#[cold]
+#[inline(never)]
+fn put_faulted(
+    out: &mut Vec<u8>,
+    runner: u8,
+    uid: u32,
+    cause: Cause,
+    names: &Names,
+) -> Result<(), NoMemory>
+    ensures { OnOk result (out.new.items ≡ out.old.items ++ (codes "fault " ++ decimal runner ++ codes " "
+        ++ decimal uid ++ codes " " ++ cause_words names.now uid cause ++ codes "\n")) }
 {
-    put_bytes(out, b"node ")?;
+    put_bytes(out, b"fault ")?;
+    put_number(out, u64::from(runner))?;
+    put_bytes(out, b" ")?;
     put_number(out, u64::from(uid))?;
-    put_status(out, old)?;
-    put_status(out, new)?;
+    put_bytes(out, b" ")?;
+    put_cause(out, uid, cause, names)?;
     put_bytes(out, b"\n")
 }
 
-// Puts the line of a start and its answer.
-fn put_started(out: &mut Vec<u8>, uid: u32, answer: Answer) -> Result<(), NoMemory>
+// Puts the line of a quench, which is as rare.
+#[cold]
+#[inline(never)]
+fn put_quenched(out: &mut Vec<u8>, runner: u8, uid: u32) -> Result<(), NoMemory>
     ensures { OnOk result (out.new.items ≡
-        out.old.items ++ (codes "call " ++ decimal uid ++ codes " start " ++ answer_word answer ++ codes "\n")) }
+        out.old.items ++ (codes "quench " ++ decimal runner ++ codes " " ++ decimal uid ++ codes "\n")) }
 {
-    put_bytes(out, b"call ")?;
+    put_bytes(out, b"quench ")?;
+    put_number(out, u64::from(runner))?;
+    put_bytes(out, b" ")?;
     put_number(out, u64::from(uid))?;
-    put_bytes(out, b" start ")?;
-    put_answer(out, answer)
-}
-
-// Puts the line of a call of what runs and its answer.
-fn put_ran(out: &mut Vec<u8>, uid: u32, answer: Answer) -> Result<(), NoMemory>
-    ensures { OnOk result (out.new.items ≡
-        out.old.items ++ (codes "call " ++ decimal uid ++ codes " running " ++ answer_word answer ++ codes "\n")) }
-{
-    put_bytes(out, b"call ")?;
-    put_number(out, u64::from(uid))?;
-    put_bytes(out, b" running ")?;
-    put_answer(out, answer)
+    put_bytes(out, b"\n")
 }
 
 /// Puts the line of a fact that changed at the end, with its new value.
