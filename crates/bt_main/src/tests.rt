@@ -11,18 +11,35 @@ mod runners;
 mod scripts;
 mod stage;
 
-use self::stage::{answer_with, compare, compare_rows, four_drivers, shelf_of_rows};
+use self::stage::answer_with;
 use crate::exit::Exit;
+use crate::roster::add_driver;
 use crate::words::word_of;
+use bt_driver::Driver;
+use bt_leaves::{Conditions, Gate, Replay, Timed};
 use bt_outside::{MemShelf, MemSink};
 use bt_script::NoMemory;
 use std::alloc::{AllocError, Global};
+use std::test::Fail;
+
+fn joined(alloc: Global, parts: &[&str]) -> Result<String, AllocError> {
+    let mut text = String::new(alloc);
+    for part in parts {
+        text.push_str(part)?;
+    }
+    Ok(text)
+}
 
 /// A tree file whose one tree has these nodes.
 fn tree_of(alloc: Global, nodes: &str) -> Result<String, AllocError> {
     format!(in alloc;
         "<root BTCPP_format=\"4\"><BehaviorTree ID=\"M\">{nodes}</BehaviorTree></root>"
     )
+}
+
+/// A world script with these lines behind its header.
+fn world_of(alloc: Global, lines: &[&str]) -> Result<String, AllocError> {
+    format!(in alloc; "bt-world 1\n{}\n", joined(alloc, lines)?)
 }
 
 /// A shelf of the files `T` and `W`, of which these reads fail.
@@ -40,21 +57,12 @@ fn answer_words(
     shelf: &mut MemShelf,
     sink: &mut MemSink,
 ) -> Result<Exit, NoMemory> {
-    let mut roster = four_drivers(alloc)?;
+    let mut roster: Vec<Box<dyn Driver>> = Vec::new(alloc);
+    add_driver(&mut roster, Box::new(alloc, Conditions::new(alloc))?)?;
+    add_driver(&mut roster, Box::new(alloc, Timed::new(alloc))?)?;
+    add_driver(&mut roster, Box::new(alloc, Replay::new(alloc))?)?;
+    add_driver(&mut roster, Box::new(alloc, Gate::new(alloc))?)?;
     answer_with(alloc, words, shelf, sink, &mut roster)
-}
-
-/// What is written, with the exit behind it.
-fn text_of(alloc: Global, sink: &MemSink, exit: Exit) -> Result<String, AllocError> {
-    let text = str::from_utf8(sink.list()).unwrap_or("?");
-    format!(in alloc; "{text}{exit:?}")
-}
-
-/// What words give over the files of a shelf.
-fn shelf_text(alloc: Global, words: &[&str], shelf: &mut MemShelf) -> Result<String, NoMemory> {
-    let mut sink = MemSink::new(alloc, Vec::new(alloc));
-    let exit = answer_words(alloc, words, shelf, &mut sink)?;
-    Ok(text_of(alloc, &sink, exit)?)
 }
 
 /// What words give over files of which these reads fail.
@@ -66,7 +74,23 @@ fn given(
     fails: &[u64],
 ) -> Result<String, NoMemory> {
     let mut shelf = shelf_of(alloc, tree, world, fails)?;
-    shelf_text(alloc, words, &mut shelf)
+    let mut sink = MemSink::new(alloc, Vec::new(alloc));
+    let exit = answer_words(alloc, words, &mut shelf, &mut sink)?;
+    let text = str::from_utf8(sink.list()).unwrap_or("?");
+    Ok(format!(in alloc; "{text}{exit:?}")?)
+}
+
+/// What words give over a tree of these nodes and a world of these lines.
+fn answered(
+    alloc: Global,
+    words: &[&str],
+    nodes: &str,
+    lines: &[&str],
+    fails: &[u64],
+) -> Result<String, NoMemory> {
+    let tree = tree_of(alloc, nodes)?;
+    let world = world_of(alloc, lines)?;
+    given(alloc, words, tree.as_bytes(), world.as_bytes(), fails)
 }
 
 const TICK: [&str; 3] = ["tick", "T", "W"];
@@ -129,7 +153,7 @@ Done";
 const CHECK_THEN_ACT: &str =
     "fact x 1\ncondition A is x == 1\naction B timed 300\ntick 1\nat 299\ntick 1";
 
-const HALTED_TRACE: &str = "\
+const HELD_TRACE: &str = "\
 tick 1 at 0
 node 1 IDLE RUNNING
 call 2 start SUCCESS
@@ -140,6 +164,9 @@ root 1 RUNNING
 tick 1 at 299
 call 3 running RUNNING
 root 1 RUNNING
+";
+
+const HALTED_TRACE: &str = "\
 finish 1 at 299
 node 2 SUCCESS IDLE
 call 3 halted
@@ -147,20 +174,7 @@ node 3 RUNNING IDLE
 node 1 RUNNING IDLE
 Done";
 
-const CHECK_THEN_WAIT: &str =
-    "fact x 1\ncondition A is x == 1\naction B timed 300\ntick 1\nat 299\ntick 1\nat 300\ntick 1";
-
 const OVER_TRACE: &str = "\
-tick 1 at 0
-node 1 IDLE RUNNING
-call 2 start SUCCESS
-node 2 IDLE SUCCESS
-call 3 start RUNNING
-node 3 IDLE RUNNING
-root 1 RUNNING
-tick 1 at 299
-call 3 running RUNNING
-root 1 RUNNING
 tick 1 at 300
 call 3 running SUCCESS
 node 3 RUNNING SUCCESS
@@ -236,101 +250,105 @@ finish 1 at 0
 Done";
 
 #[test]
-fn runs_have_their_traces(rt: HostRuntime) -> Result<(), NoMemory> {
-    compare_rows(
-        &rt,
-        rt.alloc(),
-        &[
-            (TWO_CHECKS, TWO_CONDITIONS, TWO_CHECKS_TRACE),
-            (
-                "<Sequence><Sequence><A/></Sequence><B/></Sequence>",
-                TWO_CONDITIONS,
-                NESTED_TRACE,
-            ),
-            (
-                "<Sequence><A/><B/><C/></Sequence>",
-                THREE_CONDITIONS,
-                SECOND_FAILS_TRACE,
-            ),
-            (TWO_CHECKS, CHECK_THEN_WAIT, OVER_TRACE),
-            (TWO_CHECKS, CHECK_THEN_ACT, HALTED_TRACE),
-            (TWO_CHECKS, SETTING, SETTING_TRACE),
-            ("<Fallback><A/><B/></Fallback>", REPLAYED, REPLAYED_TRACE),
-            ("<A/>", EFFECTS, EFFECTS_TRACE),
-        ],
-    )
+fn runs_have_their_traces(rt: HostRuntime) -> Result<(), Fail> {
+    let alloc = rt.alloc();
+    let table: [(&str, &[&str], &[&str]); 8] = [
+        (TWO_CHECKS, &[TWO_CONDITIONS], &[TWO_CHECKS_TRACE]),
+        (
+            "<Sequence><Sequence><A/></Sequence><B/></Sequence>",
+            &[TWO_CONDITIONS],
+            &[NESTED_TRACE],
+        ),
+        (
+            "<Sequence><A/><B/><C/></Sequence>",
+            &[THREE_CONDITIONS],
+            &[SECOND_FAILS_TRACE],
+        ),
+        (
+            TWO_CHECKS,
+            &[CHECK_THEN_ACT, "\nat 300\ntick 1"],
+            &[HELD_TRACE, OVER_TRACE],
+        ),
+        (TWO_CHECKS, &[CHECK_THEN_ACT], &[HELD_TRACE, HALTED_TRACE]),
+        (TWO_CHECKS, &[SETTING], &[SETTING_TRACE]),
+        (
+            "<Fallback><A/><B/></Fallback>",
+            &[REPLAYED],
+            &[REPLAYED_TRACE],
+        ),
+        ("<A/>", &[EFFECTS], &[EFFECTS_TRACE]),
+    ];
+    for (nodes, lines, trace) in table {
+        let want = joined(alloc, trace)?;
+        assert_eq!(rt; answered(alloc, &TICK, nodes, lines, &[])?, want, "{nodes}");
+    }
+    Ok(())
 }
 
 #[test]
-fn trees_and_worlds_are_refused(rt: HostRuntime) -> Result<(), NoMemory> {
-    compare_rows(
-        &rt,
-        rt.alloc(),
-        &[
-            ("<Sequence/>", "tick 1", "refused tree ChildCount 1\nTree"),
-            (
-                "<Inverter><A/></Inverter>",
-                "x",
-                "refused world BadLine 2\nWorld",
-            ),
-            ("<A x=\"1\"/>", "tick 1", "refused world NoRow 'A'\nWorld"),
-            (
-                "<A/>",
-                "condition A is x == 0",
-                "refused world NoName 2\nWorld",
-            ),
-            (
-                "<A/>",
-                "fact x 1\nfact x 2",
-                "refused world DoubleName 3\nWorld",
-            ),
-            ("<A/>", "at 5\nat 4", "refused world MomentBack 3\nWorld"),
-            ("<A/>", "goal G", "refused world NoName 2\nWorld"),
-            (
-                "<A/>",
-                "fact x 9223372036854775808",
-                "refused world Range 2\nWorld",
-            ),
-            (
-                "<A/>",
-                "condition B when 1",
-                "refused world NoRow 'A'\nWorld",
-            ),
-            (
-                "<Sequence><Sequence><A/></Sequence><Q/></Sequence>",
-                "fact x 1\ncondition A is x == 1",
-                "refused world NoRow 'Q'\nWorld",
-            ),
-        ],
-    )
+fn trees_and_worlds_are_refused(rt: HostRuntime) -> Result<(), Fail> {
+    for (nodes, lines, want) in [
+        ("<Sequence/>", "tick 1", "refused tree ChildCount 1\nTree"),
+        (
+            "<Inverter><A/></Inverter>",
+            "x",
+            "refused world BadLine 2\nWorld",
+        ),
+        ("<A x=\"1\"/>", "tick 1", "refused world NoRow 'A'\nWorld"),
+        (
+            "<A/>",
+            "condition A is x == 0",
+            "refused world NoName 2\nWorld",
+        ),
+        (
+            "<A/>",
+            "fact x 1\nfact x 2",
+            "refused world DoubleName 3\nWorld",
+        ),
+        ("<A/>", "at 5\nat 4", "refused world MomentBack 3\nWorld"),
+        ("<A/>", "goal G", "refused world NoName 2\nWorld"),
+        (
+            "<A/>",
+            "fact x 9223372036854775808",
+            "refused world Range 2\nWorld",
+        ),
+        (
+            "<A/>",
+            "condition B when 1",
+            "refused world NoRow 'A'\nWorld",
+        ),
+        (
+            "<Sequence><Sequence><A/></Sequence><Q/></Sequence>",
+            "fact x 1\ncondition A is x == 1",
+            "refused world NoRow 'Q'\nWorld",
+        ),
+    ] {
+        let text = answered(rt.alloc(), &TICK, nodes, &[lines], &[])?;
+        assert_eq!(rt; text.as_str(), want, "{nodes}");
+    }
+    Ok(())
 }
 
 #[test]
-fn runs_without_ticks_have_no_calls(rt: HostRuntime) -> Result<(), NoMemory> {
-    compare_rows(
-        &rt,
-        rt.alloc(),
-        &[
-            ("<A/>", "condition A when 1", "finish 1 at 0\nDone"),
-            ("<A/>", "action A gate 1", "finish 1 at 0\nDone"),
-            ("<A/>", "action A timed 1\nfails 1", "finish 1 at 0\nDone"),
-            (
-                "<A/>",
-                "action A(p) timed 1\nout q = p",
-                "finish 1 at 0\nDone",
-            ),
-            (
-                "<A/>",
-                "action A timed 1\nat 4\nhalt 1\nat 9",
-                "halt 1 at 4\nfinish 1 at 4\nDone",
-            ),
-            (
-                "<A/>",
-                "runners 2\naction A timed 1",
-                "finish 1 at 0\nfinish 2 at 0\nDone",
-            ),
-        ],
-    )
+fn runs_without_ticks_have_no_calls(rt: HostRuntime) -> Result<(), Fail> {
+    for (lines, want) in [
+        ("condition A when 1", "finish 1 at 0\nDone"),
+        ("action A gate 1", "finish 1 at 0\nDone"),
+        ("action A timed 1\nfails 1", "finish 1 at 0\nDone"),
+        ("action A(p) timed 1\nout q = p", "finish 1 at 0\nDone"),
+        (
+            "action A timed 1\nat 4\nhalt 1\nat 9",
+            "halt 1 at 4\nfinish 1 at 4\nDone",
+        ),
+        (
+            "runners 2\naction A timed 1",
+            "finish 1 at 0\nfinish 2 at 0\nDone",
+        ),
+    ] {
+        let text = answered(rt.alloc(), &TICK, "<A/>", &[lines], &[])?;
+        assert_eq!(rt; text.as_str(), want, "{lines}");
+    }
+    Ok(())
 }
 
 const TWO_CHECKS_PRINTED: &str = "\
@@ -345,129 +363,69 @@ const TWO_CHECKS_PRINTED: &str = "\
 <!-- nodes 3 work 3 -->
 Done";
 
-/// What these words give over two checks and a world of these lines.
-fn worded(alloc: Global, words: &str, lines: &str) -> Result<String, NoMemory> {
-    let words: Vec<&str> = words.split_whitespace().collect(alloc)?;
-    let mut shelf = shelf_of_rows(alloc, TWO_CHECKS, lines, &[])?;
-    shelf_text(alloc, words.as_slice(), &mut shelf)
-}
-
 #[test]
-fn words_are_commands_or_refused(rt: HostRuntime) -> Result<(), NoMemory> {
-    compare(
-        &rt,
-        rt.alloc(),
-        worded,
-        &[
-            ("check", TWO_CONDITIONS, "refused words\nWords"),
-            ("check T W", TWO_CONDITIONS, "refused words\nWords"),
-            ("check T --mian M", TWO_CONDITIONS, "refused words\nWords"),
-            ("tick T W --main", TWO_CONDITIONS, "refused words\nWords"),
-            (
-                "check T --main M --main M",
-                TWO_CONDITIONS,
-                "refused words\nWords",
-            ),
-            ("check T", TWO_CONDITIONS, TWO_CHECKS_PRINTED),
-            ("check T --main M", TWO_CONDITIONS, TWO_CHECKS_PRINTED),
-            ("tick T W --main M", TWO_CONDITIONS, TWO_CHECKS_TRACE),
-            (
-                "check T --main N",
-                TWO_CONDITIONS,
-                "refused tree NoTree 'N'\nTree",
-            ),
-            ("", TWO_CONDITIONS, "refused words\nWords"),
-            ("tick", TWO_CONDITIONS, "refused words\nWords"),
-            ("tick T", TWO_CONDITIONS, "refused words\nWords"),
-            ("tick T W X", TWO_CONDITIONS, "refused words\nWords"),
-            ("Tick T W", TWO_CONDITIONS, "refused words\nWords"),
-            ("tick T W", TWO_CONDITIONS, TWO_CHECKS_TRACE),
-            (
-                "tick none W",
-                TWO_CONDITIONS,
-                "refused tree Unmatched 0\nTree",
-            ),
-            (
-                "tick T none",
-                TWO_CONDITIONS,
-                "refused world Header 1\nWorld",
-            ),
-        ],
-    )
-}
-
-/// What a tree file and a world file give where they are ticked.
-fn ticked(alloc: Global, tree: &str, world: &str) -> Result<String, NoMemory> {
-    given(alloc, &TICK, tree.as_bytes(), world.as_bytes(), &[])
-}
-
-/// The same where the file that is named is longer than a file may be.
-fn ticked_too_long(alloc: Global, which: &str, other: &str) -> Result<String, NoMemory> {
-    let long = vec![in alloc; b' '; 1_048_577]?;
-    if which == "T" {
-        given(alloc, &TICK, long.as_slice(), other.as_bytes(), &[])
-    } else {
-        given(alloc, &TICK, other.as_bytes(), long.as_slice(), &[])
+fn words_are_commands_or_refused(rt: HostRuntime) -> Result<(), Fail> {
+    let table: [(&[&str], &str); 17] = [
+        (&["check"], "refused words\nWords"),
+        (&["check", "T", "W"], "refused words\nWords"),
+        (&["check", "T", "--mian", "M"], "refused words\nWords"),
+        (&["tick", "T", "W", "--main"], "refused words\nWords"),
+        (
+            &["check", "T", "--main", "M", "--main", "M"],
+            "refused words\nWords",
+        ),
+        (&["check", "T"], TWO_CHECKS_PRINTED),
+        (&["check", "T", "--main", "M"], TWO_CHECKS_PRINTED),
+        (&["tick", "T", "W", "--main", "M"], TWO_CHECKS_TRACE),
+        (
+            &["check", "T", "--main", "N"],
+            "refused tree NoTree 'N'\nTree",
+        ),
+        (&[], "refused words\nWords"),
+        (&["tick"], "refused words\nWords"),
+        (&["tick", "T"], "refused words\nWords"),
+        (&["tick", "T", "W", "X"], "refused words\nWords"),
+        (&["Tick", "T", "W"], "refused words\nWords"),
+        (&["tick", "T", "W"], TWO_CHECKS_TRACE),
+        (&["tick", "none", "W"], "refused tree Unmatched 0\nTree"),
+        (&["tick", "T", "none"], "refused world Header 1\nWorld"),
+    ];
+    for (words, want) in table {
+        let text = answered(rt.alloc(), words, TWO_CHECKS, &[TWO_CONDITIONS], &[])?;
+        assert_eq!(rt; text.as_str(), want);
     }
-}
-
-/// The same of a tree file that is no UTF-8.
-fn ticked_not_utf8(alloc: Global, _: &str, world: &str) -> Result<String, NoMemory> {
-    given(alloc, &TICK, b"\xff", world.as_bytes(), &[])
+    Ok(())
 }
 
 #[test]
-fn files_are_refused(rt: HostRuntime) -> Result<(), NoMemory> {
-    compare(
-        &rt,
-        rt.alloc(),
-        ticked,
-        &[
-            ("<!-- a --><root/>", "", "refused tree Format\nTree"),
-            ("", "", "refused tree Unmatched 0\nTree"),
-        ],
-    )
+fn files_are_refused(rt: HostRuntime) -> Result<(), Fail> {
+    let alloc = rt.alloc();
+    let long = vec![in alloc; b' '; 1_048_577]?;
+    let table: [(&[u8], &[u8], &str); 5] = [
+        (b"<!-- a --><root/>", b"", "refused tree Format\nTree"),
+        (b"\xff", b"bt-world 1", "refused tree NotUtf8 0\nTree"),
+        (long.as_slice(), b"bt-world 1", "refused tree TooLong\nTree"),
+        (b"", long.as_slice(), "refused world TooLong\nWorld"),
+        (b"", b"", "refused tree Unmatched 0\nTree"),
+    ];
+    for (tree, world, want) in table {
+        assert_eq!(rt; given(alloc, &TICK, tree, world, &[])?.as_str(), want);
+    }
+    Ok(())
 }
 
 #[test]
-fn long_files_are_refused(rt: HostRuntime) -> Result<(), NoMemory> {
-    compare(
-        &rt,
-        rt.alloc(),
-        ticked_too_long,
-        &[
-            ("T", "bt-world 1", "refused tree TooLong\nTree"),
-            ("W", "", "refused world TooLong\nWorld"),
-        ],
-    )
-}
-
-#[test]
-fn files_are_utf8(rt: HostRuntime) -> Result<(), NoMemory> {
-    let rows = [("", "bt-world 1", "refused tree NotUtf8 0\nTree")];
-    compare(&rt, rt.alloc(), ticked_not_utf8, &rows)
-}
-
-/// What two checks give in a world of these lines where the read of this number fails.
-fn unread(alloc: Global, call: &str, lines: &str) -> Result<String, NoMemory> {
-    let fails = [call.parse::<u64>().unwrap_or(0)];
-    let mut shelf = shelf_of_rows(alloc, TWO_CHECKS, lines, &fails)?;
-    shelf_text(alloc, &TICK, &mut shelf)
-}
-
-#[test]
-fn a_read_that_fails_has_its_line(rt: HostRuntime) -> Result<(), NoMemory> {
-    compare(
-        &rt,
-        rt.alloc(),
-        unread,
-        &[
-            ("1", TWO_CONDITIONS, "refused read tree\nRead"),
-            ("2", TWO_CONDITIONS, "refused read world\nRead"),
-            ("1", CHECK_THEN_ACT, "refused read tree\nRead"),
-            ("2", CHECK_THEN_ACT, "refused read world\nRead"),
-        ],
-    )
+fn a_read_that_fails_has_its_line(rt: HostRuntime) -> Result<(), Fail> {
+    for (call, lines, want) in [
+        (1, TWO_CONDITIONS, "refused read tree\nRead"),
+        (2, TWO_CONDITIONS, "refused read world\nRead"),
+        (1, CHECK_THEN_ACT, "refused read tree\nRead"),
+        (2, CHECK_THEN_ACT, "refused read world\nRead"),
+    ] {
+        let text = answered(rt.alloc(), &TICK, TWO_CHECKS, &[lines], &[call])?;
+        assert_eq!(rt; text.as_str(), want, "{call}");
+    }
+    Ok(())
 }
 
 /// A file as Groot2 saves it.
@@ -576,160 +534,119 @@ const PATROL_PRINTED: &str = "\
 <!-- nodes 18 work 6012 -->
 Done";
 
-/// What a tree file gives where it is checked, behind what stands behind it.
-fn checked(alloc: Global, file: &str, end: &str) -> Result<String, NoMemory> {
-    let file = file.strip_suffix(end).unwrap_or("?");
-    given(alloc, &["check", "T"], file.as_bytes(), b"", &[])
+#[test]
+fn printed_trees_check_to_themselves(rt: HostRuntime) -> Result<(), Fail> {
+    let alloc = rt.alloc();
+    for (file, want) in [(SAVED, SAVED_PRINTED), (PATROL, PATROL_PRINTED)] {
+        let text = given(alloc, &["check", "T"], file.as_bytes(), b"", &[])?;
+        assert_eq!(rt; text.as_str(), want);
+        let printed = want.strip_suffix("Done").unwrap_or("?");
+        let again = given(alloc, &["check", "T"], printed.as_bytes(), b"", &[])?;
+        assert_eq!(rt; again.as_str(), want);
+    }
+    Ok(())
 }
 
 #[test]
-fn printed_trees_check_to_themselves(rt: HostRuntime) -> Result<(), NoMemory> {
-    compare(
-        &rt,
-        rt.alloc(),
-        checked,
-        &[
-            (SAVED, "", SAVED_PRINTED),
-            (SAVED_PRINTED, "Done", SAVED_PRINTED),
-            (PATROL, "", PATROL_PRINTED),
-            (PATROL_PRINTED, "Done", PATROL_PRINTED),
-        ],
-    )
+fn whole_files_are_refused(rt: HostRuntime) -> Result<(), Fail> {
+    let table: [(&[u8], &str); 23] = [
+        (b"", "refused tree Unmatched 0\nTree"),
+        (b"\xff", "refused tree NotUtf8 0\nTree"),
+        (b"<root BTCPP_f", "refused tree BadMark 0\nTree"),
+        (
+            b"<root a=\"1\" a=\"2\"/>",
+            "refused tree DoubleAttribute 0\nTree",
+        ),
+        (
+            b"<root BTCPP_format=\"4\">",
+            "refused tree Unmatched 23\nTree",
+        ),
+        (b"<!-- x", "refused tree BadMark 0\nTree"),
+        (b"<!DOCTYPE root><root/>", "refused tree BadMark 0\nTree"),
+        (b"<root a=\"1<2\"/>", "refused tree BadMark 0\nTree"),
+        (b"<root/><root/>", "refused tree Unmatched 7\nTree"),
+        (b"<root></Root>", "refused tree Unmatched 6\nTree"),
+        (b"<root>x</root>", "refused tree StrayText 6\nTree"),
+        (
+            b"<root><TreeNodesModel/><TreeNodesModel/></root>",
+            "refused tree DoubleModel 23\nTree",
+        ),
+        (
+            b"<root><TreeNodesModel><Action ID=\"A\"/><Condition ID=\"A\"/></TreeNodesModel></root>",
+            "refused tree DoubleModel 38\nTree",
+        ),
+        (
+            b"<root><TreeNodesModel><Action/></TreeNodesModel></root>",
+            "refused tree BadModel 22\nTree",
+        ),
+        (b"<tree/>", "refused tree NotRoot 0\nTree"),
+        (b"<root BTCPP_format=\"5\"/>", "refused tree Format\nTree"),
+        (
+            b"<root BTCPP_format=\"4\"><BehaviorTree ID=\"M\"/><BehaviorTree ID=\"M\"/></root>",
+            "refused tree DoubleTree 'M'\nTree",
+        ),
+        (b"<root BTCPP_format=\"4\"/>", "refused tree NoMain\nTree"),
+        (
+            b"<root BTCPP_format=\"4\" main_tree_to_execute=\"N\"><BehaviorTree ID=\"M\"/></root>",
+            "refused tree NoTree 'N'\nTree",
+        ),
+        (
+            b"<root BTCPP_format=\"4\"><BehaviorTree ID=\"M\"/></root>",
+            "refused tree ChildCount 0\nTree",
+        ),
+        (
+            b"<root BTCPP_format=\"4\"><BehaviorTree ID=\"M\"><SubTree ID=\"M\"/></BehaviorTree></root>",
+            "refused tree Recursive 'M'\nTree",
+        ),
+        (
+            b"<root BTCPP_format=\"4\"><BehaviorTree ID=\"M\"><N x=\"{}\"/></BehaviorTree></root>",
+            "refused tree BadLiteral 1\nTree",
+        ),
+        (
+            b"<root BTCPP_format=\"4\"><BehaviorTree ID=\"M\"><N/></BehaviorTree><TreeNodesModel><Action ID=\"N\"><input_port name=\"x\" default=\"{}\"/></Action></TreeNodesModel></root>",
+            "refused tree BadLiteral 1\nTree",
+        ),
+    ];
+    for (file, want) in table {
+        let text = given(rt.alloc(), &["check", "T"], file, b"", &[])?;
+        assert_eq!(rt; text.as_str(), want);
+    }
+    Ok(())
 }
 
 #[test]
-fn whole_files_are_refused(rt: HostRuntime) -> Result<(), NoMemory> {
-    compare(
-        &rt,
-        rt.alloc(),
-        checked,
-        &[
-            ("", "", "refused tree Unmatched 0\nTree"),
-            ("<root BTCPP_f", "", "refused tree BadMark 0\nTree"),
-            (
-                "<root a=\"1\" a=\"2\"/>",
-                "",
-                "refused tree DoubleAttribute 0\nTree",
-            ),
-            (
-                "<root BTCPP_format=\"4\">",
-                "",
-                "refused tree Unmatched 23\nTree",
-            ),
-            ("<!-- x", "", "refused tree BadMark 0\nTree"),
-            ("<!DOCTYPE root><root/>", "", "refused tree BadMark 0\nTree"),
-            ("<root a=\"1<2\"/>", "", "refused tree BadMark 0\nTree"),
-            ("<root/><root/>", "", "refused tree Unmatched 7\nTree"),
-            ("<root></Root>", "", "refused tree Unmatched 6\nTree"),
-            ("<root>x</root>", "", "refused tree StrayText 6\nTree"),
-            (
-                "<root><TreeNodesModel/><TreeNodesModel/></root>",
-                "",
-                "refused tree DoubleModel 23\nTree",
-            ),
-            (
-                "<root><TreeNodesModel><Action ID=\"A\"/><Condition ID=\"A\"/></TreeNodesModel></root>",
-                "",
-                "refused tree DoubleModel 38\nTree",
-            ),
-            (
-                "<root><TreeNodesModel><Action/></TreeNodesModel></root>",
-                "",
-                "refused tree BadModel 22\nTree",
-            ),
-            ("<tree/>", "", "refused tree NotRoot 0\nTree"),
-            (
-                "<root BTCPP_format=\"5\"/>",
-                "",
-                "refused tree Format\nTree",
-            ),
-            (
-                "<root BTCPP_format=\"4\"><BehaviorTree ID=\"M\"/><BehaviorTree ID=\"M\"/></root>",
-                "",
-                "refused tree DoubleTree 'M'\nTree",
-            ),
-            (
-                "<root BTCPP_format=\"4\"/>",
-                "",
-                "refused tree NoMain\nTree",
-            ),
-            (
-                "<root BTCPP_format=\"4\" main_tree_to_execute=\"N\"><BehaviorTree ID=\"M\"/></root>",
-                "",
-                "refused tree NoTree 'N'\nTree",
-            ),
-            (
-                "<root BTCPP_format=\"4\"><BehaviorTree ID=\"M\"/></root>",
-                "",
-                "refused tree ChildCount 0\nTree",
-            ),
-            (
-                "<root BTCPP_format=\"4\"><BehaviorTree ID=\"M\"><SubTree ID=\"M\"/></BehaviorTree></root>",
-                "",
-                "refused tree Recursive 'M'\nTree",
-            ),
-            (
-                "<root BTCPP_format=\"4\"><BehaviorTree ID=\"M\"><N x=\"{}\"/></BehaviorTree></root>",
-                "",
-                "refused tree BadLiteral 1\nTree",
-            ),
-            (
-                "<root BTCPP_format=\"4\"><BehaviorTree ID=\"M\"><N/></BehaviorTree><TreeNodesModel><Action ID=\"N\"><input_port name=\"x\" default=\"{}\"/></Action></TreeNodesModel></root>",
-                "",
-                "refused tree BadLiteral 1\nTree",
-            ),
-        ],
-    )
-}
-
-/// What a tree file of these nodes gives where it is checked, behind what stands behind them.
-fn checked_nodes(alloc: Global, nodes: &str, end: &str) -> Result<String, NoMemory> {
-    checked(alloc, tree_of(alloc, nodes)?.as_str(), end)
-}
-
-#[test]
-fn trees_are_refused(rt: HostRuntime) -> Result<(), NoMemory> {
-    compare(
-        &rt,
-        rt.alloc(),
-        checked_nodes,
-        &[
-            ("<Action/>", "", "refused tree UnknownNode 1\nTree"),
-            (
-                "<SubTree ID=\"M\"/>",
-                "",
-                "refused tree Recursive 'M'\nTree",
-            ),
-            ("<SubTree ID=\"N\"/>", "", "refused tree NoTree 'N'\nTree"),
-            ("<Sequence/>", "", "refused tree ChildCount 1\nTree"),
-            (
-                "<Inverter x=\"1\"><A/></Inverter>",
-                "",
-                "refused tree UnknownPort 1\nTree",
-            ),
-            ("<N x=\"{}\"/>", "", "refused tree BadLiteral 1\nTree"),
-            (
-                "<Script code=\"x := 1.5\"/>",
-                "",
-                "refused tree BadScript 1 RealNumber 5\nTree",
-            ),
-            (
-                "<Script code=\"x := 9223372036854775808\"/>",
-                "",
-                "refused tree BadScript 1 NumberTooWide 5\nTree",
-            ),
-            (
-                "<A _skipIf=\"1 +\"/>",
-                "",
-                "refused tree BadScript 1 Syntax 3\nTree",
-            ),
-            (
-                "<Repeat num_cycles=\"1000\"><Repeat num_cycles=\"100\"><A/></Repeat></Repeat>",
-                "",
-                "refused tree TooMuchWork\nTree",
-            ),
-        ],
-    )
+fn trees_are_refused(rt: HostRuntime) -> Result<(), Fail> {
+    for (nodes, want) in [
+        ("<Action/>", "refused tree UnknownNode 1\nTree"),
+        ("<SubTree ID=\"M\"/>", "refused tree Recursive 'M'\nTree"),
+        ("<SubTree ID=\"N\"/>", "refused tree NoTree 'N'\nTree"),
+        ("<Sequence/>", "refused tree ChildCount 1\nTree"),
+        (
+            "<Inverter x=\"1\"><A/></Inverter>",
+            "refused tree UnknownPort 1\nTree",
+        ),
+        ("<N x=\"{}\"/>", "refused tree BadLiteral 1\nTree"),
+        (
+            "<Script code=\"x := 1.5\"/>",
+            "refused tree BadScript 1 RealNumber 5\nTree",
+        ),
+        (
+            "<Script code=\"x := 9223372036854775808\"/>",
+            "refused tree BadScript 1 NumberTooWide 5\nTree",
+        ),
+        (
+            "<A _skipIf=\"1 +\"/>",
+            "refused tree BadScript 1 Syntax 3\nTree",
+        ),
+        (
+            "<Repeat num_cycles=\"1000\"><Repeat num_cycles=\"100\"><A/></Repeat></Repeat>",
+            "refused tree TooMuchWork\nTree",
+        ),
+    ] {
+        let text = answered(rt.alloc(), &["check", "T"], nodes, &[], &[])?;
+        assert_eq!(rt; text.as_str(), want, "{nodes}");
+    }
+    Ok(())
 }
 
 /// A text so many times, one behind another.
@@ -748,163 +665,111 @@ fn inverted(alloc: Global, times: u32, nodes: &str) -> Result<String, AllocError
     format!(in alloc; "{before}{nodes}{behind}")
 }
 
-/// The last line of what a tree file gives where its tree of this name is checked, with the exit.
-fn checked_end(alloc: Global, main: &str, file: &str) -> Result<String, NoMemory> {
-    let words = ["check", "T", "--main", main];
-    let text = given(alloc, &words, file.as_bytes(), b"", &[])?;
-    let end = text.rfind("<!--").unwrap_or(0);
-    Ok(String::from_str(alloc, text.get(end..).unwrap_or("?"))?)
-}
-
-/// The same of a tree of these nodes.
-fn nodes_end(alloc: Global, nodes: &str) -> Result<String, NoMemory> {
-    checked_end(alloc, "M", tree_of(alloc, nodes)?.as_str())
-}
-
-/// A number that is written, or none.
-fn number_of(text: &str) -> u32 {
-    text.parse::<u32>().unwrap_or(0)
-}
-
-/// The end of what is given for so many Inverters over these nodes.
-fn deep_end(alloc: Global, times: &str, nodes: &str) -> Result<String, NoMemory> {
-    nodes_end(alloc, inverted(alloc, number_of(times), nodes)?.as_str())
+#[test]
+fn depth_is_limited(rt: HostRuntime) -> Result<(), Fail> {
+    let alloc = rt.alloc();
+    for (times, want) in [
+        (255, "<!-- nodes 256 work 256 -->\nDone"),
+        (256, "refused tree TooDeep 2604\nTree"),
+    ] {
+        let nodes = inverted(alloc, times, "<AlwaysSuccess/>")?;
+        let text = answered(alloc, &["check", "T"], nodes.as_str(), &[], &[])?;
+        assert!(rt; text.ends_with(want), "{times}");
+    }
+    Ok(())
 }
 
 #[test]
-fn depth_is_limited(rt: HostRuntime) -> Result<(), NoMemory> {
-    compare(
-        &rt,
-        rt.alloc(),
-        deep_end,
-        &[
-            (
-                "255",
-                "<AlwaysSuccess/>",
-                "<!-- nodes 256 work 256 -->\nDone",
-            ),
-            ("256", "<AlwaysSuccess/>", "refused tree TooDeep 2604\nTree"),
-        ],
-    )
-}
-
-/// The end of what is given for 127 Inverters over a SubTree node, whose tree is so many Inverters
-/// over these nodes.
-fn deep_trees_end(alloc: Global, times: &str, nodes: &str) -> Result<String, NoMemory> {
-    let below = inverted(alloc, number_of(times), nodes)?;
-    let main = inverted(alloc, 127, "<SubTree ID=\"S\"/>")?;
-    let trees = format!(in alloc; "{main}</BehaviorTree><BehaviorTree ID=\"S\">{below}")?;
-    nodes_end(alloc, trees.as_str())
+fn depth_is_limited_across_trees(rt: HostRuntime) -> Result<(), Fail> {
+    let alloc = rt.alloc();
+    for (times, want) in [
+        (127, "<!-- nodes 256 work 256 -->\nDone"),
+        (128, "refused tree TooDeep 257\nTree"),
+    ] {
+        let main = inverted(alloc, 127, "<SubTree ID=\"S\"/>")?;
+        let below = inverted(alloc, times, "<A/>")?;
+        let nodes = format!(in alloc; "{main}</BehaviorTree><BehaviorTree ID=\"S\">{below}")?;
+        let words = ["check", "T", "--main", "M"];
+        let text = answered(alloc, &words, nodes.as_str(), &[], &[])?;
+        assert!(rt; text.ends_with(want), "{times}");
+    }
+    Ok(())
 }
 
 #[test]
-fn depth_is_limited_across_trees(rt: HostRuntime) -> Result<(), NoMemory> {
-    compare(
-        &rt,
-        rt.alloc(),
-        deep_trees_end,
-        &[
-            ("127", "<A/>", "<!-- nodes 256 work 256 -->\nDone"),
-            ("128", "<A/>", "refused tree TooDeep 257\nTree"),
-        ],
-    )
+fn nodes_are_counted(rt: HostRuntime) -> Result<(), Fail> {
+    let alloc = rt.alloc();
+    for (leaves, want) in [
+        (4_095, "<!-- nodes 4096 work 4096 -->\nDone"),
+        (4_096, "refused tree TooManyNodes\nTree"),
+    ] {
+        let nodes = format!(in alloc; "<Sequence>{}</Sequence>", repeated(alloc, "<A/>", leaves)?)?;
+        let text = answered(alloc, &["check", "T"], nodes.as_str(), &[], &[])?;
+        assert!(rt; text.ends_with(want), "{leaves}");
+    }
+    Ok(())
 }
 
-/// The end of what is given for a Sequence over these nodes, so many times.
-fn wide_end(alloc: Global, times: &str, nodes: &str) -> Result<String, NoMemory> {
-    let children = repeated(alloc, nodes, number_of(times))?;
-    nodes_end(
-        alloc,
-        format!(in alloc; "<Sequence>{children}</Sequence>")?.as_str(),
-    )
-}
-
-#[test]
-fn nodes_are_counted(rt: HostRuntime) -> Result<(), NoMemory> {
-    compare(
-        &rt,
-        rt.alloc(),
-        wide_end,
-        &[
-            ("4095", "<A/>", "<!-- nodes 4096 work 4096 -->\nDone"),
-            ("4096", "<A/>", "refused tree TooManyNodes\nTree"),
-        ],
-    )
-}
-
-/// The tree `T` of this number, which opens the next one twice.
-fn doubling_tree(alloc: Global, number: u32) -> Result<String, AllocError> {
-    let next = number.saturating_add(1);
-    format!(in alloc;
-        "<BehaviorTree ID=\"T{number}\"><Sequence><SubTree ID=\"T{next}\"/><SubTree ID=\"T{next}\"/></Sequence></BehaviorTree>"
-    )
-}
-
-/// The trees `T0` up to the last, each of which opens the next one twice. The last one has these
-/// nodes.
-fn doubling(alloc: Global, last: u32, nodes: &str) -> Result<String, AllocError> {
+/// The trees `T0` up to the last, each of which opens the next one twice. The last one is a leaf.
+fn doubling(alloc: Global, last: u32) -> Result<String, AllocError> {
     let mut trees = String::new(alloc);
-    for number in 0..last {
-        trees.push_str(doubling_tree(alloc, number)?.as_str())?;
+    for n in 0..last {
+        let below = repeated(
+            alloc,
+            format!(in alloc; "<SubTree ID=\"T{}\"/>", n + 1)?.as_str(),
+            2,
+        )?;
+        trees.push_str(format!(in alloc;
+            "<BehaviorTree ID=\"T{n}\"><Sequence>{below}</Sequence></BehaviorTree>"
+        )?.as_str())?;
     }
     format!(in alloc;
-        "<root BTCPP_format=\"4\">{trees}<BehaviorTree ID=\"T{last}\">{nodes}</BehaviorTree></root>"
-    )
-}
-
-/// The end of what is given for so many of them.
-fn doubling_end(alloc: Global, last: &str, nodes: &str) -> Result<String, NoMemory> {
-    checked_end(
-        alloc,
-        "T0",
-        doubling(alloc, number_of(last), nodes)?.as_str(),
+        "<root BTCPP_format=\"4\">{trees}<BehaviorTree ID=\"T{last}\"><AlwaysSuccess/></BehaviorTree></root>"
     )
 }
 
 #[test]
-fn scopes_are_counted(rt: HostRuntime) -> Result<(), NoMemory> {
-    compare(
-        &rt,
-        rt.alloc(),
-        doubling_end,
-        &[
-            ("7", "<AlwaysSuccess/>", "<!-- nodes 509 work 509 -->\nDone"),
-            ("8", "<AlwaysSuccess/>", "refused tree TooManyScopes\nTree"),
-            ("11", "<AlwaysSuccess/>", "refused tree TooManyScopes\nTree"),
-        ],
-    )
+fn scopes_are_counted(rt: HostRuntime) -> Result<(), Fail> {
+    let alloc = rt.alloc();
+    for (last, want) in [
+        (7, "<!-- nodes 509 work 509 -->\nDone"),
+        (8, "refused tree TooManyScopes\nTree"),
+        (11, "refused tree TooManyScopes\nTree"),
+    ] {
+        let file = doubling(alloc, last)?;
+        let words = ["check", "T", "--main", "T0"];
+        let text = given(alloc, &words, file.as_bytes(), b"", &[])?;
+        assert!(rt; text.ends_with(want), "{last}");
+    }
+    Ok(())
 }
 
-/// So many ports, each of which names a key of its own.
-fn ports_of_keys(alloc: Global, count: u32) -> Result<String, AllocError> {
+/// A leaf with so many ports, each of which names a key of its own.
+fn leaf_of_keys(alloc: Global, count: u32) -> Result<String, AllocError> {
     let mut text = String::new(alloc);
+    text.push_str("<A")?;
     for n in 0..count {
         text.push_str(format!(in alloc; " k{n}=\"{{=}}\"")?.as_str())?;
     }
+    text.push_str("/>")?;
     Ok(text)
 }
 
-/// The end of what is given for a leaf with so many keys, which is repeated a thousand times so many
-/// times.
-fn keys_end(alloc: Global, count: &str, cycles: &str) -> Result<String, NoMemory> {
-    let ports = ports_of_keys(alloc, number_of(count))?;
-    let nodes = format!(in alloc;
-        "<Repeat num_cycles=\"1000\"><Repeat num_cycles=\"{cycles}\"><A{ports}/></Repeat></Repeat>"
-    )?;
-    nodes_end(alloc, nodes.as_str())
-}
-
 #[test]
-fn slots_are_counted_before_work(rt: HostRuntime) -> Result<(), NoMemory> {
-    compare(
-        &rt,
-        rt.alloc(),
-        keys_end,
-        &[
-            ("4096", "98", "<!-- nodes 3 work 99001 -->\nDone"),
-            ("4097", "98", "refused tree TooManyKeys\nTree"),
-            ("4096", "100", "refused tree TooMuchWork\nTree"),
-            ("4097", "100", "refused tree TooManyKeys\nTree"),
-        ],
-    )
+fn slots_are_counted_before_work(rt: HostRuntime) -> Result<(), Fail> {
+    let alloc = rt.alloc();
+    for (slots, cycles, want) in [
+        (4_096, "98", "<!-- nodes 3 work 99001 -->\nDone"),
+        (4_097, "98", "refused tree TooManyKeys\nTree"),
+        (4_096, "100", "refused tree TooMuchWork\nTree"),
+        (4_097, "100", "refused tree TooManyKeys\nTree"),
+    ] {
+        let leaf = leaf_of_keys(alloc, slots)?;
+        let nodes = format!(in alloc;
+            "<Repeat num_cycles=\"1000\"><Repeat num_cycles=\"{cycles}\">{leaf}</Repeat></Repeat>"
+        )?;
+        let text = answered(alloc, &["check", "T"], nodes.as_str(), &[], &[])?;
+        assert!(rt; text.ends_with(want), "{slots} {cycles}");
+    }
+    Ok(())
 }

@@ -1,11 +1,10 @@
 //! Runs of control nodes.
 
-use super::given;
-use super::stage::{compare, compare_rows};
-use bt_script::NoMemory;
-use std::alloc::Global;
+use super::stage::{compare_rows, script};
+use super::{TICK, given};
+use std::test::Fail;
 
-const TWO_CHECKS: &str = "\
+pub const TWO_CHECKS: &str = "\
 tick 1 at 0
 node 1 IDLE RUNNING
 call 2 start SUCCESS
@@ -41,7 +40,7 @@ finish 1 at 0
 Done";
 
 #[test]
-fn sequences_and_fallbacks_go_on(rt: HostRuntime) -> Result<(), NoMemory> {
+fn sequences_and_fallbacks_go_on(rt: HostRuntime) -> Result<(), Fail> {
     compare_rows(
         &rt,
         rt.alloc(),
@@ -62,7 +61,8 @@ fn sequences_and_fallbacks_go_on(rt: HostRuntime) -> Result<(), NoMemory> {
                 ONE_SKIPPED,
             ),
         ],
-    )
+    )?;
+    Ok(())
 }
 
 const DOOR: &str = "\
@@ -87,17 +87,9 @@ const DOOR: &str = "\
 ";
 
 const LOCKED: &str = "\
-bt-world 1
-fact closed 1
-condition IsDoorClosed is closed == 1
-action OpenDoor timed 0
-fails 1
-action PickLock replay 0 FFS
-sets closed = 0
-action SmashDoor timed 0
-action PassThroughDoor timed 0
-tick 1
-";
+fact closed 1 / condition IsDoorClosed is closed == 1 / \
+action OpenDoor timed 0 / fails 1 / action PickLock replay 0 FFS / sets closed = 0 / \
+action SmashDoor timed 0 / action PassThroughDoor timed 0 / tick 1";
 
 const DOOR_TRACE: &str = "\
 tick 1 at 0
@@ -142,32 +134,22 @@ fact closed 0
 finish 1 at 0
 Done";
 
-/// What these words give over the door.
-fn crossed(alloc: Global, words: &str, world: &str) -> Result<String, NoMemory> {
-    let words: Vec<&str> = words.split_whitespace().collect(alloc)?;
-    given(
-        alloc,
-        words.as_slice(),
-        DOOR.as_bytes(),
-        world.as_bytes(),
-        &[],
-    )
-}
-
 #[test]
-fn a_locked_door_is_crossed(rt: HostRuntime) -> Result<(), NoMemory> {
-    compare(
-        &rt,
-        rt.alloc(),
-        crossed,
-        &[
-            ("tick T W --main MainTree", LOCKED, DOOR_TRACE),
-            ("tick T W", LOCKED, "refused tree NoMain\nTree"),
-        ],
-    )
+fn a_locked_door_is_crossed(rt: HostRuntime) -> Result<(), Fail> {
+    let alloc = rt.alloc();
+    let world = script(alloc, LOCKED)?;
+    let table: [(&[&str], &str); 2] = [
+        (&["tick", "T", "W", "--main", "MainTree"], DOOR_TRACE),
+        (&TICK, "refused tree NoMain\nTree"),
+    ];
+    for (words, want) in table {
+        let text = given(alloc, words, DOOR.as_bytes(), world.as_bytes(), &[])?;
+        assert_eq!(rt; text.as_str(), want);
+    }
+    Ok(())
 }
 
-const HALTED_BY_A_CHECK: &str = "\
+pub const HALTED_BY_A_CHECK: &str = "\
 tick 1 at 0
 node 1 IDLE RUNNING
 call 2 start SUCCESS
@@ -214,7 +196,7 @@ finish 1 at 0
 Done";
 
 #[test]
-fn reactive_nodes_ask_again(rt: HostRuntime) -> Result<(), NoMemory> {
+fn reactive_nodes_ask_again(rt: HostRuntime) -> Result<(), Fail> {
     compare_rows(
         &rt,
         rt.alloc(),
@@ -232,7 +214,8 @@ fn reactive_nodes_ask_again(rt: HostRuntime) -> Result<(), NoMemory> {
                 ENDED_BY_A_CHECK,
             ),
         ],
-    )
+    )?;
+    Ok(())
 }
 
 const REMEMBERED: &str = "\
@@ -297,7 +280,7 @@ finish 1 at 0
 Done";
 
 #[test]
-fn a_sequence_with_memory_goes_on_where_it_failed(rt: HostRuntime) -> Result<(), NoMemory> {
+fn a_sequence_with_memory_goes_on_where_it_failed(rt: HostRuntime) -> Result<(), Fail> {
     compare_rows(
         &rt,
         rt.alloc(),
@@ -314,7 +297,8 @@ fn a_sequence_with_memory_goes_on_where_it_failed(rt: HostRuntime) -> Result<(),
                 REPEATED,
             ),
         ],
-    )
+    )?;
+    Ok(())
 }
 
 const TWO_OF_FOUR: &str = "\
@@ -376,7 +360,7 @@ finish 1 at 0
 Done";
 
 #[test]
-fn parallels_count(rt: HostRuntime) -> Result<(), NoMemory> {
+fn parallels_count(rt: HostRuntime) -> Result<(), Fail> {
     compare_rows(
         &rt,
         rt.alloc(),
@@ -408,7 +392,8 @@ fn parallels_count(rt: HostRuntime) -> Result<(), NoMemory> {
                 FIRST_FAILS,
             ),
         ],
-    )
+    )?;
+    Ok(())
 }
 
 const SELECTED: &str = "\
@@ -454,7 +439,7 @@ finish 1 at 0
 Done";
 
 #[test]
-fn switches_select(rt: HostRuntime) -> Result<(), NoMemory> {
+fn switches_select(rt: HostRuntime) -> Result<(), Fail> {
     compare_rows(
         &rt,
         rt.alloc(),
@@ -473,7 +458,8 @@ fn switches_select(rt: HostRuntime) -> Result<(), NoMemory> {
                 NO_ENTRY,
             ),
         ],
-    )
+    )?;
+    Ok(())
 }
 
 const WHILE_OK: &str = "\
@@ -547,7 +533,7 @@ finish 1 at 10
 Done";
 
 #[test]
-fn conditions_choose_a_branch(rt: HostRuntime) -> Result<(), NoMemory> {
+fn conditions_choose_a_branch(rt: HostRuntime) -> Result<(), Fail> {
     compare_rows(
         &rt,
         rt.alloc(),
@@ -571,5 +557,6 @@ fn conditions_choose_a_branch(rt: HostRuntime) -> Result<(), NoMemory> {
                 CHOSEN,
             ),
         ],
-    )
+    )?;
+    Ok(())
 }

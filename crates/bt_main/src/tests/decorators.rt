@@ -1,9 +1,8 @@
 //! Runs of decorators.
 
 use super::inverted;
-use super::stage::{compare, compare_rows, ran};
-use bt_script::NoMemory;
-use std::alloc::Global;
+use super::stage::{compare_rows, ran};
+use std::test::Fail;
 
 const ENDLESS: &str = "\
 tick 1 at 0
@@ -71,7 +70,7 @@ finish 1 at 20
 Done";
 
 #[test]
-fn turns_are_counted(rt: HostRuntime) -> Result<(), NoMemory> {
+fn turns_are_counted(rt: HostRuntime) -> Result<(), Fail> {
     compare_rows(
         &rt,
         rt.alloc(),
@@ -97,7 +96,8 @@ fn turns_are_counted(rt: HostRuntime) -> Result<(), NoMemory> {
                 LAST_ATTEMPT,
             ),
         ],
-    )
+    )?;
+    Ok(())
 }
 
 const TIME_IS_OVER: &str = "\
@@ -143,7 +143,7 @@ finish 1 at 10
 Done";
 
 #[test]
-fn moments_are_compared(rt: HostRuntime) -> Result<(), NoMemory> {
+fn moments_are_compared(rt: HostRuntime) -> Result<(), Fail> {
     compare_rows(
         &rt,
         rt.alloc(),
@@ -164,7 +164,8 @@ fn moments_are_compared(rt: HostRuntime) -> Result<(), NoMemory> {
                 LATER,
             ),
         ],
-    )
+    )?;
+    Ok(())
 }
 
 const ONCE: &str = "\
@@ -224,7 +225,7 @@ finish 1 at 100
 Done";
 
 #[test]
-fn run_once_keeps_its_mark(rt: HostRuntime) -> Result<(), NoMemory> {
+fn run_once_keeps_its_mark(rt: HostRuntime) -> Result<(), Fail> {
     compare_rows(
         &rt,
         rt.alloc(),
@@ -240,7 +241,8 @@ fn run_once_keeps_its_mark(rt: HostRuntime) -> Result<(), NoMemory> {
                 ONCE_AGAIN,
             ),
         ],
-    )
+    )?;
+    Ok(())
 }
 
 const FORCED: &str = "\
@@ -282,7 +284,7 @@ finish 1 at 0
 Done";
 
 #[test]
-fn answers_are_turned(rt: HostRuntime) -> Result<(), NoMemory> {
+fn answers_are_turned(rt: HostRuntime) -> Result<(), Fail> {
     compare_rows(
         &rt,
         rt.alloc(),
@@ -299,26 +301,16 @@ fn answers_are_turned(rt: HostRuntime) -> Result<(), NoMemory> {
                 KEPT_RUNNING,
             ),
         ],
-    )
-}
-
-/// The end of what a run of 255 Inverters over these nodes writes.
-fn deepest(alloc: Global, nodes: &str, lines: &str) -> Result<String, NoMemory> {
-    let text = ran(alloc, inverted(alloc, 255, nodes)?.as_str(), lines)?;
-    let end = text.rfind("root").unwrap_or(0);
-    Ok(String::from_str(alloc, text.get(end..).unwrap_or("?"))?)
+    )?;
+    Ok(())
 }
 
 #[test]
-fn the_deepest_tree_is_ticked(rt: HostRuntime) -> Result<(), NoMemory> {
-    compare(
-        &rt,
-        rt.alloc(),
-        deepest,
-        &[(
-            "<AlwaysSuccess/>",
-            "tick 1",
-            "root 1 FAILURE\nnode 1 FAILURE IDLE\nfinish 1 at 0\nDone",
-        )],
-    )
+fn the_deepest_tree_is_ticked(rt: HostRuntime) -> Result<(), Fail> {
+    let alloc = rt.alloc();
+    let nodes = inverted(alloc, 255, "<AlwaysSuccess/>")?;
+    let text = ran(alloc, nodes.as_str(), "tick 1")?;
+    let end = "root 1 FAILURE\nnode 1 FAILURE IDLE\nfinish 1 at 0\nDone";
+    assert!(rt; text.ends_with(end), "{text}");
+    Ok(())
 }

@@ -1,8 +1,8 @@
 //! Halts, and faults within them: what stops, in which order, and what a quench lets go.
 
-use super::stage::{compare, compare_rows, ran};
-use bt_script::NoMemory;
-use std::alloc::Global;
+use super::joined;
+use super::stage::{compare_rows, ran};
+use std::test::Fail;
 
 const THREE_HELD: &str = "\
 tick 1 at 0
@@ -106,7 +106,7 @@ finish 1 at 0
 Done";
 
 #[test]
-fn halts_stop_what_runs(rt: HostRuntime) -> Result<(), NoMemory> {
+fn halts_stop_what_runs(rt: HostRuntime) -> Result<(), Fail> {
     compare_rows(
         &rt,
         rt.alloc(),
@@ -134,7 +134,8 @@ fn halts_stop_what_runs(rt: HostRuntime) -> Result<(), NoMemory> {
                 IDLE_HALTED,
             ),
         ],
-    )
+    )?;
+    Ok(())
 }
 
 const HALT_SCRIPTS: &str = "\
@@ -166,7 +167,7 @@ quench 1 2
 Fault";
 
 #[test]
-fn scripts_of_halts_run_from_below(rt: HostRuntime) -> Result<(), NoMemory> {
+fn scripts_of_halts_run_from_below(rt: HostRuntime) -> Result<(), Fail> {
     compare_rows(
         &rt,
         rt.alloc(),
@@ -175,11 +176,12 @@ fn scripts_of_halts_run_from_below(rt: HostRuntime) -> Result<(), NoMemory> {
             "action A timed 100 / tick 1 / halt 1",
             HALT_SCRIPTS,
         )],
-    )
+    )?;
+    Ok(())
 }
 
 #[test]
-fn a_leaf_that_faults_is_let_go(rt: HostRuntime) -> Result<(), NoMemory> {
+fn a_leaf_that_faults_is_let_go(rt: HostRuntime) -> Result<(), Fail> {
     compare_rows(
         &rt,
         rt.alloc(),
@@ -188,7 +190,8 @@ fn a_leaf_that_faults_is_let_go(rt: HostRuntime) -> Result<(), NoMemory> {
             "fact x 2 / action G gate 0/x / tick 1 / set x 0 / tick 1",
             CLOSED_GATE,
         )],
-    )
+    )?;
+    Ok(())
 }
 
 /// A robot that holds two arms while it is safe, and then is not.
@@ -247,47 +250,35 @@ node 5 RUNNING IDLE
 fault 1 5 ZeroDivisor
 Fault";
 
-/// What a run writes behind the tick in which the check fails.
-fn ran_on(alloc: Global, nodes: &str, lines: &str) -> Result<String, NoMemory> {
-    let text = ran(alloc, nodes, lines)?;
-    let end = text.strip_prefix(BOTH_HELD).unwrap_or("?");
-    Ok(String::from_str(alloc, end)?)
-}
-
 #[test]
-fn a_fault_in_a_halt_at_each_node(rt: HostRuntime) -> Result<(), NoMemory> {
-    compare(
-        &rt,
-        rt.alloc(),
-        ran_on,
-        &[
-            (
-                "<ReactiveSequence _onHalted=\"1 / 0\"><Ok/><Parallel><A/><B/></Parallel></ReactiveSequence>",
-                OK_TURNS_FALSE,
-                BOTH_HALTED,
-            ),
-            (
-                "<ReactiveSequence><Ok _onHalted=\"1 / 0\"/><Parallel><A/><B/></Parallel></ReactiveSequence>",
-                OK_TURNS_FALSE,
-                BOTH_HALTED,
-            ),
-            (
-                "<ReactiveSequence><Ok/><Parallel _onHalted=\"1 / 0\"><A/><B/></Parallel></ReactiveSequence>",
-                OK_TURNS_FALSE,
-                PARALLEL_FAULTS,
-            ),
-            (
-                "<ReactiveSequence><Ok/><Parallel><A _onHalted=\"1 / 0\"/><B/></Parallel></ReactiveSequence>",
-                OK_TURNS_FALSE,
-                FIRST_FAULTS,
-            ),
-            (
-                "<ReactiveSequence><Ok/><Parallel><A/><B _onHalted=\"1 / 0\"/></Parallel></ReactiveSequence>",
-                OK_TURNS_FALSE,
-                SECOND_FAULTS,
-            ),
-        ],
-    )
+fn a_fault_in_a_halt_at_each_node(rt: HostRuntime) -> Result<(), Fail> {
+    let alloc = rt.alloc();
+    for (nodes, end) in [
+        (
+            "<ReactiveSequence _onHalted=\"1 / 0\"><Ok/><Parallel><A/><B/></Parallel></ReactiveSequence>",
+            BOTH_HALTED,
+        ),
+        (
+            "<ReactiveSequence><Ok _onHalted=\"1 / 0\"/><Parallel><A/><B/></Parallel></ReactiveSequence>",
+            BOTH_HALTED,
+        ),
+        (
+            "<ReactiveSequence><Ok/><Parallel _onHalted=\"1 / 0\"><A/><B/></Parallel></ReactiveSequence>",
+            PARALLEL_FAULTS,
+        ),
+        (
+            "<ReactiveSequence><Ok/><Parallel><A _onHalted=\"1 / 0\"/><B/></Parallel></ReactiveSequence>",
+            FIRST_FAULTS,
+        ),
+        (
+            "<ReactiveSequence><Ok/><Parallel><A/><B _onHalted=\"1 / 0\"/></Parallel></ReactiveSequence>",
+            SECOND_FAULTS,
+        ),
+    ] {
+        let want = joined(alloc, &[BOTH_HELD, end])?;
+        assert_eq!(rt; ran(alloc, nodes, OK_TURNS_FALSE)?, want, "{nodes}");
+    }
+    Ok(())
 }
 
 const ROOT_FAULTS: &str = "\
@@ -303,7 +294,7 @@ node 1 RUNNING IDLE
 fault 1 1 ZeroDivisor
 Fault";
 
-const FAULT_AT_THE_END: &str = "\
+pub const FAULT_AT_THE_END: &str = "\
 tick 1 at 0
 node 1 IDLE RUNNING
 call 2 start RUNNING
@@ -339,7 +330,7 @@ fault 1 3 ZeroDivisor
 Fault";
 
 #[test]
-fn a_fault_in_a_halt_ends_the_run(rt: HostRuntime) -> Result<(), NoMemory> {
+fn a_fault_in_a_halt_ends_the_run(rt: HostRuntime) -> Result<(), Fail> {
     compare_rows(
         &rt,
         rt.alloc(),
@@ -362,5 +353,6 @@ fn a_fault_in_a_halt_ends_the_run(rt: HostRuntime) -> Result<(), NoMemory> {
                 BRANCH_FAULTS,
             ),
         ],
-    )
+    )?;
+    Ok(())
 }

@@ -1,10 +1,14 @@
 //! Runs at the moments of a clock.
 
-use super::stage::{answer_at, compare, four_drivers, shelf_of_rows};
-use super::{shelf_text, text_of};
-use bt_outside::{Clock, MemClock, MemShelf, MemSink};
+use super::stage::{answer_at, script};
+use super::{given, shelf_of, tree_of};
+use crate::roster::add_driver;
+use bt_driver::Driver;
+use bt_leaves::{Conditions, Gate, Replay, Timed};
+use bt_outside::{Clock, MemClock, MemSink};
 use bt_script::NoMemory;
 use std::alloc::Global;
+use std::test::Fail;
 
 /// What `live` writes over these nodes, this world and a clock of these moments, with its exit and
 /// the moment that the clock gives next.
@@ -15,24 +19,27 @@ fn lived(
     rounds: &str,
     moments: &[u64],
 ) -> Result<String, NoMemory> {
-    let mut shelf = shelf_of_rows(alloc, nodes, lines, &[])?;
-    let mut clock = MemClock::new(Vec::from_slice(alloc, moments)?);
-    let text = shelf_lived(alloc, rounds, &mut shelf, &mut clock)?;
-    Ok(format!(in alloc; "{text}, next {}", clock.now())?)
-}
-
-/// What `live` writes over the files of a shelf, with its exit.
-fn shelf_lived(
-    alloc: Global,
-    rounds: &str,
-    shelf: &mut MemShelf,
-    clock: &mut MemClock,
-) -> Result<String, NoMemory> {
+    let tree = tree_of(alloc, nodes)?;
+    let world = script(alloc, lines)?;
+    let mut shelf = shelf_of(alloc, tree.as_bytes(), world.as_bytes(), &[])?;
     let mut sink = MemSink::new(alloc, Vec::new(alloc));
-    let mut roster = four_drivers(alloc)?;
+    let mut clock = MemClock::new(Vec::from_slice(alloc, moments)?);
+    let mut roster: Vec<Box<dyn Driver>> = Vec::new(alloc);
+    add_driver(&mut roster, Box::new(alloc, Conditions::new(alloc))?)?;
+    add_driver(&mut roster, Box::new(alloc, Timed::new(alloc))?)?;
+    add_driver(&mut roster, Box::new(alloc, Replay::new(alloc))?)?;
+    add_driver(&mut roster, Box::new(alloc, Gate::new(alloc))?)?;
     let words = ["live", "T", "W", "--ticks", rounds];
-    let exit = answer_at(alloc, &words, shelf, &mut sink, clock, &mut roster)?;
-    Ok(text_of(alloc, &sink, exit)?)
+    let exit = answer_at(
+        alloc,
+        &words,
+        &mut shelf,
+        &mut sink,
+        &mut clock,
+        &mut roster,
+    )?;
+    let text = str::from_utf8(sink.list()).unwrap_or("?");
+    Ok(format!(in alloc; "{text}{exit:?}, next {}", clock.now())?)
 }
 
 const MOMENTS_FALL: &str = "\
@@ -108,7 +115,7 @@ quench 1 1
 Fault, next 7";
 
 #[test]
-fn rounds_have_the_moments_of_the_clock(rt: HostRuntime) -> Result<(), NoMemory> {
+fn rounds_have_the_moments_of_the_clock(rt: HostRuntime) -> Result<(), Fail> {
     let table: [(&str, &str, &str, &[u64], &str); 4] = [
         // The events of the script are not used, and a moment that falls counts as the one before.
         (
@@ -135,9 +142,9 @@ fn rounds_have_the_moments_of_the_clock(rt: HostRuntime) -> Result<(), NoMemory>
             ENDED_BY_A_FAULT,
         ),
     ];
-    for (nodes, lines, rounds, moments, want) in &table {
+    for (nodes, lines, rounds, moments, want) in table {
         let text = lived(rt.alloc(), nodes, lines, rounds, moments)?;
-        assert_eq!(rt; text.as_str(), *want, "{nodes}");
+        assert_eq!(rt; text.as_str(), want, "{nodes}");
     }
     Ok(())
 }
@@ -151,58 +158,38 @@ node 1 SUCCESS IDLE
 finish 1 at 0
 Done";
 
-/// What these words give over one leaf in a world of these lines.
-fn worded(alloc: Global, words: &str, lines: &str) -> Result<String, NoMemory> {
-    let words: Vec<&str> = words.split_whitespace().collect(alloc)?;
-    let mut shelf = shelf_of_rows(alloc, "<A/>", lines, &[])?;
-    shelf_text(alloc, words.as_slice(), &mut shelf)
-}
-
 #[test]
-fn rounds_are_numbers(rt: HostRuntime) -> Result<(), NoMemory> {
-    compare(
-        &rt,
-        rt.alloc(),
-        worded,
-        &[
-            ("live T W", "action A timed 0", "refused words\nWords"),
-            (
-                "live T --ticks 1",
-                "action A timed 0",
-                "refused words\nWords",
-            ),
-            (
-                "live T W --ticks",
-                "action A timed 0",
-                "refused words\nWords",
-            ),
-            (
-                "live T W --ticks 0",
-                "action A timed 0",
-                "refused words\nWords",
-            ),
-            (
-                "live T W --ticks 01",
-                "action A timed 0",
-                "refused words\nWords",
-            ),
-            (
-                "live T W --ticks 100001",
-                "action A timed 0",
-                "refused words\nWords",
-            ),
-            (
-                "live T W --ticks 1 --ticks 1",
-                "action A timed 0",
-                "refused words\nWords",
-            ),
-            (
-                "tick T W --ticks 1",
-                "action A timed 0",
-                "refused words\nWords",
-            ),
-            ("live T W --main M --ticks 1", "action A timed 0", ONE_ROUND),
-            ("live T W --ticks 1 --main M", "action A timed 0", ONE_ROUND),
-        ],
-    )
+fn rounds_are_numbers(rt: HostRuntime) -> Result<(), Fail> {
+    let alloc = rt.alloc();
+    let tree = tree_of(alloc, "<A/>")?;
+    let world = script(alloc, "action A timed 0")?;
+    let table: [(&[&str], &str); 10] = [
+        (&["live", "T", "W"], "refused words\nWords"),
+        (&["live", "T", "--ticks", "1"], "refused words\nWords"),
+        (&["live", "T", "W", "--ticks"], "refused words\nWords"),
+        (&["live", "T", "W", "--ticks", "0"], "refused words\nWords"),
+        (&["live", "T", "W", "--ticks", "01"], "refused words\nWords"),
+        (
+            &["live", "T", "W", "--ticks", "100001"],
+            "refused words\nWords",
+        ),
+        (
+            &["live", "T", "W", "--ticks", "1", "--ticks", "1"],
+            "refused words\nWords",
+        ),
+        (&["tick", "T", "W", "--ticks", "1"], "refused words\nWords"),
+        (
+            &["live", "T", "W", "--main", "M", "--ticks", "1"],
+            ONE_ROUND,
+        ),
+        (
+            &["live", "T", "W", "--ticks", "1", "--main", "M"],
+            ONE_ROUND,
+        ),
+    ];
+    for (words, want) in table {
+        let text = given(alloc, words, tree.as_bytes(), world.as_bytes(), &[])?;
+        assert_eq!(rt; text.as_str(), want);
+    }
+    Ok(())
 }

@@ -1,10 +1,10 @@
 //! Several runners over one world.
 
 use super::stage::{compare_rows, ran};
-use bt_script::NoMemory;
 use std::alloc::{AllocError, Global};
+use std::test::Fail;
 
-const ONE_FAULTS: &str = "\
+pub const ONE_FAULTS: &str = "\
 tick 1 at 0
 node 1 IDLE RUNNING
 call 2 start RUNNING
@@ -108,7 +108,7 @@ finish 2 at 0
 Done";
 
 #[test]
-fn runners_keep_what_is_theirs(rt: HostRuntime) -> Result<(), NoMemory> {
+fn runners_keep_what_is_theirs(rt: HostRuntime) -> Result<(), Fail> {
     compare_rows(
         &rt,
         rt.alloc(),
@@ -131,11 +131,12 @@ fn runners_keep_what_is_theirs(rt: HostRuntime) -> Result<(), NoMemory> {
                 OWN_BOARDS,
             ),
         ],
-    )
+    )?;
+    Ok(())
 }
 
 /// What each of 16 runners adds, in order: the pattern, with its number in place of `#`.
-fn of_each(alloc: Global, pattern: &str) -> Result<String, AllocError> {
+pub fn of_each(alloc: Global, pattern: &str) -> Result<String, AllocError> {
     let mut text = String::new(alloc);
     for runner in 1..=16 {
         let number = format!(in alloc; "{runner}")?;
@@ -173,14 +174,14 @@ fault 7 2 ZeroDivisor
 ";
 
 /// The trace of the sixteen, with the exit behind it.
-fn sixteen_trace(alloc: Global) -> Result<String, AllocError> {
+pub fn sixteen_trace(alloc: Global) -> Result<String, AllocError> {
     let begun = of_each(alloc, BEGINS)?;
     let quenched = of_each(alloc, "quench # 2\nquench # 3\n")?;
     format!(in alloc; "{begun}{SEVENTH_FAULTS}{quenched}Fault")
 }
 
 #[test]
-fn a_fault_quenches_every_runner(rt: HostRuntime) -> Result<(), NoMemory> {
+fn a_fault_quenches_every_runner(rt: HostRuntime) -> Result<(), Fail> {
     let alloc = rt.alloc();
     let lines = sixteen(alloc)?;
     let text = ran(alloc, WAITS, lines.as_str())?;

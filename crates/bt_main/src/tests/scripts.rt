@@ -1,8 +1,8 @@
 //! Runs of script nodes, guards, ports and blackboards.
 
-use super::stage::{compare, compare_rows};
-use super::ticked;
-use bt_script::NoMemory;
+use super::stage::{compare_rows, script};
+use super::{TICK, given};
+use std::test::Fail;
 
 const JOINED: &str = "\
 tick 1 at 0
@@ -23,7 +23,7 @@ finish 1 at 0
 Done";
 
 #[test]
-fn scripts_write_or_fault(rt: HostRuntime) -> Result<(), NoMemory> {
+fn scripts_write_or_fault(rt: HostRuntime) -> Result<(), Fail> {
     compare_rows(
         &rt,
         rt.alloc(),
@@ -51,7 +51,8 @@ fn scripts_write_or_fault(rt: HostRuntime) -> Result<(), NoMemory> {
                 "refused tree BadScript 1 RealNumber 5\nTree",
             ),
         ],
-    )
+    )?;
+    Ok(())
 }
 
 const AFTER_SUCCESS: &str = "\
@@ -100,7 +101,7 @@ finish 1 at 0
 Done";
 
 #[test]
-fn scripts_run_round_a_node(rt: HostRuntime) -> Result<(), NoMemory> {
+fn scripts_run_round_a_node(rt: HostRuntime) -> Result<(), Fail> {
     compare_rows(
         &rt,
         rt.alloc(),
@@ -126,7 +127,8 @@ fn scripts_run_round_a_node(rt: HostRuntime) -> Result<(), NoMemory> {
                 GUARDS_IN_ORDER,
             ),
         ],
-    )
+    )?;
+    Ok(())
 }
 
 const WHILE_IT_GOES: &str = "\
@@ -161,7 +163,7 @@ finish 1 at 0
 Done";
 
 #[test]
-fn while_is_asked_at_each_visit(rt: HostRuntime) -> Result<(), NoMemory> {
+fn while_is_asked_at_each_visit(rt: HostRuntime) -> Result<(), Fail> {
     compare_rows(
         &rt,
         rt.alloc(),
@@ -178,7 +180,8 @@ fn while_is_asked_at_each_visit(rt: HostRuntime) -> Result<(), NoMemory> {
                 NEVER_BEGUN,
             ),
         ],
-    )
+    )?;
+    Ok(())
 }
 
 /// A subtree that sees four keys of the tree above it: by ports, by a literal, and by its own name.
@@ -257,16 +260,14 @@ finish 1 at 0
 Done";
 
 #[test]
-fn keys_are_mapped(rt: HostRuntime) -> Result<(), NoMemory> {
-    compare(
-        &rt,
-        rt.alloc(),
-        ticked,
-        &[
-            (MAPPED, "bt-world 1\ntick 1\n", MAPPED_TRACE),
-            (TWICE_MAPPED, "bt-world 1\ntick 1\n", TWICE_MAPPED_TRACE),
-        ],
-    )
+fn keys_are_mapped(rt: HostRuntime) -> Result<(), Fail> {
+    let alloc = rt.alloc();
+    let world = script(alloc, "tick 1")?;
+    for (file, want) in [(MAPPED, MAPPED_TRACE), (TWICE_MAPPED, TWICE_MAPPED_TRACE)] {
+        let text = given(alloc, &TICK, file.as_bytes(), world.as_bytes(), &[])?;
+        assert_eq!(rt; text.as_str(), want);
+    }
+    Ok(())
 }
 
 const MEASURED: &str = "\
@@ -297,7 +298,7 @@ fault 1 1 Mixed
 Fault";
 
 #[test]
-fn leaves_read_and_write_ports(rt: HostRuntime) -> Result<(), NoMemory> {
+fn leaves_read_and_write_ports(rt: HostRuntime) -> Result<(), Fail> {
     compare_rows(
         &rt,
         rt.alloc(),
@@ -315,5 +316,6 @@ fn leaves_read_and_write_ports(rt: HostRuntime) -> Result<(), NoMemory> {
                 TEXT_INPUT,
             ),
         ],
-    )
+    )?;
+    Ok(())
 }

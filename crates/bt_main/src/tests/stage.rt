@@ -1,9 +1,9 @@
 //! What rows are run on: files in memory, and the drivers of the modelled world.
 
-ghost use Rattle.std.specs.Prelude.{◌≡◌, IfOk, map};
-ghost use Rattle.bt_model.specs.Drivers.{HoldsNothing, NothingHeld};
+ghost use Rattle.std.specs.Prelude.{map};
+ghost use Rattle.bt_model.specs.Drivers.{NothingHeld};
 
-use super::{TICK, shelf_of, shelf_text, tree_of};
+use super::{TICK, given, shelf_of, tree_of};
 use crate::answer::bt;
 use crate::exit::Exit;
 use crate::roster::add_driver;
@@ -18,43 +18,6 @@ use std::process::Abort;
 /// A world script of these lines, which stand between slashes, behind its header.
 pub fn script(alloc: Global, lines: &str) -> Result<String, AllocError> {
     format!(in alloc; "bt-world 1\n{}\n", lines.replace(alloc, " / ", "\n")?)
-}
-
-/// A shelf of a tree of these nodes and a world of these lines, of which these reads fail.
-pub fn shelf_of_rows(
-    alloc: Global,
-    nodes: &str,
-    lines: &str,
-    fails: &[u64],
-) -> Result<MemShelf, NoMemory> {
-    let tree = tree_of(alloc, nodes)?;
-    let world = script(alloc, lines)?;
-    shelf_of(alloc, tree.as_bytes(), world.as_bytes(), fails)
-}
-
-/// Boxes a driver that holds nothing and adds it to a roster that holds nothing.
-pub fn add_boxed<D: Driver + 'static>(
-    alloc: Global,
-    roster: &mut Vec<Box<dyn Driver>>,
-    driver: D,
-) -> Result<(), NoMemory>
-    requires roster { NothingHeld (map (λ b. state b) roster.old.items) }
-    requires driver { HoldsNothing (D.state driver) }
-    ensures { NothingHeld (map (λ b. state b) roster.new.items) }
-{
-    add_driver(roster, Box::new(alloc, driver)?)
-}
-
-/// A roster of the four drivers of the modelled world.
-pub fn four_drivers(alloc: Global) -> Result<Vec<Box<dyn Driver>>, NoMemory>
-    ensures { IfOk result (λ roster. NothingHeld (map (λ b. state b) roster.items)) }
-{
-    let mut roster: Vec<Box<dyn Driver>> = Vec::new(alloc);
-    add_boxed(alloc, &mut roster, Conditions::new(alloc))?;
-    add_boxed(alloc, &mut roster, Timed::new(alloc))?;
-    add_boxed(alloc, &mut roster, Replay::new(alloc))?;
-    add_boxed(alloc, &mut roster, Gate::new(alloc))?;
-    Ok(roster)
 }
 
 /// Answers these words with this clock and these drivers.
@@ -99,7 +62,9 @@ pub fn run_with<K: Sink>(
 ) -> Result<Exit, NoMemory>
     requires { NothingHeld (map (λ b. state b) roster.old.items) }
 {
-    let mut shelf = shelf_of_rows(alloc, nodes, lines, &[])?;
+    let tree = tree_of(alloc, nodes)?;
+    let world = script(alloc, lines)?;
+    let mut shelf = shelf_of(alloc, tree.as_bytes(), world.as_bytes(), &[])?;
     answer_with(alloc, &TICK, &mut shelf, sink, roster)
 }
 
@@ -145,37 +110,24 @@ pub fn run(
     lines: &str,
     sink: &mut MemSink,
 ) -> Result<Ending, NoMemory> {
-    let mut roster = four_drivers(alloc)?;
+    let mut roster: Vec<Box<dyn Driver>> = Vec::new(alloc);
+    add_driver(&mut roster, Box::new(alloc, Conditions::new(alloc))?)?;
+    add_driver(&mut roster, Box::new(alloc, Timed::new(alloc))?)?;
+    add_driver(&mut roster, Box::new(alloc, Replay::new(alloc))?)?;
+    add_driver(&mut roster, Box::new(alloc, Gate::new(alloc))?)?;
     let exit = run_with(alloc, nodes, lines, sink, &mut roster)?;
-    let counts = counts_of(alloc, roster.as_slice())?;
-    let holds = !hold_nothing(roster.as_slice());
     Ok(Ending {
         exit,
-        counts,
-        holds,
+        counts: counts_of(alloc, roster.as_slice())?,
+        holds: !hold_nothing(roster.as_slice()),
     })
 }
 
 /// What a run writes, with its exit behind it.
 pub fn ran(alloc: Global, nodes: &str, lines: &str) -> Result<String, NoMemory> {
-    let mut shelf = shelf_of_rows(alloc, nodes, lines, &[])?;
-    shelf_text(alloc, &TICK, &mut shelf)
-}
-
-/// Compares rows: what a call tells of the first two texts of each is the third one.
-pub fn compare<F: Fn(Global, &str, &str) -> Result<String, NoMemory>>(
-    rt: &impl Abort,
-    alloc: Global,
-    told: F,
-    rows: &[(&str, &str, &str)],
-) -> Result<(), NoMemory>
-    requires { F.IsAlwaysCallable told }
-{
-    for (first, second, want) in rows {
-        let text = told(alloc, first, second)?;
-        assert_eq!(rt; text.as_str(), *want, "{first} {second}");
-    }
-    Ok(())
+    let tree = tree_of(alloc, nodes)?;
+    let world = script(alloc, lines)?;
+    given(alloc, &TICK, tree.as_bytes(), world.as_bytes(), &[])
 }
 
 /// Compares rows: the nodes of a tree, the lines of a world, and what their run writes, with its
@@ -185,5 +137,8 @@ pub fn compare_rows(
     alloc: Global,
     rows: &[(&str, &str, &str)],
 ) -> Result<(), NoMemory> {
-    compare(rt, alloc, ran, rows)
+    for (nodes, lines, want) in rows {
+        assert_eq!(rt; ran(alloc, nodes, lines)?.as_str(), *want, "{nodes}");
+    }
+    Ok(())
 }
