@@ -21,6 +21,7 @@ use bt_driver::Drivers;
 use bt_model::{Kind, Term};
 use bt_script::{Items, NoMemory};
 use std::alloc::Global;
+use std::mem::replace;
 
 /// A count as a number of 32 bits. There is no memory for 2^32 nodes.
 fn narrow(count: usize) -> Result<u32, NoMemory>
@@ -90,8 +91,16 @@ fn node_of<D: Drivers>(
     ensures next { IfOk result (λ node. next.new ≡ counted_at (driver_of node.leaf) next.old) }
 {
     let mut node = bare_node(alloc, term, setting, scope)?;
-    node.leaf = leaf_of(alloc, term, setting, scope, drivers, next)?;
-    Ok(node)
+    match leaf_of(alloc, term, setting, scope, drivers, next) {
+        Ok(leaf) => {
+            drop(replace(&mut node.leaf, leaf));
+            Ok(node)
+        }
+        Err(NoMemory) => {
+            drop(node);
+            Err(NoMemory)
+        }
+    }
 }
 
 /// Gives the node at this place its size: it and all that stands behind it.

@@ -146,9 +146,9 @@ pub fn ready(alloc: Global, row: &Row, facts: &[Fact]) -> Result<ReadyRow, NoMem
     ensures facts { IfOk result (λ r. r.facts ≡ length facts.now) }
 {
     let places = places_of(alloc, row.ports.list(), facts)?;
-    let sort = ready_sort(alloc, &row.sort, places.as_slice())?;
     let sets = Vec::from_slice(alloc, row.sets.list())?;
     let outs = ready_outs(alloc, row.outs.list(), places.as_slice())?;
+    let sort = ready_sort(alloc, &row.sort, places.as_slice())?;
     Ok(ReadyRow {
         sort,
         sets: Items::of(sets),

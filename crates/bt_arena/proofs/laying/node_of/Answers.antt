@@ -1,8 +1,8 @@
 use Rattle.bt_arena.proofs.Laid.{leaf_opened}
 use Rattle.bt_arena.proofs.laying.node_of.Goals as goal
 
-pub returns-clause-node : goal.returns-clause-node
-returns-clause-node g c =
+pub returns-in-Ok-clause-node : goal.returns-in-Ok-clause-node
+returns-in-Ok-clause-node g c =
     let bare = c.in_ok-node.ensures in
     record {
       kind = bare.kind;
@@ -12,6 +12,6 @@ returns-clause-node g c =
       guards = bare.guards;
       ports = bare.ports;
       slots = bare.slots;
-      leaf = leaf_opened _ _ _ c.in_ok-node-2.ensures.stands;
+      leaf = rw c.replace.ensures.after (leaf_opened _ _ _ c.in-Ok.ensures.stands);
       fit = c.requires.fit;
     }

@@ -16,16 +16,16 @@ pub ready_sort-requires : goal.ready_sort-requires
 ready_sort-requires c =
     let row = c.args.row.now in
     let facts = c.args.facts.now in
-    let places : c.as_slice.result.now ≡ row_places row.ports facts =
-    c.as_slice.ensures.value ∙ c.in_ok-places.ensures ∙ ap (λ ports. row_places ports facts) c.list.ensures in
+    let places : c.as_slice-2.result.now ≡ row_places row.ports facts =
+    c.as_slice-2.ensures.value ∙ c.in_ok-places.ensures ∙ ap (λ ports. row_places ports facts) c.list.ensures in
     subst (λ p. IsReadableSort p row.sort) (sym places) (readable_sort row.ports facts row.sort c.requires.sort)
 
 pub ready_outs-requires : goal.ready_outs-requires
 ready_outs-requires c =
     let row = c.args.row.now in
     let facts = c.args.facts.now in
-    let places : c.as_slice-2.result.now ≡ row_places row.ports facts =
-    c.as_slice-2.ensures.value ∙ c.in_ok-places.ensures ∙ ap (λ ports. row_places ports facts) c.list.ensures in
+    let places : c.as_slice.result.now ≡ row_places row.ports facts =
+    c.as_slice.ensures.value ∙ c.in_ok-places.ensures ∙ ap (λ ports. row_places ports facts) c.list.ensures in
     let valid : All (λ (out : Out). IsExprOver row.ports (names_of_facts facts) out.expr) c.list-3.result.now =
     subst (All (λ (out : Out). IsExprOver row.ports (names_of_facts facts) out.expr)) (sym c.list-3.ensures) c.requires.outputs in
     λ k d within. subst (λ p. IsReadable p (get_or c.list-3.result.now k d).expr) (sym places) (readable row.ports facts (get_or c.list-3.result.now k d).expr (valid k d within))
@@ -39,7 +39,7 @@ invariant_of-result c =
     let ports = ap (λ ports. row_places ports facts) c.list.ensures in
     record {
       sees =
-          c.in_ok-sort.ensures.reach (8 + length facts) (subst Below (sym (c.as_slice.ensures.value ∙ c.in_ok-places.ensures ∙ ports)) below)
+          c.in_ok-sort.ensures.reach (8 + length facts) (subst Below (sym (c.as_slice-2.ensures.value ∙ c.in_ok-places.ensures ∙ ports)) below)
           (comparison_within row.ports facts row.sort c.requires.sort);
       effects =
           subst (All (λ (set : Set). set.fact < length facts)) (sym (c.of.ensures ∙ c.in_ok-sets.ensures.items ∙ c.list-2.ensures))
@@ -52,11 +52,11 @@ invariant_of-result c =
             ap length c.list-3.ensures,
             ap length c.in_ok-outs.ensures.numbers,
             length-map c.in_ok-outs.outs.items ready_number,
-            length-map c.list-3.result.now (λ (out : Out). number_of (slot_of c.as_slice-2.result.now) out.expr),
+            length-map c.list-3.result.now (λ (out : Out). number_of (slot_of c.as_slice.result.now) out.expr),
           );
       outputs =
           subst (All (λ (e : ReadyExpr). expr_reach e ≤ 8 + length facts)) (sym c.of-2.ensures)
-          (c.in_ok-outs.ensures.reach (8 + length facts) (subst Below (sym (c.as_slice-2.ensures.value ∙ c.in_ok-places.ensures ∙ ports)) below));
+          (c.in_ok-outs.ensures.reach (8 + length facts) (subst Below (sym (c.as_slice.ensures.value ∙ c.in_ok-places.ensures ∙ ports)) below));
     }
 
 pub returns-clause-rule : goal.returns-clause-rule
@@ -64,13 +64,13 @@ returns-clause-rule c =
     let row = c.args.row.now in
     let facts = c.args.facts.now in
     let ports = ap (λ ports. row_places ports facts) c.list.ensures in
-    let places : slot_of c.as_slice.result.now ≡ place_of row.ports facts =
-    ap slot_of (c.as_slice.ensures.value ∙ c.in_ok-places.ensures ∙ ports) ∙ slots_are_places row.ports facts in
     let places-2 : slot_of c.as_slice-2.result.now ≡ place_of row.ports facts =
     ap slot_of (c.as_slice-2.ensures.value ∙ c.in_ok-places.ensures ∙ ports) ∙ slots_are_places row.ports facts in
-    let way = c.in_ok-sort.ensures.way ∙ ap (λ p. way_of p row.sort) places in
+    let places : slot_of c.as_slice.result.now ≡ place_of row.ports facts =
+    ap slot_of (c.as_slice.ensures.value ∙ c.in_ok-places.ensures ∙ ports) ∙ slots_are_places row.ports facts in
+    let way = c.in_ok-sort.ensures.way ∙ ap (λ p. way_of p row.sort) places-2 in
     let sets = c.of.ensures ∙ c.in_ok-sets.ensures.items ∙ c.list-2.ensures in
     let outs =
     ap (map ready_number) c.of-2.ensures ∙ c.in_ok-outs.ensures.numbers
-    ∙ (λ i. map (λ (out : Out). number_of (places-2 i) out.expr) (c.list-3.ensures i)) in
+    ∙ (λ i. map (λ (out : Out). number_of (places i) out.expr) (c.list-3.ensures i)) in
     λ i. record { way = way i; sets = sets i; outs = outs i }
