@@ -85,12 +85,8 @@ fn within_limits(alloc: Global, tree: Tree) -> Result<Tree, Stop<BuildFault>>
     ensures { Gives result (within_limits tree) }
 {
     let stop = match is_within_slots(alloc, &tree, MOST_SLOTS) {
-        Ok(true) => {
-            if is_within_work(&tree.term, MOST_WORK) {
-                return Ok(tree);
-            }
-            Stop::Fault(BuildFault::TooMuchWork)
-        }
+        Ok(true) if is_within_work(&tree.term, MOST_WORK) => return Ok(tree),
+        Ok(true) => Stop::Fault(BuildFault::TooMuchWork),
         Ok(false) => Stop::Fault(BuildFault::TooManyKeys),
         Err(NoMemory) => Stop::NoMemory,
     };
