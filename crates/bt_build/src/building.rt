@@ -15,7 +15,7 @@ use bt_board::is_within_slots;
 use bt_elements::{Element, Elements};
 use bt_manifest::{Manifest, attribute};
 use bt_model::{Term, Tree};
-use bt_script::{Name, Stop};
+use bt_script::{Name, NoMemory, Stop};
 use std::alloc::Global;
 
 /// The most slots of a tree.
@@ -84,13 +84,14 @@ fn read_root(
 fn within_limits(alloc: Global, tree: Tree) -> Result<Tree, Stop<BuildFault>>
     ensures { Gives result (within_limits tree) }
 {
-    if !is_within_slots(alloc, &tree, MOST_SLOTS)? {
-        return Err(Stop::Fault(BuildFault::TooManyKeys));
-    }
-    if !is_within_work(&tree.term, MOST_WORK) {
-        return Err(Stop::Fault(BuildFault::TooMuchWork));
-    }
-    Ok(tree)
+    let stop = match is_within_slots(alloc, &tree, MOST_SLOTS) {
+        Ok(true) if is_within_work(&tree.term, MOST_WORK) => return Ok(tree),
+        Ok(true) => Stop::Fault(BuildFault::TooMuchWork),
+        Ok(false) => Stop::Fault(BuildFault::TooManyKeys),
+        Err(NoMemory) => Stop::NoMemory,
+    };
+    drop(tree);
+    Err(stop)
 }
 
 /// The tree of this ID and root node.

@@ -1,4 +1,5 @@
-ghost use Rattle.std.specs.Prelude.{◌≡◌};
+ghost use Rattle.std.specs.Prelude.{◌≡◌, None};
+ghost use Rattle.std.specs.Result.{result_map_both};
 ghost use Rattle.std.specs.List.{list_any};
 ghost use Rattle.std.specs.Option.{option_copied};
 ghost use Rattle.bt_script.specs.Stops.{Gives};
@@ -16,6 +17,7 @@ use bt_manifest::{Manifest, attribute};
 use bt_model::{Guards, Kind, Port, has_code};
 use bt_script::{Items, Name, Script, Stop};
 use std::alloc::Global;
+use std::mem::replace;
 
 /// What a node has beside its kind, its ID, its name and its children.
 #[derive(Debug, Drop)]
@@ -69,32 +71,71 @@ fn any_private(attributes: &[(Name, Name)]) -> bool
     attributes.iter().any(|(name, _)| begins_private(name))
 }
 
-/// The guards of a node, each looked for by its name.
-fn written_guards(
+/// No guards.
+fn no_guards() -> Guards
+    ensures { result ≡ record { failure_if = None; success_if = None; skip_if = None; while_true = None; on_success = None; on_failure = None; post = None; on_halted = None } }
+{
+    Guards {
+        failure_if: None,
+        success_if: None,
+        skip_if: None,
+        while_true: None,
+        on_success: None,
+        on_failure: None,
+        post: None,
+        on_halted: None,
+    }
+}
+
+/// Puts a guard in its place. What was there is let go by a call, which is proved once.
+fn put(place: &mut Option<Script>, guard: Option<Script>)
+    ensures { place.new ≡ guard }
+{
+    drop(replace(place, guard));
+}
+
+/// Puts the guards of a node in their places, each looked for by its name.
+fn put_guards(
     alloc: Global,
     uid: u32,
     attributes: &[(Name, Name)],
-) -> Result<Guards, Stop<BuildFault>>
-    ensures { Gives result (guards_in uid attributes.now) }
+    guards: &mut Guards,
+) -> Result<(), Stop<BuildFault>>
+    ensures { Gives (result_map_both (λ done. guards.new) (λ stop. stop) result) (guards_in uid attributes.now) }
 {
-    let failure_if = guard_in(alloc, uid, attributes, b"_failureIf")?;
-    let success_if = guard_in(alloc, uid, attributes, b"_successIf")?;
-    let skip_if = guard_in(alloc, uid, attributes, b"_skipIf")?;
-    let while_true = guard_in(alloc, uid, attributes, b"_while")?;
-    let on_success = guard_in(alloc, uid, attributes, b"_onSuccess")?;
-    let on_failure = guard_in(alloc, uid, attributes, b"_onFailure")?;
-    let post = guard_in(alloc, uid, attributes, b"_post")?;
-    let on_halted = guard_in(alloc, uid, attributes, b"_onHalted")?;
-    Ok(Guards {
-        failure_if,
-        success_if,
-        skip_if,
-        while_true,
-        on_success,
-        on_failure,
-        post,
-        on_halted,
-    })
+    put(
+        &mut guards.failure_if,
+        guard_in(alloc, uid, attributes, b"_failureIf")?,
+    );
+    put(
+        &mut guards.success_if,
+        guard_in(alloc, uid, attributes, b"_successIf")?,
+    );
+    put(
+        &mut guards.skip_if,
+        guard_in(alloc, uid, attributes, b"_skipIf")?,
+    );
+    put(
+        &mut guards.while_true,
+        guard_in(alloc, uid, attributes, b"_while")?,
+    );
+    put(
+        &mut guards.on_success,
+        guard_in(alloc, uid, attributes, b"_onSuccess")?,
+    );
+    put(
+        &mut guards.on_failure,
+        guard_in(alloc, uid, attributes, b"_onFailure")?,
+    );
+    put(
+        &mut guards.post,
+        guard_in(alloc, uid, attributes, b"_post")?,
+    );
+    put(
+        &mut guards.on_halted,
+        guard_in(alloc, uid, attributes, b"_onHalted")?,
+    );
+    Ok(())
 }
 
 /// The guards of a node. Most nodes have none, and then no name is looked for.
@@ -106,19 +147,17 @@ fn guards_in(
 ) -> Result<Guards, Stop<BuildFault>>
     ensures { Gives result (guards_in uid attributes.now) }
 {
-    if any_private(attributes) {
-        return written_guards(alloc, uid, attributes);
+    let mut guards = no_guards();
+    if !any_private(attributes) {
+        return Ok(guards);
     }
-    Ok(Guards {
-        failure_if: None,
-        success_if: None,
-        skip_if: None,
-        while_true: None,
-        on_success: None,
-        on_failure: None,
-        post: None,
-        on_halted: None,
-    })
+    match put_guards(alloc, uid, attributes, &mut guards) {
+        Ok(()) => Ok(guards),
+        Err(stop) => {
+            drop(guards);
+            Err(stop)
+        }
+    }
 }
 
 /// The text of the code of a node, where it has one.
