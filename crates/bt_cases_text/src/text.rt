@@ -239,8 +239,11 @@ fn faults_have_their_lines(rt: HostRuntime) -> Result<(), NoMemory> {
     )
 }
 
-/// The value of a number, or of a text that is none.
+/// The value of a number, or of a text that is none. A text has at most 4,096 bytes.
 fn value_of(alloc: Global, text: &str) -> Result<Value, NoMemory> {
+    if text.len() > 4096 {
+        return Err(NoMemory);
+    }
     match text.parse::<i64>() {
         Ok(n) => Ok(Value::Int(n)),
         Err(_) => Ok(Value::Text(Txt::of(Vec::from_slice(alloc, text.as_bytes())?))),
