@@ -7,18 +7,17 @@ ghost use Rattle.bt_model.specs.Worlds.{IsValidWorld};
 ghost use Rattle.bt_outside.specs.Moments.{Moments};
 
 use crate::course::Course;
-use crate::exit::Exit;
-use crate::refusal::{join_refusal, tree_refusal, world_refusal};
-use crate::tree_file::TreeFault;
 use bt_arena::JoinFault;
 use bt_board::slots_of;
 use bt_driver::Driver;
 use bt_loop::runs_of;
 use bt_model::{Tree, World, WorldFault};
 use bt_outside::{Clock, Sink};
+use bt_refusals::{TreeFault, join_refusal, tree_refusal, world_refusal};
 use bt_run::{Ended, run_events, run_rounds};
 use bt_script::{NoMemory, Stop};
 use bt_text::{TextStop, names_of, write_line};
+use bt_words::Exit;
 use bt_world::read_world;
 use std::alloc::Global;
 

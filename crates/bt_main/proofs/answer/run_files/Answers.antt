@@ -1,7 +1,7 @@
 use Rattle.std.proofs.Common.{◌∙◌, ◌<◌, Err, ap, inl, inr, length, refl}
 use Rattle.std.specs.Option.{option_copied}
-use Rattle.bt_main.specs.Commands.{run_command}
-use Rattle.bt_main.specs.Words.{TreeFile}
+use Rattle.bt_words.specs.Commands.{run_command}
+use Rattle.bt_words.specs.Words.{TreeFile}
 use Rattle.bt_main.proofs.Clauses.{long_tree, run_ends, tree_is_named, tree_out_of_memory, tree_unread}
 use Rattle.bt_main.proofs.answer.run_files.Goals as goal
 

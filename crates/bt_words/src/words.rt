@@ -1,8 +1,8 @@
 ghost use Rattle.std.specs.Prelude.{◌≡◌, ◌↔◌, IfOk, MatchOption, Some, None, codes};
 ghost use Rattle.std.specs.IoError.{error_kind};
 ghost use Rattle.std.specs.Option.{option_copied};
-ghost use Rattle.bt_main.specs.Commands.{command_seen};
-ghost use Rattle.bt_main.specs.Words.{are_options, check_of, command_of, is_option, is_unset, live_of, rounds_in, as_rounds, tick_of, value_of};
+ghost use Rattle.bt_words.specs.Commands.{command_seen};
+ghost use Rattle.bt_words.specs.Words.{are_options, check_of, command_of, is_option, is_unset, live_of, rounds_in, as_rounds, tick_of, value_of};
 
 use bt_model::int;
 use bt_script::{Name, NoMemory};
@@ -199,7 +199,7 @@ pub enum NoWords {
 }
 
 impl From<NoMemory> for NoWords {
-    ghost use Rattle.bt_main.specs.declared.words.NoWords.TheVariants as no_words;
+    ghost use Rattle.bt_words.specs.declared.words.NoWords.TheVariants as no_words;
 
     ghost from_gives = { λ _ e. e ≡ no_words.NoMemory };
 
@@ -209,7 +209,7 @@ impl From<NoMemory> for NoWords {
 }
 
 impl<T: Drop> From<AllocFailed<T>> for NoWords {
-    ghost use Rattle.bt_main.specs.declared.words.NoWords.TheVariants as no_words;
+    ghost use Rattle.bt_words.specs.declared.words.NoWords.TheVariants as no_words;
 
     ghost from_gives = { λ _ e. e ≡ no_words.NoMemory };
 

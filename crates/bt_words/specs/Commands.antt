@@ -3,9 +3,9 @@ use Rattle.std.specs.Prelude.{ℕ, List, Option}
 use Rattle.std.specs.Option.{option_copied}
 use Rattle.bt_main.specs.declared.course.Course.{Course}
 use Rattle.bt_main.specs.declared.course.Course.TheVariants as course
-use Rattle.bt_main.specs.Words.{Command, Tick, Live, Check}
-use Rattle.bt_main.specs.declared.words.Command.{Command as Read}
-use Rattle.bt_main.specs.declared.words.Command.TheVariants as read
+use Rattle.bt_words.specs.Words.{Command, Tick, Live, Check}
+use Rattle.bt_words.specs.declared.words.Command.{Command as Read}
+use Rattle.bt_words.specs.declared.words.Command.TheVariants as read
 
 -- the command with its names
 abbrev pub command_seen : Read → Command
