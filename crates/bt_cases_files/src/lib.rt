@@ -8,6 +8,4 @@ mod elements;
 #[cfg(test)]
 mod manifest;
 #[cfg(test)]
-mod rows;
-#[cfg(test)]
 mod worlds;

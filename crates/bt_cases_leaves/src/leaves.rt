@@ -16,6 +16,7 @@ use bt_script::{NoMemory, Seen};
 use bt_world::read_world;
 use std::alloc::{AllocError, Global};
 use std::process::Abort;
+use std::test::Fail;
 
 /// A row that is tried, with what its calls are made with and have left.
 #[derive(Drop)]
@@ -38,6 +39,21 @@ fn script(alloc: Global, lines: &str) -> Result<String, AllocError> {
         text.push_str(line)?;
     }
     Ok(text)
+}
+
+/// The world of a script, whose lines stand between slashes.
+fn world_of(alloc: Global, lines: &str) -> Result<World, NoMemory>
+    ensures { IfOk result IsValidWorld }
+{
+    let text = script(alloc, lines)?;
+    let bytes = text.as_bytes();
+    if bytes.len() > 1_048_576 {
+        return Err(NoMemory);
+    }
+    match read_world(alloc, bytes) {
+        Ok(world) => Ok(world),
+        Err(_) => Err(NoMemory),
+    }
 }
 
 /// Inputs as `7 - text`: a number, nothing and a text. Those behind the last are absent.
@@ -253,18 +269,20 @@ fn left_text(alloc: Global, stage: &Stage) -> Result<String, AllocError>
     Ok(text)
 }
 
-/// What calls of the row of a stage answer and leave.
-fn stage_told<D: Drivers>(
+/// What calls of the last row of a world answer and leave.
+fn told<D: Drivers>(
+    rt: &impl Abort,
     alloc: Global,
     drivers: &mut D,
-    stage: &mut Stage,
+    lines: &str,
+    inputs: &str,
     calls: &str,
-) -> Result<String, NoMemory>
-    requires work { IsAtWork (D.states drivers.old) stage.old.place (kind_of_way (rule stage.old.row).way) stage.old.since.items }
-    requires table { length stage.old.facts ≡ stage.old.row.facts }
-{
-    let answers = answers_text(alloc, drivers, stage, calls)?;
-    let left = left_text(alloc, stage)?;
+) -> Result<String, NoMemory> {
+    assert!(rt; drivers.holds_nothing());
+    let world = world_of(alloc, lines)?;
+    let mut stage = stage_of(alloc, drivers, &world, inputs_of(inputs))?;
+    let answers = answers_text(alloc, drivers, &mut stage, calls)?;
+    let left = left_text(alloc, &stage)?;
     let held = if drivers.holds_nothing() {
         ""
     } else {
@@ -273,358 +291,265 @@ fn stage_told<D: Drivers>(
     Ok(format!(in alloc; "{answers}{left}{held}")?)
 }
 
-/// What calls of the last row of a world answer and leave.
-fn world_told<D: Drivers>(
-    alloc: Global,
-    drivers: &mut D,
-    world: &World,
-    inputs: &str,
-    calls: &str,
-) -> Result<String, NoMemory>
-    requires valid { IsValidWorld world.now }
-    requires quiet { NothingHeld (D.states drivers.old) }
-{
-    let mut stage = stage_of(alloc, drivers, world, inputs_of(inputs))?;
-    stage_told(alloc, drivers, &mut stage, calls)
-}
-
-/// The same of the world of a script, whose lines stand between slashes. The roster holds nothing.
-fn told<D: Drivers>(
-    alloc: Global,
-    drivers: &mut D,
-    lines: &str,
-    inputs: &str,
-    calls: &str,
-) -> Result<String, NoMemory> {
-    let text = script(alloc, lines)?;
-    if text.len() > 1_048_576 || !drivers.holds_nothing() {
-        return Err(NoMemory);
+#[test]
+fn conditions_answer_at_once(rt: HostRuntime) -> Result<(), Fail> {
+    let alloc = rt.alloc();
+    for (lines, inputs, calls, want) in [
+        (
+            "fact x 1 / condition C is x == 1",
+            "",
+            "0 at 0, 0 at 5",
+            "Success; Success; facts 1; outputs []",
+        ),
+        (
+            "fact w 1 / fact x 2 / condition C is x == 1",
+            "",
+            "1 at 0",
+            "Failure; facts 1 2; outputs []",
+        ),
+        (
+            "fact x 4 / condition C(p) when p == x",
+            "4",
+            "0 at 0",
+            "Success; facts 4; outputs []",
+        ),
+        (
+            "fact x 4 / condition C(p) when p == x",
+            "5",
+            "0 at 0, 0 at 1",
+            "Failure; Failure; facts 4; outputs []",
+        ),
+        (
+            "fact p 1 / condition C(p) when p",
+            "0",
+            "0 at 0",
+            "Failure; facts 1; outputs []",
+        ),
+        (
+            "condition C(p) when p",
+            "",
+            "0 at 0",
+            "Broken(NoInput { place: 0 }); facts; outputs []",
+        ),
+        (
+            "condition C(p,q) when p + q",
+            "1 -",
+            "0 at 0",
+            "Broken(NoInput { place: 1 }); facts; outputs []",
+        ),
+        (
+            "condition C(p,q) when p || q",
+            "1 -",
+            "0 at 0",
+            "Success; facts; outputs []",
+        ),
+        (
+            "condition C(p,q) when p + q",
+            "1 text",
+            "0 at 0",
+            "Broken(Mixed); facts; outputs []",
+        ),
+        (
+            "fact x 9223372036854775807 / condition C when x + 1",
+            "",
+            "0 at 0",
+            "Broken(Overflow); facts 9223372036854775807; outputs []",
+        ),
+    ] {
+        let mut drivers: Vec<Box<dyn Driver>> = Vec::new(alloc);
+        drivers.push(Box::new(alloc, Conditions::new(alloc))?)?;
+        drivers.push(Box::new(alloc, Timed::new(alloc))?)?;
+        let mut roster = Roster { drivers };
+        let text = told(&rt, alloc, &mut roster, lines, inputs, calls)?;
+        assert_eq!(rt; text.as_str(), want, "{lines}");
     }
-    match read_world(alloc, text.as_bytes()) {
-        Ok(world) => world_told(alloc, drivers, &world, inputs, calls),
-        Err(_) => Err(NoMemory),
-    }
-}
-
-/// Boxes a driver and adds it.
-fn add<D: Driver + 'static>(
-    alloc: Global,
-    drivers: &mut Vec<Box<dyn Driver>>,
-    driver: D,
-) -> Result<(), NoMemory> {
-    drivers.push(Box::new(alloc, driver)?)?;
     Ok(())
 }
 
-/// Compares rows: the lines of a world, the inputs of its last row, its calls, and what is told of
-/// them.
-fn compare<F: Fn(Global, &str, &str, &str) -> Result<String, NoMemory>>(
+#[test]
+fn actions_answer_by_their_rows(rt: HostRuntime) -> Result<(), Fail> {
+    let alloc = rt.alloc();
+    for (lines, inputs, calls, want) in [
+        (
+            "action A timed 300",
+            "",
+            "0 at 100, 0 at 399, 0 at 400, 0 at 400",
+            "Running; Running; Success; Running; facts; outputs []; held",
+        ),
+        // `fails` with a fault, looked at when the time is over: still held
+        (
+            "fact x 0 / action A timed 10 / fails 1/x / sets x = 5",
+            "",
+            "0 at 0, 0 at 10, 0 at 11",
+            "Running; Broken(ZeroDivisor); Broken(ZeroDivisor); facts 0; outputs []; held",
+        ),
+        (
+            "fact x 0 / action A timed 0 / fails 1/x",
+            "",
+            "0 at 0",
+            "Broken(ZeroDivisor); facts 0; outputs []",
+        ),
+        // `fails` is 0, and is not
+        (
+            "fact x 0 / action A timed 10 / fails x / sets x = 5",
+            "",
+            "0 at 0, 0 at 10, 0 at 10, 0 at 20",
+            "Running; Success; Running; Failure; facts 5; outputs []",
+        ),
+        (
+            "action A(p) timed 0 / fails p",
+            "-",
+            "0 at 0",
+            "Broken(NoInput { place: 0 }); facts; outputs []",
+        ),
+        (
+            "action A(p) timed 0 / fails p",
+            "text",
+            "0 at 0",
+            "Broken(Mixed); facts; outputs []",
+        ),
+        // letters past their end, and a letter that a halt leaves
+        (
+            "action A replay 0 SF",
+            "",
+            "0 at 0, 0 at 0, 0 at 0, 0 at 0, 1 at 0",
+            "Success; Failure; Failure; Failure; Success; facts; outputs []",
+        ),
+        (
+            "action A replay 5 FS",
+            "",
+            "0 at 0, halt 0, 0 at 1, 0 at 6, 0 at 6, 0 at 11",
+            "Running; halted true; Running; Failure; Running; Success; facts; outputs []",
+        ),
+        // a fault of an output is no completion
+        (
+            "fact x 0 / action A replay 0 SF / sets x = 1 / out p = 1/x",
+            "",
+            "0 at 0, 0 at 0",
+            "Broken(ZeroDivisor); Broken(ZeroDivisor); facts 0; outputs []",
+        ),
+        // gates
+        (
+            "fact x 0 / action A gate 1/x",
+            "",
+            "0 at 0",
+            "Broken(ZeroDivisor); facts 0; outputs []",
+        ),
+        (
+            "fact x 1 / action A gate x / sets x = 0 / out p = x",
+            "",
+            "0 at 0, 0 at 0, 0 at 9",
+            "Success; Running; Running; facts 0; outputs [1]; held",
+        ),
+        (
+            "action A(p) gate p",
+            "7",
+            "0 at 0",
+            "Success; facts; outputs []",
+        ),
+        // outputs over the facts before the effects
+        (
+            "fact x 7 / fact y 0 / action A(p) timed 0 / sets x = 1 / sets y = 2 / out l = x / out r = p * x + y",
+            "3",
+            "0 at 0, 0 at 0",
+            "Success; Success; facts 1 2; outputs [1, 5]",
+        ),
+        // a fault changes no fact and no output
+        (
+            "fact x 4 / action A timed 0 / sets x = 3 / out l = x / out r = 8/x",
+            "",
+            "0 at 0, 0 at 0",
+            "Success; Broken(NotWhole); facts 3; outputs [4, 2]",
+        ),
+    ] {
+        let mut drivers: Vec<Box<dyn Driver>> = Vec::new(alloc);
+        drivers.push(Box::new(alloc, Timed::new(alloc))?)?;
+        drivers.push(Box::new(alloc, Replay::new(alloc))?)?;
+        drivers.push(Box::new(alloc, Gate::new(alloc))?)?;
+        let mut roster = Roster { drivers };
+        let text = told(&rt, alloc, &mut roster, lines, inputs, calls)?;
+        assert_eq!(rt; text.as_str(), want, "{lines}");
+    }
+    Ok(())
+}
+
+#[test]
+fn last_outcomes_stay(rt: HostRuntime) -> Result<(), Fail> {
+    let alloc = rt.alloc();
+    let lines = format!(in alloc; "action A replay 0 {}S", "F".repeat(alloc, 63)?)?;
+    let calls = format!(in alloc; "{}0 at 0", "0 at 0, ".repeat(alloc, 64)?)?;
+    let want = format!(in alloc;
+        "{}Success; Success; facts; outputs []",
+        "Failure; ".repeat(alloc, 63)?
+    )?;
+    let mut drivers: Vec<Box<dyn Driver>> = Vec::new(alloc);
+    drivers.push(Box::new(alloc, Replay::new(alloc))?)?;
+    let mut roster = Roster { drivers };
+    let text = told(&rt, alloc, &mut roster, lines.as_str(), "", calls.as_str())?;
+    assert_eq!(rt; text, want);
+    Ok(())
+}
+
+/// How often calls of the last row of a world have called its driver.
+fn totals_of<D: Drivers>(
     rt: &impl Abort,
     alloc: Global,
-    told: F,
-    rows: &[(&str, &str, &str, &str)],
-) -> Result<(), NoMemory>
-    requires { F.IsAlwaysCallable told }
-{
-    for (lines, inputs, calls, want) in rows {
-        let text = told(alloc, lines, inputs, calls)?;
-        assert_eq!(rt; text.as_str(), *want, "{lines}");
+    drivers: &mut D,
+    lines: &str,
+    calls: &str,
+) -> Result<Totals, NoMemory> {
+    assert!(rt; drivers.holds_nothing());
+    let world = world_of(alloc, lines)?;
+    let mut stage = stage_of(alloc, drivers, &world, inputs_of(""))?;
+    let _ = answers_text(alloc, drivers, &mut stage, calls)?;
+    Ok(drivers.totals(stage.place))
+}
+
+#[test]
+fn calls_are_counted(rt: HostRuntime) -> Result<(), Fail> {
+    let alloc = rt.alloc();
+    for (lines, calls, counts, trail) in [
+        ("action A timed 9", "0 at 0", (1, 0, 0), 1),
+        ("action A timed 9", "0 at 0, 1 at 0", (2, 0, 0), 1_000_007),
+        (
+            "action A timed 9",
+            "0 at 0, 1 at 0, 0 at 5",
+            (2, 1, 0),
+            1_000_010_000_023,
+        ),
+        (
+            "action A timed 9",
+            "0 at 0, 1 at 0, 0 at 5, halt 1",
+            (2, 1, 1),
+            1_000_013_000_053_000_075,
+        ),
+        // past 2^64
+        (
+            "action A timed 9",
+            "0 at 0, 1 at 0, 0 at 5, halt 1, 0 at 9",
+            (2, 2, 1),
+            18_003_856_205_440_896_867,
+        ),
+        // a fault counts too
+        (
+            "fact x 0 / action A timed 0 / fails 1/x",
+            "1 at 0",
+            (1, 0, 0),
+            4,
+        ),
+    ] {
+        let mut drivers: Vec<Box<dyn Driver>> = Vec::new(alloc);
+        drivers.push(Box::new(alloc, Timed::new(alloc))?)?;
+        let mut roster = Roster { drivers };
+        let totals = totals_of(&rt, alloc, &mut roster, lines, calls)?;
+        let (starts, runnings, haltings) = counts;
+        let want = Totals {
+            starts,
+            runnings,
+            haltings,
+            trail,
+        };
+        assert_eq!(rt; totals, want, "{calls}");
     }
     Ok(())
-}
-
-/// What conditions answer and leave, behind which stands a driver of timed actions.
-fn conditions_told(
-    alloc: Global,
-    lines: &str,
-    inputs: &str,
-    calls: &str,
-) -> Result<String, NoMemory> {
-    let mut drivers: Vec<Box<dyn Driver>> = Vec::new(alloc);
-    add(alloc, &mut drivers, Conditions::new(alloc))?;
-    add(alloc, &mut drivers, Timed::new(alloc))?;
-    told(alloc, &mut Roster { drivers }, lines, inputs, calls)
-}
-
-#[test]
-fn conditions_answer_at_once(rt: HostRuntime) -> Result<(), NoMemory> {
-    compare(
-        &rt,
-        rt.alloc(),
-        conditions_told,
-        &[
-            (
-                "fact x 1 / condition C is x == 1",
-                "",
-                "0 at 0, 0 at 5",
-                "Success; Success; facts 1; outputs []",
-            ),
-            (
-                "fact w 1 / fact x 2 / condition C is x == 1",
-                "",
-                "1 at 0",
-                "Failure; facts 1 2; outputs []",
-            ),
-            (
-                "fact x 4 / condition C(p) when p == x",
-                "4",
-                "0 at 0",
-                "Success; facts 4; outputs []",
-            ),
-            (
-                "fact x 4 / condition C(p) when p == x",
-                "5",
-                "0 at 0, 0 at 1",
-                "Failure; Failure; facts 4; outputs []",
-            ),
-            (
-                "fact p 1 / condition C(p) when p",
-                "0",
-                "0 at 0",
-                "Failure; facts 1; outputs []",
-            ),
-            (
-                "condition C(p) when p",
-                "",
-                "0 at 0",
-                "Broken(NoInput { place: 0 }); facts; outputs []",
-            ),
-            (
-                "condition C(p,q) when p + q",
-                "1 -",
-                "0 at 0",
-                "Broken(NoInput { place: 1 }); facts; outputs []",
-            ),
-            (
-                "condition C(p,q) when p || q",
-                "1 -",
-                "0 at 0",
-                "Success; facts; outputs []",
-            ),
-            (
-                "condition C(p,q) when p + q",
-                "1 text",
-                "0 at 0",
-                "Broken(Mixed); facts; outputs []",
-            ),
-            (
-                "fact x 9223372036854775807 / condition C when x + 1",
-                "",
-                "0 at 0",
-                "Broken(Overflow); facts 9223372036854775807; outputs []",
-            ),
-        ],
-    )
-}
-
-/// What actions of three kinds answer and leave.
-fn actions_told(alloc: Global, lines: &str, inputs: &str, calls: &str) -> Result<String, NoMemory> {
-    let mut drivers: Vec<Box<dyn Driver>> = Vec::new(alloc);
-    add(alloc, &mut drivers, Timed::new(alloc))?;
-    add(alloc, &mut drivers, Replay::new(alloc))?;
-    add(alloc, &mut drivers, Gate::new(alloc))?;
-    told(alloc, &mut Roster { drivers }, lines, inputs, calls)
-}
-
-#[test]
-fn actions_answer_by_their_rows(rt: HostRuntime) -> Result<(), NoMemory> {
-    compare(
-        &rt,
-        rt.alloc(),
-        actions_told,
-        &[
-            (
-                "action A timed 300",
-                "",
-                "0 at 100, 0 at 399, 0 at 400, 0 at 400",
-                "Running; Running; Success; Running; facts; outputs []; held",
-            ),
-            // `fails` with a fault, looked at when the time is over: still held
-            (
-                "fact x 0 / action A timed 10 / fails 1/x / sets x = 5",
-                "",
-                "0 at 0, 0 at 10, 0 at 11",
-                "Running; Broken(ZeroDivisor); Broken(ZeroDivisor); facts 0; outputs []; held",
-            ),
-            (
-                "fact x 0 / action A timed 0 / fails 1/x",
-                "",
-                "0 at 0",
-                "Broken(ZeroDivisor); facts 0; outputs []",
-            ),
-            // `fails` is 0, and is not
-            (
-                "fact x 0 / action A timed 10 / fails x / sets x = 5",
-                "",
-                "0 at 0, 0 at 10, 0 at 10, 0 at 20",
-                "Running; Success; Running; Failure; facts 5; outputs []",
-            ),
-            (
-                "action A(p) timed 0 / fails p",
-                "-",
-                "0 at 0",
-                "Broken(NoInput { place: 0 }); facts; outputs []",
-            ),
-            (
-                "action A(p) timed 0 / fails p",
-                "text",
-                "0 at 0",
-                "Broken(Mixed); facts; outputs []",
-            ),
-            // letters past their end, and a letter that a halt leaves
-            (
-                "action A replay 0 SF",
-                "",
-                "0 at 0, 0 at 0, 0 at 0, 0 at 0, 1 at 0",
-                "Success; Failure; Failure; Failure; Success; facts; outputs []",
-            ),
-            (
-                "action A replay 5 FS",
-                "",
-                "0 at 0, halt 0, 0 at 1, 0 at 6, 0 at 6, 0 at 11",
-                "Running; halted true; Running; Failure; Running; Success; facts; outputs []",
-            ),
-            // a fault of an output is no completion
-            (
-                "fact x 0 / action A replay 0 SF / sets x = 1 / out p = 1/x",
-                "",
-                "0 at 0, 0 at 0",
-                "Broken(ZeroDivisor); Broken(ZeroDivisor); facts 0; outputs []",
-            ),
-            // gates
-            (
-                "fact x 0 / action A gate 1/x",
-                "",
-                "0 at 0",
-                "Broken(ZeroDivisor); facts 0; outputs []",
-            ),
-            (
-                "fact x 1 / action A gate x / sets x = 0 / out p = x",
-                "",
-                "0 at 0, 0 at 0, 0 at 9",
-                "Success; Running; Running; facts 0; outputs [1]; held",
-            ),
-            (
-                "action A(p) gate p",
-                "7",
-                "0 at 0",
-                "Success; facts; outputs []",
-            ),
-            // outputs over the facts before the effects
-            (
-                "fact x 7 / fact y 0 / action A(p) timed 0 / sets x = 1 / sets y = 2 / out l = x / out r = p * x + y",
-                "3",
-                "0 at 0, 0 at 0",
-                "Success; Success; facts 1 2; outputs [1, 5]",
-            ),
-            // a fault changes no fact and no output
-            (
-                "fact x 4 / action A timed 0 / sets x = 3 / out l = x / out r = 8/x",
-                "",
-                "0 at 0, 0 at 0",
-                "Success; Broken(NotWhole); facts 3; outputs [4, 2]",
-            ),
-        ],
-    )
-}
-
-/// What so many calls of a row of so many failures before a success answer and leave: how many
-/// failures, and what stands behind them.
-fn failures_told(
-    alloc: Global,
-    failures: &str,
-    inputs: &str,
-    calls: &str,
-) -> Result<String, NoMemory> {
-    let letters = "F".repeat(alloc, failures.parse::<usize>().unwrap_or(0))?;
-    let calls = "0 at 0, ".repeat(alloc, calls.parse::<usize>().unwrap_or(0))?;
-    let lines = format!(in alloc; "action A replay 0 {letters}S")?;
-    let text = actions_told(
-        alloc,
-        lines.as_str(),
-        inputs,
-        calls.as_str().trim_end_matches(", "),
-    )?;
-    let rest = text.as_str().trim_start_matches("Failure; ");
-    Ok(format!(in alloc;
-        "{} {rest}",
-        text.len().saturating_sub(rest.len()) / "Failure; ".len()
-    )?)
-}
-
-#[test]
-fn last_outcomes_stay(rt: HostRuntime) -> Result<(), NoMemory> {
-    compare(
-        &rt,
-        rt.alloc(),
-        failures_told,
-        &[("63", "", "65", "63 Success; Success; facts; outputs []")],
-    )
-}
-
-/// How often calls of the last row of a world have called its driver, the first one.
-fn totals_text<D: Drivers>(alloc: Global, drivers: &D) -> Result<String, NoMemory> {
-    if drivers.count() == 0 {
-        return Err(NoMemory);
-    }
-    let Totals {
-        starts,
-        runnings,
-        haltings,
-        trail,
-    } = drivers.totals(0);
-    Ok(format!(in alloc; "{starts} {runnings} {haltings} trail {trail}")?)
-}
-
-/// How often calls of a timed action have called its driver.
-fn counted(alloc: Global, lines: &str, inputs: &str, calls: &str) -> Result<String, NoMemory> {
-    let mut drivers: Vec<Box<dyn Driver>> = Vec::new(alloc);
-    add(alloc, &mut drivers, Timed::new(alloc))?;
-    let mut roster = Roster { drivers };
-    let _ = told(alloc, &mut roster, lines, inputs, calls)?;
-    totals_text(alloc, &roster)
-}
-
-#[test]
-fn calls_are_counted(rt: HostRuntime) -> Result<(), NoMemory> {
-    compare(
-        &rt,
-        rt.alloc(),
-        counted,
-        &[
-            ("action A timed 9", "", "0 at 0", "1 0 0 trail 1"),
-            (
-                "action A timed 9",
-                "",
-                "0 at 0, 1 at 0",
-                "2 0 0 trail 1000007",
-            ),
-            (
-                "action A timed 9",
-                "",
-                "0 at 0, 1 at 0, 0 at 5",
-                "2 1 0 trail 1000010000023",
-            ),
-            (
-                "action A timed 9",
-                "",
-                "0 at 0, 1 at 0, 0 at 5, halt 1",
-                "2 1 1 trail 1000013000053000075",
-            ),
-            // past 2^64
-            (
-                "action A timed 9",
-                "",
-                "0 at 0, 1 at 0, 0 at 5, halt 1, 0 at 9",
-                "2 2 1 trail 18003856205440896867",
-            ),
-            // a fault counts too
-            (
-                "fact x 0 / action A timed 0 / fails 1/x",
-                "",
-                "1 at 0",
-                "1 0 0 trail 4",
-            ),
-        ],
-    )
 }

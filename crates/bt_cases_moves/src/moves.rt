@@ -10,6 +10,7 @@ use bt_decorators::decorator_next;
 use bt_model::{Answer, Counts, Heard, Kind, Memo, Move, Since, Span, Then, Turns};
 use std::alloc::{AllocError, Global};
 use std::process::Abort;
+use std::test::Fail;
 
 /// A memo in words.
 fn memo_text(alloc: Global, memo: Memo) -> Result<String, AllocError> {
@@ -157,29 +158,15 @@ fn controls(
     Ok(())
 }
 
-/// Tries the visits of control nodes: the kind, the memo, the child that is picked, and the lines.
-fn control_rows(
-    rt: &impl Abort,
-    alloc: Global,
-    rows: &[(Kind, Memo, u32, &str)],
-) -> Result<(), AllocError> {
-    for (kind, memo, picked, lines) in rows {
-        controls(rt, alloc, *kind, *memo, *picked, lines)?;
-    }
-    Ok(())
-}
-
 #[test]
-fn rounds(rt: HostRuntime) -> Result<(), AllocError> {
-    control_rows(
-        &rt,
-        rt.alloc(),
-        &[
-            (
-                Kind::Sequence,
-                Memo::Nothing,
-                0,
-                "1 R 0 Running at 0 seen
+fn rounds(rt: HostRuntime) -> Result<(), Fail> {
+    let alloc = rt.alloc();
+    for (kind, memo, picked, lines) in [
+        (
+            Kind::Sequence,
+            Memo::Nothing,
+            0,
+            "1 R 0 Running at 0 seen
              1 S 0 All Success
              1 F 0 All Failure
              1 K 0 All Skipped
@@ -203,12 +190,12 @@ fn rounds(rt: HostRuntime) -> Result<(), AllocError> {
              3 KKK 0 1 2 All Skipped
              3 KKS 0 1 2 All Success
              3 KKR 0 1 2 Running at 2 seen",
-            ),
-            (
-                Kind::Fallback,
-                Memo::Nothing,
-                0,
-                "1 R 0 Running at 0 seen
+        ),
+        (
+            Kind::Fallback,
+            Memo::Nothing,
+            0,
+            "1 R 0 Running at 0 seen
              1 S 0 All Success
              1 F 0 All Failure
              1 K 0 All Skipped
@@ -232,12 +219,12 @@ fn rounds(rt: HostRuntime) -> Result<(), AllocError> {
              3 KKK 0 1 2 All Skipped
              3 KKF 0 1 2 All Failure
              3 KKR 0 1 2 Running at 2 seen",
-            ),
-            (
-                Kind::SequenceWithMemory,
-                Memo::Nothing,
-                0,
-                "1 R 0 Running at 0 seen
+        ),
+        (
+            Kind::SequenceWithMemory,
+            Memo::Nothing,
+            0,
+            "1 R 0 Running at 0 seen
              1 S 0 All Success
              1 F 0 From(0) Failure at 0
              1 K 0 All Skipped
@@ -261,12 +248,12 @@ fn rounds(rt: HostRuntime) -> Result<(), AllocError> {
              3 KKK 0 1 2 All Skipped
              3 KKS 0 1 2 All Success
              3 KKR 0 1 2 Running at 2 seen",
-            ),
-            (
-                Kind::ReactiveSequence,
-                Memo::Nothing,
-                0,
-                "1 R 0 AllBut(0) Running at 0 seen
+        ),
+        (
+            Kind::ReactiveSequence,
+            Memo::Nothing,
+            0,
+            "1 R 0 AllBut(0) Running at 0 seen
              1 S 0 All Success
              1 F 0 All Failure
              1 K 0 All Skipped
@@ -290,12 +277,12 @@ fn rounds(rt: HostRuntime) -> Result<(), AllocError> {
              3 KKK 0 1 2 All Skipped
              3 KKS 0 1 2 All Success
              3 KKR 0 1 2 AllBut(2) Running at 2 seen",
-            ),
-            (
-                Kind::ReactiveFallback,
-                Memo::Nothing,
-                0,
-                "1 R 0 AllBut(0) Running at 0 seen
+        ),
+        (
+            Kind::ReactiveFallback,
+            Memo::Nothing,
+            0,
+            "1 R 0 AllBut(0) Running at 0 seen
              1 S 0 All Success
              1 F 0 All Failure
              1 K 0 All Skipped
@@ -319,101 +306,103 @@ fn rounds(rt: HostRuntime) -> Result<(), AllocError> {
              3 KKK 0 1 2 All Skipped
              3 KKF 0 1 2 All Failure
              3 KKR 0 1 2 AllBut(2) Running at 2 seen",
-            ),
-        ],
-    )
+        ),
+    ] {
+        controls(&rt, alloc, kind, memo, picked, lines)?;
+    }
+    Ok(())
 }
 
 #[test]
-fn rounds_from_a_kept_index(rt: HostRuntime) -> Result<(), AllocError> {
-    control_rows(
-        &rt,
-        rt.alloc(),
-        &[
-            (
-                Kind::Sequence,
-                Memo::Index { at: 1, seen: true },
-                0,
-                "3 R 1 Running at 1 seen
+fn rounds_from_a_kept_index(rt: HostRuntime) -> Result<(), Fail> {
+    let alloc = rt.alloc();
+    for (kind, memo, picked, lines) in [
+        (
+            Kind::Sequence,
+            Memo::Index { at: 1, seen: true },
+            0,
+            "3 R 1 Running at 1 seen
              3 F 1 All Failure
              3 SR 1 2 Running at 2 seen
              3 SS 1 2 All Success
              3 SF 1 2 All Failure
              3 KK 1 2 All Success",
-            ),
-            (
-                Kind::Fallback,
-                Memo::Index { at: 1, seen: true },
-                0,
-                "3 R 1 Running at 1 seen
+        ),
+        (
+            Kind::Fallback,
+            Memo::Index { at: 1, seen: true },
+            0,
+            "3 R 1 Running at 1 seen
              3 S 1 All Success
              3 FR 1 2 Running at 2 seen
              3 FF 1 2 All Failure
              3 FS 1 2 All Success
              3 KK 1 2 All Failure",
-            ),
-            (
-                Kind::SequenceWithMemory,
-                Memo::Index { at: 1, seen: true },
-                0,
-                "3 R 1 Running at 1 seen
+        ),
+        (
+            Kind::SequenceWithMemory,
+            Memo::Index { at: 1, seen: true },
+            0,
+            "3 R 1 Running at 1 seen
              3 F 1 From(1) Failure at 1
              3 SR 1 2 Running at 2 seen
              3 SS 1 2 All Success
              3 SF 1 2 From(2) Failure at 2
              3 KK 1 2 All Success",
-            ),
-            (
-                Kind::Sequence,
-                Memo::Index { at: 1, seen: false },
-                0,
-                "3 R 1 Running at 1 seen
+        ),
+        (
+            Kind::Sequence,
+            Memo::Index { at: 1, seen: false },
+            0,
+            "3 R 1 Running at 1 seen
              3 F 1 All Failure
              3 SR 1 2 Running at 2 seen
              3 SS 1 2 All Success
              3 SF 1 2 All Failure
              3 KK 1 2 All Skipped",
-            ),
-            (
-                Kind::Fallback,
-                Memo::Index { at: 1, seen: false },
-                0,
-                "3 R 1 Running at 1 seen
+        ),
+        (
+            Kind::Fallback,
+            Memo::Index { at: 1, seen: false },
+            0,
+            "3 R 1 Running at 1 seen
              3 S 1 All Success
              3 FR 1 2 Running at 2 seen
              3 FF 1 2 All Failure
              3 FS 1 2 All Success
              3 KK 1 2 All Skipped",
-            ),
-            (
-                Kind::SequenceWithMemory,
-                Memo::Index { at: 1, seen: false },
-                0,
-                "3 R 1 Running at 1 seen
+        ),
+        (
+            Kind::SequenceWithMemory,
+            Memo::Index { at: 1, seen: false },
+            0,
+            "3 R 1 Running at 1 seen
              3 F 1 From(1) Failure at 1
              3 SR 1 2 Running at 2 seen
              3 SS 1 2 All Success
              3 SF 1 2 From(2) Failure at 2
              3 KK 1 2 All Skipped",
-            ),
-            (
-                Kind::ReactiveSequence,
-                Memo::Index { at: 1, seen: true },
-                0,
-                "3 R 0 AllBut(0) Running at 0 seen
+        ),
+        (
+            Kind::ReactiveSequence,
+            Memo::Index { at: 1, seen: true },
+            0,
+            "3 R 0 AllBut(0) Running at 0 seen
              3 F 0 All Failure
              3 KKK 0 1 2 All Skipped",
-            ),
-            (
-                Kind::ReactiveFallback,
-                Memo::Index { at: 1, seen: true },
-                0,
-                "3 R 0 AllBut(0) Running at 0 seen
+        ),
+        (
+            Kind::ReactiveFallback,
+            Memo::Index { at: 1, seen: true },
+            0,
+            "3 R 0 AllBut(0) Running at 0 seen
              3 S 0 All Success
              3 KKK 0 1 2 All Skipped",
-            ),
-        ],
-    )
+        ),
+    ] {
+        controls(&rt, alloc, kind, memo, picked, lines)?;
+    }
+    Ok(())
 }
 
 /// A Parallel's memo at its start.
@@ -429,46 +418,44 @@ fn thresholds(need: u32, most: u32, skips: bool) -> Memo {
 }
 
 #[test]
-fn parallel(rt: HostRuntime) -> Result<(), AllocError> {
-    control_rows(
-        &rt,
-        rt.alloc(),
-        &[
-            (
-                Kind::Parallel,
-                thresholds(1, 1, true),
-                0,
-                "1 R 0 Running 0 won 0 lost
+fn parallel(rt: HostRuntime) -> Result<(), Fail> {
+    let alloc = rt.alloc();
+    for (kind, memo, picked, lines) in [
+        (
+            Kind::Parallel,
+            thresholds(1, 1, true),
+            0,
+            "1 R 0 Running 0 won 0 lost
              1 S 0 All Success
              1 F 0 All Failure
              1 K 0 All Success",
-            ),
-            (
-                Kind::Parallel,
-                thresholds(1, 1, false),
-                0,
-                "1 R 0 Running 0 won 0 lost
+        ),
+        (
+            Kind::Parallel,
+            thresholds(1, 1, false),
+            0,
+            "1 R 0 Running 0 won 0 lost
              1 S 0 All Success
              1 F 0 All Failure
              1 K 0 All Skipped",
-            ),
-            (
-                Kind::Parallel,
-                thresholds(1, 1, true),
-                0,
-                "2 RR 0 1 Running 0 won 0 lost
+        ),
+        (
+            Kind::Parallel,
+            thresholds(1, 1, true),
+            0,
+            "2 RR 0 1 Running 0 won 0 lost
              2 RS 0 1 All Success
              2 RF 0 1 All Failure
              2 RK 0 1 All Success
              2 S 0 All Success
              2 F 0 All Failure
              2 K 0 All Success",
-            ),
-            (
-                Kind::Parallel,
-                thresholds(1, 2, true),
-                0,
-                "2 RR 0 1 Running 0 won 0 lost
+        ),
+        (
+            Kind::Parallel,
+            thresholds(1, 2, true),
+            0,
+            "2 RR 0 1 Running 0 won 0 lost
              2 RS 0 1 All Success
              2 RF 0 1 Running 0 won 1 lost
              2 RK 0 1 All Success
@@ -478,12 +465,12 @@ fn parallel(rt: HostRuntime) -> Result<(), AllocError> {
              2 FF 0 1 All Failure
              2 FK 0 1 All Success
              2 K 0 All Success",
-            ),
-            (
-                Kind::Parallel,
-                thresholds(2, 1, true),
-                0,
-                "2 RR 0 1 Running 0 won 0 lost
+        ),
+        (
+            Kind::Parallel,
+            thresholds(2, 1, true),
+            0,
+            "2 RR 0 1 Running 0 won 0 lost
              2 RS 0 1 Running 1 won 0 lost
              2 RF 0 1 All Failure
              2 RK 0 1 Running 0 won 0 lost
@@ -496,12 +483,12 @@ fn parallel(rt: HostRuntime) -> Result<(), AllocError> {
              2 KS 0 1 All Success
              2 KF 0 1 All Failure
              2 KK 0 1 All Success",
-            ),
-            (
-                Kind::Parallel,
-                thresholds(2, 2, true),
-                0,
-                "2 RR 0 1 Running 0 won 0 lost
+        ),
+        (
+            Kind::Parallel,
+            thresholds(2, 2, true),
+            0,
+            "2 RR 0 1 Running 0 won 0 lost
              2 RS 0 1 Running 1 won 0 lost
              2 RF 0 1 All Failure
              2 RK 0 1 Running 0 won 0 lost
@@ -514,12 +501,12 @@ fn parallel(rt: HostRuntime) -> Result<(), AllocError> {
              2 KS 0 1 All Success
              2 KF 0 1 All Failure
              2 KK 0 1 All Success",
-            ),
-            (
-                Kind::Parallel,
-                thresholds(1, 1, false),
-                0,
-                "2 RR 0 1 Running 0 won 0 lost
+        ),
+        (
+            Kind::Parallel,
+            thresholds(1, 1, false),
+            0,
+            "2 RR 0 1 Running 0 won 0 lost
              2 RS 0 1 All Success
              2 RF 0 1 All Failure
              2 RK 0 1 Running 0 won 0 lost
@@ -529,12 +516,12 @@ fn parallel(rt: HostRuntime) -> Result<(), AllocError> {
              2 KS 0 1 All Success
              2 KF 0 1 All Failure
              2 KK 0 1 All Skipped",
-            ),
-            (
-                Kind::Parallel,
-                thresholds(1, 2, false),
-                0,
-                "2 RR 0 1 Running 0 won 0 lost
+        ),
+        (
+            Kind::Parallel,
+            thresholds(1, 2, false),
+            0,
+            "2 RR 0 1 Running 0 won 0 lost
              2 RS 0 1 All Success
              2 RF 0 1 Running 0 won 1 lost
              2 RK 0 1 Running 0 won 0 lost
@@ -547,12 +534,12 @@ fn parallel(rt: HostRuntime) -> Result<(), AllocError> {
              2 KS 0 1 All Success
              2 KF 0 1 Running 0 won 1 lost
              2 KK 0 1 All Skipped",
-            ),
-            (
-                Kind::Parallel,
-                thresholds(2, 1, false),
-                0,
-                "2 RR 0 1 Running 0 won 0 lost
+        ),
+        (
+            Kind::Parallel,
+            thresholds(2, 1, false),
+            0,
+            "2 RR 0 1 Running 0 won 0 lost
              2 RS 0 1 Running 1 won 0 lost
              2 RF 0 1 All Failure
              2 RK 0 1 Running 0 won 0 lost
@@ -565,12 +552,12 @@ fn parallel(rt: HostRuntime) -> Result<(), AllocError> {
              2 KS 0 1 Running 1 won 0 lost
              2 KF 0 1 All Failure
              2 KK 0 1 All Skipped",
-            ),
-            (
-                Kind::Parallel,
-                thresholds(2, 2, false),
-                0,
-                "2 RR 0 1 Running 0 won 0 lost
+        ),
+        (
+            Kind::Parallel,
+            thresholds(2, 2, false),
+            0,
+            "2 RR 0 1 Running 0 won 0 lost
              2 RS 0 1 Running 1 won 0 lost
              2 RF 0 1 All Failure
              2 RK 0 1 Running 0 won 0 lost
@@ -583,31 +570,33 @@ fn parallel(rt: HostRuntime) -> Result<(), AllocError> {
              2 KS 0 1 Running 1 won 0 lost
              2 KF 0 1 All Failure
              2 KK 0 1 All Skipped",
-            ),
-            (
-                Kind::Parallel,
-                thresholds(3, 1, true),
-                0,
-                "3 SKK 0 1 2 All Success
+        ),
+        (
+            Kind::Parallel,
+            thresholds(3, 1, true),
+            0,
+            "3 SKK 0 1 2 All Success
              3 KKK 0 1 2 All Success
              3 RKK 0 1 2 Running 0 won 0 lost
              3 SRS 0 1 2 Running 2 won 0 lost
              3 SF 0 1 All Failure",
-            ),
-            (
-                Kind::Parallel,
-                thresholds(2, 2, false),
-                0,
-                "3 SS 0 1 All Success
+        ),
+        (
+            Kind::Parallel,
+            thresholds(2, 2, false),
+            0,
+            "3 SS 0 1 All Success
              3 FF 0 1 All Failure
              3 FSF 0 1 2 All Failure
              3 FSS 0 1 2 All Success
              3 KKK 0 1 2 All Skipped
              3 KKS 0 1 2 Running 1 won 0 lost
              3 RKF 0 1 2 Running 0 won 1 lost",
-            ),
-        ],
-    )
+        ),
+    ] {
+        controls(&rt, alloc, kind, memo, picked, lines)?;
+    }
+    Ok(())
 }
 
 /// A Parallel's memo where one child has completed in an earlier visit.
@@ -623,98 +612,96 @@ fn completed(won: bool, need: u32, skips: bool) -> Memo {
 }
 
 #[test]
-fn parallel_passes_over(rt: HostRuntime) -> Result<(), AllocError> {
-    control_rows(
-        &rt,
-        rt.alloc(),
-        &[
-            (
-                Kind::Parallel,
-                completed(true, 2, false),
-                0,
-                "3 PRS 0 1 2 All Success
+fn parallel_passes_over(rt: HostRuntime) -> Result<(), Fail> {
+    let alloc = rt.alloc();
+    for (kind, memo, picked, lines) in [
+        (
+            Kind::Parallel,
+            completed(true, 2, false),
+            0,
+            "3 PRS 0 1 2 All Success
              3 PS 0 1 All Success
              3 PFF 0 1 2 All Failure
              3 PRK 0 1 2 Running 1 won 0 lost
              3 PKK 0 1 2 Running 1 won 0 lost
              3 RPS 0 1 2 All Success",
-            ),
-            (
-                Kind::Parallel,
-                completed(true, 2, true),
-                0,
-                "3 PK 0 1 All Success
+        ),
+        (
+            Kind::Parallel,
+            completed(true, 2, true),
+            0,
+            "3 PK 0 1 All Success
              3 PRK 0 1 2 All Success
              3 RPR 0 1 2 Running 1 won 0 lost",
-            ),
-            (
-                Kind::Parallel,
-                completed(false, 1, false),
-                0,
-                "3 RPS 0 1 2 All Success
+        ),
+        (
+            Kind::Parallel,
+            completed(false, 1, false),
+            0,
+            "3 RPS 0 1 2 All Success
              3 RPF 0 1 2 All Failure
              3 KPK 0 1 2 Running 0 won 1 lost
              3 F 0 All Failure",
-            ),
-        ],
-    )
+        ),
+    ] {
+        controls(&rt, alloc, kind, memo, picked, lines)?;
+    }
+    Ok(())
 }
 
 #[test]
-fn switch(rt: HostRuntime) -> Result<(), AllocError> {
-    control_rows(
-        &rt,
-        rt.alloc(),
-        &[
-            (
-                Kind::Switch(2),
-                Memo::Chosen(None),
-                1,
-                "3 R 1 Running chosen 1
+fn switch(rt: HostRuntime) -> Result<(), Fail> {
+    let alloc = rt.alloc();
+    for (kind, memo, picked, lines) in [
+        (
+            Kind::Switch(2),
+            Memo::Chosen(None),
+            1,
+            "3 R 1 Running chosen 1
              3 S 1 All Success
              3 F 1 All Failure
              3 K 1 All Skipped",
-            ),
-            (
-                Kind::Switch(2),
-                Memo::Chosen(Some(1)),
-                1,
-                "3 R 1 Running chosen 1
+        ),
+        (
+            Kind::Switch(2),
+            Memo::Chosen(Some(1)),
+            1,
+            "3 R 1 Running chosen 1
              3 S 1 All Success
              3 F 1 All Failure
              3 K 1 All Skipped",
-            ),
-            (
-                Kind::Switch(2),
-                Memo::Chosen(Some(0)),
-                2,
-                "3 R One(0) 2 Running chosen 2
+        ),
+        (
+            Kind::Switch(2),
+            Memo::Chosen(Some(0)),
+            2,
+            "3 R One(0) 2 Running chosen 2
              3 S One(0) 2 All Success
              3 F One(0) 2 All Failure
              3 K One(0) 2 All Skipped",
-            ),
-            (
-                Kind::Switch(2),
-                Memo::Chosen(Some(2)),
-                0,
-                "3 R One(2) 0 Running chosen 0
+        ),
+        (
+            Kind::Switch(2),
+            Memo::Chosen(Some(2)),
+            0,
+            "3 R One(2) 0 Running chosen 0
              3 F One(2) 0 All Failure",
-            ),
-        ],
-    )
+        ),
+    ] {
+        controls(&rt, alloc, kind, memo, picked, lines)?;
+    }
+    Ok(())
 }
 
 #[test]
-fn if_then_else(rt: HostRuntime) -> Result<(), AllocError> {
-    control_rows(
-        &rt,
-        rt.alloc(),
-        &[
-            (
-                Kind::IfThenElse,
-                Memo::Chosen(None),
-                0,
-                "2 R 0 Running not chosen
+fn if_then_else(rt: HostRuntime) -> Result<(), Fail> {
+    let alloc = rt.alloc();
+    for (kind, memo, picked, lines) in [
+        (
+            Kind::IfThenElse,
+            Memo::Chosen(None),
+            0,
+            "2 R 0 Running not chosen
              2 K 0 All Skipped
              2 F 0 All Failure
              2 SR 0 1 Running chosen 1
@@ -729,39 +716,39 @@ fn if_then_else(rt: HostRuntime) -> Result<(), AllocError> {
              3 FS 0 2 All Success
              3 FF 0 2 All Failure
              3 FK 0 2 All Skipped",
-            ),
-            (
-                Kind::IfThenElse,
-                Memo::Chosen(Some(1)),
-                0,
-                "2 R 1 Running chosen 1
+        ),
+        (
+            Kind::IfThenElse,
+            Memo::Chosen(Some(1)),
+            0,
+            "2 R 1 Running chosen 1
              2 S 1 All Success
              2 F 1 All Failure
              2 K 1 All Skipped",
-            ),
-            (
-                Kind::IfThenElse,
-                Memo::Chosen(Some(2)),
-                0,
-                "3 R 2 Running chosen 2
+        ),
+        (
+            Kind::IfThenElse,
+            Memo::Chosen(Some(2)),
+            0,
+            "3 R 2 Running chosen 2
              3 S 2 All Success
              3 F 2 All Failure
              3 K 2 All Skipped",
-            ),
-        ],
-    )
+        ),
+    ] {
+        controls(&rt, alloc, kind, memo, picked, lines)?;
+    }
+    Ok(())
 }
 
 #[test]
-fn while_do_else(rt: HostRuntime) -> Result<(), AllocError> {
-    control_rows(
-        &rt,
-        rt.alloc(),
-        &[(
-            Kind::WhileDoElse,
-            Memo::Nothing,
-            0,
-            "2 R 0 Running
+fn while_do_else(rt: HostRuntime) -> Result<(), Fail> {
+    let alloc = rt.alloc();
+    for (kind, memo, picked, lines) in [(
+        Kind::WhileDoElse,
+        Memo::Nothing,
+        0,
+        "2 R 0 Running
              2 K 0 All Skipped
              2 F 0 All Failure
              2 SR 0 AllBut(1) 1 Running
@@ -775,8 +762,10 @@ fn while_do_else(rt: HostRuntime) -> Result<(), AllocError> {
              3 FS 0 AllBut(2) 2 All Success
              3 FF 0 AllBut(2) 2 All Failure
              3 FK 0 AllBut(2) 2 All Skipped",
-        )],
-    )
+    )] {
+        controls(&rt, alloc, kind, memo, picked, lines)?;
+    }
+    Ok(())
 }
 
 fn turn_is_left(memo: Memo) -> bool
@@ -861,77 +850,64 @@ fn decorators(
     Ok(())
 }
 
-/// Tries the visits of decorators: the kind, the memo, the moment, the child that is picked, and the
-/// lines.
-fn decorator_rows(
-    rt: &impl Abort,
-    alloc: Global,
-    rows: &[(Kind, Memo, u64, u32, &str)],
-) -> Result<(), AllocError> {
-    for (kind, memo, now, picked, lines) in rows {
-        decorators(rt, alloc, *kind, *memo, *now, *picked, lines)?;
-    }
-    Ok(())
-}
-
 #[test]
-fn decorators_of_one_visit(rt: HostRuntime) -> Result<(), AllocError> {
-    decorator_rows(
-        &rt,
-        rt.alloc(),
-        &[
-            (
-                Kind::SubTree,
-                Memo::Nothing,
-                0,
-                0,
-                "1 R 0 Running
+fn decorators_of_one_visit(rt: HostRuntime) -> Result<(), Fail> {
+    let alloc = rt.alloc();
+    for (kind, memo, now, picked, lines) in [
+        (
+            Kind::SubTree,
+            Memo::Nothing,
+            0,
+            0,
+            "1 R 0 Running
              1 S 0 All Success
              1 F 0 All Failure
              1 K 0 All Skipped",
-            ),
-            (
-                Kind::Inverter,
-                Memo::Nothing,
-                0,
-                0,
-                "1 R 0 Running
+        ),
+        (
+            Kind::Inverter,
+            Memo::Nothing,
+            0,
+            0,
+            "1 R 0 Running
              1 S 0 All Failure
              1 F 0 All Success
              1 K 0 All Skipped",
-            ),
-            (
-                Kind::ForceSuccess,
-                Memo::Nothing,
-                0,
-                0,
-                "1 R 0 Running
+        ),
+        (
+            Kind::ForceSuccess,
+            Memo::Nothing,
+            0,
+            0,
+            "1 R 0 Running
              1 S 0 All Success
              1 F 0 All Success
              1 K 0 All Skipped",
-            ),
-            (
-                Kind::ForceFailure,
-                Memo::Nothing,
-                0,
-                0,
-                "1 R 0 Running
+        ),
+        (
+            Kind::ForceFailure,
+            Memo::Nothing,
+            0,
+            0,
+            "1 R 0 Running
              1 S 0 All Failure
              1 F 0 All Failure
              1 K 0 All Skipped",
-            ),
-            (
-                Kind::KeepRunningUntilFailure,
-                Memo::Nothing,
-                0,
-                0,
-                "1 R 0 Running
+        ),
+        (
+            Kind::KeepRunningUntilFailure,
+            Memo::Nothing,
+            0,
+            0,
+            "1 R 0 Running
              1 S 0 All Running
              1 F 0 All Failure
              1 K 0 All Skipped",
-            ),
-        ],
-    )
+        ),
+    ] {
+        decorators(&rt, alloc, kind, memo, now, picked, lines)?;
+    }
+    Ok(())
 }
 
 fn turns(done: u32, limit: i64) -> Memo {
@@ -939,17 +915,15 @@ fn turns(done: u32, limit: i64) -> Memo {
 }
 
 #[test]
-fn retry_and_repeat(rt: HostRuntime) -> Result<(), AllocError> {
-    decorator_rows(
-        &rt,
-        rt.alloc(),
-        &[
-            (
-                Kind::Retry,
-                turns(0, 3),
-                0,
-                0,
-                "1 R 0 Running 0 of 3
+fn retry_and_repeat(rt: HostRuntime) -> Result<(), Fail> {
+    let alloc = rt.alloc();
+    for (kind, memo, now, picked, lines) in [
+        (
+            Kind::Retry,
+            turns(0, 3),
+            0,
+            0,
+            "1 R 0 Running 0 of 3
              1 S 0 All Success
              1 K 0 All Skipped
              1 FS 0 All 0 All Success
@@ -957,33 +931,33 @@ fn retry_and_repeat(rt: HostRuntime) -> Result<(), AllocError> {
              1 FR 0 All 0 Running 1 of 3
              1 FFR 0 All 0 All 0 Running 2 of 3
              1 FFF 0 All 0 All 0 All Failure",
-            ),
-            (
-                Kind::Retry,
-                turns(2, 3),
-                0,
-                0,
-                "1 R 0 Running 2 of 3
+        ),
+        (
+            Kind::Retry,
+            turns(2, 3),
+            0,
+            0,
+            "1 R 0 Running 2 of 3
              1 F 0 All Failure
              1 S 0 All Success",
-            ),
-            (Kind::Retry, turns(0, 1), 0, 0, "1 F 0 All Failure"),
-            (
-                Kind::Retry,
-                turns(0, -1),
-                0,
-                0,
-                "1 R 0 Running 0 of -1
+        ),
+        (Kind::Retry, turns(0, 1), 0, 0, "1 F 0 All Failure"),
+        (
+            Kind::Retry,
+            turns(0, -1),
+            0,
+            0,
+            "1 R 0 Running 0 of -1
              1 F 0 All Running 0 of -1
              1 S 0 All Success
              1 K 0 All Skipped",
-            ),
-            (
-                Kind::Repeat,
-                turns(0, 3),
-                0,
-                0,
-                "1 R 0 Running 0 of 3
+        ),
+        (
+            Kind::Repeat,
+            turns(0, 3),
+            0,
+            0,
+            "1 R 0 Running 0 of 3
              1 F 0 All Failure
              1 K 0 All Skipped
              1 SF 0 All 0 All Failure
@@ -991,29 +965,31 @@ fn retry_and_repeat(rt: HostRuntime) -> Result<(), AllocError> {
              1 SR 0 All 0 Running 1 of 3
              1 SSR 0 All 0 All 0 Running 2 of 3
              1 SSS 0 All 0 All 0 All Success",
-            ),
-            (
-                Kind::Repeat,
-                turns(2, 3),
-                0,
-                0,
-                "1 R 0 Running 2 of 3
+        ),
+        (
+            Kind::Repeat,
+            turns(2, 3),
+            0,
+            0,
+            "1 R 0 Running 2 of 3
              1 S 0 All Success
              1 F 0 All Failure",
-            ),
-            (Kind::Repeat, turns(0, 1), 0, 0, "1 S 0 All Success"),
-            (
-                Kind::Repeat,
-                turns(0, -1),
-                0,
-                0,
-                "1 R 0 Running 0 of -1
+        ),
+        (Kind::Repeat, turns(0, 1), 0, 0, "1 S 0 All Success"),
+        (
+            Kind::Repeat,
+            turns(0, -1),
+            0,
+            0,
+            "1 R 0 Running 0 of -1
              1 S 0 All Running 0 of -1
              1 F 0 All Failure
              1 K 0 All Skipped",
-            ),
-        ],
-    )
+        ),
+    ] {
+        decorators(&rt, alloc, kind, memo, now, picked, lines)?;
+    }
+    Ok(())
 }
 
 fn since(first: u64, length: u64) -> Memo {
@@ -1021,90 +997,90 @@ fn since(first: u64, length: u64) -> Memo {
 }
 
 #[test]
-fn timeout_and_delay(rt: HostRuntime) -> Result<(), AllocError> {
-    decorator_rows(
-        &rt,
-        rt.alloc(),
-        &[
-            (
-                Kind::Timeout,
-                since(10, 5),
-                14,
-                0,
-                "1 R 0 Running 5 from 10
+fn timeout_and_delay(rt: HostRuntime) -> Result<(), Fail> {
+    let alloc = rt.alloc();
+    for (kind, memo, now, picked, lines) in [
+        (
+            Kind::Timeout,
+            since(10, 5),
+            14,
+            0,
+            "1 R 0 Running 5 from 10
              1 S 0 All Success
              1 F 0 All Failure
              1 K 0 All Skipped",
-            ),
-            (Kind::Timeout, since(10, 5), 15, 0, "1 . All Failure"),
-            (
-                Kind::Timeout,
-                since(10, 0),
-                99,
-                0,
-                "1 R 0 Running 0 from 10
+        ),
+        (Kind::Timeout, since(10, 5), 15, 0, "1 . All Failure"),
+        (
+            Kind::Timeout,
+            since(10, 0),
+            99,
+            0,
+            "1 R 0 Running 0 from 10
              1 S 0 All Success",
-            ),
-            (Kind::Delay, since(10, 5), 14, 0, "1 . Running 5 from 10"),
-            (
-                Kind::Delay,
-                since(10, 5),
-                15,
-                0,
-                "1 R 0 Running 5 from 10
+        ),
+        (Kind::Delay, since(10, 5), 14, 0, "1 . Running 5 from 10"),
+        (
+            Kind::Delay,
+            since(10, 5),
+            15,
+            0,
+            "1 R 0 Running 5 from 10
              1 S 0 All Success
              1 F 0 All Failure
              1 K 0 All Skipped",
-            ),
-            (Kind::Delay, since(10, 0), 10, 0, "1 S 0 All Success"),
-        ],
-    )
+        ),
+        (Kind::Delay, since(10, 0), 10, 0, "1 S 0 All Success"),
+    ] {
+        decorators(&rt, alloc, kind, memo, now, picked, lines)?;
+    }
+    Ok(())
 }
 
 #[test]
-fn run_once(rt: HostRuntime) -> Result<(), AllocError> {
-    decorator_rows(
-        &rt,
-        rt.alloc(),
-        &[
-            (
-                Kind::RunOnce,
-                Memo::Finished(None),
-                0,
-                0,
-                "1 R 0 Running no mark
+fn run_once(rt: HostRuntime) -> Result<(), Fail> {
+    let alloc = rt.alloc();
+    for (kind, memo, now, picked, lines) in [
+        (
+            Kind::RunOnce,
+            Memo::Finished(None),
+            0,
+            0,
+            "1 R 0 Running no mark
              1 S 0 All Success mark Success
              1 F 0 All Failure mark Failure
              1 K 0 All Skipped",
-            ),
-            (
-                Kind::RunOnce,
-                Memo::Finished(Some(Answer::Success)),
-                0,
-                0,
-                "1 . Success mark Success",
-            ),
-            (
-                Kind::RunOnce,
-                Memo::Finished(Some(Answer::Success)),
-                0,
-                1,
-                "1 . Skipped mark Success",
-            ),
-            (
-                Kind::RunOnce,
-                Memo::Finished(Some(Answer::Failure)),
-                0,
-                0,
-                "1 . Failure mark Failure",
-            ),
-            (
-                Kind::RunOnce,
-                Memo::Finished(Some(Answer::Failure)),
-                0,
-                1,
-                "1 . Skipped mark Failure",
-            ),
-        ],
-    )
+        ),
+        (
+            Kind::RunOnce,
+            Memo::Finished(Some(Answer::Success)),
+            0,
+            0,
+            "1 . Success mark Success",
+        ),
+        (
+            Kind::RunOnce,
+            Memo::Finished(Some(Answer::Success)),
+            0,
+            1,
+            "1 . Skipped mark Success",
+        ),
+        (
+            Kind::RunOnce,
+            Memo::Finished(Some(Answer::Failure)),
+            0,
+            0,
+            "1 . Failure mark Failure",
+        ),
+        (
+            Kind::RunOnce,
+            Memo::Finished(Some(Answer::Failure)),
+            0,
+            1,
+            "1 . Skipped mark Failure",
+        ),
+    ] {
+        decorators(&rt, alloc, kind, memo, now, picked, lines)?;
+    }
+    Ok(())
 }

@@ -4,8 +4,6 @@
 #[cfg(test)]
 mod outside;
 #[cfg(test)]
-mod rows;
-#[cfg(test)]
 mod script;
 #[cfg(test)]
 mod script_code;

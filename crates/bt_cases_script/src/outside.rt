@@ -1,6 +1,5 @@
 //! What shelves and clocks give and what sinks take, in memory and of the host.
 
-use crate::rows::compare;
 use bt_outside::{
     Clock, DirShelf, HostClock, MemClock, MemShelf, MemSink, OutSink, Shelf, Sink, SureShelf,
     SureSink,
@@ -12,57 +11,60 @@ use std::test::Fail;
 use std::time::Duration;
 use std::{io, rt, thread};
 
-/// What a sink answers to each piece. The pieces stand between blanks.
-fn answers<K: Sink>(alloc: Global, sink: &mut K, pieces: &str) -> Result<String, AllocError> {
+/// What a sink answers to each piece.
+fn answers<K: Sink>(alloc: Global, sink: &mut K, pieces: &[&str]) -> Result<String, AllocError> {
     let mut text = String::new(alloc);
-    for piece in pieces.split_whitespace() {
+    for piece in pieces {
         let answer = sink.write(piece.as_bytes());
         text.push_str(format!(in alloc; "{answer:?} ")?.as_str())?;
     }
     Ok(text)
 }
 
-/// What a sink in memory answers of which a call fails, whose number stands before that of the bytes
-/// that it takes, and what it then holds.
-fn mem_text(alloc: Global, fail: &str, pieces: &str) -> Result<String, AllocError> {
-    let (call, taken) = fail.split_once(' ').unwrap_or(("", ""));
-    let call = call.parse::<u64>().unwrap_or(0);
-    let fails = vec![in alloc; (call, taken.parse::<u64>().unwrap_or(0))]?;
-    let mut sink = MemSink::new(alloc, fails);
+/// What a sink in memory of which these calls fail answers, and what it then holds.
+fn mem_text(alloc: Global, fails: &[(u64, u64)], pieces: &[&str]) -> Result<String, AllocError> {
+    let mut sink = MemSink::new(alloc, Vec::from_slice(alloc, fails)?);
     let text = answers(alloc, &mut sink, pieces)?;
     format!(in alloc; "{text}{}", str::from_utf8(sink.list()).unwrap_or("?"))
 }
 
-#[test]
-fn sinks_in_memory(rt: HostRuntime) -> Result<(), AllocError> {
-    compare(
-        &rt,
-        rt.alloc(),
-        mem_text,
-        &[
-            ("", "abc de", "Ok(()) Ok(()) abcde"),
-            ("2 2", "abc def", "Ok(()) Err(Failed) abcde"),
-            ("2 2", "abc def gh", "Ok(()) Err(Failed) Ok(()) abcdegh"),
-            ("1 9", "abc", "Err(Failed) abc"),
-        ],
-    )
-}
-
 /// The same of a sink in memory that never fails.
-fn sure_text(alloc: Global, _: &str, pieces: &str) -> Result<String, AllocError> {
+fn sure_text(alloc: Global, pieces: &[&str]) -> Result<String, AllocError> {
     let mut sink = SureSink::new(alloc);
     let text = answers(alloc, &mut sink, pieces)?;
     format!(in alloc; "{text}{}", str::from_utf8(sink.list()).unwrap_or("?"))
 }
 
 #[test]
-fn sinks_that_never_fail(rt: HostRuntime) -> Result<(), AllocError> {
-    let rows = [("", "abc de", "Ok(()) Ok(()) abcde")];
-    compare(&rt, rt.alloc(), sure_text, &rows)
+fn sinks_in_memory(rt: HostRuntime) -> Result<(), Fail> {
+    let alloc = rt.alloc();
+    let table: [(&[(u64, u64)], &[&str], &str); 4] = [
+        (&[], &["abc", "de"], "Ok(()) Ok(()) abcde"),
+        (&[(2, 2)], &["abc", "def"], "Ok(()) Err(Failed) abcde"),
+        (
+            &[(2, 2)],
+            &["abc", "def", "gh"],
+            "Ok(()) Err(Failed) Ok(()) abcdegh",
+        ),
+        (&[(1, 9)], &["abc"], "Err(Failed) abc"),
+    ];
+    for (fails, pieces, want) in table {
+        assert_eq!(rt; mem_text(alloc, fails, pieces)?.as_str(), want);
+    }
+    Ok(())
+}
+
+#[test]
+fn sinks_that_never_fail(rt: HostRuntime) -> Result<(), Fail> {
+    assert_eq!(rt;
+        sure_text(rt.alloc(), &["abc", "de"])?.as_str(),
+        "Ok(()) Ok(()) abcde"
+    );
+    Ok(())
 }
 
 /// What a sink over a writer with room for four bytes answers, and then its flush.
-fn full_text(alloc: Global, _: &str, pieces: &str) -> Result<String, NoMemory> {
+fn full_text(alloc: Global, pieces: &[&str]) -> Result<String, NoMemory> {
     let mut room = [0u8; 4];
     let mut sink = OutSink::new(alloc, room.as_mut_slice())?;
     let text = answers(alloc, &mut sink, pieces)?;
@@ -70,38 +72,32 @@ fn full_text(alloc: Global, _: &str, pieces: &str) -> Result<String, NoMemory> {
     Ok(format!(in alloc; "{text}{flushed:?}")?)
 }
 
-#[test]
-fn sinks_over_writers(rt: HostRuntime) -> Result<(), NoMemory> {
-    compare(
-        &rt,
-        rt.alloc(),
-        full_text,
-        &[
-            ("", "", "Ok(())"),
-            ("", "abc d", "Ok(()) Ok(()) Ok(())"),
-            ("", "abc def", "Ok(()) Ok(()) Err(Failed)"),
-        ],
-    )
-}
-
-/// The same of two pieces of so many bytes. Where they are longer than what is gathered, they go to
-/// the writer itself, as far as it takes them.
-fn long_text(alloc: Global, length: &str, byte: &str) -> Result<String, NoMemory> {
-    let long = byte.repeat(alloc, length.parse::<usize>().unwrap_or(0))?;
-    full_text(alloc, "", format!(in alloc; "{long} {long}")?.as_str())
+/// The same of two pieces that are longer than what is gathered. They go to the writer itself, as far
+/// as it takes them.
+fn long_text(alloc: Global) -> Result<String, NoMemory> {
+    let bytes = vec![in alloc; b'x'; 65_536]?;
+    let long = str::from_utf8(bytes.as_slice()).unwrap_or("?");
+    full_text(alloc, &[long, long])
 }
 
 #[test]
-fn sinks_over_writers_in_long_pieces(rt: HostRuntime) -> Result<(), NoMemory> {
-    let rows = [("65536", "x", "Ok(()) Err(Failed) Err(Failed)")];
-    compare(&rt, rt.alloc(), long_text, &rows)
-}
-
-#[test]
-fn sinks_over_the_output(rt: HostRuntime) -> Result<(), NoMemory> {
-    let mut sink = OutSink::new(rt.alloc(), io::writer(&rt))?;
+fn sinks_over_writers(rt: HostRuntime) -> Result<(), Fail> {
+    let alloc = rt.alloc();
+    let mut sink = OutSink::new(alloc, io::writer(&rt))?;
     assert_eq!(rt; sink.write(b"a line\n"), Ok(()));
     assert_eq!(rt; sink.flush(), Ok(()));
+    let table: [(&[&str], &str); 3] = [
+        (&[], "Ok(())"),
+        (&["abc", "d"], "Ok(()) Ok(()) Ok(())"),
+        (&["abc", "def"], "Ok(()) Ok(()) Err(Failed)"),
+    ];
+    for (pieces, want) in table {
+        assert_eq!(rt; full_text(alloc, pieces)?.as_str(), want);
+    }
+    assert_eq!(rt;
+        long_text(alloc)?.as_str(),
+        "Ok(()) Err(Failed) Err(Failed)"
+    );
     Ok(())
 }
 
@@ -183,36 +179,15 @@ fn moments<C: Clock>(alloc: Global, clock: &mut C, calls: u32) -> Result<String,
     Ok(text)
 }
 
-/// The numbers that stand between blanks. What is no number is none.
-fn numbers_of(alloc: Global, text: &str) -> Result<Vec<Option<u64>>, AllocError> {
-    let mut numbers = Vec::new(alloc);
-    for word in text.split_whitespace() {
-        numbers.push(word.parse::<u64>().ok())?;
-    }
-    Ok(numbers)
-}
-
-/// What a clock in memory gives at three calls over these moments.
-fn mem_moments(alloc: Global, _: &str, ahead: &str) -> Result<String, AllocError> {
-    let mut moments_ahead = Vec::new(alloc);
-    for word in ahead.split_whitespace() {
-        moments_ahead.push(word.parse::<u64>().unwrap_or(0))?;
-    }
-    moments(alloc, &mut MemClock::new(moments_ahead), 3)
-}
-
 #[test]
-fn clocks_in_memory(rt: HostRuntime) -> Result<(), AllocError> {
-    compare(
-        &rt,
-        rt.alloc(),
-        mem_moments,
-        &[
-            ("", "", "0 0 0 "),
-            ("", "7", "7 7 7 "),
-            ("", "5 3", "5 3 3 "),
-        ],
-    )
+fn clocks_in_memory(rt: HostRuntime) -> Result<(), Fail> {
+    let alloc = rt.alloc();
+    let table: [(&[u64], &str); 3] = [(&[], "0 0 0 "), (&[7], "7 7 7 "), (&[5, 3], "5 3 3 ")];
+    for (ahead, want) in table {
+        let mut clock = MemClock::new(Vec::from_slice(alloc, ahead)?);
+        assert_eq!(rt; moments(alloc, &mut clock, 3)?.as_str(), want);
+    }
+    Ok(())
 }
 
 /// A clock that reads these microseconds one after another, and a fault where there are none.
@@ -237,28 +212,22 @@ impl rt::Clock for Readings<'_> {
     }
 }
 
-/// What a clock of the host gives at three calls over these microseconds.
-fn host_moments(alloc: Global, _: &str, times: &str) -> Result<String, AllocError> {
-    let times = numbers_of(alloc, times)?;
-    let readings = Readings {
-        times: times.as_slice(),
-        at: Cell::new(0),
-    };
-    moments(alloc, &mut HostClock::new(readings), 3)
-}
-
 #[test]
-fn clocks_over_readings(rt: HostRuntime) -> Result<(), AllocError> {
-    compare(
-        &rt,
-        rt.alloc(),
-        host_moments,
-        &[
-            ("", "9000 14999 none 13000", "5 5 4 "),
-            ("", "9000 8000 9999 10000", "0 0 1 "),
-            ("", "none none 9000 12000", "0 0 3 "),
-        ],
-    )
+fn clocks_over_readings(rt: HostRuntime) -> Result<(), Fail> {
+    let table: [(&[Option<u64>], &str); 3] = [
+        (&[Some(9_000), Some(14_999), None, Some(13_000)], "5 5 4 "),
+        (
+            &[Some(9_000), Some(8_000), Some(9_999), Some(10_000)],
+            "0 0 1 ",
+        ),
+        (&[None, None, Some(9_000), Some(12_000)], "0 0 3 "),
+    ];
+    for (times, want) in table {
+        let at = Cell::new(0);
+        let mut clock = HostClock::new(Readings { times, at });
+        assert_eq!(rt; moments(rt.alloc(), &mut clock, 3)?.as_str(), want);
+    }
+    Ok(())
 }
 
 #[test]

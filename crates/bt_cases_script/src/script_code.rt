@@ -81,7 +81,7 @@ fn script_text(rt: &impl Abort, alloc: Global, text: &str) -> Result<String, All
 #[test]
 fn scripts_give_values_and_faults(rt: HostRuntime) -> Result<(), Fail> {
     let alloc = rt.alloc();
-    for (text, want) in &[
+    for (text, want) in [
         ("-9223372036854775807 - 1", "-9223372036854775808"),
         ("(-9223372036854775807 - 1) / -1", "Overflow"),
         ("-(-9223372036854775807 - 1)", "Overflow"),
@@ -105,7 +105,7 @@ fn scripts_give_values_and_faults(rt: HostRuntime) -> Result<(), Fail> {
         ("x := 0; x = 1", "1"),
         ("x := 1; x += y", "NoEntry { slot: 0 }"),
     ] {
-        assert_eq!(rt; script_text(&rt, alloc, text)?.as_str(), *want, "{text}");
+        assert_eq!(rt; script_text(&rt, alloc, text)?.as_str(), want, "{text}");
     }
     Ok(())
 }
@@ -137,13 +137,13 @@ fn entries_text(rt: &impl Abort, alloc: Global, text: &str) -> Result<String, Al
 #[test]
 fn writes_before_a_fault_stand(rt: HostRuntime) -> Result<(), Fail> {
     let alloc = rt.alloc();
-    for (text, want) in &[
+    for (text, want) in [
         ("x = 1", "[None, None]"),
         ("x := 1; x += y", "[None, Some(Int(1))]"),
         ("x := 1; x += y; y := 2", "[None, Some(Int(1))]"),
         ("y := 2; x := 1; x += y", "[Some(Int(2)), Some(Int(3))]"),
     ] {
-        assert_eq!(rt; entries_text(&rt, alloc, text)?.as_str(), *want, "{text}");
+        assert_eq!(rt; entries_text(&rt, alloc, text)?.as_str(), want, "{text}");
     }
     Ok(())
 }
@@ -188,12 +188,12 @@ fn number_text(rt: &impl Abort, alloc: Global, text: &str) -> Result<String, NoM
 #[test]
 fn looks_give_numbers(rt: HostRuntime) -> Result<(), Fail> {
     let alloc = rt.alloc();
-    for (text, want) in &[
+    for (text, want) in [
         ("n + 1", "Ok(5)"),
         ("none", "Err(NoEntry { slot: 1 })"),
         ("t + none", "Err(Mixed)"),
     ] {
-        assert_eq!(rt; number_text(&rt, alloc, text)?.as_str(), *want, "{text}");
+        assert_eq!(rt; number_text(&rt, alloc, text)?.as_str(), want, "{text}");
     }
     Ok(())
 }
