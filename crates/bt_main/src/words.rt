@@ -1,8 +1,8 @@
-ghost use Rattle.std.specs.Prelude.{◌≡◌, ◌↔◌, IfOk, MatchOption, Some, None, codes};
+ghost use Rattle.std.specs.Prelude.{◌≡◌, ◌↔◌, IfOk, IfSome, MatchOption, Some, None, codes};
 ghost use Rattle.std.specs.IoError.{error_kind};
 ghost use Rattle.std.specs.Option.{option_copied};
-ghost use Rattle.bt_main.specs.Commands.{command_seen};
-ghost use Rattle.bt_main.specs.Words.{are_options, check_of, command_of, is_option, is_unset, live_of, rounds_in, as_rounds, tick_of, value_of};
+ghost use Rattle.bt_main.specs.Commands.{HasFewLeaves, command_seen};
+ghost use Rattle.bt_main.specs.Words.{are_options, as_count, check_of, command_of, is_option, is_unset, live_of, load_of, rounds_in, tick_of, value_of};
 
 use bt_model::int;
 use bt_script::{Name, NoMemory};
@@ -11,7 +11,8 @@ use std::env::Env;
 use std::io::ErrorKind;
 use std::{env, io};
 
-/// A command: the files that it names, how many rounds, and the ID of the main tree where it names one.
+/// A command: the files that it names, how many rounds, and the ID of the main tree where it names
+/// one; or how many leaves a load has.
 #[derive(Clone, Copy)]
 pub enum Command<'a> {
     /// `tick TREE WORLD [--main ID]`
@@ -27,6 +28,11 @@ pub enum Command<'a> {
         /// 1 to 100,000.
         rounds: u32,
         main: Option<&'a Name>,
+    },
+    /// `load N`
+    Load {
+        /// 1 to 1,000.
+        leaves: u32,
     },
     /// `check TREE [--main ID]`
     Check {
@@ -89,30 +95,31 @@ fn main_of<'a>(options: &'a [Name]) -> Option<&'a Name>
     value_of(options, b"--main")
 }
 
-/// A number from 1 to 100,000.
-fn as_rounds(number: Option<i64>) -> Option<u32>
-    ensures { result ≡ as_rounds number }
+/// A number from 1 to this one.
+fn as_count(most: u32, number: Option<i64>) -> Option<u32>
+    ensures { result ≡ as_count most number }
 {
     match number {
-        Some(n @ 1..=100_000) => Some(n as u32),
+        Some(n) if 1 <= n && n <= i64::from(most) => Some(n as u32),
         _ => None,
     }
 }
 
-/// The number that the option `--ticks` gives.
+/// The number from 1 to 100,000 that the option `--ticks` gives.
 #[tactic(auto, unfolding(crate::specs::Words::rounds_in))]
 fn rounds_in(options: &[Name]) -> Option<u32>
     ensures { result ≡ rounds_in options.now }
 {
     match value_of(options, b"--ticks") {
-        Some(word) => as_rounds(int(word.list())),
+        Some(word) => as_count(100_000, int(word.list())),
         None => None,
     }
 }
 
 /// The command `tick` with these words behind it.
 fn read_tick<'a>(words: &'a [Name]) -> Option<Command<'a>>
-    ensures { MatchOption result (tick_of words.now ≡ None) (λ c. tick_of words.now ≡ Some (command_seen c)) }
+    ensures command { MatchOption result (tick_of words.now ≡ None) (λ c. tick_of words.now ≡ Some (command_seen c)) }
+    ensures few { IfSome result (λ c. HasFewLeaves (command_seen c)) }
 {
     let [tree, world, options @ ..] = words else {
         return None;
@@ -129,7 +136,8 @@ fn read_tick<'a>(words: &'a [Name]) -> Option<Command<'a>>
 
 /// The command `live` with these words behind it.
 fn read_live<'a>(words: &'a [Name]) -> Option<Command<'a>>
-    ensures { MatchOption result (live_of words.now ≡ None) (λ c. live_of words.now ≡ Some (command_seen c)) }
+    ensures command { MatchOption result (live_of words.now ≡ None) (λ c. live_of words.now ≡ Some (command_seen c)) }
+    ensures few { IfSome result (λ c. HasFewLeaves (command_seen c)) }
 {
     let [tree, world, options @ ..] = words else {
         return None;
@@ -148,9 +156,24 @@ fn read_live<'a>(words: &'a [Name]) -> Option<Command<'a>>
     }
 }
 
+/// The command `load` with these words behind it.
+fn read_load<'a>(words: &'a [Name]) -> Option<Command<'a>>
+    ensures command { MatchOption result (load_of words.now ≡ None) (λ c. load_of words.now ≡ Some (command_seen c)) }
+    ensures few { IfSome result (λ c. HasFewLeaves (command_seen c)) }
+{
+    let [word] = words else {
+        return None;
+    };
+    match as_count(1_000, int(word.list())) {
+        Some(leaves) => Some(Command::Load { leaves }),
+        None => None,
+    }
+}
+
 /// The command `check` with these words behind it.
 fn read_check<'a>(words: &'a [Name]) -> Option<Command<'a>>
-    ensures { MatchOption result (check_of words.now ≡ None) (λ c. check_of words.now ≡ Some (command_seen c)) }
+    ensures command { MatchOption result (check_of words.now ≡ None) (λ c. check_of words.now ≡ Some (command_seen c)) }
+    ensures few { IfSome result (λ c. HasFewLeaves (command_seen c)) }
 {
     let [tree, options @ ..] = words else {
         return None;
@@ -166,7 +189,8 @@ fn read_check<'a>(words: &'a [Name]) -> Option<Command<'a>>
 
 /// The command that the words are.
 pub fn read_command<'a>(words: &'a [Name]) -> Option<Command<'a>>
-    ensures { MatchOption result (command_of words.now ≡ None) (λ c. command_of words.now ≡ Some (command_seen c)) }
+    ensures command { MatchOption result (command_of words.now ≡ None) (λ c. command_of words.now ≡ Some (command_seen c)) }
+    ensures few { IfSome result (λ c. HasFewLeaves (command_seen c)) }
 {
     let [word, words @ ..] = words else {
         return None;
@@ -175,6 +199,8 @@ pub fn read_command<'a>(words: &'a [Name]) -> Option<Command<'a>>
         read_tick(words)
     } else if word.list() == b"live".as_slice() {
         read_live(words)
+    } else if word.list() == b"load".as_slice() {
+        read_load(words)
     } else if word.list() == b"check".as_slice() {
         read_check(words)
     } else {
