@@ -6,7 +6,7 @@ use Rattle.bt_loop.specs.Steps.{IsSameRoster}
 use Rattle.bt_main.specs.declared.course.Course.{Course}
 use Rattle.bt_main.specs.declared.exit.Exit.{Exit}
 use Rattle.bt_main.specs.declared.exit.Exit.TheVariants as exit
-use Rattle.bt_main.specs.Output.{Asked, Never, Times, UpToFault, Output, CommandGives, FilesGive, RunGives, given, tree_name, unread, words_refused, world_name}
+use Rattle.bt_main.specs.Output.{Asked, Never, Times, UpToFault, Output, CommandGives, FilesGive, Giving, RunGives, given, tree_name, unread, words_refused, world_name}
 use Rattle.bt_main.specs.Words.{Command, Live, File, TreeFile, WorldFile}
 use Rattle.bt_model.specs.Drivers.{DriverState, NothingHeld, driver_at}
 use Rattle.bt_run.specs.declared.ended.Ended.{Ended}
@@ -168,10 +168,6 @@ abbrev pub ToldIfNamed : Option (List ℕ → List ℕ) → Option (List ℕ) �
 ToldIfNamed holds None P = Unit {0}
 ToldIfNamed holds (Some name) P = Told holds name P
 
--- what the bytes of a tree file and of a world file, moments and drivers have for outputs
-abbrev pub Giving : Type 1
-Giving = List ℕ → List ℕ → Moments → List DriverState → Output → Type 0
-
 -- the output of these bytes of files that may be named, and of these moments, which are those that the shelf and the clock
 -- tell
 pub record FilesAnswered (holds : Option (List ℕ → List ℕ)) (tree_named world_named : Option (List ℕ)) (Gives : Giving) (result : Exit) (old new : Side) : Type 0 where
@@ -180,10 +176,6 @@ pub record FilesAnswered (holds : Option (List ℕ → List ℕ)) (tree_named wo
   pub is_tree : ToldIfNamed holds tree_named (λ file. tree ≡ file)
   pub is_world : ToldIfNamed holds world_named (λ file. world ≡ file)
   pub answers : AtMoments old.clock (λ moments. Answers (Gives tree world moments old.drivers) result old new)
-
--- the output of a run on this course
-abbrev pub RunsOn : Course → Option (List ℕ) → Giving
-RunsOn course main tree world moments drivers output = RunGives main tree world (given course moments drivers) output
 
 -- What words were answered, also by a shelf or a clock that tells nothing: the output of some bytes of its files and of
 -- some moments was given, or the line of a file whose read failed; or the words are no command.

@@ -174,6 +174,14 @@ RunGives main tree world g output =
     (OrTooLong world world_too_long output
     ((read : Result Tree TreeFault) × TreeReads main tree read × TreeGives read world g output))
 
+-- what a tree file, a world file, moments and drivers have for outputs
+abbrev pub Giving : Type 1
+Giving = List ℕ → List ℕ → Moments → List DriverState → Output → Type 0
+
+-- the output of a run on this course
+abbrev pub RunsOn : Course → Option (List ℕ) → Giving
+RunsOn course main = λ tree world moments drivers. RunGives main tree world (given course moments drivers)
+
 -- the output of `check` over the bytes of its file
 abbrev pub CheckGives : Option (List ℕ) → List ℕ → Output → Type 0
 CheckGives main tree output =
@@ -182,11 +190,11 @@ CheckGives main tree output =
 
 -- the output of a command over these bytes of the files that it names, these moments and these drivers; a load makes both
 -- of its files
-abbrev pub FilesGive : Command → List ℕ → List ℕ → Moments → List DriverState → Output → Type 0
-FilesGive (Tick _ _ main) tree world moments drivers output = RunGives main tree world (given course.Script moments drivers) output
-FilesGive (Live _ _ rounds main) tree world moments drivers output = RunGives main tree world (given (course.Rounds rounds) moments drivers) output
-FilesGive (Load leaves) tree world moments drivers output = RunGives None (tree_text leaves) (world_text leaves) (given (course.Load leaves) moments drivers) output
-FilesGive (Check _ main) tree world moments drivers output = CheckGives main tree output
+abbrev pub FilesGive : Command → Giving
+FilesGive (Tick _ _ main) = RunsOn course.Script main
+FilesGive (Live _ _ rounds main) = RunsOn (course.Rounds rounds) main
+FilesGive (Load leaves) = λ tree world. RunsOn (course.Load leaves) None (tree_text leaves) (world_text leaves)
+FilesGive (Check _ main) = λ tree world moments drivers output. CheckGives main tree output
 
 -- the files that a command names
 abbrev pub tree_name : Command → Option (List ℕ)

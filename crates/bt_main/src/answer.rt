@@ -1,9 +1,9 @@
 ghost use Rattle.std.specs.Prelude.{◌≡◌, ◌≤◌, ◌⊎◌, List, ℕ, Option, None, Some, Err, length, map};
 ghost use Rattle.std.specs.Option.{option_copied};
 ghost use Rattle.bt_loop.specs.Steps.{IsSameRoster};
-ghost use Rattle.bt_main.specs.Answers.{Answers, AreKept, AtMoments, CommandAnswered, EachOutput, FilesAnswered, Gave, IsGiven, IsWhole, ReadFailed, RunsOn, Unread, UnreadLine, WholeOutput, WordsUnread, WorldAnswered, side};
+ghost use Rattle.bt_main.specs.Answers.{Answers, AreKept, AtMoments, CommandAnswered, EachOutput, FilesAnswered, Gave, IsGiven, IsWhole, ReadFailed, Unread, UnreadLine, WholeOutput, WordsUnread, WorldAnswered, side};
 ghost use Rattle.bt_main.specs.Commands.{HasFewLeaves, command_seen};
-ghost use Rattle.bt_main.specs.Output.{CheckGives, CommandGives, FilesGive, RunGives, given, tree_name, words_refused, world_name};
+ghost use Rattle.bt_main.specs.Output.{CheckGives, CommandGives, FilesGive, RunGives, RunsOn, given, tree_name, words_refused, world_name};
 ghost use Rattle.bt_main.specs.Words.{Check, Load, WorldFile, command_of};
 ghost use Rattle.bt_model.specs.Drivers.{DriverState, NothingHeld};
 ghost use Rattle.bt_outside.specs.Counts.{Rose};
@@ -219,7 +219,7 @@ fn answer_command<S: Shelf, K: Sink, C: Clock>(
     clock: &mut C,
     roster: &mut Vec<Box<dyn Driver>>,
 ) -> Exit
-    requires few { HasFewLeaves (command_seen command.entry) }
+    requires few { HasFewLeaves (command_seen command) }
     requires quiet { NothingHeld (map (λ b. state b) roster.old.items) }
     ensures answers { let old = side (K.written out.old) (K.faults out.old) (C.moments clock.old) (map (λ b. state b) roster.old.items) in
         let new = side (K.written out.new) (K.faults out.new) (C.moments clock.new) (map (λ b. state b) roster.new.items) in

@@ -1,8 +1,9 @@
-ghost use Rattle.std.specs.Prelude.{◌≡◌, ◌↔◌, IfOk, IfSome, MatchOption, Some, None, codes};
+ghost use Rattle.std.specs.Prelude.{◌≡◌, ◌≤◌, ◌↔◌, IfOk, IfSome, MatchOption, Some, None, codes};
 ghost use Rattle.std.specs.IoError.{error_kind};
 ghost use Rattle.std.specs.Option.{option_copied};
 ghost use Rattle.bt_main.specs.Commands.{HasFewLeaves, command_seen};
 ghost use Rattle.bt_main.specs.Words.{are_options, as_count, check_of, command_of, is_option, is_unset, live_of, load_of, rounds_in, tick_of, value_of};
+ghost use Rattle.bt_model.specs.Numbers.{int_in};
 
 use bt_model::int;
 use bt_script::{Name, NoMemory};
@@ -95,23 +96,23 @@ fn main_of<'a>(options: &'a [Name]) -> Option<&'a Name>
     value_of(options, b"--main")
 }
 
-/// A number from 1 to this one.
-fn as_count(most: u32, number: Option<i64>) -> Option<u32>
-    ensures { result ≡ as_count most number }
+/// A number from 1 to 100,000.
+fn as_rounds(number: Option<i64>) -> Option<u32>
+    ensures { result ≡ as_count 100000 number }
 {
     match number {
-        Some(n) if 1 <= n && n <= i64::from(most) => Some(n as u32),
+        Some(n @ 1..=100_000) => Some(n as u32),
         _ => None,
     }
 }
 
-/// The number from 1 to 100,000 that the option `--ticks` gives.
+/// The number that the option `--ticks` gives.
 #[tactic(auto, unfolding(crate::specs::Words::rounds_in))]
 fn rounds_in(options: &[Name]) -> Option<u32>
     ensures { result ≡ rounds_in options.now }
 {
     match value_of(options, b"--ticks") {
-        Some(word) => as_count(100_000, int(word.list())),
+        Some(word) => as_rounds(int(word.list())),
         None => None,
     }
 }
@@ -156,6 +157,17 @@ fn read_live<'a>(words: &'a [Name]) -> Option<Command<'a>>
     }
 }
 
+/// The number of leaves, from 1 to 1,000, that a word is.
+fn leaves_in(word: &Name) -> Option<u32>
+    ensures number { result ≡ as_count 1000 (int_in word.now) }
+    ensures few { IfSome result (λ leaves. leaves ≤ 1000) }
+{
+    match int(word.list()) {
+        Some(n @ 1..=1_000) => Some(n as u32),
+        _ => None,
+    }
+}
+
 /// The command `load` with these words behind it.
 fn read_load<'a>(words: &'a [Name]) -> Option<Command<'a>>
     ensures command { MatchOption result (load_of words.now ≡ None) (λ c. load_of words.now ≡ Some (command_seen c)) }
@@ -164,7 +176,7 @@ fn read_load<'a>(words: &'a [Name]) -> Option<Command<'a>>
     let [word] = words else {
         return None;
     };
-    match as_count(1_000, int(word.list())) {
+    match leaves_in(word) {
         Some(leaves) => Some(Command::Load { leaves }),
         None => None,
     }
