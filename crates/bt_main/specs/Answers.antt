@@ -4,10 +4,10 @@ use Rattle.bt_arena.specs.declared.nodes.Node.{Node}
 use Rattle.bt_loop.specs.Runs.{roster_over}
 use Rattle.bt_loop.specs.Steps.{IsSameRoster}
 use Rattle.bt_main.specs.declared.course.Course.{Course}
-use Rattle.bt_main.specs.declared.exit.Exit.{Exit}
-use Rattle.bt_main.specs.declared.exit.Exit.TheVariants as exit
+use Rattle.bt_words.specs.declared.exit.Exit.{Exit}
+use Rattle.bt_words.specs.declared.exit.Exit.TheVariants as exit
 use Rattle.bt_main.specs.Output.{Asked, Never, Times, UpToFault, Output, CommandGives, FilesGive, Giving, RunGives, given, tree_name, unread, words_refused, world_name}
-use Rattle.bt_main.specs.Words.{Command, Live, File, TreeFile, WorldFile}
+use Rattle.bt_words.specs.Words.{Command, Live, File, TreeFile, WorldFile}
 use Rattle.bt_model.specs.Drivers.{DriverState, NothingHeld, driver_at}
 use Rattle.bt_run.specs.declared.ended.Ended.{Ended}
 use Rattle.bt_run.specs.declared.ended.Ended.TheVariants.{Done, Faulted}

@@ -8,12 +8,12 @@ use Rattle.bt_load.specs.Texts.{tree_text, world_text}
 use Rattle.bt_loop.specs.Served.{roster_after_run}
 use Rattle.bt_main.specs.declared.course.Course.{Course}
 use Rattle.bt_main.specs.declared.course.Course.TheVariants as course
-use Rattle.bt_main.specs.declared.exit.Exit.{Exit}
-use Rattle.bt_main.specs.declared.exit.Exit.TheVariants as exit
-use Rattle.bt_main.specs.declared.tree_file.TreeFault.{TreeFault}
-use Rattle.bt_main.specs.Refusals.{join_words, tree_words, world_words}
-use Rattle.bt_main.specs.TreeFiles.{TreeReads}
-use Rattle.bt_main.specs.Words.{Command, Tick, Live, Load, Check, File, TreeFile, WorldFile}
+use Rattle.bt_words.specs.declared.exit.Exit.{Exit}
+use Rattle.bt_words.specs.declared.exit.Exit.TheVariants as exit
+use Rattle.bt_refusals.specs.declared.tree_file.TreeFault.{TreeFault}
+use Rattle.bt_refusals.specs.Refusals.{join_words, tree_words, world_words}
+use Rattle.bt_refusals.specs.TreeFiles.{TreeReads}
+use Rattle.bt_words.specs.Words.{Command, Tick, Live, Load, Check, File, TreeFile, WorldFile}
 use Rattle.bt_model.specs.declared.fault.RunFault.{RunFault}
 use Rattle.bt_model.specs.declared.term.Tree.{Tree}
 use Rattle.bt_model.specs.declared.world.Event.{Event}

@@ -2,24 +2,23 @@ ghost use Rattle.std.specs.Prelude.{◌≡◌, ◌≤◌, ◌⊎◌, List, ℕ, 
 ghost use Rattle.std.specs.Option.{option_copied};
 ghost use Rattle.bt_loop.specs.Steps.{IsSameRoster};
 ghost use Rattle.bt_main.specs.Answers.{Answers, AreKept, AtMoments, CommandAnswered, EachOutput, FilesAnswered, Gave, IsGiven, IsWhole, ReadFailed, Unread, UnreadLine, WholeOutput, WordsUnread, WorldAnswered, side};
-ghost use Rattle.bt_main.specs.Commands.{HasFewLeaves, command_seen};
+ghost use Rattle.bt_words.specs.Commands.{HasFewLeaves, command_seen};
 ghost use Rattle.bt_main.specs.Output.{CheckGives, CommandGives, FilesGive, RunGives, RunsOn, given, tree_name, words_refused, world_name};
-ghost use Rattle.bt_main.specs.Words.{Check, Load, WorldFile, command_of};
+ghost use Rattle.bt_words.specs.Words.{Check, Load, WorldFile, command_of};
 ghost use Rattle.bt_model.specs.Drivers.{DriverState, NothingHeld};
 ghost use Rattle.bt_outside.specs.Counts.{Rose};
 ghost use Rattle.bt_outside.specs.Moments.{Moments};
 
 use crate::course::Course;
-use crate::exit::Exit;
 use crate::join::{refuse_tree, run_world, write_last};
 use crate::printing::print_tree;
-use crate::tree_file::read_tree;
-use crate::words::{Command, read_command};
 use bt_driver::Driver;
 use bt_elements::{element_or_fault, one_element};
 use bt_load::{load_tree, load_world};
 use bt_outside::{Clock, Shelf, ShelfFault, Sink};
+use bt_refusals::read_tree;
 use bt_script::{Name, Stop};
+use bt_words::{Command, Exit, read_command};
 use bt_world::laws::worlds_read_one_way;
 use std::alloc::Global;
 

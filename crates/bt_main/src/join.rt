@@ -14,9 +14,6 @@ ghost use Rattle.bt_outside.specs.Moments.{Moments};
 ghost use Rattle.bt_run.specs.Traces.{CanAllCome, CanRun, trace_of};
 
 use crate::course::Course;
-use crate::exit::Exit;
-use crate::refusal::{join_refusal, tree_refusal, world_refusal};
-use crate::tree_file::TreeFault;
 use bt_arena::JoinFault;
 use bt_board::slots_of;
 use bt_driver::Driver;
@@ -24,9 +21,11 @@ use bt_load::run_load;
 use bt_loop::{Runs, runs_of};
 use bt_model::{Event, Tree, World, WorldFault};
 use bt_outside::{Clock, Sink};
+use bt_refusals::{TreeFault, join_refusal, tree_refusal, world_refusal};
 use bt_run::{Ended, run_events, run_rounds};
 use bt_script::{NoMemory, Stop};
 use bt_text::{TextStop, names_of, write_line};
+use bt_words::Exit;
 use bt_world::read_world;
 use std::alloc::Global;
 

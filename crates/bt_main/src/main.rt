@@ -3,24 +3,19 @@
 
 mod answer;
 mod course;
-mod exit;
 mod join;
 mod printing;
-mod refusal;
 mod roster;
 #[cfg(test)]
 mod tests;
-mod tree_file;
-mod words;
 
 use crate::answer::bt;
-use crate::exit::Exit;
 use crate::roster::add_driver;
-use crate::words::{NoWords, words_of};
 use bt_driver::Driver;
 use bt_leaves::{Conditions, Gate, Replay, Timed};
 use bt_outside::{DirShelf, HostClock, OutSink};
 use bt_script::{Name, NoMemory};
+use bt_words::{Exit, NoWords, words_of};
 use std::io;
 use std::process::ExitCode;
 use std::rt::{Clock, Files};

@@ -10,12 +10,12 @@ ghost use Rattle.bt_outside.specs.Appending.{Appended, AppendedFront};
 ghost use Rattle.bt_outside.specs.Counts.{Rose};
 ghost use Rattle.bt_outside.specs.Moments.{Moments};
 
-use crate::exit::Exit;
 use bt_build::work;
 use bt_model::{Term, Tree};
 use bt_outside::Sink;
 use bt_script::NoMemory;
 use bt_text::{TextStop, put_bytes, put_number, write_line, write_tree};
+use bt_words::Exit;
 use std::alloc::Global;
 
 // The number of nodes of a term.

@@ -13,13 +13,12 @@ mod scripts;
 mod stage;
 
 use self::stage::answer_with;
-use crate::exit::Exit;
 use crate::roster::add_driver;
-use crate::words::word_of;
 use bt_driver::Driver;
 use bt_leaves::{Conditions, Gate, Replay, Timed};
 use bt_outside::{MemShelf, MemSink};
 use bt_script::NoMemory;
+use bt_words::{Exit, word_of};
 use std::alloc::{AllocError, Global};
 use std::test::Fail;
 

@@ -4,9 +4,9 @@ use super::controls::{HALTED_BY_A_CHECK, TWO_CHECKS};
 use super::halts::FAULT_AT_THE_END;
 use super::runners::{ONE_FAULTS, WAITS, sixteen, sixteen_trace};
 use super::stage::run;
-use crate::exit::Exit;
 use bt_outside::MemSink;
 use bt_script::NoMemory;
+use bt_words::Exit;
 use std::alloc::Global;
 use std::test::Fail;
 

@@ -5,13 +5,12 @@ ghost use Rattle.bt_model.specs.Drivers.{NothingHeld};
 
 use super::{TICK, given, shelf_of, tree_of};
 use crate::answer::bt;
-use crate::exit::Exit;
 use crate::roster::add_driver;
-use crate::words::word_of;
 use bt_driver::{Driver, Totals, hold_nothing};
 use bt_leaves::{Conditions, Gate, Replay, Timed};
 use bt_outside::{MemClock, MemShelf, MemSink, Sink};
 use bt_script::NoMemory;
+use bt_words::{Exit, word_of};
 use std::alloc::{AllocError, Global};
 use std::process::Abort;
 

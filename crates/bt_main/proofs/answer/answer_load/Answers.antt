@@ -1,6 +1,6 @@
 use Rattle.std.proofs.Common.{None, refl}
 use Rattle.bt_main.specs.Output.{FilesGive}
-use Rattle.bt_main.specs.Words.{Load}
+use Rattle.bt_words.specs.Words.{Load}
 use Rattle.bt_main.proofs.Clauses.{load_ends, out_of_memory}
 use Rattle.bt_main.proofs.answer.answer_load.Goals as goal
 

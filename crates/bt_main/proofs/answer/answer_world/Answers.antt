@@ -1,6 +1,6 @@
 use Rattle.std.proofs.Common.{◌∙◌, Err, ap, inl, inr, refl}
 use Rattle.std.specs.Option.{option_copied}
-use Rattle.bt_main.specs.Words.{WorldFile}
+use Rattle.bt_words.specs.Words.{WorldFile}
 use Rattle.bt_main.proofs.Clauses.{long_world, world_out_of_memory}
 use Rattle.bt_main.proofs.answer.answer_world.Goals as goal
 

@@ -1,6 +1,6 @@
 use Rattle.std.proofs.Common.{◌∙◌, Err, None, Some, ap, inl, inr, refl}
 use Rattle.std.specs.Option.{option_copied}
-use Rattle.bt_main.specs.Words.{Check, TreeFile}
+use Rattle.bt_words.specs.Words.{Check, TreeFile}
 use Rattle.bt_main.specs.Output.{FilesGive}
 use Rattle.bt_main.proofs.Clauses.{check_ends, long_check, long_tree, out_of_memory}
 use Rattle.bt_main.proofs.answer.check.Goals as goal

@@ -1,7 +1,7 @@
 use Rattle.std.proofs.Common.{◌∙◌, Err, Some, ap, inl, inr, refl}
 use Rattle.std.specs.Option.{option_copied}
 use Rattle.bt_main.specs.Output.{RunsOn}
-use Rattle.bt_main.specs.Words.{TreeFile}
+use Rattle.bt_words.specs.Words.{TreeFile}
 use Rattle.bt_main.proofs.Clauses.{long_run, long_tree, out_of_memory, run_ends}
 use Rattle.bt_main.proofs.answer.run_files.Goals as goal
 

@@ -1,6 +1,6 @@
 use Rattle.std.proofs.Common.{◌≡◌, length}
-use Rattle.bt_main.specs.Words.{are_options, is_option}
-use Rattle.bt_main.proofs.words.are_options.Given as goal
+use Rattle.bt_words.specs.Words.{are_options, is_option}
+use Rattle.bt_words.proofs.words.are_options.Given as goal
 
 -- what the options that are left say is what all say
 abbrev pub invariant-loop-rest : goal.invariant-loop-rest

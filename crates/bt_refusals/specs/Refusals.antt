@@ -6,8 +6,8 @@ use Rattle.bt_build.specs.declared.fault.BuildFault.{BuildFault}
 use Rattle.bt_build.specs.declared.fault.BuildFault.TheVariants as build
 use Rattle.bt_elements.specs.declared.element.ElementFault.{ElementFault}
 use Rattle.bt_elements.specs.declared.element.ElementFault.TheVariants as element
-use Rattle.bt_main.specs.declared.tree_file.TreeFault.{TreeFault}
-use Rattle.bt_main.specs.declared.tree_file.TreeFault.TheVariants as fault
+use Rattle.bt_refusals.specs.declared.tree_file.TreeFault.{TreeFault}
+use Rattle.bt_refusals.specs.declared.tree_file.TreeFault.TheVariants as fault
 use Rattle.bt_manifest.specs.declared.fault.ManifestFault.{ManifestFault}
 use Rattle.bt_manifest.specs.declared.fault.ManifestFault.TheVariants as manifest
 use Rattle.bt_model.specs.Lines.{quoted}

@@ -1,6 +1,6 @@
 ghost use Rattle.std.specs.Prelude.{◌≡◌, ◌≤◌, IfOk, length};
 ghost use Rattle.std.specs.Option.{option_copied};
-ghost use Rattle.bt_main.specs.TreeFiles.{ReadsAs};
+ghost use Rattle.bt_refusals.specs.TreeFiles.{ReadsAs};
 ghost use Rattle.bt_model.specs.Trees.{IsValid};
 
 use bt_build::{BuildFault, build};

@@ -1,5 +1,5 @@
 ghost use Rattle.std.specs.Prelude.{◌≡◌, ◌++◌, IfOk, OnOk, codes, decimal};
-ghost use Rattle.bt_main.specs.Refusals.{build_words, driver_word, element_words, join_words, kind_word, manifest_words, named, numbered, script_words, tree_words, world_words};
+ghost use Rattle.bt_refusals.specs.Refusals.{build_words, driver_word, element_words, join_words, kind_word, manifest_words, named, numbered, script_words, tree_words, world_words};
 
 use crate::tree_file::TreeFault;
 use bt_arena::JoinFault;

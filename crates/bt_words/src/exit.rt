@@ -1,5 +1,5 @@
 ghost use Rattle.std.specs.Prelude.{◌≡◌};
-ghost use Rattle.bt_main.specs.Words.{status_of};
+ghost use Rattle.bt_words.specs.Words.{status_of};
 
 /// How the program ends.
 #[derive(Clone, Copy, Debug, PartialEq, Eq)]

@@ -1,6 +1,6 @@
 use Rattle.std.proofs.Common.{◌≡◌, length}
-use Rattle.bt_main.specs.Words.{value_of}
-use Rattle.bt_main.proofs.words.value_of.Given as goal
+use Rattle.bt_words.specs.Words.{value_of}
+use Rattle.bt_words.proofs.words.value_of.Given as goal
 
 -- what the options that are left give is what all give
 abbrev pub invariant-loop-rest : goal.invariant-loop-rest

@@ -1,9 +1,9 @@
 -- What contracts see of the commands that the code reads.
 use Rattle.std.specs.Prelude.{◌≤◌}
 use Rattle.std.specs.Option.{option_copied}
-use Rattle.bt_main.specs.Words.{Command, Tick, Live, Load, Check}
-use Rattle.bt_main.specs.declared.words.Command.{Command as Read}
-use Rattle.bt_main.specs.declared.words.Command.TheVariants as read
+use Rattle.bt_words.specs.Words.{Command, Tick, Live, Load, Check}
+use Rattle.bt_words.specs.declared.words.Command.{Command as Read}
+use Rattle.bt_words.specs.declared.words.Command.TheVariants as read
 
 -- the command with its names
 abbrev pub command_seen : Read → Command

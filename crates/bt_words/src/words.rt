@@ -1,8 +1,8 @@
 ghost use Rattle.std.specs.Prelude.{◌≡◌, ◌≤◌, ◌↔◌, IfOk, IfSome, MatchOption, Some, None, codes};
 ghost use Rattle.std.specs.IoError.{error_kind};
 ghost use Rattle.std.specs.Option.{option_copied};
-ghost use Rattle.bt_main.specs.Commands.{HasFewLeaves, command_seen};
-ghost use Rattle.bt_main.specs.Words.{are_options, as_count, check_of, command_of, is_option, is_unset, live_of, load_of, rounds_in, tick_of, value_of};
+ghost use Rattle.bt_words.specs.Commands.{HasFewLeaves, command_seen};
+ghost use Rattle.bt_words.specs.Words.{are_options, as_count, check_of, command_of, is_option, is_unset, live_of, load_of, rounds_in, tick_of, value_of};
 ghost use Rattle.bt_model.specs.Numbers.{int_in};
 
 use bt_model::int;
@@ -237,7 +237,7 @@ pub enum NoWords {
 }
 
 impl From<NoMemory> for NoWords {
-    ghost use Rattle.bt_main.specs.declared.words.NoWords.TheVariants as no_words;
+    ghost use Rattle.bt_words.specs.declared.words.NoWords.TheVariants as no_words;
 
     ghost from_gives = { λ _ e. e ≡ no_words.NoMemory };
 
@@ -247,7 +247,7 @@ impl From<NoMemory> for NoWords {
 }
 
 impl<T: Drop> From<AllocFailed<T>> for NoWords {
-    ghost use Rattle.bt_main.specs.declared.words.NoWords.TheVariants as no_words;
+    ghost use Rattle.bt_words.specs.declared.words.NoWords.TheVariants as no_words;
 
     ghost from_gives = { λ _ e. e ≡ no_words.NoMemory };
 

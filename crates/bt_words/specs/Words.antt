@@ -1,8 +1,8 @@
 -- The words of the command line.
 use Rattle.std.specs.Prelude.{ℕ, nat_le, ℤ, pos, List, [], ◌∷◌, codes, Bool, true, false, ◌&&◌, ◌||◌, Option, Some, None, is_none, option_and_then, option_map, if◌then◌else◌}
 use Rattle.std.specs.Str.{bytes_eq}
-use Rattle.bt_main.specs.declared.exit.Exit.{Exit}
-use Rattle.bt_main.specs.declared.exit.Exit.TheVariants as exit
+use Rattle.bt_words.specs.declared.exit.Exit.{Exit}
+use Rattle.bt_words.specs.declared.exit.Exit.TheVariants as exit
 use Rattle.bt_model.specs.Numbers.{int_in}
 
 -- ---- Options
