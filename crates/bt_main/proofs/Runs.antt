@@ -11,7 +11,7 @@ use Rattle.bt_loop.specs.Steps.{IsSameRoster}
 use Rattle.bt_loop.proofs.Rising.{roster_both, same_roster}
 use Rattle.bt_main.specs.declared.course.Course.TheVariants as course
 use Rattle.bt_words.specs.declared.exit.Exit.{Exit}
-use Rattle.bt_main.specs.Answers.{AreKept, AtMoments, ClockLeft, Gave, IfTold, IsWhole, Wrote, exit_of, side}
+use Rattle.bt_main.specs.Answers.{AreKept, AtMoments, ClockLeft, Gave, IfTold, IsWhole, Side, Wrote, exit_of, side}
 use Rattle.bt_main.specs.Output.{Given, UpToFault, asked_by, given, join_refused, joined_output, run_exit, run_output}
 use Rattle.bt_main.proofs.Clauses.{at_any}
 use Rattle.bt_model.specs.declared.fault.RunFault.{RunFault}
