@@ -11,12 +11,12 @@ use Rattle.bt_words.specs.declared.exit.Exit.{Exit}
 use Rattle.bt_words.specs.declared.exit.Exit.TheVariants as exit
 use Rattle.bt_refusals.specs.declared.tree_file.TreeFault.{TreeFault}
 use Rattle.bt_refusals.specs.declared.tree_file.TreeFault.TheVariants as fault
-use Rattle.bt_main.specs.Answers.{Answers, AreUncalled, AtMoments, DriversLeft, EachOutput, FilesAnswered, Gave, IfTold, IsGiven, IsWhole, ReadFailed, Reading, Side, ToldIfNamed, Unread, UnreadLine, WholeOutput, WorldAnswered, WorldUnread, moments_for, no_moments}
-use Rattle.bt_main.specs.Output.{CheckGives, CommandGives, FilesGive, Given, Output, RunGives, TreeGives, WorldGives, check_output, given, held_by, is_too_long, joined_output, lack_of, run_exit, tree_name, tree_refused, tree_too_long, unread, words_refused, world_name, world_output, world_too_long}
-use Rattle.bt_words.specs.Commands.{run_command}
+use Rattle.bt_main.specs.Answers.{Answers, AreUncalled, AtMoments, DriversLeft, EachOutput, FilesAnswered, Gave, IfTold, IsGiven, IsWhole, ReadFailed, Reading, Side, ToldIfNamed, Unread, UnreadLine, WholeOutput, WorldAnswered, moments_for, no_moments}
+use Rattle.bt_main.specs.Output.{CheckGives, CommandGives, FilesGive, Given, Giving, Output, RunGives, RunsOn, TreeGives, WorldGives, check_output, given, held_by, is_too_long, joined_output, lack_of, run_exit, tree_name, tree_refused, tree_too_long, unread, words_refused, world_name, world_output, world_too_long}
 use Rattle.bt_refusals.specs.TreeFiles.{TreeReads, element_read}
-use Rattle.bt_words.specs.Words.{Command, File, Tick, Live, Check, TreeFile, WorldFile}
+use Rattle.bt_words.specs.Words.{Command, File, Tick, Live, Load, Check, TreeFile, WorldFile}
 use Rattle.bt_arena.specs.declared.join_fault.JoinFault.{JoinFault}
+use Rattle.bt_load.specs.Texts.{tree_text, world_text}
 use Rattle.bt_model.specs.declared.fault.RunFault.{RunFault}
 use Rattle.bt_model.specs.declared.term.Tree.{Tree}
 use Rattle.bt_model.specs.declared.world.World.{World}
@@ -73,6 +73,7 @@ one_check one main tree x y p q =
 one_files : OneReading → (c : Command) (tree world : List ℕ) (moments : Moments) (drivers : List DriverState) (x y : Output) → FilesGive c tree world moments drivers x → FilesGive c tree world moments drivers y → x ≡ y
 one_files one (Tick t w main) tree world moments drivers x y p q = one_run one main tree world (given course.Script moments drivers) x y p q
 one_files one (Live t w rounds main) tree world moments drivers x y p q = one_run one main tree world (given (course.Rounds rounds) moments drivers) x y p q
+one_files one (Load leaves) tree world moments drivers x y p q = one_run one None (tree_text leaves) (world_text leaves) (given (course.Load leaves) moments drivers) x y p q
 one_files one (Check t main) tree world moments drivers x y p q = one_check one main tree x y p q
 
 -- nothing was written for want of memory
@@ -103,12 +104,13 @@ whole_or_memory o exit.Write a b n p = absurd (n p.0)
 whole_or_memory o exit.Memory a b n p = inl refl
 
 -- the bytes that the shelf tells are those of the answer
-files_told : (h : List ℕ → List ℕ) (c : Command) (tree world : List ℕ) (moments : Moments) (drivers : List DriverState) (o : Output) → tree ≡ h (tree_name c) → ToldIfNamed (Some h) (world_name c) (λ file. world ≡ file)
-    → FilesGive c (h (tree_name c)) (held_by h (world_name c)) moments drivers o → FilesGive c tree world moments drivers o
+files_told : (h : List ℕ → List ℕ) (c : Command) (tree world : List ℕ) (moments : Moments) (drivers : List DriverState) (o : Output) → ToldIfNamed (Some h) (tree_name c) (λ file. tree ≡ file) → ToldIfNamed (Some h) (world_name c) (λ file. world ≡ file)
+    → FilesGive c (held_by h (tree_name c)) (held_by h (world_name c)) moments drivers o → FilesGive c tree world moments drivers o
 files_told h (Tick t w main) tree world moments drivers o is_tree is_world p =
     subst (λ (z : List ℕ). RunGives main tree z (given course.Script moments drivers) o) (sym is_world) (subst (λ (z : List ℕ). RunGives main z (h w) (given course.Script moments drivers) o) (sym is_tree) p)
 files_told h (Live t w rounds main) tree world moments drivers o is_tree is_world p =
     subst (λ (z : List ℕ). RunGives main tree z (given (course.Rounds rounds) moments drivers) o) (sym is_world) (subst (λ (z : List ℕ). RunGives main z (h w) (given (course.Rounds rounds) moments drivers) o) (sym is_tree) p)
+files_told h (Load leaves) tree world moments drivers o is_tree is_world p = p
 files_told h (Check t main) tree world moments drivers o is_tree is_world p = subst (λ (z : List ℕ). CheckGives main z o) (sym is_tree) p
 
 -- ---- Moments
@@ -143,9 +145,14 @@ needed : (c : Command) (tree world : List ℕ) (result : Exit) (a b : Side) (clo
 needed (Tick t w main) tree world result a b clock x = x.holds
 needed (Live t w rounds main) tree world result a b None x = tt
 needed (Live t w rounds main) tree world result a b (Some told) x = subst (λ (moments : Moments). Answers (FilesGive (Live t w rounds main) tree world moments a.drivers) result a b) x.told x.holds
+needed (Load leaves) tree world result a b clock x = x.holds
 needed (Check t main) tree world result a b clock x = x.holds
 
 -- ---- Clauses
+
+-- the files of a command were answered
+abbrev Answered : Option (List ℕ → List ℕ) → Command → Exit → Side → Side → Type 0
+Answered holds c result a b = FilesAnswered holds (tree_name c) (world_name c) (FilesGive c) result a b
 
 -- the clauses of a command
 module _ (one : OneReading) (c : Command) (result : Exit) (shelf : Type 0) (IsUnread : File → Type 0) (a b : Side) where
@@ -153,20 +160,20 @@ module _ (one : OneReading) (c : Command) (result : Exit) (shelf : Type 0) (IsUn
   answered_gave tree world moments o p (inl x) = subst (λ (z : Output). Gave z result a b) (one_files one c tree world moments a.drivers x.0 o x.1 p) x.2
   answered_gave tree world moments o p (inr y) = nothing_gave o result a b y.0 y.1
 
-  each_answered : (h : List ℕ → List ℕ) (f : FilesAnswered (Some h) c result a b) → EachOutput (Some h) (Some c) a (λ o. Gave o result a b)
+  each_answered : (h : List ℕ → List ℕ) (f : Answered (Some h) c result a b) → EachOutput (Some h) (Some c) a (λ o. Gave o result a b)
   each_answered h f =
       if_more (moments_for (Some c) a.clock) (λ moments. Answers (FilesGive c f.tree f.world moments a.drivers) result a b) (λ moments. (o : Output) → CommandGives (Some c) h moments a.drivers o → Gave o result a b)
       (λ moments answers o p. answered_gave f.tree f.world moments o (files_told h c f.tree f.world moments a.drivers o f.is_tree f.is_world p) answers)
       (needed c f.tree f.world result a b a.clock f.answers)
 
-  each_told : (h : List ℕ → List ℕ) → ReadFailed shelf IsUnread result a b ⊎ FilesAnswered (Some h) c result a b → EachOutput (Some h) (Some c) a (λ o. Gave o result a b ⊎ ReadFailed shelf IsUnread result a b)
+  each_told : (h : List ℕ → List ℕ) → ReadFailed shelf IsUnread result a b ⊎ Answered (Some h) c result a b → EachOutput (Some h) (Some c) a (λ o. Gave o result a b ⊎ ReadFailed shelf IsUnread result a b)
   each_told h (inl r) = each_always (moments_for (Some c) a.clock) (λ moments o p. inr r)
   each_told h (inr f) =
       if_more (moments_for (Some c) a.clock) (λ moments. (o : Output) → CommandGives (Some c) h moments a.drivers o → Gave o result a b) (λ moments. (o : Output) → CommandGives (Some c) h moments a.drivers o → Gave o result a b ⊎ ReadFailed shelf IsUnread result a b)
       (λ moments each o p. inl (each o p)) (each_answered h f)
 
   -- each output of the command was given, or a read failed
-  pub each_clause : (holds : Option (List ℕ → List ℕ)) → ReadFailed shelf IsUnread result a b ⊎ FilesAnswered holds c result a b → EachOutput holds (Some c) a (λ o. Gave o result a b ⊎ ReadFailed shelf IsUnread result a b)
+  pub each_clause : (holds : Option (List ℕ → List ℕ)) → ReadFailed shelf IsUnread result a b ⊎ Answered holds c result a b → EachOutput holds (Some c) a (λ o. Gave o result a b ⊎ ReadFailed shelf IsUnread result a b)
   each_clause None x = tt
   each_clause (Some h) x = each_told h x
 
@@ -175,7 +182,7 @@ module _ (one : OneReading) (c : Command) (result : Exit) (shelf : Type 0) (IsUn
   complete_told o (inr r) s k = absurd (s r.0)
 
   -- where no count rose, the output is whole or memory ran out
-  pub complete_clause : (holds : Option (List ℕ → List ℕ)) → ReadFailed shelf IsUnread result a b ⊎ FilesAnswered holds c result a b → EachOutput holds (Some c) a (λ o. (shelf → ⊥) → (Rose a.faults b.faults → ⊥) → (result ≡ exit.Memory) ⊎ IsWhole o result a b)
+  pub complete_clause : (holds : Option (List ℕ → List ℕ)) → ReadFailed shelf IsUnread result a b ⊎ Answered holds c result a b → EachOutput holds (Some c) a (λ o. (shelf → ⊥) → (Rose a.faults b.faults → ⊥) → (result ≡ exit.Memory) ⊎ IsWhole o result a b)
   complete_clause None x = tt
   complete_clause (Some h) x =
       if_more (moments_for (Some c) a.clock) (λ moments. (o : Output) → CommandGives (Some c) h moments a.drivers o → Gave o result a b ⊎ ReadFailed shelf IsUnread result a b)
@@ -274,13 +281,13 @@ world_out_of_memory holds main course tree name a b same = record {
   answers = at_any a.clock (λ moments. Answers (RunGives main tree (contents_of holds name).bytes (given course moments a.drivers)) exit.Memory a b) (λ moments. inr (refl, same));
 }
 
-pub tree_out_of_memory : (holds : Option (List ℕ → List ℕ)) (c : Command) (a b : Side) → b.written ≡ a.written → FilesAnswered holds c exit.Memory a b
-tree_out_of_memory holds c a b same = record {
-  tree = (contents_of holds (tree_name c)).bytes;
-  world = (named_contents holds (world_name c)).bytes;
-  is_tree = (contents_of holds (tree_name c)).told;
-  is_world = (named_contents holds (world_name c)).told;
-  answers = at_any a.clock (λ moments. Answers (FilesGive c (contents_of holds (tree_name c)).bytes (named_contents holds (world_name c)).bytes moments a.drivers) exit.Memory a b) (λ moments. inr (refl, same));
+pub out_of_memory : (holds : Option (List ℕ → List ℕ)) (tree world : Option (List ℕ)) (Gives : Giving) (a b : Side) → b.written ≡ a.written → FilesAnswered holds tree world Gives exit.Memory a b
+out_of_memory holds tree world Gives a b same = record {
+  tree = (named_contents holds tree).bytes;
+  world = (named_contents holds world).bytes;
+  is_tree = (named_contents holds tree).told;
+  is_world = (named_contents holds world).told;
+  answers = at_any a.clock (λ moments. Answers (Gives (named_contents holds tree).bytes (named_contents holds world).bytes moments a.drivers) exit.Memory a b) (λ moments. inr (refl, same));
 }
 
 -- the world file is too long
@@ -295,28 +302,33 @@ long_world holds main course tree name room result a b short e h gave =
           (λ moments. inl (world_too_long, match_false (is_too_long tree) _ _ (short_is tree short) (match_true (is_too_long f.bytes) _ _ (long_is f.bytes f.long) refl), gave));
     }
 
-long_gives : (c : Command) (tree world : List ℕ) (moments : Moments) (drivers : List DriverState) → 1048576 < length tree → FilesGive c tree world moments drivers tree_too_long
-long_gives (Tick t w main) tree world moments drivers long = match_true (is_too_long tree) _ _ (long_is tree long) refl
-long_gives (Live t w rounds main) tree world moments drivers long = match_true (is_too_long tree) _ _ (long_is tree long) refl
-long_gives (Check t main) tree world moments drivers long = match_true (is_too_long tree) _ _ (long_is tree long) refl
+-- what a tree file that is too long has for output
+abbrev LongGives : Giving → Type 0
+LongGives Gives = (tree world : List ℕ) (moments : Moments) (drivers : List DriverState) → 1048576 < length tree → Gives tree world moments drivers tree_too_long
+
+pub long_run : (course : Course) (main : Option (List ℕ)) → LongGives (RunsOn course main)
+long_run course main tree world moments drivers long = match_true (is_too_long tree) _ _ (long_is tree long) refl
+
+pub long_check : (name : List ℕ) (main : Option (List ℕ)) → LongGives (FilesGive (Check name main))
+long_check name main tree world moments drivers long = match_true (is_too_long tree) _ _ (long_is tree long) refl
 
 -- the tree file is too long
-pub long_tree : (holds : Option (List ℕ → List ℕ)) (c : Command) (room : List ℕ) (result : Exit) (a b : Side) → length room ≡ 1048577 → Told holds (tree_name c) (λ file. 1048576 < length file)
-    → Gave tree_too_long result a b → FilesAnswered holds c result a b
-long_tree holds c room result a b e h gave =
-    let f = long_file holds (tree_name c) room e h in
+pub long_tree : (holds : Option (List ℕ → List ℕ)) (name : List ℕ) (world : Option (List ℕ)) (Gives : Giving) (room : List ℕ) (result : Exit) (a b : Side) → LongGives Gives → length room ≡ 1048577 → Told holds name (λ file. 1048576 < length file)
+    → Gave tree_too_long result a b → FilesAnswered holds (Some name) world Gives result a b
+long_tree holds name world Gives room result a b gives e h gave =
+    let f = long_file holds name room e h in
     record {
       tree = f.bytes;
-      world = (named_contents holds (world_name c)).bytes;
+      world = (named_contents holds world).bytes;
       is_tree = f.told;
-      is_world = (named_contents holds (world_name c)).told;
-      answers = at_any a.clock (λ moments. Answers (FilesGive c f.bytes (named_contents holds (world_name c)).bytes moments a.drivers) result a b)
-          (λ moments. inl (tree_too_long, long_gives c f.bytes (named_contents holds (world_name c)).bytes moments a.drivers f.long, gave));
+      is_world = (named_contents holds world).told;
+      answers = at_any a.clock (λ moments. Answers (Gives f.bytes (named_contents holds world).bytes moments a.drivers) result a b)
+          (λ moments. inl (tree_too_long, gives f.bytes (named_contents holds world).bytes moments a.drivers f.long, gave));
     }
 
 -- a tree file that was read, with what a check of it was answered
 pub check_ends : (holds : Option (List ℕ → List ℕ)) (main : Option (List ℕ)) (tree bytes : List ℕ) (result : Exit) (a b : Side) → Told holds tree (λ file. bytes ≡ file)
-    → Answers (CheckGives main bytes) result a b → FilesAnswered holds (Check tree main) result a b
+    → Answers (CheckGives main bytes) result a b → FilesAnswered holds (Some tree) None (FilesGive (Check tree main)) result a b
 check_ends holds main tree bytes result a b told answers = record {
   tree = bytes;
   world = [];
@@ -331,83 +343,74 @@ told_short None name bytes told short = tt
 told_short (Some h) name bytes told short = subst (λ (file : List ℕ). length file ≤ 1048576) told short
 
 -- a tree file that was read, with what a run of it was answered, the world file being read behind it
-module _ {Shelf : Type 0} (read_gives : Reading Shelf) (holds : Option (List ℕ → List ℕ)) (main : Option (List ℕ)) (tree world bytes : List ℕ) (old between new : Shelf) (fell rose last : ℕ) (result : Exit) (a b : Side) where
-  ran_ends : (course : Course) → WorldAnswered holds main course bytes world result a b → Told holds tree (λ file. bytes ≡ file) → FilesAnswered holds (run_command course tree world main) result a b
-  ran_ends course.Script w told = record { tree = bytes; world = w.world; is_tree = told; is_world = w.is_world; answers = w.answers }
-  ran_ends (course.Rounds rounds) w told = record { tree = bytes; world = w.world; is_tree = told; is_world = w.is_world; answers = w.answers }
-
-  unread_ends : (course : Course) → WorldUnread read_gives holds tree (Some world) old new → Unread read_gives holds (run_command course tree world main) old new WorldFile
-  unread_ends course.Script u = u
-  unread_ends (course.Rounds rounds) u = u
-
-  pub run_ends : (course : Course) → fell ≤ rose → read_gives old tree (Ok tt) between → Told holds tree (λ file. bytes ≡ file) → length bytes ≤ 1048576
+module _ {Shelf : Type 0} (read_gives : Reading Shelf) (holds : Option (List ℕ → List ℕ)) (main : Option (List ℕ)) (tree world bytes : List ℕ) (old between new : Shelf) (fell rose last : ℕ) (result : Exit) (a b : Side) (course : Course) where
+  pub run_ends : fell ≤ rose → read_gives old tree (Ok tt) between → Told holds tree (λ file. bytes ≡ file) → length bytes ≤ 1048576
       → ReadFailed (Rose rose last) (λ file. (file ≡ WorldFile) × read_gives between world (Err shelf_fault.Failed) new) result a b ⊎ WorldAnswered holds main course bytes world result a b
-      → ReadFailed (Rose fell last) (Unread read_gives holds (run_command course tree world main) old new) result a b ⊎ FilesAnswered holds (run_command course tree world main) result a b
-  run_ends course less read told short (inl r) =
-      inl (Rose-after fell rose last less r.0, WorldFile, unread_ends course (between, read, told_short holds tree bytes told short, r.2.1), subst (λ (f : File). Gave (unread f) result a b) r.2.0 r.3)
-  run_ends course less read told short (inr w) = inr (ran_ends course w told)
+      → ReadFailed (Rose fell last) (Unread read_gives holds (Some tree) (Some world) old new) result a b ⊎ FilesAnswered holds (Some tree) (Some world) (RunsOn course main) result a b
+  run_ends less read told short (inl r) =
+      inl (Rose-after fell rose last less r.0, WorldFile, (between, read, told_short holds tree bytes told short, r.2.1), subst (λ (f : File). Gave (unread f) result a b) r.2.0 r.3)
+  run_ends less read told short (inr w) = inr (record { tree = bytes; world = w.world; is_tree = told; is_world = w.is_world; answers = w.answers })
 
--- the tree file of a run could not be read, or is named so
-pub tree_unread : {Shelf : Type 0} (read_gives : Reading Shelf) (holds : Option (List ℕ → List ℕ)) (main : Option (List ℕ)) (tree world : List ℕ) (old new : Shelf) (course : Course) → read_gives old tree (Err shelf_fault.Failed) new → Unread read_gives holds (run_command course tree world main) old new TreeFile
-tree_unread read_gives holds main tree world old new course.Script u = u
-tree_unread read_gives holds main tree world old new (course.Rounds rounds) u = u
+-- the files of a load, which names none
+pub load_ends : (holds : Option (List ℕ → List ℕ)) (leaves : ℕ) (result : Exit) (a b : Side) → AtMoments a.clock (λ moments. Answers (RunsOn (course.Load leaves) None (tree_text leaves) (world_text leaves) moments a.drivers) result a b)
+    → FilesAnswered holds None None (FilesGive (Load leaves)) result a b
+load_ends holds leaves result a b answers = record { tree = []; world = []; is_tree = tt; is_world = tt; answers = answers }
 
-pub tree_is_named : (holds : Option (List ℕ → List ℕ)) (main : Option (List ℕ)) (tree world : List ℕ) (course : Course) (P : List ℕ → Type 0) → Told holds tree P → Told holds (tree_name (run_command course tree world main)) P
-tree_is_named holds main tree world course.Script P told = told
-tree_is_named holds main tree world (course.Rounds rounds) P told = told
+-- the exits of the outputs of files
+abbrev IsOfFiles : Exit → Type 0
+IsOfFiles exit.Done = Unit {0}
+IsOfFiles exit.Tree = Unit {0}
+IsOfFiles exit.World = Unit {0}
+IsOfFiles exit.Fault = Unit {0}
+IsOfFiles _ = ⊥
 
--- no output of files has the exit of a failed read
-read_exit : (o z : Output) → o ≡ z → o.exit ≡ exit.Read → z.exit ≡ exit.Read
-read_exit o z p e = sym (ap (λ (x : Output). x.exit) p) ∙ e
+same_exit : (o z : Output) → o ≡ z → IsOfFiles z.exit → IsOfFiles o.exit
+same_exit o z p x = subst (λ (y : Output). IsOfFiles y.exit) (sym p) x
 
-unread_ended : (fault : Option RunFault) → run_exit fault ≡ exit.Read → ⊥
-unread_ended None e = cc
-unread_ended (Some fault) e = cc
+exit_of_end : (fault : Option RunFault) → IsOfFiles (run_exit fault)
+exit_of_end None = tt
+exit_of_end (Some fault) = tt
 
-unread_joined : (lack : Option JoinFault) (tree : Tree) (world : World) (g : Given) → (joined_output lack tree world g).exit ≡ exit.Read → ⊥
-unread_joined None tree world g e = unread_ended (run_over tree world (g.events world)).fault e
-unread_joined (Some fault) tree world g e = cc
+exit_of_join : (lack : Option JoinFault) (tree : Tree) (world : World) (g : Given) → IsOfFiles (joined_output lack tree world g).exit
+exit_of_join None tree world g = exit_of_end (run_over tree world (g.events world)).fault
+exit_of_join (Some fault) tree world g = tt
 
-unread_world : (r : Result World WorldFault) (tree : Tree) (g : Given) → (world_output r tree g).exit ≡ exit.Read → ⊥
-unread_world (Ok world) tree g e = unread_joined (lack_of tree world g.drivers) tree world g e
-unread_world (Err f) tree g e = cc
+exit_of_world : (r : Result World WorldFault) (tree : Tree) (g : Given) → IsOfFiles (world_output r tree g).exit
+exit_of_world (Ok world) tree g = exit_of_join (lack_of tree world g.drivers) tree world g
+exit_of_world (Err f) tree g = tt
 
-unread_check : (r : Result Tree TreeFault) → (check_output r).exit ≡ exit.Read → ⊥
-unread_check (Ok tree) e = cc
-unread_check (Err f) e = cc
+exit_of_check : (r : Result Tree TreeFault) → IsOfFiles (check_output r).exit
+exit_of_check (Ok tree) = tt
+exit_of_check (Err f) = tt
 
-unread_tree : (r : Result Tree TreeFault) (world : List ℕ) (g : Given) (o : Output) → TreeGives r world g o → o.exit ≡ exit.Read → ⊥
-unread_tree (Ok tree) world g o p e = unread_world p.0 tree g (read_exit o _ p.2 e)
-unread_tree (Err f) world g o p e = let x = read_exit o (tree_refused f) p e in cc
+exit_of_tree : (r : Result Tree TreeFault) (world : List ℕ) (g : Given) (o : Output) → TreeGives r world g o → IsOfFiles o.exit
+exit_of_tree (Ok tree) world g o p = same_exit o _ p.2 (exit_of_world p.0 tree g)
+exit_of_tree (Err f) world g o p = same_exit o (tree_refused f) p tt
 
-unread_if : (b : Bool) (o z : Output) (P : Type 0) → (z.exit ≡ exit.Read → ⊥) → MatchBool b (o ≡ z) P → (P → o.exit ≡ exit.Read → ⊥) → o.exit ≡ exit.Read → ⊥
-unread_if true o z P nz p k e = nz (read_exit o z p e)
-unread_if false o z P nz p k e = k p e
+exit_of_long : (b : Bool) (o z : Output) (P : Type 0) → IsOfFiles z.exit → MatchBool b (o ≡ z) P → (P → IsOfFiles o.exit) → IsOfFiles o.exit
+exit_of_long true o z P x p k = same_exit o z p x
+exit_of_long false o z P x p k = k p
 
-long_tree_read : tree_too_long.exit ≡ exit.Read → ⊥
-long_tree_read e = cc
+exit_of_run : (main : Option (List ℕ)) (tree world : List ℕ) (g : Given) (o : Output) → RunGives main tree world g o → IsOfFiles o.exit
+exit_of_run main tree world g o p =
+    exit_of_long (is_too_long tree) o tree_too_long _ tt p
+    (λ p1. exit_of_long (is_too_long world) o world_too_long _ tt p1 (λ p2. exit_of_tree p2.0 world g o p2.2))
 
-long_world_read : world_too_long.exit ≡ exit.Read → ⊥
-long_world_read e = cc
-
-unread_run : (main : Option (List ℕ)) (tree world : List ℕ) (g : Given) (o : Output) → RunGives main tree world g o → o.exit ≡ exit.Read → ⊥
-unread_run main tree world g o p e =
-    unread_if (is_too_long tree) o tree_too_long _ long_tree_read p
-    (λ p1 e1. unread_if (is_too_long world) o world_too_long _ long_world_read p1 (λ p2 e2. unread_tree p2.0 world g o p2.2 e2) e1) e
-
-unread_files : (c : Command) (tree world : List ℕ) (moments : Moments) (drivers : List DriverState) (o : Output) → FilesGive c tree world moments drivers o → o.exit ≡ exit.Read → ⊥
-unread_files (Tick t w main) tree world moments drivers o p e = unread_run main tree world (given course.Script moments drivers) o p e
-unread_files (Live t w rounds main) tree world moments drivers o p e = unread_run main tree world (given (course.Rounds rounds) moments drivers) o p e
-unread_files (Check t main) tree world moments drivers o p e =
-    unread_if (is_too_long tree) o tree_too_long _ long_tree_read p (λ p1 e1. unread_check p1.0 (read_exit o _ p1.2 e1)) e
+exit_of_files : (c : Command) (tree world : List ℕ) (moments : Moments) (drivers : List DriverState) (o : Output) → FilesGive c tree world moments drivers o → IsOfFiles o.exit
+exit_of_files (Tick t w main) tree world moments drivers o p = exit_of_run main tree world (given course.Script moments drivers) o p
+exit_of_files (Live t w rounds main) tree world moments drivers o p = exit_of_run main tree world (given (course.Rounds rounds) moments drivers) o p
+exit_of_files (Load leaves) tree world moments drivers o p = exit_of_run None (tree_text leaves) (world_text leaves) (given (course.Load leaves) moments drivers) o p
+exit_of_files (Check t main) tree world moments drivers o p =
+    exit_of_long (is_too_long tree) o tree_too_long _ tt p (λ p1. same_exit o (check_output p1.0) p1.2 (exit_of_check p1.0))
 
 -- the bytes of the answer are those that the shelf tells
-told_files : (h : List ℕ → List ℕ) (c : Command) (tree world : List ℕ) (moments : Moments) (drivers : List DriverState) (o : Output) → tree ≡ h (tree_name c) → ToldIfNamed (Some h) (world_name c) (λ file. world ≡ file)
-    → FilesGive c tree world moments drivers o → FilesGive c (h (tree_name c)) (held_by h (world_name c)) moments drivers o
+told_files : (h : List ℕ → List ℕ) (c : Command) (tree world : List ℕ) (moments : Moments) (drivers : List DriverState) (o : Output) → ToldIfNamed (Some h) (tree_name c) (λ file. tree ≡ file) → ToldIfNamed (Some h) (world_name c) (λ file. world ≡ file)
+    → FilesGive c tree world moments drivers o → FilesGive c (held_by h (tree_name c)) (held_by h (world_name c)) moments drivers o
 told_files h (Tick t w main) tree world moments drivers o is_tree is_world p =
     subst (λ (z : List ℕ). RunGives main z (h w) (given course.Script moments drivers) o) is_tree (subst (λ (z : List ℕ). RunGives main tree z (given course.Script moments drivers) o) is_world p)
 told_files h (Live t w rounds main) tree world moments drivers o is_tree is_world p =
     subst (λ (z : List ℕ). RunGives main z (h w) (given (course.Rounds rounds) moments drivers) o) is_tree (subst (λ (z : List ℕ). RunGives main tree z (given (course.Rounds rounds) moments drivers) o) is_world p)
+told_files h (Load leaves) tree world moments drivers o is_tree is_world p = p
 told_files h (Check t main) tree world moments drivers o is_tree is_world p = subst (λ (z : List ℕ). CheckGives main z o) is_tree p
 
 -- no tree was run where a file was not read
@@ -419,14 +422,18 @@ not_given : (f : File) → IsGiven (unread f).exit → ⊥
 not_given TreeFile x = x
 not_given WorldFile x = x
 
+not_words : (f : File) → (unread f).exit ≡ exit.Words → ⊥
+not_words TreeFile e = cc
+not_words WorldFile e = cc
+
 -- what was given whole, and what a failed read gave
 module _ (c : Command) (result : Exit) (shelf : Type 0) (IsUnread : File → Type 0) (a b : Side) where
-  whole_answered : (h : List ℕ → List ℕ) (f : FilesAnswered (Some h) c result a b) → IsGiven result → (moments : Moments) → Answers (FilesGive c f.tree f.world moments a.drivers) result a b
+  whole_answered : (h : List ℕ → List ℕ) (f : Answered (Some h) c result a b) → IsGiven result → (moments : Moments) → Answers (FilesGive c f.tree f.world moments a.drivers) result a b
       → (o : Output) × CommandGives (Some c) h moments a.drivers o × IsWhole o result a b
   whole_answered h f given moments (inl x) = (x.0, told_files h c f.tree f.world moments a.drivers x.0 f.is_tree f.is_world x.1, whole_given x.0 result a b given x.2)
   whole_answered h f given moments (inr y) = absurd (subst IsGiven y.0 given)
 
-  pub whole_clause : (holds : Option (List ℕ → List ℕ)) → ReadFailed shelf IsUnread result a b ⊎ FilesAnswered holds c result a b → IsGiven result → WholeOutput holds (Some c) result a b
+  pub whole_clause : (holds : Option (List ℕ → List ℕ)) → ReadFailed shelf IsUnread result a b ⊎ Answered holds c result a b → IsGiven result → WholeOutput holds (Some c) result a b
   whole_clause None x given = tt
   whole_clause (Some h) (inl r) given = absurd (not_given r.1 (subst IsGiven (sym (whole_given (unread r.1) result a b given r.3).0) given))
   whole_clause (Some h) (inr f) given =
@@ -436,14 +443,30 @@ module _ (c : Command) (result : Exit) (shelf : Type 0) (IsUnread : File → Typ
   read_answered : (tree world : List ℕ) (moments : Moments) → result ≡ exit.Read → Answers (FilesGive c tree world moments a.drivers) result a b → ⊥
   read_answered tree world moments is (inl x) =
       let gave : Gave x.0 exit.Read a b = subst (λ (e : Exit). Gave x.0 e a b) is x.2 in
-      unread_files c tree world moments a.drivers x.0 x.1 gave.0
+      subst IsOfFiles gave.0 (exit_of_files c tree world moments a.drivers x.0 x.1)
   read_answered tree world moments is (inr y) = let e : exit.Memory ≡ exit.Read = sym y.0 ∙ is in cc
 
   never_read : (clock : Option Moments) (tree world : List ℕ) → result ≡ exit.Read → AtMoments clock (λ moments. Answers (FilesGive c tree world moments a.drivers) result a b) → ⊥
   never_read clock tree world is x = read_answered tree world x.moments is x.holds
 
-  pub read_clause : (holds : Option (List ℕ → List ℕ)) → ReadFailed shelf IsUnread result a b ⊎ FilesAnswered holds c result a b → result ≡ exit.Read → shelf × UnreadLine IsUnread a b
+  pub read_clause : (holds : Option (List ℕ → List ℕ)) → ReadFailed shelf IsUnread result a b ⊎ Answered holds c result a b → result ≡ exit.Read → shelf × UnreadLine IsUnread a b
   read_clause holds (inl r) is =
       let gave : Gave (unread r.1) exit.Read a b = subst (λ (e : Exit). Gave (unread r.1) e a b) is r.3 in
       (r.0, (r.1, r.2, gave.1, unread_left r.1 a b gave.2))
   read_clause holds (inr f) is = absurd (never_read a.clock f.tree f.world is f.answers)
+
+  words_answered : (tree world : List ℕ) (moments : Moments) → result ≡ exit.Words → Answers (FilesGive c tree world moments a.drivers) result a b → ⊥
+  words_answered tree world moments is (inl x) =
+      let gave : Gave x.0 exit.Words a b = subst (λ (e : Exit). Gave x.0 e a b) is x.2 in
+      subst IsOfFiles gave.0 (exit_of_files c tree world moments a.drivers x.0 x.1)
+  words_answered tree world moments is (inr y) = let e : exit.Memory ≡ exit.Words = sym y.0 ∙ is in cc
+
+  never_words : (clock : Option Moments) (tree world : List ℕ) → result ≡ exit.Words → AtMoments clock (λ moments. Answers (FilesGive c tree world moments a.drivers) result a b) → ⊥
+  never_words clock tree world is x = words_answered tree world x.moments is x.holds
+
+  -- words that are a command are not refused
+  pub words_clause : (holds : Option (List ℕ → List ℕ)) → ReadFailed shelf IsUnread result a b ⊎ Answered holds c result a b → result ≡ exit.Words → ⊥
+  words_clause holds (inl r) is =
+      let gave : Gave (unread r.1) exit.Words a b = subst (λ (e : Exit). Gave (unread r.1) e a b) is r.3 in
+      not_words r.1 gave.0
+  words_clause holds (inr f) is = never_words a.clock f.tree f.world is f.answers

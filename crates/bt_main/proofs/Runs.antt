@@ -3,6 +3,7 @@ use Rattle.std.proofs.Common.{◌≡◌, ◌≤◌, ℕ, List, [], ◌∷◌, Op
 use Rattle.std.specs.Prelude.{IfOk, IfSome, IsErrOf, OnOk, length, option_map}
 use Rattle.bt_arena.specs.declared.join_fault.JoinFault.{JoinFault}
 use Rattle.bt_arena.specs.declared.nodes.Node.{Node}
+use Rattle.bt_load.specs.Summaries.{load_line}
 use Rattle.bt_loop.specs.declared.runs.Runs.{Runs}
 use Rattle.bt_loop.specs.Runs.{AreRuns, instances_wanted, roster_over}
 use Rattle.bt_loop.specs.Served.{calls_made, roster_after_run, serving_places}
@@ -10,7 +11,7 @@ use Rattle.bt_loop.specs.Steps.{IsSameRoster}
 use Rattle.bt_loop.proofs.Rising.{roster_both, same_roster}
 use Rattle.bt_main.specs.declared.course.Course.TheVariants as course
 use Rattle.bt_words.specs.declared.exit.Exit.{Exit}
-use Rattle.bt_main.specs.Answers.{AreKept, AtMoments, ClockLeft, Gave, IfTold, IsWhole, Side, exit_of, side}
+use Rattle.bt_main.specs.Answers.{AreKept, AtMoments, ClockLeft, Gave, IfTold, IsWhole, Side, Wrote, exit_of, side}
 use Rattle.bt_main.specs.Output.{Given, UpToFault, asked_by, given, join_refused, joined_output, run_exit, run_output}
 use Rattle.bt_main.proofs.Clauses.{at_any}
 use Rattle.bt_model.specs.declared.fault.RunFault.{RunFault}
@@ -63,9 +64,8 @@ pub lacking_gave : (lack : Option JoinFault) (fault : JoinFault) (tree : Tree) (
 lacking_gave lack fault tree world g result a b some gave =
     subst (λ (l : Option JoinFault). Gave (joined_output l tree world g) result a b) (sym some) gave
 
--- runs that were made for these drivers, the names of their lines, their events, and what was there before and behind
-module _ (tree : Tree) (world : World) (g : Given) (made after : List DriverState) (arenas : List (List Node)) (names : LineNames) (events : List Event) (s : RunState)
-    (named : names ≡ line_names tree world)
+-- runs that were made for these drivers, their events, and what was there before and behind
+module _ (tree : Tree) (world : World) (g : Given) (made after : List DriverState) (arenas : List (List Node)) (events : List Event) (s : RunState)
     (listed : events ≡ g.events world)
     (opened : s ≡ opening tree world)
     (prepared : made ≡ roster_prepared g.drivers (instances_wanted tree world g.drivers))
@@ -82,8 +82,8 @@ module _ (tree : Tree) (world : World) (g : Given) (made after : List DriverStat
     trace_is : trace ≡ whole_trace
     trace_is = ap (λ (es : List Event). run_from tree world es s) listed ∙ ap (λ (z : RunState). run_from tree world (g.events world) z) opened
 
-    text_is : text_of names trace.blocks ≡ (run_output tree world g).bytes
-    text_is = ap (λ (n : LineNames). text_of n trace.blocks) named ∙ ap (λ (t : Trace). text_of (line_names tree world) t.blocks) trace_is
+    bytes_are : g.bytes tree world trace ≡ (run_output tree world g).bytes
+    bytes_are = ap (λ (t : Trace). g.bytes tree world t) trace_is
 
     drivers_are : after ≡ roster_over arenas trace.calls made → after ≡ roster_after_run tree world g.drivers whole_trace.calls
     drivers_are e =
@@ -96,50 +96,80 @@ module _ (tree : Tree) (world : World) (g : Given) (made after : List DriverStat
     abbrev Asking : Ended → Type 0
     Asking ending = (fault : Option RunFault) → ending ≡ ended fault → ClockLeft (g.asked tree world fault) clock asked
 
-    whole_run : (ending : Ended) → IsRun arenas names made after a b ending trace → Asking ending → IsWhole (run_output tree world g) (exit_of (Ok ending)) (side a fell clock g.drivers) (side b rose asked after)
+    abbrev Ran : Ended → Type 0
+    Ran ending = Wrote (λ (t : Trace). g.bytes tree world t) arenas made after a b ending trace
+
+    whole_run : (ending : Ended) → Ran ending → Asking ending → IsWhole (run_output tree world g) (exit_of (Ok ending)) (side a fell clock g.drivers) (side b rose asked after)
     whole_run ending is asking = (
       ap (λ (t : Trace). run_exit t.fault) (sym trace_is) ∙ ended_exit trace.fault ending is.ends,
-      subst (Appended a b) text_is is.written,
+      subst (Appended a b) bytes_are is.written,
       drivers_are is.drivers,
       asking whole_trace.fault (is.ends ∙ ap (λ (t : Trace). ended t.fault) trace_is),
     )
 
-    pub ending_gave : (ending : Ended) → IsRun arenas names made after a b ending trace → Asking ending → Gave (run_output tree world g) (exit_of (Ok ending)) (side a fell clock g.drivers) (side b rose asked after)
+    pub ending_gave : (ending : Ended) → Ran ending → Asking ending → Gave (run_output tree world g) (exit_of (Ok ending)) (side a fell clock g.drivers) (side b rose asked after)
     ending_gave Done is asking = whole_run Done is asking
     ending_gave Faulted is asking = whole_run Faulted is asking
 
-    pub stopped_gave : (stopped : TextStop) → AppendedFront a b (text_of names trace.blocks) → (stopped ≡ stop.WriteFault → Rose fell rose) → Gave (run_output tree world g) (exit_of (Err stopped)) (side a fell clock g.drivers) (side b rose asked after)
-    stopped_gave stop.WriteFault front failed = (failed refl, subst (AppendedFront a b) text_is front)
-    stopped_gave stop.NoMemory front failed = subst (AppendedFront a b) text_is front
+    pub stopped_gave : (stopped : TextStop) → AppendedFront a b (g.bytes tree world trace) → (stopped ≡ stop.WriteFault → Rose fell rose) → Gave (run_output tree world g) (exit_of (Err stopped)) (side a fell clock g.drivers) (side b rose asked after)
+    stopped_gave stop.WriteFault front failed = (failed refl, subst (AppendedFront a b) bytes_are front)
+    stopped_gave stop.NoMemory front failed = subst (AppendedFront a b) bytes_are front
 
     -- however a run has ended, its output was given
-    pub run_gave : (result : Result Ended TextStop) → IfOk result (λ ending. IsRun arenas names made after a b ending trace) → AppendedFront a b (text_of names trace.blocks) → (IsErrOf result stop.WriteFault → Rose fell rose) →
+    pub run_gave : (result : Result Ended TextStop) → IfOk result Ran → AppendedFront a b (g.bytes tree world trace) → (IsErrOf result stop.WriteFault → Rose fell rose) →
         IfOk result Asking → Gave (run_output tree world g) (exit_of result) (side a fell clock g.drivers) (side b rose asked after)
     run_gave (Ok ending) whole front failed asking = ending_gave ending whole asking
     run_gave (Err stopped) whole front failed asking = stopped_gave stopped front (λ e. failed (ap Err e))
 
 -- ---- Courses
 
-module _ (tree : Tree) (world : World) (moments : Moments) (clock : Option Moments) where
-  abbrev Never_ : Ended → Type 0
-  Never_ ending = (fault : Option RunFault) → ending ≡ ended fault → ClockLeft (asked_by course.Script moments tree world fault) clock clock
+-- the lines of a trace, with the names that the tree and the world give
+module _ (tree : Tree) (world : World) (names : LineNames) (named : names ≡ line_names tree world) (made after : List DriverState) (arenas : List (List Node)) (trace : Trace) (a b : Option (List ℕ)) where
+  abbrev lines : Trace → List ℕ
+  lines t = text_of (line_names tree world) t.blocks
 
-  never_asked : (ran : Result Ended TextStop) → IfOk ran Never_
-  never_asked (Ok ending) = λ fault e. refl
-  never_asked (Err e) = tt
+  wrote_lines : (ending : Ended) → IsRun arenas names made after a b ending trace → Wrote lines arenas made after a b ending trace
+  wrote_lines ending is = record { ends = is.ends; written = subst (λ (n : LineNames). Appended a b (text_of n trace.blocks)) named is.written; drivers = is.drivers }
 
--- the events of a script were run, and the clock was not asked
-pub script_gave : (tree : Tree) (world : World) (drivers made after : List DriverState) (arenas : List (List Node)) (names : LineNames) (events : List Event) (s : RunState)
-    (named : names ≡ line_names tree world) (listed : events ≡ world.events) (opened : s ≡ opening tree world)
+  all_wrote_lines : (ran : Result Ended TextStop) → IfOk ran (λ ending. IsRun arenas names made after a b ending trace) → IfOk ran (λ ending. Wrote lines arenas made after a b ending trace)
+  all_wrote_lines (Ok ending) is = wrote_lines ending is
+  all_wrote_lines (Err e) is = tt
+
+  front_of_lines : AppendedFront a b (text_of names trace.blocks) → AppendedFront a b (lines trace)
+  front_of_lines front = subst (λ (n : LineNames). AppendedFront a b (text_of n trace.blocks)) named front
+
+never_asked : (clock : Option Moments) (ran : Result Ended TextStop) → IfOk ran (λ ending. (fault : Option RunFault) → ending ≡ ended fault → clock ≡ clock)
+never_asked clock (Ok ending) = λ fault e. refl
+never_asked clock (Err e) = tt
+
+-- the events of a world's script were run, and the clock was not asked
+module _ (tree : Tree) (world : World) (drivers made after : List DriverState) (arenas : List (List Node)) (events : List Event) (s : RunState)
+    (listed : events ≡ world.events) (opened : s ≡ opening tree world)
     (prepared : made ≡ roster_prepared drivers (instances_wanted tree world drivers))
     (calls : (calls : List RunnerCall) (now : List DriverState) → roster_over arenas calls now ≡ calls_made world.runners (serving_places tree world drivers) calls now)
-    (a b : Option (List ℕ)) (fell rose : ℕ) (clock : Option Moments) (result : Exit) (ran : Result Ended TextStop) (lack : Option JoinFault) →
-    lack ≡ None → result ≡ exit_of ran →
-    IfOk ran (λ ending. IsRun arenas names made after a b ending (run_from tree world events s)) → AppendedFront a b (text_of names (run_from tree world events s).blocks) → (IsErrOf ran stop.WriteFault → Rose fell rose) →
-    AtMoments clock (λ moments. Gave (joined_output lack tree world (given course.Script moments drivers)) result (side a fell clock drivers) (side b rose clock after))
-script_gave tree world drivers made after arenas names events s named listed opened prepared calls a b fell rose clock result ran lack none is whole front failed =
-    at_any clock _ (λ moments. joined_gave lack tree world (given course.Script moments drivers) result (exit_of ran) _ _ none is
-    (run_gave tree world (given course.Script moments drivers) made after arenas names events s named listed opened prepared calls a b fell rose clock clock ran whole front failed (never_asked tree world moments clock ran)))
+    (a b : Option (List ℕ)) (fell rose : ℕ) (clock : Option Moments) (result : Exit) (lack : Option JoinFault) (none : lack ≡ None) (ran : Result Ended TextStop) (is : result ≡ exit_of ran)
+  where
+    abbrev made_trace : Trace
+    made_trace = run_from tree world events s
+
+    -- .. and their trace was written
+    pub script_gave : (names : LineNames) → names ≡ line_names tree world →
+        IfOk ran (λ ending. IsRun arenas names made after a b ending made_trace) → AppendedFront a b (text_of names made_trace.blocks) → (IsErrOf ran stop.WriteFault → Rose fell rose) →
+        AtMoments clock (λ moments. Gave (joined_output lack tree world (given course.Script moments drivers)) result (side a fell clock drivers) (side b rose clock after))
+    script_gave names named whole front failed =
+        at_any clock _ (λ moments. joined_gave lack tree world (given course.Script moments drivers) result (exit_of ran) _ _ none is
+        (run_gave tree world (given course.Script moments drivers) made after arenas events s listed opened prepared calls a b fell rose clock clock ran
+        (all_wrote_lines tree world names named made after arenas made_trace a b ran whole) (front_of_lines tree world names named made after arenas made_trace a b front) failed (never_asked clock ran)))
+
+    -- .. and the line of a load was written
+    pub load_gave : (leaves : ℕ) →
+        IfOk ran (λ ending. Wrote (load_line leaves tree (length events)) arenas made after a b ending made_trace) → AppendedFront a b (load_line leaves tree (length events) made_trace) → (IsErrOf ran stop.WriteFault → Rose fell rose) →
+        AtMoments clock (λ moments. Gave (joined_output lack tree world (given (course.Load leaves) moments drivers)) result (side a fell clock drivers) (side b rose clock after))
+    load_gave leaves whole front failed =
+        at_any clock _ (λ moments. joined_gave lack tree world (given (course.Load leaves) moments drivers) result (exit_of ran) _ _ none is
+        (run_gave tree world (given (course.Load leaves) moments drivers) made after arenas events s listed opened prepared calls a b fell rose clock clock ran
+        (subst (λ (es : List Event). IfOk ran (λ ending. Wrote (load_line leaves tree (length es)) arenas made after a b ending made_trace)) listed whole)
+        (subst (λ (es : List Event). AppendedFront a b (load_line leaves tree (length es) made_trace)) listed front) failed (never_asked clock ran)))
 
 -- moments as a clock's
 moments_are : (ms : List ℕ) (last : ℕ) → taken (length ms) (record { ahead = ms; last = last }) ≡ ms
@@ -217,7 +247,8 @@ module _ (tree : Tree) (world : World) (drivers made after : List DriverState) (
           moments = m.moments;
           told = m.told;
           holds = joined_gave lack tree world (given (course.Rounds rounds) m.moments drivers) result (exit_of (Ok ending)) _ _ none is
-              (ending_gave tree world (given (course.Rounds rounds) m.moments drivers) made after arenas names (live_events world last whole.0) s named (listed whole.0 m.moments m.is) opened prepared calls a b fell rose clock asked ending whole.2
+              (ending_gave tree world (given (course.Rounds rounds) m.moments drivers) made after arenas (live_events world last whole.0) s (listed whole.0 m.moments m.is) opened prepared calls a b fell rose clock asked ending
+              (wrote_lines tree world names named made after arenas (run_from tree world (live_events world last whole.0) s) a b ending whole.2)
               (asks tree world rounds clock asked s last opened zero_last ending m.moments m.told begun.0 begun.2 begun.3 (λ e. all (ap Ok e))));
         }
     rounds_gave (Err stopped) is whole front failed begun all =
@@ -226,5 +257,6 @@ module _ (tree : Tree) (world : World) (drivers made after : List DriverState) (
           moments = m.moments;
           told = m.told;
           holds = joined_gave lack tree world (given (course.Rounds rounds) m.moments drivers) result (exit_of (Err stopped)) _ _ none is
-              (stopped_gave tree world (given (course.Rounds rounds) m.moments drivers) made after arenas names (live_events world last front.0) s named (listed front.0 m.moments m.is) opened prepared calls a b fell rose clock asked stopped front.2 (λ e. failed (ap Err e)));
+              (stopped_gave tree world (given (course.Rounds rounds) m.moments drivers) made after arenas (live_events world last front.0) s (listed front.0 m.moments m.is) opened prepared calls a b fell rose clock asked stopped
+              (front_of_lines tree world names named made after arenas (run_from tree world (live_events world last front.0) s) a b front.2) (λ e. failed (ap Err e)));
         }

@@ -1,10 +1,12 @@
 -- What the answer of a command says.
 use Rattle.std.specs.Prelude.{ℕ, ◌≡◌, ◌≤◌, ◌⊎◌, List, [], length, Option, Some, None, option_map, Result, Ok, Err}
+use Rattle.bt_arena.specs.declared.nodes.Node.{Node}
+use Rattle.bt_loop.specs.Runs.{roster_over}
 use Rattle.bt_loop.specs.Steps.{IsSameRoster}
 use Rattle.bt_main.specs.declared.course.Course.{Course}
 use Rattle.bt_words.specs.declared.exit.Exit.{Exit}
 use Rattle.bt_words.specs.declared.exit.Exit.TheVariants as exit
-use Rattle.bt_main.specs.Output.{Asked, Never, Times, UpToFault, Output, CommandGives, FilesGive, RunGives, given, tree_name, unread, words_refused, world_name}
+use Rattle.bt_main.specs.Output.{Asked, Never, Times, UpToFault, Output, CommandGives, FilesGive, Giving, RunGives, given, tree_name, unread, words_refused, world_name}
 use Rattle.bt_words.specs.Words.{Command, Live, File, TreeFile, WorldFile}
 use Rattle.bt_model.specs.Drivers.{DriverState, NothingHeld, driver_at}
 use Rattle.bt_run.specs.declared.ended.Ended.{Ended}
@@ -15,8 +17,9 @@ use Rattle.bt_outside.specs.Appending.{Appended, AppendedFront}
 use Rattle.bt_outside.specs.Counts.{Rose}
 use Rattle.bt_outside.specs.Files.{Told}
 use Rattle.bt_outside.specs.Moments.{Moments}
-use Rattle.bt_model.specs.Run.{opening}
+use Rattle.bt_model.specs.Run.{Trace, opening}
 use Rattle.bt_run.specs.Rounds.{AreBegun, moments_after}
+use Rattle.bt_run.specs.Traces.{ended}
 use Rattle.bt_outside.specs.declared.shelf.ShelfFault.{ShelfFault}
 use Rattle.bt_outside.specs.declared.shelf.ShelfFault.TheVariants as fault
 
@@ -76,6 +79,12 @@ IsWhole o result old new =
     (o.exit ≡ result) × Appended old.written new.written o.bytes
     × DriversLeft o.drivers old.drivers new.drivers × ClockLeft o.asked old.clock new.clock
 
+-- a run has ended so as its trace does: these bytes of it were written, and the drivers had its calls, in their order
+pub record Wrote (bytes : Trace → List ℕ) (arenas : List (List Node)) (before after : List DriverState) (old new : Option (List ℕ)) (ending : Ended) (trace : Trace) : Type 0 where
+  pub ends : ending ≡ ended trace.fault
+  pub written : Appended old new (bytes trace)
+  pub drivers : after ≡ roster_over arenas trace.calls before
+
 -- the exit of a run that was ended so
 abbrev pub exit_of : Result Ended TextStop → Exit
 exit_of (Ok Done) = exit.Done
@@ -123,24 +132,29 @@ moments_for _ clock = Some no_moments
 abbrev pub Reading : Type 0 → Type 1
 Reading Shelf = Shelf → List ℕ → Result (Unit {0}) ShelfFault → Shelf → Type 0
 
+-- the read of a tree file that may be named failed
+abbrev pub TreeUnread : {Shelf : Type 0} → Reading Shelf → Option (List ℕ) → Shelf → Shelf → Type 0
+TreeUnread read_gives None old new = ⊥
+TreeUnread read_gives (Some tree) old new = read_gives old tree (Err fault.Failed) new
+
 -- the read of a world file that may be named failed, behind that of the tree file, which is then within the limit, where
 -- the shelf tells it
-abbrev pub WorldUnread : {Shelf : Type 0} → Reading Shelf → Option (List ℕ → List ℕ) → List ℕ → Option (List ℕ) → Shelf → Shelf → Type 0
-WorldUnread read_gives holds tree None old new = ⊥
-WorldUnread {Shelf} read_gives holds tree (Some world) old new =
+abbrev pub WorldUnread : {Shelf : Type 0} → Reading Shelf → Option (List ℕ → List ℕ) → Option (List ℕ) → Option (List ℕ) → Shelf → Shelf → Type 0
+WorldUnread {Shelf} read_gives holds (Some tree) (Some world) old new =
     (between : Shelf) × read_gives old tree (Ok tt) between
     × Told holds tree (λ file. length file ≤ 1048576)
     × read_gives between world (Err fault.Failed) new
+WorldUnread read_gives holds _ _ old new = ⊥
 
--- the read of this file of a command failed
-abbrev pub Unread : {Shelf : Type 0} → Reading Shelf → Option (List ℕ → List ℕ) → Command → Shelf → Shelf → File → Type 0
-Unread read_gives holds command old new TreeFile = read_gives old (tree_name command) (Err fault.Failed) new
-Unread read_gives holds command old new WorldFile = WorldUnread read_gives holds (tree_name command) (world_name command) old new
+-- the read of this one failed of a tree file and a world file, which may be named
+abbrev pub Unread : {Shelf : Type 0} → Reading Shelf → Option (List ℕ → List ℕ) → Option (List ℕ) → Option (List ℕ) → Shelf → Shelf → File → Type 0
+Unread read_gives holds tree world old new TreeFile = TreeUnread read_gives tree old new
+Unread read_gives holds tree world old new WorldFile = WorldUnread read_gives holds tree world old new
 
 -- the same of words, of which those that are no command name no file
 abbrev pub WordsUnread : {Shelf : Type 0} → Reading Shelf → Option (List ℕ → List ℕ) → Option Command → Shelf → Shelf → File → Type 0
 WordsUnread read_gives holds None old new file = ⊥
-WordsUnread read_gives holds (Some command) old new file = Unread read_gives holds command old new file
+WordsUnread read_gives holds (Some command) old new file = Unread read_gives holds (tree_name command) (world_name command) old new file
 
 -- The shelf's count of failures rose: the read of a file failed, and the line of this file was given.
 abbrev pub ReadFailed : Type 0 → (File → Type 0) → Exit → Side → Side → Type 0
@@ -154,21 +168,21 @@ abbrev pub ToldIfNamed : Option (List ℕ → List ℕ) → Option (List ℕ) �
 ToldIfNamed holds None P = Unit {0}
 ToldIfNamed holds (Some name) P = Told holds name P
 
--- the output of these bytes of the files that a command names, and of these moments, which are those that the shelf
--- and the clock tell
-pub record FilesAnswered (holds : Option (List ℕ → List ℕ)) (command : Command) (result : Exit) (old new : Side) : Type 0 where
+-- the output of these bytes of files that may be named, and of these moments, which are those that the shelf and the clock
+-- tell
+pub record FilesAnswered (holds : Option (List ℕ → List ℕ)) (tree_named world_named : Option (List ℕ)) (Gives : Giving) (result : Exit) (old new : Side) : Type 0 where
   pub tree : List ℕ
   pub world : List ℕ
-  pub is_tree : Told holds (tree_name command) (λ file. tree ≡ file)
-  pub is_world : ToldIfNamed holds (world_name command) (λ file. world ≡ file)
-  pub answers : AtMoments old.clock (λ moments. Answers (FilesGive command tree world moments old.drivers) result old new)
+  pub is_tree : ToldIfNamed holds tree_named (λ file. tree ≡ file)
+  pub is_world : ToldIfNamed holds world_named (λ file. world ≡ file)
+  pub answers : AtMoments old.clock (λ moments. Answers (Gives tree world moments old.drivers) result old new)
 
 -- What words were answered, also by a shelf or a clock that tells nothing: the output of some bytes of its files and of
 -- some moments was given, or the line of a file whose read failed; or the words are no command.
 abbrev pub CommandAnswered : Option Command → Option (List ℕ → List ℕ) → Type 0 → (File → Type 0) → Exit → Side → Side → Type 0
 CommandAnswered None holds shelf_rose IsUnread result old new = Gave words_refused result old new
 CommandAnswered (Some command) holds shelf_rose IsUnread result old new =
-    ReadFailed shelf_rose IsUnread result old new ⊎ FilesAnswered holds command result old new
+    ReadFailed shelf_rose IsUnread result old new ⊎ FilesAnswered holds (tree_name command) (world_name command) (FilesGive command) result old new
 
 -- the read of a file failed, the line of this file was written whole, and no driver was called
 abbrev pub UnreadLine : (File → Type 0) → Side → Side → Type 0

@@ -3,6 +3,8 @@ use Rattle.std.specs.Prelude.{ℕ, ◌≡◌, List, [], ◌++◌, codes, decimal
 use Rattle.std.specs.List.{concat}
 use Rattle.bt_arena.specs.declared.join_fault.JoinFault.{JoinFault}
 use Rattle.bt_arena.specs.Joins.{first_lack}
+use Rattle.bt_load.specs.Summaries.{load_line}
+use Rattle.bt_load.specs.Texts.{tree_text, world_text}
 use Rattle.bt_loop.specs.Served.{roster_after_run}
 use Rattle.bt_main.specs.declared.course.Course.{Course}
 use Rattle.bt_main.specs.declared.course.Course.TheVariants as course
@@ -11,7 +13,7 @@ use Rattle.bt_words.specs.declared.exit.Exit.TheVariants as exit
 use Rattle.bt_refusals.specs.declared.tree_file.TreeFault.{TreeFault}
 use Rattle.bt_refusals.specs.Refusals.{join_words, tree_words, world_words}
 use Rattle.bt_refusals.specs.TreeFiles.{TreeReads}
-use Rattle.bt_words.specs.Words.{Command, Tick, Live, Check, File, TreeFile, WorldFile}
+use Rattle.bt_words.specs.Words.{Command, Tick, Live, Load, Check, File, TreeFile, WorldFile}
 use Rattle.bt_model.specs.declared.fault.RunFault.{RunFault}
 use Rattle.bt_model.specs.declared.term.Tree.{Tree}
 use Rattle.bt_model.specs.declared.world.Event.{Event}
@@ -95,26 +97,36 @@ run_exit (Some fault) = exit.Fault
 abbrev pub events_by : Course → Moments → World → List Event
 events_by course.Script moments world = world.events
 events_by (course.Rounds rounds) moments world = live_events world 0 (taken rounds moments)
+events_by (course.Load leaves) moments world = world.events
+
+-- what is written of a run: its trace, block by block, or of a load the line that sums it up
+abbrev pub bytes_by : Course → Tree → World → Trace → List ℕ
+bytes_by course.Script tree world trace = text_of (line_names tree world) trace.blocks
+bytes_by (course.Rounds rounds) tree world trace = text_of (line_names tree world) trace.blocks
+bytes_by (course.Load leaves) tree world trace = load_line leaves tree (length world.events) trace
 
 -- how often a run asks the clock: once a round, and never for a script
 abbrev pub asked_by : Course → Moments → Tree → World → Option RunFault → Asked
 asked_by course.Script moments tree world fault = Never
 asked_by (course.Rounds rounds) moments tree world None = Times rounds
 asked_by (course.Rounds rounds) moments tree world (Some fault) = UpToFault tree world (taken rounds moments)
+asked_by (course.Load leaves) moments tree world fault = Never
 
--- what a run is given beside its files: its events, how often they ask the clock, and the drivers
+-- what a run is given beside its files: its events, what is written of its trace, how often it asks the clock, and the
+-- drivers
 pub record Given : Type 0 where
   pub events : World → List Event
+  pub bytes : Tree → World → Trace → List ℕ
   pub asked : Tree → World → Option RunFault → Asked
   pub drivers : List DriverState
 
 abbrev pub given : Course → Moments → List DriverState → Given
-given course moments drivers = record { events = events_by course moments; asked = asked_by course moments; drivers = drivers }
+given course moments drivers = record { events = events_by course moments; bytes = bytes_by course; asked = asked_by course moments; drivers = drivers }
 
--- what is written of a run: its trace, block by block; the drivers were prepared and then made its calls
+-- what is written of a run's trace; the drivers were prepared and then made its calls
 abbrev pub traced : Tree → World → Given → Trace → Output
 traced tree world g trace = record {
-  bytes = text_of (line_names tree world) trace.blocks;
+  bytes = g.bytes tree world trace;
   exit = run_exit trace.fault;
   drivers = Some (roster_after_run tree world g.drivers trace.calls);
   asked = g.asked tree world trace.fault;
@@ -162,27 +174,39 @@ RunGives main tree world g output =
     (OrTooLong world world_too_long output
     ((read : Result Tree TreeFault) × TreeReads main tree read × TreeGives read world g output))
 
+-- what a tree file, a world file, moments and drivers have for outputs
+abbrev pub Giving : Type 1
+Giving = List ℕ → List ℕ → Moments → List DriverState → Output → Type 0
+
+-- the output of a run on this course
+abbrev pub RunsOn : Course → Option (List ℕ) → Giving
+RunsOn course main = λ tree world moments drivers. RunGives main tree world (given course moments drivers)
+
 -- the output of `check` over the bytes of its file
 abbrev pub CheckGives : Option (List ℕ) → List ℕ → Output → Type 0
 CheckGives main tree output =
     OrTooLong tree tree_too_long output
     ((read : Result Tree TreeFault) × TreeReads main tree read × (output ≡ check_output read))
 
--- the output of a command over these bytes of the files that it names, these moments and these drivers
-abbrev pub FilesGive : Command → List ℕ → List ℕ → Moments → List DriverState → Output → Type 0
-FilesGive (Tick _ _ main) tree world moments drivers output = RunGives main tree world (given course.Script moments drivers) output
-FilesGive (Live _ _ rounds main) tree world moments drivers output = RunGives main tree world (given (course.Rounds rounds) moments drivers) output
-FilesGive (Check _ main) tree world moments drivers output = CheckGives main tree output
+-- the output of a command over these bytes of the files that it names, these moments and these drivers; a load makes both
+-- of its files
+abbrev pub FilesGive : Command → Giving
+FilesGive (Tick _ _ main) = RunsOn course.Script main
+FilesGive (Live _ _ rounds main) = RunsOn (course.Rounds rounds) main
+FilesGive (Load leaves) = λ tree world. RunsOn (course.Load leaves) None (tree_text leaves) (world_text leaves)
+FilesGive (Check _ main) = λ tree world moments drivers output. CheckGives main tree output
 
 -- the files that a command names
-abbrev pub tree_name : Command → List ℕ
-tree_name (Tick tree world main) = tree
-tree_name (Live tree world rounds main) = tree
-tree_name (Check tree main) = tree
+abbrev pub tree_name : Command → Option (List ℕ)
+tree_name (Tick tree world main) = Some tree
+tree_name (Live tree world rounds main) = Some tree
+tree_name (Load leaves) = None
+tree_name (Check tree main) = Some tree
 
 abbrev pub world_name : Command → Option (List ℕ)
 world_name (Tick tree world main) = Some world
 world_name (Live tree world rounds main) = Some world
+world_name (Load leaves) = None
 world_name (Check tree main) = None
 
 -- what a file holds that may be named
@@ -194,4 +218,4 @@ held_by holds None = []
 abbrev pub CommandGives : Option Command → (List ℕ → List ℕ) → Moments → List DriverState → Output → Type 0
 CommandGives None holds moments drivers output = output ≡ words_refused
 CommandGives (Some command) holds moments drivers output =
-    FilesGive command (holds (tree_name command)) (held_by holds (world_name command)) moments drivers output
+    FilesGive command (held_by holds (tree_name command)) (held_by holds (world_name command)) moments drivers output

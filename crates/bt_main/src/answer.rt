@@ -2,9 +2,9 @@ ghost use Rattle.std.specs.Prelude.{◌≡◌, ◌≤◌, ◌⊎◌, List, ℕ, 
 ghost use Rattle.std.specs.Option.{option_copied};
 ghost use Rattle.bt_loop.specs.Steps.{IsSameRoster};
 ghost use Rattle.bt_main.specs.Answers.{Answers, AreKept, AtMoments, CommandAnswered, EachOutput, FilesAnswered, Gave, IsGiven, IsWhole, ReadFailed, Unread, UnreadLine, WholeOutput, WordsUnread, WorldAnswered, side};
-ghost use Rattle.bt_words.specs.Commands.{command_seen, run_command};
-ghost use Rattle.bt_main.specs.Output.{CheckGives, CommandGives, RunGives, given, words_refused};
-ghost use Rattle.bt_words.specs.Words.{Check, WorldFile, command_of};
+ghost use Rattle.bt_words.specs.Commands.{HasFewLeaves, command_seen};
+ghost use Rattle.bt_main.specs.Output.{CheckGives, CommandGives, FilesGive, RunGives, RunsOn, given, tree_name, words_refused, world_name};
+ghost use Rattle.bt_words.specs.Words.{Check, Load, WorldFile, command_of};
 ghost use Rattle.bt_model.specs.Drivers.{DriverState, NothingHeld};
 ghost use Rattle.bt_outside.specs.Counts.{Rose};
 ghost use Rattle.bt_outside.specs.Moments.{Moments};
@@ -14,6 +14,7 @@ use crate::join::{refuse_tree, run_world, write_last};
 use crate::printing::print_tree;
 use bt_driver::Driver;
 use bt_elements::{element_or_fault, one_element};
+use bt_load::{load_tree, load_world};
 use bt_outside::{Clock, Shelf, ShelfFault, Sink};
 use bt_refusals::read_tree;
 use bt_script::{Name, Stop};
@@ -77,10 +78,9 @@ fn check<S: Shelf, K: Sink>(
     ensures answers { (clock : Option Moments) (drivers : List DriverState) →
         let old = side (K.written out.old) (K.faults out.old) clock drivers in
         let new = side (K.written out.new) (K.faults out.new) clock drivers in
-        let command = Check tree.now (option_copied main.entry) in
         ReadFailed (Rose (S.faults shelf.old) (S.faults shelf.new))
-        (Unread S.read_gives (S.holds shelf.old) command shelf.old shelf.new) result old new
-        ⊎ FilesAnswered (S.holds shelf.old) command result old new }
+        (Unread S.read_gives (S.holds shelf.old) (Some tree.now) None shelf.old shelf.new) result old new
+        ⊎ FilesAnswered (S.holds shelf.old) (Some tree.now) None (FilesGive (Check tree.now (option_copied main.entry))) result old new }
     ensures read_count { S.faults shelf.old ≤ S.faults shelf.new }
     ensures count { K.faults out.old ≤ K.faults out.new }
 {
@@ -108,10 +108,9 @@ fn run_files<S: Shelf, K: Sink, C: Clock>(
     requires quiet { NothingHeld (map (λ b. state b) roster.old.items) }
     ensures answers { let old = side (K.written out.old) (K.faults out.old) (C.moments clock.old) (map (λ b. state b) roster.old.items) in
         let new = side (K.written out.new) (K.faults out.new) (C.moments clock.new) (map (λ b. state b) roster.new.items) in
-        let command = run_command course tree.now world.now (option_copied main.entry) in
         ReadFailed (Rose (S.faults shelf.old) (S.faults shelf.new))
-        (Unread S.read_gives (S.holds shelf.old) command shelf.old shelf.new) result old new
-        ⊎ FilesAnswered (S.holds shelf.old) command result old new }
+        (Unread S.read_gives (S.holds shelf.old) (Some tree.now) (Some world.now) shelf.old shelf.new) result old new
+        ⊎ FilesAnswered (S.holds shelf.old) (Some tree.now) (Some world.now) (RunsOn course (option_copied main.entry)) result old new }
     ensures kept { AreKept (map (λ b. state b) roster.old.items) (map (λ b. state b) roster.new.items) }
     ensures read_count { S.faults shelf.old ≤ S.faults shelf.new }
     ensures count { K.faults out.old ≤ K.faults out.new }
@@ -176,6 +175,40 @@ fn answer_world<S: Shelf, K: Sink, C: Clock>(
     }
 }
 
+/// Runs a load of so many leaves, whose files are made.
+fn answer_load<K: Sink, C: Clock>(
+    alloc: Global,
+    leaves: u32,
+    out: &mut K,
+    clock: &mut C,
+    roster: &mut Vec<Box<dyn Driver>>,
+) -> Exit
+    requires few { leaves ≤ 1000 }
+    requires quiet { NothingHeld (map (λ b. state b) roster.old.items) }
+    ensures answers { let old = side (K.written out.old) (K.faults out.old) (C.moments clock.old) (map (λ b. state b) roster.old.items) in
+        let new = side (K.written out.new) (K.faults out.new) (C.moments clock.new) (map (λ b. state b) roster.new.items) in
+        (holds : Option (List ℕ → List ℕ)) → FilesAnswered holds None None (FilesGive (Load leaves)) result old new }
+    ensures kept { AreKept (map (λ b. state b) roster.old.items) (map (λ b. state b) roster.new.items) }
+    ensures count { K.faults out.old ≤ K.faults out.new }
+{
+    let Ok(tree) = load_tree(alloc, leaves) else {
+        return Exit::Memory;
+    };
+    let Ok(world) = load_world(alloc, leaves) else {
+        return Exit::Memory;
+    };
+    answer_files(
+        alloc,
+        tree.as_slice(),
+        world.as_slice(),
+        None,
+        Course::Load(leaves),
+        out,
+        clock,
+        roster,
+    )
+}
+
 /// Runs a command over its files.
 fn answer_command<S: Shelf, K: Sink, C: Clock>(
     alloc: Global,
@@ -185,12 +218,14 @@ fn answer_command<S: Shelf, K: Sink, C: Clock>(
     clock: &mut C,
     roster: &mut Vec<Box<dyn Driver>>,
 ) -> Exit
+    requires few { HasFewLeaves (command_seen command) }
     requires quiet { NothingHeld (map (λ b. state b) roster.old.items) }
     ensures answers { let old = side (K.written out.old) (K.faults out.old) (C.moments clock.old) (map (λ b. state b) roster.old.items) in
         let new = side (K.written out.new) (K.faults out.new) (C.moments clock.new) (map (λ b. state b) roster.new.items) in
+        let command = command_seen command.entry in
         ReadFailed (Rose (S.faults shelf.old) (S.faults shelf.new))
-        (Unread S.read_gives (S.holds shelf.old) (command_seen command.entry) shelf.old shelf.new) result old new
-        ⊎ FilesAnswered (S.holds shelf.old) (command_seen command.entry) result old new }
+        (Unread S.read_gives (S.holds shelf.old) (tree_name command) (world_name command) shelf.old shelf.new) result old new
+        ⊎ FilesAnswered (S.holds shelf.old) (tree_name command) (world_name command) (FilesGive command) result old new }
     ensures kept { AreKept (map (λ b. state b) roster.old.items) (map (λ b. state b) roster.new.items) }
     ensures read_count { S.faults shelf.old ≤ S.faults shelf.new }
     ensures count { K.faults out.old ≤ K.faults out.new }
@@ -209,6 +244,7 @@ fn answer_command<S: Shelf, K: Sink, C: Clock>(
             let course = Course::Rounds(rounds);
             run_files(alloc, tree, world, main, course, shelf, out, clock, roster)
         }
+        Command::Load { leaves } => answer_load(alloc, leaves, out, clock, roster),
         Command::Check { tree, main } => check(alloc, tree, main, shelf, out),
     }
 }

@@ -1,17 +1,25 @@
-ghost use Rattle.std.specs.Prelude.{◌≡◌, ◌≤◌, List, Option, None, length, map};
-ghost use Rattle.bt_main.specs.Answers.{Answers, AreKept, AreUncalled, AtMoments, Gave, IsSpoken, exit_of, side};
+ghost use Rattle.std.specs.Prelude.{◌≡◌, ◌≤◌, IfOk, IsErrOf, List, Option, None, length, map};
+ghost use Rattle.bt_load.specs.Summaries.{load_line};
+ghost use Rattle.bt_loop.specs.Runs.{arenas_of};
+ghost use Rattle.bt_loop.specs.Steps.{IsSameRoster};
+ghost use Rattle.bt_main.specs.Answers.{Answers, AreKept, AreUncalled, AtMoments, Gave, IsSpoken, Wrote, exit_of, side};
 ghost use Rattle.bt_main.specs.Output.{Never, WorldGives, given, join_refused, joined_output, lack_of, tree_refused, world_refused};
 ghost use Rattle.bt_model.specs.Drivers.{DriverState, NothingHeld};
+ghost use Rattle.bt_model.specs.Lines.{line_names};
 ghost use Rattle.bt_model.specs.Trees.{IsValid};
 ghost use Rattle.bt_model.specs.Worlds.{IsValidWorld};
+ghost use Rattle.bt_outside.specs.Appending.{AppendedFront};
+ghost use Rattle.bt_outside.specs.Counts.{Rose};
 ghost use Rattle.bt_outside.specs.Moments.{Moments};
+ghost use Rattle.bt_run.specs.Traces.{CanAllCome, CanRun, trace_of};
 
 use crate::course::Course;
 use bt_arena::JoinFault;
 use bt_board::slots_of;
 use bt_driver::Driver;
-use bt_loop::runs_of;
-use bt_model::{Tree, World, WorldFault};
+use bt_load::run_load;
+use bt_loop::{Runs, runs_of};
+use bt_model::{Event, Tree, World, WorldFault};
 use bt_outside::{Clock, Sink};
 use bt_refusals::{TreeFault, join_refusal, tree_refusal, world_refusal};
 use bt_run::{Ended, run_events, run_rounds};
@@ -97,8 +105,8 @@ pub fn run_world<K: Sink, C: Clock>(
     }
 }
 
-/// Runs the tree over the world and writes its trace, where every leaf has a row and a driver; else
-/// refuses the first that lacks one.
+/// Runs the tree over the world and writes its trace, or the line that sums up a load, where every
+/// leaf has a row and a driver; else refuses the first that lacks one.
 fn run_joined<K: Sink, C: Clock>(
     alloc: Global,
     tree: &Tree,
@@ -132,10 +140,38 @@ fn run_joined<K: Sink, C: Clock>(
             Course::Rounds(rounds) => {
                 exit_of(run_rounds(alloc, runs, rounds, &names, roster, clock, out))
             }
+            Course::Load(leaves) => {
+                exit_of(run_summed(alloc, leaves, runs, world.events.list(), roster, out))
+            }
         },
         Err(Stop::Fault(fault)) => refuse_join(alloc, &fault, out),
         Err(Stop::NoMemory) => Exit::Memory,
     }
+}
+
+/// Runs a load of so many leaves, and writes the line that sums it up.
+fn run_summed<K: Sink>(
+    alloc: Global,
+    leaves: u32,
+    runs: Runs,
+    events: &[Event],
+    roster: &mut Vec<Box<dyn Driver>>,
+    out: &mut K,
+) -> Result<Ended, TextStop>
+    requires runs { (tree : Tree) × (world : World) × CanRun tree world (line_names tree world) (map (λ b. state b) roster.old.items) runs × CanAllCome world runs.last events.now }
+    ensures whole { (tree : Tree) (world : World) → CanRun tree world (line_names tree world) (map (λ b. state b) roster.old.items) runs → CanAllCome world runs.last events.now →
+        IfOk result (λ ended. Wrote (load_line leaves tree (length events.now)) (arenas_of runs) (map (λ b. state b) roster.old.items) (map (λ b. state b) roster.new.items) (K.written out.old) (K.written out.new) ended
+        (trace_of tree world (map (λ b. state b) roster.old.items) runs events.now)) }
+    ensures front { (tree : Tree) (world : World) → CanRun tree world (line_names tree world) (map (λ b. state b) roster.old.items) runs → CanAllCome world runs.last events.now →
+        AppendedFront (K.written out.old) (K.written out.new) (load_line leaves tree (length events.now) (trace_of tree world (map (λ b. state b) roster.old.items) runs events.now)) }
+    ensures none { NothingHeld (map (λ b. state b) roster.new.items) }
+    ensures roster { IsSameRoster (map (λ b. state b) roster.old.items) (map (λ b. state b) roster.new.items) }
+    ensures failed { IsErrOf result TextStop.WriteFault → Rose (K.faults out.old) (K.faults out.new) }
+    ensures count { K.faults out.old ≤ K.faults out.new }
+{
+    let (line, ended) = run_load(alloc, leaves, runs, events, roster)?;
+    write_line(out, line.as_slice())?;
+    Ok(ended)
 }
 
 /// The exit of a run that ended so.

@@ -7,6 +7,7 @@ mod decorators;
 mod failing;
 mod halts;
 mod live;
+mod load;
 mod runners;
 mod scripts;
 mod stage;

@@ -25,24 +25,25 @@ are_options is_name (name ∷ value ∷ options) = is_name name && is_unset name
 
 -- ---- Commands
 
--- a command: its files, how many rounds, and the main tree where it names one
+-- a command: its files, how many rounds, and the main tree where it names one; or how many leaves a load has
 pub data Command : Type 0 where
   Tick : (tree world : List ℕ) (main : Option (List ℕ)) → Command
   Live : (tree world : List ℕ) (rounds : ℕ) (main : Option (List ℕ)) → Command
+  Load : (leaves : ℕ) → Command
   Check : (tree : List ℕ) (main : Option (List ℕ)) → Command
 
 -- the options: the ID of the main tree, and for some commands a number of ticks
 unfoldable pub is_option : Bool → List ℕ → Bool
 is_option ticks name = bytes_eq name (codes "--main") || ticks && bytes_eq name (codes "--ticks")
 
--- a number from 1 to 100,000
-abbrev pub as_rounds : Option ℤ → Option ℕ
-as_rounds (Some (pos n)) = if nat_le 1 n && nat_le n 100000 then Some n else None
-as_rounds _ = None
+-- a number from 1 to this one
+abbrev pub as_count : ℕ → Option ℤ → Option ℕ
+as_count most (Some (pos n)) = if nat_le 1 n && nat_le n most then Some n else None
+as_count most _ = None
 
--- the number that the option `--ticks` gives, written canonically
+-- the number from 1 to 100,000 that the option `--ticks` gives, written canonically
 unfoldable pub rounds_in : List (List ℕ) → Option ℕ
-rounds_in options = option_and_then (λ word. as_rounds (int_in word)) (value_of (codes "--ticks") options)
+rounds_in options = option_and_then (λ word. as_count 100000 (int_in word)) (value_of (codes "--ticks") options)
 
 -- `TREE WORLD [--main ID]`
 abbrev pub tick_of : List (List ℕ) → Option Command
@@ -58,6 +59,11 @@ live_of (tree ∷ world ∷ options) =
     else None
 live_of _ = None
 
+-- `N`, a number from 1 to 1,000, written canonically
+abbrev pub load_of : List (List ℕ) → Option Command
+load_of (word ∷ []) = option_map Load (as_count 1000 (int_in word))
+load_of _ = None
+
 -- `TREE [--main ID]`
 abbrev pub check_of : List (List ℕ) → Option Command
 check_of (tree ∷ options) = if are_options (is_option false) options then Some (Check tree (value_of (codes "--main") options)) else None
@@ -65,7 +71,7 @@ check_of _ = None
 
 -- the commands by their first words, each with what it makes of the words behind it
 abbrev pub commands : List (List ℕ × (List (List ℕ) → Option Command))
-commands = (codes "tick", tick_of) ∷ (codes "live", live_of) ∷ (codes "check", check_of) ∷ []
+commands = (codes "tick", tick_of) ∷ (codes "live", live_of) ∷ (codes "load", load_of) ∷ (codes "check", check_of) ∷ []
 
 abbrev pub command_among : List (List ℕ × (List (List ℕ) → Option Command)) → List ℕ → List (List ℕ) → Option Command
 command_among [] word words = None

@@ -1,8 +1,9 @@
-ghost use Rattle.std.specs.Prelude.{◌≡◌, ◌↔◌, IfOk, MatchOption, Some, None, codes};
+ghost use Rattle.std.specs.Prelude.{◌≡◌, ◌≤◌, ◌↔◌, IfOk, IfSome, MatchOption, Some, None, codes};
 ghost use Rattle.std.specs.IoError.{error_kind};
 ghost use Rattle.std.specs.Option.{option_copied};
-ghost use Rattle.bt_words.specs.Commands.{command_seen};
-ghost use Rattle.bt_words.specs.Words.{are_options, check_of, command_of, is_option, is_unset, live_of, rounds_in, as_rounds, tick_of, value_of};
+ghost use Rattle.bt_words.specs.Commands.{HasFewLeaves, command_seen};
+ghost use Rattle.bt_words.specs.Words.{are_options, as_count, check_of, command_of, is_option, is_unset, live_of, load_of, rounds_in, tick_of, value_of};
+ghost use Rattle.bt_model.specs.Numbers.{int_in};
 
 use bt_model::int;
 use bt_script::{Name, NoMemory};
@@ -11,7 +12,8 @@ use std::env::Env;
 use std::io::ErrorKind;
 use std::{env, io};
 
-/// A command: the files that it names, how many rounds, and the ID of the main tree where it names one.
+/// A command: the files that it names, how many rounds, and the ID of the main tree where it names
+/// one; or how many leaves a load has.
 #[derive(Clone, Copy)]
 pub enum Command<'a> {
     /// `tick TREE WORLD [--main ID]`
@@ -27,6 +29,11 @@ pub enum Command<'a> {
         /// 1 to 100,000.
         rounds: u32,
         main: Option<&'a Name>,
+    },
+    /// `load N`
+    Load {
+        /// 1 to 1,000.
+        leaves: u32,
     },
     /// `check TREE [--main ID]`
     Check {
@@ -91,7 +98,7 @@ fn main_of<'a>(options: &'a [Name]) -> Option<&'a Name>
 
 /// A number from 1 to 100,000.
 fn as_rounds(number: Option<i64>) -> Option<u32>
-    ensures { result ≡ as_rounds number }
+    ensures { result ≡ as_count 100000 number }
 {
     match number {
         Some(n @ 1..=100_000) => Some(n as u32),
@@ -112,7 +119,8 @@ fn rounds_in(options: &[Name]) -> Option<u32>
 
 /// The command `tick` with these words behind it.
 fn read_tick<'a>(words: &'a [Name]) -> Option<Command<'a>>
-    ensures { MatchOption result (tick_of words.now ≡ None) (λ c. tick_of words.now ≡ Some (command_seen c)) }
+    ensures command { MatchOption result (tick_of words.now ≡ None) (λ c. tick_of words.now ≡ Some (command_seen c)) }
+    ensures few { IfSome result (λ c. HasFewLeaves (command_seen c)) }
 {
     let [tree, world, options @ ..] = words else {
         return None;
@@ -129,7 +137,8 @@ fn read_tick<'a>(words: &'a [Name]) -> Option<Command<'a>>
 
 /// The command `live` with these words behind it.
 fn read_live<'a>(words: &'a [Name]) -> Option<Command<'a>>
-    ensures { MatchOption result (live_of words.now ≡ None) (λ c. live_of words.now ≡ Some (command_seen c)) }
+    ensures command { MatchOption result (live_of words.now ≡ None) (λ c. live_of words.now ≡ Some (command_seen c)) }
+    ensures few { IfSome result (λ c. HasFewLeaves (command_seen c)) }
 {
     let [tree, world, options @ ..] = words else {
         return None;
@@ -148,9 +157,35 @@ fn read_live<'a>(words: &'a [Name]) -> Option<Command<'a>>
     }
 }
 
+/// The number of leaves, from 1 to 1,000, that a word is.
+fn leaves_in(word: &Name) -> Option<u32>
+    ensures number { result ≡ as_count 1000 (int_in word.now) }
+    ensures few { IfSome result (λ leaves. leaves ≤ 1000) }
+{
+    match int(word.list()) {
+        Some(n @ 1..=1_000) => Some(n as u32),
+        _ => None,
+    }
+}
+
+/// The command `load` with these words behind it.
+fn read_load<'a>(words: &'a [Name]) -> Option<Command<'a>>
+    ensures command { MatchOption result (load_of words.now ≡ None) (λ c. load_of words.now ≡ Some (command_seen c)) }
+    ensures few { IfSome result (λ c. HasFewLeaves (command_seen c)) }
+{
+    let [word] = words else {
+        return None;
+    };
+    match leaves_in(word) {
+        Some(leaves) => Some(Command::Load { leaves }),
+        None => None,
+    }
+}
+
 /// The command `check` with these words behind it.
 fn read_check<'a>(words: &'a [Name]) -> Option<Command<'a>>
-    ensures { MatchOption result (check_of words.now ≡ None) (λ c. check_of words.now ≡ Some (command_seen c)) }
+    ensures command { MatchOption result (check_of words.now ≡ None) (λ c. check_of words.now ≡ Some (command_seen c)) }
+    ensures few { IfSome result (λ c. HasFewLeaves (command_seen c)) }
 {
     let [tree, options @ ..] = words else {
         return None;
@@ -166,7 +201,8 @@ fn read_check<'a>(words: &'a [Name]) -> Option<Command<'a>>
 
 /// The command that the words are.
 pub fn read_command<'a>(words: &'a [Name]) -> Option<Command<'a>>
-    ensures { MatchOption result (command_of words.now ≡ None) (λ c. command_of words.now ≡ Some (command_seen c)) }
+    ensures command { MatchOption result (command_of words.now ≡ None) (λ c. command_of words.now ≡ Some (command_seen c)) }
+    ensures few { IfSome result (λ c. HasFewLeaves (command_seen c)) }
 {
     let [word, words @ ..] = words else {
         return None;
@@ -175,6 +211,8 @@ pub fn read_command<'a>(words: &'a [Name]) -> Option<Command<'a>>
         read_tick(words)
     } else if word.list() == b"live".as_slice() {
         read_live(words)
+    } else if word.list() == b"load".as_slice() {
+        read_load(words)
     } else if word.list() == b"check".as_slice() {
         read_check(words)
     } else {

@@ -1,7 +1,8 @@
-use Rattle.std.proofs.Common.{◌∙◌, Err, ap, inl, inr, refl}
+use Rattle.std.proofs.Common.{◌∙◌, Err, None, Some, ap, inl, inr, refl}
 use Rattle.std.specs.Option.{option_copied}
 use Rattle.bt_words.specs.Words.{Check, TreeFile}
-use Rattle.bt_main.proofs.Clauses.{check_ends, long_tree, tree_out_of_memory}
+use Rattle.bt_main.specs.Output.{FilesGive}
+use Rattle.bt_main.proofs.Clauses.{check_ends, long_check, long_tree, out_of_memory}
 use Rattle.bt_main.proofs.answer.check.Goals as goal
 
 pub returns-in-Err-Failed-clause-answers : goal.returns-in-Err-Failed-clause-answers
@@ -12,10 +13,10 @@ returns-in-Err-Failed-clause-answers g c =
 pub returns-in-Err-TooLong-clause-answers : goal.returns-in-Err-TooLong-clause-answers
 returns-in-Err-TooLong-clause-answers g c =
     let too_long = c.in-Err-TooLong.is ∙ ap Err c.in-Err-TooLong.field-0-is in
-    λ clock drivers. inr (long_tree (g.S.Shelf.holds c.args.shelf.now) (Check c.args.tree.now (option_copied c.args.main)) c.read.new.room.items _ _ _ (c.read.ensures.past too_long) (c.read.ensures.longer too_long) (c.write_last-in-Err-TooLong.ensures.gave clock drivers drivers (λ place. refl)))
+    λ clock drivers. inr (long_tree (g.S.Shelf.holds c.args.shelf.now) c.args.tree.now None (FilesGive (Check c.args.tree.now (option_copied c.args.main))) c.read.new.room.items _ _ _ (long_check c.args.tree.now (option_copied c.args.main)) (c.read.ensures.past too_long) (c.read.ensures.longer too_long) (c.write_last-in-Err-TooLong.ensures.gave clock drivers drivers (λ place. refl)))
 
 pub returns-clause-answers : goal.returns-clause-answers
-returns-clause-answers g c = λ clock drivers. inr (tree_out_of_memory (g.S.Shelf.holds c.args.shelf.now) (Check c.args.tree.now (option_copied c.args.main)) _ _ refl)
+returns-clause-answers g c = λ clock drivers. inr (out_of_memory (g.S.Shelf.holds c.args.shelf.now) (Some c.args.tree.now) None (FilesGive (Check c.args.tree.now (option_copied c.args.main))) _ _ refl)
 
 pub returns-in-Ok-clause-answers : goal.returns-in-Ok-clause-answers
 returns-in-Ok-clause-answers g c =

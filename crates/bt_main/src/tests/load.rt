@@ -1,0 +1,127 @@
+//! Loads, whose files the program makes: the line that sums up the run, and what the drivers count.
+
+use super::shelf_of;
+use super::stage::answer_with;
+use crate::roster::add_driver;
+use bt_driver::{Driver, Totals, hold_nothing};
+use bt_leaves::{Conditions, Gate, Replay, Timed};
+use bt_outside::MemSink;
+use bt_script::NoMemory;
+use std::alloc::Global;
+use std::test::Fail;
+
+/// What words write to a sink of which these writes fail after some bytes, with the exit, the counts
+/// of each driver that was called, and `held` where one holds anything.
+fn loaded(alloc: Global, words: &[&str], fails: &[(u64, u64)]) -> Result<String, NoMemory> {
+    let mut shelf = shelf_of(alloc, b"", b"", &[])?;
+    let mut sink = MemSink::new(alloc, Vec::from_slice(alloc, fails)?);
+    let mut roster: Vec<Box<dyn Driver>> = Vec::new(alloc);
+    add_driver(&mut roster, Box::new(alloc, Conditions::new(alloc))?)?;
+    add_driver(&mut roster, Box::new(alloc, Timed::new(alloc))?)?;
+    add_driver(&mut roster, Box::new(alloc, Replay::new(alloc))?)?;
+    add_driver(&mut roster, Box::new(alloc, Gate::new(alloc))?)?;
+    let exit = answer_with(alloc, words, &mut shelf, &mut sink, &mut roster)?;
+    let written = str::from_utf8(sink.list()).unwrap_or("?");
+    let mut text = format!(in alloc; "{written}{exit:?}")?;
+    for driver in &roster {
+        let Totals {
+            starts,
+            runnings,
+            haltings,
+            trail,
+        } = driver.totals();
+        if trail != 0 {
+            let kind = driver.kind();
+            let counts = format!(in alloc;
+                "; {kind:?} {starts} {runnings} {haltings} trail {trail}"
+            )?;
+            text.push_str(counts.as_str())?;
+        }
+    }
+    if !hold_nothing(roster.as_slice()) {
+        text.push_str("; held")?;
+    }
+    Ok(text)
+}
+
+const ONE: &str = "\
+load 1 nodes 3 events 10 start 5 running 5 halted 0 success 5
+Done; Timed 5 5 0 trail 11000667790739505769";
+
+const TWO: &str = "\
+load 2 nodes 5 events 20 start 22 running 10 halted 0 success 10
+Done; Timed 10 10 0 trail 7270223050260324154; Replay 12 0 0 trail 10747639093772219256";
+
+const TEN: &str = "\
+load 10 nodes 21 events 100 start 93 running 91 halted 1 success 8
+Done; Timed 42 91 1 trail 16495024243833144083; Replay 51 0 0 trail 3483068138380107525";
+
+const THOUSAND: &str = "\
+load 1000 nodes 2001 events 10000 start 7663 running 9993 halted 1 success 6
+Done; Timed 3332 9993 1 trail 13181239788873133299; Replay 4331 0 0 trail 9366271619127460444";
+
+#[test]
+fn loads_are_summed_up(rt: HostRuntime) -> Result<(), Fail> {
+    let table: [(&[&str], &[(u64, u64)], &str); 20] = [
+        (&["load", "1"], &[], ONE),
+        (&["load", "2"], &[], TWO),
+        (&["load", "10"], &[], TEN),
+        (&["load", "1000"], &[], THOUSAND),
+        (&["load", "1000"], &[], THOUSAND),
+        (&["load"], &[], "refused words\nWords"),
+        (&["load", ""], &[], "refused words\nWords"),
+        (&["load", "0"], &[], "refused words\nWords"),
+        (&["load", "01"], &[], "refused words\nWords"),
+        (&["load", "+1"], &[], "refused words\nWords"),
+        (&["load", "-1"], &[], "refused words\nWords"),
+        (&["load", "1001"], &[], "refused words\nWords"),
+        (
+            &["load", "18446744073709551617"],
+            &[],
+            "refused words\nWords",
+        ),
+        (&["load", "T"], &[], "refused words\nWords"),
+        (&["load", "1", "2"], &[], "refused words\nWords"),
+        (
+            &["load", "1", "--main", "Load"],
+            &[],
+            "refused words\nWords",
+        ),
+        (&["load", "--ticks", "1"], &[], "refused words\nWords"),
+        (&["Load", "1"], &[], "refused words\nWords"),
+        // The one line is one write, and it comes behind the run.
+        (
+            &["load", "1"],
+            &[(1, 0)],
+            "Write; Timed 5 5 0 trail 11000667790739505769",
+        ),
+        (
+            &["load", "1"],
+            &[(1, 3)],
+            "loaWrite; Timed 5 5 0 trail 11000667790739505769",
+        ),
+    ];
+    for (words, fails, want) in table {
+        assert_eq!(rt;
+            loaded(rt.alloc(), words, fails)?.as_str(),
+            want,
+            "{words:?}"
+        );
+    }
+    Ok(())
+}
+
+#[test]
+fn a_load_needs_its_drivers(rt: HostRuntime) -> Result<(), Fail> {
+    let alloc = rt.alloc();
+    let mut shelf = shelf_of(alloc, b"", b"", &[])?;
+    let mut sink = MemSink::new(alloc, Vec::new(alloc));
+    let mut roster: Vec<Box<dyn Driver>> = Vec::new(alloc);
+    let exit = answer_with(alloc, &["load", "1"], &mut shelf, &mut sink, &mut roster)?;
+    let text = str::from_utf8(sink.list()).unwrap_or("?");
+    assert_eq!(rt;
+        format!(in alloc; "{text}{exit:?}")?.as_str(),
+        "refused world NoDriver Timed\nWorld"
+    );
+    Ok(())
+}
