@@ -1,10 +1,8 @@
 //! Loads, whose files the program makes: the line that sums up the run, and what the drivers count.
 
 use super::shelf_of;
-use super::stage::answer_with;
-use crate::roster::add_driver;
-use bt_driver::{Driver, Totals, hold_nothing};
-use bt_leaves::{Conditions, Gate, Replay, Timed};
+use super::stage::{answer_with, run_words};
+use bt_driver::Driver;
 use bt_outside::MemSink;
 use bt_script::NoMemory;
 use std::alloc::Global;
@@ -15,33 +13,10 @@ use std::test::Fail;
 fn loaded(alloc: Global, words: &[&str], fails: &[(u64, u64)]) -> Result<String, NoMemory> {
     let mut shelf = shelf_of(alloc, b"", b"", &[])?;
     let mut sink = MemSink::new(alloc, Vec::from_slice(alloc, fails)?);
-    let mut roster: Vec<Box<dyn Driver>> = Vec::new(alloc);
-    add_driver(&mut roster, Box::new(alloc, Conditions::new(alloc))?)?;
-    add_driver(&mut roster, Box::new(alloc, Timed::new(alloc))?)?;
-    add_driver(&mut roster, Box::new(alloc, Replay::new(alloc))?)?;
-    add_driver(&mut roster, Box::new(alloc, Gate::new(alloc))?)?;
-    let exit = answer_with(alloc, words, &mut shelf, &mut sink, &mut roster)?;
-    let written = str::from_utf8(sink.list()).unwrap_or("?");
-    let mut text = format!(in alloc; "{written}{exit:?}")?;
-    for driver in &roster {
-        let Totals {
-            starts,
-            runnings,
-            haltings,
-            trail,
-        } = driver.totals();
-        if trail != 0 {
-            let kind = driver.kind();
-            let counts = format!(in alloc;
-                "; {kind:?} {starts} {runnings} {haltings} trail {trail}"
-            )?;
-            text.push_str(counts.as_str())?;
-        }
-    }
-    if !hold_nothing(roster.as_slice()) {
-        text.push_str("; held")?;
-    }
-    Ok(text)
+    let ending = run_words(alloc, words, &mut shelf, &mut sink)?;
+    let text = str::from_utf8(sink.list()).unwrap_or("?");
+    let held = if ending.holds { "; held" } else { "" };
+    Ok(format!(in alloc; "{text}{:?}{}{held}", ending.exit, ending.counts)?)
 }
 
 const ONE: &str = "\

@@ -51,6 +51,13 @@ pub fn answer_with<K: Sink>(
     answer_at(alloc, words, shelf, sink, &mut clock, roster)
 }
 
+/// A shelf of a tree of these nodes and a world of these lines.
+fn shelf_of_rows(alloc: Global, nodes: &str, lines: &str) -> Result<MemShelf, NoMemory> {
+    let tree = tree_of(alloc, nodes)?;
+    let world = script(alloc, lines)?;
+    shelf_of(alloc, tree.as_bytes(), world.as_bytes(), &[])
+}
+
 /// Runs these nodes in a world of these lines with these drivers.
 pub fn run_with<K: Sink>(
     alloc: Global,
@@ -61,9 +68,7 @@ pub fn run_with<K: Sink>(
 ) -> Result<Exit, NoMemory>
     requires { NothingHeld (map (λ b. state b) roster.old.items) }
 {
-    let tree = tree_of(alloc, nodes)?;
-    let world = script(alloc, lines)?;
-    let mut shelf = shelf_of(alloc, tree.as_bytes(), world.as_bytes(), &[])?;
+    let mut shelf = shelf_of_rows(alloc, nodes, lines)?;
     answer_with(alloc, &TICK, &mut shelf, sink, roster)
 }
 
@@ -102,11 +107,11 @@ fn counts_of(alloc: Global, roster: &[Box<dyn Driver>]) -> Result<String, AllocE
     Ok(text)
 }
 
-/// Runs these nodes in a world of these lines with the four drivers of the modelled world.
-pub fn run(
+/// Answers these words with the four drivers of the modelled world.
+pub fn run_words(
     alloc: Global,
-    nodes: &str,
-    lines: &str,
+    words: &[&str],
+    shelf: &mut MemShelf,
     sink: &mut MemSink,
 ) -> Result<Ending, NoMemory> {
     let mut roster: Vec<Box<dyn Driver>> = Vec::new(alloc);
@@ -114,12 +119,23 @@ pub fn run(
     add_driver(&mut roster, Box::new(alloc, Timed::new(alloc))?)?;
     add_driver(&mut roster, Box::new(alloc, Replay::new(alloc))?)?;
     add_driver(&mut roster, Box::new(alloc, Gate::new(alloc))?)?;
-    let exit = run_with(alloc, nodes, lines, sink, &mut roster)?;
+    let exit = answer_with(alloc, words, shelf, sink, &mut roster)?;
     Ok(Ending {
         exit,
         counts: counts_of(alloc, roster.as_slice())?,
         holds: !hold_nothing(roster.as_slice()),
     })
+}
+
+/// Runs these nodes in a world of these lines with the four drivers of the modelled world.
+pub fn run(
+    alloc: Global,
+    nodes: &str,
+    lines: &str,
+    sink: &mut MemSink,
+) -> Result<Ending, NoMemory> {
+    let mut shelf = shelf_of_rows(alloc, nodes, lines)?;
+    run_words(alloc, &TICK, &mut shelf, sink)
 }
 
 /// What a run writes, with its exit behind it.
