@@ -8,7 +8,7 @@ use Rattle.bt_model.specs.Visit.{meaning, meaning_of_node}
 use Rattle.bt_arena.specs.declared.nodes.Kept.{Kept}
 use Rattle.bt_arena.specs.declared.nodes.Node.{Node}
 use Rattle.bt_arena.specs.Nodes.{IsNode, kept_at, node_at}
-use Rattle.bt_arena.specs.Stands.{Reading, Standing, StandInOrder, Stands, memories_of, memory_of, node_stands, reading_of_node, view_under, written}
+use Rattle.bt_arena.specs.Stands.{Reading, Standing, StandInOrder, Stands, memories_of, memory_of, node_stands, reading_of_node, uids_in_order, view_under, written}
 
 pub map_twice : {A B C : Type 0} (f : A → B) (g : B → C) (xs : List A) → map (λ x. g (f x)) xs ≡ map g (map f xs)
 map_twice f g [] = refl
@@ -21,11 +21,17 @@ module _ {X : Type 0} (term : X → Term) where
   stand_as_terms stands [] nodes view uid = refl
   stand_as_terms stands (c ∷ cs) nodes view uid = λ i. stands (term c) nodes view uid × stand_as_terms stands cs nodes view (uid + (meaning (term c)).size) i
 
+  -- their uids are those of the terms
+  uids_as_terms : (cs : List X) (uid : ℕ) → uids_in_order (λ c. (meaning (term c)).size) cs uid ≡ uids_in_order (λ t. (meaning t).size) (map term cs) uid
+  uids_as_terms [] uid = refl
+  uids_as_terms (c ∷ cs) uid = ap (λ us. uid ∷ us) (uids_as_terms cs (uid + (meaning (term c)).size))
+
   node_stands_as_terms : (stands : Term → Standing) (node : Term-F X) → node_stands X term (λ c. stands (term c)) node ≡ node_stands Term (λ t. t) stands (map-Term X Term term node)
   node_stands_as_terms stands node = λ i nodes view uid.
       (uid < length nodes)
       × IsNode view (record (written node) { children = sym (length-map node.children term) i }) (1 + sizes (map_twice term meaning node.children i)) (node_at nodes uid)
       × stand_as_terms stands node.children nodes (view_under view uid (written node)) (uid + 1) i
+      × ((node_at nodes uid).child_uids ≡ uids_as_terms node.children (uid + 1) i)
 
 pub stands_roll : (x : Term-F Term) → Stands (roll-Term x) ≡ node_stands Term (λ t. t) Stands x
 stands_roll x = rec-roll-Term Standing node_stands (λ Y v k x. node_stands_as_terms v k x) x

@@ -38,7 +38,7 @@ static = ind-Term IsStatic (λ x y is a b view uid same stands.
     (all_static y.children a b (view_under view uid (written x)) (uid + 1))
     (λ p low high. same p (omega (arith, low)) (omega (arith, high, whole))) here.2 in
     subst (λ (p : Standing). p b view uid) (sym (stands_roll x))
-    (there.0, subst (λ (n : Node). IsNode view (written x) (1 + sizes (map (λ c. meaning c) x.children)) n) (sym there.1) here.1, children))
+    (there.0, subst (λ (n : Node). IsNode view (written x) (1 + sizes (map (λ c. meaning c) x.children)) n) (sym there.1) here.1, children, ap (λ (n : Node). n.child_uids) there.1 ∙ here.3))
 
 -- the same of some terms
 pub static_all : (ts : List Term) (a b : List Node) (view : View) (uid : ℕ) → AreSame uid (all_sizes ts) a b → StandAll ts a view uid → StandAll ts b view uid

@@ -27,7 +27,7 @@ use Rattle.bt_arena.specs.Laying.{AreLaid, AreNext, CanBeLaid, IsNext, counted_a
 use Rattle.bt_arena.specs.Nodes.{IsLeafOf, IsNode, LeafStands, is_leaf, node_at}
 use Rattle.bt_arena.specs.Resolving.{view_in}
 use Rattle.bt_arena.specs.Rows.{counted_at}
-use Rattle.bt_arena.specs.Stands.{StandAll, Stands, view_under, written}
+use Rattle.bt_arena.specs.Stands.{StandAll, Stands, uids_of, view_under, written}
 use Rattle.bt_arena.proofs.Framed.{all_sizes}
 use Rattle.bt_arena.proofs.Laid.{leaves_out, scope_inside}
 use Rattle.bt_arena.proofs.Opened.{closed}
@@ -126,7 +126,7 @@ module _ (tree : Tree) (world : World) (drivers : List DriverState) where
     view = view_in tree world number
 
     abbrev sized : Node
-    sized = record node { size = length mid - length old }
+    sized = record node { size = length mid - length old; child_uids = uids_of (out-Term t).children (length old + 1) }
 
     abbrev whole : List Node
     whole = old ++ sized ∷ below.added
@@ -169,6 +169,7 @@ module _ (tree : Tree) (world : World) (drivers : List DriverState) where
       omega (arith, length-append old (sized ∷ below.added)),
       subst (λ n. IsNode view (written (out-Term t)) n (node_at whole (length old))) (sym size_here) (subst (λ (n : Node). IsNode view (written (out-Term t)) (length mid - length old) n) (sym (at_seam old sized below.added)) sized_is),
       children_stand,
+      ap (λ (n : Node). n.child_uids) (at_seam old sized below.added),
     )
 
     ids_here : flat_map (λ ids. ids) (map leaf_ids (t ∷ [])) ≡ own_leaf_id (out-Term t).kind (out-Term t).id ++ flat_map (λ ids. ids) (map leaf_ids (out-Term t).children)
@@ -188,12 +189,12 @@ module _ (tree : Tree) (world : World) (drivers : List DriverState) where
     }
 
   -- the same, as it is found in the code
-  pub term_laid : (t : Term) (number : ℕ) (old pushed mid new : List Node) (node : Node) (next further left : List ℕ) (place uid : ℕ) (ts : List Term) (inner : ℕ) →
+  pub term_laid : (t : Term) (number : ℕ) (old pushed mid new : List Node) (node : Node) (next further left : List ℕ) (place uid : ℕ) (ts : List Term) (inner : ℕ) (uids : List ℕ) →
       place ≡ length old → uid ≡ place → pushed ≡ old ++ node ∷ [] → ts ≡ (out-Term t).children → inner ≡ children_scope_number (out-Term t).kind uid number →
       CanBeLaid tree world drivers (t ∷ []) (length old) number → IsNode (view_in tree world number) (written (out-Term t)) 0 node → IsNext drivers next node.leaf → further ≡ counted_at (driver_of node.leaf) next →
-      AreLaid tree world drivers ts inner pushed mid further left → new ≡ set mid place (record (node_at mid place) { size = length mid - place }) →
+      AreLaid tree world drivers ts inner pushed mid further left → uids ≡ uids_of ts (length pushed) → new ≡ set mid place (record (node_at mid place) { size = length mid - place; child_uids = uids }) →
       AreLaid tree world drivers (t ∷ []) number old new next left
-  term_laid t number old pushed mid new node next further left place uid ts inner is_place is_uid is_pushed are_children is_inner can is_node is_next counts laid is_new =
+  term_laid t number old pushed mid new node next further left place uid ts inner uids is_place is_uid is_pushed are_children is_inner can is_node is_next counts laid are_uids is_new =
       let kind = (out-Term t).kind in
       let in_scope : inner ≡ children_scope_number kind (length old) number = is_inner ∙ ap (λ u. children_scope_number kind u number) (is_uid ∙ is_place) in
       let below : AreLaid tree world drivers (out-Term t).children (children_scope_number kind (length old) number) (old ++ node ∷ []) mid further left =
@@ -201,10 +202,21 @@ module _ (tree : Tree) (world : World) (drivers : List DriverState) where
       (subst (λ n. AreLaid tree world drivers ts n (old ++ node ∷ []) mid further left) in_scope
       (subst (λ (ns : List Node). AreLaid tree world drivers ts inner ns mid further left) is_pushed laid)) in
       let there : node_at mid (length old) ≡ node = node_there t number old mid node next further left can is_node is_next counts below in
-      let made : new ≡ set mid (length old) (record node { size = length mid - length old }) =
-      is_new ∙ (λ i. set mid (is_place i) (record (node_at mid (is_place i)) { size = length mid - is_place i })) ∙ (λ i. set mid (length old) (record (there i) { size = length mid - length old })) in
+      let below_uids : uids ≡ uids_of (out-Term t).children (length old + 1) = are_uids ∙ (λ i. uids_of (are_children i) (length (is_pushed i))) ∙ ap (uids_of (out-Term t).children) (length-append old (node ∷ [])) in
+      let made : new ≡ set mid (length old) (record node { size = length mid - length old; child_uids = uids_of (out-Term t).children (length old + 1) }) =
+      is_new ∙ (λ i. set mid (is_place i) (record (node_at mid (is_place i)) { size = length mid - is_place i; child_uids = below_uids i })) ∙ (λ i. set mid (length old) (record (there i) { size = length mid - length old; child_uids = uids_of (out-Term t).children (length old + 1) })) in
       subst (λ (ns : List Node). AreLaid tree world drivers (t ∷ []) number old ns next left) (sym made)
       (node_laid t number old mid node next further left can is_node is_next counts below)
+
+-- the uids of some terms, and then of one more
+pub uids_more : (t : Term) (ts rest : List Term) (us more : List ℕ) (uid last next : ℕ) → more ≡ us ++ last ∷ [] → last ≡ uid → next ≡ uid + node_count t → rest ≡ t ∷ ts →
+    more ++ uids_of ts next ≡ us ++ uids_of rest uid
+uids_more t ts rest us more uid last next is_more is_last far is_rest =
+    let behind : next ≡ uid + (meaning t).size = far ∙ ap (λ n. uid + n) (sym (size_is t)) in
+    ap (λ (l : List ℕ). l ++ uids_of ts next) is_more
+    ∙ append_assoc us (last ∷ []) (uids_of ts next)
+    ∙ (λ i. us ++ is_last i ∷ uids_of ts (behind i))
+    ∙ ap (λ (l : List Term). us ++ uids_of l uid) (sym is_rest)
 
 counted_length : (place : Option ℕ) (counts : List ℕ) → length (counted_at place counts) ≡ length counts
 counted_length None counts = refl

@@ -41,7 +41,7 @@ no_guards = record {
 
 -- what stands at place 0, which is no node's
 abbrev pub nobody : Node
-nobody = record { kind = AlwaysSuccess; size = 0; children = 0; code = None; guards = no_guards; ports = []; leaf = None }
+nobody = record { kind = AlwaysSuccess; size = 0; children = 0; child_uids = []; code = None; guards = no_guards; ports = []; leaf = None }
 
 -- what a node keeps before its first visit, and after a quench
 abbrev pub at_rest : Kept

@@ -39,11 +39,17 @@ StandInOrder size stands [] nodes view uid = Unit {0}
 StandInOrder size stands (c ∷ cs) nodes view uid = stands c nodes view uid × StandInOrder size stands cs nodes view (uid + size c)
 
 -- a node, and its children behind it
+-- their uids, of which the first is this one
+abbrev pub uids_in_order : {X : Type 0} → (X → ℕ) → List X → ℕ → List ℕ
+uids_in_order size [] uid = []
+uids_in_order size (c ∷ cs) uid = uid ∷ uids_in_order size cs (uid + size c)
+
 abbrev pub node_stands : (X : Type 0) → (X → Term) → (X → Standing) → Term-F X → Standing
 node_stands X term stands node nodes view uid =
     (uid < length nodes)
     × IsNode view (written node) (1 + sizes (map (λ c. meaning (term c)) node.children)) (node_at nodes uid)
     × StandInOrder (λ c. (meaning (term c)).size) stands node.children nodes (view_under view uid (written node)) (uid + 1)
+    × ((node_at nodes uid).child_uids ≡ uids_in_order (λ c. (meaning (term c)).size) node.children (uid + 1))
 
 -- A term stands in an arena: the nodes from this uid on are those of the term in pre-order, in this view. Some terms
 -- stand there one behind the other.
@@ -52,6 +58,10 @@ Stands = rec-Term Standing node_stands
 
 abbrev pub StandAll : List Term → Standing
 StandAll = StandInOrder (λ t. (meaning t).size) Stands
+
+-- the uids of terms that stand so, from this one on
+abbrev pub uids_of : List Term → ℕ → List ℕ
+uids_of = uids_in_order (λ t. (meaning t).size)
 
 -- ---- Memories
 

@@ -11,7 +11,7 @@ ghost use Rattle.bt_arena.specs.Laying.{AreLaid, CanBeLaid, IsBareNode, IsNext, 
 ghost use Rattle.bt_arena.specs.Nodes.{IsFit, IsNode, node_at, nobody as no_node};
 ghost use Rattle.bt_arena.specs.Resolving.{AreNamed, GuardsAreNamed, names_if_there, port_keys, view_in};
 ghost use Rattle.bt_arena.specs.Rows.{Finds, counted_at};
-ghost use Rattle.bt_arena.specs.Stands.{written};
+ghost use Rattle.bt_arena.specs.Stands.{uids_of, written};
 
 use crate::leaves::leaf_of;
 use crate::nodes::{Node, ReadyGuards};
@@ -43,7 +43,7 @@ fn scope_under(kind: Kind, uid: u32, scope: u32) -> u32
     }
 }
 
-/// The node of a term, all but its size and its leaf.
+/// The node of a term, all but its size, the uids of its children and its leaf.
 fn bare_node(alloc: Global, term: &Term, setting: &Setting, scope: u32) -> Result<Node, NoMemory>
     requires code_fits { ScriptFits (out-Term term.now).code }
     requires guards_fit { GuardsFit (out-Term term.now).guards }
@@ -60,6 +60,7 @@ fn bare_node(alloc: Global, term: &Term, setting: &Setting, scope: u32) -> Resul
         kind: term.kind,
         size: 0,
         children,
+        child_uids: Items::of(Vec::new(alloc)),
         code,
         guards,
         ports: Items::of(ports),
@@ -67,7 +68,7 @@ fn bare_node(alloc: Global, term: &Term, setting: &Setting, scope: u32) -> Resul
     })
 }
 
-/// The node of a term, all but its size.
+/// The node of a term, all but its size and the uids of its children.
 fn node_of<D: Drivers>(
     alloc: Global,
     term: &Term,
@@ -103,13 +104,22 @@ fn node_of<D: Drivers>(
     }
 }
 
-/// Gives the node at this place its size: it and all that stands behind it.
-fn close(nodes: &mut Vec<Node>, place: usize) -> Result<(), NoMemory>
+/// Gives a node its size and the uids of its children.
+fn complete(node: &mut Node, size: u32, child_uids: Items<u32>)
+    ensures { node.new ≡ record node.old { size = size; child_uids = child_uids } }
+{
+    node.size = size;
+    drop(replace(&mut node.child_uids, child_uids));
+}
+
+/// Gives the node at this place its size, which is it and all that stands behind it, and the uids of
+/// its children.
+fn close(nodes: &mut Vec<Node>, place: usize, child_uids: Items<u32>) -> Result<(), NoMemory>
     requires { place < length nodes.old.items }
-    ensures { OnOk result (nodes.new.items ≡ slice_set nodes.old.items place (record (node_at nodes.old.items place) { size = length nodes.old.items - place })) }
+    ensures { OnOk result (nodes.new.items ≡ slice_set nodes.old.items place (record (node_at nodes.old.items place) { size = length nodes.old.items - place; child_uids = child_uids })) }
 {
     let size = narrow(nodes.len() - place)?;
-    nodes[place].size = size;
+    complete(&mut nodes[place], size, child_uids);
     Ok(())
 }
 
@@ -134,7 +144,7 @@ fn lay_term<D: Drivers>(
     let uid = narrow(place)?;
     nodes.push(node_of(alloc, term, setting, scope, drivers, next)?)?;
     let inner = scope_under(term.kind, uid, scope);
-    lay_terms(
+    let child_uids = lay_terms(
         alloc,
         term.children.list(),
         setting,
@@ -143,10 +153,10 @@ fn lay_term<D: Drivers>(
         next,
         nodes,
     )?;
-    close(nodes, place)
+    close(nodes, place, Items::of(child_uids))
 }
 
-/// Lays some terms of a tree, one behind the other.
+/// Lays some terms of a tree, one behind the other, and tells their uids.
 #[cycle(laying)]
 fn lay_terms<D: Drivers>(
     alloc: Global,
@@ -156,17 +166,20 @@ fn lay_terms<D: Drivers>(
     drivers: &D,
     next: &mut [u32],
     nodes: &mut Vec<Node>,
-) -> Result<(), NoMemory>
+) -> Result<Vec<u32>, NoMemory>
     requires can { CanBeLaid setting.now.tree.now setting.now.world.now (D.states drivers.now) terms.now (length nodes.old.items) scope }
     requires world { IsValidWorld setting.now.world.now }
     requires found { Finds setting.now.world.now.rows (get bytes_eq setting.now.rows.now) }
     requires places { length next.old ≡ length (D.states drivers.now) }
     ensures laid { OnOk result (AreLaid setting.now.tree.now setting.now.world.now (D.states drivers.now) terms.now scope nodes.old.items nodes.new.items next.old next.new) }
+    ensures uids { IfOk result (λ uids. uids.items ≡ uids_of terms.now (length nodes.old.items)) }
 {
+    let mut uids = Vec::new(alloc);
     for term in terms {
+        uids.push(narrow(nodes.len())?)?;
         lay_term(alloc, term, setting, scope, drivers, next, nodes)?;
     }
-    Ok(())
+    Ok(uids)
 }
 
 /// What stands at place 0.
@@ -177,6 +190,7 @@ fn nobody(alloc: Global) -> Node
         kind: Kind::AlwaysSuccess,
         size: 0,
         children: 0,
+        child_uids: Items::of(Vec::new(alloc)),
         code: None,
         guards: ReadyGuards {
             failure_if: None,

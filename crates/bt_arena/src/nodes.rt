@@ -38,8 +38,9 @@ pub struct Node {
     /// How many nodes it and all below it are. Its children stand behind it, each behind all that
     /// stands below the one before.
     pub size: u32,
-    /// How many children it has.
+    /// How many children it has, and the uid of each, so that one is found by its place.
     pub children: u32,
+    pub child_uids: Items<u32>,
     pub code: Option<Code>,
     pub guards: ReadyGuards,
     /// What the ports of a built-in node are given, in the order of its kind's ports.

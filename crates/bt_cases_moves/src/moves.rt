@@ -112,15 +112,14 @@ fn control_text(
     requires fits { FitsStart kind n memo picked }
 {
     let mut text = String::new(alloc);
-    let (mut kept, mut step) = control_next(kind, memo, n, Heard::Begin { picked });
+    let mut kept = memo;
+    let mut step = control_next(kind, &mut kept, n, Heard::Begin { picked });
     for letter in answers.as_bytes() {
         text.push_str(move_text(alloc, kept, step)?.as_str())?;
         match step.then {
             Then::Give(_) => break,
             Then::Visit(place) => {
-                let (memo, next) = control_next(kind, kept, n, heard(kind, place, *letter));
-                kept = memo;
-                step = next;
+                step = control_next(kind, &mut kept, n, heard(kind, place, *letter));
             }
         }
     }
@@ -810,20 +809,19 @@ fn decorator_text(
     requires fits { FitsStart kind 1 memo picked }
 {
     let mut text = String::new(alloc);
-    let (mut kept, mut step) = decorator_next(kind, memo, now, Heard::Begin { picked });
+    let mut kept = memo;
+    let mut step = decorator_next(kind, &mut kept, now, Heard::Begin { picked });
     for letter in answers.as_bytes() {
         text.push_str(move_text(alloc, kept, step)?.as_str())?;
         match step.then {
             Then::Give(_) => break,
             Then::Visit(place) => {
-                let (memo, next) = decorator_next(
+                step = decorator_next(
                     kind,
-                    kept,
+                    &mut kept,
                     now,
                     Heard::Answered(place, answer(*letter)),
                 );
-                kept = memo;
-                step = next;
             }
         }
     }

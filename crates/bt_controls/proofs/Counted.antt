@@ -1,5 +1,5 @@
 -- The children of a round and of a Parallel that are left.
-use Rattle.std.proofs.Common.{◌≡◌, ℕ, zero, suc, ◌+◌, ◌-◌, ◌<◌, Bool, false, ap, ◌∙◌, arith}
+use Rattle.std.proofs.Common.{◌≡◌, ℕ, suc, ◌+◌, ◌-◌, ◌<◌, Bool, false, ap, ◌∙◌, arith}
 use Rattle.bt_model.specs.declared.memory.Counts.{Counts}
 use Rattle.bt_model.specs.declared.status.Answer.{Answer}
 use Rattle.bt_model.specs.declared.status.RoundEnd.{RoundEnd}

@@ -17,65 +17,75 @@ pub(crate) fn chosen_kept(memo: Memo) -> Option<u32>
 }
 
 /// A Switch resets the child that it kept where another one is picked, and visits the picked one.
-pub(crate) fn switch_to(kept: Option<u32>, picked: u32) -> (Memo, Move)
-    ensures next { switch kept picked ≡ makes hears_answer (λ memo heard. child_on as_it_is memo heard) result.0 result.1 }
-    ensures memo { result.0 ≡ Memo.Chosen (Some picked) }
-    ensures visits { result.1.then ≡ Then.Visit picked }
+pub(crate) fn switch_to(memo: &mut Memo, kept: Option<u32>, picked: u32) -> Move
+    ensures next { switch kept picked ≡ makes hears_answer (λ m heard. child_on as_it_is m heard) memo.new result }
+    ensures memo { memo.new ≡ Memo.Chosen (Some picked) }
+    ensures visits { result.then ≡ Then.Visit picked }
 {
-    let chosen = Memo::Chosen(Some(picked));
+    *memo = Memo::Chosen(Some(picked));
     match kept {
-        Some(place) if place != picked => (chosen, reset_and_visit(Span::One(place), picked)),
-        _ => (chosen, visit(picked)),
+        Some(place) if place != picked => reset_and_visit(Span::One(place), picked),
+        _ => visit(picked),
     }
 }
 
 /// An IfThenElse visits the branch that it has chosen, or its condition.
-pub(crate) fn if_then_else_begun(chosen: Option<u32>, n: u32) -> (Memo, Move)
-    ensures next { if_then_else n chosen ≡ makes hears_answer (λ memo heard. if_then_else_on n (chosen_of memo) heard) result.0 result.1 }
-    ensures memo { result.0 ≡ Memo.Chosen chosen }
-    ensures visits { result.1.then ≡ Then.Visit (unwrap_or chosen 0) }
+pub(crate) fn if_then_else_begun(memo: &mut Memo, chosen: Option<u32>, n: u32) -> Move
+    ensures next { if_then_else n chosen ≡ makes hears_answer (λ m heard. if_then_else_on n (chosen_of m) heard) memo.new result }
+    ensures memo { memo.new ≡ Memo.Chosen chosen }
+    ensures visits { result.then ≡ Then.Visit (unwrap_or chosen 0) }
 {
-    (Memo::Chosen(chosen), visit(chosen.unwrap_or(0)))
+    *memo = Memo::Chosen(chosen);
+    visit(chosen.unwrap_or(0))
 }
 
 /// An IfThenElse behind the answer of its chosen branch, or of its condition.
-pub(crate) fn if_then_else_answered(memo: Memo, n: u32, place: u32, answer: Answer) -> (Memo, Move)
-    requires { FitsChild Kind.IfThenElse n memo place }
-    ensures next { if_then_else_on n (chosen_of memo) (Heard.Answered place answer) ≡ makes hears_answer (λ memo heard. if_then_else_on n (chosen_of memo) heard) result.0 result.1 }
-    ensures onward { GoesOn Kind.IfThenElse n memo (place + 1) result.0 result.1.then }
+pub(crate) fn if_then_else_answered(memo: &mut Memo, n: u32, place: u32, answer: Answer) -> Move
+    requires { FitsChild Kind.IfThenElse n memo.old place }
+    ensures next { if_then_else_on n (chosen_of memo.old) (Heard.Answered place answer) ≡ makes hears_answer (λ m heard. if_then_else_on n (chosen_of m) heard) memo.new result }
+    ensures onward { GoesOn Kind.IfThenElse n memo.old (place + 1) memo.new result.then }
 {
-    match chosen_kept(memo) {
-        Some(kept) => pass(Memo::Chosen(Some(kept)), answer),
-        None => condition_answered(n, place, answer),
+    match chosen_kept(*memo) {
+        Some(_) => pass(memo, answer),
+        None => condition_answered(memo, n, place, answer),
     }
 }
 
 /// An IfThenElse behind the answer of its condition.
-fn condition_answered(n: u32, place: u32, answer: Answer) -> (Memo, Move)
+fn condition_answered(memo: &mut Memo, n: u32, place: u32, answer: Answer) -> Move
     requires condition { place ≡ 0 }
     requires branch { 2 ≤ n }
-    ensures next { if_then_else_after n answer ≡ makes hears_answer (λ memo heard. if_then_else_on n (chosen_of memo) heard) result.0 result.1 }
-    ensures onward { (memo : Memo) → GoesOn Kind.IfThenElse n memo (place + 1) result.0 result.1.then }
+    ensures next { if_then_else_after n answer ≡ makes hears_answer (λ m heard. if_then_else_on n (chosen_of m) heard) memo.new result }
+    ensures onward { (old : Memo) → GoesOn Kind.IfThenElse n old (place + 1) memo.new result.then }
 {
     match answer {
-        Answer::Success => (Memo::Chosen(Some(1)), visit(1)),
-        Answer::Failure if n > 2 => (Memo::Chosen(Some(2)), visit(2)),
-        _ => pass(Memo::Chosen(None), answer),
+        Answer::Success => {
+            *memo = Memo::Chosen(Some(1));
+            visit(1)
+        }
+        Answer::Failure if n > 2 => {
+            *memo = Memo::Chosen(Some(2));
+            visit(2)
+        }
+        _ => {
+            *memo = Memo::Chosen(None);
+            pass(memo, answer)
+        }
     }
 }
 
 /// A WhileDoElse behind the answer of its condition, or of a branch.
-pub(crate) fn while_do_else_answered(memo: Memo, n: u32, place: u32, answer: Answer) -> (Memo, Move)
+pub(crate) fn while_do_else_answered(memo: &mut Memo, n: u32, place: u32, answer: Answer) -> Move
     requires { 2 ≤ n }
-    ensures next { while_do_else_on n memo (Heard.Answered place answer) ≡ makes hears_answer (λ memo heard. while_do_else_on n memo heard) result.0 result.1 }
-    ensures onward { (old : Memo) → GoesOn Kind.WhileDoElse n old (place + 1) result.0 result.1.then }
+    ensures next { while_do_else_on n memo.old (Heard.Answered place answer) ≡ makes hears_answer (λ m heard. while_do_else_on n m heard) memo.new result }
+    ensures onward { (old : Memo) → GoesOn Kind.WhileDoElse n old (place + 1) memo.new result.then }
 {
     if place > 0 {
         return pass(memo, answer);
     }
     match answer {
-        Answer::Success => (memo, only_branch(1)),
-        Answer::Failure if n > 2 => (memo, only_branch(2)),
+        Answer::Success => only_branch(1),
+        Answer::Failure if n > 2 => only_branch(2),
         _ => pass(memo, answer),
     }
 }

@@ -10,5 +10,5 @@ mod rounds;
 mod steps;
 
 pub use bt_model::{Heard, Move, Span, Then};
-pub use control::control_next;
+pub use control::{control_next, goes_to_next};
 pub use steps::{over, pass, reset_and_give, reset_and_visit, visit};

@@ -60,58 +60,63 @@ fn has_failed(counts: Counts, n: u32) -> bool
 }
 
 /// A Parallel behind the answer of the child at this place.
-pub(crate) fn parallel_answered(counts: Counts, n: u32, place: u32, answer: Answer) -> (Memo, Move)
+pub(crate) fn parallel_answered(
+    memo: &mut Memo,
+    counts: Counts,
+    n: u32,
+    place: u32,
+    answer: Answer,
+) -> Move
     requires there { place < n }
     requires fits { HasRoom n counts place }
-    ensures next { parallel_heard n counts (Heard.Answered place answer) ≡ makes hears_or_passes (λ memo heard. parallel_heard n (counts_of memo) heard) result.0 result.1 }
-    ensures onward { (memo : Memo) → GoesOn Kind.Parallel n memo (place + 1) result.0 result.1.then }
+    ensures next { parallel_heard n counts (Heard.Answered place answer) ≡ makes hears_or_passes (λ m heard. parallel_heard n (counts_of m) heard) memo.new result }
+    ensures onward { (old : Memo) → GoesOn Kind.Parallel n old (place + 1) memo.new result.then }
 {
-    parallel_on(count(counts, answer), n, place + 1)
+    parallel_on(memo, count(counts, answer), n, place + 1)
 }
 
 /// A Parallel tries its thresholds, and goes on at this place.
-pub(crate) fn parallel_on(counts: Counts, n: u32, place: u32) -> (Memo, Move)
+pub(crate) fn parallel_on(memo: &mut Memo, counts: Counts, n: u32, place: u32) -> Move
     requires { HasRoom n counts place }
-    ensures next { parallel_after n counts (parallel n (n - place) place counts) ≡ makes hears_or_passes (λ memo heard. parallel_heard n (counts_of memo) heard) result.0 result.1 }
-    ensures onward { (memo : Memo) → GoesOn Kind.Parallel n memo place result.0 result.1.then }
+    ensures next { parallel_after n counts (parallel n (n - place) place counts) ≡ makes hears_or_passes (λ m heard. parallel_heard n (counts_of m) heard) memo.new result }
+    ensures onward { (old : Memo) → GoesOn Kind.Parallel n old place memo.new result.then }
 {
     if has_succeeded(counts) {
-        over(Answer::Success)
+        over(memo, Answer::Success)
     } else if has_failed(counts, n) {
-        over(Answer::Failure)
+        over(memo, Answer::Failure)
     } else {
-        parallel_to(counts, n, place)
+        parallel_to(memo, counts, n, place)
     }
 }
 
 /// A Parallel goes on at this place, or ends behind its last child.
-pub(crate) fn parallel_to(counts: Counts, n: u32, place: u32) -> (Memo, Move)
+pub(crate) fn parallel_to(memo: &mut Memo, counts: Counts, n: u32, place: u32) -> Move
     requires { HasRoom n counts place }
-    ensures next { parallel n (n - place) place counts ≡ makes hears_or_passes (λ memo heard. parallel_heard n (counts_of memo) heard) result.0 result.1 }
-    ensures onward { (memo : Memo) → GoesOn Kind.Parallel n memo place result.0 result.1.then }
+    ensures next { parallel n (n - place) place counts ≡ makes hears_or_passes (λ m heard. parallel_heard n (counts_of m) heard) memo.new result }
+    ensures onward { (old : Memo) → GoesOn Kind.Parallel n old place memo.new result.then }
 {
     if place < n {
-        (Memo::Counts(counts), visit(place))
+        *memo = Memo::Counts(counts);
+        visit(place)
     } else {
-        end(counts, n)
+        end(memo, counts, n)
     }
 }
 
 /// Behind the last child of a Parallel: SKIPPED where all were skipped, else RUNNING.
-fn end(counts: Counts, n: u32) -> (Memo, Move)
-    ensures next { (hear : ℕ → (Heard → Rule) → Rule) (go : Memo → Heard → Rule) → parallel_end n counts ≡ makes hear go result.0 result.1 }
-    ensures onward { (memo : Memo) (place : ℕ) → GoesOn Kind.Parallel n memo place result.0 result.1.then }
+fn end(memo: &mut Memo, counts: Counts, n: u32) -> Move
+    ensures next { (hear : ℕ → (Heard → Rule) → Rule) (go : Memo → Heard → Rule) → parallel_end n counts ≡ makes hear go memo.new result }
+    ensures onward { (old : Memo) (place : ℕ) → GoesOn Kind.Parallel n old place memo.new result.then }
 {
     if counts.skipped == n {
-        over(Answer::Skipped)
+        over(memo, Answer::Skipped)
     } else {
         let kept = Counts {
             skipped: 0,
             ..counts
         };
-        (
-            Memo::Counts(kept),
-            reset_and_give(Span::None, Answer::Running),
-        )
+        *memo = Memo::Counts(kept);
+        reset_and_give(Span::None, Answer::Running)
     }
 }

@@ -1,4 +1,4 @@
-ghost use Rattle.std.specs.Prelude.{ℕ, ◌≡◌, ◌-◌, ◌+◌, ◌<◌, ◌||◌};
+ghost use Rattle.std.specs.Prelude.{ℕ, ◌≡◌, ◌-◌, ◌+◌, ◌<◌, ◌||◌, Some};
 ghost use Rattle.bt_model.specs.Moves.{hears_answer, makes, round_on};
 ghost use Rattle.bt_model.specs.Rules.Answers.{is_seen};
 ghost use Rattle.bt_model.specs.Rules.Sequences.{index_of, passes, round, seen_of, sequence_end};
@@ -6,7 +6,7 @@ ghost use Rattle.bt_model.specs.Steps.{Rule};
 ghost use Rattle.bt_controls.specs.Rounds.{VisitsFrom, ends_of};
 
 use crate::steps::{over, reset_and_give, visit};
-use bt_model::{Answer, Heard, Memo, Move, RoundEnd, Span};
+use bt_model::{Answer, Heard, Memo, Move, RoundEnd, Span, Then};
 
 /// How a round ends.
 #[derive(Clone, Copy, Debug, PartialEq, Eq)]
@@ -23,81 +23,114 @@ pub(crate) enum Manner {
 pub(crate) fn go_on(
     goes: Answer,
     manner: Manner,
-    memo: Memo,
+    memo: &mut Memo,
     n: u32,
     place: u32,
     answer: Answer,
-) -> (Memo, Move)
+) -> Move
     requires { place < n }
-    ensures next { round_on goes (ends_of manner goes) n memo (Heard.Answered place answer) ≡ makes hears_answer (round_on goes (ends_of manner goes) n) result.0 result.1 }
-    ensures onward { VisitsFrom (place + 1) n result.0 result.1.then }
+    ensures next { round_on goes (ends_of manner goes) n memo.old (Heard.Answered place answer) ≡ makes hears_answer (round_on goes (ends_of manner goes) n) memo.new result }
+    ensures onward { VisitsFrom (place + 1) n memo.new result.then }
 {
     if is_passed(goes, answer) {
-        let seen = seen_after(seen_kept(memo), answer);
-        go_to(goes, manner, place + 1, seen, n)
+        let seen = seen_after(seen_kept(*memo), answer);
+        go_to(memo, goes, manner, place + 1, seen, n)
     } else {
-        end(goes, manner, RoundEnd::AtChild { place, answer })
+        end(memo, goes, manner, RoundEnd::AtChild { place, answer })
+    }
+}
+
+/// The place of the child that follows where the round goes on to it behind the answer of the one at
+/// this place. The memo becomes the one behind that move.
+#[inline(always)]
+pub(crate) fn next_in_round(
+    goes: Answer,
+    memo: &mut Memo,
+    n: u32,
+    place: u32,
+    answer: Answer,
+) -> Option<u32>
+    requires { place < n }
+    ensures next { (manner : Manner) (next : ℕ) → result ≡ Some next → round_on goes (ends_of manner goes) n memo.old (Heard.Answered place answer) ≡ makes hears_answer (round_on goes (ends_of manner goes) n) memo.new (record { reset = Span.None; then = Then.Visit next }) }
+    ensures onward { (next : ℕ) → result ≡ Some next → VisitsFrom (place + 1) n memo.new (Then.Visit next) }
+    ensures same { result ≡ None → memo.new ≡ memo.old }
+{
+    match memo {
+        Memo::Index { at, seen } if place + 1 < n && is_passed(goes, answer) => {
+            *at = place + 1;
+            *seen = seen_after(*seen, answer);
+            Some(place + 1)
+        }
+        _ => None,
     }
 }
 
 /// The round goes on at this place, or ends behind the last child.
-pub(crate) fn go_to(goes: Answer, manner: Manner, at: u32, seen: bool, n: u32) -> (Memo, Move)
-    ensures next { round goes (ends_of manner goes) (n - at) at seen ≡ makes hears_answer (round_on goes (ends_of manner goes) n) result.0 result.1 }
-    ensures onward { VisitsFrom at n result.0 result.1.then }
+pub(crate) fn go_to(
+    memo: &mut Memo,
+    goes: Answer,
+    manner: Manner,
+    at: u32,
+    seen: bool,
+    n: u32,
+) -> Move
+    ensures next { round goes (ends_of manner goes) (n - at) at seen ≡ makes hears_answer (round_on goes (ends_of manner goes) n) memo.new result }
+    ensures onward { VisitsFrom at n memo.new result.then }
 {
     if at < n {
-        (kept_at(at, seen), visit(at))
+        *memo = kept_at(at, seen);
+        visit(at)
     } else {
-        end(goes, manner, RoundEnd::BehindLast { seen })
+        end(memo, goes, manner, RoundEnd::BehindLast { seen })
     }
 }
 
 /// The round has ended.
-fn end(goes: Answer, manner: Manner, end: RoundEnd) -> (Memo, Move)
-    ensures next { (hear : ℕ → (Heard → Rule) → Rule) (go : Memo → Heard → Rule) → ends_of manner goes end ≡ makes hear go result.0 result.1 }
-    ensures onward { (first n : ℕ) → VisitsFrom first n result.0 result.1.then }
+fn end(memo: &mut Memo, goes: Answer, manner: Manner, end: RoundEnd) -> Move
+    ensures next { (hear : ℕ → (Heard → Rule) → Rule) (go : Memo → Heard → Rule) → ends_of manner goes end ≡ makes hear go memo.new result }
+    ensures onward { (first n : ℕ) → VisitsFrom first n memo.new result.then }
 {
     match manner {
-        Manner::Keeps => end_kept(goes, end),
+        Manner::Keeps => end_kept(memo, goes, end),
         Manner::Restarts => match end {
             RoundEnd::AtChild {
                 place,
                 answer: Answer::Running,
-            } => (
-                kept_at(place, true),
-                reset_and_give(Span::AllBut(place), Answer::Running),
-            ),
-            _ => end_kept(goes, end),
+            } => {
+                *memo = kept_at(place, true);
+                reset_and_give(Span::AllBut(place), Answer::Running)
+            }
+            _ => end_kept(memo, goes, end),
         },
         Manner::Remembers => match end {
             RoundEnd::AtChild {
                 place,
                 answer: Answer::Failure,
-            } => (
-                kept_at(place, false),
-                reset_and_give(Span::From(place), Answer::Failure),
-            ),
-            _ => end_kept(Answer::Success, end),
+            } => {
+                *memo = kept_at(place, false);
+                reset_and_give(Span::From(place), Answer::Failure)
+            }
+            _ => end_kept(memo, Answer::Success, end),
         },
     }
 }
 
 /// The round of a Sequence or Fallback has ended.
-fn end_kept(goes: Answer, end: RoundEnd) -> (Memo, Move)
-    ensures next { (hear : ℕ → (Heard → Rule) → Rule) (go : Memo → Heard → Rule) → sequence_end goes end ≡ makes hear go result.0 result.1 }
-    ensures onward { (first n : ℕ) → VisitsFrom first n result.0 result.1.then }
+fn end_kept(memo: &mut Memo, goes: Answer, end: RoundEnd) -> Move
+    ensures next { (hear : ℕ → (Heard → Rule) → Rule) (go : Memo → Heard → Rule) → sequence_end goes end ≡ makes hear go memo.new result }
+    ensures onward { (first n : ℕ) → VisitsFrom first n memo.new result.then }
 {
     match end {
         RoundEnd::AtChild {
             place,
             answer: Answer::Running,
-        } => (
-            kept_at(place, true),
-            reset_and_give(Span::None, Answer::Running),
-        ),
-        RoundEnd::AtChild { answer, .. } => over(answer),
-        RoundEnd::BehindLast { seen: true } => over(goes),
-        RoundEnd::BehindLast { seen: false } => over(Answer::Skipped),
+        } => {
+            *memo = kept_at(place, true);
+            reset_and_give(Span::None, Answer::Running)
+        }
+        RoundEnd::AtChild { answer, .. } => over(memo, answer),
+        RoundEnd::BehindLast { seen: true } => over(memo, goes),
+        RoundEnd::BehindLast { seen: false } => over(memo, Answer::Skipped),
     }
 }
 

@@ -33,19 +33,23 @@ pub fn reset_and_give(reset: Span, answer: Answer) -> Move
 }
 
 /// The node is over: all children are reset, the memo is cleared and the answer is given.
-pub fn over(answer: Answer) -> (Memo, Move)
-    ensures { result ≡ record { 0 = Memo.Nothing; 1 = record { reset = Span.All; then = Then.Give answer } } }
+#[inline(always)]
+pub fn over(memo: &mut Memo, answer: Answer) -> Move
+    ensures memo { memo.new ≡ Memo.Nothing }
+    ensures gives { result ≡ record { reset = Span.All; then = Then.Give answer } }
 {
-    (Memo::Nothing, reset_and_give(Span::All, answer))
+    *memo = Memo::Nothing;
+    reset_and_give(Span::All, answer)
 }
 
 /// The answer is passed on: RUNNING keeps the memo, and at any other answer the node is over.
-pub fn pass(memo: Memo, answer: Answer) -> (Memo, Move)
-    ensures next { (hear : ℕ → (Heard → Rule) → Rule) (go : Memo → Heard → Rule) → pass_on memo answer ≡ makes hear go result.0 result.1 }
-    ensures gives { result.1.then ≡ Then.Give answer }
+#[inline(always)]
+pub fn pass(memo: &mut Memo, answer: Answer) -> Move
+    ensures next { (hear : ℕ → (Heard → Rule) → Rule) (go : Memo → Heard → Rule) → pass_on memo.old answer ≡ makes hear go memo.new result }
+    ensures gives { result.then ≡ Then.Give answer }
 {
     match answer {
-        Answer::Running => (memo, reset_and_give(Span::None, answer)),
-        _ => over(answer),
+        Answer::Running => reset_and_give(Span::None, answer),
+        _ => over(memo, answer),
     }
 }

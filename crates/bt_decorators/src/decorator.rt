@@ -9,15 +9,15 @@ use crate::waits::{delay_begun, timeout_begun};
 use bt_controls::{pass, reset_and_give, visit};
 use bt_model::{Answer, Heard, Kind, Memo, Move, Span};
 
-/// The next move of a decorator or a SubTree node, and the memo behind it: where a visit begins at
-/// the moment `now`, in milliseconds, and behind each answer of the child. The memo is the one with
-/// which the visit begins, or that of the move before.
-pub fn decorator_next(kind: Kind, memo: Memo, now: u64, heard: Heard) -> (Memo, Move)
+/// The next move of a decorator or a SubTree node: where a visit begins at the moment `now`, in
+/// milliseconds, and behind each answer of the child. The memo is the one with which the visit
+/// begins, or that of the move before, and becomes the one behind this move.
+pub fn decorator_next(kind: Kind, memo: &mut Memo, now: u64, heard: Heard) -> Move
     requires decorator { IsTrue (is_decorator kind) }
-    requires fits { Fits kind 1 memo heard }
+    requires fits { Fits kind 1 memo.old heard }
     // What is still to come of the node's rule is this move, and then what is still to come of it.
-    ensures next { rest kind 1 now memo heard ≡ makes (hears kind) (after kind 1) result.0 result.1 }
-    ensures onward { GoesOn kind 1 memo (next_place heard) result.0 result.1.then }
+    ensures next { rest kind 1 now memo.old heard ≡ makes (hears kind) (after kind 1) memo.new result }
+    ensures onward { GoesOn kind 1 memo.old (next_place heard) memo.new result.then }
 {
     match heard {
         Heard::Begin { picked } => begin(kind, memo, now, picked),
@@ -27,34 +27,40 @@ pub fn decorator_next(kind: Kind, memo: Memo, now: u64, heard: Heard) -> (Memo, 
 }
 
 /// The first move of a visit.
-fn begin(kind: Kind, memo: Memo, now: u64, picked: u32) -> (Memo, Move)
+fn begin(kind: Kind, memo: &mut Memo, now: u64, picked: u32) -> Move
     requires decorator { IsTrue (is_decorator kind) }
-    requires fits { FitsStart kind 1 memo picked }
-    ensures next { rule kind 1 memo picked now ≡ makes (hears kind) (after kind 1) result.0 result.1 }
-    ensures onward { GoesOn kind 1 memo 0 result.0 result.1.then }
+    requires fits { FitsStart kind 1 memo.old picked }
+    ensures next { rule kind 1 memo.old picked now ≡ makes (hears kind) (after kind 1) memo.new result }
+    ensures onward { GoesOn kind 1 memo.old 0 memo.new result.then }
 {
     match kind {
-        Kind::SubTree => (memo, visit(0)),
-        Kind::Inverter => (memo, visit(0)),
-        Kind::ForceSuccess => (memo, visit(0)),
-        Kind::ForceFailure => (memo, visit(0)),
-        Kind::KeepRunningUntilFailure => (memo, visit(0)),
-        Kind::Retry => (Memo::Turns(turns_kept(memo)), visit(0)),
-        Kind::Repeat => (Memo::Turns(turns_kept(memo)), visit(0)),
+        Kind::SubTree => visit(0),
+        Kind::Inverter => visit(0),
+        Kind::ForceSuccess => visit(0),
+        Kind::ForceFailure => visit(0),
+        Kind::KeepRunningUntilFailure => visit(0),
+        Kind::Retry => {
+            *memo = Memo::Turns(turns_kept(*memo));
+            visit(0)
+        }
+        Kind::Repeat => {
+            *memo = Memo::Turns(turns_kept(*memo));
+            visit(0)
+        }
         Kind::Timeout => timeout_begun(memo, now),
         Kind::Delay => delay_begun(memo, now),
-        Kind::RunOnce => run_once_begun(mark_kept(memo), picked),
+        Kind::RunOnce => run_once_begun(memo, mark_kept(*memo), picked),
         _ => unreachable!(),
     }
 }
 
 /// The move behind the answer of the child.
-fn answered(kind: Kind, memo: Memo, place: u32, answer: Answer) -> (Memo, Move)
+fn answered(kind: Kind, memo: &mut Memo, place: u32, answer: Answer) -> Move
     requires decorator { IsTrue (is_decorator kind) }
     requires there { place < 1 }
-    requires fits { FitsChild kind 1 memo place }
-    ensures next { after kind 1 memo (Heard.Answered place answer) ≡ makes (hears kind) (after kind 1) result.0 result.1 }
-    ensures onward { GoesOn kind 1 memo (place + 1) result.0 result.1.then }
+    requires fits { FitsChild kind 1 memo.old place }
+    ensures next { after kind 1 memo.old (Heard.Answered place answer) ≡ makes (hears kind) (after kind 1) memo.new result }
+    ensures onward { GoesOn kind 1 memo.old (place + 1) memo.new result.then }
 {
     match kind {
         Kind::SubTree => pass(memo, answer),
@@ -62,11 +68,11 @@ fn answered(kind: Kind, memo: Memo, place: u32, answer: Answer) -> (Memo, Move)
         Kind::ForceSuccess => pass(memo, force(Answer::Success, answer)),
         Kind::ForceFailure => pass(memo, force(Answer::Failure, answer)),
         Kind::KeepRunningUntilFailure => keep_running(memo, answer),
-        Kind::Retry => turn_answered(Answer::Failure, turns_kept(memo), answer),
-        Kind::Repeat => turn_answered(Answer::Success, turns_kept(memo), answer),
+        Kind::Retry => turn_answered(memo, Answer::Failure, turns_kept(*memo), answer),
+        Kind::Repeat => turn_answered(memo, Answer::Success, turns_kept(*memo), answer),
         Kind::Timeout => pass(memo, answer),
         Kind::Delay => pass(memo, answer),
-        Kind::RunOnce => run_once_answered(answer),
+        Kind::RunOnce => run_once_answered(memo, answer),
         _ => unreachable!(),
     }
 }
@@ -94,12 +100,12 @@ fn force(to: Answer, answer: Answer) -> Answer
 }
 
 /// A KeepRunningUntilFailure behind its child's answer.
-fn keep_running(memo: Memo, answer: Answer) -> (Memo, Move)
-    ensures next { keep_running_after memo answer ≡ makes hears_answer (λ m heard. keep_running_on m heard) result.0 result.1 }
-    ensures onward { (old : Memo) (first : ℕ) → GoesOn Kind.KeepRunningUntilFailure 1 old first result.0 result.1.then }
+fn keep_running(memo: &mut Memo, answer: Answer) -> Move
+    ensures next { keep_running_after memo.old answer ≡ makes hears_answer (λ m heard. keep_running_on m heard) memo.new result }
+    ensures onward { (old : Memo) (first : ℕ) → GoesOn Kind.KeepRunningUntilFailure 1 old first memo.new result.then }
 {
     match answer {
-        Answer::Success => (memo, reset_and_give(Span::All, Answer::Running)),
+        Answer::Success => reset_and_give(Span::All, Answer::Running),
         _ => pass(memo, answer),
     }
 }

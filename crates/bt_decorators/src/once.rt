@@ -16,29 +16,33 @@ pub(crate) fn mark_kept(memo: Memo) -> Option<Answer>
 }
 
 /// A RunOnce visits its child, or gives its mark, or SKIPPED in its place where 1 is picked.
-pub(crate) fn run_once_begun(mark: Option<Answer>, picked: u32) -> (Memo, Move)
-    ensures next { run_once mark picked ≡ makes hears_answer (λ memo heard. run_once_on heard) result.0 result.1 }
-    ensures onward { (memo : Memo) → GoesOn Kind.RunOnce 1 memo 0 result.0 result.1.then }
+pub(crate) fn run_once_begun(memo: &mut Memo, mark: Option<Answer>, picked: u32) -> Move
+    ensures next { run_once mark picked ≡ makes hears_answer (λ m heard. run_once_on heard) memo.new result }
+    ensures onward { (old : Memo) → GoesOn Kind.RunOnce 1 old 0 memo.new result.then }
 {
     let begun = match mark {
         None => visit(0),
         Some(answer) if picked == 0 => reset_and_give(Span::None, answer),
         Some(_) => reset_and_give(Span::None, Answer::Skipped),
     };
-    (Memo::Finished(mark), begun)
+    *memo = Memo::Finished(mark);
+    begun
 }
 
 /// A RunOnce behind its child's answer.
-pub(crate) fn run_once_answered(answer: Answer) -> (Memo, Move)
-    ensures next { run_once_after answer ≡ makes hears_answer (λ memo heard. run_once_on heard) result.0 result.1 }
-    ensures onward { (memo : Memo) (first : ℕ) → GoesOn Kind.RunOnce 1 memo first result.0 result.1.then }
+pub(crate) fn run_once_answered(memo: &mut Memo, answer: Answer) -> Move
+    ensures next { run_once_after answer ≡ makes hears_answer (λ m heard. run_once_on heard) memo.new result }
+    ensures onward { (old : Memo) (first : ℕ) → GoesOn Kind.RunOnce 1 old first memo.new result.then }
 {
     match answer {
-        Answer::Running => (Memo::Finished(None), reset_and_give(Span::None, answer)),
-        Answer::Skipped => over(answer),
-        _ => (
-            Memo::Finished(Some(answer)),
-            reset_and_give(Span::All, answer),
-        ),
+        Answer::Running => {
+            *memo = Memo::Finished(None);
+            reset_and_give(Span::None, answer)
+        }
+        Answer::Skipped => over(memo, answer),
+        _ => {
+            *memo = Memo::Finished(Some(answer));
+            reset_and_give(Span::All, answer)
+        }
     }
 }

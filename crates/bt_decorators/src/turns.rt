@@ -26,48 +26,50 @@ fn limit(turns: Turns) -> Option<u64>
 
 /// A Retry or Repeat behind its child's answer. `again` is the answer after which the child is
 /// visited again.
-pub(crate) fn turn_answered(again: Answer, turns: Turns, answer: Answer) -> (Memo, Move)
+pub(crate) fn turn_answered(memo: &mut Memo, again: Answer, turns: Turns, answer: Answer) -> Move
     requires { TurnIsLeft turns.done (limit_of turns.limit) }
-    ensures next { turns_heard again turns (Heard.Answered 0 answer) ≡ makes hears_answer (λ memo heard. turns_heard again (turns_of memo) heard) result.0 result.1 }
-    ensures onward { TurnsOn turns result.0 result.1.then }
+    ensures next { turns_heard again turns (Heard.Answered 0 answer) ≡ makes hears_answer (λ m heard. turns_heard again (turns_of m) heard) memo.new result }
+    ensures onward { TurnsOn turns memo.new result.then }
 {
     if is_same(answer, again) {
-        turn_again(again, turns)
+        turn_again(memo, again, turns)
     } else {
-        pass(Memo::Turns(turns), answer)
+        *memo = Memo::Turns(turns);
+        pass(memo, answer)
     }
 }
 
 /// A Retry or Repeat whose child has given the answer after which it is visited again.
-fn turn_again(again: Answer, turns: Turns) -> (Memo, Move)
+fn turn_again(memo: &mut Memo, again: Answer, turns: Turns) -> Move
     requires { TurnIsLeft turns.done (limit_of turns.limit) }
-    ensures next { turns_on again (limit_of turns.limit) turns ≡ makes hears_answer (λ memo heard. turns_heard again (turns_of memo) heard) result.0 result.1 }
-    ensures onward { TurnsOn turns result.0 result.1.then }
+    ensures next { turns_on again (limit_of turns.limit) turns ≡ makes hears_answer (λ m heard. turns_heard again (turns_of m) heard) memo.new result }
+    ensures onward { TurnsOn turns memo.new result.then }
 {
     match limit(turns) {
-        None => (
-            Memo::Turns(turns),
-            reset_and_give(Span::All, Answer::Running),
-        ),
-        Some(limit) => turn_within(again, turns, limit),
+        None => {
+            *memo = Memo::Turns(turns);
+            reset_and_give(Span::All, Answer::Running)
+        }
+        Some(limit) => turn_within(memo, again, turns, limit),
     }
 }
 
 /// The same below a limit of turns.
-fn turn_within(again: Answer, turns: Turns, limit: u64) -> (Memo, Move)
+fn turn_within(memo: &mut Memo, again: Answer, turns: Turns, limit: u64) -> Move
     requires limit { limit_of turns.limit ≡ Some limit }
     requires left { TurnIsLeft turns.done (Some limit) }
-    ensures next { turns_on again (Some limit) turns ≡ makes hears_answer (λ memo heard. turns_heard again (turns_of memo) heard) result.0 result.1 }
-    ensures onward { TurnsOn turns result.0 result.1.then }
+    ensures next { turns_on again (Some limit) turns ≡ makes hears_answer (λ m heard. turns_heard again (turns_of m) heard) memo.new result }
+    ensures onward { TurnsOn turns memo.new result.then }
 {
     let next = Turns {
         done: turns.done + 1,
         ..turns
     };
     if u64::from(next.done) < limit {
-        (Memo::Turns(next), reset_and_visit(Span::All, 0))
+        *memo = Memo::Turns(next);
+        reset_and_visit(Span::All, 0)
     } else {
-        over(again)
+        over(memo, again)
     }
 }
 

@@ -26,27 +26,26 @@ fn has_passed(since: Since, now: u64) -> bool
 }
 
 /// A Timeout gives FAILURE once its length has passed, and else visits its child.
-pub(crate) fn timeout_begun(memo: Memo, now: u64) -> (Memo, Move)
-    ensures next { timeout memo now ≡ makes hears_answer (λ m heard. child_on as_it_is m heard) result.0 result.1 }
-    ensures onward { (old : Memo) → GoesOn Kind.Timeout 1 old 0 result.0 result.1.then }
+pub(crate) fn timeout_begun(memo: &mut Memo, now: u64) -> Move
+    ensures next { timeout memo.old now ≡ makes hears_answer (λ m heard. child_on as_it_is m heard) memo.new result }
+    ensures onward { (old : Memo) → GoesOn Kind.Timeout 1 old 0 memo.new result.then }
 {
-    if has_passed(since_kept(memo), now) {
-        over(Answer::Failure)
+    if has_passed(since_kept(*memo), now) {
+        over(memo, Answer::Failure)
     } else {
-        (memo, visit(0))
+        visit(0)
     }
 }
 
 /// A Delay gives RUNNING until its length has passed, and then visits its child.
-pub(crate) fn delay_begun(memo: Memo, now: u64) -> (Memo, Move)
-    ensures next { delay memo now ≡ makes hears_answer (λ m heard. child_on as_it_is m heard) result.0 result.1 }
-    ensures onward { (old : Memo) → GoesOn Kind.Delay 1 old 0 result.0 result.1.then }
+pub(crate) fn delay_begun(memo: &mut Memo, now: u64) -> Move
+    ensures next { delay memo.old now ≡ makes hears_answer (λ m heard. child_on as_it_is m heard) memo.new result }
+    ensures onward { (old : Memo) → GoesOn Kind.Delay 1 old 0 memo.new result.then }
 {
-    let since = since_kept(memo);
-    let next = if now.saturating_sub(since.first) < since.length {
+    let since = since_kept(*memo);
+    if now.saturating_sub(since.first) < since.length {
         reset_and_give(Span::None, Answer::Running)
     } else {
         visit(0)
-    };
-    (memo, next)
+    }
 }

@@ -17,9 +17,9 @@ use Rattle.bt_arena.specs.Scenes.{Fits, Scene}
 use Rattle.bt_arena.specs.Stands.{uid_of}
 use Rattle.bt_arena.proofs.Opened.{size_out}
 use Rattle.bt_arena.specs.declared.frame.Frame.{Frame}
-use Rattle.bt_tick.specs.declared.machine.Step.{Step}
-use Rattle.bt_tick.specs.declared.machine.Turn.{Turn}
-use Rattle.bt_tick.specs.declared.machine.Turn.TheVariants as turn
+use Rattle.bt_tick.specs.Machine.{Step}
+use Rattle.bt_tick.specs.Machine.{Turn}
+use Rattle.bt_tick.specs.Machine as turn
 use Rattle.bt_tick.specs.Turns.{cost, left_of, number, turn_to, turn_work}
 use Rattle.bt_tick.proofs.Children.{child_inside, child_stands, size_stands}
 use Rattle.bt_tick.proofs.Moving.{children_stand, size_is}

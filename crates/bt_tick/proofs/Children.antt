@@ -10,10 +10,9 @@ use Rattle.bt_model.specs.Visit.{meaning}
 use Rattle.bt_arena.specs.declared.nodes.Kept.{Kept}
 use Rattle.bt_arena.specs.declared.nodes.Node.{Node}
 use Rattle.bt_arena.specs.Nodes.{node_at}
-use Rattle.bt_arena.specs.Stands.{Beside, StandAll, Stands, uid_of}
+use Rattle.bt_arena.specs.Stands.{Beside, StandAll, Stands, uid_of, uids_of}
 use Rattle.bt_arena.proofs.Framed.{all_sizes, sizes_cons}
 use Rattle.bt_arena.proofs.Opened.{opened, size_out}
-use Rattle.bt_halting.proofs.Within.{stands_within}
 use Rattle.bt_laws.proofs.Children.{Family, Keeps}
 use Rattle.bt_laws.proofs.Induction.{rules_of_terms}
 use Rattle.bt_laws.proofs.Keeping.{family}
@@ -48,6 +47,23 @@ child_seen view (c ∷ cs) (suc place) uid first t within =
     child_seen view cs place (uid + (meaning c).size) (first + 1) t (omega (arith, within))
     ∙ (λ i. child_of view (meaning (get_or cs place t)) (uid_behind c cs place uid i) (index i))
 
+-- the uids of children by their places
+uids_at : (ts : List Term) (place uid : ℕ) → place < length ts → get_or (uids_of ts uid) place 0 ≡ uid_of ts uid place
+uids_at [] place uid within = absurd (omega (arith, within))
+uids_at (c ∷ cs) zero uid within = omega arith
+uids_at (c ∷ cs) (suc place) uid within = uids_at cs place (uid + (meaning c).size) (omega (arith, within)) ∙ uid_behind c cs place uid
+
+uids_many : (ts : List Term) (uid : ℕ) → length (uids_of ts uid) ≡ length ts
+uids_many [] uid = refl
+uids_many (c ∷ cs) uid = ap suc (uids_many cs (uid + (meaning c).size))
+
+-- a node that stands has the uid of each child
+pub child_found : (t : Term) (nodes : List Node) (view : View) (uid place : ℕ) (here : Node) → Stands t nodes view uid → here ≡ node_at nodes uid → place < length (out-Term t).children →
+    (place < length here.child_uids) × (get_or here.child_uids place 0 ≡ uid_of (out-Term t).children (uid + 1) place)
+child_found t nodes view uid place here stands is within =
+    let uids : here.child_uids ≡ uids_of (out-Term t).children (uid + 1) = ap (λ (n : Node). n.child_uids) is ∙ (opened t nodes view uid stands).3 in
+    (omega (arith, within, ap length uids, uids_many (out-Term t).children (uid + 1)), ap (λ (us : List ℕ). get_or us place 0) uids ∙ uids_at (out-Term t).children place (uid + 1) within)
+
 -- it stands there
 pub child_stands : (nodes : List Node) (view : View) (ts : List Term) (place uid : ℕ) (t : Term) → place < length ts → StandAll ts nodes view uid → Stands (get_or ts place t) nodes view (uid_of ts uid place)
 child_stands nodes view [] place uid t within stand = absurd (omega (arith, within))
@@ -60,26 +76,12 @@ child_stands nodes view (c ∷ cs) (suc place) uid t within stand =
 pub size_stands : (t : Term) (nodes : List Node) (view : View) (uid : ℕ) → Stands t nodes view uid → (node_at nodes uid).size ≡ (meaning t).size
 size_stands t nodes view uid stands = (opened t nodes view uid stands).1.size ∙ sym (size_out t)
 
--- the uid behind a child
-pub uid_next : (ts : List Term) (place uid : ℕ) (t : Term) → place < length ts → uid_of ts uid place + (meaning (get_or ts place t)).size ≡ uid_of ts uid (place + 1)
-uid_next [] place uid t within = absurd (omega (arith, within))
-uid_next (c ∷ cs) zero uid t within = omega (arith, sizes_cons c (take zero cs))
-uid_next (c ∷ cs) (suc place) uid t within =
-    ap (λ (n : ℕ). n + (meaning (get_or cs place t)).size) (sym (uid_behind c cs place uid))
-    ∙ uid_next cs place (uid + (meaning c).size) t (omega (arith, within))
-    ∙ uid_behind c cs (place + 1) uid
-    ∙ ap (λ (k : ℕ). uid_of (c ∷ cs) uid k) (let e : suc (place + 1) ≡ suc place + 1 = omega arith in e)
-
--- a child in an arena: it is there, and behind it stands the next one
-pub child_there : (ts : List Term) (nodes : List Node) (view : View) (first place at : ℕ) → StandAll ts nodes view first → place < length ts → at ≡ uid_of ts first place →
-    (at < length nodes) × (at + (node_at nodes at).size ≤ length nodes) × (at + (node_at nodes at).size ≡ uid_of ts first (place + 1))
+-- a child in an arena is there
+pub child_there : (ts : List Term) (nodes : List Node) (view : View) (first place at : ℕ) → StandAll ts nodes view first → place < length ts → at ≡ uid_of ts first place → at < length nodes
 child_there [] nodes view first place at stand within is = absurd (omega (arith, within))
 child_there (c ∷ cs) nodes view first place at stand within is =
     let t = get_or (c ∷ cs) place c in
-    let stands : Stands t nodes view at = subst (λ (u : ℕ). Stands t nodes view u) (sym is) (child_stands nodes view (c ∷ cs) place first c within stand) in
-    let size = size_stands t nodes view at stands in
-    let inside = stands_within t nodes view at stands in
-    ((opened t nodes view at stands).0, omega (arith, size, inside), ap (λ (n : ℕ). n + (node_at nodes at).size) is ∙ ap (λ (n : ℕ). uid_of (c ∷ cs) first place + n) size ∙ uid_next (c ∷ cs) place first c within)
+    (opened t nodes view at (subst (λ (u : ℕ). Stands t nodes view u) (sym is) (child_stands nodes view (c ∷ cs) place first c within stand))).0
 
 -- ---- What changes beside
 

@@ -12,7 +12,7 @@ use Rattle.bt_model.specs.Terms.{depth_of}
 use Rattle.bt_arena.specs.declared.frame.Frame.{Frame}
 use Rattle.bt_arena.specs.declared.nodes.Node.{Node}
 use Rattle.bt_arena.specs.Scenes.{Scene}
-use Rattle.bt_tick.specs.declared.machine.Turn.{Turn}
+use Rattle.bt_tick.specs.Machine.{Turn}
 use Rattle.bt_tick.specs.Turns.{Going, StackIs, Waiting, child_of_waiting}
 
 depth_out : (term : Term) → depth_of term ≡ 1 + greatest (map depth_of (out-Term term).children)

@@ -55,8 +55,8 @@ use Rattle.bt_nodes.proofs.Following.{stops_with}
 use Rattle.bt_nodes.proofs.Phases.{in_phase}
 use Rattle.bt_nodes.proofs.Settled.{settles_met}
 use Rattle.bt_nodes.proofs.Standing.{beside_one, children_same, fits_here, stays_fit}
-use Rattle.bt_tick.specs.declared.machine.Turn.{Turn}
-use Rattle.bt_tick.specs.declared.machine.Turn.TheVariants as turn
+use Rattle.bt_tick.specs.Machine.{Turn}
+use Rattle.bt_tick.specs.Machine as turn
 use Rattle.bt_nodes.specs.Here.{site_at}
 use Rattle.bt_tick.specs.declared.machine.Entered.TheVariants as entered
 use Rattle.bt_tick.specs.Turns.{CanBegin, CanFollow, CanGoOn, CanPick, CanVisit, ChildrenSound, Comes, Goes, GoesTo, Starts, children_in, cost, goes_by, has_rule, kind_of, left_of, memory_in, number, ruled_in, started_in, turn_after, visit_in}
@@ -188,7 +188,7 @@ picked_so uid place (Err p) is = cc
 -- a node with children goes on by its moves
 pub follows_on : (nodes : List Node) (moment : ℕ) (term : Term) (view : View) (uid : ℕ) (s : Scene) (n : List Note) → CanFollow nodes moment term view uid s → has_rule (kind_of term) ≡ true → (place : ℕ) →
     Ok place ≡ or_bad_port uid (picked (kind_of term) (site nodes moment term view uid s) (memo nodes moment term view uid s) (now nodes moment term view uid s)) →
-    GoesTo nodes moment term view uid (Ok (turn.GoOn (record { uid = uid; memo = (kept_at s.kept uid).memo; heard = Begin place; child = uid + 1 }))) s s n n (ruled_in nodes moment term view uid s)
+    GoesTo nodes moment term view uid (Ok (turn.GoOn (record { uid = uid; memo = (kept_at s.kept uid).memo; heard = Begin place }))) s s n n (ruled_in nodes moment term view uid s)
 follows_on nodes moment term view uid s n follow with_rule place is =
     let next : Done Answer Memory = goes_by nodes moment term view uid s (rest (kind_of term) (number term) moment (kept_at s.kept uid).memo (Begin place)) in
     record {
@@ -198,7 +198,6 @@ follows_on nodes moment term view uid s n follow with_rule place is =
         can = follow.can;
         ruled = with_rule;
         fits = follow.begins with_rule place (picks_so (kind_of term) (site nodes moment term view uid s) (kept_at s.kept uid).memo (state_in nodes s moment) place (picked_so uid place _ is));
-        child = omega arith;
         next_is = refl;
       };
       comes = comes_same nodes s s n (ruled_in nodes moment term view uid s) next refl (rule_begins nodes moment term view uid s with_rule place is);

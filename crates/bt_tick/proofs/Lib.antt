@@ -8,4 +8,5 @@ pub mod Moving
 pub mod Passing
 pub mod Stacks
 pub mod Starting
+pub mod Tops
 pub mod Totals

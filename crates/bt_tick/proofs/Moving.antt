@@ -45,11 +45,12 @@ use Rattle.bt_model.specs.Sound.{Sound}
 use Rattle.bt_nodes.proofs.Following.{stops_with}
 use Rattle.bt_arena.specs.declared.frame.Frame.{Frame}
 use Rattle.bt_tick.specs.declared.machine.Entered.{Entered}
-use Rattle.bt_tick.specs.declared.machine.Step.{Step}
-use Rattle.bt_tick.specs.declared.machine.Turn.{Turn}
-use Rattle.bt_tick.specs.declared.machine.Turn.TheVariants as turn
+use Rattle.bt_tick.specs.declared.machine.Next.{Next}
+use Rattle.bt_tick.specs.Machine.{Step}
+use Rattle.bt_tick.specs.Machine.{Turn}
+use Rattle.bt_tick.specs.Machine as turn
 use Rattle.bt_nodes.specs.Here.{site_at}
-use Rattle.bt_tick.specs.Turns.{CanGoOn, ChildrenSound, Comes, Goes, GoesOnBy, GoesTo, TurnDoes, children_in, goes_by, has_rule, kind_of, memory_in, number, passes_over, ruled_by, turn_to, turned}
+use Rattle.bt_tick.specs.Turns.{CanGoOn, ChildrenSound, Comes, Goes, GoesOnBy, GoesTo, TurnDoes, children_in, goes_by, has_rule, kind_of, memory_in, number, passes_over, ruled_by, turn_to, turn_with, turned}
 use Rattle.bt_tick.proofs.Children.{beside_both, beside_more, child_seen, terms}
 use Rattle.bt_tick.proofs.Passing.{comes_both, follow_follow, met_behind, met_comes, part_made}
 
@@ -227,7 +228,6 @@ module _ (nodes : List Node) (moment : ℕ) (term : Term) (view : View) (uid : �
     can = can;
     ruled = ruled;
     fits = (parallel_alone (kind_of term) (kept_at s.kept frame.child).status e, onward.0, onward.1);
-    child = child;
     next_is = hears_passed term view uid (kept_at s.kept uid).status (kept_at s.kept uid).memo frame.place (after (kind_of term) (number term) frame.memo) (children_in term uid s.kept) (state_in nodes s moment) (kind_of term) (passes_is (kind_of term) ∙ e);
   }
   turns false e = record {
@@ -239,6 +239,15 @@ module _ (nodes : List Node) (moment : ℕ) (term : Term) (view : View) (uid : �
     child = child;
     next_is = hears_visited term view uid (kept_at s.kept uid).status (kept_at s.kept uid).memo frame.place (after (kind_of term) (number term) frame.memo) (children_in term uid s.kept) (state_in nodes s moment) (kind_of term) (passes_is (kind_of term) ∙ e);
   }
+
+-- the child at this place is visited, and none is reset
+abbrev pub next_child : ℕ → Move
+next_child place = record { reset = span.None; then = then_.Visit place }
+
+-- only a Parallel passes children over
+pub visits_all : (kind : Kind) (x : Status) → (kind ≡ Parallel → ⊥) → passes_over kind x ≡ false
+visits_all Parallel x other = absurd (other refl)
+visits_all _ x other = refl
 
 -- ---- The end of a visit
 
@@ -257,10 +266,11 @@ ends_so nodes moment term view uid s s1 s2 n0 n1 n2 d e (Ok a) k m = record {
 }
 ends_so nodes moment term view uid s s1 s2 n0 n1 n2 d e (Err x) k m = met_behind nodes moment (memory_of term uid) s s1 s2 n0 n1 n2 d e (Err x) k m
 
--- a turn that stopped with this
-pub goes_with : (nodes : List Node) (moment : ℕ) (term : Term) (view : View) (uid : ℕ) (r : Result Turn (Stop NodeFault)) (e : Stop NodeFault) (s s1 : Scene) (n0 n1 : List Note) (d : Done Answer Memory) →
-    IsErrAnd r (λ x. x ≡ e) → Goes nodes moment term view uid (Err e) s s1 n0 n1 d → Goes nodes moment term view uid r s s1 n0 n1 d
-goes_with nodes moment term view uid r e s s1 n0 n1 d is goes = subst (λ (x : Result Turn (Stop NodeFault)). Goes nodes moment term view uid x s s1 n0 n1 d) (sym (stops_with r e is)) goes
+-- a node that goes on stopped with this
+pub next_with : (nodes : List Node) (moment : ℕ) (term : Term) (view : View) (uid : ℕ) (frame : Frame) (r : Result Next (Stop NodeFault)) (e : Stop NodeFault) (s s1 : Scene) (n0 n1 : List Note) (d : Done Answer Memory) →
+    IsErrAnd r (λ x. x ≡ e) → Goes nodes moment term view uid (Err e) s s1 n0 n1 d → Goes nodes moment term view uid (turn_with frame r) s s1 n0 n1 d
+next_with nodes moment term view uid frame r e s s1 n0 n1 d is goes =
+    subst (λ (x : Result Next (Stop NodeFault)). Goes nodes moment term view uid (turn_with frame x) s s1 n0 n1 d) (sym (stops_with r e is)) goes
 
 -- .. when a node was entered
 pub turned_with : (nodes : List Node) (moment : ℕ) (term : Term) (view : View) (uid : ℕ) (r : Result Entered (Stop NodeFault)) (e : Stop NodeFault) (s s1 : Scene) (n0 n1 : List Note) (d : Done Answer Memory) →
@@ -268,6 +278,12 @@ pub turned_with : (nodes : List Node) (moment : ℕ) (term : Term) (view : View)
 turned_with nodes moment term view uid r e s s1 n0 n1 d is goes = subst (λ (x : Result Entered (Stop NodeFault)). Goes nodes moment term view uid (turned uid s1.kept x) s s1 n0 n1 d) (sym (stops_with r e is)) goes
 
 -- ---- A step
+
+-- it is the same with a memo that is the same
+pub same_memo : (nodes : List Node) (moment : ℕ) (term : Term) (view : View) (step : Step) (s : Scene) (next : Done Answer Memory) (memo : Memo) → memo ≡ step.memo →
+    GoesOnBy nodes moment term view step.uid step s next → GoesOnBy nodes moment term view step.uid (record { uid = step.uid; memo = memo; heard = step.heard }) s next
+same_memo nodes moment term view step s next memo same k =
+    subst (λ (m : Memo). GoesOnBy nodes moment term view step.uid (record { uid = step.uid; memo = m; heard = step.heard }) s next) (sym same) k
 
 module _ (keeps : (t : Term) → Keeps (meaning t) (Sound t)) (nodes : List Node) (moment : ℕ) (term : Term) (view : View) (step : Step) (s : Scene) (next : Done Answer Memory) (k : GoesOnBy nodes moment term view step.uid step s next) where
   module _ (here : Node) (is : here ≡ node_at nodes step.uid) where

@@ -29,9 +29,9 @@ use Rattle.bt_arena.proofs.Follows.{done_met}
 use Rattle.bt_laws.proofs.Children.{Keeps}
 use Rattle.bt_laws.proofs.Seats.{Seat}
 use Rattle.bt_arena.specs.declared.frame.Frame.{Frame}
-use Rattle.bt_tick.specs.declared.machine.Step.{Step}
-use Rattle.bt_tick.specs.declared.machine.Turn.{Turn}
-use Rattle.bt_tick.specs.declared.machine.Turn.TheVariants as turn
+use Rattle.bt_tick.specs.Machine.{Step}
+use Rattle.bt_tick.specs.Machine.{Turn}
+use Rattle.bt_tick.specs.Machine as turn
 use Rattle.bt_nodes.specs.Here.{site_at}
 use Rattle.bt_tick.specs.Turns.{AllLeave, CanGoOn, CanVisit, ChildLeaves, ChildrenSound, Comes, Goes, Going, GoesOnBy, StackIs, Waiting, WaitsBy, WaitsFor, child_of_waiting, children_in, goes_behind, kind_of, memory_in, number, resume, ruled_by, visit_in}
 use Rattle.bt_tick.proofs.Children.{beside_same, child_seen, child_stands, seat_at, terms}
@@ -41,15 +41,6 @@ use Rattle.bt_tick.proofs.Passing.{comes_both, comes_same, follow_follow, met_be
 none_from_push : {X : Type 0} (xs : List X) (x : X) → [] ≡ xs ++ x ∷ [] → ⊥
 none_from_push [] x is = cc
 none_from_push (y ∷ xs) x is = cc
-
-not_some : {X : Type 0} (o : Option X) → o ≡ None → IsSome o → ⊥
-not_some None is k = cc
-not_some (Some x) is k = cc
-
--- nothing is on a stack from which nothing could be taken
-pub none_held : {X : Type 0} (xs : List X) (o : Option X) → o ≡ None → (0 < length xs → IsSome o) → xs ≡ []
-none_held [] o is some = refl
-none_held (x ∷ xs) o is some = absurd (not_some o is (some (omega arith)))
 
 -- ---- A child is entered
 
@@ -147,7 +138,7 @@ module _ (keeps : (t : Term) → Keeps (meaning t) (Sound t)) (nodes : List Node
 
   module _ (w : Waiting) (term : Term) (view : View) (uid : ℕ) (s : Scene) (a : Answer) (k : WaitsFor nodes moment s w term view uid) where
     abbrev pub heard_of : Step
-    heard_of = record { uid = w.frame.uid; memo = w.frame.memo; heard = Answered w.frame.place a; child = w.frame.child }
+    heard_of = record { uid = w.frame.uid; memo = w.frame.memo; heard = Answered w.frame.place a }
 
     abbrev answered : Done Answer Memory
     answered = done a (memory_of term uid s.kept) (state_in nodes s moment)
@@ -171,7 +162,6 @@ module _ (keeps : (t : Term) → Keeps (meaning t) (Sound t)) (nodes : List Node
         can = children_sound;
         ruled = k.ruled;
         fits = k.moves a;
-        child = k.child;
         next_is = (λ i. ruled_by w.term w.view w.frame.uid (sym (node_kept nodes moment w.term 0 k) i).status (sym (node_kept nodes moment w.term 0 k) i).memo
             (after (kind_of w.term) (number w.term) w.frame.memo (Answered w.frame.place a)) (children_now nodes moment w.term 0 k i) (state_in nodes s moment));
       }
@@ -252,18 +242,18 @@ module _ (keeps : (t : Term) → Keeps (meaning t) (Sound t)) (nodes : List Node
         }
 
     -- a frame is taken from the stack, and its node hears the answer
-    pub heard : {a : Answer} {frame : Frame} → Going nodes moment root first (turn.Back a) (stack ++ frame ∷ []) s0 s n0 n whole →
-        Going nodes moment root first (turn.GoOn (record { uid = frame.uid; memo = frame.memo; heard = Answered frame.place a; child = frame.child })) stack s0 s n0 n whole
-    heard {a} {frame} g = by g.waiting g.stands g.leaves g.comes where
+    pub heard : {a : Answer} (frame : Frame) → Going nodes moment root first (turn.Back a) (stack ++ frame ∷ []) s0 s n0 n whole →
+        Going nodes moment root first (turn.GoOn (record { uid = frame.uid; memo = frame.memo; heard = Answered frame.place a })) stack s0 s n0 n whole
+    heard {a} frame g = by g.waiting g.stands g.leaves g.comes where
       by : (ws : List Waiting) → StackIs nodes moment s root first (stack ++ frame ∷ []) ws g.term g.view g.uid → AllLeave ws g.next → Comes nodes s0 s n0 n whole (resume ws g.next) →
-          Going nodes moment root first (turn.GoOn (record { uid = frame.uid; memo = frame.memo; heard = Answered frame.place a; child = frame.child })) stack s0 s n0 n whole
+          Going nodes moment root first (turn.GoOn (record { uid = frame.uid; memo = frame.memo; heard = Answered frame.place a })) stack s0 s n0 n whole
       by [] stands leaves comes = absurd (none_from_push stack frame (sym stands.0))
       by (w ∷ ws) (under, is, waits, more) leaves comes =
           let same = same_from_push stack under frame w.frame is in
           let d : Done Answer Memory = answered w g.term g.view g.uid s a waits in
           let here : ChildLeaves w d = subst (λ (x : Done Answer Memory). ChildLeaves w x) g.does leaves.0 in
           let step = goes_on_by w g.term g.view g.uid s a waits here in
-          subst (λ (f : Frame). Going nodes moment root first (turn.GoOn (record { uid = f.uid; memo = f.memo; heard = Answered f.place a; child = f.child })) stack s0 s n0 n whole) (sym same.1)
+          subst (λ (f : Frame). Going nodes moment root first (turn.GoOn (record { uid = f.uid; memo = f.memo; heard = Answered f.place a })) stack s0 s n0 n whole) (sym same.1)
           (record {
             waiting = ws;
             term = w.term;
@@ -345,43 +335,14 @@ module _ (keeps : (t : Term) → Keeps (meaning t) (Sound t)) (nodes : List Node
     pub cut_here : {t : Turn} → Going nodes moment root first t stack s0 s n0 n whole → Meets {A = Answer} nodes moment (memory_of root first) (Err stop.NoMemory) s0 s n0 n whole
     cut_here g = met_behind nodes moment (memory_of root first) s0 s s n0 n n whole (resume g.waiting g.next) (Err stop.NoMemory) g.comes (none_told nodes s n (resume g.waiting g.next))
 
-    pub back_made : {t : Turn} {a : Answer} {frame : Frame} (stack1 : List Frame) (step : Step) → t ≡ turn.Back a → stack ≡ stack1 ++ frame ∷ [] →
-        step ≡ record { uid = frame.uid; memo = frame.memo; heard = Answered frame.place a; child = frame.child } → Going nodes moment root first t stack s0 s n0 n whole → Going nodes moment root first (turn.GoOn step) stack1 s0 s n0 n whole
-    back_made {a = a} {frame = frame} stack1 step is popped hears g =
+    pub back_made : {t : Turn} {a : Answer} (frame : Frame) (stack1 : List Frame) (step : Step) → t ≡ turn.Back a → stack ≡ stack1 ++ frame ∷ [] →
+        step ≡ record { uid = frame.uid; memo = frame.memo; heard = Answered frame.place a } → Going nodes moment root first t stack s0 s n0 n whole → Going nodes moment root first (turn.GoOn step) stack1 s0 s n0 n whole
+    back_made {a = a} frame stack1 step is popped hears g =
         subst (λ (x : Step). Going nodes moment root first (turn.GoOn x) stack1 s0 s n0 n whole) (sym hears)
-        (heard (subst (λ (fs : List Frame). Going nodes moment root first (turn.Back a) fs s0 s n0 n whole) popped (as_turn is g)))
+        (heard frame (subst (λ (fs : List Frame). Going nodes moment root first (turn.Back a) fs s0 s n0 n whole) popped (as_turn is g)))
 
     pub back_answers : {t : Turn} {a : Answer} → t ≡ turn.Back a → stack ≡ [] → Going nodes moment root first t stack s0 s n0 n whole → Meets nodes moment (memory_of root first) (Ok a) s0 s n0 n whole
     back_answers {a = a} is empty g = answers (subst (λ (fs : List Frame). Going nodes moment root first (turn.Back a) fs s0 s n0 n whole) empty (as_turn is g))
-
-  -- ---- A child is visited before its node's frame is put on the stack
-
-  module _ {root : Term} {first : ℕ} {stack : List Frame} {s0 s : Scene} {n0 n : List Note} {whole : Done Answer Memory} {t : Turn} {frame : Frame} (is : t ≡ turn.Wait frame) (g : Going nodes moment root first t stack s0 s n0 n whole) where
-    entering : Going nodes moment root first (turn.Enter frame.child) (stack ++ frame ∷ []) s0 s n0 n whole
-    entering = entered (as_turn is g)
-
-    pub can_child : (term : Term) × (view : View) × CanVisit nodes moment term view frame.child s
-    can_child = can_enter refl entering
-
-    module _ (s1 : Scene) (n1 : List Note) where
-      abbrev ChildGoes : Result Turn (Stop NodeFault) → Type 0
-      ChildGoes r = (term : Term) (view : View) → CanVisit nodes moment term view frame.child s → Goes nodes moment term view frame.child r s s1 n n1 (visit_in nodes moment term view frame.child s)
-
-      pub child_made : {t1 : Turn} → ChildGoes (Ok t1) → Going nodes moment root first t1 (stack ++ frame ∷ []) s0 s1 n0 n1 whole
-      child_made goes = enter_made s1 n1 refl entering goes
-
-      pub child_stops : (e : Stop NodeFault) → ChildGoes (Err e) → Meets {A = Answer} nodes moment (memory_of root first) (Err e) s0 s1 n0 n1 whole
-      child_stops e goes = enter_stops s1 n1 e refl entering goes
-
-      pub child_heard : {t1 : Turn} {a : Answer} (step : Step) → t1 ≡ turn.Back a → step ≡ record { uid = frame.uid; memo = frame.memo; heard = Answered frame.place a; child = frame.child } →
-          ChildGoes (Ok t1) → Going nodes moment root first (turn.GoOn step) stack s0 s1 n0 n1 whole
-      child_heard step back hears goes = back_made stack step back refl hears (child_made goes)
-
-      pub child_waits : {t1 : Turn} (stack1 : List Frame) → stack1 ≡ stack ++ frame ∷ [] → ChildGoes (Ok t1) → Going nodes moment root first t1 stack1 s0 s1 n0 n1 whole
-      child_waits stack1 pushed goes = on_stack (sym pushed) (child_made goes)
-
-      pub child_cut : {t1 : Turn} → ChildGoes (Ok t1) → Meets {A = Answer} nodes moment (memory_of root first) (Err stop.NoMemory) s0 s1 n0 n1 whole
-      child_cut goes = cut_here (child_made goes)
 
 -- ---- Behind a visit
 

@@ -1,8 +1,9 @@
 -- What is still to come of a visit, and the turns in which it is made.
-use Rattle.std.specs.Prelude.{◌≡◌, ◌+◌, ◌-◌, ◌*◌, ◌^◌, ◌<◌, ◌≤◌, ℕ, zero, suc, sum_by, List, [], ◌∷◌, ◌++◌, length, slice_index_or, Bool, true, false, Some, None, Result, Ok, Err}
+use Rattle.std.specs.Prelude.{◌≡◌, ◌+◌, ◌-◌, ◌*◌, ◌^◌, ◌<◌, ◌≤◌, ℕ, zero, suc, sum_by, List, [], ◌∷◌, ◌++◌, length, slice_index_or, take, Bool, true, false, Some, None, Result, Ok, Err}
 use Rattle.bt_script.specs.declared.stop.Stop.{Stop}
 use Rattle.bt_model.specs.declared.fault.NodeFault.{NodeFault}
 use Rattle.bt_model.specs.declared.memory.Memo.{Memo}
+use Rattle.bt_model.specs.declared.memory.Memo.TheVariants.{Nothing}
 use Rattle.bt_model.specs.declared.memory.Memory.{Memory, out-Memory}
 use Rattle.bt_model.specs.declared.moves.Heard.{Heard}
 use Rattle.bt_model.specs.declared.moves.Heard.TheVariants.{Begin, Answered, Passed}
@@ -29,10 +30,12 @@ use Rattle.bt_arena.specs.Ends.{Meets, StaysFit}
 use Rattle.bt_nodes.specs.Here.{site_at}
 use Rattle.bt_arena.specs.declared.frame.Frame.{Frame}
 use Rattle.bt_tick.specs.declared.machine.Entered.{Entered}
+use Rattle.bt_tick.specs.declared.machine.Next.{Next}
+use Rattle.bt_tick.specs.declared.machine.Next.TheVariants as next
 use Rattle.bt_tick.specs.declared.machine.Entered.TheVariants.{Begins, Answers}
-use Rattle.bt_tick.specs.declared.machine.Step.{Step}
-use Rattle.bt_tick.specs.declared.machine.Turn.{Turn}
-use Rattle.bt_tick.specs.declared.machine.Turn.TheVariants as turn
+use Rattle.bt_tick.specs.Machine.{Step}
+use Rattle.bt_tick.specs.Machine.{Turn}
+use Rattle.bt_tick.specs.Machine as turn
 
 -- ---- What is done and what is still to come
 
@@ -135,19 +138,12 @@ Starts nodes moment term view uid (Err e) before after old new =
 
 -- ---- Turns
 
--- the place of the child that was heard of, and of the first one where a rule begins
-abbrev pub place_heard : Heard → ℕ
-place_heard (Begin picked) = 0
-place_heard (Answered place a) = place
-place_heard (Passed place) = place
-
 -- a node goes on
 pub record GoesOnBy (nodes : List Node) (moment : ℕ) (term : Term) (view : View) (uid : ℕ) (step : Step) (s : Scene) (next : Done Answer Memory) : Type 0 where
   pub here : step.uid ≡ uid
   pub can : CanGoOn nodes moment term view uid s
   pub ruled : has_rule (kind_of term) ≡ true
   pub fits : FitsMoves (kind_of term) (number term) step.memo step.heard
-  pub child : step.child ≡ uid_of (out-Term term).children (uid + 1) (place_heard step.heard)
   pub next_is : next ≡ goes_by nodes moment term view uid s (rest (kind_of term) (number term) moment step.memo step.heard)
 
 -- it waits for a child, which is visited
@@ -169,7 +165,7 @@ TurnDoes nodes moment term view uid (turn.Back a) s next = next ≡ done a (memo
 
 -- what a visit that was entered goes on with: with the memo that its node keeps where a rule begins
 abbrev pub turn_after : ℕ → List Kept → Entered → Turn
-turn_after uid kept (Begins picked) = turn.GoOn (record { uid = uid; memo = (kept_at kept uid).memo; heard = Begin picked; child = uid + 1 })
+turn_after uid kept (Begins picked) = turn.GoOn (record { uid = uid; memo = (kept_at kept uid).memo; heard = Begin picked })
 turn_after uid kept (Answers a) = turn.Back a
 
 abbrev pub turned : ℕ → List Kept → Result Entered (Stop NodeFault) → Result Turn (Stop NodeFault)
@@ -181,10 +177,29 @@ abbrev pub passes_over : Kind → Status → Bool
 passes_over Parallel status = is_completed status
 passes_over kind status = false
 
+-- a node whose frame this is goes on with what it hears
+abbrev pub step_of : Frame → Heard → Step
+step_of frame heard = record { uid = frame.uid; memo = frame.memo; heard = heard }
+
 -- a child is visited, or passed over
 abbrev pub turn_to : Bool → Frame → Turn
-turn_to true frame = turn.GoOn (record { uid = frame.uid; memo = frame.memo; heard = Passed frame.place; child = frame.child })
+turn_to true frame = turn.GoOn (step_of frame (Passed frame.place))
 turn_to false frame = turn.Wait frame
+
+-- what comes next is a turn of the node whose frame is on top
+abbrev pub turn_of : Frame → Next → Turn
+turn_of frame (next.Enter uid) = turn.Wait frame
+turn_of frame (next.GoOn heard) = turn.GoOn (step_of frame heard)
+turn_of frame (next.Back a) = turn.Back a
+
+abbrev pub turn_with : Frame → Result Next (Stop NodeFault) → Result Turn (Stop NodeFault)
+turn_with frame (Ok next) = Ok (turn_of frame next)
+turn_with frame (Err e) = Err e
+
+-- the child that is visited is the one for which the frame waits
+abbrev pub EntersChild : Frame → Next → Type 0
+EntersChild frame (next.Enter uid) = frame.child ≡ uid
+EntersChild frame _ = Unit {0}
 
 -- a turn, and what is done and what is still to come of a whole
 pub record ComesTo (nodes : List Node) (moment : ℕ) (term : Term) (view : View) (uid : ℕ) (turn : Turn) (before after : Scene) (old new : List Note) (whole : Done Answer Memory) : Type 0 where
@@ -274,6 +289,17 @@ pub record Going (nodes : List Node) (moment : ℕ) (root : Term) (first : ℕ) 
   pub leaves : AllLeave waiting next
   pub comes : Comes nodes before after old new whole (resume waiting next)
 
+-- a fact of what comes next, by the stack of all frames: of the turn that it is, and of the frames below the node whose
+-- turn it is; where a child is visited all frames are those of visits that wait
+abbrev pub OnStack : Next → List Frame → (Turn → List Frame → Type 0) → Type 0
+OnStack (next.Enter uid) stack P = P (turn.Enter uid) stack
+OnStack (next.GoOn heard) stack P = (below : List Frame) × (frame : Frame) × (stack ≡ below ++ frame ∷ []) × P (turn.GoOn (step_of frame heard)) below
+OnStack (next.Back a) stack P = (below : List Frame) × (frame : Frame) × (stack ≡ below ++ frame ∷ []) × P (turn.Back a) below
+
+-- The visit of a root came to what comes next and this stack of all frames.
+pub record GoingOn (nodes : List Node) (moment : ℕ) (root : Term) (first : ℕ) (next : Next) (stack : List Frame) (before after : Scene) (old new : List Note) (whole : Done Answer Memory) : Type 0 where
+  pub came : OnStack next stack (λ turn below. Going nodes moment root first turn below before after old new whole)
+
 -- ---- Work
 
 -- a bound on the turns of a visit of so many nodes
@@ -296,3 +322,16 @@ turn_work nodes (turn.Enter uid) = cost (node_at nodes uid).size
 turn_work nodes (turn.GoOn step) = 1 + left_of (node_at nodes step.uid) step.memo (next_place step.heard)
 turn_work nodes (turn.Wait frame) = frame_work nodes frame + cost (node_at nodes frame.child).size + 1
 turn_work nodes (turn.Back a) = 0
+
+-- the frame on top of a stack, and those below it
+abbrev pub top_of : List Frame → Frame
+top_of stack = slice_index_or stack (length stack - 1) (record { uid = 0; memo = Nothing; place = 0; child = 0 })
+
+abbrev pub below_of : List Frame → List Frame
+below_of stack = take (length stack - 1) stack
+
+-- the turns that are left by what comes next
+abbrev pub next_work : List Node → Next → List Frame → ℕ
+next_work nodes (next.Enter uid) stack = turn_work nodes (turn.Enter uid) + stack_work nodes stack
+next_work nodes (next.GoOn heard) stack = turn_work nodes (turn.GoOn (step_of (top_of stack) heard)) + stack_work nodes (below_of stack)
+next_work nodes (next.Back a) stack = stack_work nodes (below_of stack)

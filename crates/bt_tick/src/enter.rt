@@ -1,4 +1,4 @@
-ghost use Rattle.std.specs.Prelude.{◌≡◌, ◌≢◌, ◌≤◌, ◌<◌, ◌^◌, ℕ, ℤ, List, IfOk, length, true, false};
+ghost use Rattle.std.specs.Prelude.{◌≡◌, ◌≢◌, ◌≤◌, ◌<◌, ℕ, ℤ, List, IfOk, length, true, false};
 ghost use Rattle.bt_model.specs.declared.status.Status.TheVariants.{Running};
 ghost use Rattle.bt_model.specs.declared.term.Term.{Term};
 ghost use Rattle.bt_model.specs.Drivers.{DriverState};
@@ -9,15 +9,16 @@ ghost use Rattle.bt_arena.specs.Ends.{Meets, StaysFit};
 ghost use Rattle.bt_arena.specs.Nodes.{kept_at, node_at};
 ghost use Rattle.bt_arena.specs.Scenes.{scene};
 ghost use Rattle.bt_arena.specs.Stands.{Beside};
+ghost use Rattle.bt_tick.specs.Machine as turn;
 ghost use Rattle.bt_tick.specs.Turns.{CanFollow, CanVisit, Goes, Starts, kind_of, ruled_in, turn_after, turn_work, turned, visit_in};
 
-use crate::machine::{Entered, Step, Turn};
+use crate::machine::Entered;
 use crate::moves::has_rule;
 use bt_arena::{Kept, Node, Notes, kept_by, node, set_memo, set_status};
 use bt_board::Board;
 use bt_driver::{Drivers, FactTable};
 use bt_halting::halt_node;
-use bt_model::{Answer, Heard, Kind, Memo, NodeFault, Note, Status};
+use bt_model::{Answer, Kind, Memo, NodeFault, Note, Status};
 use bt_nodes::{end_visit, goes_on, guards_answer, new_memo, picked, visit_alone};
 use bt_script::Stop;
 use std::alloc::Global;
@@ -59,7 +60,7 @@ fn follow_rule<D: Drivers>(
         (ruled_in nodes.now now term view uid (scene kept.old board.old facts.old (D.states drivers.old))) }
     ensures reserve { notes.old.reserve ≤ notes.new.reserve }
     ensures full { notes.new.full ≡ notes.old.full }
-    ensures work { IfOk result (λ entered. turn_work nodes.now (turn_after uid kept.new entered) < turn_work nodes.now (Turn.Enter uid)) }
+    ensures work { IfOk result (λ entered. turn_work nodes.now (turn_after uid kept.new entered) < turn_work nodes.now (turn.Enter uid)) }
 {
     let here = node(nodes, uid);
     if !has_rule(here.kind) {
@@ -70,24 +71,6 @@ fn follow_rule<D: Drivers>(
     match picked(here, uid, memo, board) {
         Ok(picked) => Ok(Entered::Begins(picked)),
         Err(fault) => Err(Stop::Fault(fault)),
-    }
-}
-
-/// What a visit that was entered goes on with: with the memo that its node keeps where a rule begins.
-#[inline(always)]
-pub(crate) fn turn_after(uid: u32, kept: &[Kept], entered: Entered) -> Turn
-    requires there { uid < length kept.now }
-    requires few { length kept.now < 2 ^ 30 }
-    ensures { result ≡ turn_after uid kept.now entered }
-{
-    match entered {
-        Entered::Begins(picked) => Turn::GoOn(Step {
-            uid,
-            memo: kept_by(kept, uid).memo,
-            heard: Heard::Begin { picked },
-            child: uid + 1,
-        }),
-        Entered::Answers(answer) => Turn::Back(answer),
     }
 }
 
@@ -148,15 +131,15 @@ fn begin<D: Drivers>(
         (visit_in nodes.now now term view uid (scene kept.old board.old facts.old (D.states drivers.old))) }
     ensures reserve { notes.old.reserve ≤ notes.new.reserve }
     ensures full { notes.new.full ≡ notes.old.full }
-    ensures work { IfOk result (λ entered. turn_work nodes.now (turn_after uid kept.new entered) < turn_work nodes.now (Turn.Enter uid)) }
+    ensures work { IfOk result (λ entered. turn_work nodes.now (turn_after uid kept.new entered) < turn_work nodes.now (turn.Enter uid)) }
 {
     let here = node(nodes, uid);
-    let memo = kept_by(kept, uid).memo;
     if let Some(answer) = guards_answer(alloc, &here.guards, uid, board)? {
+        let memo = kept_by(kept, uid).memo;
         let given = end_visit(alloc, nodes, kept, board, uid, answer, memo, notes)?;
         return Ok(Entered::Answers(given));
     }
-    if !starts(here.kind, memo) {
+    if !starts(here.kind, kept_by(kept, uid).memo) {
         return follow_rule(alloc, nodes, kept, board, facts, drivers, uid, now, notes);
     }
     start(nodes, kept, board, uid, now, notes)?;
@@ -183,7 +166,7 @@ fn resume<D: Drivers>(
         (visit_in nodes.now now term view uid (scene kept.old board.old facts.old (D.states drivers.old))) }
     ensures reserve { notes.old.reserve ≤ notes.new.reserve }
     ensures full { notes.new.full ≡ notes.old.full }
-    ensures work { IfOk result (λ entered. turn_work nodes.now (turn_after uid kept.new entered) < turn_work nodes.now (Turn.Enter uid)) }
+    ensures work { IfOk result (λ entered. turn_work nodes.now (turn_after uid kept.new entered) < turn_work nodes.now (turn.Enter uid)) }
 {
     if goes_on(alloc, &node(nodes, uid).guards, uid, board)? {
         return follow_rule(alloc, nodes, kept, board, facts, drivers, uid, now, notes);
@@ -211,7 +194,7 @@ pub(crate) fn enter<D: Drivers>(
         (visit_in nodes.now now term view uid (scene kept.old board.old facts.old (D.states drivers.old))) }
     ensures reserve { notes.old.reserve ≤ notes.new.reserve }
     ensures full { notes.new.full ≡ notes.old.full }
-    ensures work { IfOk result (λ entered. turn_work nodes.now (turn_after uid kept.new entered) < turn_work nodes.now (Turn.Enter uid)) }
+    ensures work { IfOk result (λ entered. turn_work nodes.now (turn_after uid kept.new entered) < turn_work nodes.now (turn.Enter uid)) }
 {
     match kept_by(kept, uid).status {
         Status::Running => resume(alloc, nodes, kept, board, facts, drivers, uid, now, notes),

@@ -1,4 +1,4 @@
-ghost use Rattle.std.specs.Prelude.{true, ◌≡◌, ◌+◌, ◌-◌, ◌≤◌, ◌<◌, ◌^◌, ℕ, ℤ, List, IfOk, length};
+ghost use Rattle.std.specs.Prelude.{true, ◌≡◌, ◌+◌, ◌-◌, ◌≤◌, ◌<◌, ℕ, ℤ, List, IfOk, length, slice_index_or};
 ghost use Rattle.bt_model.specs.declared.memory.Memory.{Memory};
 ghost use Rattle.bt_model.specs.declared.status.Answer.{Answer as AnswerGiven};
 ghost use Rattle.bt_model.specs.declared.term.Term.{Term, out-Term};
@@ -8,14 +8,16 @@ ghost use Rattle.bt_model.specs.Steps.{resets};
 ghost use Rattle.bt_arena.specs.Ends.{Meets, StaysFit};
 ghost use Rattle.bt_arena.specs.Nodes.{node_at};
 ghost use Rattle.bt_arena.specs.Scenes.{scene, state_in};
-ghost use Rattle.bt_arena.specs.Stands.{Beside, StandAll, uid_of};
+ghost use Rattle.bt_arena.specs.Stands.{Beside};
 ghost use Rattle.bt_nodes.specs.Here.{site_at};
-ghost use Rattle.bt_tick.specs.Turns.{CanGoOn, Goes, GoesOnBy, children_in, has_rule, kind_of, passes_over, place_heard, turn_to, turn_work};
+ghost use Rattle.bt_tick.specs.Machine as turn;
+ghost use Rattle.bt_tick.specs.Turns.{CanGoOn, EntersChild, Goes, GoesOnBy, children_in, has_rule, kind_of, passes_over, step_of, turn_of, turn_with, turn_work};
 
-use crate::machine::{Step, Turn};
-use crate::moves::{child_from, is_completed, next_move};
+use crate::machine::Next;
+use crate::moves::{is_completed, next_move};
 use bt_arena::{Frame, Kept, Node, Notes, kept_by, node};
 use bt_board::Board;
+use bt_controls::goes_to_next;
 use bt_driver::Drivers;
 use bt_halting::reset_children;
 use bt_model::{Heard, Kind, NodeFault, Span, Status, Then};
@@ -23,30 +25,13 @@ use bt_nodes::end_visit;
 use bt_script::Stop;
 use std::alloc::Global;
 
-/// The place of the child that is heard of, and of the first one where a rule begins.
-fn place_heard(heard: Heard) -> u32
-    ensures { result ≡ place_heard heard }
-{
-    match heard {
-        Heard::Begin { .. } => 0,
-        Heard::Answered(place, _) | Heard::Passed(place) => place,
-    }
-}
-
-/// The uid of the child at this place, of a node that has heard of a child.
+/// The uid of the child of a node at this place.
 #[inline(always)]
-fn child_at(nodes: &[Node], step: Step, place: u32) -> u32
-    requires there { (ts : List Term) × (view : View) × StandAll ts nodes.now view (step.uid + 1) × (place < length ts) × (step.child ≡ uid_of ts (step.uid + 1) (place_heard step.heard)) }
-    requires few { length nodes.now < 2 ^ 30 }
-    requires here { step.uid < length nodes.now }
-    ensures { (ts : List Term) (view : View) → StandAll ts nodes.now view (step.uid + 1) → place < length ts → step.child ≡ uid_of ts (step.uid + 1) (place_heard step.heard) → result ≡ uid_of ts (step.uid + 1) place }
+fn child_at(here: &Node, place: u32) -> u32
+    requires { place < length here.now.child_uids }
+    ensures { result ≡ slice_index_or here.now.child_uids place 0 }
 {
-    let known = place_heard(step.heard);
-    if known <= place {
-        child_from(nodes, known, step.child, place)
-    } else {
-        child_from(nodes, 0, step.uid + 1, place)
-    }
+    here.child_uids.list()[place as usize]
 }
 
 /// Whether a child of this status is passed over.
@@ -56,23 +41,6 @@ fn passes_over(kind: Kind, status: Status) -> bool
     match kind {
         Kind::Parallel => is_completed(status),
         _ => false,
-    }
-}
-
-/// The turn to a child: it is visited or passed over.
-#[inline(always)]
-fn turn_to(passes: bool, frame: Frame) -> Turn
-    ensures { result ≡ turn_to passes frame }
-{
-    if passes {
-        Turn::GoOn(Step {
-            uid: frame.uid,
-            memo: frame.memo,
-            heard: Heard::Passed(frame.place),
-            child: frame.child,
-        })
-    } else {
-        Turn::Wait(frame)
     }
 }
 
@@ -103,7 +71,8 @@ fn reset_before<D: Drivers>(
     }
 }
 
-/// A node goes on: it makes its next move, up to its answer or to the visit of a child.
+/// The node on top of the stack, whose frame this is, goes on with what it hears: it makes its next
+/// move, up to its answer or to the visit of a child.
 #[inline(always)]
 pub(crate) fn go_on<D: Drivers>(
     alloc: Global,
@@ -111,39 +80,44 @@ pub(crate) fn go_on<D: Drivers>(
     kept: &mut [Kept],
     board: &mut Board,
     drivers: &mut D,
-    step: Step,
+    frame: &mut Frame,
+    heard: Heard,
     now: u64,
     notes: &mut Notes,
-) -> Result<Turn, Stop<NodeFault>>
-    requires can { (term : Term) × (view : View) × (facts : List ℤ) × (next : Done AnswerGiven Memory) × GoesOnBy nodes.now now term view step.uid step (scene kept.old board.old facts (D.states drivers.old)) next }
-    ensures goes { (term : Term) (view : View) (facts : List ℤ) (next : Done AnswerGiven Memory) → GoesOnBy nodes.now now term view step.uid step (scene kept.old board.old facts (D.states drivers.old)) next →
-        Goes nodes.now now term view step.uid result (scene kept.old board.old facts (D.states drivers.old)) (scene kept.new board.new facts (D.states drivers.new)) notes.old.list notes.new.list next }
+) -> Result<Next, Stop<NodeFault>>
+    requires can { (term : Term) × (view : View) × (facts : List ℤ) × (rest : Done AnswerGiven Memory) × GoesOnBy nodes.now now term view frame.old.uid (step_of frame.old heard) (scene kept.old board.old facts (D.states drivers.old)) rest }
+    ensures goes { (term : Term) (view : View) (facts : List ℤ) (rest : Done AnswerGiven Memory) → GoesOnBy nodes.now now term view frame.old.uid (step_of frame.old heard) (scene kept.old board.old facts (D.states drivers.old)) rest →
+        Goes nodes.now now term view frame.old.uid (turn_with frame.new result) (scene kept.old board.old facts (D.states drivers.old)) (scene kept.new board.new facts (D.states drivers.new)) notes.old.list notes.new.list rest }
+    ensures child { IfOk result (λ next. EntersChild frame.new next) }
     ensures reserve { notes.old.reserve ≤ notes.new.reserve }
     ensures full { notes.new.full ≡ notes.old.full }
-    ensures work { IfOk result (λ turn. turn_work nodes.now turn < turn_work nodes.now (Turn.GoOn step)) }
+    ensures work { IfOk result (λ next. turn_work nodes.now (turn_of frame.new next) < turn_work nodes.now (turn.GoOn (step_of frame.old heard))) }
 {
-    let here = node(nodes, step.uid);
-    let (memo, go) = next_move(here.kind, step.memo, here.children, now, step.heard);
+    let here = node(nodes, frame.uid);
+    if let Some(place) = goes_to_next(here.kind, &mut frame.memo, here.children, heard) {
+        frame.place = place;
+        frame.child = child_at(here, place);
+        return Ok(Next::Enter(frame.child));
+    }
+    let go = next_move(here.kind, &mut frame.memo, here.children, now, heard);
     reset_before(
-        alloc, nodes, kept, board, drivers, step.uid, go.reset, notes,
+        alloc, nodes, kept, board, drivers, frame.uid, go.reset, notes,
     )?;
     match go.then {
         Then::Give(answer) => {
-            let given = end_visit(alloc, nodes, kept, board, step.uid, answer, memo, notes)?;
-            Ok(Turn::Back(given))
+            let given = end_visit(
+                alloc, nodes, kept, board, frame.uid, answer, frame.memo, notes,
+            )?;
+            Ok(Next::Back(given))
         }
         Then::Visit(place) => {
-            let child = child_at(nodes, step, place);
-            let passes = passes_over(here.kind, kept_by(kept, child).status);
-            Ok(turn_to(
-                passes,
-                Frame {
-                    uid: step.uid,
-                    memo,
-                    place,
-                    child,
-                },
-            ))
+            frame.place = place;
+            frame.child = child_at(here, place);
+            if passes_over(here.kind, kept_by(kept, frame.child).status) {
+                Ok(Next::GoOn(Heard::Passed(place)))
+            } else {
+                Ok(Next::Enter(frame.child))
+            }
         }
     }
 }

@@ -1,19 +1,21 @@
-ghost use Rattle.std.specs.Prelude.{◌≡◌, ◌+◌, ◌≤◌, OnOk};
+ghost use Rattle.std.specs.Prelude.{◌≡◌, ◌+◌, ◌≤◌, ◌<◌, ◌^◌, List, [], ◌∷◌, ◌++◌, Some, None, OnOk, length};
 ghost use Rattle.std.specs.List.{AllByRecursion};
+ghost use Rattle.bt_model.specs.declared.moves.Heard.{Heard as HeardOf};
 ghost use Rattle.bt_model.specs.declared.term.Term.{Term};
 ghost use Rattle.bt_model.specs.Sites.{View};
 ghost use Rattle.bt_model.specs.Terms.{depth_of, work_of};
 ghost use Rattle.bt_model.specs.Trees.{NodeFits, nodes_of};
 ghost use Rattle.bt_arena.specs.Ends.{Meets, StaysFit};
+ghost use Rattle.bt_arena.specs.Nodes.{kept_at};
 ghost use Rattle.bt_arena.specs.Scenes.{scene};
 ghost use Rattle.bt_arena.specs.Stands.{memory_of};
 ghost use Rattle.bt_tick.specs.Turns.{CanVisit, visit_in};
 ghost use Rattle.bt_tick.specs.Work.{begun_by};
 
-use crate::enter::{enter, turn_after};
-use crate::machine::{Entered, Step, Turn};
+use crate::enter::enter;
+use crate::machine::{Entered, Next};
 use crate::onward::go_on;
-use bt_arena::{Arena, Frame, Kept, Node, Notes};
+use bt_arena::{Arena, Frame, Kept, Node, Notes, kept_by};
 use bt_board::Board;
 use bt_driver::{Drivers, FactTable};
 use bt_model::{Answer, Heard, NodeFault};
@@ -21,21 +23,37 @@ use bt_script::Stop;
 use smallvec::SmallVec;
 use std::alloc::Global;
 
-/// What a visit goes on with that waited and has its child's answer.
-fn hear(frame: Frame, answer: Answer) -> Step
-    ensures { result ≡ record { uid = frame.uid; memo = frame.memo; heard = Heard.Answered frame.place answer; child = frame.child } }
+/// The frame of a node whose rule begins: with the memo that the node keeps.
+#[inline(always)]
+fn begun(uid: u32, kept: &[Kept]) -> Frame
+    requires there { uid < length kept.now }
+    requires few { length kept.now < 2 ^ 30 }
+    ensures { result ≡ record { uid = uid; memo = (kept_at kept.now uid).memo; place = 0; child = 0 } }
 {
-    Step {
-        uid: frame.uid,
-        memo: frame.memo,
-        heard: Heard::Answered(frame.place, answer),
-        child: frame.child,
+    Frame {
+        uid,
+        memo: kept_by(kept, uid).memo,
+        place: 0,
+        child: 0,
     }
 }
 
-/// Visits the root, turn by turn, with the visits that wait on a stack. It takes memory for them only
-/// where the stack has no room for all that can be under way at once. A child that answers at once is
-/// heard at once: its node then does not go over the stack, as most visits are those of leaves.
+/// What the node on top of the stack hears where its child has answered. Where the stack is empty it is
+/// the root that has answered, and nobody hears of it.
+#[inline(always)]
+fn heard_on(stack: &SmallVec<Frame, 32>, answer: Answer) -> Option<Heard>
+    ensures some { (heard : HeardOf) → result ≡ Some heard → (below : List Frame) × (frame : Frame) × (stack.now.items ≡ below ++ frame ∷ []) × (heard ≡ HeardOf.Answered frame.place answer) }
+    ensures none { result ≡ None → stack.now.items ≡ [] }
+{
+    match stack.as_slice().last() {
+        Some(frame) => Some(Heard::Answered(frame.place, answer)),
+        None => None,
+    }
+}
+
+/// Visits the root, turn by turn. The nodes with children whose visits are under way have their frames
+/// on a stack, the one that goes on topmost; what answers at once, as a leaf, has none. It takes memory
+/// for them only where the stack has no room for all that can be under way at once.
 fn visit<D: Drivers>(
     alloc: Global,
     nodes: &[Node],
@@ -61,37 +79,33 @@ fn visit<D: Drivers>(
     ensures full { notes.new.full ≡ notes.old.full }
 {
     stack.clear();
-    let mut turn = Turn::Enter(1);
+    let mut next = Next::Enter(1);
     loop {
-        turn = match turn {
-            Turn::Enter(uid) => {
-                let entered = enter(alloc, nodes, kept, board, facts, drivers, uid, now, notes)?;
-                turn_after(uid, kept, entered)
-            }
-            Turn::GoOn(step) => go_on(alloc, nodes, kept, board, drivers, step, now, notes)?,
-            Turn::Wait(frame) => {
-                match enter(
-                    alloc,
-                    nodes,
-                    kept,
-                    board,
-                    facts,
-                    drivers,
-                    frame.child,
-                    now,
-                    notes,
-                )? {
-                    Entered::Answers(answer) => Turn::GoOn(hear(frame, answer)),
-                    begins => {
-                        stack.push(frame)?;
-                        turn_after(frame.child, kept, begins)
+        next = match next {
+            Next::Enter(uid) => {
+                match enter(alloc, nodes, kept, board, facts, drivers, uid, now, notes)? {
+                    Entered::Begins(picked) => {
+                        stack.push(begun(uid, kept))?;
+                        Next::GoOn(Heard::Begin { picked })
                     }
+                    Entered::Answers(answer) => match heard_on(stack, answer) {
+                        Some(heard) => Next::GoOn(heard),
+                        None => return Ok(answer),
+                    },
                 }
             }
-            Turn::Back(answer) => match stack.pop() {
-                None => return Ok(answer),
-                Some(frame) => Turn::GoOn(hear(frame, answer)),
-            },
+            Next::GoOn(heard) => {
+                let top = stack.len() - 1;
+                let frame = &mut stack.as_mut_slice()[top];
+                go_on(alloc, nodes, kept, board, drivers, frame, heard, now, notes)?
+            }
+            Next::Back(answer) => {
+                stack.pop();
+                match heard_on(stack, answer) {
+                    Some(heard) => Next::GoOn(heard),
+                    None => return Ok(answer),
+                }
+            }
         };
     }
 }

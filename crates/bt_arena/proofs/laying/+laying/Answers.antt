@@ -1,4 +1,4 @@
-use Rattle.std.proofs.Common.{◌≡◌, ◌+◌, ℕ, List, [], ◌∷◌, length, map, sum, drop, length-append, refl, sym, ap, subst, ◌∙◌, arith}
+use Rattle.std.proofs.Common.{◌≡◌, ◌+◌, ℕ, List, [], ◌∷◌, ◌++◌, length, map, sum, drop, append-nil, length-append, refl, sym, ap, subst, ◌∙◌, arith}
 use Rattle.std.proofs.lemmas.List.{drop_all}
 use Rattle.std.proofs.lemmas.Result.{on_ok_weaker}
 use Rattle.std.proofs.lemmas.List.Sums.{sum_by-cons}
@@ -8,7 +8,8 @@ use Rattle.bt_model.specs.Boards.{children_scope_number}
 use Rattle.bt_model.specs.Terms.{node_count}
 use Rattle.bt_arena.specs.Laying.{AreLaid, CanBeLaid, driver_of}
 use Rattle.bt_arena.proofs.Laid.{can_as, can_below, can_first, can_rest, code_fits, code_named_here, counts_below, counts_within, fit_closed, fits_here, guards_named_here, joined_here, ports_named_here, terms_here}
-use Rattle.bt_arena.proofs.Whole.{laid_length, laid_more, next_length, nothing_laid, term_laid}
+use Rattle.bt_arena.specs.Stands.{uids_of}
+use Rattle.bt_arena.proofs.Whole.{laid_length, laid_more, next_length, nothing_laid, term_laid, uids_more}
 use Rattle.bt_arena.proofs.laying.+laying.Goals as goal
 
 pub lay_term-node_of-requires : goal.lay_term-node_of-requires
@@ -46,7 +47,7 @@ lay_term-lay_terms-requires g t c = λ κs lives.
 
 pub lay_term-close-requires : goal.lay_term-close-requires
 lay_term-close-requires g t c =
-    let laid = c.in_ok-lay_terms.ensures.laid in
+    let laid = c.in_ok-child_uids.ensures.laid in
     omega (arith, ap length laid.is, length-append c.push.new.self.items laid.added, ap length c.in_ok-push.ensures.items, length-append c.args.nodes.now.items (c.in_ok-node_of.field-0 ∷ []), c.len-place.ensures)
 
 pub lay_term-returns : goal.lay_term-returns
@@ -54,9 +55,9 @@ lay_term-returns g t c =
     let place : c.len-place.result ≡ length c.args.nodes.now.items = omega (arith, c.len-place.ensures, c.args.nodes.now.ok.0) in record {
       laid = on_ok_weaker c.close.result
           (λ is. term_laid _ _ _ c.args.term.now c.args.scope c.args.nodes.now.items c.push.new.self.items c.lay_terms.new.nodes.items c.close.new.nodes.items c.in_ok-node_of.field-0
-          c.args.next.now c.node_of.new.next c.lay_terms.new.next c.len-place.result c.in_ok-uid.uid c.list.result.now c.scope_under-inner.result
+          c.args.next.now c.node_of.new.next c.lay_terms.new.next c.len-place.result c.in_ok-uid.uid c.list.result.now c.scope_under-inner.result c.of.result
           place c.in_ok-uid.ensures c.in_ok-push.ensures.items c.list.ensures c.scope_under-inner.ensures
-          c.requires.can c.in_ok-node_of.ensures.node c.in_ok-node_of.ensures.is_next c.in_ok-node_of.ensures.next c.in_ok-lay_terms.ensures.laid is)
+          c.requires.can c.in_ok-node_of.ensures.node c.in_ok-node_of.ensures.is_next c.in_ok-node_of.ensures.next c.in_ok-child_uids.ensures.laid (c.of.ensures ∙ c.in_ok-child_uids.ensures.uids) is)
           c.close.ensures;
     }
 
@@ -75,10 +76,16 @@ lay_terms-returns g t c =
       laid = c.loop-term.invariant.whole c.loop-term.nodes.items c.loop-term.next
           (subst (λ (ts : List Term). AreLaid c.args.setting.now.tree.now c.args.setting.now.world.now (g.D.Drivers.states c.args.drivers.now) ts c.args.scope c.loop-term.nodes.items c.loop-term.nodes.items c.loop-term.next c.loop-term.next) (sym none)
           (nothing_laid _ _ _ c.args.scope c.loop-term.nodes.items c.loop-term.next));
+      uids = sym (append-nil c.loop-term.uids.items) ∙ ap (λ (ts : List Term). c.loop-term.uids.items ++ uids_of ts (length c.loop-term.nodes.items)) (sym none) ∙ c.loop-term.invariant.uids;
     }
 
 pub lay_terms-loop-term-init : goal.lay_terms-loop-term-init
-lay_terms-loop-term-init g t c = record { can = c.requires.can; whole = λ new left laid. laid; places = c.requires.places }
+lay_terms-loop-term-init g t c = record {
+  can = c.requires.can;
+  whole = λ new left laid. laid;
+  uids = ap (λ (us : List ℕ). us ++ uids_of c.args.terms.now (length c.args.nodes.now.items)) c.new-uids.ensures.items;
+  places = c.requires.places;
+}
 
 pub lay_terms-loop-term-preserved : goal.lay_terms-loop-term-preserved
 lay_terms-loop-term-preserved g t c =
@@ -96,5 +103,8 @@ lay_terms-loop-term-preserved g t c =
       whole = λ new left rest. c.loop-term.invariant.whole new left
           (subst (λ (ts : List Term). AreLaid tree world drivers ts c.args.scope c.loop-term.nodes.items new c.loop-term.next left) (sym here)
           (laid_more tree world drivers c.term-item.result (drop (i + 1) c.args.terms.now) c.args.scope c.loop-term.nodes.items c.lay_term.new.nodes.items new c.loop-term.next c.lay_term.new.next left laid rest));
+      uids = uids_more c.term-item.result (drop (i + 1) c.args.terms.now) (drop i c.args.terms.now) c.loop-term.uids.items c.push.new.self.items (length c.loop-term.nodes.items) c.in_ok-narrow.field-0 (length c.lay_term.new.nodes.items)
+          c.in_ok-push.ensures.items (c.in_ok-narrow.ensures ∙ omega (arith, c.len.ensures)) far here
+          ∙ c.loop-term.invariant.uids;
       places = laid_length laid.added c.loop-term.next c.lay_term.new.next laid.behind ∙ c.loop-term.invariant.places;
     }

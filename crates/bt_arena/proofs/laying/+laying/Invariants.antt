@@ -1,7 +1,8 @@
-use Rattle.std.proofs.Common.{◌≡◌, ℕ, ◌+◌, ◌*◌, List, length, map, sum, drop}
+use Rattle.std.proofs.Common.{◌≡◌, ℕ, ◌+◌, ◌*◌, List, ◌++◌, length, map, sum, drop}
 use Rattle.bt_model.specs.Terms.{node_count}
 use Rattle.bt_arena.specs.declared.nodes.Node.{Node}
 use Rattle.bt_arena.specs.Laying.{AreLaid, CanBeLaid}
+use Rattle.bt_arena.specs.Stands.{uids_of}
 use Rattle.bt_arena.proofs.laying.+laying.Given as goal
 
 abbrev pub decreases-lay_term : goal.decreases-lay_term
@@ -16,5 +17,6 @@ invariant-lay_terms-loop-term g l = record {
   can : CanBeLaid l.setting.tree.now l.setting.world.now (g.D.Drivers.states l.drivers) (drop l.term-index l.terms) (length l.nodes.items) l.scope;
   whole : (new : List Node) (left : List ℕ) → AreLaid l.setting.tree.now l.setting.world.now (g.D.Drivers.states l.drivers) (drop l.term-index l.terms) l.scope l.nodes.items new l.next left
       → AreLaid l.setting.tree.now l.setting.world.now (g.D.Drivers.states l.drivers) l.terms l.scope l.initial.nodes.items new l.initial.next left;
+  uids : l.uids.items ++ uids_of (drop l.term-index l.terms) (length l.nodes.items) ≡ uids_of l.terms (length l.initial.nodes.items);
   places : length l.next ≡ length (g.D.Drivers.states l.drivers);
 }

@@ -16,7 +16,7 @@ pub returns-in-ReactiveFallback-clause-next : goal.returns-in-ReactiveFallback-c
 returns-in-ReactiveFallback-clause-next c = rw c.in-ReactiveFallback.is c.go_on-in-ReactiveFallback.ensures.next
 
 pub returns-in-Parallel-clause-onward : goal.returns-in-Parallel-clause-onward
-returns-in-Parallel-clause-onward c = rw c.in-Parallel.is (c.parallel_answered.ensures.onward c.args.memo)
+returns-in-Parallel-clause-onward c = rw c.in-Parallel.is (c.parallel_answered.ensures.onward c.args.memo.now)
 
 pub returns-in-WhileDoElse-clause-onward : goal.returns-in-WhileDoElse-clause-onward
-returns-in-WhileDoElse-clause-onward c = rw c.in-WhileDoElse.is (c.while_do_else_answered.ensures.onward c.args.memo)
+returns-in-WhileDoElse-clause-onward c = rw c.in-WhileDoElse.is (c.while_do_else_answered.ensures.onward c.args.memo.now)

@@ -43,18 +43,23 @@ returns-in-Some-clause-goes g c = λ term view can.
 pub returns-in-Some-clause-work : goal.returns-in-Some-clause-work
 returns-in-Some-clause-work g c = cost_positive _
 
+pub kept_by-requires : goal.kept_by-requires
+kept_by-requires g c =
+    let (term, view, can) = c.requires.can in
+    omega (arith, node_there can.fits, as_many_kept can.fits)
+
 pub follow_rule-requires : goal.follow_rule-requires
 follow_rule-requires g c =
     let (term, view, can) = c.requires.can in
     let still = still_can term_keeps _ _ term view _ _ _ _ _ _ c.in_ok-answer.ensures.slots can in
     let b : c.starts.result ≡ false = cc in
-    record { can = (term, view, can_keep term_keeps _ _ term view _ _ still c.requires.rests (starts_here can.fits c.node-here.result.now c.kept_by-memo.result c.node-here.ensures c.kept_by-memo.ensures c.starts.result c.starts.ensures ∙ b)) }
+    record { can = (term, view, can_keep term_keeps _ _ term view _ _ still c.requires.rests (starts_here can.fits c.node-here.result.now c.kept_by.result c.node-here.ensures c.kept_by.ensures c.starts.result c.starts.ensures ∙ b)) }
 
 pub returns-then-not-starts-clause-goes : goal.returns-then-not-starts-clause-goes
 returns-then-not-starts-clause-goes g c = λ term view can.
     let still = still_can term_keeps _ _ term view _ _ _ _ _ _ c.in_ok-answer.ensures.slots can in
     let b : c.starts.result ≡ false = cc in
-    let none = starts_here can.fits c.node-here.result.now c.kept_by-memo.result c.node-here.ensures c.kept_by-memo.ensures c.starts.result c.starts.ensures ∙ b in
+    let none = starts_here can.fits c.node-here.result.now c.kept_by.result c.node-here.ensures c.kept_by.ensures c.starts.result c.starts.ensures ∙ b in
     begin_goes _ _ term view _ _ _ _ _ _ c.args.notes.now.list c.in_ok-answer.ensures.slots c.requires.rests c.in_ok-answer.field-0 (c.in_ok-answer.ensures.settles (as_node term) view (state_in c.args.nodes.now (scene c.args.kept.now c.args.board.now c.args.facts.now (g.D.Drivers.states c.args.drivers.now)) c.args.now) (node_here term view _ _ _ can.fits c.node-here.result.now c.node-here.ensures).guards) _
     (keeps_so _ _ term view _ _ _ _ _ _ c.args.notes.now.list c.in_ok-answer.ensures.slots c.in_ok-answer.field-0 c.in_default.is none) _ _ _
     (c.follow_rule.ensures.goes term view (can_keep term_keeps _ _ term view _ _ still c.requires.rests none))
@@ -68,7 +73,7 @@ pub returns-in_err-start-clause-goes : goal.returns-in_err-start-clause-goes
 returns-in_err-start-clause-goes g c = λ term view can.
     let still = still_can term_keeps _ _ term view _ _ _ _ _ _ c.in_ok-answer.ensures.slots can in
     let b : c.starts.result ≡ true = cc in
-    let start = starts_here can.fits c.node-here.result.now c.kept_by-memo.result c.node-here.ensures c.kept_by-memo.ensures c.starts.result c.starts.ensures ∙ b in
+    let start = starts_here can.fits c.node-here.result.now c.kept_by.result c.node-here.ensures c.kept_by.ensures c.starts.result c.starts.ensures ∙ b in
     turned_with _ _ _ _ _ _ _ _ _ _ _ _ c.from_residual-in_err-start.ensures.1
     (begin_goes _ _ term view _ _ _ _ _ _ c.args.notes.now.list c.in_ok-answer.ensures.slots c.requires.rests c.in_ok-answer.field-0 (c.in_ok-answer.ensures.settles (as_node term) view (state_in c.args.nodes.now (scene c.args.kept.now c.args.board.now c.args.facts.now (g.D.Drivers.states c.args.drivers.now)) c.args.now) (node_here term view _ _ _ can.fits c.node-here.result.now c.node-here.ensures).guards) _
     (begins_so_far _ _ term view _ _ _ _ _ _ c.args.notes.now.list c.in_ok-answer.ensures.slots c.in_ok-answer.field-0 c.in_default.is start) _ _ _
@@ -83,7 +88,7 @@ pub returns-clause-goes : goal.returns-clause-goes
 returns-clause-goes g c = λ term view can.
     let still = still_can term_keeps _ _ term view _ _ _ _ _ _ c.in_ok-answer.ensures.slots can in
     let b : c.starts.result ≡ true = cc in
-    let start = starts_here can.fits c.node-here.result.now c.kept_by-memo.result c.node-here.ensures c.kept_by-memo.ensures c.starts.result c.starts.ensures ∙ b in
+    let start = starts_here can.fits c.node-here.result.now c.kept_by.result c.node-here.ensures c.kept_by.ensures c.starts.result c.starts.ensures ∙ b in
     let started = c.in_ok-start.ensures.starts term view c.args.facts.now (g.D.Drivers.states c.args.drivers.now) still in
     begin_goes _ _ term view _ _ _ _ _ _ c.args.notes.now.list c.in_ok-answer.ensures.slots c.requires.rests c.in_ok-answer.field-0 (c.in_ok-answer.ensures.settles (as_node term) view (state_in c.args.nodes.now (scene c.args.kept.now c.args.board.now c.args.facts.now (g.D.Drivers.states c.args.drivers.now)) c.args.now) (node_here term view _ _ _ can.fits c.node-here.result.now c.node-here.ensures).guards) _
     (begins_so_far _ _ term view _ _ _ _ _ _ c.args.notes.now.list c.in_ok-answer.ensures.slots c.in_ok-answer.field-0 c.in_default.is start) _ _ _

@@ -4,14 +4,14 @@ use Rattle.bt_model.specs.Sites.{View}
 use Rattle.bt_model.specs.Terms.{depth_of}
 use Rattle.bt_arena.specs.Ends.{StaysFit}
 use Rattle.bt_arena.specs.Scenes.{scene}
-use Rattle.bt_tick.specs.Turns.{CanVisit, Going, stack_work, turn_work, visit_in}
+use Rattle.bt_tick.specs.Turns.{CanVisit, GoingOn, next_work, visit_in}
 use Rattle.bt_tick.proofs.visiting.visit.Given as goal
 
--- the visit of the root came to this turn and this stack
-abbrev pub invariant-loop-turn : goal.invariant-loop-turn
-invariant-loop-turn g l = record {
+-- the visit of the root came to what comes next and this stack
+abbrev pub invariant-loop-next : goal.invariant-loop-next
+invariant-loop-next g l = record {
   all : (term : Term) (view : View) → CanVisit l.nodes l.now term view 1 (scene l.fn.kept l.fn.board l.fn.facts (g.D.Drivers.states l.fn.drivers)) →
-      Going l.nodes l.now term 1 l.turn l.stack.items (scene l.fn.kept l.fn.board l.fn.facts (g.D.Drivers.states l.fn.drivers)) (scene l.kept l.board l.facts (g.D.Drivers.states l.drivers)) l.fn.notes.list l.notes.list
+      GoingOn l.nodes l.now term 1 l.next l.stack.items (scene l.fn.kept l.fn.board l.fn.facts (g.D.Drivers.states l.fn.drivers)) (scene l.kept l.board l.facts (g.D.Drivers.states l.drivers)) l.fn.notes.list l.notes.list
       (visit_in l.nodes l.now term view 1 (scene l.fn.kept l.fn.board l.fn.facts (g.D.Drivers.states l.fn.drivers)));
   stays : StaysFit l.nodes (scene l.fn.kept l.fn.board l.fn.facts (g.D.Drivers.states l.fn.drivers)) (scene l.kept l.board l.facts (g.D.Drivers.states l.drivers));
   room : l.fn.stack.capacity ≤ l.stack.capacity;
@@ -21,5 +21,5 @@ invariant-loop-turn g l = record {
   full : l.notes.full ≡ l.fn.notes.full;
 }
 
-abbrev pub decreases-loop-turn : goal.decreases-loop-turn
-decreases-loop-turn g l = turn_work l.nodes l.turn + stack_work l.nodes l.stack.items
+abbrev pub decreases-loop-next : goal.decreases-loop-next
+decreases-loop-next g l = next_work l.nodes l.next l.stack.items

@@ -1,0 +1,133 @@
+-- The frame on top of a stack, and those below it.
+use Rattle.std.proofs.Common.{◌≡◌, ℕ, ◌+◌, ◌-◌, ◌<◌, List, [], ◌∷◌, ◌++◌, length, take, drop, refl, sym, ap, subst, ◌∙◌, arith}
+use Rattle.std.proofs.Math.Seq.{get_or-append_seam, set-append_seam, take-append_seam}
+use Rattle.std.proofs.lemmas.List.{length-append}
+use Rattle.std.proofs.lemmas.List.Sums.{sum_by-append}
+use Rattle.std.specs.List.{refill}
+use Rattle.std.specs.Prelude.{slice_index_or, slice_set}
+use Rattle.bt_model.specs.declared.memory.Memo.TheVariants.{Nothing}
+use Rattle.bt_model.specs.declared.memory.Memory.{Memory}
+use Rattle.bt_model.specs.declared.moves.Heard.{Heard}
+use Rattle.bt_model.specs.declared.note.Note.{Note}
+use Rattle.bt_model.specs.declared.status.Answer.{Answer}
+use Rattle.bt_model.specs.declared.term.Term.{Term}
+use Rattle.bt_model.specs.Done.{Done}
+use Rattle.bt_model.specs.Sound.{Sound}
+use Rattle.bt_model.specs.Visit.{meaning}
+use Rattle.bt_laws.proofs.Children.{Keeps}
+use Rattle.bt_arena.specs.Nodes.{node_at}
+use Rattle.bt_arena.specs.declared.nodes.Node.{Node}
+use Rattle.bt_arena.specs.Scenes.{Scene}
+use Rattle.bt_arena.specs.declared.frame.Frame.{Frame}
+use Rattle.bt_tick.specs.declared.machine.Next.{Next}
+use Rattle.bt_tick.specs.declared.machine.Next.TheVariants as next
+use Rattle.bt_tick.specs.Machine as turn
+use Rattle.bt_tick.specs.Turns.{EntersChild, Going, GoingOn, OnStack, below_of, cost, frame_work, next_work, stack_work, step_of, turn_of, turn_work}
+use Rattle.bt_tick.proofs.Stacks.{entered}
+
+abbrev pub no_frame : Frame
+no_frame = record { uid = 0; memo = Nothing; place = 0; child = 0 }
+
+-- the place of the frame on top
+top_place : (stack below : List Frame) (frame : Frame) (n : ℕ) → n ≡ length stack → stack ≡ below ++ frame ∷ [] → n - 1 ≡ length below
+top_place stack below frame n many is =
+    let all = length-append below (frame ∷ []) in
+    let same = ap length is in
+    omega (arith, many, all, same)
+
+-- the frame on top, in a list that is the stack
+pub top_is : (stack items below : List Frame) (frame : Frame) (n : ℕ) → items ≡ stack → n ≡ length stack → stack ≡ below ++ frame ∷ [] → slice_index_or items (n - 1) no_frame ≡ frame
+top_is stack items below frame n same many is =
+    ap (λ (fs : List Frame). slice_index_or fs (n - 1) no_frame) (same ∙ is)
+    ∙ ap (λ (k : ℕ). slice_index_or (below ++ frame ∷ []) k no_frame) (top_place stack below frame n many is)
+    ∙ get_or-append_seam below frame [] no_frame
+
+-- another frame in its place
+pub top_set : (stack below : List Frame) (frame new : Frame) (n : ℕ) → n ≡ length stack → stack ≡ below ++ frame ∷ [] → slice_set stack (n - 1) new ≡ below ++ new ∷ []
+top_set stack below frame new n many is =
+    ap (λ (fs : List Frame). slice_set fs (n - 1) new) is
+    ∙ ap (λ (k : ℕ). slice_set (below ++ frame ∷ []) k new) (top_place stack below frame n many is)
+    ∙ set-append_seam below frame [] new
+
+-- .. as it is written through a list that is the stack
+pub top_written : (stack items below : List Frame) (frame new : Frame) (n : ℕ) → items ≡ stack → n ≡ length stack → stack ≡ below ++ frame ∷ [] →
+    refill (length stack) stack (slice_set items (n - 1) new) ≡ below ++ new ∷ []
+top_written stack items below frame new n same many is =
+    let written : List Frame = below ++ new ∷ [] in
+    let set : slice_set items (n - 1) new ≡ written = ap (λ (fs : List Frame). slice_set fs (n - 1) new) same ∙ top_set stack below frame new n many is in
+    let before = length-append below (frame ∷ []) in
+    let after = length-append below (new ∷ []) in
+    let as_many : length stack ≡ length written = omega (arith, ap length is, before, after) in
+    ap (λ (ws : List Frame). refill (length stack) stack ws) set
+    ∙ ap (λ (k : ℕ). take k (written ++ drop (length written) stack)) as_many
+    ∙ take-append_seam written (drop (length written) stack)
+
+-- the frames below are left
+pub top_taken : (stack below : List Frame) (frame : Frame) → stack ≡ below ++ frame ∷ [] → take (length stack - 1) stack ≡ below
+top_taken stack below frame is =
+    ap (λ (fs : List Frame). take (length stack - 1) fs) is
+    ∙ ap (λ (k : ℕ). take k (below ++ frame ∷ [])) (top_place stack below frame (length stack) refl is)
+    ∙ take-append_seam below (frame ∷ [])
+
+module _ {nodes : List Node} {moment : ℕ} {root : Term} {first : ℕ} {nx : Next} {stack : List Frame} {s0 s : Scene} {n0 n : List Note} {whole : Done Answer Memory} where
+  -- what comes next is this
+  comes_as : {b : Next} → nx ≡ b → GoingOn nodes moment root first nx stack s0 s n0 n whole → OnStack b stack (λ turn below. Going nodes moment root first turn below s0 s n0 n whole)
+  comes_as {b} is g = subst (λ (x : Next). OnStack x stack (λ turn below. Going nodes moment root first turn below s0 s n0 n whole)) is g.came
+
+  -- a node is visited
+  pub entering : {u : ℕ} → nx ≡ next.Enter u → GoingOn nodes moment root first nx stack s0 s n0 n whole → Going nodes moment root first (turn.Enter u) stack s0 s n0 n whole
+  entering is g = comes_as is g
+
+  -- the node goes on whose frame is on top
+  pub going_on : (items : List Frame) (many : ℕ) {heard : Heard} → items ≡ stack → many ≡ length stack → nx ≡ next.GoOn heard → GoingOn nodes moment root first nx stack s0 s n0 n whole →
+      (below : List Frame) × (stack ≡ below ++ slice_index_or items (many - 1) no_frame ∷ []) × Going nodes moment root first (turn.GoOn (step_of (slice_index_or items (many - 1) no_frame) heard)) below s0 s n0 n whole
+  going_on items many {heard} same all is g =
+      let (below, frame, stands, going) = comes_as is g in
+      let top : frame ≡ slice_index_or items (many - 1) no_frame = sym (top_is stack items below frame many same all stands) in
+      (below, subst (λ (f : Frame). stack ≡ below ++ f ∷ []) top stands, subst (λ (f : Frame). Going nodes moment root first (turn.GoOn (step_of f heard)) below s0 s n0 n whole) top going)
+
+  -- the node has answered whose frame is on top
+  pub gone_back : {a : Answer} → nx ≡ next.Back a → GoingOn nodes moment root first nx stack s0 s n0 n whole →
+      (below : List Frame) × (take (length stack - 1) stack ≡ below) × Going nodes moment root first (turn.Back a) below s0 s n0 n whole
+  gone_back is g =
+      let (below, frame, stands, going) = comes_as is g in
+      (below, top_taken stack below frame stands, going)
+
+  -- a node went on whose frame is on top
+  pub went_on : (keeps : (t : Term) → Keeps (meaning t) (Sound t)) (below : List Frame) (frame : Frame) → EntersChild frame nx → stack ≡ below ++ frame ∷ [] →
+      Going nodes moment root first (turn_of frame nx) below s0 s n0 n whole → GoingOn nodes moment root first nx stack s0 s n0 n whole
+  went_on keeps below frame child is g = record { came = by nx child g } where
+    by : (x : Next) → EntersChild frame x → Going nodes moment root first (turn_of frame x) below s0 s n0 n whole → OnStack x stack (λ turn below. Going nodes moment root first turn below s0 s n0 n whole)
+    by (next.Enter uid) enters going =
+        subst (λ (u : ℕ). Going nodes moment root first (turn.Enter u) stack s0 s n0 n whole) enters
+        (subst (λ (fs : List Frame). Going nodes moment root first (turn.Enter frame.child) fs s0 s n0 n whole) (sym is) (entered keeps nodes moment going))
+    by (next.GoOn heard) enters going = (below, frame, is, going)
+    by (next.Back a) enters going = (below, frame, is, going)
+
+-- ---- Work
+
+-- the work that is left where a node goes on
+going_work : (nodes : List Node) (heard : Heard) (stack below : List Frame) (frame : Frame) → stack ≡ below ++ frame ∷ [] →
+    next_work nodes (next.GoOn heard) stack ≡ turn_work nodes (turn.GoOn (step_of frame heard)) + stack_work nodes below
+going_work nodes heard stack below frame is =
+    ap (λ (f : Frame). turn_work nodes (turn.GoOn (step_of f heard)) + stack_work nodes (below_of stack)) (top_is stack stack below frame (length stack) refl refl is)
+    ∙ ap (λ (fs : List Frame). turn_work nodes (turn.GoOn (step_of frame heard)) + stack_work nodes fs) (top_taken stack below frame is)
+
+-- .. is less behind its turn
+pub less_on_top : (nodes : List Node) (nx nx1 : Next) (heard : Heard) (stack stack1 below : List Frame) (frame new : Frame) → nx ≡ next.GoOn heard → stack ≡ below ++ frame ∷ [] → stack1 ≡ below ++ new ∷ [] →
+    EntersChild new nx1 → turn_work nodes (turn_of new nx1) < turn_work nodes (turn.GoOn (step_of frame heard)) → next_work nodes nx1 stack1 < next_work nodes nx stack
+less_on_top nodes nx nx1 heard stack stack1 below frame new now is is1 enters less =
+    subst (λ (x : Next). next_work nodes nx1 stack1 < next_work nodes x stack) (sym now) (by nx1 enters less)
+  where
+    all : next_work nodes (next.GoOn heard) stack ≡ turn_work nodes (turn.GoOn (step_of frame heard)) + stack_work nodes below
+    all = going_work nodes heard stack below frame is
+
+    by : (x : Next) → EntersChild new x → turn_work nodes (turn_of new x) < turn_work nodes (turn.GoOn (step_of frame heard)) → next_work nodes x stack1 < next_work nodes (next.GoOn heard) stack
+    by (next.Enter uid) enters less =
+        let stacked : stack_work nodes stack1 ≡ stack_work nodes below + (0 + frame_work nodes new) = ap (λ (fs : List Frame). stack_work nodes fs) is1 ∙ sum_by-append (frame_work nodes) below (new ∷ []) in
+        let child : cost (node_at nodes new.child).size ≡ cost (node_at nodes uid).size = ap (λ (u : ℕ). cost (node_at nodes u).size) enters in
+        omega (arith, all, stacked, child, less)
+    by (next.GoOn h) enters less = omega (arith, all, going_work nodes h stack1 below new is1, less)
+    by (next.Back a) enters less =
+        let left : stack_work nodes (below_of stack1) ≡ stack_work nodes below = ap (λ (fs : List Frame). stack_work nodes fs) (top_taken stack1 below new is1) in
+        omega (arith, all, left, less)
