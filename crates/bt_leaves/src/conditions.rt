@@ -1,11 +1,17 @@
-ghost use Rattle.std.specs.Prelude.{◌≡◌, ◌<◌, ℕ, Ok, length};
+ghost use Rattle.std.specs.Prelude.{◌≡◌, ◌≤◌, ◌+◌, ℕ, Ok, [], length};
 ghost use Rattle.std.specs.Ordering.{int_cmp};
-ghost use Rattle.bt_model.specs.declared.leaf.DriverKind.TheVariants as driver;
 ghost use Rattle.bt_script.specs.Operators.{compares};
+ghost use Rattle.bt_model.specs.declared.leaf.DriverKind.TheVariants as driver;
+ghost use Rattle.bt_model.specs.declared.leaf.Instance.{Instance as Held};
+ghost use Rattle.bt_model.specs.Leaf.{outputs_left};
+ghost use Rattle.bt_driver.specs.Ready.{expr_reach, ready_test};
+ghost use Rattle.bt_leaves.specs.Conditions.{left_by, reply_by};
 
 use crate::instances::let_go;
 use crate::ledger::Ledger;
-use bt_driver::{Driver, DriverKind, FactTable, Inputs, Outs, ReadyRow, ReadySort, Reply, Totals};
+use bt_driver::{
+    Driver, DriverKind, FactTable, Inputs, Outs, ReadyExpr, ReadyRow, ReadySort, Reply, Totals,
+};
 use bt_model::{Instance, Phase};
 use bt_script::{Cmp, NoMemory};
 use std::alloc::Global;
@@ -22,6 +28,45 @@ fn holds(op: Cmp, first: i64, second: i64) -> bool
         Cmp::AtMost => order.is_le(),
         Cmp::More => order.is_gt(),
         Cmp::AtLeast => order.is_ge(),
+    }
+}
+
+/// What a condition leaves of its instance after this reply.
+fn left_by(reply: Reply, instance: Instance) -> Instance
+    ensures { result ≡ left_by reply instance }
+{
+    match reply {
+        Reply::Broken(_) => instance,
+        Reply::Running | Reply::Success | Reply::Failure => let_go(instance),
+    }
+}
+
+/// The reply where a condition is as true as this. It has no outputs.
+#[inline(always)]
+fn replied(truth: bool, outs: &mut Outs) -> Reply
+    ensures reply { result ≡ reply_by (Ok truth) }
+    ensures outs { outs.new ≡ outputs_left result [] outs.old }
+{
+    if !truth {
+        return Reply::Failure;
+    }
+    if !outs.list().is_empty() {
+        *outs = Outs::new();
+    }
+    Reply::Success
+}
+
+/// The reply where a condition is as true as this expression. It is not inlined, since the comparison
+/// of a fact is then done without room for its calls.
+#[inline(never)]
+fn tested(test: &ReadyExpr, inputs: &Inputs, facts: &FactTable, outs: &mut Outs) -> Reply
+    requires { expr_reach test.now ≤ 8 + length facts.now }
+    ensures reply { result ≡ reply_by (ready_test test.now inputs.now facts.now) }
+    ensures outs { outs.new ≡ outputs_left result [] outs.old }
+{
+    match test.is_true(inputs, facts) {
+        Ok(truth) => replied(truth, outs),
+        Err(cause) => Reply::Broken(cause),
     }
 }
 
@@ -46,34 +91,22 @@ impl Conditions {
         }
     }
 
-    /// The reply of a leaf, and the instance that it leaves. A condition has no outputs.
+    /// The reply of a leaf. A condition has no outputs, and leaves its instance not held.
     #[inline(always)]
-    fn answer(
-        row: &ReadyRow,
-        before: Instance,
-        inputs: &Inputs,
-        facts: &FactTable,
-        outs: &mut Outs,
-    ) -> (Reply, Instance)
+    fn answer(row: &ReadyRow, inputs: &Inputs, facts: &FactTable, outs: &mut Outs) -> Reply
         requires kind { kind_of_way (rule row.now).way ≡ driver.Condition }
         requires table { length facts.now ≡ row.now.facts }
-        ensures reply { (since now : ℕ) → result.0 ≡ (answer_by (rule row.now).way (rule row.now) since before inputs.now facts.now now).reply }
-        ensures instance { (since now : ℕ) → result.1 ≡ (answer_by (rule row.now).way (rule row.now) since before inputs.now facts.now now).instance }
-        ensures facts { (since now : ℕ) → facts.now ≡ (answer_by (rule row.now).way (rule row.now) since before inputs.now facts.now now).facts }
-        ensures outs { (since now : ℕ) → outs.new ≡ outputs_after (answer_by (rule row.now).way (rule row.now) since before inputs.now facts.now now) outs.old }
+        ensures reply { (since now : ℕ) (before : Held) → result ≡ (answer_by (rule row.now).way (rule row.now) since before inputs.now facts.now now).reply }
+        ensures instance { (since now : ℕ) (before : Held) → left_by result before ≡ (answer_by (rule row.now).way (rule row.now) since before inputs.now facts.now now).instance }
+        ensures facts { (since now : ℕ) (before : Held) → facts.now ≡ (answer_by (rule row.now).way (rule row.now) since before inputs.now facts.now now).facts }
+        ensures outs { (since now : ℕ) (before : Held) → outs.new ≡ outputs_after (answer_by (rule row.now).way (rule row.now) since before inputs.now facts.now now) outs.old }
     {
-        let found = match &row.sort {
-            ReadySort::Is { fact, op, value } => Ok(holds(*op, facts.get(*fact), *value)),
-            ReadySort::When(test) => test.is_true(inputs, facts),
-            _ => unreachable!(),
-        };
-        match found {
-            Ok(true) => {
-                *outs = Outs::new();
-                (Reply::Success, let_go(before))
+        match &row.sort {
+            ReadySort::Is { fact, op, value } => {
+                replied(holds(*op, facts.get(*fact), *value), outs)
             }
-            Ok(false) => (Reply::Failure, let_go(before)),
-            Err(cause) => (Reply::Broken(cause), before),
+            ReadySort::When(test) => tested(test, inputs, facts, outs),
+            _ => unreachable!(),
         }
     }
 }
@@ -106,10 +139,8 @@ impl Driver for Conditions {
         outs: &mut Outs,
         now: u64,
     ) -> Reply {
-        let before = self.ledger.instance(instance);
-        let (reply, left) = Self::answer(row, before, inputs, facts, outs);
-        self.ledger.record_call(Phase::Start, instance, left);
-        reply
+        self.ledger.count(Phase::Start, instance);
+        Self::answer(row, inputs, facts, outs)
     }
 
     fn running(
@@ -121,8 +152,8 @@ impl Driver for Conditions {
         outs: &mut Outs,
         now: u64,
     ) -> Reply {
-        let before = self.ledger.instance(instance);
-        let (reply, left) = Self::answer(row, before, inputs, facts, outs);
+        let reply = Self::answer(row, inputs, facts, outs);
+        let left = left_by(reply, self.ledger.instance(instance));
         self.ledger.record_call(Phase::Running, instance, left);
         reply
     }

@@ -28,34 +28,6 @@ impl Model for Ledger {
     ghost invariant = { λ ledger. length ledger.table.items < 2 ^ 32 };
 }
 
-/// The totals after a call for an instance.
-fn count(totals: &Totals, phase: Phase, instance: u32) -> Totals
-    ensures { result ≡ counted totals.now phase instance }
-{
-    let trail = totals.trail.wrapping_mul(1_000_003);
-    let place = 3 * u64::from(instance);
-    match phase {
-        Phase::Start => Totals {
-            starts: totals.starts.saturating_add(1),
-            runnings: totals.runnings,
-            haltings: totals.haltings,
-            trail: trail.wrapping_add(place + 1),
-        },
-        Phase::Running => Totals {
-            starts: totals.starts,
-            runnings: totals.runnings.saturating_add(1),
-            haltings: totals.haltings,
-            trail: trail.wrapping_add(place + 2),
-        },
-        Phase::Halted => Totals {
-            starts: totals.starts,
-            runnings: totals.runnings,
-            haltings: totals.haltings.saturating_add(1),
-            trail: trail.wrapping_add(place + 3),
-        },
-    }
-}
-
 /// How many of these instances are held.
 fn held_among(table: &[Instance]) -> u32
     requires { length table.now < 2 ^ 32 }
@@ -123,6 +95,7 @@ impl Ledger {
     }
 
     /// The instance of this number.
+    #[inline(always)]
     pub fn instance(&self, instance: u32) -> Instance
         requires { instance < length self.now.table }
         ensures { result ≡ instance_of self.now instance }
@@ -130,12 +103,37 @@ impl Ledger {
         self.table[instance as usize]
     }
 
+    /// Takes a call for an instance into the totals, where they stand.
+    #[inline(always)]
+    pub fn count(&mut self, phase: Phase, instance: u32)
+        ensures { self.new ≡ record self.old { totals = counted self.old.totals phase instance } }
+    {
+        let totals = &mut self.totals;
+        let trail = totals.trail.wrapping_mul(1_000_003);
+        let place = 3 * u64::from(instance);
+        match phase {
+            Phase::Start => {
+                totals.starts = totals.starts.saturating_add(1);
+                totals.trail = trail.wrapping_add(place + 1);
+            }
+            Phase::Running => {
+                totals.runnings = totals.runnings.saturating_add(1);
+                totals.trail = trail.wrapping_add(place + 2);
+            }
+            Phase::Halted => {
+                totals.haltings = totals.haltings.saturating_add(1);
+                totals.trail = trail.wrapping_add(place + 3);
+            }
+        }
+    }
+
     /// Takes a call of an instance into the totals, with what it leaves of the instance.
+    #[inline(always)]
     pub fn record_call(&mut self, phase: Phase, instance: u32, left: Instance)
         requires { instance < length self.old.table }
         ensures { self.new ≡ after_call self.old phase instance left }
     {
-        self.totals = count(&self.totals, phase, instance);
+        self.count(phase, instance);
         self.table[instance as usize] = left;
     }
 

@@ -42,6 +42,7 @@ impl Replay {
     }
 
     /// The reply of a leaf that began at `since`, and the instance that it leaves.
+    #[inline(always)]
     fn answer(
         row: &ReadyRow,
         since: u64,

@@ -30,6 +30,7 @@ impl Timed {
     }
 
     /// The reply of a leaf that began at `since`, and the instance that it leaves.
+    #[inline(always)]
     fn answer(
         row: &ReadyRow,
         since: u64,

@@ -43,6 +43,19 @@ pub fn note_change(notes: &mut Notes, uid: u32, old: Status, new: Status) -> Res
     Ok(())
 }
 
+/// Gives the node with this uid a memo. Most visits are those of leaves, which keep nothing before and
+/// behind: nothing is written then.
+#[inline(always)]
+fn keep_memo(kept: &mut [Kept], uid: u32, memo: Memo)
+    requires { uid < length kept.old }
+    ensures { kept.new ≡ slice_set kept.old uid (record (kept_at kept.old uid) { memo = memo }) }
+{
+    match (kept_by(kept, uid).memo, memo) {
+        (Memo::Nothing, Memo::Nothing) => {}
+        _ => set_memo(kept, uid, memo),
+    }
+}
+
 /// Ends the visit of a node with these guards that has given an answer and a memo: the memo is kept,
 /// the scripts after the answer run, and then the status becomes that of the answer, which is noted.
 #[inline(always)]
@@ -66,7 +79,7 @@ fn end_node(
     ensures reserve { notes.new.reserve ≡ notes.old.reserve }
     ensures full { notes.new.full ≡ notes.old.full }
 {
-    set_memo(kept, uid, memo);
+    keep_memo(kept, uid, memo);
     posts(alloc, guards, uid, answer, board)?;
     let status = status_of(answer);
     note_change(notes, uid, kept_by(kept, uid).status, status)?;

@@ -25,8 +25,12 @@ use bt_driver::{Drivers, FactTable, Inputs, Outs};
 use bt_model::{Answer, NodeFault, Note, Reply, Status};
 use bt_script::{Cells, Seen, Stop};
 
-/// Puts in what a driver sees of these inputs; those behind them stay absent.
-#[inline(always)]
+/// What a driver sees of a leaf without inputs.
+static NO_INPUTS: Inputs = [Seen::Absent; 8];
+
+/// Puts in what a driver sees of these inputs; those behind them stay absent. It is not inlined as most
+/// leaves have none.
+#[inline(never)]
 fn see_inputs(sources: &[Source], board: &Board, inputs: &mut Inputs)
     requires read { All (IsSourceOf (length board.now)) sources.now }
     requires few { length sources.now ≤ 8 }
@@ -39,7 +43,6 @@ fn see_inputs(sources: &[Source], board: &Board, inputs: &mut Inputs)
 }
 
 /// Writes an output where a slot is given.
-#[inline(never)]
 fn write_output(source: &Source, n: i64, board: &mut Board)
     requires { IsSourceOf (length board.old) source.now }
     ensures written { board.new ≡ number_written source.now n board.old }
@@ -51,8 +54,8 @@ fn write_output(source: &Source, n: i64, board: &mut Board)
     }
 }
 
-/// Writes the outputs in order, each where a slot is given.
-#[inline(always)]
+/// Writes the outputs in order, each where a slot is given. It is not inlined as most leaves have none.
+#[inline(never)]
 fn write_outputs(sources: &[Source], outputs: &[i64], board: &mut Board)
     requires { All (IsSourceOf (length board.old)) sources.now }
     ensures written { board.new ≡ outputs_written sources.now outputs.now board.old }
@@ -107,6 +110,28 @@ fn call_driver<D: Drivers>(
     }
 }
 
+/// Calls the driver of a leaf of this status with its inputs.
+#[inline(always)]
+fn call_with_inputs<D: Drivers>(
+    leaf: &ReadyLeaf,
+    status: Status,
+    board: &Board,
+    facts: &mut FactTable,
+    outs: &mut Outs,
+    drivers: &mut D,
+    now: u64,
+) -> Reply
+    requires { CanBeCalled (length board.now) (length facts.old) (D.states drivers.old) status now leaf.now }
+    ensures reply { result ≡ (leaf_answer leaf.now status board.now facts.old (D.states drivers.old) now).reply }
+    ensures states { D.states drivers.new ≡ roster_called (D.states drivers.old) leaf.now.driver (phase_of status) leaf.now.instance (leaf_answer leaf.now status board.now facts.old (D.states drivers.old) now).instance }
+    ensures facts { facts.new ≡ (leaf_answer leaf.now status board.now facts.old (D.states drivers.old) now).facts }
+    ensures outs { outs.new ≡ outputs_after (leaf_answer leaf.now status board.now facts.old (D.states drivers.old) now) outs.old }
+{
+    let mut inputs = [Seen::Absent; 8];
+    see_inputs(leaf.inputs.list(), board, &mut inputs);
+    call_driver(leaf, status, &inputs, facts, outs, drivers, now)
+}
+
 /// Writes the outputs of a call where it answered SUCCESS.
 #[inline(always)]
 fn write_answer(reply: Reply, leaf: &ReadyLeaf, outs: &Outs, board: &mut Board)
@@ -115,7 +140,10 @@ fn write_answer(reply: Reply, leaf: &ReadyLeaf, outs: &Outs, board: &mut Board)
     ensures slots { length board.new ≡ length board.old }
 {
     match reply {
-        Reply::Success => write_outputs(leaf.outputs.list(), outs.list(), board),
+        Reply::Success => match leaf.outputs.list() {
+            [] => {}
+            sources => write_outputs(sources, outs.list(), board),
+        },
         Reply::Running | Reply::Failure | Reply::Broken(_) => {}
     }
 }
@@ -137,10 +165,11 @@ fn make_call<D: Drivers>(
     ensures board { let a = leaf_answer leaf.now status board.old facts.old (D.states drivers.old) now in board.new ≡ board_left a.reply leaf.now.outputs a.outputs board.old }
     ensures slots { length board.new ≡ length board.old }
 {
-    let mut inputs = [Seen::Absent; 8];
-    see_inputs(leaf.inputs.list(), board, &mut inputs);
     let mut outs = Outs::new();
-    let reply = call_driver(leaf, status, &inputs, facts, &mut outs, drivers, now);
+    let reply = match leaf.inputs.list() {
+        [] => call_driver(leaf, status, &NO_INPUTS, facts, &mut outs, drivers, now),
+        _ => call_with_inputs(leaf, status, board, facts, &mut outs, drivers, now),
+    };
     write_answer(reply, leaf, &outs, board);
     reply
 }

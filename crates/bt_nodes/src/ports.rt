@@ -102,6 +102,7 @@ fn number_at(node: &Node, place: usize, board: &Board) -> Option<i64>
 
 /// The memo with which a node starts, from the memo that it has; or its port that holds no number of
 /// its range.
+#[inline(always)]
 fn start_of(node: &Node, memo: Memo, board: &Board, now: u64) -> Result<Memo, PortId>
     requires { HasPorts (length board.now) node.now }
     ensures { (term : Term-F Meaning) (view : View) (whole uid : ℕ) (s : State) → IsNode view (written term) whole node.now →
@@ -132,6 +133,7 @@ fn start_of(node: &Node, memo: Memo, board: &Board, now: u64) -> Result<Memo, Po
 
 /// What was read from the ports of the node with this uid, or its fault: the port that holds no number
 /// of its range.
+#[inline(always)]
 fn or_bad_port<A>(uid: u32, read: Result<A, PortId>) -> Result<A, NodeFault>
     ensures { result ≡ or_bad_port uid read }
 {
@@ -146,6 +148,7 @@ fn or_bad_port<A>(uid: u32, read: Result<A, PortId>) -> Result<A, NodeFault>
 
 /// The memo with which the node with this uid starts, from the memo that it has; or the fault of its
 /// first numeric port that holds no number of its range. `now` is in milliseconds.
+#[inline(always)]
 pub fn new_memo(
     node: &Node,
     uid: u32,
@@ -181,7 +184,8 @@ fn skip_picked(skip: Option<bool>) -> Result<u32, PortId>
     }
 }
 
-/// The place of the child that a Switch with these ports selects.
+/// The place of the child that a Switch with these ports selects. It is not inlined as few nodes are one.
+#[inline(never)]
 fn selected(ports: &[Source], board: &Board) -> u32
     requires known { All (IsSourceOf (length board.now)) ports.now }
     requires few { length ports.now < 2 ^ 32 }
@@ -198,6 +202,7 @@ fn selected(ports: &[Source], board: &Board) -> u32
 }
 
 /// What is picked for a visit of a node; or its port that holds no truth.
+#[inline(always)]
 fn pick(node: &Node, memo: Memo, board: &Board) -> Result<u32, PortId>
     requires { HasPorts (length board.now) node.now }
     ensures { (term : Term-F Meaning) (view : View) (whole uid : ℕ) (s : State) → IsNode view (written term) whole node.now →
@@ -215,6 +220,7 @@ fn pick(node: &Node, memo: Memo, board: &Board) -> Result<u32, PortId>
 
 /// What is picked for a visit of the node with this uid: the place of the child that a Switch selects,
 /// and for a RunOnce with a mark 1 where it skips; or the fault of its port.
+#[inline(always)]
 pub fn picked(node: &Node, uid: u32, memo: Memo, board: &Board) -> Result<u32, NodeFault>
     requires { HasPorts (length board.now) node.now }
     ensures { (term : Term-F Meaning) (view : View) (whole : ℕ) (s : State) → IsNode view (written term) whole node.now →

@@ -98,6 +98,7 @@ pub fn script_if_there(
 }
 
 /// A value as a condition of the node with this uid.
+#[inline(always)]
 fn truth(value: &Value, uid: u32) -> Result<bool, Stop<NodeFault>>
     ensures gives { Gives result (truth_of uid value.now) }
     ensures memory { IsAnswered result }
@@ -131,6 +132,7 @@ pub fn script_holds(
 }
 
 /// Tries a guard of the node with this uid: whether it is there and as true as this.
+#[inline(always)]
 fn is_answered(
     alloc: Global,
     code: &Option<Code>,
@@ -152,7 +154,7 @@ fn is_answered(
 /// Tries the guards of the node with this uid, which is not RUNNING, one behind the other. It is not
 /// inlined as most nodes have none.
 #[inline(never)]
-fn try_guards(
+fn try_each(
     alloc: Global,
     guards: &ReadyGuards,
     uid: u32,
@@ -176,6 +178,23 @@ fn try_guards(
         return Ok(Some(Answer::Skipped));
     }
     Ok(None)
+}
+
+/// Tries the guards of the node with this uid, which is not RUNNING. It is inlined where there are some,
+/// so that there alone room is made for what they give.
+#[inline(always)]
+fn try_guards(
+    alloc: Global,
+    guards: &ReadyGuards,
+    uid: u32,
+    board: &mut Board,
+) -> Result<Option<Answer>, Stop<NodeFault>>
+    requires { GuardsNeedAtMost (length board.old) guards.now }
+    ensures settles { (term : Term-F Meaning) (view : View) (s : State) → AreCompiled view term.guards guards.now →
+        Settles result (on_board board.new s) (guards_answer (site_of term view uid) (on_board board.old s)) }
+    ensures slots { length board.new ≡ length board.old }
+{
+    try_each(alloc, guards, uid, board)
 }
 
 /// The answer of the guards of the node with this uid, which is not RUNNING: that of the first of
@@ -224,8 +243,9 @@ pub fn goes_on(
     }
 }
 
-/// Runs two scripts of the node with this uid, one after the other, each where it is there.
-#[inline(always)]
+/// Runs two scripts of the node with this uid, one after the other, each where it is there. It is not
+/// inlined as most nodes have none.
+#[inline(never)]
 fn both_if_there(
     alloc: Global,
     first: &Option<Code>,
@@ -243,10 +263,10 @@ fn both_if_there(
     script_if_there(alloc, second, uid, board)
 }
 
-/// Runs the scripts of the node with this uid after its answer: `_onSuccess` after SUCCESS and
-/// `_onFailure` after FAILURE, and then `_post` after either.
+/// Runs the scripts of the node with this uid after its answer. It is inlined where there are some, so
+/// that there alone room is made for what they give.
 #[inline(always)]
-pub fn posts(
+fn run_posts(
     alloc: Global,
     guards: &ReadyGuards,
     uid: u32,
@@ -262,5 +282,31 @@ pub fn posts(
         Answer::Success => both_if_there(alloc, &guards.on_success, &guards.post, uid, board),
         Answer::Failure => both_if_there(alloc, &guards.on_failure, &guards.post, uid, board),
         Answer::Running | Answer::Skipped => Ok(()),
+    }
+}
+
+/// Runs the scripts of the node with this uid after its answer: `_onSuccess` after SUCCESS and
+/// `_onFailure` after FAILURE, and then `_post` after either.
+#[inline(always)]
+pub fn posts(
+    alloc: Global,
+    guards: &ReadyGuards,
+    uid: u32,
+    answer: Answer,
+    board: &mut Board,
+) -> Result<(), Stop<NodeFault>>
+    requires { GuardsNeedAtMost (length board.old) guards.now }
+    ensures settles { (term : Term-F Meaning) (view : View) (s : State) → AreCompiled view term.guards guards.now →
+        Settles result (on_board board.new s) (posts (site_of term view uid) answer (on_board board.old s)) }
+    ensures slots { length board.new ≡ length board.old }
+{
+    match guards {
+        ReadyGuards {
+            on_success: None,
+            on_failure: None,
+            post: None,
+            ..
+        } => Ok(()),
+        _ => run_posts(alloc, guards, uid, answer, board),
     }
 }
