@@ -59,14 +59,42 @@ impl<W: Write + Drop> OutSink<W> {
         }
     }
 
-    // One turn: how many bytes of the piece the writer takes, and none where it fails.
+    // One turn: how many bytes of the piece the writer takes, and none where it fails. The writer is
+    // called in two places, so that of the call with room nothing is left but the copy.
     #[inline(always)]
     fn turn(&mut self, piece: &[u8]) -> usize
         ensures bound { result ≤ length piece.now }
         ensures text { Appended (written_so_far self.old) (written_so_far self.new) (take result piece.now) }
         ensures calm { self.new.faults ≡ self.old.faults }
     {
+        let room = self
+            .writer
+            .capacity()
+            .wrapping_sub(self.writer.buffer().len());
+        if piece.len() < room {
+            self.hand_on(piece)
+        } else {
+            self.hand_on_apart(piece)
+        }
+    }
+
+    #[inline(always)]
+    fn hand_on(&mut self, piece: &[u8]) -> usize
+        ensures bound { result ≤ length piece.now }
+        ensures text { Appended (written_so_far self.old) (written_so_far self.new) (take result piece.now) }
+        ensures calm { self.new.faults ≡ self.old.faults }
+    {
         self.writer.write(piece).unwrap_or(0)
+    }
+
+    #[cold]
+    #[inline(never)]
+    fn hand_on_apart(&mut self, piece: &[u8]) -> usize
+        ensures bound { result ≤ length piece.now }
+        ensures text { Appended (written_so_far self.old) (written_so_far self.new) (take result piece.now) }
+        ensures calm { self.new.faults ≡ self.old.faults }
+    {
+        self.hand_on(piece)
     }
 
     // Writes the piece in turns that each take at least one byte: a turn that takes none is a failure.

@@ -1,13 +1,15 @@
-ghost use Rattle.std.specs.Prelude.{◌≡◌, ◌≤◌, OnOk, IsErrOf, map};
+ghost use Rattle.std.specs.Prelude.{◌≡◌, ◌≤◌, OnOk, IsErrOf, IsTrue, map};
 ghost use Rattle.std.specs.List.{concat};
 ghost use Rattle.bt_arena.specs.Blocks.{seen};
 ghost use Rattle.bt_model.specs.Lines.{entry_line, fact_line, lines_of, note_line};
+ghost use Rattle.bt_text.specs.Notes.{is_long};
 ghost use Rattle.bt_outside.specs.Appending.{Appended, AppendedFront};
 ghost use Rattle.bt_outside.specs.Counts.{Rose};
 
-use crate::line::{put_entry, put_fact, put_header, put_note};
+use crate::line::{put_entry, put_fact, put_header, put_long, put_short};
 use crate::names::Names;
 use crate::put::empty_line;
+use crate::short::ShortLine;
 use crate::stop::TextStop;
 use bt_arena::Block;
 use bt_model::Note;
@@ -67,12 +69,53 @@ fn write_notes<K: Sink>(
     ensures failed { IsErrOf result TextStop.WriteFault → Rose (K.faults out.old) (K.faults out.new) }
     ensures count { K.faults out.old ≤ K.faults out.new }
 {
+    let mut short = ShortLine::new();
     for note in notes {
-        line.clear();
-        put_note(line, *note, names)?;
-        write_line(out, line.as_slice())?;
+        write_note(&mut short, line, out, note, names)?;
     }
     Ok(())
+}
+
+// Writes the line of the note.
+#[tactic(auto, using(bt_outside::proofs::Appends::appending))]
+#[inline(always)]
+fn write_note<K: Sink>(
+    short: &mut ShortLine,
+    line: &mut Vec<u8>,
+    out: &mut K,
+    note: &Note,
+    names: &Names,
+) -> Result<(), TextStop>
+    ensures whole { OnOk result (Appended (K.written out.old) (K.written out.new) (note_line names.now note.now)) }
+    ensures front { AppendedFront (K.written out.old) (K.written out.new) (note_line names.now note.now) }
+    ensures failed { IsErrOf result TextStop.WriteFault → Rose (K.faults out.old) (K.faults out.new) }
+    ensures count { K.faults out.old ≤ K.faults out.new }
+{
+    if put_short(short, note) {
+        return write_line(out, short.list());
+    }
+    write_long(line, out, note, names)
+}
+
+// Writes the line of a note that is long, as that of a fault. It stands apart as few blocks have one.
+#[tactic(auto, using(bt_outside::proofs::Appends::appending))]
+#[cold]
+#[inline(never)]
+fn write_long<K: Sink>(
+    line: &mut Vec<u8>,
+    out: &mut K,
+    note: &Note,
+    names: &Names,
+) -> Result<(), TextStop>
+    requires { IsTrue (is_long note.now) }
+    ensures whole { OnOk result (Appended (K.written out.old) (K.written out.new) (note_line names.now note.now)) }
+    ensures front { AppendedFront (K.written out.old) (K.written out.new) (note_line names.now note.now) }
+    ensures failed { IsErrOf result TextStop.WriteFault → Rose (K.faults out.old) (K.faults out.new) }
+    ensures count { K.faults out.old ≤ K.faults out.new }
+{
+    line.clear();
+    put_long(line, *note, names)?;
+    write_line(out, line.as_slice())
 }
 
 // Writes the lines of the facts in the same way.

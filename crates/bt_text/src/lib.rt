@@ -6,6 +6,7 @@ mod line;
 mod mark;
 mod names;
 mod put;
+mod short;
 mod stop;
 mod tree;
 mod word;

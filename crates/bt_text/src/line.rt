@@ -1,8 +1,10 @@
-ghost use Rattle.std.specs.Prelude.{◌≡◌, ◌++◌, OnOk, codes, decimal};
-ghost use Rattle.bt_model.specs.Lines.{cause_words, entry_line, fact_line, header_line, note_line};
+ghost use Rattle.std.specs.Prelude.{◌≡◌, ◌++◌, OnOk, IsTrue, IsFalse, codes, decimal};
+ghost use Rattle.bt_model.specs.Lines.{LineNames, cause_words, entry_line, fact_line, header_line, note_line};
+ghost use Rattle.bt_text.specs.Notes.{is_long};
 
 use crate::names::Names;
-use crate::put::{put_array, put_bytes, put_number, put_numbered, put_signed};
+use crate::put::{put_bytes, put_number, put_signed};
+use crate::short::ShortLine;
 use crate::word::{put_answer, put_cause, put_change, put_run, put_start, put_value};
 use bt_model::{Cause, Header, Note};
 use bt_script::{NoMemory, Value};
@@ -39,40 +41,56 @@ fn put_runner_event(out: &mut Vec<u8>, event: &[u8], runner: u8, at: u64) -> Res
     put_bytes(out, b"\n")
 }
 
-/// Puts the line of the note at the end.
-#[inline]
-pub fn put_note(out: &mut Vec<u8>, note: Note, names: &Names) -> Result<(), NoMemory>
-    ensures { OnOk result (out.new.items ≡ out.old.items ++ note_line names.now note) }
+/// Makes the line that of the note, and says whether it did: a long one has its place elsewhere.
+#[inline(always)]
+pub fn put_short(line: &mut ShortLine, note: &Note) -> bool
+    ensures text { IsTrue result → (names : LineNames) → line.new ≡ note_line names note.now }
+    ensures long { IsFalse result → IsTrue (is_long note.now) }
 {
-    match note {
+    match *note {
         Note::Changed { uid, old, new } => {
-            put_numbered(out, *b"node ", uid)?;
-            put_change(out, old, new)
+            line.begin(*b"node ", uid);
+            put_change(line, old, new);
+            true
         }
         Note::Started { uid, answer } => {
-            put_numbered(out, *b"call ", uid)?;
-            put_start(out, answer)
+            line.begin(*b"call ", uid);
+            put_start(line, answer);
+            true
         }
         Note::Ran { uid, answer } => {
-            put_numbered(out, *b"call ", uid)?;
-            put_run(out, answer)
+            line.begin(*b"call ", uid);
+            put_run(line, answer);
+            true
         }
         Note::Halted { uid } => {
-            put_numbered(out, *b"call ", uid)?;
-            put_array(out, *b" halted\n")
+            line.begin(*b"call ", uid);
+            line.put(*b" halted\n");
+            true
         }
         Note::Root { runner, answer } => {
-            put_numbered(out, *b"root ", u32::from(runner))?;
-            put_answer(out, answer)
+            line.begin(*b"root ", u32::from(runner));
+            put_answer(line, answer);
+            true
         }
-        Note::Faulted { runner, uid, cause } => put_faulted(out, runner, uid, cause, names),
-        Note::Quenched { runner, uid } => put_quenched(out, runner, uid),
+        Note::Faulted { .. } => false,
+        Note::Quenched { .. } => false,
     }
 }
 
-// Puts the line of a fault. It stands apart as few blocks have one.
-#[cold]
-#[inline(never)]
+/// Puts the line of a note that is long at the end.
+pub fn put_long(out: &mut Vec<u8>, note: Note, names: &Names) -> Result<(), NoMemory>
+    requires { IsTrue (is_long note) }
+    ensures { OnOk result (out.new.items ≡ out.old.items ++ note_line names.now note) }
+{
+    match note {
+        Note::Faulted { runner, uid, cause } => put_faulted(out, runner, uid, cause, names),
+        Note::Quenched { runner, uid } => put_quenched(out, runner, uid),
+        _ => unreachable!(),
+    }
+}
+
+// Puts the line of a fault.
 fn put_faulted(
     out: &mut Vec<u8>,
     runner: u8,
@@ -92,9 +110,7 @@ fn put_faulted(
     put_bytes(out, b"\n")
 }
 
-// Puts the line of a quench, which is as rare.
-#[cold]
-#[inline(never)]
+// Puts the line of a quench.
 fn put_quenched(out: &mut Vec<u8>, runner: u8, uid: u32) -> Result<(), NoMemory>
     ensures { OnOk result (out.new.items ≡
         out.old.items ++ (codes "quench " ++ decimal runner ++ codes " " ++ decimal uid ++ codes "\n")) }

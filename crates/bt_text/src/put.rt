@@ -1,4 +1,4 @@
-ghost use Rattle.std.specs.Prelude.{◌≡◌, ◌+◌, ◌<◌, [], ◌++◌, IfOk, OnOk, decimal, length};
+ghost use Rattle.std.specs.Prelude.{◌≡◌, ◌<◌, [], ◌++◌, IfOk, OnOk, decimal};
 ghost use Rattle.std.specs.Fmt.{signed_decimal};
 ghost use Rattle.std.specs.List.{flat_map};
 ghost use Rattle.bt_model.specs.Lines.{hex_digit, quoted, quoted_byte};
@@ -27,50 +27,12 @@ pub fn put_bytes(out: &mut Vec<u8>, bytes: &[u8]) -> Result<(), NoMemory>
     Ok(())
 }
 
-/// Puts the array at the end. Its length is a constant where it is inlined, so that a few stores
-/// are left of it.
-#[inline(always)]
-pub fn put_array<const N: usize>(out: &mut Vec<u8>, bytes: [u8; N]) -> Result<(), NoMemory>
-    ensures { OnOk result (out.new.items ≡ out.old.items ++ bytes.entry) }
-{
-    out.extend_from_slice(&bytes)?;
-    Ok(())
-}
-
 /// Puts the number at the end, in decimal.
 pub fn put_number(out: &mut Vec<u8>, number: u64) -> Result<(), NoMemory>
     ensures { OnOk result (out.new.items ≡ out.old.items ++ decimal number) }
 {
     let mut buffer = Buffer::new();
     put_bytes(out, buffer.format(number).as_bytes())
-}
-
-/// Puts a word of four letters with its blank, and the number behind it. Most numbers are short,
-/// and are put as one array with the word.
-#[inline(always)]
-pub fn put_numbered(out: &mut Vec<u8>, word: [u8; 5], number: u32) -> Result<(), NoMemory>
-    requires { length word ≡ 5 }
-    ensures { OnOk result (out.new.items ≡ out.old.items ++ (word ++ decimal number)) }
-{
-    let [a, b, c, d, e] = word;
-    if number < 10 {
-        put_array(out, [a, b, c, d, e, digit(number)])
-    } else if number < 100 {
-        put_array(out, [a, b, c, d, e, digit(number / 10), digit(number % 10)])
-    } else if number < 1000 {
-        let (hundreds, tens) = (digit(number / 100), digit(number / 10 % 10));
-        put_array(out, [a, b, c, d, e, hundreds, tens, digit(number % 10)])
-    } else {
-        put_array(out, word)?;
-        put_number(out, u64::from(number))
-    }
-}
-
-fn digit(number: u32) -> u8
-    requires { number < 10 }
-    ensures { result ≡ 48 + number }
-{
-    b'0' + number as u8
 }
 
 /// Puts the signed number at the end, in decimal.

@@ -1,73 +1,79 @@
-ghost use Rattle.std.specs.Prelude.{◌≡◌, ◌++◌, OnOk, codes};
+ghost use Rattle.std.specs.Prelude.{◌≡◌, ◌≤◌, ◌++◌, OnOk, codes, length};
 ghost use Rattle.bt_model.specs.Lines.{answer_word, cause_words, port_word, status_word, value_words};
 
 use crate::names::Names;
-use crate::put::{put_array, put_bytes, put_quoted, put_signed};
+use crate::put::{put_bytes, put_quoted, put_signed};
+use crate::short::ShortLine;
 use bt_model::{Answer, Cause, PortId, Status};
 use bt_script::{NoMemory, Value};
 
 /// Puts the words of a status and of the next at the end, and the end of their line: one array for
 /// each pair, as every second line has one.
-#[inline]
-pub fn put_change(out: &mut Vec<u8>, old: Status, new: Status) -> Result<(), NoMemory>
-    ensures { OnOk result (out.new.items ≡
-        out.old.items ++ (codes " " ++ status_word old ++ codes " " ++ status_word new ++ codes "\n")) }
+#[inline(always)]
+pub fn put_change(line: &mut ShortLine, old: Status, new: Status)
+    requires { length line.old ≤ 45 }
+    ensures { line.new ≡
+        line.old ++ (codes " " ++ status_word old ++ codes " " ++ status_word new ++ codes "\n") }
 {
     match (old, new) {
-        (Status::Idle, Status::Idle) => put_array(out, *b" IDLE IDLE\n"),
-        (Status::Idle, Status::Running) => put_array(out, *b" IDLE RUNNING\n"),
-        (Status::Idle, Status::Success) => put_array(out, *b" IDLE SUCCESS\n"),
-        (Status::Idle, Status::Failure) => put_array(out, *b" IDLE FAILURE\n"),
-        (Status::Running, Status::Idle) => put_array(out, *b" RUNNING IDLE\n"),
-        (Status::Running, Status::Running) => put_array(out, *b" RUNNING RUNNING\n"),
-        (Status::Running, Status::Success) => put_array(out, *b" RUNNING SUCCESS\n"),
-        (Status::Running, Status::Failure) => put_array(out, *b" RUNNING FAILURE\n"),
-        (Status::Success, Status::Idle) => put_array(out, *b" SUCCESS IDLE\n"),
-        (Status::Success, Status::Running) => put_array(out, *b" SUCCESS RUNNING\n"),
-        (Status::Success, Status::Success) => put_array(out, *b" SUCCESS SUCCESS\n"),
-        (Status::Success, Status::Failure) => put_array(out, *b" SUCCESS FAILURE\n"),
-        (Status::Failure, Status::Idle) => put_array(out, *b" FAILURE IDLE\n"),
-        (Status::Failure, Status::Running) => put_array(out, *b" FAILURE RUNNING\n"),
-        (Status::Failure, Status::Success) => put_array(out, *b" FAILURE SUCCESS\n"),
-        (Status::Failure, Status::Failure) => put_array(out, *b" FAILURE FAILURE\n"),
+        (Status::Idle, Status::Idle) => line.put(*b" IDLE IDLE\n"),
+        (Status::Idle, Status::Running) => line.put(*b" IDLE RUNNING\n"),
+        (Status::Idle, Status::Success) => line.put(*b" IDLE SUCCESS\n"),
+        (Status::Idle, Status::Failure) => line.put(*b" IDLE FAILURE\n"),
+        (Status::Running, Status::Idle) => line.put(*b" RUNNING IDLE\n"),
+        (Status::Running, Status::Running) => line.put(*b" RUNNING RUNNING\n"),
+        (Status::Running, Status::Success) => line.put(*b" RUNNING SUCCESS\n"),
+        (Status::Running, Status::Failure) => line.put(*b" RUNNING FAILURE\n"),
+        (Status::Success, Status::Idle) => line.put(*b" SUCCESS IDLE\n"),
+        (Status::Success, Status::Running) => line.put(*b" SUCCESS RUNNING\n"),
+        (Status::Success, Status::Success) => line.put(*b" SUCCESS SUCCESS\n"),
+        (Status::Success, Status::Failure) => line.put(*b" SUCCESS FAILURE\n"),
+        (Status::Failure, Status::Idle) => line.put(*b" FAILURE IDLE\n"),
+        (Status::Failure, Status::Running) => line.put(*b" FAILURE RUNNING\n"),
+        (Status::Failure, Status::Success) => line.put(*b" FAILURE SUCCESS\n"),
+        (Status::Failure, Status::Failure) => line.put(*b" FAILURE FAILURE\n"),
     }
 }
 
 /// Puts a start's answer at the end, and the end of its line.
-#[inline]
-pub fn put_start(out: &mut Vec<u8>, answer: Answer) -> Result<(), NoMemory>
-    ensures { OnOk result (out.new.items ≡ out.old.items ++ (codes " start " ++ answer_word answer ++ codes "\n")) }
+#[inline(always)]
+pub fn put_start(line: &mut ShortLine, answer: Answer)
+    requires { length line.old ≤ 45 }
+    ensures { line.new ≡ line.old ++ (codes " start " ++ answer_word answer ++ codes "\n") }
 {
     match answer {
-        Answer::Running => put_array(out, *b" start RUNNING\n"),
-        Answer::Success => put_array(out, *b" start SUCCESS\n"),
-        Answer::Failure => put_array(out, *b" start FAILURE\n"),
-        Answer::Skipped => put_array(out, *b" start SKIPPED\n"),
+        Answer::Running => line.put(*b" start RUNNING\n"),
+        Answer::Success => line.put(*b" start SUCCESS\n"),
+        Answer::Failure => line.put(*b" start FAILURE\n"),
+        Answer::Skipped => line.put(*b" start SKIPPED\n"),
     }
 }
 
 /// Puts the answer of a call of what runs at the end, and the end of its line.
-#[inline]
-pub fn put_run(out: &mut Vec<u8>, answer: Answer) -> Result<(), NoMemory>
-    ensures { OnOk result (out.new.items ≡ out.old.items ++ (codes " running " ++ answer_word answer ++ codes "\n")) }
+#[inline(always)]
+pub fn put_run(line: &mut ShortLine, answer: Answer)
+    requires { length line.old ≤ 45 }
+    ensures { line.new ≡ line.old ++ (codes " running " ++ answer_word answer ++ codes "\n") }
 {
     match answer {
-        Answer::Running => put_array(out, *b" running RUNNING\n"),
-        Answer::Success => put_array(out, *b" running SUCCESS\n"),
-        Answer::Failure => put_array(out, *b" running FAILURE\n"),
-        Answer::Skipped => put_array(out, *b" running SKIPPED\n"),
+        Answer::Running => line.put(*b" running RUNNING\n"),
+        Answer::Success => line.put(*b" running SUCCESS\n"),
+        Answer::Failure => line.put(*b" running FAILURE\n"),
+        Answer::Skipped => line.put(*b" running SKIPPED\n"),
     }
 }
 
 /// Puts a blank and the word of the answer at the end, and the end of its line.
-pub fn put_answer(out: &mut Vec<u8>, answer: Answer) -> Result<(), NoMemory>
-    ensures { OnOk result (out.new.items ≡ out.old.items ++ (codes " " ++ answer_word answer ++ codes "\n")) }
+#[inline(always)]
+pub fn put_answer(line: &mut ShortLine, answer: Answer)
+    requires { length line.old ≤ 45 }
+    ensures { line.new ≡ line.old ++ (codes " " ++ answer_word answer ++ codes "\n") }
 {
     match answer {
-        Answer::Running => put_array(out, *b" RUNNING\n"),
-        Answer::Success => put_array(out, *b" SUCCESS\n"),
-        Answer::Failure => put_array(out, *b" FAILURE\n"),
-        Answer::Skipped => put_array(out, *b" SKIPPED\n"),
+        Answer::Running => line.put(*b" RUNNING\n"),
+        Answer::Success => line.put(*b" SUCCESS\n"),
+        Answer::Failure => line.put(*b" FAILURE\n"),
+        Answer::Skipped => line.put(*b" SKIPPED\n"),
     }
 }
 
