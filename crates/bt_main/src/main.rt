@@ -1,16 +1,10 @@
 //! `bt` ticks a behavior tree over the events of a world script and prints the trace.
 #![tactic(auto)]
 
-mod answer;
-mod course;
-mod join;
-mod printing;
-mod roster;
-#[cfg(test)]
-mod tests;
+mod headline;
 
-use crate::answer::bt;
-use crate::roster::add_driver;
+use crate::headline::bt;
+use bt_answer::add_driver;
 use bt_driver::Driver;
 use bt_leaves::{Conditions, Gate, Replay, Timed};
 use bt_outside::{DirShelf, HostClock, OutSink};

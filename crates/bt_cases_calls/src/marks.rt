@@ -1,0 +1,199 @@
+//! When the calls of a run are made.
+
+use crate::stage::run_with;
+use bt_answer::add_driver;
+use bt_driver::{Driver, DriverKind, FactTable, Inputs, Outs, ReadyRow, Reply, Totals};
+use bt_leaves::{Conditions, Timed};
+use bt_outside::{MemSink, Sink, SinkFault};
+use bt_script::NoMemory;
+use bt_words::Exit;
+use std::alloc::{AllocError, Global};
+use std::cell::Cell;
+use std::rc::Rc;
+use std::test::Fail;
+
+/// A row of cells that drivers and a sink share, in which each marks what it does.
+#[derive(Drop)]
+struct Marks {
+    count: Cell<usize>,
+    cells: Cell<[char; 16]>,
+}
+
+impl Marks {
+    /// An empty row.
+    fn new() -> Marks {
+        Marks {
+            count: Cell::new(0),
+            cells: Cell::new([' '; 16]),
+        }
+    }
+
+    /// Marks the next cell. What is past the last one is not marked.
+    fn mark(&self, mark: char) {
+        let count = self.count.get();
+        let mut cells = self.cells.get();
+        if let Some(cell) = cells.get_mut(count) {
+            *cell = mark;
+        }
+        self.cells.set(cells);
+        self.count.set(count.saturating_add(1));
+    }
+
+    /// The marks so far.
+    fn text(&self, alloc: Global) -> Result<String, AllocError> {
+        let mut text = String::new(alloc);
+        for mark in self.cells.get().iter().take(self.count.get()) {
+            text.push(*mark)?;
+        }
+        Ok(text)
+    }
+}
+
+/// A driver that marks each of its calls, and else does what the driver in it does.
+#[derive(Drop)]
+struct Marked<D> {
+    driver: D,
+    marks: Rc<Marks>,
+    start: char,
+    running: char,
+    halted: char,
+}
+
+impl<D: Driver> Driver for Marked<D> {
+    ghost state = { λ d. D.state d.driver };
+
+    fn kind(&self) -> DriverKind {
+        self.driver.kind()
+    }
+
+    fn totals(&self) -> Totals {
+        self.driver.totals()
+    }
+
+    fn held(&self) -> u32 {
+        self.driver.held()
+    }
+
+    fn prepare(&mut self, count: u32) -> Result<(), NoMemory> {
+        self.driver.prepare(count)
+    }
+
+    fn start(
+        &mut self,
+        instance: u32,
+        row: &ReadyRow,
+        inputs: &Inputs,
+        facts: &mut FactTable,
+        outs: &mut Outs,
+        now: u64,
+    ) -> Reply {
+        self.marks.mark(self.start);
+        self.driver.start(instance, row, inputs, facts, outs, now)
+    }
+
+    fn running(
+        &mut self,
+        instance: u32,
+        row: &ReadyRow,
+        inputs: &Inputs,
+        facts: &mut FactTable,
+        outs: &mut Outs,
+        now: u64,
+    ) -> Reply {
+        self.marks.mark(self.running);
+        self.driver.running(instance, row, inputs, facts, outs, now)
+    }
+
+    fn halted(&mut self, instance: u32) {
+        self.marks.mark(self.halted);
+        self.driver.halted(instance)
+    }
+}
+
+/// The first words of blocks.
+const HEADERS: [&[u8]; 4] = [b"tick ", b"halt ", b"set ", b"finish "];
+
+/// A sink that marks each first line of a block, and else does what the sink in it does.
+#[derive(Drop)]
+struct MarkedSink<K> {
+    sink: K,
+    marks: Rc<Marks>,
+}
+
+impl<K: Sink> Sink for MarkedSink<K> {
+    ghost written = { λ s. K.written s.sink };
+
+    ghost faults = { λ s. K.faults s.sink };
+
+    fn write(&mut self, piece: &[u8]) -> Result<(), SinkFault> {
+        for header in HEADERS {
+            if piece.starts_with(header) {
+                self.marks.mark('|');
+            }
+        }
+        self.sink.write(piece)
+    }
+}
+
+/// Marks what a run does: `C` a start of a condition, `T`, `t` and `h` a start, a call of `running` and
+/// one of `halted` of a timed action, and `|` the first line of a block.
+fn run_marked(
+    alloc: Global,
+    nodes: &str,
+    lines: &str,
+    marks: &Rc<Marks>,
+) -> Result<Exit, NoMemory> {
+    let mut sink = MarkedSink {
+        sink: MemSink::new(alloc, Vec::new(alloc)),
+        marks: marks.clone()?,
+    };
+    let mut roster: Vec<Box<dyn Driver>> = Vec::new(alloc);
+    let driver = Marked {
+        driver: Conditions::new(alloc),
+        marks: marks.clone()?,
+        start: 'C',
+        running: 'c',
+        halted: 'k',
+    };
+    add_driver(&mut roster, Box::new(alloc, driver)?)?;
+    let driver = Marked {
+        driver: Timed::new(alloc),
+        marks: marks.clone()?,
+        start: 'T',
+        running: 't',
+        halted: 'h',
+    };
+    add_driver(&mut roster, Box::new(alloc, driver)?)?;
+    run_with(alloc, nodes, lines, &mut sink, &mut roster)
+}
+
+/// The marks of a run, in order, and its exit.
+fn marks_of(alloc: Global, nodes: &str, lines: &str) -> Result<String, NoMemory> {
+    let marks = Rc::new(alloc, Marks::new())?;
+    let exit = run_marked(alloc, nodes, lines, &marks)?;
+    Ok(format!(in alloc; "{} {exit:?}", marks.text(alloc)?)?)
+}
+
+/// An event's calls come behind the block before it, and before its own block is written.
+#[test]
+fn calls_in_time(rt: HostRuntime) -> Result<(), Fail> {
+    for (nodes, lines, want) in [
+        (
+            "<Sequence><A/><B/></Sequence>",
+            "fact x 1 / condition A is x == 1 / action B timed 300 / tick 1 / at 299 / tick 1 / at 300 / tick 1",
+            "CT|t|t|| Done",
+        ),
+        (
+            "<ReactiveSequence><Ok/><B/></ReactiveSequence>",
+            "fact ok 1 / condition Ok is ok == 1 / action B timed 100 / tick 1 / at 10 / set ok 0 / tick 1",
+            "CT||Ch|| Done",
+        ),
+    ] {
+        assert_eq!(rt;
+            marks_of(rt.alloc(), nodes, lines)?.as_str(),
+            want,
+            "{nodes}"
+        );
+    }
+    Ok(())
+}

@@ -1,0 +1,122 @@
+//! Runs whose sink fails: what stands written is a front of the trace, and no driver holds anything.
+
+use crate::controls::{HALTED_BY_A_CHECK, TWO_CHECKS};
+use crate::halts::FAULT_AT_THE_END;
+use crate::runners::{ONE_FAULTS, WAITS, sixteen, sixteen_trace};
+use crate::stage::run;
+use bt_outside::MemSink;
+use bt_script::NoMemory;
+use bt_words::Exit;
+use std::alloc::Global;
+use std::test::Fail;
+
+/// What a run writes whose write of this number fails after some bytes, with its exit and what its
+/// drivers hold behind it.
+fn cut(
+    alloc: Global,
+    nodes: &str,
+    lines: &str,
+    write: u64,
+    taken: u64,
+) -> Result<String, NoMemory> {
+    let mut sink = MemSink::new(alloc, vec![in alloc; (write, taken)]?);
+    let ending = run(alloc, nodes, lines, &mut sink)?;
+    let text = str::from_utf8(sink.list()).unwrap_or("?");
+    Ok(format!(in alloc; "{text}{:?} {}", ending.exit, ending.holds)?)
+}
+
+/// Whether the failure of this write after some bytes leaves something else than what stood before it
+/// and these bytes of its line.
+fn is_wrong(
+    alloc: Global,
+    nodes: &str,
+    lines: &str,
+    before: &str,
+    line: &str,
+    write: u64,
+    taken: usize,
+) -> Result<bool, NoMemory> {
+    let front = line.get(..taken).unwrap_or("?");
+    let want = format!(in alloc; "{before}{front}{:?} false", Exit::Write)?;
+    Ok(cut(alloc, nodes, lines, write, taken as u64)? != want)
+}
+
+/// The first write whose failure after some bytes leaves something else than the lines before it and
+/// these bytes, if there is one.
+fn first_wrong(
+    alloc: Global,
+    nodes: &str,
+    lines: &str,
+    trace: &str,
+    taken: usize,
+) -> Result<Option<u64>, NoMemory> {
+    let mut place = 0_usize;
+    let mut write = 0_u64;
+    for line in trace
+        .split_inclusive('\n')
+        .filter(|line| line.ends_with('\n'))
+    {
+        write = write.saturating_add(1);
+        let before = trace.get(..place).unwrap_or("?");
+        if is_wrong(alloc, nodes, lines, before, line, write, taken)? {
+            return Ok(Some(write));
+        }
+        place = place.saturating_add(line.len());
+    }
+    Ok(None)
+}
+
+#[test]
+fn each_write_may_fail(rt: HostRuntime) -> Result<(), Fail> {
+    let alloc = rt.alloc();
+    for (nodes, lines, trace) in [
+        (
+            "<Sequence><A/><B/></Sequence>",
+            "fact x 1 / condition A is x == 1 / condition B when x < 2 / tick 1",
+            TWO_CHECKS,
+        ),
+        (
+            "<Sequence _onHalted=\"1 / 0\"><A/></Sequence>",
+            "action A timed 100 / tick 1",
+            FAULT_AT_THE_END,
+        ),
+        (
+            "<ReactiveSequence><Ok/><B/></ReactiveSequence>",
+            "fact ok 1 / condition Ok is ok == 1 / action B timed 100 / tick 1 / at 10 / set ok 0 / tick 1",
+            HALTED_BY_A_CHECK,
+        ),
+        (
+            "<Sequence><A/><Script code=\"y := z\"/></Sequence>",
+            "runners 2 / action A timed 100 / tick 1 / at 50 / tick 2 / halt 1 / halt 1 / at 60 / tick 1 / at 150 / tick 2",
+            ONE_FAULTS,
+        ),
+    ] {
+        for taken in [0, 3] {
+            let wrong = first_wrong(alloc, nodes, lines, trace, taken)?;
+            assert_eq!(rt; wrong, None, "{taken} of {nodes}");
+        }
+    }
+    Ok(())
+}
+
+#[test]
+fn each_write_of_sixteen_runners_may_fail(rt: HostRuntime) -> Result<(), Fail> {
+    let alloc = rt.alloc();
+    let lines = sixteen(alloc)?;
+    let trace = sixteen_trace(alloc)?;
+    for taken in [0, 3] {
+        let wrong = first_wrong(alloc, WAITS, lines.as_str(), trace.as_str(), taken)?;
+        assert_eq!(rt; wrong, None, "{taken}");
+    }
+    Ok(())
+}
+
+#[test]
+fn a_write_that_fails_takes_what_it_takes(rt: HostRuntime) -> Result<(), Fail> {
+    let alloc = rt.alloc();
+    let lines = "fact x 1 / condition A is x == 1 / condition B when x < 2 / tick 1";
+    let text = cut(alloc, "<Sequence><A/><B/></Sequence>", lines, 3, 5)?;
+    let want = "tick 1 at 0\nnode 1 IDLE RUNNING\ncall Write false";
+    assert_eq!(rt; text.as_str(), want);
+    Ok(())
+}

@@ -1,0 +1,19 @@
+//! Tests alone: tables of runs, with the traces that they write.
+#![tactic(auto)]
+
+#[cfg(test)]
+mod controls;
+#[cfg(test)]
+mod decorators;
+#[cfg(test)]
+mod failing;
+#[cfg(test)]
+mod halts;
+#[cfg(test)]
+mod runners;
+#[cfg(test)]
+mod scripts;
+#[cfg(test)]
+mod stage;
+#[cfg(test)]
+mod traces;

@@ -1,0 +1,13 @@
+//! Tests alone: tables of what words, tree files and world files are answered, where nothing is ticked for long.
+#![tactic(auto)]
+
+#[cfg(test)]
+mod limits;
+#[cfg(test)]
+mod printed;
+#[cfg(test)]
+mod refusals;
+#[cfg(test)]
+mod stage;
+#[cfg(test)]
+mod words;

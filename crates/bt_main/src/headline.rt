@@ -1,0 +1,84 @@
+ghost use Rattle.std.specs.Prelude.{◌≡◌, ◌≤◌, ◌⊎◌, None, map};
+ghost use Rattle.bt_answer.specs.Answers.{CommandAnswered, Gave, IsWhole, ReadFailed, WordsUnread, side};
+ghost use Rattle.bt_answer.specs.Output.{words_refused};
+ghost use Rattle.bt_loop.specs.Steps.{IsSameRoster};
+ghost use Rattle.bt_main.specs.Headline.{EachOutput, IsGiven, UnreadLine, WholeOutput};
+ghost use Rattle.bt_model.specs.Drivers.{NothingHeld};
+ghost use Rattle.bt_outside.specs.Counts.{Rose};
+ghost use Rattle.bt_words.specs.Words.{command_of};
+
+use bt_answer::answer_words;
+use bt_driver::Driver;
+use bt_elements::{element_or_fault, one_element};
+use bt_outside::{Clock, Shelf, Sink};
+use bt_script::Name;
+use bt_words::Exit;
+use bt_world::laws::worlds_read_one_way;
+use std::alloc::Global;
+
+/// Answers the words of the command line: runs the command that they are, over the files of the
+/// shelf, the moments of the clock and the drivers of the roster, and writes its output line by line to the sink.
+pub(crate) fn bt<S: Shelf, K: Sink, C: Clock>(
+    alloc: Global,
+    words: &[Name],
+    shelf: &mut S,
+    out: &mut K,
+    clock: &mut C,
+    roster: &mut Vec<Box<dyn Driver>>,
+) -> Exit
+    requires quiet { NothingHeld (map (λ b. state b) roster.old.items) }
+
+    // Words exactly where the words are no command, but for a sink that fails and want of memory.
+    ensures words { result ≡ Exit.Words → command_of words.now ≡ None }
+    ensures no_command { command_of words.now ≡ None → Gave words_refused result
+        (side (K.written out.old) (K.faults out.old) (C.moments clock.old) (map (λ b. state b) roster.old.items))
+        (side (K.written out.new) (K.faults out.new) (C.moments clock.new) (map (λ b. state b) roster.new.items)) }
+
+    // At Done, Words, Tree, World and Fault the whole output of the definition was written, this is
+    // its exit, and the drivers are those behind its run; where no tree was run, none was called. The
+    // clock was asked once a round by a run by the clock that is done, and by no other command.
+    ensures whole { IsGiven result → WholeOutput (S.holds shelf.old) (command_of words.now) result
+        (side (K.written out.old) (K.faults out.old) (C.moments clock.old) (map (λ b. state b) roster.old.items))
+        (side (K.written out.new) (K.faults out.new) (C.moments clock.new) (map (λ b. state b) roster.new.items)) }
+
+    // The output was given, whole or a front of it, or a read failed.
+    ensures each { let old = side (K.written out.old) (K.faults out.old) (C.moments clock.old) (map (λ b. state b) roster.old.items) in
+        let new = side (K.written out.new) (K.faults out.new) (C.moments clock.new) (map (λ b. state b) roster.new.items) in
+        EachOutput (S.holds shelf.old) (command_of words.now) old (λ o. Gave o result old new
+        ⊎ ReadFailed (Rose (S.faults shelf.old) (S.faults shelf.new))
+        (WordsUnread S.read_gives (S.holds shelf.old) (command_of words.now) shelf.old shelf.new) result old new) }
+
+    // Also where the shelf or the clock tells nothing: this is so of the output of some bytes of its
+    // files, and of some moments.
+    ensures any_shelf { CommandAnswered (command_of words.now) (S.holds shelf.old) (Rose (S.faults shelf.old) (S.faults shelf.new))
+        (WordsUnread S.read_gives (S.holds shelf.old) (command_of words.now) shelf.old shelf.new) result
+        (side (K.written out.old) (K.faults out.old) (C.moments clock.old) (map (λ b. state b) roster.old.items))
+        (side (K.written out.new) (K.faults out.new) (C.moments clock.new) (map (λ b. state b) roster.new.items)) }
+
+    // At Read the read of a file failed, and the line of this file was written.
+    ensures read { result ≡ Exit.Read → Rose (S.faults shelf.old) (S.faults shelf.new)
+        × UnreadLine (WordsUnread S.read_gives (S.holds shelf.old) (command_of words.now) shelf.old shelf.new)
+        (side (K.written out.old) (K.faults out.old) (C.moments clock.old) (map (λ b. state b) roster.old.items))
+        (side (K.written out.new) (K.faults out.new) (C.moments clock.new) (map (λ b. state b) roster.new.items)) }
+    ensures write { result ≡ Exit.Write → Rose (K.faults out.old) (K.faults out.new) }
+
+    // Where no count rose, the whole output was written, or memory ran out.
+    ensures complete { let old = side (K.written out.old) (K.faults out.old) (C.moments clock.old) (map (λ b. state b) roster.old.items) in
+        let new = side (K.written out.new) (K.faults out.new) (C.moments clock.new) (map (λ b. state b) roster.new.items) in
+        EachOutput (S.holds shelf.old) (command_of words.now) old (λ o.
+        ¬ Rose (S.faults shelf.old) (S.faults shelf.new) → ¬ Rose old.faults new.faults
+        → (result ≡ Exit.Memory) ⊎ IsWhole o result old new) }
+
+    // Whatever the answer, no driver holds anything, and the roster is the same: as many drivers, of
+    // the same kinds and marks in the same places, and no total has fallen.
+    ensures none { NothingHeld (map (λ b. state b) roster.new.items) }
+    ensures roster { IsSameRoster (map (λ b. state b) roster.old.items) (map (λ b. state b) roster.new.items) }
+
+    ensures read_count { S.faults shelf.old ≤ S.faults shelf.new }
+    ensures count { K.faults out.old ≤ K.faults out.new }
+{
+    one_element();
+    element_or_fault();
+    worlds_read_one_way();
+    answer_words(alloc, words, shelf, out, clock, roster)
+}
