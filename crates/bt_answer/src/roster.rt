@@ -1,17 +1,20 @@
-ghost use Rattle.std.specs.Prelude.{map};
+ghost use Rattle.std.specs.Prelude.{[], ◌∷◌, ◌++◌, ◌≡◌, OnErr, OnOk, map};
 ghost use Rattle.bt_model.specs.Drivers.{HoldsNothing, NothingHeld};
 
 use bt_driver::Driver;
 use bt_script::NoMemory;
 
-/// Adds a driver that holds nothing to a roster that holds nothing.
+/// Adds a driver that holds nothing to a roster that holds nothing. Refused, the roster is as before, and
+/// the driver is dropped.
 pub fn add_driver(
     roster: &mut Vec<Box<dyn Driver>>,
     driver: Box<dyn Driver>,
 ) -> Result<(), NoMemory>
     requires roster { NothingHeld (map (λ b. state b) roster.old.items) }
     requires driver { HoldsNothing (state driver) }
-    ensures { NothingHeld (map (λ b. state b) roster.new.items) }
+    ensures ok { OnOk result (map (λ b. state b) roster.new.items ≡ map (λ b. state b) roster.old.items ++ state driver ∷ []) }
+    ensures err { OnErr result (map (λ b. state b) roster.new.items ≡ map (λ b. state b) roster.old.items) }
+    ensures none { NothingHeld (map (λ b. state b) roster.new.items) }
 {
     roster.push(driver)?;
     Ok(())

@@ -38,12 +38,12 @@ abbrev pub StandInOrder : {X : Type 0} → (X → ℕ) → (X → Standing) → 
 StandInOrder size stands [] nodes view uid = Unit {0}
 StandInOrder size stands (c ∷ cs) nodes view uid = stands c nodes view uid × StandInOrder size stands cs nodes view (uid + size c)
 
--- a node, and its children behind it
 -- their uids, of which the first is this one
 abbrev pub uids_in_order : {X : Type 0} → (X → ℕ) → List X → ℕ → List ℕ
 uids_in_order size [] uid = []
 uids_in_order size (c ∷ cs) uid = uid ∷ uids_in_order size cs (uid + size c)
 
+-- a node, and its children behind it
 abbrev pub node_stands : (X : Type 0) → (X → Term) → (X → Standing) → Term-F X → Standing
 node_stands X term stands node nodes view uid =
     (uid < length nodes)

@@ -38,8 +38,9 @@ pub struct Node {
     /// How many nodes it and all below it are. Its children stand behind it, each behind all that
     /// stands below the one before.
     pub size: u32,
-    /// How many children it has, and the uid of each, so that one is found by its place.
+    /// How many children it has.
     pub children: u32,
+    /// The uid of each child, so that one is found by its place.
     pub child_uids: Items<u32>,
     pub code: Option<Code>,
     pub guards: ReadyGuards,

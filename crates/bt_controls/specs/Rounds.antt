@@ -1,12 +1,17 @@
 -- How rounds of children end, and go on.
-use Rattle.std.specs.Prelude.{ℕ, ◌<◌, ◌≤◌, ◌≡◌}
+use Rattle.std.specs.Prelude.{ℕ, ◌+◌, ◌<◌, ◌≤◌, ◌≡◌, nat_lt, if◌then◌else◌, Option, None, Some}
 use Rattle.bt_model.specs.declared.memory.Memo.{Memo}
 use Rattle.bt_model.specs.declared.memory.Memo.TheVariants.{Index}
+use Rattle.bt_model.specs.declared.moves.Heard.{Heard}
+use Rattle.bt_model.specs.declared.moves.Heard.TheVariants.{Answered}
 use Rattle.bt_model.specs.declared.moves.Then.{Then}
 use Rattle.bt_model.specs.declared.moves.Then.TheVariants.{Visit, Give}
 use Rattle.bt_model.specs.declared.status.Answer.{Answer}
+use Rattle.bt_model.specs.declared.status.Answer.TheVariants.{Failure, Success}
 use Rattle.bt_model.specs.declared.status.RoundEnd.{RoundEnd}
-use Rattle.bt_model.specs.Rules.Sequences.{reactive_end, seen_of, sequence_end, with_memory_end}
+use Rattle.bt_model.specs.declared.term.Kind.{Kind}
+use Rattle.bt_model.specs.declared.term.Kind.TheVariants.{Fallback, ReactiveFallback, ReactiveSequence, Sequence, SequenceWithMemory}
+use Rattle.bt_model.specs.Rules.Sequences.{passes, reactive_end, seen_of, sequence_end, with_memory_end}
 use Rattle.bt_model.specs.Steps.{Rule}
 use Rattle.bt_controls.specs.declared.rounds.Manner.{Manner}
 use Rattle.bt_controls.specs.declared.rounds.Manner.TheVariants.{Keeps, Restarts, Remembers}
@@ -21,3 +26,17 @@ ends_of Remembers goes = λ end. with_memory_end end
 abbrev pub VisitsFrom : ℕ → ℕ → Memo → Then → Type 0
 VisitsFrom first n kept (Give a) = Unit {0}
 VisitsFrom first n kept (Visit place) = (first ≤ place) × (place < n) × (kept ≡ Index place (seen_of kept))
+
+-- the child behind the one at this place, where a round of so many children goes on behind this answer
+-- and one is left
+abbrev pub next_passed : Answer → ℕ → ℕ → Answer → Option ℕ
+next_passed goes n place a = if passes goes a then (if nat_lt (place + 1) n then Some (place + 1) else None) else None
+
+-- the child that a Sequence or Fallback kind goes on to behind what it has heard
+abbrev pub next_child : Kind → ℕ → Heard → Option ℕ
+next_child Sequence n (Answered place a) = next_passed Success n place a
+next_child SequenceWithMemory n (Answered place a) = next_passed Success n place a
+next_child ReactiveSequence n (Answered place a) = next_passed Success n place a
+next_child Fallback n (Answered place a) = next_passed Failure n place a
+next_child ReactiveFallback n (Answered place a) = next_passed Failure n place a
+next_child kind n heard = None

@@ -1,6 +1,7 @@
 ghost use Rattle.std.specs.Prelude.{ℕ, IsTrue, ◌≡◌, ◌+◌, ◌<◌, ◌≢◌, Some};
 ghost use Rattle.bt_model.specs.Moves.{Fits, FitsChild, FitsStart, GoesOn, after, hears, is_control, makes, next_place, rest};
 ghost use Rattle.bt_model.specs.Rules.Kinds.{rule};
+ghost use Rattle.bt_controls.specs.Rounds.{next_child};
 
 use crate::choices::{
     chosen_kept, if_then_else_answered, if_then_else_begun, switch_to, while_do_else_answered,
@@ -76,10 +77,12 @@ fn answered(kind: Kind, memo: &mut Memo, n: u32, place: u32, answer: Answer) -> 
 
 /// The place of the child that comes next where a Sequence or Fallback kind with `n` children goes on to
 /// it behind the answer of the one before, as most nodes do behind most answers. The memo becomes the
-/// one behind that move. It is what `control_next` says of such a move, and costs less.
+/// one behind that move. It is what `control_next` says of such a move, and costs less. There is none,
+/// and the memo stays, behind the last child, behind an answer at which the round ends, and of other kinds.
 #[inline(always)]
 pub fn goes_to_next(kind: Kind, memo: &mut Memo, n: u32, heard: Heard) -> Option<u32>
     requires fits { Fits kind n memo.old heard }
+    ensures child { result ≡ next_child kind n heard }
     ensures next { (place now : ℕ) → result ≡ Some place → rest kind n now memo.old heard ≡ makes (hears kind) (after kind n) memo.new (record { reset = Span.None; then = Then.Visit place }) }
     ensures onward { (place : ℕ) → result ≡ Some place → GoesOn kind n memo.old (next_place heard) memo.new (Then.Visit place) }
     // No child is passed over.
@@ -97,6 +100,7 @@ pub fn goes_to_next(kind: Kind, memo: &mut Memo, n: u32, heard: Heard) -> Option
 fn next_behind(kind: Kind, memo: &mut Memo, n: u32, place: u32, answer: Answer) -> Option<u32>
     requires there { place < n }
     requires fits { FitsChild kind n memo.old place }
+    ensures child { result ≡ next_child kind n (Heard.Answered place answer) }
     ensures next { (next : ℕ) → result ≡ Some next → after kind n memo.old (Heard.Answered place answer) ≡ makes (hears kind) (after kind n) memo.new (record { reset = Span.None; then = Then.Visit next }) }
     ensures onward { (next : ℕ) → result ≡ Some next → GoesOn kind n memo.old (place + 1) memo.new (Then.Visit next) }
     ensures visited { (next : ℕ) → result ≡ Some next → kind ≢ Kind.Parallel }

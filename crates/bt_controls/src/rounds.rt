@@ -3,7 +3,7 @@ ghost use Rattle.bt_model.specs.Moves.{hears_answer, makes, round_on};
 ghost use Rattle.bt_model.specs.Rules.Answers.{is_seen};
 ghost use Rattle.bt_model.specs.Rules.Sequences.{index_of, passes, round, seen_of, sequence_end};
 ghost use Rattle.bt_model.specs.Steps.{Rule};
-ghost use Rattle.bt_controls.specs.Rounds.{VisitsFrom, ends_of};
+ghost use Rattle.bt_controls.specs.Rounds.{VisitsFrom, ends_of, next_passed};
 
 use crate::steps::{over, reset_and_give, visit};
 use bt_model::{Answer, Heard, Memo, Move, RoundEnd, Span, Then};
@@ -50,7 +50,9 @@ pub(crate) fn next_in_round(
     place: u32,
     answer: Answer,
 ) -> Option<u32>
-    requires { place < n }
+    requires there { place < n }
+    requires index { memo.old ≡ Memo.Index place (seen_of memo.old) }
+    ensures child { result ≡ next_passed goes n place answer }
     ensures next { (manner : Manner) (next : ℕ) → result ≡ Some next → round_on goes (ends_of manner goes) n memo.old (Heard.Answered place answer) ≡ makes hears_answer (round_on goes (ends_of manner goes) n) memo.new (record { reset = Span.None; then = Then.Visit next }) }
     ensures onward { (next : ℕ) → result ≡ Some next → VisitsFrom (place + 1) n memo.new (Then.Visit next) }
     ensures same { result ≡ None → memo.new ≡ memo.old }

@@ -78,6 +78,7 @@ impl<W: Write + Drop> OutSink<W> {
         }
     }
 
+    // Hands the piece to the writer: how many bytes it takes, and none where it fails.
     #[inline(always)]
     fn hand_on(&mut self, piece: &[u8]) -> usize
         ensures bound { result ≤ length piece.now }
