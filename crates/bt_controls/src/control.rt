@@ -67,7 +67,7 @@ fn answered(kind: Kind, memo: &mut Memo, n: u32, place: u32, answer: Answer) -> 
         }
         Kind::ReactiveSequence => go_on(Answer::Success, Manner::Restarts, memo, n, place, answer),
         Kind::ReactiveFallback => go_on(Answer::Failure, Manner::Restarts, memo, n, place, answer),
-        Kind::Parallel => parallel_answered(memo, counts_kept(*memo), n, place, answer),
+        Kind::Parallel => parallel_answered(memo, n, place, answer),
         Kind::Switch(_) => pass(memo, answer),
         Kind::IfThenElse => if_then_else_answered(memo, n, place, answer),
         Kind::WhileDoElse => while_do_else_answered(memo, n, place, answer),

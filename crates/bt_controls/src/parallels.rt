@@ -59,20 +59,34 @@ fn has_failed(counts: Counts, n: u32) -> bool
     n.saturating_sub(counts.failures) < counts.need || counts.most <= counts.failures
 }
 
-/// A Parallel behind the answer of the child at this place.
-pub(crate) fn parallel_answered(
-    memo: &mut Memo,
-    counts: Counts,
-    n: u32,
-    place: u32,
-    answer: Answer,
-) -> Move
+/// A Parallel behind the answer of the child at this place. Where it only goes on to the next child, as
+/// behind most answers, one count of its memo changes in its place.
+pub(crate) fn parallel_answered(memo: &mut Memo, n: u32, place: u32, answer: Answer) -> Move
     requires there { place < n }
-    requires fits { HasRoom n counts place }
-    ensures next { parallel_heard n counts (Heard.Answered place answer) ≡ makes hears_or_passes (λ m heard. parallel_heard n (counts_of m) heard) memo.new result }
+    requires fits { HasRoom n (counts_of memo.old) place }
+    ensures next { parallel_heard n (counts_of memo.old) (Heard.Answered place answer) ≡ makes hears_or_passes (λ m heard. parallel_heard n (counts_of m) heard) memo.new result }
     ensures onward { (old : Memo) → GoesOn Kind.Parallel n old (place + 1) memo.new result.then }
 {
-    parallel_on(memo, count(counts, answer), n, place + 1)
+    let counts = count(counts_kept(*memo), answer);
+    if let Memo::Counts(kept) = memo {
+        if place + 1 < n && !has_succeeded(counts) && !has_failed(counts, n) {
+            *kept = counts;
+            return visit(place + 1);
+        }
+    }
+    parallel_ended(memo, counts, n, place + 1)
+}
+
+/// A Parallel that does not only go on. It stands apart, so that most moves leave the other counts of the
+/// memo as they are.
+#[cold]
+#[inline(never)]
+fn parallel_ended(memo: &mut Memo, counts: Counts, n: u32, place: u32) -> Move
+    requires { HasRoom n counts place }
+    ensures next { parallel_after n counts (parallel n (n - place) place counts) ≡ makes hears_or_passes (λ m heard. parallel_heard n (counts_of m) heard) memo.new result }
+    ensures onward { (old : Memo) → GoesOn Kind.Parallel n old place memo.new result.then }
+{
+    parallel_on(memo, counts, n, place)
 }
 
 /// A Parallel tries its thresholds, and goes on at this place.
