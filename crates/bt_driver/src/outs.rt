@@ -38,6 +38,13 @@ impl Outs {
         &self.values[..self.len as usize]
     }
 
+    /// Removes all outputs.
+    pub fn clear(&mut self)
+        ensures { self.new ≡ [] }
+    {
+        self.len = 0;
+    }
+
     /// Adds an output behind the others.
     pub fn push(&mut self, n: i64)
         requires { length self.old < 8 }

@@ -26,11 +26,13 @@ pub struct ReadyRow {
 }
 
 impl ReadyRow {
-    ghost use Rattle.std.specs.Prelude.{◌≡◌};
+    ghost use Rattle.std.specs.Prelude.{◌≡◌, Ok, Err, IfErr, OnErr, OnOk};
     ghost use Rattle.bt_model.specs.Leaf.{completion, outputs_after, outputs_of, with_effects};
     ghost use Rattle.bt_driver.specs.Rules.{rule};
 
-    /// The outputs over these inputs and facts, in order, or the first fault.
+    /// The outputs over these inputs and facts, in order, or the first fault. It is not inlined as most
+    /// rows have none.
+    #[inline(never)]
     fn outputs(&self, inputs: &Inputs, facts: &FactTable) -> Result<Outs, Cause>
         requires { length facts.now ≡ self.now.facts }
         ensures { result ≡ outputs_of (rule self.now).outs inputs.now facts.now }
@@ -40,6 +42,27 @@ impl ReadyRow {
             outs.push(e.value(inputs, facts)?);
         }
         Ok(outs)
+    }
+
+    /// Makes `outs` the outputs over these inputs and facts, in order, or answers the first fault and
+    /// leaves them. Where there are none, no place is copied.
+    #[inline(always)]
+    fn put_outputs(
+        &self,
+        inputs: &Inputs,
+        facts: &FactTable,
+        outs: &mut Outs,
+    ) -> Result<(), Cause>
+        requires { length facts.now ≡ self.now.facts }
+        ensures made { OnOk result (outputs_of (rule self.now).outs inputs.now facts.now ≡ Ok outs.new) }
+        ensures fault { IfErr result (λ cause. outputs_of (rule self.now).outs inputs.now facts.now ≡ Err cause) }
+        ensures left { OnErr result (outs.new ≡ outs.old) }
+    {
+        match self.outs.list() {
+            [] => outs.clear(),
+            _ => *outs = self.outputs(inputs, facts)?,
+        }
+        Ok(())
     }
 
     /// Applies the effects, in order.
@@ -69,9 +92,8 @@ impl ReadyRow {
         ensures facts { facts.new ≡ (completion (rule self.now) before after inputs.now facts.old).facts }
         ensures outs { outs.new ≡ outputs_after (completion (rule self.now) before after inputs.now facts.old) outs.old }
     {
-        match self.outputs(inputs, facts) {
-            Ok(made) => {
-                *outs = made;
+        match self.put_outputs(inputs, facts, outs) {
+            Ok(()) => {
                 self.apply(facts);
                 (Reply::Success, after)
             }
