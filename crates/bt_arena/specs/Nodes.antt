@@ -1,5 +1,5 @@
 -- A node of an arena, as one of a term.
-use Rattle.std.specs.Prelude.{◌≡◌, ℕ, ◌≤◌, List, [], length, map, slice_index_or, Bool, true, false, Option, Some, None, MatchOption}
+use Rattle.std.specs.Prelude.{◌≡◌, ℕ, ◌≤◌, List, [], length, map, slice_index_or, Bool, true, false, ◌||◌, is_some, Option, Some, None, MatchOption}
 use Rattle.std.specs.List.{All}
 use Rattle.bt_script.specs.declared.syntax.Script.{Script}
 use Rattle.bt_script_code.specs.declared.codes.Code.{Code}
@@ -29,6 +29,8 @@ use Rattle.bt_arena.specs.Sources.{IsSourceOf, slot_in_view, source_at}
 
 abbrev pub no_guards : ReadyGuards
 no_guards = record {
+  before = false;
+  after = false;
   failure_if = None;
   success_if = None;
   skip_if = None;
@@ -71,7 +73,16 @@ IsCompiled view None None = Unit {0}
 IsCompiled view (Some script) (Some code) = IsCodeOf view script code
 IsCompiled view _ _ = ⊥
 
+-- whether a guard is there that may answer before a visit, and one that runs after an answer
+abbrev pub has_before : Guards → Bool
+has_before guards = is_some guards.failure_if || (is_some guards.success_if || (is_some guards.skip_if || is_some guards.while_true))
+
+abbrev pub has_after : Guards → Bool
+has_after guards = is_some guards.on_success || (is_some guards.on_failure || is_some guards.post)
+
 pub record AreCompiled (view : View) (guards : Guards) (ready : ReadyGuards) : Type 0 where
+  pub before : ready.before ≡ has_before guards
+  pub after : ready.after ≡ has_after guards
   pub failure_if : IsCompiled view guards.failure_if ready.failure_if
   pub success_if : IsCompiled view guards.success_if ready.success_if
   pub skip_if : IsCompiled view guards.skip_if ready.skip_if

@@ -193,6 +193,8 @@ fn nobody(alloc: Global) -> Node
         child_uids: Items::of(Vec::new(alloc)),
         code: None,
         guards: ReadyGuards {
+            before: false,
+            after: false,
             failure_if: None,
             success_if: None,
             skip_if: None,

@@ -7,6 +7,11 @@ use bt_script_code::Code;
 /// The pre- and postconditions of a node, compiled for the scope in which it stands.
 #[derive(Debug, Drop)]
 pub struct ReadyGuards {
+    /// Whether one of the four that may answer before a visit is there. Most nodes have none, and are
+    /// asked once.
+    pub before: bool,
+    /// Whether one of the three that run after an answer is there.
+    pub after: bool,
     pub failure_if: Option<Code>,
     pub success_if: Option<Code>,
     pub skip_if: Option<Code>,

@@ -3,7 +3,7 @@ ghost use Rattle.std.specs.Option.{option_copied};
 ghost use Rattle.bt_script.specs.Scripts.{names_of, stmt_names};
 ghost use Rattle.bt_model.specs.Boards.{port_of, slot_table, slots as cells};
 ghost use Rattle.bt_model.specs.Trees.{GuardsFit, ScriptFits};
-ghost use Rattle.bt_arena.specs.Nodes.{AreCompiled, IsCompiled};
+ghost use Rattle.bt_arena.specs.Nodes.{AreCompiled, IsCompiled, has_after, has_before};
 ghost use Rattle.bt_arena.specs.Resolving.{AreNamed, GuardsAreNamed, named_slot, names_if_there, names_in_script, port_keys, view_in, with_slots};
 ghost use Rattle.bt_arena.specs.Sources.{IsSourceOf, source_at as source_in};
 
@@ -140,6 +140,8 @@ pub(crate) fn ready_guards(
     ensures { IfOk result (λ ready. AreCompiled (view_in setting.now.tree.now setting.now.world.now scope) guards.now ready) }
 {
     Ok(ReadyGuards {
+        before: is_before(guards),
+        after: is_after(guards),
         failure_if: ready_script(alloc, &guards.failure_if, setting, scope)?,
         success_if: ready_script(alloc, &guards.success_if, setting, scope)?,
         skip_if: ready_script(alloc, &guards.skip_if, setting, scope)?,
@@ -149,6 +151,23 @@ pub(crate) fn ready_guards(
         post: ready_script(alloc, &guards.post, setting, scope)?,
         on_halted: ready_script(alloc, &guards.on_halted, setting, scope)?,
     })
+}
+
+/// Whether a guard is there that may answer before a visit.
+fn is_before(guards: &Guards) -> bool
+    ensures { result ≡ has_before guards.now }
+{
+    guards.failure_if.is_some()
+        || guards.success_if.is_some()
+        || guards.skip_if.is_some()
+        || guards.while_true.is_some()
+}
+
+/// Whether a guard is there that runs after an answer.
+fn is_after(guards: &Guards) -> bool
+    ensures { result ≡ has_after guards.now }
+{
+    guards.on_success.is_some() || guards.on_failure.is_some() || guards.post.is_some()
 }
 
 /// The port of this name.

@@ -212,15 +212,10 @@ pub fn guards_answer(
         Settles result (on_board board.new s) (guards_answer (site_of term view uid) (on_board board.old s)) }
     ensures slots { length board.new ≡ length board.old }
 {
-    match guards {
-        ReadyGuards {
-            failure_if: None,
-            success_if: None,
-            skip_if: None,
-            while_true: None,
-            ..
-        } => Ok(None),
-        _ => try_guards(alloc, guards, uid, board),
+    if guards.before {
+        try_guards(alloc, guards, uid, board)
+    } else {
+        Ok(None)
     }
 }
 
@@ -300,13 +295,9 @@ pub fn posts(
         Settles result (on_board board.new s) (posts (site_of term view uid) answer (on_board board.old s)) }
     ensures slots { length board.new ≡ length board.old }
 {
-    match guards {
-        ReadyGuards {
-            on_success: None,
-            on_failure: None,
-            post: None,
-            ..
-        } => Ok(()),
-        _ => run_posts(alloc, guards, uid, answer, board),
+    if guards.after {
+        run_posts(alloc, guards, uid, answer, board)
+    } else {
+        Ok(())
     }
 }
