@@ -1,50 +1,30 @@
--- A word of five bytes, and the digits of a short number behind it.
-use Rattle.std.proofs.Common.{◌≡◌, ℕ, ◌+◌, ◌/◌, ◌%◌, ◌<◌, ◌≤◌, List, [], ◌∷◌, ◌++◌, length, get_or, refl, ap, sym, ◌∙◌, arith}
-use Rattle.std.proofs.lemmas.Fmt.{decimal_digit, decimal_step}
+-- A word, and the label of a number behind it.
+use Rattle.std.proofs.Common.{◌≡◌, ℕ, ◌+◌, ◌≤◌, List, [], ◌∷◌, ◌++◌, length, take, drop, ap, sym, ◌∙◌, append_assoc, length-append, arith}
+use Rattle.std.proofs.lemmas.List.{take-append-drop, take-append-le}
+use Rattle.std.proofs.Math.Seq.{take-append-add}
 use Rattle.std.specs.Fmt.{decimal}
 
--- two digits
-decimal_two : (n : ℕ) → 10 ≤ n → n < 100 → decimal n ≡ (48 + n / 10) ∷ (48 + n % 10) ∷ []
-decimal_two n lo hi = rw (decimal_step n lo (omega arith), decimal_digit (n / 10) (omega arith))
+-- the bytes before a place, and the first of those that were written from there on
+front_and_some :
+    (new front piece : List ℕ) (start len : ℕ) → length front ≡ start → len ≤ length piece → take (start + length piece) new ≡ front ++ piece →
+    take (start + len) new ≡ front ++ take len piece
+front_and_some new front piece start len at within written =
+    let end = start + length piece in
+    let fits : start + len ≤ length (take end new) = omega (arith, ap length written, length-append front piece) in
+    ap (λ (z : List ℕ). take (start + len) z) (sym (take-append-drop end new))
+    ∙ take-append-le (start + len) (take end new) (drop end new) fits
+    ∙ ap (λ (z : List ℕ). take (start + len) z) written
+    ∙ ap (λ (n : ℕ). take (n + len) (front ++ piece)) (sym at)
+    ∙ take-append-add front piece len
 
--- three digits
-decimal_three : (n : ℕ) → 100 ≤ n → n < 1000 → decimal n ≡ (48 + n / 100) ∷ (48 + n / 10 % 10) ∷ (48 + n % 10) ∷ []
-decimal_three n lo hi =
-    let hundreds : n / 10 / 10 ≡ n / 100 = omega arith in
-    rw (decimal_step n (omega arith) (omega arith), decimal_two (n / 10) (omega arith) (omega arith), hundreds)
-
--- the bytes of the word one by one, and what stands behind it
-by_bytes : (word rest : List ℕ) → length word ≡ 5 → get_or word 0 0 ∷ get_or word 1 0 ∷ get_or word 2 0 ∷ get_or word 3 0 ∷ get_or word 4 0 ∷ rest ≡ word ++ rest
-by_bytes (a ∷ b ∷ c ∷ d ∷ e ∷ []) rest h = refl
-by_bytes [] rest h = absurd (omega (arith, h))
-by_bytes (a ∷ []) rest h = absurd (omega (arith, h))
-by_bytes (a ∷ b ∷ []) rest h = absurd (omega (arith, h))
-by_bytes (a ∷ b ∷ c ∷ []) rest h = absurd (omega (arith, h))
-by_bytes (a ∷ b ∷ c ∷ d ∷ []) rest h = absurd (omega (arith, h))
-by_bytes (a ∷ b ∷ c ∷ d ∷ e ∷ f ∷ more) rest h = absurd (omega (arith, h))
-
--- the word, and a number of one digit
-pub one_digit :
-    (word : List ℕ) (n d : ℕ) → length word ≡ 5 → n < 10 → d ≡ 48 + n →
-    get_or word 0 0 ∷ get_or word 1 0 ∷ get_or word 2 0 ∷ get_or word 3 0 ∷ get_or word 4 0 ∷ d ∷ [] ≡ word ++ decimal n
-one_digit word n d five small digit =
-    by_bytes word (d ∷ []) five ∙ ap (λ (digits : List ℕ). word ++ digits) (ap (λ (x : ℕ). x ∷ []) digit ∙ sym (decimal_digit n small))
-
--- the word, and a number of two digits
-pub two_digits :
-    (word : List ℕ) (n t d : ℕ) → length word ≡ 5 → 10 ≤ n → n < 100 → t ≡ 48 + n / 10 → d ≡ 48 + n % 10 →
-    get_or word 0 0 ∷ get_or word 1 0 ∷ get_or word 2 0 ∷ get_or word 3 0 ∷ get_or word 4 0 ∷ t ∷ d ∷ [] ≡ word ++ decimal n
-two_digits word n t d five large small tens digit =
-    by_bytes word (t ∷ d ∷ []) five
-    ∙ ap (λ (digits : List ℕ). word ++ digits)
-    (ap (λ (x : ℕ). x ∷ d ∷ []) tens ∙ ap (λ (x : ℕ). (48 + n / 10) ∷ x ∷ []) digit ∙ sym (decimal_two n large small))
-
--- the word, and a number of three digits
-pub three_digits :
-    (word : List ℕ) (n h t d : ℕ) → length word ≡ 5 → 100 ≤ n → n < 1000 → h ≡ 48 + n / 100 → t ≡ 48 + n / 10 % 10 → d ≡ 48 + n % 10 →
-    get_or word 0 0 ∷ get_or word 1 0 ∷ get_or word 2 0 ∷ get_or word 3 0 ∷ get_or word 4 0 ∷ h ∷ t ∷ d ∷ [] ≡ word ++ decimal n
-three_digits word n h t d five large small hundreds tens digit =
-    by_bytes word (h ∷ t ∷ d ∷ []) five
-    ∙ ap (λ (digits : List ℕ). word ++ digits)
-    (ap (λ (x : ℕ). x ∷ t ∷ d ∷ []) hundreds ∙ ap (λ (x : ℕ). (48 + n / 100) ∷ x ∷ d ∷ []) tens
-    ∙ ap (λ (x : ℕ). (48 + n / 100) ∷ (48 + n / 10 % 10) ∷ x ∷ []) digit ∙ sym (decimal_three n large small))
+-- the word was written, and over what follows it the whole room of a label
+pub labelled :
+    (new old word room label : List ℕ) (len n : ℕ) → length word ≡ 4 → take (0 + length word) old ≡ word → len ≤ length room →
+    take (4 + length room) new ≡ take 4 old ++ room → take len room ≡ label → label ≡ 32 ∷ decimal n →
+    take (4 + len) new ≡ word ++ 32 ∷ [] ++ decimal n
+labelled new old word room label len n four first within written text is =
+    let place : 0 + length word ≡ 4 = omega arith in
+    let front = ap (λ (k : ℕ). take k old) (sym place) ∙ first in
+    front_and_some new word room 4 len four within (written ∙ ap (λ (z : List ℕ). z ++ room) front)
+    ∙ ap (λ (z : List ℕ). word ++ z) (text ∙ is)
+    ∙ sym (append_assoc word (32 ∷ []) (decimal n))

@@ -1,3 +1,5 @@
+pub mod Labels
 pub mod Notes
 pub mod Stops
+pub mod Tails
 pub mod Trees

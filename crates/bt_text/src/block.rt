@@ -6,6 +6,7 @@ ghost use Rattle.bt_text.specs.Notes.{is_long};
 ghost use Rattle.bt_outside.specs.Appending.{Appended, AppendedFront};
 ghost use Rattle.bt_outside.specs.Counts.{Rose};
 
+use crate::label::Labels;
 use crate::line::{put_entry, put_fact, put_header, put_long, put_short};
 use crate::names::Names;
 use crate::put::empty_line;
@@ -70,8 +71,9 @@ fn write_notes<K: Sink>(
     ensures count { K.faults out.old ≤ K.faults out.new }
 {
     let mut short = ShortLine::new();
+    let labels = names.labels();
     for note in notes {
-        write_note(&mut short, line, out, note, names)?;
+        write_note(&mut short, line, out, note, names, &labels)?;
     }
     Ok(())
 }
@@ -85,13 +87,14 @@ fn write_note<K: Sink>(
     out: &mut K,
     note: &Note,
     names: &Names,
+    labels: &Labels,
 ) -> Result<(), TextStop>
     ensures whole { OnOk result (Appended (K.written out.old) (K.written out.new) (note_line names.now note.now)) }
     ensures front { AppendedFront (K.written out.old) (K.written out.new) (note_line names.now note.now) }
     ensures failed { IsErrOf result TextStop.WriteFault → Rose (K.faults out.old) (K.faults out.new) }
     ensures count { K.faults out.old ≤ K.faults out.new }
 {
-    if put_short(short, note) {
+    if put_short(short, note, labels) {
         return write_line(out, short.list());
     }
     write_long(line, out, note, names)

@@ -2,12 +2,14 @@
 #![tactic(auto)]
 
 mod block;
+mod label;
 mod line;
 mod mark;
 mod names;
 mod put;
 mod short;
 mod stop;
+mod tail;
 mod tree;
 mod word;
 

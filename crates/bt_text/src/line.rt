@@ -2,10 +2,12 @@ ghost use Rattle.std.specs.Prelude.{◌≡◌, ◌++◌, OnOk, IsTrue, IsFalse, 
 ghost use Rattle.bt_model.specs.Lines.{LineNames, cause_words, entry_line, fact_line, header_line, note_line};
 ghost use Rattle.bt_text.specs.Notes.{is_long};
 
+use crate::label::Labels;
 use crate::names::Names;
 use crate::put::{put_bytes, put_number, put_signed};
 use crate::short::ShortLine;
-use crate::word::{put_answer, put_cause, put_change, put_run, put_start, put_value};
+use crate::tail::{answer_tail, change_tail, halted_tail, run_tail, start_tail};
+use crate::word::{put_cause, put_value};
 use bt_model::{Cause, Header, Note};
 use bt_script::{NoMemory, Value};
 
@@ -43,34 +45,34 @@ fn put_runner_event(out: &mut Vec<u8>, event: &[u8], runner: u8, at: u64) -> Res
 
 /// Makes the line that of the note, and says whether it did: a long one has its place elsewhere.
 #[inline(always)]
-pub fn put_short(line: &mut ShortLine, note: &Note) -> bool
+pub fn put_short(line: &mut ShortLine, note: &Note, labels: &Labels) -> bool
     ensures text { IsTrue result → (names : LineNames) → line.new ≡ note_line names note.now }
     ensures long { IsFalse result → IsTrue (is_long note.now) }
 {
     match *note {
         Note::Changed { uid, old, new } => {
-            line.begin(*b"node ", uid);
-            put_change(line, old, new);
+            line.begin(*b"node", uid, labels);
+            line.end(change_tail(old, new));
             true
         }
         Note::Started { uid, answer } => {
-            line.begin(*b"call ", uid);
-            put_start(line, answer);
+            line.begin(*b"call", uid, labels);
+            line.end(start_tail(answer));
             true
         }
         Note::Ran { uid, answer } => {
-            line.begin(*b"call ", uid);
-            put_run(line, answer);
+            line.begin(*b"call", uid, labels);
+            line.end(run_tail(answer));
             true
         }
         Note::Halted { uid } => {
-            line.begin(*b"call ", uid);
-            line.put(*b" halted\n");
+            line.begin(*b"call", uid, labels);
+            line.end(halted_tail());
             true
         }
         Note::Root { runner, answer } => {
-            line.begin(*b"root ", u32::from(runner));
-            put_answer(line, answer);
+            line.begin(*b"root", u32::from(runner), labels);
+            line.end(answer_tail(answer));
             true
         }
         Note::Faulted { .. } => false,

@@ -5,6 +5,7 @@ ghost use Rattle.bt_model.specs.Boards.{slot_table};
 ghost use Rattle.bt_model.specs.Leaves.{row_of};
 ghost use Rattle.bt_model.specs.Lines.{cell_at, cell_words, fact_name, fact_names, input_name, inputs_of, line_names, own_inputs};
 
+use crate::label::{Label, Labels, labels_to};
 use crate::put::{put_bytes, put_number};
 use bt_board::{Slots, cells};
 use bt_model::{Cell, Kind, Row, Term, Tree, World};
@@ -13,23 +14,34 @@ use std::alloc::Global;
 use std::marker::Model;
 
 /// The names that the lines of a trace need. Contracts see those of the facts in the order of
-/// their numbers, the cells by slot, and the inputs of each node in pre-order.
+/// their numbers, the cells by slot, and the inputs of each node in pre-order. The labels of the
+/// uids lie beside them.
 #[derive(Debug, Drop)]
 pub struct Names {
     facts: Vec<Name>,
     cells: Vec<Cell>,
     inputs: Vec<Items<Name>>,
+    labels: Vec<Label>,
 }
 
 impl Model for Names {
     ghost use Rattle.bt_model.specs.Lines.{LineNames};
+    ghost use Rattle.bt_text.specs.Labels.{AreLabels};
 
     ghost Value = { LineNames };
 
     ghost view = { λ names. record { facts = names.facts.items; cells = names.cells.items; inputs = names.inputs.items } };
+
+    ghost invariant = { λ names. AreLabels names.labels.items };
 }
 
 impl Names {
+    /// The labels of the numbers from 0 on.
+    #[inline(always)]
+    pub fn labels(&self) -> Labels<'_> {
+        Labels::of(self.labels.as_slice())
+    }
+
     /// The name of the fact of this number, or nothing where it has none.
     pub fn fact_name(&self, number: u32) -> &[u8]
         ensures { result.now ≡ fact_name self.now.facts number }
@@ -149,9 +161,11 @@ pub fn names_of(alloc: Global, tree: &Tree, world: &World, slots: &Slots) -> Res
     let cells = copies_of_cells(alloc, cells(slots))?;
     let mut inputs = Vec::new(alloc);
     add_inputs(alloc, &tree.term, world.rows.list(), &mut inputs)?;
+    let labels = labels_to(alloc, inputs.len())?;
     Ok(Names {
         facts,
         cells,
         inputs,
+        labels,
     })
 }

@@ -1,9 +1,12 @@
-ghost use Rattle.std.specs.Prelude.{◌≡◌, ◌+◌, ◌<◌, ◌≤◌, [], ◌++◌, decimal, length, take};
+ghost use Rattle.std.specs.Prelude.{◌≡◌, ◌+◌, ◌≤◌, [], ◌++◌, codes, decimal, length, take};
+ghost use Rattle.bt_text.specs.Tails.{tail_text};
 
+use crate::label::Labels;
+use crate::tail::Tail;
 use itoa::Buffer;
 use std::marker::Model;
 
-/// The room of a short line: a word, a number and the longest end of a line.
+/// The room of a short line: a word, a number and the room of a tail.
 const ROOM: usize = 64;
 
 /// A line that is short, as most are. It lies in place and takes no memory. Contracts see its bytes.
@@ -42,52 +45,51 @@ impl ShortLine {
         &self.bytes[..self.len]
     }
 
-    /// Puts the array at the end, which has room. Its length is a constant where it is inlined, so that
-    /// a few stores are left of it.
+    /// Makes the line a word of four letters, and the number behind it with a blank between. The room of
+    /// a label is copied whole, so that one load and one store are left of it.
     #[inline(always)]
-    pub fn put<const N: usize>(&mut self, piece: [u8; N])
-        requires { length self.old + N ≤ 64 }
-        ensures { self.new ≡ self.old ++ piece.entry }
+    pub fn begin(&mut self, word: [u8; 4], number: u32, labels: &Labels)
+        ensures text { self.new ≡ word ++ codes " " ++ decimal number }
+        ensures room { length self.new ≤ 40 }
     {
-        copy_in(&mut self.bytes, self.len, &piece);
-        self.len += N;
-    }
-
-    /// Makes the line a word of four letters with its blank, and the number behind it. Most numbers are
-    /// short, and are put as one array with the word.
-    #[inline(always)]
-    pub fn begin(&mut self, word: [u8; 5], number: u32)
-        requires { length word ≡ 5 }
-        ensures text { self.new ≡ word ++ decimal number }
-        ensures room { length self.new ≤ 45 }
-    {
-        self.len = 0;
-        let [a, b, c, d, e] = word;
-        if number < 10 {
-            self.put([a, b, c, d, e, digit(number)]);
-        } else if number < 100 {
-            self.put([a, b, c, d, e, digit(number / 10), digit(number % 10)]);
-        } else if number < 1000 {
-            let (hundreds, tens) = (digit(number / 100), digit(number / 10 % 10));
-            self.put([a, b, c, d, e, hundreds, tens, digit(number % 10)]);
-        } else {
-            self.put(word);
-            self.put_number(number);
+        match labels.get(number) {
+            Some(label) => {
+                let (text, len) = label.room();
+                copy_in(&mut self.bytes, 0, &word);
+                copy_in(&mut self.bytes, 4, &text);
+                self.len = 4 + len;
+            }
+            None => self.begin_apart(word, number),
         }
     }
 
-    // Puts the number at the end. It stands apart as few runners have so many nodes.
+    // The same of a number without a label. It stands apart as few lines have one: none but that of a
+    // root whose runner's number is above the number of nodes.
     #[cold]
     #[inline(never)]
-    fn put_number(&mut self, number: u32)
-        requires { length self.old ≡ 5 }
-        ensures text { self.new ≡ self.old ++ decimal number }
-        ensures room { length self.new ≤ 45 }
+    fn begin_apart(&mut self, word: [u8; 4], number: u32)
+        ensures text { self.new ≡ word ++ codes " " ++ decimal number }
+        ensures room { length self.new ≤ 40 }
     {
+        copy_in(&mut self.bytes, 0, &word);
         let mut buffer = Buffer::new();
         let digits = buffer.format(number).as_bytes();
-        copy_in(&mut self.bytes, self.len, digits);
-        self.len += digits.len();
+        copy_in(&mut self.bytes, 4, b" ");
+        copy_in(&mut self.bytes, 5, digits);
+        self.len = 5 + digits.len();
+    }
+
+    /// Puts the tail at the end. What else its room has then lies behind the line.
+    #[inline(always)]
+    pub fn end(&mut self, tail: &Tail)
+        requires short { length self.old ≤ 40 }
+        requires within { tail.now.1 ≤ 24 }
+        ensures { self.new ≡ self.old ++ tail_text tail.now }
+    {
+        let (room, len) = tail;
+        let start = self.len;
+        copy_in(&mut self.bytes, start, room);
+        self.len = start + *len;
     }
 }
 
@@ -99,11 +101,4 @@ fn copy_in(bytes: &mut [u8], start: usize, piece: &[u8])
     ensures len { length bytes.new ≡ length bytes.old }
 {
     bytes[start..start + piece.len()].copy_from_slice(piece);
-}
-
-fn digit(number: u32) -> u8
-    requires { number < 10 }
-    ensures { result ≡ 48 + number }
-{
-    b'0' + number as u8
 }
