@@ -14,12 +14,12 @@ ghost use Rattle.bt_tick.specs.Turns.{CanFollow, CanVisit, Goes, Starts, kind_of
 
 use crate::machine::Entered;
 use crate::moves::has_rule;
-use bt_arena::{Kept, Node, Notes, kept_by, node, set_memo, set_status};
+use bt_arena::{Kept, Node, Notes, kept_by, node, set_status};
 use bt_board::Board;
 use bt_driver::{Drivers, FactTable};
 use bt_halting::halt_node;
 use bt_model::{Answer, Kind, Memo, NodeFault, Note, Status};
-use bt_nodes::{end_visit, goes_on, guards_answer, new_memo, picked, visit_alone};
+use bt_nodes::{end_visit, goes_on, guards_answer, picked, start_memo, visit_alone};
 use bt_script::Stop;
 use std::alloc::Global;
 
@@ -95,18 +95,16 @@ fn start(
     ensures reserve { notes.old.reserve ≤ notes.new.reserve }
     ensures full { notes.new.full ≡ notes.old.full }
 {
-    let old = kept_by(kept, uid);
+    let old = kept_by(kept, uid).status;
     notes.push(Note::Changed {
         uid,
-        old: old.status,
+        old,
         new: Status::Running,
     })?;
     set_status(kept, uid, Status::Running);
-    match new_memo(node(nodes, uid), uid, old.memo, board, now) {
-        Ok(memo) => {
-            set_memo(kept, uid, memo);
-            Ok(())
-        }
+    let memo = &mut kept[uid as usize].memo;
+    match start_memo(node(nodes, uid), uid, memo, board, now) {
+        Ok(()) => Ok(()),
         Err(fault) => Err(Stop::Fault(fault)),
     }
 }
