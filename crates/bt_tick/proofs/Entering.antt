@@ -85,7 +85,8 @@ node_rule_is ScriptCondition site st memo ms s e = cc
 node_rule_is Leaf site st memo ms s e = cc
 node_rule_is _ site st memo ms s e = refl
 
-starts_ruled : (kind : Kind) (memo : Memo) → starts kind memo ≡ true → has_rule kind ≡ true
+-- what starts has a rule over its children
+pub starts_ruled : (kind : Kind) (memo : Memo) → starts kind memo ≡ true → has_rule kind ≡ true
 starts_ruled AlwaysSuccess memo e = cc
 starts_ruled AlwaysFailure memo e = cc
 starts_ruled ScriptNode memo e = cc
