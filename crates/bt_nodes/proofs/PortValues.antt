@@ -1,30 +1,28 @@
 -- What the ports of a node give is what the definition reads from those of its term.
-use Rattle.std.proofs.Common.{◌≡◌, ℕ, zero, suc, ◌+◌, ◌<◌, ◌≤◌, List, [], ◌∷◌, ◌++◌, length, map, take, codes, decimal, Option, Some, None, Result, Ok, refl, sym, ap, subst, ◌∙◌, arith, lit<, if◌then◌else◌}
+use Rattle.std.proofs.Common.{◌≡◌, ℕ, ℤ, zero, suc, ◌+◌, ◌<◌, ◌≤◌, List, [], ◌∷◌, ◌++◌, length, map, take, codes, decimal, Option, Some, None, Result, Ok, Err, refl, sym, ap, subst, ◌∙◌, arith, lit<, if◌then◌else◌}
 use Rattle.std.proofs.lemmas.Fmt.{decimal_digit}
 use Rattle.std.proofs.lemmas.List.{length-map, length-take}
-use Rattle.std.specs.Prelude.{slice_index_or}
-use Rattle.bt_model.specs.declared.built_ins.Range.TheVariants as range
+use Rattle.std.specs.Prelude.{IsErrAnd, slice_index_or}
 use Rattle.bt_model.specs.declared.fault.PortId.{PortId}
-use Rattle.bt_model.specs.declared.fault.PortId.TheVariants as port
 use Rattle.bt_model.specs.declared.memory.Memo.{Memo}
 use Rattle.bt_model.specs.declared.term.Kind.{Kind}
-use Rattle.bt_model.specs.declared.term.Kind.TheVariants.{Delay, Parallel, Switch}
+use Rattle.bt_model.specs.declared.term.Kind.TheVariants.{Parallel, Switch}
 use Rattle.bt_model.specs.declared.term.PortValue.{PortValue}
 use Rattle.bt_model.specs.declared.term.PortValue.TheVariants.{Key, Lit as Literal}
 use Rattle.bt_model.specs.declared.term.Term.{Term-F}
 use Rattle.bt_model.specs.declared.built_ins.Range.TheVariants.{AnyValue}
 use Rattle.bt_model.specs.BuiltIns.{PortRule, ports_of, required, switch_ports}
 use Rattle.bt_model.specs.Done.{State}
-use Rattle.bt_model.specs.Ports.{case_from, given_at, is_case, is_negative, new_memo, number_at, number_by, parallel_start, picked, selected, since_start, text_at, text_by, threshold, value_at, value_by, within}
+use Rattle.bt_model.specs.Ports.{case_from, given_at, is_case, is_negative, new_memo, number_at, number_by, parallel_start, picked, selected, text_at, text_by, threshold, value_at, value_by}
 use Rattle.bt_model.specs.Sites.{Meaning, Site, View}
-use Rattle.bt_model.specs.Visit.{site_of}
+use Rattle.bt_model.specs.Visit.{or_bad_port, site_of}
 use Rattle.bt_arena.specs.declared.nodes.Node.{Node}
 use Rattle.bt_arena.specs.declared.source.Source.{Source}
 use Rattle.bt_arena.specs.declared.source.Source.TheVariants.{Absent}
 use Rattle.bt_arena.specs.Nodes.{IsNode}
 use Rattle.bt_arena.specs.Sources.{source_at, source_of, source_value}
 use Rattle.bt_arena.specs.Stands.{written}
-use Rattle.bt_nodes.specs.Given.{case_of, case_selected, first_case, port_at, source_number, source_text}
+use Rattle.bt_nodes.specs.Given.{case_of, case_selected, first_case, port_at, source_number, source_text, with_memo}
 use Rattle.bt_nodes.proofs.Cases.{FewCases}
 
 -- a source has the value of what is given
@@ -32,6 +30,16 @@ pub given_means : (site : Site) (s : State) (given : Option PortValue) → sourc
 given_means site s (Some (Literal value)) = refl
 given_means site s (Some (Key key)) = refl
 given_means site s None = refl
+
+-- a bad port is the same fault, whichever memo stands behind it
+pub bad_port_behind : (uid : ℕ) (r : Result (Unit {0}) PortId) (memo : Memo) → with_memo (or_bad_port uid r) memo ≡ or_bad_port uid (with_memo r memo)
+bad_port_behind uid (Ok _) memo = refl
+bad_port_behind uid (Err p) memo = refl
+
+-- an error leaves no memo to start with
+pub no_memo : {E : Type 0} (r : Result (Unit {0}) E) (memo : Memo) (e : E) → IsErrAnd r (λ x. x ≡ e) → with_memo r memo ≡ Err e
+no_memo (Ok _) memo e is = absurd is
+no_memo (Err x) memo e is = ap Err is
 
 -- these are the ports of cases in order, of which the first has this place
 abbrev AreNumbered : ℕ → List PortRule → Type 0
@@ -83,21 +91,15 @@ module _ (term : Term-F Meaning) (view : View) (whole uid : ℕ) (s : State) (no
   starts_as : (memo : Memo) (kind : Kind) → node.kind ≡ kind → new_memo kind (site_of term view uid) memo s ≡ new_memo term.kind (site_of term view uid) memo s
   starts_as memo kind is = ap (λ (kd : Kind). new_memo kd (site_of term view uid) memo s) (sym is ∙ k.kind)
 
-  pub parallel_starts : (memo : Memo) (r : Result Memo PortId) → node.kind ≡ Parallel →
-      r ≡ parallel_start (threshold node.children (source_number s.board (port_at node 0))) (is_negative (source_number s.board (port_at node 0))) (threshold node.children (source_number s.board (port_at node 1))) →
-      r ≡ new_memo term.kind (site_of term view uid) memo s
-  parallel_starts memo r is e =
-      let success = number_means Parallel 0 (codes "success_count") is refl in
-      let failure = number_means Parallel 1 (codes "failure_count") is refl in
+  pub parallel_starts : (memo : Memo) (r : Result Memo PortId) (success failure : Option ℤ) → node.kind ≡ Parallel →
+      success ≡ source_number s.board (port_at node 0) → failure ≡ source_number s.board (port_at node 1) →
+      r ≡ parallel_start (threshold node.children success) (is_negative success) (threshold node.children failure) → r ≡ new_memo term.kind (site_of term view uid) memo s
+  parallel_starts memo r success failure is first second e =
+      let success_is = first ∙ number_means Parallel 0 (codes "success_count") is refl in
+      let failure_is = second ∙ number_means Parallel 1 (codes "failure_count") is refl in
       e
-      ∙ (λ i. parallel_start (threshold (k.children i) (success i)) (is_negative (success i)) (threshold (k.children i) (failure i)))
+      ∙ (λ i. parallel_start (threshold (k.children i) (success_is i)) (is_negative (success_is i)) (threshold (k.children i) (failure_is i)))
       ∙ starts_as memo Parallel is
-
-  pub delay_starts : (memo : Memo) (r : Result Memo PortId) → node.kind ≡ Delay →
-      r ≡ since_start port.DelayMsec s.moment (within range.Duration (source_number s.board (port_at node 0))) → r ≡ new_memo term.kind (site_of term view uid) memo s
-  delay_starts memo r is e =
-      let length = number_means Delay 0 (codes "delay_msec") is refl in
-      e ∙ (λ i. since_start port.DelayMsec s.moment (within range.Duration (length i))) ∙ starts_as memo Delay is
 
   -- ---- Switch
 

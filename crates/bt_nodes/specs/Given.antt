@@ -1,10 +1,11 @@
--- What the ports of a node give: a truth, and the first case that has a text.
-use Rattle.std.specs.Prelude.{◌≡◌, ℕ, ◌+◌, ℤ, List, [], ◌∷◌, Bool, if◌then◌else◌, length, codes, Option, Some, None, option_map, slice_index_or}
+-- What the ports of a node give: a truth, the first case that has a text, and a memo to start with.
+use Rattle.std.specs.Prelude.{◌≡◌, ℕ, ◌+◌, ℤ, List, [], ◌∷◌, Bool, if◌then◌else◌, length, codes, Option, Some, None, Result, Ok, Err, option_map, slice_index_or}
 use Rattle.std.specs.List.{All}
 use Rattle.std.specs.Str.{bytes_eq}
 use Rattle.bt_script.specs.declared.value.Value.{Value}
 use Rattle.bt_script.specs.declared.value.Value.TheVariants.{Text}
 use Rattle.bt_script.specs.Operators.{is_true}
+use Rattle.bt_model.specs.declared.memory.Memo.{Memo}
 use Rattle.bt_model.specs.BuiltIns.{ports_of}
 use Rattle.bt_model.specs.Ports.{is_case, number_by, text_by}
 use Rattle.bt_arena.specs.declared.nodes.Node.{Node}
@@ -49,3 +50,8 @@ case_of board cases None = length cases
 abbrev pub case_selected : List (Option Value) → List Source → ℕ
 case_selected board [] = 0
 case_selected board (variable ∷ cases) = case_of board cases (source_text board variable)
+
+-- the memo that stands behind what gave no error, or the error
+abbrev pub with_memo : {E : Type 0} → Result (Unit {0}) E → Memo → Result Memo E
+with_memo (Ok _) memo = Ok memo
+with_memo (Err e) memo = Err e

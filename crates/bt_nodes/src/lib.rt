@@ -12,5 +12,5 @@ mod sources;
 pub use alone::{lone_rule, visit_alone};
 pub use ending::{end_visit, note_change};
 pub use leaves::leaf_call;
-pub use ports::{new_memo, picked};
+pub use ports::{picked, start_memo};
 pub use scripts::{goes_on, guards_answer, posts, run_script, script_holds, script_if_there};

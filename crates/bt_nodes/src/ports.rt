@@ -1,4 +1,4 @@
-ghost use Rattle.std.specs.Prelude.{◌≡◌, ℕ, ◌<◌, ◌^◌, length};
+ghost use Rattle.std.specs.Prelude.{◌≡◌, ℕ, ◌<◌, ◌^◌, OnErr, length};
 ghost use Rattle.std.specs.List.{All};
 ghost use Rattle.bt_model.specs.declared.built_ins.Range.TheVariants.{Duration, Turns as TurnRange};
 ghost use Rattle.bt_model.specs.declared.term.Term.{Term-F};
@@ -11,7 +11,7 @@ ghost use Rattle.bt_model.specs.Visit.{or_bad_port, site_of};
 ghost use Rattle.bt_arena.specs.Nodes.{IsNode};
 ghost use Rattle.bt_arena.specs.Sources.{IsSourceOf};
 ghost use Rattle.bt_arena.specs.Stands.{written};
-ghost use Rattle.bt_nodes.specs.Given.{HasPorts, case_selected, port_at, source_number};
+ghost use Rattle.bt_nodes.specs.Given.{HasPorts, case_selected, port_at, source_number, with_memo};
 
 use crate::sources::{case_with, number_of, truth_of, value_of};
 use bt_arena::{Node, Source};
@@ -100,35 +100,41 @@ fn number_at(node: &Node, place: usize, board: &Board) -> Option<i64>
     number_of(&node.ports.list()[place], board)
 }
 
-/// The memo with which a node starts, from the memo that it has; or its port that holds no number of
+/// Makes a memo the one with which its node starts, or answers the node's port that holds no number of
 /// its range.
 #[inline(always)]
-fn start_of(node: &Node, memo: Memo, board: &Board, now: u64) -> Result<Memo, PortId>
+fn start_of(node: &Node, memo: &mut Memo, board: &Board, now: u64) -> Result<(), PortId>
     requires { HasPorts (length board.now) node.now }
-    ensures { (term : Term-F Meaning) (view : View) (whole uid : ℕ) (s : State) → IsNode view (written term) whole node.now →
-        result ≡ new_memo term.kind (site_of term view uid) memo (record s { board = board.now; moment = now }) }
+    ensures starts { (term : Term-F Meaning) (view : View) (whole uid : ℕ) (s : State) → IsNode view (written term) whole node.now →
+        with_memo result memo.new ≡ new_memo term.kind (site_of term view uid) memo.old (record s { board = board.now; moment = now }) }
+    ensures err { OnErr result (memo.new ≡ memo.old) }
 {
     match node.kind {
         Kind::Sequence | Kind::Fallback | Kind::ReactiveSequence | Kind::ReactiveFallback => {
-            Ok(Memo::Index { at: 0, seen: false })
+            *memo = Memo::Index { at: 0, seen: false };
         }
-        Kind::SequenceWithMemory => Ok(Memo::Index {
-            at: index_of(memo),
-            seen: false,
-        }),
-        Kind::Parallel => parallel_start(
-            node.children,
-            number_at(node, 0, board),
-            number_at(node, 1, board),
-        ),
-        Kind::Switch(_) | Kind::IfThenElse => Ok(Memo::Chosen(None)),
-        Kind::Retry => turns_start(PortId::NumAttempts, number_at(node, 0, board)),
-        Kind::Repeat => turns_start(PortId::NumCycles, number_at(node, 0, board)),
-        Kind::Timeout => since_start(PortId::Msec, now, number_at(node, 0, board)),
-        Kind::Delay => since_start(PortId::DelayMsec, now, number_at(node, 0, board)),
-        Kind::RunOnce => Ok(Memo::Finished(None)),
-        _ => Ok(Memo::Nothing),
+        Kind::SequenceWithMemory => {
+            *memo = Memo::Index {
+                at: index_of(*memo),
+                seen: false,
+            };
+        }
+        Kind::Parallel => {
+            *memo = parallel_start(
+                node.children,
+                number_at(node, 0, board),
+                number_at(node, 1, board),
+            )?;
+        }
+        Kind::Switch(_) | Kind::IfThenElse => *memo = Memo::Chosen(None),
+        Kind::Retry => *memo = turns_start(PortId::NumAttempts, number_at(node, 0, board))?,
+        Kind::Repeat => *memo = turns_start(PortId::NumCycles, number_at(node, 0, board))?,
+        Kind::Timeout => *memo = since_start(PortId::Msec, now, number_at(node, 0, board))?,
+        Kind::Delay => *memo = since_start(PortId::DelayMsec, now, number_at(node, 0, board))?,
+        Kind::RunOnce => *memo = Memo::Finished(None),
+        _ => *memo = Memo::Nothing,
     }
+    Ok(())
 }
 
 /// What was read from the ports of the node with this uid, or its fault: the port that holds no number
@@ -146,19 +152,20 @@ fn or_bad_port<A>(uid: u32, read: Result<A, PortId>) -> Result<A, NodeFault>
     }
 }
 
-/// The memo with which the node with this uid starts, from the memo that it has; or the fault of its
-/// first numeric port that holds no number of its range. `now` is in milliseconds.
+/// Makes a memo the one with which the node with this uid starts, or answers the fault of its first
+/// numeric port that holds no number of its range, and leaves the memo. `now` is in milliseconds.
 #[inline(always)]
-pub fn new_memo(
+pub fn start_memo(
     node: &Node,
     uid: u32,
-    memo: Memo,
+    memo: &mut Memo,
     board: &Board,
     now: u64,
-) -> Result<Memo, NodeFault>
+) -> Result<(), NodeFault>
     requires { HasPorts (length board.now) node.now }
-    ensures { (term : Term-F Meaning) (view : View) (whole : ℕ) (s : State) → IsNode view (written term) whole node.now →
-        result ≡ or_bad_port uid (new_memo term.kind (site_of term view uid) memo (record s { board = board.now; moment = now })) }
+    ensures starts { (term : Term-F Meaning) (view : View) (whole : ℕ) (s : State) → IsNode view (written term) whole node.now →
+        with_memo result memo.new ≡ or_bad_port uid (new_memo term.kind (site_of term view uid) memo.old (record s { board = board.now; moment = now })) }
+    ensures err { OnErr result (memo.new ≡ memo.old) }
 {
     or_bad_port(uid, start_of(node, memo, board, now))
 }

@@ -85,7 +85,8 @@ node_rule_is ScriptCondition site st memo ms s e = cc
 node_rule_is Leaf site st memo ms s e = cc
 node_rule_is _ site st memo ms s e = refl
 
-starts_ruled : (kind : Kind) (memo : Memo) → starts kind memo ≡ true → has_rule kind ≡ true
+-- what starts has a rule over its children
+pub starts_ruled : (kind : Kind) (memo : Memo) → starts kind memo ≡ true → has_rule kind ≡ true
 starts_ruled AlwaysSuccess memo e = cc
 starts_ruled AlwaysFailure memo e = cc
 starts_ruled ScriptNode memo e = cc
@@ -538,30 +539,24 @@ module _ (keeps : (t : Term) → Keeps (meaning t) (Sound t)) (nodes : List Node
   stays1 : StaysFit nodes s0 s1
   stays1 = stays_fit nodes uid (record old { status = status.Running }) s0 s1 is1 refl refl refl refl
 
+  -- what a start from this memo comes to
+  abbrev starting : Memo → Result Memo NodeFault
+  starting m = or_bad_port uid (new_memo (kind_of term) (site_at view uid term) m (state_in nodes s0 moment))
+
+  memo_read : starting (kept_at kept1 uid).memo ≡ starting old.memo
+  memo_read = ap (λ (k : Kept). starting k.memo) here1
+
   abbrev after_start : Result Memo NodeFault → Done Answer Memory
   after_start r =
       follow (ends r (children_in term uid kept) (state_in nodes s0 moment)) (λ ms1. remembered status.Running old.memo ms1) (λ memo1 ms1 x. ruled (site_at view uid term) status.Running memo1 ms1 x)
 
-  started_as : (k : Kept) → k ≡ old → (r : Result Memo NodeFault) → r ≡ or_bad_port uid (new_memo (kind_of term) (site_at view uid term) k.memo (state_in nodes s0 moment)) →
+  -- the start reads the memo behind the status
+  started_as : (r : Result Memo NodeFault) → r ≡ starting (kept_at kept1 uid).memo →
       started_in nodes moment term view uid s0 ≡ behind (Changed uid old.status status.Running ∷ []) [] (after_start r)
-  started_as k read r is =
+  started_as r is =
       starts_with nodes moment term view uid s0
-      ∙ ap (λ (ns : List Note). behind ns [] (after_start (or_bad_port uid (new_memo (kind_of term) (site_at view uid term) old.memo (state_in nodes s0 moment))))) (changes uid old.status rests)
-      ∙ ap (λ (x : Result Memo NodeFault). behind (Changed uid old.status status.Running ∷ []) [] (after_start x))
-      (sym (is ∙ ap (λ (x : Kept). or_bad_port uid (new_memo (kind_of term) (site_at view uid term) x.memo (state_in nodes s0 moment))) read))
-
-  -- a bad port: the node has become RUNNING, and no more
-  pub start_faults : (k : Kept) → k ≡ old → (f : NodeFault) → Err f ≡ or_bad_port uid (new_memo (kind_of term) (site_at view uid term) k.memo (state_in nodes s0 moment)) →
-      Starts nodes moment term view uid (Err (stop.Fault f)) s0 s1 n0 n1
-  start_faults k read f is =
-      subst (λ (x : Done Answer Memory). IsMade nodes moment (memory_of term uid) (Err f) s0 s1 n0 n1 x) (sym (started_as k read (Err f) is))
-      (record {
-        answer = refl;
-        memory = (λ i. remembered (sym here1 i).status (sym here1 i).memo (sym children1 i)) ∙ sym (memory_out term uid kept1);
-        state = refl;
-        notes = noted;
-        drivers = refl;
-      })
+      ∙ ap (λ (ns : List Note). behind ns [] (after_start (starting old.memo))) (changes uid old.status rests)
+      ∙ ap (λ (x : Result Memo NodeFault). behind (Changed uid old.status status.Running ∷ []) [] (after_start x)) (sym (is ∙ memo_read))
 
   module _ (kept2 : List Kept) (memo : Memo) (is2 : kept2 ≡ slice_set kept1 uid (record (kept_at kept1 uid) { memo = memo })) where
     abbrev s2 : Scene
@@ -581,29 +576,41 @@ module _ (keeps : (t : Term) → Keeps (meaning t) (Sound t)) (nodes : List Node
     start_stays : StaysFit nodes s0 s2
     start_stays = λ t v u fits. stays_fit nodes uid (record (kept_at kept1 uid) { memo = memo }) s1 s2 is2 refl refl refl refl t v u (stays1 t v u fits)
 
+    -- a bad port: the node has become RUNNING, and no more
+    pub start_faults : (f : NodeFault) → Err f ≡ starting (kept_at kept1 uid).memo → memo ≡ (kept_at kept1 uid).memo →
+        Starts nodes moment term view uid (Err (stop.Fault f)) s0 s2 n0 n1
+    start_faults f is same =
+        let as_old : memo ≡ old.memo = same ∙ ap (λ (k : Kept). k.memo) here1 in
+        subst (λ (x : Done Answer Memory). IsMade nodes moment (memory_of term uid) (Err f) s0 s2 n0 n1 x) (sym (started_as (Err f) is))
+        (record {
+          answer = refl;
+          memory = (λ i. remembered status.Running (sym as_old i) (sym children2 i)) ∙ ap (λ (k : Kept). remembered k.status k.memo (children_in term uid kept2)) (sym here2) ∙ sym (memory_out term uid kept2);
+          state = refl;
+          notes = noted;
+          drivers = refl;
+        })
+
     -- the node has started, and its rule is still to come
-    pub start_made : starts (kind_of term) old.memo ≡ true → (k : Kept) → k ≡ old → Ok memo ≡ or_bad_port uid (new_memo (kind_of term) (site_at view uid term) k.memo (state_in nodes s0 moment)) → Starts nodes moment term view uid (Ok tt) s0 s2 n0 n1
-    start_made start k read is =
-        let is_old : Ok memo ≡ or_bad_port uid (new_memo (kind_of term) (site_at view uid term) old.memo (state_in nodes s0 moment)) =
-        is ∙ ap (λ (x : Kept). or_bad_port uid (new_memo (kind_of term) (site_at view uid term) x.memo (state_in nodes s0 moment))) read in (
-          record {
-            can = record {
-              fits = start_stays term view uid can.fits;
-              sound = subst (λ (x : List Memory). ChildrenSound term view uid x (state_in nodes s0 moment)) (sym children2) (can_go keeps nodes moment term view uid s0 can).sound;
-              dated = can.dated;
-            };
-            begins = λ with_rule. subst (λ (x : Kept). CanBegin (kind_of term) (number term) x.memo) (sym here2) (starts_so keeps nodes moment term view uid s0 can rests start memo is_old);
-            held = λ alone. absurd (not_both (has_rule (kind_of term)) (starts_ruled (kind_of term) old.memo start) alone);
-          },
-          record {
-            told = Changed uid old.status status.Running ∷ [];
-            made = [];
-            all = started_as k read (Ok memo) is ∙ (λ i. behind (Changed uid old.status status.Running ∷ []) [] (ruled (site_at view uid term) (sym here2 i).status (sym here2 i).memo (sym children2 i) (state_in nodes s0 moment)));
-            named = refl;
-            notes = noted;
-            drivers = refl;
-          },
-        )
+    pub start_made : starts (kind_of term) old.memo ≡ true → Ok memo ≡ starting (kept_at kept1 uid).memo → Starts nodes moment term view uid (Ok tt) s0 s2 n0 n1
+    start_made start is = (
+      record {
+        can = record {
+          fits = start_stays term view uid can.fits;
+          sound = subst (λ (x : List Memory). ChildrenSound term view uid x (state_in nodes s0 moment)) (sym children2) (can_go keeps nodes moment term view uid s0 can).sound;
+          dated = can.dated;
+        };
+        begins = λ with_rule. subst (λ (x : Kept). CanBegin (kind_of term) (number term) x.memo) (sym here2) (starts_so keeps nodes moment term view uid s0 can rests start memo (is ∙ memo_read));
+        held = λ alone. absurd (not_both (has_rule (kind_of term)) (starts_ruled (kind_of term) old.memo start) alone);
+      },
+      record {
+        told = Changed uid old.status status.Running ∷ [];
+        made = [];
+        all = started_as (Ok memo) is ∙ (λ i. behind (Changed uid old.status status.Running ∷ []) [] (ruled (site_at view uid term) (sym here2 i).status (sym here2 i).memo (sym children2 i) (state_in nodes s0 moment)));
+        named = refl;
+        notes = noted;
+        drivers = refl;
+      },
+    )
       where
         not_both : (b : Bool) → b ≡ true → b ≡ false → ⊥
         not_both b holds fails = cc
@@ -618,7 +625,7 @@ starts_stopped nodes moment term view uid s n0 n1 r is same =
     (subst (λ (n : List Note). Starts nodes moment term view uid (Err stop.NoMemory) s s n0 n) (sym same) (none_told nodes s n0 (started_in nodes moment term view uid s)))
 
 -- a status leaves the marks
-pub stays_running : (nodes : List Node) (uid : ℕ) (kept kept1 : List Kept) (board : List (Option Value)) (facts : List ℤ) (drivers : List DriverState) → kept1 ≡ slice_set kept uid (record (kept_at kept uid) { status = status.Running }) →
+stays_running : (nodes : List Node) (uid : ℕ) (kept kept1 : List Kept) (board : List (Option Value)) (facts : List ℤ) (drivers : List DriverState) → kept1 ≡ slice_set kept uid (record (kept_at kept uid) { status = status.Running }) →
     StaysFit nodes (scene kept board facts drivers) (scene kept1 board facts drivers)
 stays_running nodes uid kept kept1 board facts drivers is = stays_fit nodes uid (record (kept_at kept uid) { status = status.Running }) (scene kept board facts drivers) (scene kept1 board facts drivers) is refl refl refl refl
 

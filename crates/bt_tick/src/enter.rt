@@ -1,4 +1,5 @@
 ghost use Rattle.std.specs.Prelude.{◌≡◌, ◌≢◌, ◌≤◌, ◌<◌, ℕ, ℤ, List, IfOk, length, true, false};
+ghost use Rattle.bt_model.specs.declared.note.Note.{Note as NoteOf};
 ghost use Rattle.bt_model.specs.declared.status.Status.TheVariants.{Running};
 ghost use Rattle.bt_model.specs.declared.term.Term.{Term};
 ghost use Rattle.bt_model.specs.Drivers.{DriverState};
@@ -10,16 +11,16 @@ ghost use Rattle.bt_arena.specs.Nodes.{kept_at, node_at};
 ghost use Rattle.bt_arena.specs.Scenes.{scene};
 ghost use Rattle.bt_arena.specs.Stands.{Beside};
 ghost use Rattle.bt_tick.specs.Machine as turn;
-ghost use Rattle.bt_tick.specs.Turns.{CanFollow, CanVisit, Goes, Starts, kind_of, ruled_in, turn_after, turn_work, turned, visit_in};
+ghost use Rattle.bt_tick.specs.Turns.{CanFollow, CanVisit, Goes, Starts, has_rule, kind_of, ruled_in, turn_after, turn_work, turned, visit_in};
 
 use crate::machine::Entered;
 use crate::moves::has_rule;
-use bt_arena::{Kept, Node, Notes, kept_by, node, set_memo, set_status};
+use bt_arena::{Kept, Node, Notes, kept_by, node, set_status};
 use bt_board::Board;
 use bt_driver::{Drivers, FactTable};
 use bt_halting::halt_node;
 use bt_model::{Answer, Kind, Memo, NodeFault, Note, Status};
-use bt_nodes::{end_visit, goes_on, guards_answer, new_memo, picked, visit_alone};
+use bt_nodes::{end_visit, goes_on, guards_answer, picked, start_memo, visit_alone};
 use bt_script::Stop;
 use std::alloc::Global;
 
@@ -37,6 +38,30 @@ fn starts(kind: Kind, memo: Memo) -> bool
         | Kind::AlwaysFailure => false,
         Kind::RunOnce => !matches!(memo, Memo::Finished(Some(_))),
         _ => true,
+    }
+}
+
+/// Begins the rule of the node with this uid, which is one over its children, with what is picked for
+/// the visit.
+#[inline(always)]
+fn begin_rule(
+    nodes: &[Node],
+    kept: &[Kept],
+    board: &Board,
+    uid: u32,
+) -> Result<Entered, Stop<NodeFault>>
+    requires can { (moment : ℕ) × (term : Term) × (view : View) × (facts : List ℤ) × (drivers : List DriverState) × CanFollow nodes.now moment term view uid (scene kept.now board.now facts drivers) }
+    requires ruled { has_rule (node_at nodes.now uid).kind ≡ true }
+    ensures goes { (moment : ℕ) (term : Term) (view : View) (facts : List ℤ) (drivers : List DriverState) (notes : List NoteOf) → CanFollow nodes.now moment term view uid (scene kept.now board.now facts drivers) →
+        Goes nodes.now moment term view uid (turned uid kept.now result) (scene kept.now board.now facts drivers) (scene kept.now board.now facts drivers) notes notes
+        (ruled_in nodes.now moment term view uid (scene kept.now board.now facts drivers)) }
+    ensures work { IfOk result (λ entered. turn_work nodes.now (turn_after uid kept.now entered) < turn_work nodes.now (turn.Enter uid)) }
+{
+    let here = node(nodes, uid);
+    let memo = kept_by(kept, uid).memo;
+    match picked(here, uid, memo, board) {
+        Ok(picked) => Ok(Entered::Begins(picked)),
+        Err(fault) => Err(Stop::Fault(fault)),
     }
 }
 
@@ -67,11 +92,7 @@ fn follow_rule<D: Drivers>(
         let answer = visit_alone(alloc, nodes, kept, board, facts, drivers, uid, now, notes)?;
         return Ok(Entered::Answers(answer));
     }
-    let memo = kept_by(kept, uid).memo;
-    match picked(here, uid, memo, board) {
-        Ok(picked) => Ok(Entered::Begins(picked)),
-        Err(fault) => Err(Stop::Fault(fault)),
-    }
+    begin_rule(nodes, kept, board, uid)
 }
 
 /// Starts the node with this uid, which is not RUNNING: it becomes RUNNING, which is noted, with a new
@@ -95,18 +116,16 @@ fn start(
     ensures reserve { notes.old.reserve ≤ notes.new.reserve }
     ensures full { notes.new.full ≡ notes.old.full }
 {
-    let old = kept_by(kept, uid);
+    let old = kept_by(kept, uid).status;
     notes.push(Note::Changed {
         uid,
-        old: old.status,
+        old,
         new: Status::Running,
     })?;
     set_status(kept, uid, Status::Running);
-    match new_memo(node(nodes, uid), uid, old.memo, board, now) {
-        Ok(memo) => {
-            set_memo(kept, uid, memo);
-            Ok(())
-        }
+    let memo = &mut kept[uid as usize].memo;
+    match start_memo(node(nodes, uid), uid, memo, board, now) {
+        Ok(()) => Ok(()),
         Err(fault) => Err(Stop::Fault(fault)),
     }
 }
@@ -143,7 +162,8 @@ fn begin<D: Drivers>(
         return follow_rule(alloc, nodes, kept, board, facts, drivers, uid, now, notes);
     }
     start(nodes, kept, board, uid, now, notes)?;
-    follow_rule(alloc, nodes, kept, board, facts, drivers, uid, now, notes)
+    // What starts has a rule over its children.
+    begin_rule(nodes, kept, board, uid)
 }
 
 /// Goes on with the node with this uid, which is RUNNING, or halts it where its guard says so.

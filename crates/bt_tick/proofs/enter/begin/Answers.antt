@@ -1,9 +1,11 @@
-use Rattle.std.proofs.Common.{◌≡◌, true, false, Ok, Err, arith, sym, ◌∙◌}
+use Rattle.std.proofs.Common.{◌≡◌, true, false, Ok, Err, arith, sym, ap, ◌∙◌}
+use Rattle.bt_arena.specs.declared.nodes.Node.{Node}
 use Rattle.bt_arena.specs.Scenes.{scene, state_in}
 use Rattle.bt_laws.proofs.Keeping.{term_keeps}
 use Rattle.bt_nodes.proofs.Needed.{guards_need}
+use Rattle.bt_tick.specs.Turns.{has_rule}
 use Rattle.bt_tick.proofs.Bounds.{cost_positive}
-use Rattle.bt_tick.proofs.Entering.{answers_so, as_node, begin_ends, begin_goes, begins_so_far, can_keep, ended_goes, goes_after, keeps_so, node_here, one_within, start_stops, starts_here, still_can}
+use Rattle.bt_tick.proofs.Entering.{answers_so, as_node, begin_ends, begin_goes, begins_so_far, can_keep, ended_goes, goes_after, keeps_so, node_here, one_within, start_stops, starts_here, starts_ruled, still_can}
 use Rattle.bt_tick.proofs.Moving.{as_many_kept, node_there, turned_with}
 use Rattle.bt_tick.proofs.enter.begin.Goals as goal
 
@@ -79,10 +81,16 @@ returns-in_err-start-clause-goes g c = λ term view can.
     (begins_so_far _ _ term view _ _ _ _ _ _ c.args.notes.now.list c.in_ok-answer.ensures.slots c.in_ok-answer.field-0 c.in_default.is start) _ _ _
     (start_stops _ _ term view _ _ _ _ _ _ (c.in_err-start.ensures.stays _ _) c.in_err-start.ensures.beside (c.in_err-start.ensures.starts term view _ _ still)))
 
-pub follow_rule-requires-2 : goal.follow_rule-requires-2
-follow_rule-requires-2 g c =
+pub begin_rule-requires-clause-can : goal.begin_rule-requires-clause-can
+begin_rule-requires-clause-can g c =
     let (term, view, can) = c.requires.can in
-    record { can = (term, view, (c.in_ok-start.ensures.starts term view c.args.facts.now (g.D.Drivers.states c.args.drivers.now) (still_can term_keeps _ _ term view _ _ _ _ _ _ c.in_ok-answer.ensures.slots can)).0) }
+    let still = still_can term_keeps _ _ term view _ _ _ _ _ _ c.in_ok-answer.ensures.slots can in
+    (c.args.now, term, view, c.args.facts.now, g.D.Drivers.states c.args.drivers.now, (c.in_ok-start.ensures.starts term view c.args.facts.now (g.D.Drivers.states c.args.drivers.now) still).0)
+
+pub begin_rule-requires-clause-ruled : goal.begin_rule-requires-clause-ruled
+begin_rule-requires-clause-ruled g c =
+    let b : c.starts.result ≡ true = cc in
+    ap (λ (n : Node). has_rule n.kind) (sym c.node-here.ensures) ∙ starts_ruled c.node-here.result.now.kind c.kept_by.result.memo (sym c.starts.ensures ∙ b)
 
 pub returns-clause-goes : goal.returns-clause-goes
 returns-clause-goes g c = λ term view can.
@@ -92,4 +100,4 @@ returns-clause-goes g c = λ term view can.
     let started = c.in_ok-start.ensures.starts term view c.args.facts.now (g.D.Drivers.states c.args.drivers.now) still in
     begin_goes _ _ term view _ _ _ _ _ _ c.args.notes.now.list c.in_ok-answer.ensures.slots c.requires.rests c.in_ok-answer.field-0 (c.in_ok-answer.ensures.settles (as_node term) view (state_in c.args.nodes.now (scene c.args.kept.now c.args.board.now c.args.facts.now (g.D.Drivers.states c.args.drivers.now)) c.args.now) (node_here term view _ _ _ can.fits c.node-here.result.now c.node-here.ensures).guards) _
     (begins_so_far _ _ term view _ _ _ _ _ _ c.args.notes.now.list c.in_ok-answer.ensures.slots c.in_ok-answer.field-0 c.in_default.is start) _ _ _
-    (goes_after _ _ term view _ _ _ _ _ _ _ _ _ _ started.1 (one_within term _ _ _ c.in_ok-start.ensures.beside) (c.in_ok-start.ensures.stays _ _) (c.follow_rule-2.ensures.goes term view started.0))
+    (goes_after _ _ term view _ _ _ _ _ _ _ _ _ _ started.1 (one_within term _ _ _ c.in_ok-start.ensures.beside) (c.in_ok-start.ensures.stays _ _) (c.begin_rule.ensures.goes c.args.now term view c.args.facts.now (g.D.Drivers.states c.args.drivers.now) _ started.0))

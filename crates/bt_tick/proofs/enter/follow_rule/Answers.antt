@@ -1,11 +1,9 @@
-use Rattle.std.proofs.Common.{◌≡◌, true, false, Ok, Err, arith, sym, ap, ◌∙◌}
+use Rattle.std.proofs.Common.{◌≡◌, false, Ok, Err, ap, ◌∙◌}
 use Rattle.bt_model.specs.BuiltIns.{class_of}
-use Rattle.bt_arena.specs.Scenes.{scene, state_in}
-use Rattle.bt_nodes.proofs.Needed.{has_ports}
 use Rattle.bt_tick.specs.Turns.{kind_of}
 use Rattle.bt_tick.proofs.Bounds.{cost_positive}
-use Rattle.bt_tick.proofs.Entering.{alone_goes, alone_here, begin_less, class_alone, goes_fault, goes_follow, node_here, phase_here}
-use Rattle.bt_tick.proofs.Moving.{as_many_kept, kind_is, node_there, turned_with}
+use Rattle.bt_tick.proofs.Entering.{alone_goes, alone_here, class_alone, phase_here}
+use Rattle.bt_tick.proofs.Moving.{kind_is, node_there, turned_with}
 use Rattle.bt_tick.proofs.enter.follow_rule.Goals as goal
 
 pub node-here-requires : goal.node-here-requires
@@ -35,31 +33,10 @@ returns-then-not-has_rule-clause-goes g c = λ term view follow.
 pub returns-then-not-has_rule-clause-work : goal.returns-then-not-has_rule-clause-work
 returns-then-not-has_rule-clause-work g c = cost_positive _
 
-pub kept_by-memo-requires : goal.kept_by-memo-requires
-kept_by-memo-requires g c =
+pub begin_rule-requires-clause-can : goal.begin_rule-requires-clause-can
+begin_rule-requires-clause-can g c =
     let (term, view, follow) = c.requires.can in
-    omega (arith, node_there follow.can.fits, as_many_kept follow.can.fits)
+    (c.args.now, term, view, c.args.facts.now, g.D.Drivers.states c.args.drivers.now, follow)
 
-pub picked-requires : goal.picked-requires
-picked-requires g c =
-    let (term, view, follow) = c.requires.can in
-    has_ports _ view (sym follow.can.fits.slots) _ _ _ (node_here term view _ _ _ follow.can.fits c.node-here.result.now c.node-here.ensures)
-
-pub returns-in-Ok-clause-goes : goal.returns-in-Ok-clause-goes
-returns-in-Ok-clause-goes g c = λ term view follow.
-    let b : c.has_rule.result ≡ true = cc in
-    goes_follow follow (alone_here follow c.node-here.result.now c.node-here.ensures c.has_rule.result c.has_rule.ensures ∙ b) c.args.notes.now.list c.kept_by-memo.result c.kept_by-memo.ensures c.in-Ok.picked
-    (c.in-Ok.ensures _ view _ (state_in c.args.nodes.now (scene c.args.kept.now c.args.board.now c.args.facts.now (g.D.Drivers.states c.args.drivers.now)) c.args.now) (node_here term view _ _ _ follow.can.fits c.node-here.result.now c.node-here.ensures))
-
-pub returns-in-Ok-clause-work : goal.returns-in-Ok-clause-work
-returns-in-Ok-clause-work g c =
-    let (term, view, follow) = c.requires.can in
-    let b : c.has_rule.result ≡ true = cc in
-    begin_less follow (alone_here follow c.node-here.result.now c.node-here.ensures c.has_rule.result c.has_rule.ensures ∙ b) c.args.notes.now.list c.kept_by-memo.result c.kept_by-memo.ensures c.in-Ok.picked
-    (c.in-Ok.ensures _ view _ (state_in c.args.nodes.now (scene c.args.kept.now c.args.board.now c.args.facts.now (g.D.Drivers.states c.args.drivers.now)) c.args.now) (node_here term view _ _ _ follow.can.fits c.node-here.result.now c.node-here.ensures))
-
-pub returns-in-Err-clause-goes : goal.returns-in-Err-clause-goes
-returns-in-Err-clause-goes g c = λ term view follow.
-    let b : c.has_rule.result ≡ true = cc in
-    goes_fault follow (alone_here follow c.node-here.result.now c.node-here.ensures c.has_rule.result c.has_rule.ensures ∙ b) c.args.notes.now.list c.kept_by-memo.result c.kept_by-memo.ensures c.in-Err.fault
-    (c.in-Err.ensures _ view _ (state_in c.args.nodes.now (scene c.args.kept.now c.args.board.now c.args.facts.now (g.D.Drivers.states c.args.drivers.now)) c.args.now) (node_here term view _ _ _ follow.can.fits c.node-here.result.now c.node-here.ensures))
+pub returns-clause-goes : goal.returns-clause-goes
+returns-clause-goes g c = λ term view follow. c.begin_rule.ensures.goes c.args.now term view c.args.facts.now (g.D.Drivers.states c.args.drivers.now) c.args.notes.now.list follow
