@@ -111,6 +111,8 @@ pub fn halt_node<D: Drivers>(
 }
 
 /// Resets those children of the node with this uid that a span has, in order.
+// Most resets are of all children, one or two, and cost less than a call.
+#[inline(always)]
 #[cycle(resetting)]
 pub fn reset_children<D: Drivers>(
     alloc: Global,

@@ -1,7 +1,6 @@
 -- The turns of a tick: a child is entered, its answer is heard, and the root has answered.
-use Rattle.std.proofs.Common.{◌≡◌, ℕ, ◌+◌, ◌<◌, List, [], ◌∷◌, ◌++◌, length, refl, sym, ap, subst, ◌∙◌, arith, Option, Some, None, Result, Ok, Err}
+use Rattle.std.proofs.Common.{◌≡◌, ℕ, ◌+◌, List, [], ◌∷◌, ◌++◌, refl, sym, ap, subst, ◌∙◌, arith, None, Result, Ok, Err}
 use Rattle.std.proofs.lemmas.List.{same_from_push}
-use Rattle.std.specs.Prelude.{IsSome}
 use Rattle.bt_script.specs.declared.stop.Stop.{Stop}
 use Rattle.bt_script.specs.declared.stop.Stop.TheVariants as stop
 use Rattle.bt_model.specs.declared.fault.NodeFault.{NodeFault}

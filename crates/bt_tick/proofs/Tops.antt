@@ -1,13 +1,16 @@
 -- The frame on top of a stack, and those below it.
-use Rattle.std.proofs.Common.{◌≡◌, ℕ, ◌+◌, ◌-◌, ◌<◌, List, [], ◌∷◌, ◌++◌, length, take, drop, refl, sym, ap, subst, ◌∙◌, arith}
+use Rattle.std.proofs.Common.{◌≡◌, ℕ, ◌+◌, ◌-◌, ◌<◌, ◌≤◌, List, [], ◌∷◌, ◌++◌, length, take, drop, refl, sym, ap, subst, ◌∙◌, arith, Result, Ok, Err}
 use Rattle.std.proofs.Math.Seq.{get_or-append_seam, set-append_seam, take-append_seam}
 use Rattle.std.proofs.lemmas.List.{length-append}
 use Rattle.std.proofs.lemmas.List.Sums.{sum_by-append}
 use Rattle.std.specs.List.{refill}
-use Rattle.std.specs.Prelude.{slice_index_or, slice_set}
+use Rattle.std.specs.Prelude.{IsErrAnd, slice_index_or, slice_set}
+use Rattle.bt_script.specs.declared.stop.Stop.{Stop}
+use Rattle.bt_model.specs.declared.fault.NodeFault.{NodeFault}
 use Rattle.bt_model.specs.declared.memory.Memo.TheVariants.{Nothing}
 use Rattle.bt_model.specs.declared.memory.Memory.{Memory}
 use Rattle.bt_model.specs.declared.moves.Heard.{Heard}
+use Rattle.bt_model.specs.declared.moves.Heard.TheVariants.{Answered}
 use Rattle.bt_model.specs.declared.note.Note.{Note}
 use Rattle.bt_model.specs.declared.status.Answer.{Answer}
 use Rattle.bt_model.specs.declared.term.Term.{Term}
@@ -17,12 +20,16 @@ use Rattle.bt_model.specs.Visit.{meaning}
 use Rattle.bt_laws.proofs.Children.{Keeps}
 use Rattle.bt_arena.specs.Nodes.{node_at}
 use Rattle.bt_arena.specs.declared.nodes.Node.{Node}
+use Rattle.bt_arena.specs.Ends.{Meets, StaysFit}
 use Rattle.bt_arena.specs.Scenes.{Scene}
+use Rattle.bt_arena.specs.Stands.{memory_of}
+use Rattle.bt_nodes.proofs.Following.{stops_with}
 use Rattle.bt_arena.specs.declared.frame.Frame.{Frame}
 use Rattle.bt_tick.specs.declared.machine.Next.{Next}
 use Rattle.bt_tick.specs.declared.machine.Next.TheVariants as next
+use Rattle.bt_tick.specs.declared.machine.Reached.{Reached}
 use Rattle.bt_tick.specs.Machine as turn
-use Rattle.bt_tick.specs.Turns.{EntersChild, Going, GoingOn, OnStack, below_of, cost, frame_work, next_work, stack_work, step_of, turn_of, turn_work}
+use Rattle.bt_tick.specs.Turns.{EntersChild, Going, GoingOn, OnStack, Reaches, ReachesTo, below_of, cost, frame_work, next_work, stack_work, step_of, turn_of, turn_work}
 use Rattle.bt_tick.proofs.Stacks.{entered}
 
 abbrev pub no_frame : Frame
@@ -69,40 +76,55 @@ top_taken stack below frame is =
     ∙ ap (λ (k : ℕ). take k (below ++ frame ∷ [])) (top_place stack below frame (length stack) refl is)
     ∙ take-append_seam below (frame ∷ [])
 
-module _ {nodes : List Node} {moment : ℕ} {root : Term} {first : ℕ} {nx : Next} {stack : List Frame} {s0 s : Scene} {n0 n : List Note} {whole : Done Answer Memory} where
-  -- what comes next is this
-  comes_as : {b : Next} → nx ≡ b → GoingOn nodes moment root first nx stack s0 s n0 n whole → OnStack b stack (λ turn below. Going nodes moment root first turn below s0 s n0 n whole)
-  comes_as {b} is g = subst (λ (x : Next). OnStack x stack (λ turn below. Going nodes moment root first turn below s0 s n0 n whole)) is g.came
-
-  -- a node is visited
-  pub entering : {u : ℕ} → nx ≡ next.Enter u → GoingOn nodes moment root first nx stack s0 s n0 n whole → Going nodes moment root first (turn.Enter u) stack s0 s n0 n whole
-  entering is g = comes_as is g
-
+module _ {nodes : List Node} {moment : ℕ} {root : Term} {first : ℕ} {stack : List Frame} {s0 s : Scene} {n0 n : List Note} {whole : Done Answer Memory} where
   -- the node goes on whose frame is on top
-  pub going_on : (items : List Frame) (many : ℕ) {heard : Heard} → items ≡ stack → many ≡ length stack → nx ≡ next.GoOn heard → GoingOn nodes moment root first nx stack s0 s n0 n whole →
+  pub going_on : (items : List Frame) (many : ℕ) {heard : Heard} → items ≡ stack → many ≡ length stack → GoingOn nodes moment root first (next.GoOn heard) stack s0 s n0 n whole →
       (below : List Frame) × (stack ≡ below ++ slice_index_or items (many - 1) no_frame ∷ []) × Going nodes moment root first (turn.GoOn (step_of (slice_index_or items (many - 1) no_frame) heard)) below s0 s n0 n whole
-  going_on items many {heard} same all is g =
-      let (below, frame, stands, going) = comes_as is g in
+  going_on items many {heard} same all g =
+      let (below, frame, stands, going) = g.came in
       let top : frame ≡ slice_index_or items (many - 1) no_frame = sym (top_is stack items below frame many same all stands) in
       (below, subst (λ (f : Frame). stack ≡ below ++ f ∷ []) top stands, subst (λ (f : Frame). Going nodes moment root first (turn.GoOn (step_of f heard)) below s0 s n0 n whole) top going)
 
-  -- the node has answered whose frame is on top
-  pub gone_back : {a : Answer} → nx ≡ next.Back a → GoingOn nodes moment root first nx stack s0 s n0 n whole →
-      (below : List Frame) × (take (length stack - 1) stack ≡ below) × Going nodes moment root first (turn.Back a) below s0 s n0 n whole
-  gone_back is g =
-      let (below, frame, stands, going) = comes_as is g in
-      (below, top_taken stack below frame stands, going)
+  -- .. so there is one
+  pub one_on_top : {heard : Heard} → GoingOn nodes moment root first (next.GoOn heard) stack s0 s n0 n whole → 1 ≤ length stack
+  one_on_top g =
+      let (below, frame, stands, going) = g.came in
+      omega (arith, ap length stands, length-append below (frame ∷ []))
 
-  -- a node went on whose frame is on top
-  pub went_on : (keeps : (t : Term) → Keeps (meaning t) (Sound t)) (below : List Frame) (frame : Frame) → EntersChild frame nx → stack ≡ below ++ frame ∷ [] →
-      Going nodes moment root first (turn_of frame nx) below s0 s n0 n whole → GoingOn nodes moment root first nx stack s0 s n0 n whole
-  went_on keeps below frame child is g = record { came = by nx child g } where
-    by : (x : Next) → EntersChild frame x → Going nodes moment root first (turn_of frame x) below s0 s n0 n whole → OnStack x stack (λ turn below. Going nodes moment root first turn below s0 s n0 n whole)
-    by (next.Enter uid) enters going =
-        subst (λ (u : ℕ). Going nodes moment root first (turn.Enter u) stack s0 s n0 n whole) enters
-        (subst (λ (fs : List Frame). Going nodes moment root first (turn.Enter frame.child) fs s0 s n0 n whole) (sym is) (entered keeps nodes moment going))
-    by (next.GoOn heard) enters going = (below, frame, is, going)
-    by (next.Back a) enters going = (below, frame, is, going)
+  module _ {nx : Next} where
+    -- what comes next is this
+    pub comes_as : {b : Next} → nx ≡ b → GoingOn nodes moment root first nx stack s0 s n0 n whole → GoingOn nodes moment root first b stack s0 s n0 n whole
+    comes_as is g = subst (λ (x : Next). GoingOn nodes moment root first x stack s0 s n0 n whole) is g
+
+    -- the node has answered whose frame is on top
+    pub gone_back : {a : Answer} → nx ≡ next.Back a → GoingOn nodes moment root first nx stack s0 s n0 n whole →
+        (below : List Frame) × (take (length stack - 1) stack ≡ below) × Going nodes moment root first (turn.Back a) below s0 s n0 n whole
+    gone_back is g =
+        let (below, frame, stands, going) = (comes_as is g).came in
+        (below, top_taken stack below frame stands, going)
+
+    -- a node went on whose frame is on top
+    pub went_on : (keeps : (t : Term) → Keeps (meaning t) (Sound t)) (below : List Frame) (frame : Frame) → EntersChild frame nx → stack ≡ below ++ frame ∷ [] →
+        Going nodes moment root first (turn_of frame nx) below s0 s n0 n whole → GoingOn nodes moment root first nx stack s0 s n0 n whole
+    went_on keeps below frame child is g = record { came = by nx child g } where
+      by : (x : Next) → EntersChild frame x → Going nodes moment root first (turn_of frame x) below s0 s n0 n whole → OnStack x stack (λ turn below. Going nodes moment root first turn below s0 s n0 n whole)
+      by (next.Enter uid) enters going =
+          subst (λ (u : ℕ). Going nodes moment root first (turn.Enter u) stack s0 s n0 n whole) enters
+          (subst (λ (fs : List Frame). Going nodes moment root first (turn.Enter frame.child) fs s0 s n0 n whole) (sym is) (entered keeps nodes moment going))
+      by (next.GoOn heard) enters going = (below, frame, is, going)
+      by (next.Back a) enters going = (below, frame, is, going)
+
+-- a turn stopped with this, and so the visit of the root did
+pub reached_with : (nodes : List Node) (moment : ℕ) (root : Term) (first : ℕ) (r : Result Reached (Stop NodeFault)) (e : Stop NodeFault) (stack : List Frame) (s0 s s1 : Scene) (n0 n1 : List Note) (whole : Done Answer Memory) →
+    IsErrAnd r (λ x. x ≡ e) → StaysFit nodes s s1 → Meets {A = Answer} nodes moment (memory_of root first) (Err e) s0 s1 n0 n1 whole → Reaches nodes moment root first r stack s0 s s1 n0 n1 whole
+reached_with nodes moment root first r e stack s0 s s1 n0 n1 whole is stays met =
+    subst (λ (x : Result Reached (Stop NodeFault)). Reaches nodes moment root first x stack s0 s s1 n0 n1 whole) (sym (stops_with r e is)) (record { ends = met; stays = stays })
+
+-- the visit of the root reached this
+pub reached_as : {nodes : List Node} {moment : ℕ} {root : Term} {first : ℕ} {r b : Reached} {stack : List Frame} {s0 s s1 : Scene} {n0 n1 : List Note} {whole : Done Answer Memory} →
+    r ≡ b → Reaches nodes moment root first (Ok r) stack s0 s s1 n0 n1 whole → ReachesTo nodes moment root first (Ok b) stack s0 s1 n0 n1 whole
+reached_as {nodes} {moment} {root} {first} {stack = stack} {s0 = s0} {s1 = s1} {n0 = n0} {n1 = n1} {whole = whole} is k =
+    subst (λ (x : Reached). ReachesTo nodes moment root first (Ok x) stack s0 s1 n0 n1 whole) is k.ends
 
 -- ---- Work
 
@@ -113,11 +135,20 @@ going_work nodes heard stack below frame is =
     ap (λ (f : Frame). turn_work nodes (turn.GoOn (step_of f heard)) + stack_work nodes (below_of stack)) (top_is stack stack below frame (length stack) refl refl is)
     ∙ ap (λ (fs : List Frame). turn_work nodes (turn.GoOn (step_of frame heard)) + stack_work nodes fs) (top_taken stack below frame is)
 
+-- .. is less than that of all frames where it hears its child
+pub less_heard : (nodes : List Node) (heard : Heard) (stack below : List Frame) (frame : Frame) (a : Answer) → stack ≡ below ++ frame ∷ [] → heard ≡ Answered frame.place a →
+    next_work nodes (next.GoOn heard) stack < stack_work nodes stack
+less_heard nodes heard stack below frame a is hears =
+    let all = going_work nodes heard stack below frame is in
+    let step : turn_work nodes (turn.GoOn (step_of frame heard)) ≡ turn_work nodes (turn.GoOn (step_of frame (Answered frame.place a))) = ap (λ (h : Heard). turn_work nodes (turn.GoOn (step_of frame h))) hears in
+    let stacked : stack_work nodes stack ≡ stack_work nodes below + (0 + frame_work nodes frame) = ap (λ (fs : List Frame). stack_work nodes fs) is ∙ sum_by-append (frame_work nodes) below (frame ∷ []) in
+    omega (arith, all, step, stacked)
+
 -- .. is less behind its turn
-pub less_on_top : (nodes : List Node) (nx nx1 : Next) (heard : Heard) (stack stack1 below : List Frame) (frame new : Frame) → nx ≡ next.GoOn heard → stack ≡ below ++ frame ∷ [] → stack1 ≡ below ++ new ∷ [] →
-    EntersChild new nx1 → turn_work nodes (turn_of new nx1) < turn_work nodes (turn.GoOn (step_of frame heard)) → next_work nodes nx1 stack1 < next_work nodes nx stack
-less_on_top nodes nx nx1 heard stack stack1 below frame new now is is1 enters less =
-    subst (λ (x : Next). next_work nodes nx1 stack1 < next_work nodes x stack) (sym now) (by nx1 enters less)
+pub less_on_top : (nodes : List Node) (nx b : Next) (heard : Heard) (stack stack1 below : List Frame) (frame new : Frame) → nx ≡ b → stack ≡ below ++ frame ∷ [] → stack1 ≡ below ++ new ∷ [] →
+    EntersChild new nx → turn_work nodes (turn_of new nx) < turn_work nodes (turn.GoOn (step_of frame heard)) → next_work nodes b stack1 < next_work nodes (next.GoOn heard) stack
+less_on_top nodes nx b heard stack stack1 below frame new comes is is1 enters less =
+    subst (λ (x : Next). next_work nodes x stack1 < next_work nodes (next.GoOn heard) stack) comes (by nx enters less)
   where
     all : next_work nodes (next.GoOn heard) stack ≡ turn_work nodes (turn.GoOn (step_of frame heard)) + stack_work nodes below
     all = going_work nodes heard stack below frame is

@@ -33,6 +33,8 @@ use Rattle.bt_tick.specs.declared.machine.Entered.{Entered}
 use Rattle.bt_tick.specs.declared.machine.Next.{Next}
 use Rattle.bt_tick.specs.declared.machine.Next.TheVariants as next
 use Rattle.bt_tick.specs.declared.machine.Entered.TheVariants.{Begins, Answers}
+use Rattle.bt_tick.specs.declared.machine.Reached.{Reached}
+use Rattle.bt_tick.specs.declared.machine.Reached.TheVariants as reached
 use Rattle.bt_tick.specs.Machine.{Step}
 use Rattle.bt_tick.specs.Machine.{Turn}
 use Rattle.bt_tick.specs.Machine as turn
@@ -300,6 +302,17 @@ OnStack (next.Back a) stack P = (below : List Frame) × (frame : Frame) × (stac
 pub record GoingOn (nodes : List Node) (moment : ℕ) (root : Term) (first : ℕ) (next : Next) (stack : List Frame) (before after : Scene) (old new : List Note) (whole : Done Answer Memory) : Type 0 where
   pub came : OnStack next stack (λ turn below. Going nodes moment root first turn below before after old new whole)
 
+-- it came to the visit of a child, or it ended
+abbrev pub ReachesTo : List Node → ℕ → Term → ℕ → Result Reached (Stop NodeFault) → List Frame → Scene → Scene → List Note → List Note → Done Answer Memory → Type 0
+ReachesTo nodes moment root first (Ok (reached.Child uid)) stack before after old new whole = GoingOn nodes moment root first (next.Enter uid) stack before after old new whole
+ReachesTo nodes moment root first (Ok (reached.End a)) stack before after old new whole = Meets nodes moment (memory_of root first) (Ok a) before after old new whole
+ReachesTo nodes moment root first (Err e) stack before after old new whole = Meets {A = Answer} nodes moment (memory_of root first) (Err e) before after old new whole
+
+-- .. and what fitted where it went on fits
+pub record Reaches (nodes : List Node) (moment : ℕ) (root : Term) (first : ℕ) (result : Result Reached (Stop NodeFault)) (stack : List Frame) (before here after : Scene) (old new : List Note) (whole : Done Answer Memory) : Type 0 where
+  pub ends : ReachesTo nodes moment root first result stack before after old new whole
+  pub stays : StaysFit nodes here after
+
 -- ---- Work
 
 -- a bound on the turns of a visit of so many nodes
@@ -335,3 +348,7 @@ abbrev pub next_work : List Node → Next → List Frame → ℕ
 next_work nodes (next.Enter uid) stack = turn_work nodes (turn.Enter uid) + stack_work nodes stack
 next_work nodes (next.GoOn heard) stack = turn_work nodes (turn.GoOn (step_of (top_of stack) heard)) + stack_work nodes (below_of stack)
 next_work nodes (next.Back a) stack = stack_work nodes (below_of stack)
+
+abbrev pub reached_work : List Node → Reached → List Frame → ℕ
+reached_work nodes (reached.Child uid) stack = next_work nodes (next.Enter uid) stack
+reached_work nodes (reached.End a) stack = 0

@@ -20,3 +20,12 @@ pub enum Entered {
     /// It has answered.
     Answers(Answer),
 }
+
+/// What a visit has reached that went on up the stack.
+#[derive(Clone, Copy, Debug)]
+pub enum Reached {
+    /// The child with this uid, which is visited: the node on top of the stack waits for it.
+    Child(u32),
+    /// The end of the visit, with the answer of the root.
+    End(Answer),
+}

@@ -67,6 +67,8 @@ fn reset_before<D: Drivers>(
 {
     match span {
         Span::None => Ok(()),
+        // Most resets are of all children, and with a constant span none of these is tested.
+        Span::All => reset_children(alloc, nodes, kept, board, drivers, uid, Span::All, notes),
         _ => reset_children(alloc, nodes, kept, board, drivers, uid, span, notes),
     }
 }

@@ -1,19 +1,24 @@
-ghost use Rattle.std.specs.Prelude.{◌≡◌, ◌+◌, ◌≤◌, ◌<◌, ◌^◌, List, [], ◌∷◌, ◌++◌, Some, None, OnOk, length};
+ghost use Rattle.std.specs.Prelude.{◌≡◌, ◌+◌, ◌≤◌, ◌<◌, ◌^◌, ℤ, List, [], ◌∷◌, ◌++◌, Some, None, IfOk, OnOk, length};
 ghost use Rattle.std.specs.List.{AllByRecursion};
+ghost use Rattle.bt_model.specs.declared.memory.Memory.{Memory};
 ghost use Rattle.bt_model.specs.declared.moves.Heard.{Heard as HeardOf};
+ghost use Rattle.bt_model.specs.declared.note.Note.{Note};
+ghost use Rattle.bt_model.specs.declared.status.Answer.{Answer as AnswerGiven};
 ghost use Rattle.bt_model.specs.declared.term.Term.{Term};
+ghost use Rattle.bt_model.specs.Done.{Done};
 ghost use Rattle.bt_model.specs.Sites.{View};
 ghost use Rattle.bt_model.specs.Terms.{depth_of, work_of};
 ghost use Rattle.bt_model.specs.Trees.{NodeFits, nodes_of};
 ghost use Rattle.bt_arena.specs.Ends.{Meets, StaysFit};
 ghost use Rattle.bt_arena.specs.Nodes.{kept_at};
-ghost use Rattle.bt_arena.specs.Scenes.{scene};
+ghost use Rattle.bt_arena.specs.Scenes.{Scene, scene};
 ghost use Rattle.bt_arena.specs.Stands.{memory_of};
-ghost use Rattle.bt_tick.specs.Turns.{CanVisit, visit_in};
+ghost use Rattle.bt_tick.specs.declared.machine.Next.TheVariants as next;
+ghost use Rattle.bt_tick.specs.Turns.{CanVisit, GoingOn, Reaches, next_work, reached_work, visit_in};
 ghost use Rattle.bt_tick.specs.Work.{begun_by};
 
 use crate::enter::enter;
-use crate::machine::{Entered, Next};
+use crate::machine::{Entered, Next, Reached};
 use crate::onward::go_on;
 use bt_arena::{Arena, Frame, Kept, Node, Notes, kept_by};
 use bt_board::Board;
@@ -51,6 +56,46 @@ fn heard_on(stack: &SmallVec<Frame, 32>, answer: Answer) -> Option<Heard>
     }
 }
 
+/// The node on top of the stack goes on with what it hears, and so does each below it that hears the
+/// answer of its child, up to the visit of a child or the end of the visit of the root.
+#[inline(always)]
+fn reach_child<D: Drivers>(
+    alloc: Global,
+    nodes: &[Node],
+    kept: &mut [Kept],
+    board: &mut Board,
+    drivers: &mut D,
+    stack: &mut SmallVec<Frame, 32>,
+    first: Heard,
+    now: u64,
+    notes: &mut Notes,
+) -> Result<Reached, Stop<NodeFault>>
+    requires going { (root : Term) × (facts : List ℤ) × (start : Scene) × (told : List Note) × (whole : Done AnswerGiven Memory) × GoingOn nodes.now now root 1 (next.GoOn first) stack.old.items start (scene kept.old board.old facts (D.states drivers.old)) told notes.old.list whole }
+    ensures reaches { (root : Term) (facts : List ℤ) (start : Scene) (told : List Note) (whole : Done AnswerGiven Memory) → GoingOn nodes.now now root 1 (next.GoOn first) stack.old.items start (scene kept.old board.old facts (D.states drivers.old)) told notes.old.list whole →
+        Reaches nodes.now now root 1 result stack.new.items start (scene kept.old board.old facts (D.states drivers.old)) (scene kept.new board.new facts (D.states drivers.new)) told notes.new.list whole }
+    ensures work { IfOk result (λ reached. reached_work nodes.now reached stack.new.items < next_work nodes.now (next.GoOn first) stack.old.items) }
+    ensures room { stack.new.capacity ≡ stack.old.capacity }
+    ensures reserve { notes.old.reserve ≤ notes.new.reserve }
+    ensures full { notes.new.full ≡ notes.old.full }
+{
+    let mut heard = first;
+    loop {
+        let top = stack.len() - 1;
+        let frame = &mut stack.as_mut_slice()[top];
+        match go_on(alloc, nodes, kept, board, drivers, frame, heard, now, notes)? {
+            Next::Enter(child) => return Ok(Reached::Child(child)),
+            Next::GoOn(next) => heard = next,
+            Next::Back(answer) => {
+                stack.pop();
+                match heard_on(stack, answer) {
+                    Some(next) => heard = next,
+                    None => return Ok(Reached::End(answer)),
+                }
+            }
+        }
+    }
+}
+
 /// Visits the root, turn by turn. The nodes with children whose visits are under way have their frames
 /// on a stack, the one that goes on topmost; what answers at once, as a leaf, has none. It takes memory
 /// for them only where the stack has no room for all that can be under way at once.
@@ -79,34 +124,22 @@ fn visit<D: Drivers>(
     ensures full { notes.new.full ≡ notes.old.full }
 {
     stack.clear();
-    let mut next = Next::Enter(1);
+    let mut uid = 1;
     loop {
-        next = match next {
-            Next::Enter(uid) => {
-                match enter(alloc, nodes, kept, board, facts, drivers, uid, now, notes)? {
-                    Entered::Begins(picked) => {
-                        stack.push(begun(uid, kept))?;
-                        Next::GoOn(Heard::Begin { picked })
-                    }
-                    Entered::Answers(answer) => match heard_on(stack, answer) {
-                        Some(heard) => Next::GoOn(heard),
-                        None => return Ok(answer),
-                    },
-                }
+        let heard = match enter(alloc, nodes, kept, board, facts, drivers, uid, now, notes)? {
+            Entered::Begins(picked) => {
+                stack.push(begun(uid, kept))?;
+                Heard::Begin { picked }
             }
-            Next::GoOn(heard) => {
-                let top = stack.len() - 1;
-                let frame = &mut stack.as_mut_slice()[top];
-                go_on(alloc, nodes, kept, board, drivers, frame, heard, now, notes)?
-            }
-            Next::Back(answer) => {
-                stack.pop();
-                match heard_on(stack, answer) {
-                    Some(heard) => Next::GoOn(heard),
-                    None => return Ok(answer),
-                }
-            }
+            Entered::Answers(answer) => match heard_on(stack, answer) {
+                Some(heard) => heard,
+                None => return Ok(answer),
+            },
         };
+        match reach_child(alloc, nodes, kept, board, drivers, stack, heard, now, notes)? {
+            Reached::Child(child) => uid = child,
+            Reached::End(answer) => return Ok(answer),
+        }
     }
 }
 

@@ -7,3 +7,6 @@ returns-in-None-clause-meets g c = λ term view facts moment can. none_reset _ m
 
 pub reset_children-requires-clause-held : goal.reset_children-requires-clause-held
 reset_children-requires-clause-held g c = let (term, view, facts, moment, can, ruled) = c.requires.can in marked_below _ moment term view _ _ can ruled
+
+pub reset_children-requires-in_default-clause-held : goal.reset_children-requires-in_default-clause-held
+reset_children-requires-in_default-clause-held g c = let (term, view, facts, moment, can, ruled) = c.requires.can in marked_below _ moment term view _ _ can ruled
