@@ -2,6 +2,7 @@ ghost use Rattle.std.specs.Prelude.{◌≡◌, ◌+◌, ◌<◌, ◌≤◌, IfNo
 ghost use Rattle.std.specs.List.{All};
 ghost use Rattle.bt_script.specs.declared.value.Value.TheVariants.{Int};
 ghost use Rattle.bt_script.specs.Entries.{entry_of, HoldsNoText};
+ghost use Rattle.bt_script.specs.Operators.{on_ints};
 ghost use Rattle.bt_script.specs.Evaluation.{Run, written, if_there};
 ghost use Rattle.bt_script_code.specs.Codes.{program};
 ghost use Rattle.bt_script_code.specs.SlotTrees.{tree_value, tree_reach, tree_texts, slot_stmt, slot_stmt_reach, slot_stmt_texts};
@@ -9,7 +10,7 @@ ghost use Rattle.bt_script_code.specs.SlotTrees.{tree_value, tree_reach, tree_te
 use crate::codes::Code;
 use crate::operators::{as_number, binary_ints, unary_int};
 use crate::slots::{SlotExpr, SlotStmt};
-use bt_script::{Cells, Value};
+use bt_script::{BinOp, Cells, Value};
 
 /// The number of a slot that holds one.
 #[inline(always)]
@@ -39,6 +40,21 @@ fn near_int<B: Cells>(e: &SlotExpr, cells: &B) -> Option<i64>
     }
 }
 
+/// The number of an operator between two numbers. None where it has a fault. The three that are told
+/// apart here make no fault only to drop it.
+#[inline(always)]
+fn int_between(op: BinOp, x: i64, y: i64) -> Option<i64>
+    ensures gives { IfSome result (λ n. on_ints op x y ≡ Ok n) }
+    ensures fault { IfNone result (IsErr (on_ints op x y)) }
+{
+    match op {
+        BinOp::Add => x.checked_add(y),
+        BinOp::Sub => x.checked_sub(y),
+        BinOp::Mul => x.checked_mul(y),
+        _ => binary_ints(op, x, y).ok(),
+    }
+}
+
 /// The number that an expression gives. None where it gives none, or where a text is evaluated.
 pub fn int_of<B: Cells>(e: &SlotExpr, cells: &B) -> Option<i64>
     requires { tree_reach e.now ≤ length (B.entries cells.now) }
@@ -62,7 +78,7 @@ pub fn int_of<B: Cells>(e: &SlotExpr, cells: &B) -> Option<i64>
                 Some(y) => y,
                 None => int_of(b.get(), cells)?,
             };
-            binary_ints(*op, x, y).ok()
+            int_between(*op, x, y)
         }
         SlotExpr::Both(a, b) => {
             if int_of(a.get(), cells)? == 0 {
