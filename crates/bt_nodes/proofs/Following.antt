@@ -1,5 +1,5 @@
 -- One part that can change the blackboard alone, and then the next.
-use Rattle.std.proofs.Common.{◌≡◌, ℕ, List, Option, Some, None, Result, Ok, Err, sym, ap, subst, ◌∙◌}
+use Rattle.std.proofs.Common.{◌≡◌, ℕ, List, Option, Some, None, Result, Ok, Err, refl, sym, ap, subst, ◌∙◌}
 use Rattle.std.specs.Prelude.{IsErrAnd}
 use Rattle.bt_script.specs.declared.fault.ExecFault.{ExecFault}
 use Rattle.bt_script.specs.declared.stop.Stop.{Stop}
@@ -69,3 +69,10 @@ pub stopped_with : {A B M : Type 0} (m : M) (go : A → Unit {0} → State → D
     r ≡ Err stop → Settles {A = A} (Err stop) s1 d → SettlesWith m r s1 (follow d (λ _. m) go)
 stopped_with {A} {B} {M} m go (stop.Fault f) d s1 r is e = subst (λ (r1 : Result B (Stop NodeFault)). SettlesWith m r1 s1 (follow d (λ _. m) go)) (sym is) (ap (λ (d1 : Done A (Unit {0})). follow d1 (λ _. m) go) e)
 stopped_with {A} {B} {M} m go stop.NoMemory d s1 r is e = subst (λ (r1 : Result B (Stop NodeFault)). SettlesWith m r1 s1 (follow d (λ _. m) go)) (sym is) tt
+
+-- a part whose value is dropped before the next one, as if it were handed on
+pub dropped : {A B M : Type 0} (m : M) (go : State → Done B M) (r : Result A NodeFault) (s : State) →
+    follow {A = Unit {0}} {M = Unit {0}} (follow {N = Unit {0}} (ends {M = Unit {0}} r tt s) (λ _. tt) (λ value _ s1. done tt tt s1)) (λ _. m) (λ value _ s1. go s1)
+    ≡ follow {M = Unit {0}} (ends r tt s) (λ _. m) (λ value _ s1. go s1)
+dropped m go (Ok a) s = refl
+dropped m go (Err f) s = refl

@@ -22,7 +22,7 @@ ghost use Rattle.bt_nodes.specs.Settles.{SettlesWith, on_board};
 
 use crate::ending::end_visit;
 use crate::leaves::leaf_call;
-use crate::scripts::{run_script, script_holds};
+use crate::scripts::{run_for_writes, script_holds};
 use bt_arena::{Kept, Node, Notes, node};
 use bt_board::Board;
 use bt_driver::{Drivers, FactTable};
@@ -45,7 +45,7 @@ fn script_node(
 {
     match code {
         Some(code) => {
-            run_script(alloc, code, uid, board)?;
+            run_for_writes(alloc, code, uid, board)?;
             Ok(Answer::Success)
         }
         None => Ok(Answer::Skipped),

@@ -17,7 +17,7 @@ use bt_arena::ReadyGuards;
 use bt_board::Board;
 use bt_model::{Answer, Cause, NodeFault};
 use bt_script::{ExecFault, Stop, Value};
-use bt_script_code::{Code, exec};
+use bt_script_code::{Code, exec, exec_int};
 use std::alloc::Global;
 
 /// The fault of a script as a cause.
@@ -59,9 +59,10 @@ pub fn run_script(
     }
 }
 
-/// Runs a script of the node with this uid for what it writes alone.
+/// Runs a script of the node with this uid for what it writes alone. It is not inlined, as most scripts
+/// give a number at once and don't come here.
 #[inline(never)]
-fn run_for_writes(
+fn run_whole(
     alloc: Global,
     code: &Code,
     uid: u32,
@@ -75,6 +76,26 @@ fn run_for_writes(
 {
     run_script(alloc, code, uid, board)?;
     Ok(())
+}
+
+/// Runs a script of the node with this uid for what it writes alone.
+#[inline(always)]
+pub fn run_for_writes(
+    alloc: Global,
+    code: &Code,
+    uid: u32,
+    board: &mut Board,
+) -> Result<(), Stop<NodeFault>>
+    requires { (program code.now).reach ≤ length board.old }
+    ensures settles { (term : Term-F Meaning) (view : View) (script : Script) (s : State) → IsCodeOf view script code.now →
+        Settles result (on_board board.new s) (script_if_there (site_of term view uid) (Some script) (on_board board.old s)) }
+    ensures slots { length board.new ≡ length board.old }
+    ensures memory { (program code.now).texts ≡ 0 → All HoldsNoText board.old → IsAnswered result }
+{
+    match exec_int(code, board) {
+        Some(_) => Ok(()),
+        None => run_whole(alloc, code, uid, board),
+    }
 }
 
 /// Runs a script of the node with this uid where it is there.
@@ -113,9 +134,9 @@ fn truth(value: &Value, uid: u32) -> Result<bool, Stop<NodeFault>>
 }
 
 /// Runs a script of the node with this uid as a condition: a number other than 0 is true, and a text
-/// is a fault.
+/// is a fault. It is not inlined, as most scripts give a number at once and don't come here.
 #[inline(never)]
-pub fn script_holds(
+fn whole_holds(
     alloc: Global,
     code: &Code,
     uid: u32,
@@ -129,6 +150,27 @@ pub fn script_holds(
 {
     let value = run_script(alloc, code, uid, board)?;
     truth(&value, uid)
+}
+
+/// Runs a script of the node with this uid as a condition: a number other than 0 is true, and a text
+/// is a fault.
+#[inline(always)]
+pub fn script_holds(
+    alloc: Global,
+    code: &Code,
+    uid: u32,
+    board: &mut Board,
+) -> Result<bool, Stop<NodeFault>>
+    requires { (program code.now).reach ≤ length board.old }
+    ensures settles { (term : Term-F Meaning) (view : View) (script : Script) (s : State) → IsCodeOf view script code.now →
+        Settles result (on_board board.new s) (script_holds (site_of term view uid) script (on_board board.old s)) }
+    ensures slots { length board.new ≡ length board.old }
+    ensures memory { (program code.now).texts ≡ 0 → All HoldsNoText board.old → IsAnswered result }
+{
+    match exec_int(code, board) {
+        Some(n) => Ok(n != 0),
+        None => whole_holds(alloc, code, uid, board),
+    }
 }
 
 /// Tries a guard of the node with this uid: whether it is there and as true as this.

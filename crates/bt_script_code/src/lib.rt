@@ -11,5 +11,6 @@ mod slots;
 
 pub use codes::{Code, ExprCode};
 pub use compiling::{compile, compile_expr};
+pub use ints::exec_int;
 pub use numbers::number;
 pub use running::exec;

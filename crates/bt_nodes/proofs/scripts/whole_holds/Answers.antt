@@ -1,7 +1,7 @@
 use Rattle.bt_model.specs.Done.{ends}
 use Rattle.bt_model.specs.Scripts.{truth_of}
 use Rattle.bt_nodes.proofs.Following.{gives_settles, stopped, went_on}
-use Rattle.bt_nodes.proofs.scripts.script_holds.Goals as goal
+use Rattle.bt_nodes.proofs.scripts.whole_holds.Goals as goal
 
 pub returns-in_err-value-clause-settles : goal.returns-in_err-value-clause-settles
 returns-in_err-value-clause-settles c = λ term view script s k.

@@ -1,7 +1,7 @@
 use Rattle.std.proofs.Common.{Ok, refl}
 use Rattle.bt_model.specs.Done.{done}
 use Rattle.bt_nodes.proofs.Following.{stopped, went_on}
-use Rattle.bt_nodes.proofs.scripts.run_for_writes.Goals as goal
+use Rattle.bt_nodes.proofs.scripts.run_whole.Goals as goal
 
 pub returns-in_err-run_script-clause-settles : goal.returns-in_err-run_script-clause-settles
 returns-in_err-run_script-clause-settles c = λ term view script s k.
