@@ -1,6 +1,7 @@
 -- What the end of a line says.
 use Rattle.std.specs.Prelude.{ℕ, List, take}
+use Rattle.bt_text.specs.declared.tail.Tail.{Tail}
 
 -- the bytes of its room that are meant
-abbrev pub tail_text : List ℕ × ℕ → List ℕ
-tail_text tail = take tail.1 tail.0
+abbrev pub tail_text : Tail → List ℕ
+tail_text tail = take tail.len tail.room

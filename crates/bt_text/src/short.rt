@@ -83,13 +83,12 @@ impl ShortLine {
     #[inline(always)]
     pub fn end(&mut self, tail: &Tail)
         requires short { length self.old ≤ 40 }
-        requires within { tail.now.1 ≤ 24 }
+        requires within { tail.now.len ≤ 24 }
         ensures { self.new ≡ self.old ++ tail_text tail.now }
     {
-        let (room, len) = tail;
         let start = self.len;
-        copy_in(&mut self.bytes, start, room);
-        self.len = start + *len;
+        copy_in(&mut self.bytes, start, &tail.room);
+        self.len = start + tail.len;
     }
 }
 
