@@ -1,11 +1,11 @@
 //! What control nodes and decorators do, move by move, in whole visits.
 
-ghost use Rattle.std.specs.Prelude.{IsTrue, ◌<◌, ℕ};
+ghost use Rattle.std.specs.Prelude.{IsTrue, ◌<◌, ℕ, false};
 ghost use Rattle.bt_model.specs.Moves.{Fits, FitsChild, FitsStart, IsThere, TurnIsLeft, is_control, is_decorator};
 ghost use Rattle.bt_model.specs.Rules.Choices.{chosen_of};
 ghost use Rattle.bt_model.specs.Rules.Turns.{limit_of, turns_of};
 
-use bt_controls::control_next;
+use bt_controls::{control_next, goes_to_next};
 use bt_decorators::decorator_next;
 use bt_model::{Answer, Counts, Heard, Kind, Memo, Move, Since, Span, Then, Turns};
 use std::alloc::{AllocError, Global};
@@ -400,6 +400,59 @@ fn rounds_from_a_kept_index(rt: HostRuntime) -> Result<(), Fail> {
         ),
     ] {
         controls(&rt, alloc, kind, memo, picked, lines)?;
+    }
+    Ok(())
+}
+
+/// Whether a kind visits its children in order, so that it keeps the place of one.
+fn keeps_a_place(kind: Kind) -> bool
+    ensures { IsTrue result → (n place : ℕ) → FitsChild kind n (Memo.Index place false) place }
+{
+    match kind {
+        Kind::Sequence => true,
+        Kind::Fallback => true,
+        Kind::SequenceWithMemory => true,
+        Kind::ReactiveSequence => true,
+        Kind::ReactiveFallback => true,
+        _ => false,
+    }
+}
+
+/// The child of three to which a node goes on at once behind the answer of the one at this place.
+fn next_of_three(kind: Kind, place: u32, letter: u8) -> Option<u32> {
+    let mut memo = Memo::Index {
+        at: place,
+        seen: false,
+    };
+    if place < 3 && keeps_a_place(kind) {
+        goes_to_next(kind, &mut memo, 3, Heard::Answered(place, answer(letter)))
+    } else {
+        None
+    }
+}
+
+#[test]
+fn next_children(rt: HostRuntime) -> Result<(), Fail> {
+    for (kind, place, letter, want) in [
+        (Kind::Sequence, 0, b'S', Some(1)),
+        (Kind::Sequence, 1, b'K', Some(2)),
+        (Kind::Sequence, 2, b'S', None),
+        (Kind::Sequence, 0, b'F', None),
+        (Kind::Sequence, 0, b'R', None),
+        (Kind::SequenceWithMemory, 1, b'S', Some(2)),
+        (Kind::SequenceWithMemory, 1, b'F', None),
+        (Kind::ReactiveSequence, 0, b'S', Some(1)),
+        (Kind::ReactiveSequence, 1, b'R', None),
+        (Kind::Fallback, 0, b'F', Some(1)),
+        (Kind::Fallback, 0, b'S', None),
+        (Kind::ReactiveFallback, 1, b'K', Some(2)),
+        (Kind::ReactiveFallback, 2, b'F', None),
+    ] {
+        assert_eq!(rt;
+            next_of_three(kind, place, letter),
+            want,
+            "{kind:?} {place}"
+        );
     }
     Ok(())
 }
