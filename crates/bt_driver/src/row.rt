@@ -47,12 +47,7 @@ impl ReadyRow {
     /// Makes `outs` the outputs over these inputs and facts, in order, or answers the first fault and
     /// leaves them. Where there are none, no place is copied.
     #[inline(always)]
-    fn put_outputs(
-        &self,
-        inputs: &Inputs,
-        facts: &FactTable,
-        outs: &mut Outs,
-    ) -> Result<(), Cause>
+    fn put_outputs(&self, inputs: &Inputs, facts: &FactTable, outs: &mut Outs) -> Result<(), Cause>
         requires { length facts.now ≡ self.now.facts }
         ensures made { OnOk result (outputs_of (rule self.now).outs inputs.now facts.now ≡ Ok outs.new) }
         ensures fault { IfErr result (λ cause. outputs_of (rule self.now).outs inputs.now facts.now ≡ Err cause) }

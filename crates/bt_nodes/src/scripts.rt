@@ -62,12 +62,7 @@ pub fn run_script(
 /// Runs a script of the node with this uid for what it writes alone. It is not inlined, as most scripts
 /// give a number at once and don't come here.
 #[inline(never)]
-fn run_whole(
-    alloc: Global,
-    code: &Code,
-    uid: u32,
-    board: &mut Board,
-) -> Result<(), Stop<NodeFault>>
+fn run_whole(alloc: Global, code: &Code, uid: u32, board: &mut Board) -> Result<(), Stop<NodeFault>>
     requires { (program code.now).reach ≤ length board.old }
     ensures settles { (term : Term-F Meaning) (view : View) (script : Script) (s : State) → IsCodeOf view script code.now →
         Settles result (on_board board.new s) (script_if_there (site_of term view uid) (Some script) (on_board board.old s)) }

@@ -17,10 +17,10 @@ returns-in_err-run_for_writes-in-Some-clause-settles c = λ term view script ms 
     (λ (o : Option Script). SettlesWith ms (as_given c.from_residual.result) (on_board c.run_for_writes.new.board s) (script_node o (site_of term view c.args.uid) ms (on_board c.args.board.now s)))
     view script _ c.in-Some.is k
     (λ x k1.
-      let run = script_run (site_of term view c.args.uid) x (on_board c.args.board.now s) in
-      subst (λ d. SettlesWith ms (as_given c.from_residual.result) (on_board c.run_for_writes.new.board s) d)
-      (dropped ms (gives Success ms) run.answer run.state)
-      (stopped_with ms (λ value _ s1. gives Success ms s1) _ _ _ _ (ap as_given (stops_with _ _ c.from_residual.ensures.1)) (c.in_err-run_for_writes-in-Some.ensures.settles term view x s k1)))
+    let run = script_run (site_of term view c.args.uid) x (on_board c.args.board.now s) in
+    subst (λ d. SettlesWith ms (as_given c.from_residual.result) (on_board c.run_for_writes.new.board s) d)
+    (dropped ms (gives Success ms) run.answer run.state)
+    (stopped_with ms (λ value _ s1. gives Success ms s1) _ _ _ _ (ap as_given (stops_with _ _ c.from_residual.ensures.1)) (c.in_err-run_for_writes-in-Some.ensures.settles term view x s k1)))
 
 pub returns-in_ok-run_for_writes-in-Some-clause-settles : goal.returns-in_ok-run_for_writes-in-Some-clause-settles
 returns-in_ok-run_for_writes-in-Some-clause-settles c = λ term view script ms s k.
@@ -28,6 +28,6 @@ returns-in_ok-run_for_writes-in-Some-clause-settles c = λ term view script ms s
     (λ (o : Option Script). script_node o (site_of term view c.args.uid) ms (on_board c.args.board.now s) ≡ done (record { answer = Success; memo = Nothing }) ms (on_board c.run_for_writes.new.board s))
     view script _ c.in-Some.is k
     (λ x k1.
-      let run = script_run (site_of term view c.args.uid) x (on_board c.args.board.now s) in
-      sym (dropped ms (gives Success ms) run.answer run.state)
-      ∙ ap (λ d. follow d (λ _. ms) (λ value _ s1. gives Success ms s1)) (c.in_ok-run_for_writes-in-Some.ensures.settles term view x s k1))
+    let run = script_run (site_of term view c.args.uid) x (on_board c.args.board.now s) in
+    sym (dropped ms (gives Success ms) run.answer run.state)
+    ∙ ap (λ d. follow d (λ _. ms) (λ value _ s1. gives Success ms s1)) (c.in_ok-run_for_writes-in-Some.ensures.settles term view x s k1))
