@@ -110,8 +110,8 @@ pub fn halt_node<D: Drivers>(
     end_halt(alloc, nodes, kept, board, drivers, uid, notes)
 }
 
-/// Resets those children of the node with this uid that a span has, in order.
-// Most resets are of all children, one or two, and cost less than a call.
+/// Resets those children of the node with this uid that a span has, in order. It is inlined, as most
+/// resets are of all children, one or two, and cost less than a call.
 #[inline(always)]
 #[cycle(resetting)]
 pub fn reset_children<D: Drivers>(

@@ -65,12 +65,14 @@ impl Ledger {
         }
     }
 
+    /// The kind of its driver.
     pub fn kind(&self) -> DriverKind
         ensures { result ≡ self.now.kind }
     {
         self.kind
     }
 
+    /// What its calls have come to so far.
     pub fn totals(&self) -> Totals
         ensures { result ≡ self.now.totals }
     {

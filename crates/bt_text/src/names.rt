@@ -38,7 +38,7 @@ impl Model for Names {
 impl Names {
     /// The labels of the numbers from 0 on.
     #[inline(always)]
-    pub fn labels(&self) -> Labels<'_> {
+    pub(crate) fn labels(&self) -> Labels<'_> {
         Labels::of(self.labels.as_slice())
     }
 
