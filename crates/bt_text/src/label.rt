@@ -1,4 +1,4 @@
-ghost use Rattle.std.specs.Prelude.{◌≡◌, ◌+◌, ◌<◌, ◌≤◌, [], ◌∷◌, ◌++◌, IfOk, IfSome, decimal, length, take};
+ghost use Rattle.std.specs.Prelude.{◌≡◌, ◌+◌, ◌<◌, ◌≤◌, [], ◌∷◌, ◌++◌, IfNone, IfOk, IfSome, decimal, length, min, take};
 ghost use Rattle.bt_text.specs.Labels.{AreLabels};
 
 use bt_script::NoMemory;
@@ -91,7 +91,8 @@ impl<'a> Labels<'a> {
     /// The label of the number, where it has one.
     #[inline(always)]
     pub fn get(&self, number: u32) -> Option<&Label>
-        ensures { IfSome result (λ label. label.now ≡ 32 ∷ decimal number) }
+        ensures some { IfSome result (λ label. label.now ≡ 32 ∷ decimal number) }
+        ensures none { IfNone result (length self.now ≤ number) }
     {
         self.list.get(number as usize)
     }
@@ -113,7 +114,8 @@ fn label_of(labels: &[Label], number: u32) -> Label
 /// The labels of 0 and of the numbers behind it up to this one, but of none that has more than seven
 /// digits.
 pub fn labels_to(alloc: Global, last: usize) -> Result<Vec<Label>, NoMemory>
-    ensures { IfOk result (λ labels. AreLabels labels.items) }
+    ensures labels { IfOk result (λ labels. AreLabels labels.items) }
+    ensures count { IfOk result (λ labels. length labels.items ≡ min last 9999999 + 1) }
 {
     let count = last.min(9_999_999) + 1;
     let mut labels = Vec::with_capacity(alloc, count)?;

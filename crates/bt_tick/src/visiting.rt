@@ -96,9 +96,9 @@ fn reach_child<D: Drivers>(
     }
 }
 
-/// Visits the root, turn by turn. The nodes with children whose visits are under way have their frames
-/// on a stack, the one that goes on topmost; what answers at once, as a leaf, has none. It takes memory
-/// for them only where the stack has no room for all that can be under way at once.
+/// Visits the root, a step for each node that is entered. The nodes with children whose visits are under
+/// way have their frames on a stack, the one that goes on topmost; what answers at once, as a leaf, has
+/// none. It takes memory for them only where the stack has no room for all that can be under way at once.
 fn visit<D: Drivers>(
     alloc: Global,
     nodes: &[Node],
