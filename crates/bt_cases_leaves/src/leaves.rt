@@ -16,7 +16,6 @@ use bt_script::{NoMemory, Seen};
 use bt_world::read_world;
 use std::alloc::{AllocError, Global};
 use std::process::Abort;
-use std::test::Fail;
 
 /// A row that is tried, with what its calls are made with and have left.
 #[derive(Drop)]
@@ -89,14 +88,34 @@ fn stage_of<D: Drivers>(
     };
     let counts = vec![in alloc; 2; drivers.count()]?;
     drivers.prepare(counts.as_slice())?;
+    let since = vec![in alloc; None; 2]?;
+    let facts = facts_of(alloc, world)?;
     Ok(Stage {
         place,
         row: ready(alloc, row, world.facts.list())?,
         inputs,
-        facts: facts_of(alloc, world)?,
+        facts,
         outs: Outs::new(),
-        since: vec![in alloc; None; 2]?,
+        since,
     })
+}
+
+/// The same of the world of these lines, with a roster that holds nothing.
+fn stage_in<D: Drivers>(
+    rt: &impl Abort,
+    alloc: Global,
+    drivers: &mut D,
+    lines: &str,
+    inputs: &str,
+) -> Result<Stage, NoMemory>
+    ensures work { IfOk result (λ stage. IsAtWork (D.states drivers.new) stage.place (kind_of_way (rule stage.row).way) stage.since.items) }
+    ensures table { IfOk result (λ stage. length stage.facts ≡ stage.row.facts) }
+{
+    assert!(rt; drivers.holds_nothing());
+    let world = world_of(alloc, lines)?;
+    let stage = stage_of(alloc, drivers, &world, inputs_of(inputs));
+    drop(world);
+    stage
 }
 
 /// The moment since which an instance is held after a reply to a leaf that began at this moment.
@@ -269,7 +288,28 @@ fn left_text(alloc: Global, stage: &Stage) -> Result<String, AllocError>
     Ok(text)
 }
 
-/// What calls of the last row of a world answer and leave.
+/// What calls of a row answer and leave.
+fn calls_text<D: Drivers>(
+    alloc: Global,
+    drivers: &mut D,
+    stage: &mut Stage,
+    calls: &str,
+) -> Result<String, AllocError>
+    requires work { IsAtWork (D.states drivers.old) stage.old.place (kind_of_way (rule stage.old.row).way) stage.old.since.items }
+    requires table { length stage.old.facts ≡ stage.old.row.facts }
+    ensures { IsAtWork (D.states drivers.new) stage.new.place (kind_of_way (rule stage.new.row).way) stage.new.since.items }
+{
+    let answers = answers_text(alloc, drivers, stage, calls)?;
+    let left = left_text(alloc, stage)?;
+    let held = if drivers.holds_nothing() {
+        ""
+    } else {
+        "; held"
+    };
+    format!(in alloc; "{answers}{left}{held}")
+}
+
+/// What calls of the last row of a world answer and leave, and how often they have called its driver.
 fn told<D: Drivers>(
     rt: &impl Abort,
     alloc: Global,
@@ -277,204 +317,218 @@ fn told<D: Drivers>(
     lines: &str,
     inputs: &str,
     calls: &str,
-) -> Result<String, NoMemory> {
-    assert!(rt; drivers.holds_nothing());
-    let world = world_of(alloc, lines)?;
-    let mut stage = stage_of(alloc, drivers, &world, inputs_of(inputs))?;
-    let answers = answers_text(alloc, drivers, &mut stage, calls)?;
-    let left = left_text(alloc, &stage)?;
-    let held = if drivers.holds_nothing() {
-        ""
-    } else {
-        "; held"
-    };
-    Ok(format!(in alloc; "{answers}{left}{held}")?)
+) -> Result<(String, Totals), NoMemory> {
+    let mut stage = stage_in(rt, alloc, drivers, lines, inputs)?;
+    let text = calls_text(alloc, drivers, &mut stage, calls);
+    let totals = drivers.totals(stage.place);
+    drop(stage);
+    Ok((text?, totals))
 }
 
-#[test]
-fn conditions_answer_at_once(rt: HostRuntime) -> Result<(), Fail> {
-    let alloc = rt.alloc();
-    for (lines, inputs, calls, want) in [
-        (
-            "fact x 1 / condition C is x == 1",
-            "",
-            "0 at 0, 0 at 5",
-            "Success; Success; facts 1; outputs []",
-        ),
-        (
-            "fact w 1 / fact x 2 / condition C is x == 1",
-            "",
-            "1 at 0",
-            "Failure; facts 1 2; outputs []",
-        ),
-        (
-            "fact x 4 / condition C(p) when p == x",
-            "4",
-            "0 at 0",
-            "Success; facts 4; outputs []",
-        ),
-        (
-            "fact x 4 / condition C(p) when p == x",
-            "5",
-            "0 at 0, 0 at 1",
-            "Failure; Failure; facts 4; outputs []",
-        ),
-        (
-            "fact p 1 / condition C(p) when p",
-            "0",
-            "0 at 0",
-            "Failure; facts 1; outputs []",
-        ),
-        (
-            "condition C(p) when p",
-            "",
-            "0 at 0",
-            "Broken(NoInput { place: 0 }); facts; outputs []",
-        ),
-        (
-            "condition C(p,q) when p + q",
-            "1 -",
-            "0 at 0",
-            "Broken(NoInput { place: 1 }); facts; outputs []",
-        ),
-        (
-            "condition C(p,q) when p || q",
-            "1 -",
-            "0 at 0",
-            "Success; facts; outputs []",
-        ),
-        (
-            "condition C(p,q) when p + q",
-            "1 text",
-            "0 at 0",
-            "Broken(Mixed); facts; outputs []",
-        ),
-        (
-            "fact x 9223372036854775807 / condition C when x + 1",
-            "",
-            "0 at 0",
-            "Broken(Overflow); facts 9223372036854775807; outputs []",
-        ),
-    ] {
-        let mut drivers: Vec<Box<dyn Driver>> = Vec::new(alloc);
-        drivers.push(Box::new(alloc, Conditions::new(alloc))?)?;
-        drivers.push(Box::new(alloc, Timed::new(alloc))?)?;
-        let mut roster = Roster { drivers };
-        let text = told(&rt, alloc, &mut roster, lines, inputs, calls)?;
-        assert_eq!(rt; text.as_str(), want, "{lines}");
+/// The same with the four drivers of the modelled world.
+fn row_told(
+    rt: &impl Abort,
+    alloc: Global,
+    lines: &str,
+    inputs: &str,
+    calls: &str,
+) -> Result<(String, Totals), NoMemory> {
+    let mut drivers: Vec<Box<dyn Driver>> = Vec::new(alloc);
+    drivers.push(Box::new(alloc, Conditions::new(alloc))?)?;
+    drivers.push(Box::new(alloc, Timed::new(alloc))?)?;
+    drivers.push(Box::new(alloc, Replay::new(alloc))?)?;
+    drivers.push(Box::new(alloc, Gate::new(alloc))?)?;
+    let mut roster = Roster { drivers };
+    told(rt, alloc, &mut roster, lines, inputs, calls)
+}
+
+/// Compares rows: the lines of a world, the inputs of its last row, calls of it, and what they
+/// answer and leave.
+fn compare_rows(
+    rt: &impl Abort,
+    alloc: Global,
+    rows: &[(&str, &str, &str, &str)],
+) -> Result<(), NoMemory> {
+    for (lines, inputs, calls, want) in rows {
+        let (text, _) = row_told(rt, alloc, lines, inputs, calls)?;
+        assert_eq!(rt; text.as_str(), *want, "{lines}");
     }
     Ok(())
 }
 
 #[test]
-fn actions_answer_by_their_rows(rt: HostRuntime) -> Result<(), Fail> {
-    let alloc = rt.alloc();
-    for (lines, inputs, calls, want) in [
-        (
-            "action A timed 300",
-            "",
-            "0 at 100, 0 at 399, 0 at 400, 0 at 400",
-            "Running; Running; Success; Running; facts; outputs []; held",
-        ),
-        // `fails` with a fault, looked at when the time is over: still held
-        (
-            "fact x 0 / action A timed 10 / fails 1/x / sets x = 5",
-            "",
-            "0 at 0, 0 at 10, 0 at 11",
-            "Running; Broken(ZeroDivisor); Broken(ZeroDivisor); facts 0; outputs []; held",
-        ),
-        (
-            "fact x 0 / action A timed 0 / fails 1/x",
-            "",
-            "0 at 0",
-            "Broken(ZeroDivisor); facts 0; outputs []",
-        ),
-        // `fails` is 0, and is not
-        (
-            "fact x 0 / action A timed 10 / fails x / sets x = 5",
-            "",
-            "0 at 0, 0 at 10, 0 at 10, 0 at 20",
-            "Running; Success; Running; Failure; facts 5; outputs []",
-        ),
-        (
-            "action A(p) timed 0 / fails p",
-            "-",
-            "0 at 0",
-            "Broken(NoInput { place: 0 }); facts; outputs []",
-        ),
-        (
-            "action A(p) timed 0 / fails p",
-            "text",
-            "0 at 0",
-            "Broken(Mixed); facts; outputs []",
-        ),
-        // letters past their end, and a letter that a halt leaves
-        (
-            "action A replay 0 SF",
-            "",
-            "0 at 0, 0 at 0, 0 at 0, 0 at 0, 1 at 0",
-            "Success; Failure; Failure; Failure; Success; facts; outputs []",
-        ),
-        (
-            "action A replay 5 FS",
-            "",
-            "0 at 0, halt 0, 0 at 1, 0 at 6, 0 at 6, 0 at 11",
-            "Running; halted true; Running; Failure; Running; Success; facts; outputs []",
-        ),
-        // a fault of an output is no completion
-        (
-            "fact x 0 / action A replay 0 SF / sets x = 1 / out p = 1/x",
-            "",
-            "0 at 0, 0 at 0",
-            "Broken(ZeroDivisor); Broken(ZeroDivisor); facts 0; outputs []",
-        ),
-        // gates
-        (
-            "fact x 0 / action A gate 1/x",
-            "",
-            "0 at 0",
-            "Broken(ZeroDivisor); facts 0; outputs []",
-        ),
-        (
-            "fact x 1 / action A gate x / sets x = 0 / out p = x",
-            "",
-            "0 at 0, 0 at 0, 0 at 9",
-            "Success; Running; Running; facts 0; outputs [1]; held",
-        ),
-        (
-            "action A(p) gate p",
-            "7",
-            "0 at 0",
-            "Success; facts; outputs []",
-        ),
-        // outputs over the facts before the effects
-        (
-            "fact x 7 / fact y 0 / action A(p) timed 0 / sets x = 1 / sets y = 2 / out l = x / out r = p * x + y",
-            "3",
-            "0 at 0, 0 at 0",
-            "Success; Success; facts 1 2; outputs [1, 5]",
-        ),
-        // a fault changes no fact and no output
-        (
-            "fact x 4 / action A timed 0 / sets x = 3 / out l = x / out r = 8/x",
-            "",
-            "0 at 0, 0 at 0",
-            "Success; Broken(NotWhole); facts 3; outputs [4, 2]",
-        ),
-    ] {
-        let mut drivers: Vec<Box<dyn Driver>> = Vec::new(alloc);
-        drivers.push(Box::new(alloc, Timed::new(alloc))?)?;
-        drivers.push(Box::new(alloc, Replay::new(alloc))?)?;
-        drivers.push(Box::new(alloc, Gate::new(alloc))?)?;
-        let mut roster = Roster { drivers };
-        let text = told(&rt, alloc, &mut roster, lines, inputs, calls)?;
-        assert_eq!(rt; text.as_str(), want, "{lines}");
-    }
-    Ok(())
+fn conditions_answer_at_once(rt: HostRuntime) -> Result<(), NoMemory> {
+    compare_rows(
+        &rt,
+        rt.alloc(),
+        &[
+            (
+                "fact x 1 / condition C is x == 1",
+                "",
+                "0 at 0, 0 at 5",
+                "Success; Success; facts 1; outputs []",
+            ),
+            (
+                "fact w 1 / fact x 2 / condition C is x == 1",
+                "",
+                "1 at 0",
+                "Failure; facts 1 2; outputs []",
+            ),
+            (
+                "fact x 4 / condition C(p) when p == x",
+                "4",
+                "0 at 0",
+                "Success; facts 4; outputs []",
+            ),
+            (
+                "fact x 4 / condition C(p) when p == x",
+                "5",
+                "0 at 0, 0 at 1",
+                "Failure; Failure; facts 4; outputs []",
+            ),
+            (
+                "fact p 1 / condition C(p) when p",
+                "0",
+                "0 at 0",
+                "Failure; facts 1; outputs []",
+            ),
+            (
+                "condition C(p) when p",
+                "",
+                "0 at 0",
+                "Broken(NoInput { place: 0 }); facts; outputs []",
+            ),
+            (
+                "condition C(p,q) when p + q",
+                "1 -",
+                "0 at 0",
+                "Broken(NoInput { place: 1 }); facts; outputs []",
+            ),
+            (
+                "condition C(p,q) when p || q",
+                "1 -",
+                "0 at 0",
+                "Success; facts; outputs []",
+            ),
+            (
+                "condition C(p,q) when p + q",
+                "1 text",
+                "0 at 0",
+                "Broken(Mixed); facts; outputs []",
+            ),
+            (
+                "fact x 9223372036854775807 / condition C when x + 1",
+                "",
+                "0 at 0",
+                "Broken(Overflow); facts 9223372036854775807; outputs []",
+            ),
+        ],
+    )
 }
 
 #[test]
-fn last_outcomes_stay(rt: HostRuntime) -> Result<(), Fail> {
+fn actions_answer_by_their_rows(rt: HostRuntime) -> Result<(), NoMemory> {
+    compare_rows(
+        &rt,
+        rt.alloc(),
+        &[
+            (
+                "action A timed 300",
+                "",
+                "0 at 100, 0 at 399, 0 at 400, 0 at 400",
+                "Running; Running; Success; Running; facts; outputs []; held",
+            ),
+            // `fails` with a fault, looked at when the time is over: still held
+            (
+                "fact x 0 / action A timed 10 / fails 1/x / sets x = 5",
+                "",
+                "0 at 0, 0 at 10, 0 at 11",
+                "Running; Broken(ZeroDivisor); Broken(ZeroDivisor); facts 0; outputs []; held",
+            ),
+            (
+                "fact x 0 / action A timed 0 / fails 1/x",
+                "",
+                "0 at 0",
+                "Broken(ZeroDivisor); facts 0; outputs []",
+            ),
+            // `fails` is 0, and is not
+            (
+                "fact x 0 / action A timed 10 / fails x / sets x = 5",
+                "",
+                "0 at 0, 0 at 10, 0 at 10, 0 at 20",
+                "Running; Success; Running; Failure; facts 5; outputs []",
+            ),
+            (
+                "action A(p) timed 0 / fails p",
+                "-",
+                "0 at 0",
+                "Broken(NoInput { place: 0 }); facts; outputs []",
+            ),
+            (
+                "action A(p) timed 0 / fails p",
+                "text",
+                "0 at 0",
+                "Broken(Mixed); facts; outputs []",
+            ),
+            // letters past their end, and a letter that a halt leaves
+            (
+                "action A replay 0 SF",
+                "",
+                "0 at 0, 0 at 0, 0 at 0, 0 at 0, 1 at 0",
+                "Success; Failure; Failure; Failure; Success; facts; outputs []",
+            ),
+            (
+                "action A replay 5 FS",
+                "",
+                "0 at 0, halt 0, 0 at 1, 0 at 6, 0 at 6, 0 at 11",
+                "Running; halted true; Running; Failure; Running; Success; facts; outputs []",
+            ),
+            // a fault of an output is no completion
+            (
+                "fact x 0 / action A replay 0 SF / sets x = 1 / out p = 1/x",
+                "",
+                "0 at 0, 0 at 0",
+                "Broken(ZeroDivisor); Broken(ZeroDivisor); facts 0; outputs []",
+            ),
+            // gates
+            (
+                "fact x 0 / action A gate 1/x",
+                "",
+                "0 at 0",
+                "Broken(ZeroDivisor); facts 0; outputs []",
+            ),
+            (
+                "fact x 1 / action A gate x / sets x = 0 / out p = x",
+                "",
+                "0 at 0, 0 at 0, 0 at 9",
+                "Success; Running; Running; facts 0; outputs [1]; held",
+            ),
+            (
+                "action A(p) gate p",
+                "7",
+                "0 at 0",
+                "Success; facts; outputs []",
+            ),
+            // outputs over the facts before the effects
+            (
+                "fact x 7 / fact y 0 / action A(p) timed 0 / sets x = 1 / sets y = 2 / out l = x / out r = p * x + y",
+                "3",
+                "0 at 0, 0 at 0",
+                "Success; Success; facts 1 2; outputs [1, 5]",
+            ),
+            // a fault changes no fact and no output
+            (
+                "fact x 4 / action A timed 0 / sets x = 3 / out l = x / out r = 8/x",
+                "",
+                "0 at 0, 0 at 0",
+                "Success; Broken(NotWhole); facts 3; outputs [4, 2]",
+            ),
+        ],
+    )
+}
+
+#[test]
+fn last_outcomes_stay(rt: HostRuntime) -> Result<(), NoMemory> {
     let alloc = rt.alloc();
     let lines = format!(in alloc; "action A replay 0 {}S", "F".repeat(alloc, 63)?)?;
     let calls = format!(in alloc; "{}0 at 0", "0 at 0, ".repeat(alloc, 64)?)?;
@@ -482,31 +536,15 @@ fn last_outcomes_stay(rt: HostRuntime) -> Result<(), Fail> {
         "{}Success; Success; facts; outputs []",
         "Failure; ".repeat(alloc, 63)?
     )?;
-    let mut drivers: Vec<Box<dyn Driver>> = Vec::new(alloc);
-    drivers.push(Box::new(alloc, Replay::new(alloc))?)?;
-    let mut roster = Roster { drivers };
-    let text = told(&rt, alloc, &mut roster, lines.as_str(), "", calls.as_str())?;
-    assert_eq!(rt; text, want);
-    Ok(())
-}
-
-/// How often calls of the last row of a world have called its driver.
-fn totals_of<D: Drivers>(
-    rt: &impl Abort,
-    alloc: Global,
-    drivers: &mut D,
-    lines: &str,
-    calls: &str,
-) -> Result<Totals, NoMemory> {
-    assert!(rt; drivers.holds_nothing());
-    let world = world_of(alloc, lines)?;
-    let mut stage = stage_of(alloc, drivers, &world, inputs_of(""))?;
-    let _ = answers_text(alloc, drivers, &mut stage, calls)?;
-    Ok(drivers.totals(stage.place))
+    compare_rows(
+        &rt,
+        alloc,
+        &[(lines.as_str(), "", calls.as_str(), want.as_str())],
+    )
 }
 
 #[test]
-fn calls_are_counted(rt: HostRuntime) -> Result<(), Fail> {
+fn calls_are_counted(rt: HostRuntime) -> Result<(), NoMemory> {
     let alloc = rt.alloc();
     for (lines, calls, counts, trail) in [
         ("action A timed 9", "0 at 0", (1, 0, 0), 1),
@@ -538,10 +576,7 @@ fn calls_are_counted(rt: HostRuntime) -> Result<(), Fail> {
             4,
         ),
     ] {
-        let mut drivers: Vec<Box<dyn Driver>> = Vec::new(alloc);
-        drivers.push(Box::new(alloc, Timed::new(alloc))?)?;
-        let mut roster = Roster { drivers };
-        let totals = totals_of(&rt, alloc, &mut roster, lines, calls)?;
+        let (_, totals) = row_told(&rt, alloc, lines, "", calls)?;
         let (starts, runnings, haltings) = counts;
         let want = Totals {
             starts,
