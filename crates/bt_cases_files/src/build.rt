@@ -1,8 +1,12 @@
 //! What tree files are understood as, and the first fault of each.
 
+ghost use Rattle.std.specs.Prelude.{◌≡◌, Ok};
+ghost use Rattle.bt_elements.specs.Elements.{IsValid};
+ghost use Rattle.bt_manifest.specs.Models.{manifest_in};
+
 use bt_build::{BuildFault, build, work};
-use bt_elements::read_elements;
-use bt_manifest::manifest_of;
+use bt_elements::{Elements, read_elements};
+use bt_manifest::{Manifest, manifest_of};
 use bt_model::{Guards, Port, PortValue, Term, Tree};
 use bt_script::{Name, NoMemory, Script, Stop, Value};
 use std::alloc::{AllocError, Global};
@@ -49,21 +53,30 @@ fn guards_text(alloc: Global, guards: &Guards) -> Result<String, AllocError> {
     Ok(all)
 }
 
-/// A node with its children in parentheses.
-fn term_text(alloc: Global, term: &Term) -> Result<String, AllocError> {
-    let mut all = format!(in alloc; "{:?} {} {}", term.kind, text(&term.id), text(&term.name))?;
+/// A node without its children.
+fn put_head(alloc: Global, term: &Term, out: &mut String) -> Result<(), AllocError> {
+    let (id, name) = (text(&term.id), text(&term.name));
+    out.push_str(format!(in alloc; "{:?} {id} {name}", term.kind)?.as_str())?;
     for port in term.ports.list() {
-        all.push_str(port_text(alloc, port)?.as_str())?;
+        out.push_str(port_text(alloc, port)?.as_str())?;
     }
     if term.autoremap {
-        all.push_str(" autoremap")?;
+        out.push_str(" autoremap")?;
     }
-    all.push_str(script_text(alloc, "code", &term.code)?.as_str())?;
-    all.push_str(guards_text(alloc, &term.guards)?.as_str())?;
+    out.push_str(script_text(alloc, "code", &term.code)?.as_str())?;
+    out.push_str(guards_text(alloc, &term.guards)?.as_str())?;
+    Ok(())
+}
+
+/// A node with its children in parentheses.
+fn put_term(alloc: Global, term: &Term, out: &mut String) -> Result<(), AllocError> {
+    put_head(alloc, term, out)?;
     for child in term.children.list() {
-        all.push_str(format!(in alloc; " ({})", term_text(alloc, child)?)?.as_str())?;
+        out.push_str(" (")?;
+        put_term(alloc, child, out)?;
+        out.push_str(")")?;
     }
-    Ok(all)
+    Ok(())
 }
 
 fn fault_text(alloc: Global, fault: &BuildFault) -> Result<String, AllocError> {
@@ -87,225 +100,275 @@ fn fault_text(alloc: Global, fault: &BuildFault) -> Result<String, AllocError> {
     }
 }
 
+fn tree_text(alloc: Global, tree: &Tree) -> Result<String, AllocError> {
+    let mut all = format!(in alloc; "{}: ", text(&tree.main))?;
+    put_term(alloc, &tree.term, &mut all)?;
+    Ok(all)
+}
+
+/// What the elements of a file are understood as, with its models and a main tree that is asked for.
+fn built_text(
+    alloc: Global,
+    elements: &Elements,
+    models: &Manifest,
+    main: Option<&Name>,
+) -> Result<String, AllocError>
+    requires valid { IsValid elements.now.root }
+    requires models { manifest_in elements.now.root ≡ Ok models.now }
+{
+    match build(alloc, elements, models, main) {
+        Ok(tree) => tree_text(alloc, &tree),
+        Err(Stop::Fault(fault)) => fault_text(alloc, &fault),
+        Err(Stop::NoMemory) => String::from_str(alloc, "no memory"),
+    }
+}
+
+/// The same with the name of the main tree as a text.
+fn asked_text(
+    alloc: Global,
+    elements: &Elements,
+    models: &Manifest,
+    main: Option<&str>,
+) -> Result<String, AllocError>
+    requires valid { IsValid elements.now.root }
+    requires models { manifest_in elements.now.root ≡ Ok models.now }
+{
+    match main {
+        Some(id) => {
+            let name = Name::of(Vec::from_slice(alloc, id.as_bytes())?);
+            built_text(alloc, elements, models, Some(&name))
+        }
+        None => built_text(alloc, elements, models, None),
+    }
+}
+
+/// The same with the models of these elements.
+fn elements_text(
+    alloc: Global,
+    elements: &Elements,
+    main: Option<&str>,
+) -> Result<String, AllocError>
+    requires { IsValid elements.now.root }
+{
+    match manifest_of(alloc, elements) {
+        Ok(models) => asked_text(alloc, elements, &models, main),
+        Err(_) => String::from_str(alloc, "no models"),
+    }
+}
+
 /// What a file is understood as.
 fn file_text(alloc: Global, file: &[u8], main: Option<&str>) -> Result<String, AllocError> {
     if file.len() > 1_048_576 {
-        return format!(in alloc; "too long");
+        return String::from_str(alloc, "too long");
     }
-    let Ok(elements) = read_elements(alloc, file) else {
-        return format!(in alloc; "no elements");
-    };
-    let Ok(models) = manifest_of(alloc, &elements) else {
-        return format!(in alloc; "no models");
-    };
-    let asked = match main {
-        Some(id) => Some(Name::of(Vec::from_slice(alloc, id.as_bytes())?)),
-        None => None,
-    };
-    match build(alloc, &elements, &models, asked.as_ref()) {
-        Ok(Tree { main, term }) => {
-            format!(in alloc; "{}: {}", text(&main), term_text(alloc, &term)?)
-        }
-        Err(Stop::Fault(fault)) => fault_text(alloc, &fault),
-        Err(Stop::NoMemory) => format!(in alloc; "no memory"),
+    match read_elements(alloc, file) {
+        Ok(elements) => elements_text(alloc, &elements, main),
+        Err(_) => String::from_str(alloc, "no elements"),
     }
 }
+
+/// What a node is understood as that is alone in its tree.
+fn node_text(alloc: Global, node: &str) -> Result<String, AllocError> {
+    let file = format!(in alloc;
+        "<root BTCPP_format=\"4\"><BehaviorTree ID=\"M\">{node}</BehaviorTree></root>"
+    )?;
+    file_text(alloc, file.as_bytes(), None)
+}
+
+/// Files with the main tree that is asked for, and what each is understood as.
+static FILES: [(&str, Option<&str>, &str); 17] = [
+    ("<tree/>", None, "NotRoot 0"),
+    ("<root BTCPP_format=\"5\"><a/></root>", None, "NotRoot 23"),
+    ("<root BTCPP_format=\"5\"/>", None, "Format"),
+    ("<root/>", None, "Format"),
+    ("<root BTCPP_format=\"4\"/>", None, "NoMain"),
+    (
+        "<root BTCPP_format=\"4\"><BehaviorTree/><BehaviorTree ID=\"\"/></root>",
+        None,
+        "DoubleTree ''",
+    ),
+    (
+        "<root BTCPP_format=\"4\"><BehaviorTree ID=\"A\"/><BehaviorTree ID=\"B\"/></root>",
+        None,
+        "NoMain",
+    ),
+    (
+        "<root BTCPP_format=\"4\" main_tree_to_execute=\"C\"><BehaviorTree ID=\"A\"/></root>",
+        None,
+        "NoTree 'C'",
+    ),
+    (
+        "<root BTCPP_format=\"4\" main_tree_to_execute=\"C\"><BehaviorTree ID=\"A\"><X/></BehaviorTree></root>",
+        Some("A"),
+        "A: Leaf X X",
+    ),
+    (
+        "<root BTCPP_format=\"4\" main_tree_to_execute=\"\"><BehaviorTree><X/></BehaviorTree><BehaviorTree ID=\"B\"/></root>",
+        None,
+        ": Leaf X X",
+    ),
+    (
+        "<root BTCPP_format=\"4\"><BehaviorTree ID=\"M\"/></root>",
+        None,
+        "ChildCount 0",
+    ),
+    (
+        "<root BTCPP_format=\"4\"><BehaviorTree ID=\"M\"><SubTree ID=\"M\"/></BehaviorTree></root>",
+        None,
+        "Recursive 'M'",
+    ),
+    (
+        "<root BTCPP_format=\"4\" main_tree_to_execute=\"M\"><BehaviorTree ID=\"M\"><Sequence><A/><SubTree ID=\"S\"/></Sequence></BehaviorTree><BehaviorTree ID=\"S\"/></root>",
+        None,
+        "ChildCount 3",
+    ),
+    (
+        "<root BTCPP_format=\"4\" main_tree_to_execute=\"M\"><BehaviorTree ID=\"M\"><Sequence><SubTree ID=\"S\" a=\"{b}\" c=\"{=}\" d=\"7\" _autoremap=\"1\" name=\"n\"/><A/></Sequence></BehaviorTree><BehaviorTree ID=\"S\"><Inverter><B/></Inverter></BehaviorTree></root>",
+        None,
+        "M: Sequence Sequence Sequence (SubTree S n a={b} c={c} d=7 autoremap (Inverter Inverter Inverter (Leaf B B))) (Leaf A A)",
+    ),
+    (
+        "<root BTCPP_format=\"4\"><BehaviorTree ID=\"M\"><A b=\"1\" _x=\"2\"/></BehaviorTree><TreeNodesModel><Action ID=\"A\"><input_port name=\"c\" default=\"{=}\"/><output_port name=\"b\" default=\"5\"/><inout_port name=\"d\"/></Action></TreeNodesModel></root>",
+        None,
+        "M: Leaf A A b=1 c={c}",
+    ),
+    (
+        "<root BTCPP_format=\"4\"><BehaviorTree ID=\"M\"><A e=\"1\"/></BehaviorTree><TreeNodesModel><Action ID=\"A\"><input_port name=\"c\" default=\"{}\"/></Action></TreeNodesModel></root>",
+        None,
+        "UnknownPort 1",
+    ),
+    (
+        "<root BTCPP_format=\"4\"><BehaviorTree ID=\"M\"><A/></BehaviorTree><TreeNodesModel><Action ID=\"A\"><input_port name=\"c\" default=\"{}\"/></Action></TreeNodesModel></root>",
+        None,
+        "BadLiteral 1",
+    ),
+];
 
 #[test]
 fn files(rt: HostRuntime) -> Result<(), Fail> {
     let alloc = rt.alloc();
-    for (file, main, wanted) in [
-        ("<tree/>", None, "NotRoot 0"),
-        ("<root BTCPP_format=\"5\"><a/></root>", None, "NotRoot 23"),
-        ("<root BTCPP_format=\"5\"/>", None, "Format"),
-        ("<root/>", None, "Format"),
-        ("<root BTCPP_format=\"4\"/>", None, "NoMain"),
-        (
-            "<root BTCPP_format=\"4\"><BehaviorTree/><BehaviorTree ID=\"\"/></root>",
-            None,
-            "DoubleTree ''",
-        ),
-        (
-            "<root BTCPP_format=\"4\"><BehaviorTree ID=\"A\"/><BehaviorTree ID=\"B\"/></root>",
-            None,
-            "NoMain",
-        ),
-        (
-            "<root BTCPP_format=\"4\" main_tree_to_execute=\"C\"><BehaviorTree ID=\"A\"/></root>",
-            None,
-            "NoTree 'C'",
-        ),
-        (
-            "<root BTCPP_format=\"4\" main_tree_to_execute=\"C\"><BehaviorTree ID=\"A\"><X/></BehaviorTree></root>",
-            Some("A"),
-            "A: Leaf X X",
-        ),
-        (
-            "<root BTCPP_format=\"4\" main_tree_to_execute=\"\"><BehaviorTree><X/></BehaviorTree><BehaviorTree ID=\"B\"/></root>",
-            None,
-            ": Leaf X X",
-        ),
-        (
-            "<root BTCPP_format=\"4\"><BehaviorTree ID=\"M\"/></root>",
-            None,
-            "ChildCount 0",
-        ),
-        (
-            "<root BTCPP_format=\"4\"><BehaviorTree ID=\"M\"><SubTree ID=\"M\"/></BehaviorTree></root>",
-            None,
-            "Recursive 'M'",
-        ),
-        (
-            "<root BTCPP_format=\"4\" main_tree_to_execute=\"M\"><BehaviorTree ID=\"M\"><Sequence><A/><SubTree ID=\"S\"/></Sequence></BehaviorTree><BehaviorTree ID=\"S\"/></root>",
-            None,
-            "ChildCount 3",
-        ),
-        (
-            "<root BTCPP_format=\"4\" main_tree_to_execute=\"M\"><BehaviorTree ID=\"M\"><Sequence><SubTree ID=\"S\" a=\"{b}\" c=\"{=}\" d=\"7\" _autoremap=\"1\" name=\"n\"/><A/></Sequence></BehaviorTree><BehaviorTree ID=\"S\"><Inverter><B/></Inverter></BehaviorTree></root>",
-            None,
-            "M: Sequence Sequence Sequence (SubTree S n a={b} c={c} d=7 autoremap (Inverter Inverter Inverter (Leaf B B))) (Leaf A A)",
-        ),
-        (
-            "<root BTCPP_format=\"4\"><BehaviorTree ID=\"M\"><A b=\"1\" _x=\"2\"/></BehaviorTree><TreeNodesModel><Action ID=\"A\"><input_port name=\"c\" default=\"{=}\"/><output_port name=\"b\" default=\"5\"/><inout_port name=\"d\"/></Action></TreeNodesModel></root>",
-            None,
-            "M: Leaf A A b=1 c={c}",
-        ),
-        (
-            "<root BTCPP_format=\"4\"><BehaviorTree ID=\"M\"><A e=\"1\"/></BehaviorTree><TreeNodesModel><Action ID=\"A\"><input_port name=\"c\" default=\"{}\"/></Action></TreeNodesModel></root>",
-            None,
-            "UnknownPort 1",
-        ),
-        (
-            "<root BTCPP_format=\"4\"><BehaviorTree ID=\"M\"><A/></BehaviorTree><TreeNodesModel><Action ID=\"A\"><input_port name=\"c\" default=\"{}\"/></Action></TreeNodesModel></root>",
-            None,
-            "BadLiteral 1",
-        ),
-    ] {
+    for (file, main, wanted) in &FILES {
         assert_eq!(rt;
-            file_text(alloc, file.as_bytes(), main)?.as_str(),
-            wanted,
+            file_text(alloc, file.as_bytes(), *main)?.as_str(),
+            *wanted,
             "{file}"
         );
     }
     Ok(())
 }
 
+/// Nodes, and what the tree of each is understood as.
+static NODES: [(&str, &str); 40] = [
+    ("<Sequence/>", "ChildCount 1"),
+    (
+        "<Control ID=\"Sequence\" name=\"s\"><A/></Control>",
+        "M: Sequence Sequence s (Leaf A A)",
+    ),
+    (
+        "<Decorator ID=\"Sequence\"><A/></Decorator>",
+        "UnknownNode 1",
+    ),
+    (
+        "<Sequence ID=\"X\"><A/></Sequence>",
+        "M: Sequence Sequence Sequence (Leaf A A)",
+    ),
+    ("<Sequence x=\"1\"><A/></Sequence>", "UnknownPort 1"),
+    ("<Action/>", "UnknownNode 1"),
+    ("<Action ID=\"root\"/>", "M: Leaf root root"),
+    (
+        "<Condition ID=\"A\" name=\"n\" p=\"{q}\"/>",
+        "M: Leaf A n p={q}",
+    ),
+    ("<Action ID=\"A\"><B/></Action>", "UnknownNode 1"),
+    ("<Action ID=\"AlwaysSuccess\"><B/></Action>", "ChildCount 1"),
+    ("<Control ID=\"A\"/>", "UnknownNode 1"),
+    ("<root/>", "UnknownNode 1"),
+    ("<A><B/></A>", "UnknownNode 1"),
+    ("<N x=\"{}\"/>", "BadLiteral 1"),
+    ("<N x=\"{a b}\"/>", "BadLiteral 1"),
+    (
+        "<N x=\"-0\" y=\"-7\" z=\"9223372036854775808\"/>",
+        "M: Leaf N N x='-0' y=-7 z='9223372036854775808'",
+    ),
+    (
+        "<Parallel failure_count=\"{f}\"><A/></Parallel>",
+        "M: Parallel Parallel Parallel failure_count={f} success_count=-1 (Leaf A A)",
+    ),
+    (
+        "<Switch2 variable=\"{v}\" case_2=\"b\" case_1=\"1\"><A/><B/><C/></Switch2>",
+        "M: Switch(2) Switch2 Switch2 variable={v} case_2='b' case_1=1 (Leaf A A) (Leaf B B) (Leaf C C)",
+    ),
+    (
+        "<Switch2 variable=\"{v}\" case_1=\"1\"><A/><B/><C/></Switch2>",
+        "BadLiteral 1",
+    ),
+    (
+        "<Switch2 case_3=\"c\"><A/><B/><C/></Switch2>",
+        "UnknownPort 1",
+    ),
+    (
+        "<Switch2 variable=\"\" case_1=\"\" case_2=\"\"><A/><B/></Switch2>",
+        "ChildCount 1",
+    ),
+    ("<IfThenElse><A/></IfThenElse>", "ChildCount 1"),
+    (
+        "<RetryUntilSuccessful num_attempts=\"0\"><A/></RetryUntilSuccessful>",
+        "BadLiteral 1",
+    ),
+    (
+        "<RetryUntilSuccessful num_attempts=\"-1\"><A/></RetryUntilSuccessful>",
+        "M: Retry RetryUntilSuccessful RetryUntilSuccessful num_attempts=-1 (Leaf A A)",
+    ),
+    ("<Repeat num_cycles=\"1001\"><A/></Repeat>", "BadLiteral 1"),
+    (
+        "<Timeout msec=\"4294967296\"><A/></Timeout>",
+        "BadLiteral 1",
+    ),
+    ("<Delay><A/></Delay>", "BadLiteral 1"),
+    (
+        "<RunOnce><A/></RunOnce>",
+        "M: RunOnce RunOnce RunOnce then_skip='true' (Leaf A A)",
+    ),
+    ("<RunOnce then_skip=\"2\"><A/></RunOnce>", "BadLiteral 1"),
+    ("<Script/>", "BadLiteral 1"),
+    (
+        "<Script code=\"x:=1; y=2\"/>",
+        "M: ScriptNode Script Script code:2",
+    ),
+    (
+        "<Script code=\"1.5\" _post=\"(\"/>",
+        "BadScript 1 RealNumber { place: 0 }",
+    ),
+    (
+        "<ScriptCondition code=\"x\" _while=\"x\" _skipIf=\"1;2\"/>",
+        "M: ScriptCondition ScriptCondition ScriptCondition code:1 skip_if:2 while_true:1",
+    ),
+    (
+        "<A _onHalted=\")\" _failureIf=\"\"/>",
+        "BadScript 1 Syntax { place: 0 }",
+    ),
+    (
+        "<A _post=\"1.5\" _while=\"(\"/>",
+        "BadScript 1 Syntax { place: 1 }",
+    ),
+    ("<Script x=\"{}\"/>", "UnknownPort 1"),
+    ("<N x=\"{}\" _post=\"(\"/>", "BadLiteral 1"),
+    ("<SubTree ID=\"S\" x=\"{}\"/>", "NoTree 'S'"),
+    (
+        "<Repeat num_cycles=\"1000\"><Repeat num_cycles=\"{k}\"><A/></Repeat></Repeat>",
+        "TooMuchWork",
+    ),
+    (
+        "<Sequence><A/><Inverter><B x=\"{}\"/></Inverter><Sequence/></Sequence>",
+        "BadLiteral 4",
+    ),
+];
+
 #[test]
 fn nodes(rt: HostRuntime) -> Result<(), Fail> {
     let alloc = rt.alloc();
-    for (node, wanted) in [
-        ("<Sequence/>", "ChildCount 1"),
-        (
-            "<Control ID=\"Sequence\" name=\"s\"><A/></Control>",
-            "M: Sequence Sequence s (Leaf A A)",
-        ),
-        (
-            "<Decorator ID=\"Sequence\"><A/></Decorator>",
-            "UnknownNode 1",
-        ),
-        (
-            "<Sequence ID=\"X\"><A/></Sequence>",
-            "M: Sequence Sequence Sequence (Leaf A A)",
-        ),
-        ("<Sequence x=\"1\"><A/></Sequence>", "UnknownPort 1"),
-        ("<Action/>", "UnknownNode 1"),
-        ("<Action ID=\"root\"/>", "M: Leaf root root"),
-        (
-            "<Condition ID=\"A\" name=\"n\" p=\"{q}\"/>",
-            "M: Leaf A n p={q}",
-        ),
-        ("<Action ID=\"A\"><B/></Action>", "UnknownNode 1"),
-        ("<Action ID=\"AlwaysSuccess\"><B/></Action>", "ChildCount 1"),
-        ("<Control ID=\"A\"/>", "UnknownNode 1"),
-        ("<root/>", "UnknownNode 1"),
-        ("<A><B/></A>", "UnknownNode 1"),
-        ("<N x=\"{}\"/>", "BadLiteral 1"),
-        ("<N x=\"{a b}\"/>", "BadLiteral 1"),
-        (
-            "<N x=\"-0\" y=\"-7\" z=\"9223372036854775808\"/>",
-            "M: Leaf N N x='-0' y=-7 z='9223372036854775808'",
-        ),
-        (
-            "<Parallel failure_count=\"{f}\"><A/></Parallel>",
-            "M: Parallel Parallel Parallel failure_count={f} success_count=-1 (Leaf A A)",
-        ),
-        (
-            "<Switch2 variable=\"{v}\" case_2=\"b\" case_1=\"1\"><A/><B/><C/></Switch2>",
-            "M: Switch(2) Switch2 Switch2 variable={v} case_2='b' case_1=1 (Leaf A A) (Leaf B B) (Leaf C C)",
-        ),
-        (
-            "<Switch2 variable=\"{v}\" case_1=\"1\"><A/><B/><C/></Switch2>",
-            "BadLiteral 1",
-        ),
-        (
-            "<Switch2 case_3=\"c\"><A/><B/><C/></Switch2>",
-            "UnknownPort 1",
-        ),
-        (
-            "<Switch2 variable=\"\" case_1=\"\" case_2=\"\"><A/><B/></Switch2>",
-            "ChildCount 1",
-        ),
-        ("<IfThenElse><A/></IfThenElse>", "ChildCount 1"),
-        (
-            "<RetryUntilSuccessful num_attempts=\"0\"><A/></RetryUntilSuccessful>",
-            "BadLiteral 1",
-        ),
-        (
-            "<RetryUntilSuccessful num_attempts=\"-1\"><A/></RetryUntilSuccessful>",
-            "M: Retry RetryUntilSuccessful RetryUntilSuccessful num_attempts=-1 (Leaf A A)",
-        ),
-        ("<Repeat num_cycles=\"1001\"><A/></Repeat>", "BadLiteral 1"),
-        (
-            "<Timeout msec=\"4294967296\"><A/></Timeout>",
-            "BadLiteral 1",
-        ),
-        ("<Delay><A/></Delay>", "BadLiteral 1"),
-        (
-            "<RunOnce><A/></RunOnce>",
-            "M: RunOnce RunOnce RunOnce then_skip='true' (Leaf A A)",
-        ),
-        ("<RunOnce then_skip=\"2\"><A/></RunOnce>", "BadLiteral 1"),
-        ("<Script/>", "BadLiteral 1"),
-        (
-            "<Script code=\"x:=1; y=2\"/>",
-            "M: ScriptNode Script Script code:2",
-        ),
-        (
-            "<Script code=\"1.5\" _post=\"(\"/>",
-            "BadScript 1 RealNumber { place: 0 }",
-        ),
-        (
-            "<ScriptCondition code=\"x\" _while=\"x\" _skipIf=\"1;2\"/>",
-            "M: ScriptCondition ScriptCondition ScriptCondition code:1 skip_if:2 while_true:1",
-        ),
-        (
-            "<A _onHalted=\")\" _failureIf=\"\"/>",
-            "BadScript 1 Syntax { place: 0 }",
-        ),
-        (
-            "<A _post=\"1.5\" _while=\"(\"/>",
-            "BadScript 1 Syntax { place: 1 }",
-        ),
-        ("<Script x=\"{}\"/>", "UnknownPort 1"),
-        ("<N x=\"{}\" _post=\"(\"/>", "BadLiteral 1"),
-        ("<SubTree ID=\"S\" x=\"{}\"/>", "NoTree 'S'"),
-        (
-            "<Repeat num_cycles=\"1000\"><Repeat num_cycles=\"{k}\"><A/></Repeat></Repeat>",
-            "TooMuchWork",
-        ),
-        (
-            "<Sequence><A/><Inverter><B x=\"{}\"/></Inverter><Sequence/></Sequence>",
-            "BadLiteral 4",
-        ),
-    ] {
-        let file = format!(in alloc;
-            "<root BTCPP_format=\"4\"><BehaviorTree ID=\"M\">{node}</BehaviorTree></root>"
-        )?;
-        assert_eq!(rt;
-            file_text(alloc, file.as_bytes(), None)?.as_str(),
-            wanted,
-            "{node}"
-        );
+    for (node, wanted) in &NODES {
+        assert_eq!(rt; node_text(alloc, node)?.as_str(), *wanted, "{node}");
     }
     Ok(())
 }

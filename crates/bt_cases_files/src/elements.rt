@@ -1,7 +1,5 @@
 //! What a tree file spells, or its fault.
 
-ghost use Rattle.std.specs.Prelude.{◌≤◌, length};
-
 use bt_elements::{Element, read_elements};
 use bt_script::Stop;
 use std::alloc::Global;
@@ -10,8 +8,7 @@ use std::test::Fail;
 /// The name, place, attributes and children, as `a@0[k=v;](b@3[]())`.
 fn outline(alloc: Global, element: &Element, out: &mut Vec<u8>) -> Result<(), Fail> {
     out.extend_from_slice(element.name.list())?;
-    let place = format!(in alloc; "@{}[", element.place)?;
-    out.extend_from_slice(place.as_bytes())?;
+    out.extend_from_slice(format!(in alloc; "@{}[", element.place)?.as_bytes())?;
     for (name, value) in element.attributes.list() {
         out.extend_from_slice(name.list())?;
         out.push(b'=')?;
@@ -27,15 +24,16 @@ fn outline(alloc: Global, element: &Element, out: &mut Vec<u8>) -> Result<(), Fa
 }
 
 /// The outline of what the bytes spell, or their fault.
-fn outcome(alloc: Global, bytes: &[u8]) -> Result<Vec<u8>, Fail>
-    requires { length bytes.now ≤ 1048576 }
-{
+fn outcome(alloc: Global, bytes: &[u8]) -> Result<Vec<u8>, Fail> {
     let mut out = Vec::new(alloc);
+    if bytes.len() > 1_048_576 {
+        out.extend_from_slice(b"too long")?;
+        return Ok(out);
+    }
     match read_elements(alloc, bytes) {
         Ok(elements) => outline(alloc, &elements.root, &mut out)?,
         Err(Stop::Fault(fault)) => {
-            let text = format!(in alloc; "{fault:?}")?;
-            out.extend_from_slice(text.as_bytes())?;
+            out.extend_from_slice(format!(in alloc; "{fault:?}")?.as_bytes())?;
         }
         Err(Stop::NoMemory) => out.extend_from_slice(b"NoMemory")?,
     }
@@ -55,150 +53,159 @@ fn nested(alloc: Global, depth: usize, last: &[u8]) -> Result<Vec<u8>, Fail> {
     Ok(out)
 }
 
+/// The same of the last mark within so many elements.
+fn nested_outcome(alloc: Global, depth: usize, last: &[u8]) -> Result<Vec<u8>, Fail> {
+    outcome(alloc, nested(alloc, depth, last)?.as_slice())
+}
+
+/// Whether the last mark within so many elements can be read.
+fn nested_is_read(alloc: Global, depth: usize, last: &[u8]) -> Result<bool, Fail> {
+    let bytes = nested(alloc, depth, last)?;
+    Ok(bytes.len() <= 1_048_576 && read_elements(alloc, bytes.as_slice()).is_ok())
+}
+
+/// Files, and what each of them spells.
+static SPELLED: [(&[u8], &[u8]); 69] = [
+    // marks
+    (
+        b"<root BTCPP_format=\"4\"><BehaviorTree ID=\"M\"><Sequence><A/><B/></Sequence></BehaviorTree></root>",
+        b"root@0[BTCPP_format=4;](BehaviorTree@23[ID=M;](Sequence@44[](A@54[]()B@58[]())))",
+    ),
+    (
+        b"\n<a\tk = \"1\" l='x \"y\"' >\r\n</a >\r\n",
+        b"a@1[k=1;l=x \"y\";]()",
+    ),
+    (
+        b"<?xml version=\"1.0\"?><!-- a > <b> -- ?> --><a/><!---->",
+        b"a@43[]()",
+    ),
+    (b"<a><!--b--><?c?><d/><!--e--></a>", b"a@0[](d@16[]())"),
+    (b"<??><!--->--><a/>", b"a@13[]()"),
+    (b"\xEF\xBB\xBF<a/>", b"a@3[]()"),
+    (
+        b"<a-b.c:d \xC3\xA9-1='\xC3\xA9'/>",
+        b"a-b.c:d@0[\xC3\xA9-1=\xC3\xA9;]()",
+    ),
+    (b"<a k='\r\n\t'/>", b"a@0[k=\r\n\t;]()"),
+    (
+        b"<a>x<TreeNodesModel>text \x00<b>more</b></TreeNodesModel></a>",
+        b"StrayText { place: 3 }",
+    ),
+    (
+        b"<a><TreeNodesModel>text \x00<b>more</b>&</TreeNodesModel></a>",
+        b"a@0[](TreeNodesModel@3[](b@25[]()))",
+    ),
+    (
+        b"<TreeNodesModel>x<!-- y -->z</TreeNodesModel>",
+        b"TreeNodesModel@0[]()",
+    ),
+    // references
+    (b"<a k='&lt;&gt;&amp;&quot;&apos;'/>", b"a@0[k=<>&\"';]()"),
+    (
+        b"<a k='&#65;&#x41;&#x4a;&#0065;&#xe9;&#x1F600;'/>",
+        b"a@0[k=AAJA\xC3\xA9\xF0\x9F\x98\x80;]()",
+    ),
+    (b"<a k='&#10;&amp;lt;'/>", b"a@0[k=\n&lt;;]()"),
+    (
+        b"<a k='&&lt &LT; &#; &#x; &#X41; &#0;'/>",
+        b"a@0[k=&&lt &LT; &#; &#x; &#X41; &#0;;]()",
+    ),
+    (
+        b"<a k='&#xD800;&#xDFFF;&#x110000;&#4294967361;&#xD7FF;'/>",
+        b"a@0[k=&#xD800;&#xDFFF;&#x110000;&#4294967361;\xED\x9F\xBF;]()",
+    ),
+    (b"<a k='&#6a;&nbsp;&'/>", b"a@0[k=&#6a;&nbsp;&;]()"),
+    // not UTF-8
+    (b"\xFF", b"NotUtf8 { place: 0 }"),
+    (b"x<a>\xC3</a>", b"NotUtf8 { place: 4 }"),
+    (b"<a/>\xF0\x9F\x98", b"NotUtf8 { place: 4 }"),
+    // marks that are none
+    (b"<!-- x", b"BadMark { place: 0 }"),
+    (b"<!-- x --", b"BadMark { place: 0 }"),
+    (b"<!-->", b"BadMark { place: 0 }"),
+    (b"<?>", b"BadMark { place: 0 }"),
+    (b"<?x", b"BadMark { place: 0 }"),
+    (b"<!-- \x00 --><a/>", b"BadMark { place: 0 }"),
+    (b"<?\x00?><a/>", b"BadMark { place: 0 }"),
+    (b"<!DOCTYPE root><root/>", b"BadMark { place: 0 }"),
+    (b"<root a=\"1<2\"/>", b"BadMark { place: 0 }"),
+    (b"<a k=\"\x00\"/>", b"BadMark { place: 0 }"),
+    (b"<a k=\"1\"l=\"2\"/>", b"BadMark { place: 0 }"),
+    (b"<a k=1/>", b"BadMark { place: 0 }"),
+    (b"<a k/>", b"BadMark { place: 0 }"),
+    (b"<a k=\"1'/>", b"BadMark { place: 0 }"),
+    (b"<1a/>", b"BadMark { place: 0 }"),
+    (b"<-a/>", b"BadMark { place: 0 }"),
+    (b"< a/>", b"BadMark { place: 0 }"),
+    (b"<>", b"BadMark { place: 0 }"),
+    (b"<", b"BadMark { place: 0 }"),
+    (b"<a / >", b"BadMark { place: 0 }"),
+    (b"<a></a", b"BadMark { place: 3 }"),
+    (b"<a></ a>", b"BadMark { place: 3 }"),
+    (b"<a></a k='1'>", b"BadMark { place: 3 }"),
+    (b"<root", b"BadMark { place: 0 }"),
+    // marks that do not match
+    (b"", b"Unmatched { place: 0 }"),
+    (b" \n", b"Unmatched { place: 2 }"),
+    (b"\xEF\xBB\xBF", b"Unmatched { place: 3 }"),
+    (b"<!--a-->", b"Unmatched { place: 8 }"),
+    (b"<a><b></b>", b"Unmatched { place: 10 }"),
+    (b"<root/><root/>", b"Unmatched { place: 7 }"),
+    (b"<a></a></a>", b"Unmatched { place: 7 }"),
+    (b"</a>", b"Unmatched { place: 0 }"),
+    (b"<root></Root>", b"Unmatched { place: 6 }"),
+    (b"<a><b></a></b>", b"Unmatched { place: 6 }"),
+    // attributes of one name
+    (b"<a k=\"1\" k=\"1\"/>", b"DoubleAttribute { place: 0 }"),
+    (
+        b"<a><b k='1' l='2' k='3'></a>",
+        b"DoubleAttribute { place: 3 }",
+    ),
+    // text
+    (b"x", b"StrayText { place: 0 }"),
+    (b"x<a/>", b"StrayText { place: 0 }"),
+    (b"<root>x</root>", b"StrayText { place: 6 }"),
+    (b"<a>\n\xC2\xA0</a>", b"StrayText { place: 4 }"),
+    (b"<a/>\n&", b"StrayText { place: 5 }"),
+    (b"\xEF\xBB\xBF\xEF\xBB\xBF<a/>", b"StrayText { place: 3 }"),
+    (b"<a><TreeNodesModel/>x</a>", b"StrayText { place: 20 }"),
+    (
+        b"<TreeNodesModel></TreeNodesModel> x",
+        b"StrayText { place: 34 }",
+    ),
+    // the first of two
+    (b"x<", b"StrayText { place: 0 }"),
+    (b"<a/><b k='1' k='2'/>", b"DoubleAttribute { place: 4 }"),
+    (b"<a/><b k='1' k='2'", b"BadMark { place: 4 }"),
+    (b"<a k='1' k='2'/><!--", b"DoubleAttribute { place: 0 }"),
+    (b"</b x></a>", b"BadMark { place: 0 }"),
+];
+
 #[test]
 fn elements_and_faults(rt: HostRuntime) -> Result<(), Fail> {
-    let table: [(&[u8], &[u8]); 69] = [
-        // marks
-        (
-            b"<root BTCPP_format=\"4\"><BehaviorTree ID=\"M\"><Sequence><A/><B/></Sequence></BehaviorTree></root>",
-            b"root@0[BTCPP_format=4;](BehaviorTree@23[ID=M;](Sequence@44[](A@54[]()B@58[]())))",
-        ),
-        (
-            b"\n<a\tk = \"1\" l='x \"y\"' >\r\n</a >\r\n",
-            b"a@1[k=1;l=x \"y\";]()",
-        ),
-        (
-            b"<?xml version=\"1.0\"?><!-- a > <b> -- ?> --><a/><!---->",
-            b"a@43[]()",
-        ),
-        (b"<a><!--b--><?c?><d/><!--e--></a>", b"a@0[](d@16[]())"),
-        (b"<??><!--->--><a/>", b"a@13[]()"),
-        (b"\xEF\xBB\xBF<a/>", b"a@3[]()"),
-        (
-            b"<a-b.c:d \xC3\xA9-1='\xC3\xA9'/>",
-            b"a-b.c:d@0[\xC3\xA9-1=\xC3\xA9;]()",
-        ),
-        (b"<a k='\r\n\t'/>", b"a@0[k=\r\n\t;]()"),
-        (
-            b"<a>x<TreeNodesModel>text \x00<b>more</b></TreeNodesModel></a>",
-            b"StrayText { place: 3 }",
-        ),
-        (
-            b"<a><TreeNodesModel>text \x00<b>more</b>&</TreeNodesModel></a>",
-            b"a@0[](TreeNodesModel@3[](b@25[]()))",
-        ),
-        (
-            b"<TreeNodesModel>x<!-- y -->z</TreeNodesModel>",
-            b"TreeNodesModel@0[]()",
-        ),
-        // references
-        (b"<a k='&lt;&gt;&amp;&quot;&apos;'/>", b"a@0[k=<>&\"';]()"),
-        (
-            b"<a k='&#65;&#x41;&#x4a;&#0065;&#xe9;&#x1F600;'/>",
-            b"a@0[k=AAJA\xC3\xA9\xF0\x9F\x98\x80;]()",
-        ),
-        (b"<a k='&#10;&amp;lt;'/>", b"a@0[k=\n&lt;;]()"),
-        (
-            b"<a k='&&lt &LT; &#; &#x; &#X41; &#0;'/>",
-            b"a@0[k=&&lt &LT; &#; &#x; &#X41; &#0;;]()",
-        ),
-        (
-            b"<a k='&#xD800;&#xDFFF;&#x110000;&#4294967361;&#xD7FF;'/>",
-            b"a@0[k=&#xD800;&#xDFFF;&#x110000;&#4294967361;\xED\x9F\xBF;]()",
-        ),
-        (b"<a k='&#6a;&nbsp;&'/>", b"a@0[k=&#6a;&nbsp;&;]()"),
-        // not UTF-8
-        (b"\xFF", b"NotUtf8 { place: 0 }"),
-        (b"x<a>\xC3</a>", b"NotUtf8 { place: 4 }"),
-        (b"<a/>\xF0\x9F\x98", b"NotUtf8 { place: 4 }"),
-        // marks that are none
-        (b"<!-- x", b"BadMark { place: 0 }"),
-        (b"<!-- x --", b"BadMark { place: 0 }"),
-        (b"<!-->", b"BadMark { place: 0 }"),
-        (b"<?>", b"BadMark { place: 0 }"),
-        (b"<?x", b"BadMark { place: 0 }"),
-        (b"<!-- \x00 --><a/>", b"BadMark { place: 0 }"),
-        (b"<?\x00?><a/>", b"BadMark { place: 0 }"),
-        (b"<!DOCTYPE root><root/>", b"BadMark { place: 0 }"),
-        (b"<root a=\"1<2\"/>", b"BadMark { place: 0 }"),
-        (b"<a k=\"\x00\"/>", b"BadMark { place: 0 }"),
-        (b"<a k=\"1\"l=\"2\"/>", b"BadMark { place: 0 }"),
-        (b"<a k=1/>", b"BadMark { place: 0 }"),
-        (b"<a k/>", b"BadMark { place: 0 }"),
-        (b"<a k=\"1'/>", b"BadMark { place: 0 }"),
-        (b"<1a/>", b"BadMark { place: 0 }"),
-        (b"<-a/>", b"BadMark { place: 0 }"),
-        (b"< a/>", b"BadMark { place: 0 }"),
-        (b"<>", b"BadMark { place: 0 }"),
-        (b"<", b"BadMark { place: 0 }"),
-        (b"<a / >", b"BadMark { place: 0 }"),
-        (b"<a></a", b"BadMark { place: 3 }"),
-        (b"<a></ a>", b"BadMark { place: 3 }"),
-        (b"<a></a k='1'>", b"BadMark { place: 3 }"),
-        (b"<root", b"BadMark { place: 0 }"),
-        // marks that do not match
-        (b"", b"Unmatched { place: 0 }"),
-        (b" \n", b"Unmatched { place: 2 }"),
-        (b"\xEF\xBB\xBF", b"Unmatched { place: 3 }"),
-        (b"<!--a-->", b"Unmatched { place: 8 }"),
-        (b"<a><b></b>", b"Unmatched { place: 10 }"),
-        (b"<root/><root/>", b"Unmatched { place: 7 }"),
-        (b"<a></a></a>", b"Unmatched { place: 7 }"),
-        (b"</a>", b"Unmatched { place: 0 }"),
-        (b"<root></Root>", b"Unmatched { place: 6 }"),
-        (b"<a><b></a></b>", b"Unmatched { place: 6 }"),
-        // attributes of one name
-        (b"<a k=\"1\" k=\"1\"/>", b"DoubleAttribute { place: 0 }"),
-        (
-            b"<a><b k='1' l='2' k='3'></a>",
-            b"DoubleAttribute { place: 3 }",
-        ),
-        // text
-        (b"x", b"StrayText { place: 0 }"),
-        (b"x<a/>", b"StrayText { place: 0 }"),
-        (b"<root>x</root>", b"StrayText { place: 6 }"),
-        (b"<a>\n\xC2\xA0</a>", b"StrayText { place: 4 }"),
-        (b"<a/>\n&", b"StrayText { place: 5 }"),
-        (b"\xEF\xBB\xBF\xEF\xBB\xBF<a/>", b"StrayText { place: 3 }"),
-        (b"<a><TreeNodesModel/>x</a>", b"StrayText { place: 20 }"),
-        (
-            b"<TreeNodesModel></TreeNodesModel> x",
-            b"StrayText { place: 34 }",
-        ),
-        // the first of two
-        (b"x<", b"StrayText { place: 0 }"),
-        (b"<a/><b k='1' k='2'/>", b"DoubleAttribute { place: 4 }"),
-        (b"<a/><b k='1' k='2'", b"BadMark { place: 4 }"),
-        (b"<a k='1' k='2'/><!--", b"DoubleAttribute { place: 0 }"),
-        (b"</b x></a>", b"BadMark { place: 0 }"),
-    ];
-    for (bytes, want) in table {
-        assert!(rt; bytes.len() <= 1048576);
-        let found = outcome(rt.alloc(), bytes)?;
-        assert_eq!(rt; found.as_slice(), want);
+    let alloc = rt.alloc();
+    for (bytes, want) in &SPELLED {
+        assert_eq!(rt; outcome(alloc, bytes)?.as_slice(), *want);
     }
     Ok(())
 }
 
+/// Depths with the last mark at each, and the fault.
+static DEEP: [(usize, &[u8], &[u8]); 5] = [
+    (257, b"<a k='1' k='1'/>", b"DoubleAttribute { place: 771 }"),
+    (258, b"<a>", b"TooDeep { place: 774 }"),
+    (258, b"<a/>", b"TooDeep { place: 774 }"),
+    (258, b"</b>", b"Unmatched { place: 774 }"),
+    (258, b"<a k='1' k='1'/>", b"DoubleAttribute { place: 774 }"),
+];
+
 #[test]
 fn depths(rt: HostRuntime) -> Result<(), Fail> {
-    let table: [(usize, &[u8], &[u8]); 5] = [
-        (257, b"<a k='1' k='1'/>", b"DoubleAttribute { place: 771 }"),
-        (258, b"<a>", b"TooDeep { place: 774 }"),
-        (258, b"<a/>", b"TooDeep { place: 774 }"),
-        (258, b"</b>", b"Unmatched { place: 774 }"),
-        (258, b"<a k='1' k='1'/>", b"DoubleAttribute { place: 774 }"),
-    ];
-    for (depth, last, want) in table {
-        let bytes = nested(rt.alloc(), depth, last)?;
-        assert!(rt; bytes.len() <= 1048576);
-        let found = outcome(rt.alloc(), bytes.as_slice())?;
-        assert_eq!(rt; found.as_slice(), want);
+    let alloc = rt.alloc();
+    for (depth, last, want) in &DEEP {
+        assert_eq!(rt; nested_outcome(alloc, *depth, last)?.as_slice(), *want);
     }
-    for (depth, last) in [(257, b"<a/>"), (258, b"    ")] {
-        let bytes = nested(rt.alloc(), depth, last.as_slice())?;
-        assert!(rt; bytes.len() <= 1048576);
-        assert!(rt; read_elements(rt.alloc(), bytes.as_slice()).is_ok());
-    }
+    assert!(rt; nested_is_read(alloc, 257, b"<a/>")?);
+    assert!(rt; nested_is_read(alloc, 258, b"    ")?);
     Ok(())
 }

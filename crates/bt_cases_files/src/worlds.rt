@@ -23,37 +23,72 @@ fn sort_text(alloc: Global, sort: &RowSort) -> Result<String, AllocError> {
     }
 }
 
-fn row_text(alloc: Global, row: &Row) -> Result<String, AllocError> {
-    let mut text = String::from_str(alloc, shown(&row.id))?;
-    for port in row.ports.list() {
-        text.push_str(format!(in alloc; ",{}", shown(port))?.as_str())?;
-    }
+/// The kind of a row and what it needs.
+fn put_sort(alloc: Global, row: &Row, out: &mut String) -> Result<(), AllocError> {
     let sort = sort_text(alloc, &row.sort)?;
-    text.push_str(format!(in alloc; " {sort} {:?}", row.needs.list())?.as_str())?;
+    out.push_str(format!(in alloc; " {sort} {:?}", row.needs.list())?.as_str())
+}
+
+/// What a row sets and puts out.
+fn put_effects(alloc: Global, row: &Row, out: &mut String) -> Result<(), AllocError> {
     for set in row.sets.list() {
-        text.push_str(format!(in alloc; " {}={}", set.fact, set.value)?.as_str())?;
+        out.push_str(format!(in alloc; " {}={}", set.fact, set.value)?.as_str())?;
     }
-    for out in row.outs.list() {
-        text.push_str(format!(in alloc; " {}:", shown(&out.port))?.as_str())?;
+    for output in row.outs.list() {
+        out.push_str(format!(in alloc; " {}:", shown(&output.port))?.as_str())?;
     }
-    Ok(text)
+    Ok(())
+}
+
+fn put_row(alloc: Global, row: &Row, out: &mut String) -> Result<(), AllocError> {
+    out.push_str(shown(&row.id))?;
+    for port in row.ports.list() {
+        out.push(',')?;
+        out.push_str(shown(port))?;
+    }
+    put_sort(alloc, row, out)?;
+    put_effects(alloc, row, out)
+}
+
+/// The facts and rows of a world.
+fn put_rows(alloc: Global, world: &World, out: &mut String) -> Result<(), AllocError> {
+    for fact in world.facts.list() {
+        out.push_str(format!(in alloc; "{} {}; ", shown(&fact.name), fact.opening)?.as_str())?;
+    }
+    for row in world.rows.list() {
+        put_row(alloc, row, out)?;
+        out.push_str("; ")?;
+    }
+    Ok(())
+}
+
+/// The goals, runners and events of a world.
+fn put_events(alloc: Global, world: &World, out: &mut String) -> Result<(), AllocError> {
+    let goals = world.goals.list();
+    out.push_str(format!(in alloc; "{goals:?} {}", world.runners)?.as_str())?;
+    for event in world.events.list() {
+        out.push_str(format!(in alloc; "; {} {:?}", event.at, event.what)?.as_str())?;
+    }
+    Ok(())
 }
 
 /// A world as text: facts, rows, goals, runners and events.
 fn world_text(alloc: Global, world: &World) -> Result<String, AllocError> {
     let mut text = String::new(alloc);
-    for fact in world.facts.list() {
-        text.push_str(format!(in alloc; "{} {}; ", shown(&fact.name), fact.opening)?.as_str())?;
-    }
-    for row in world.rows.list() {
-        text.push_str(format!(in alloc; "{}; ", row_text(alloc, row)?)?.as_str())?;
-    }
-    let goals = world.goals.list();
-    text.push_str(format!(in alloc; "{goals:?} {}", world.runners)?.as_str())?;
-    for event in world.events.list() {
-        text.push_str(format!(in alloc; "; {} {:?}", event.at, event.what)?.as_str())?;
-    }
+    put_rows(alloc, world, &mut text)?;
+    put_events(alloc, world, &mut text)?;
     Ok(text)
+}
+
+/// The numbers of facts, rows, goals and events.
+fn counts_text(alloc: Global, world: &World) -> Result<String, AllocError> {
+    format!(in alloc;
+        "{} {} {} {}",
+        world.facts.list().len(),
+        world.rows.list().len(),
+        world.goals.list().len(),
+        world.events.list().len()
+    )
 }
 
 /// The world of a script as text, or its first faulty line.
@@ -74,13 +109,7 @@ fn counted(alloc: Global, bytes: &[u8]) -> Result<String, AllocError> {
         return String::from_str(alloc, "too long");
     }
     match read_world(alloc, bytes) {
-        Ok(world) => format!(in alloc;
-            "{} {} {} {}",
-            world.facts.list().len(),
-            world.rows.list().len(),
-            world.goals.list().len(),
-            world.events.list().len()
-        ),
+        Ok(world) => counts_text(alloc, &world),
         Err(Stop::Fault(fault)) => format!(in alloc; "{:?} {}", fault.kind, fault.line),
         Err(Stop::NoMemory) => String::from_str(alloc, "no memory"),
     }
@@ -94,6 +123,11 @@ fn script(alloc: Global, lines: &str) -> Result<String, AllocError> {
         text.push_str(line)?;
     }
     Ok(text)
+}
+
+/// The world of these lines as text, or its first faulty line.
+fn lines_told(alloc: Global, lines: &str) -> Result<String, AllocError> {
+    told(alloc, script(alloc, lines)?.as_bytes())
 }
 
 /// This many lines of a pattern, in which `#` stands for the number of the line.
@@ -113,88 +147,104 @@ fn add_lines(
     Ok(())
 }
 
+/// The same of two patterns with their numbers of lines, each behind a text.
+fn many_counted(
+    alloc: Global,
+    one: (&str, &str, usize),
+    two: (&str, &str, usize),
+) -> Result<String, AllocError> {
+    let mut text = String::from_str(alloc, "bt-world 1")?;
+    text.push_str(one.0)?;
+    add_lines(alloc, &mut text, one.1, one.2)?;
+    text.push_str(two.0)?;
+    add_lines(alloc, &mut text, two.1, two.2)?;
+    counted(alloc, text.as_bytes())
+}
+
+/// A world of a fact, a row and an event.
+const PLAIN: &str = "x 1; A is 0 Equal 1 []; [] 1; 0 Tick(1)";
+
+/// Whole files, and the world of each.
+static WHOLE: [(&[u8], &str); 14] = [
+    (b"bt-world 1", "[] 1"),
+    (b"bt-world 1\r", "[] 1"),
+    (b"", "Header 1"),
+    (b"\n", "Header 1"),
+    (b"bt-world 1 \n", "Header 1"),
+    (b"bt-world 1\r\r\n", "Header 1"),
+    (b"fact x 1\n", "Header 1"),
+    (
+        b"bt-world 1\nfact x 1\ncondition A is x == 1\ntick 1\n",
+        PLAIN,
+    ),
+    (
+        b"bt-world 1\r\nfact x 1\r\n\tcondition  A is\tx == 1 \r\ntick 1\r",
+        PLAIN,
+    ),
+    (
+        b"bt-world 1\n\n \t\nfact x 1\n  # a comment \xff\r\r\ncondition A is x == 1\n#\ntick 1\n",
+        PLAIN,
+    ),
+    (b"bt-world 1\ntick 1\r\r\n", "BadLine 2"),
+    (b"bt-world 1\nfact x 1 \x7f\n", "BadLine 2"),
+    (b"bt-world 1\n\xc3\xa9 1\n", "BadLine 2"),
+    (
+        b"bt-world 1\nfact x 1\n\ncondition A is y == 1\nfact x 1",
+        "NoName 4",
+    ),
+];
+
 #[test]
 fn whole_files(rt: HostRuntime) -> Result<(), Fail> {
     let alloc = rt.alloc();
-    let plain = "x 1; A is 0 Equal 1 []; [] 1; 0 Tick(1)";
-    let table: [(&[u8], &str); 14] = [
-        (b"bt-world 1", "[] 1"),
-        (b"bt-world 1\r", "[] 1"),
-        (b"", "Header 1"),
-        (b"\n", "Header 1"),
-        (b"bt-world 1 \n", "Header 1"),
-        (b"bt-world 1\r\r\n", "Header 1"),
-        (b"fact x 1\n", "Header 1"),
-        (
-            b"bt-world 1\nfact x 1\ncondition A is x == 1\ntick 1\n",
-            plain,
-        ),
-        (
-            b"bt-world 1\r\nfact x 1\r\n\tcondition  A is\tx == 1 \r\ntick 1\r",
-            plain,
-        ),
-        (
-            b"bt-world 1\n\n \t\nfact x 1\n  # a comment \xff\r\r\ncondition A is x == 1\n#\ntick 1\n",
-            plain,
-        ),
-        (b"bt-world 1\ntick 1\r\r\n", "BadLine 2"),
-        (b"bt-world 1\nfact x 1 \x7f\n", "BadLine 2"),
-        (b"bt-world 1\n\xc3\xa9 1\n", "BadLine 2"),
-        (
-            b"bt-world 1\nfact x 1\n\ncondition A is y == 1\nfact x 1",
-            "NoName 4",
-        ),
-    ];
-    for (bytes, want) in table {
-        assert_eq!(rt; told(alloc, bytes)?.as_str(), want);
+    for (bytes, want) in &WHOLE {
+        assert_eq!(rt; told(alloc, bytes)?.as_str(), *want);
     }
     Ok(())
 }
 
+/// Scripts, with their lines between slashes, and the world of each.
+static ACCEPTED: [(&str, &str); 9] = [
+    (
+        "fact x -9223372036854775808 / fact y 9223372036854775807",
+        "x -9223372036854775808; y 9223372036854775807; [] 1",
+    ),
+    (
+        "fact x 0 / condition x is x >= -1 / goal x",
+        "x 0; x is 0 AtLeast -1 []; [0] 1",
+    ),
+    (
+        "fact x 0 / condition C(p,q) when p + q == x && !x ? 1 : -p",
+        "x 0; C,p,q when []; [] 1",
+    ),
+    (
+        "fact x 0 / condition C is x < 2 / action A(speed) timed 300 / # how / needs C / sets x = -1 /  / fails speed > x / out left = 2 * speed / out right = x",
+        "x 0; C is 0 Less 2 []; A,speed timed 300 true [0] 0=-1 left: right:; [] 1",
+    ),
+    ("action A replay 0 SF", "A replay 0 [true, false] []; [] 1"),
+    (
+        "fact x 0 / action A(p) gate x == p / sets x = 1",
+        "x 0; A,p gate [] 0=1; [] 1",
+    ),
+    (
+        "runners 2 / fact x 0 / tick 2 / at 5 / halt 1 / at 5 / set x 7",
+        "x 0; [] 2; 0 Tick(2); 5 Halt(1); 5 Change { fact: 0, value: 7 }",
+    ),
+    (
+        "at 1000000000000 / runners 16 / tick 16",
+        "[] 16; 1000000000000 Tick(16)",
+    ),
+    (
+        "action A(a,b,c,d,e,f,g,h) timed 1",
+        "A,a,b,c,d,e,f,g,h timed 1 false []; [] 1",
+    ),
+];
+
 #[test]
 fn accepted(rt: HostRuntime) -> Result<(), Fail> {
     let alloc = rt.alloc();
-    let table: [(&str, &str); 9] = [
-        (
-            "fact x -9223372036854775808 / fact y 9223372036854775807",
-            "x -9223372036854775808; y 9223372036854775807; [] 1",
-        ),
-        (
-            "fact x 0 / condition x is x >= -1 / goal x",
-            "x 0; x is 0 AtLeast -1 []; [0] 1",
-        ),
-        (
-            "fact x 0 / condition C(p,q) when p + q == x && !x ? 1 : -p",
-            "x 0; C,p,q when []; [] 1",
-        ),
-        (
-            "fact x 0 / condition C is x < 2 / action A(speed) timed 300 / # how / needs C / sets x = -1 /  / fails speed > x / out left = 2 * speed / out right = x",
-            "x 0; C is 0 Less 2 []; A,speed timed 300 true [0] 0=-1 left: right:; [] 1",
-        ),
-        ("action A replay 0 SF", "A replay 0 [true, false] []; [] 1"),
-        (
-            "fact x 0 / action A(p) gate x == p / sets x = 1",
-            "x 0; A,p gate [] 0=1; [] 1",
-        ),
-        (
-            "runners 2 / fact x 0 / tick 2 / at 5 / halt 1 / at 5 / set x 7",
-            "x 0; [] 2; 0 Tick(2); 5 Halt(1); 5 Change { fact: 0, value: 7 }",
-        ),
-        (
-            "at 1000000000000 / runners 16 / tick 16",
-            "[] 16; 1000000000000 Tick(16)",
-        ),
-        (
-            "action A(a,b,c,d,e,f,g,h) timed 1",
-            "A,a,b,c,d,e,f,g,h timed 1 false []; [] 1",
-        ),
-    ];
-    for (lines, want) in table {
-        assert_eq!(rt;
-            told(alloc, script(alloc, lines)?.as_bytes())?.as_str(),
-            want,
-            "{lines}"
-        );
+    for (lines, want) in &ACCEPTED {
+        assert_eq!(rt; lines_told(alloc, lines)?.as_str(), *want, "{lines}");
     }
     Ok(())
 }
@@ -292,101 +342,76 @@ fn first_faulty_lines(rt: HostRuntime) -> Result<(), Fail> {
         let Some((lines, want)) = row.split_once(" => ") else {
             return Err(Fail::from("a row without =>"));
         };
-        assert_eq!(rt;
-            told(alloc, script(alloc, lines)?.as_bytes())?.as_str(),
-            want,
-            "{lines}"
-        );
+        assert_eq!(rt; lines_told(alloc, lines)?.as_str(), want, "{lines}");
     }
     Ok(())
 }
 
+/// A pattern and its number of lines behind a text, twice, and the numbers or the fault.
+static LIMITS: [((&str, &str, usize), (&str, &str, usize), &str); 15] = [
+    (("", "fact f# 1", 1024), ("", "", 0), "1024 0 0 0"),
+    (("", "fact f# 1", 1025), ("", "", 0), "TooMany 1026"),
+    (("", "action a# timed 1", 1024), ("", "", 0), "0 1024 0 0"),
+    (("", "action a# timed 1", 1025), ("", "", 0), "TooMany 1026"),
+    (
+        ("", "condition c# when 1", 1025),
+        ("", "", 0),
+        "TooMany 1026",
+    ),
+    (
+        ("\nfact x 1", "condition c# is x == 1", 65),
+        ("", "goal c#", 64),
+        "1 65 64 0",
+    ),
+    (
+        ("\nfact x 1", "condition c# is x == 1", 65),
+        ("", "goal c#", 65),
+        "TooMany 132",
+    ),
+    (
+        ("\nfact x 1", "condition c# is x == 1", 17),
+        ("\naction A timed 1", "needs c#", 16),
+        "1 18 0 0",
+    ),
+    (
+        ("\nfact x 1", "condition c# is x == 1", 17),
+        ("\naction A timed 1", "needs c#", 17),
+        "TooMany 37",
+    ),
+    (
+        ("", "fact f# 1", 17),
+        ("\naction A timed 1", "sets f# = 1", 16),
+        "17 1 0 0",
+    ),
+    (
+        ("", "fact f# 1", 17),
+        ("\naction A timed 1", "sets f# = 1", 17),
+        "TooMany 36",
+    ),
+    (
+        ("", "", 0),
+        ("\naction A timed 1", "out p# = 1", 8),
+        "0 1 0 0",
+    ),
+    (
+        ("", "", 0),
+        ("\naction A timed 1", "out p# = 1", 9),
+        "TooMany 11",
+    ),
+    (("", "tick 1", 100_000), ("", "", 0), "0 0 0 100000"),
+    (("", "tick 1", 100_001), ("", "", 0), "TooMany 100002"),
+];
+
 #[test]
 fn limits(rt: HostRuntime) -> Result<(), Fail> {
     let alloc = rt.alloc();
-    let table = [
-        ("", "fact f# 1", 1024, "", "", 0, "1024 0 0 0"),
-        ("", "fact f# 1", 1025, "", "", 0, "TooMany 1026"),
-        ("", "action a# timed 1", 1024, "", "", 0, "0 1024 0 0"),
-        ("", "action a# timed 1", 1025, "", "", 0, "TooMany 1026"),
-        ("", "condition c# when 1", 1025, "", "", 0, "TooMany 1026"),
-        (
-            "\nfact x 1",
-            "condition c# is x == 1",
-            65,
-            "",
-            "goal c#",
-            64,
-            "1 65 64 0",
-        ),
-        (
-            "\nfact x 1",
-            "condition c# is x == 1",
-            65,
-            "",
-            "goal c#",
-            65,
-            "TooMany 132",
-        ),
-        (
-            "\nfact x 1",
-            "condition c# is x == 1",
-            17,
-            "\naction A timed 1",
-            "needs c#",
-            16,
-            "1 18 0 0",
-        ),
-        (
-            "\nfact x 1",
-            "condition c# is x == 1",
-            17,
-            "\naction A timed 1",
-            "needs c#",
-            17,
-            "TooMany 37",
-        ),
-        (
-            "",
-            "fact f# 1",
-            17,
-            "\naction A timed 1",
-            "sets f# = 1",
-            16,
-            "17 1 0 0",
-        ),
-        (
-            "",
-            "fact f# 1",
-            17,
-            "\naction A timed 1",
-            "sets f# = 1",
-            17,
-            "TooMany 36",
-        ),
-        ("", "", 0, "\naction A timed 1", "out p# = 1", 8, "0 1 0 0"),
-        (
-            "",
-            "",
-            0,
-            "\naction A timed 1",
-            "out p# = 1",
-            9,
-            "TooMany 11",
-        ),
-        ("", "tick 1", 100_000, "", "", 0, "0 0 0 100000"),
-        ("", "tick 1", 100_001, "", "", 0, "TooMany 100002"),
-    ];
-    for (head, first, many, middle, second, more, want) in table {
-        let mut text = String::from_str(alloc, "bt-world 1")?;
-        text.push_str(head)?;
-        add_lines(alloc, &mut text, first, many)?;
-        text.push_str(middle)?;
-        add_lines(alloc, &mut text, second, more)?;
+    for (one, two, want) in &LIMITS {
         assert_eq!(rt;
-            counted(alloc, text.as_bytes())?.as_str(),
-            want,
-            "{first} {second}"
+            many_counted(alloc, *one, *two)?.as_str(),
+            *want,
+            "{} {}",
+            one.1,
+            two.1
         );
     }
     Ok(())
