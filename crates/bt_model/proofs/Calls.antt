@@ -1,6 +1,5 @@
 -- What each call of a driver keeps: the number of the facts, and that a leaf is held while it runs.
 use Rattle.std.proofs.Common.{◌≡◌, ℕ, ◌-◌, ℤ, Bool, true, false, not, nat_lt, if◌then◌else◌, List, [], ◌∷◌, length, Option, Some, None, Result, Ok, Err, refl, ◌∙◌}
-use Rattle.std.specs.Prelude.{slice_set}
 use Rattle.std.proofs.lemmas.List.{length-set}
 use Rattle.bt_script.specs.declared.cells.Seen.{Seen}
 use Rattle.bt_model.specs.declared.fault.Cause.{Cause}
@@ -12,12 +11,22 @@ use Rattle.bt_model.specs.declared.world.Row.{Row}
 use Rattle.bt_model.specs.declared.world.RowSort.{RowSort}
 use Rattle.bt_model.specs.declared.world.RowSort.TheVariants as sort
 use Rattle.bt_model.specs.declared.world.Set.{Set}
-use Rattle.bt_model.specs.Leaf.{Answered, Rule, Test, Way, Tests, Lasts, Replays, Waits, answer_by, completed, completion, decided, finished, held, judged, lasting, leaf_rule, let_go, outcome_at, outputs_of, replied, rule_answer, rule_of, since_after, start_of, timed_end, way_of, with_effects}
+use Rattle.bt_model.specs.Leaf.{Answered, Rule, Test, Way, Tests, Lasts, Replays, Waits, answer_by, completed, completion, decided, effects_of, fact_at, finished, held, judged, lasting, leaf_rule, let_go, made_by, outcome_at, outputs_of, replied, rule_answer, rule_of, since_after, start_of, timed_end, way_of, with_effect}
 use Rattle.bt_model.specs.Shapes.{Lasts as SortLasts}
 
-effects_keep : (facts : List ℤ) (sets : List Set) → length (with_effects facts sets) ≡ length facts
-effects_keep facts [] = refl
-effects_keep facts (s ∷ ss) = effects_keep (slice_set facts s.fact s.value) ss ∙ length-set facts s.fact s.value
+-- there are as many facts as before, where the effects have no fault
+abbrev AsMany : List ℤ → Result (List ℤ) Cause → Type 0
+AsMany facts (Ok left) = length left ≡ length facts
+AsMany facts (Err cause) = Unit {0}
+
+effect_keeps : (facts : List ℤ) (fact : ℕ) (made : Result ℤ Cause) (rest : Result (List ℤ) Cause) → AsMany facts rest → AsMany facts (with_effect fact made rest)
+effect_keeps facts fact (Err cause) rest k = tt
+effect_keeps facts fact (Ok value) (Err cause) k = tt
+effect_keeps facts fact (Ok value) (Ok left) k = length-set left fact value ∙ k
+
+effects_keep : (sets : List Set) (facts : List ℤ) → AsMany facts (effects_of sets facts)
+effects_keep [] facts = refl
+effects_keep (s ∷ ss) facts = effect_keeps facts s.fact (made_by s.how s.value (fact_at facts s.fact)) (effects_of ss facts) (effects_keep ss facts)
 
 -- a condition answers at once
 abbrev WayLasts : Way → Type 0
@@ -44,12 +53,13 @@ module _ (way : Way) (rule : Rule) (since : ℕ) (instance : Instance) (inputs :
   running_keeps : WayLasts way → Kept (replied Running (held since instance) facts)
   running_keeps lasts = record { held_while_running = refl; as_many = refl; lasts = λ e. lasts; breaks = λ c e. cc }
 
-  finished_keeps : (outputs : Result (List ℤ) Cause) (sets : List Set) (after : Instance) → after.since ≡ None → Kept (finished outputs sets instance after facts)
-  finished_keeps (Ok outputs) sets after free = record { held_while_running = free; as_many = effects_keep facts sets; lasts = λ e. cc; breaks = λ c e. cc }
-  finished_keeps (Err cause) sets after free = broken_keeps cause
+  finished_keeps : (outputs effects : Result (List ℤ) Cause) (after : Instance) → AsMany facts effects → after.since ≡ None → Kept (finished outputs effects instance after facts)
+  finished_keeps (Err cause) effects after many free = broken_keeps cause
+  finished_keeps (Ok outputs) (Err cause) after many free = broken_keeps cause
+  finished_keeps (Ok outputs) (Ok left) after many free = record { held_while_running = free; as_many = many; lasts = λ e. cc; breaks = λ c e. cc }
 
   decided_keeps : (b : Bool) (after : Instance) → after.since ≡ None → Kept (decided b rule instance after inputs facts)
-  decided_keeps true after free = finished_keeps (outputs_of rule.outs inputs facts) rule.sets after free
+  decided_keeps true after free = finished_keeps (outputs_of rule.outs inputs facts) (effects_of rule.sets facts) after (effects_keep rule.sets facts) free
   decided_keeps false after free = failed_keeps after free
 
   judged_keeps : (found : Result Bool Cause) (go : Bool → Answered) → ((b : Bool) → Kept (go b)) → Kept (judged found instance facts go)

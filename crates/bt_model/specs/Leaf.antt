@@ -1,5 +1,5 @@
 -- The leaf rule: what a driver answers for a row of the world, and what the call leaves.
-use Rattle.std.specs.Prelude.{ℕ, ℤ, pos, ◌+◌, ◌-◌, nat_lt, min, List, [], ◌∷◌, ◌++◌, map, length, replicate, slice_index_or, slice_set, Bool, true, false, not, if◌then◌else◌, Option, Some, None, option_map, unwrap_or, Result, Ok, Err}
+use Rattle.std.specs.Prelude.{ℕ, ℤ, pos, ◌+◌, ◌+ℤ◌, ◌-◌, nat_lt, min, List, [], ◌∷◌, ◌++◌, map, length, replicate, slice_index_or, slice_set, Bool, true, false, not, if◌then◌else◌, Option, Some, None, option_map, unwrap_or, Result, Ok, Err}
 use Rattle.std.specs.Ordering.{int_cmp}
 use Rattle.std.specs.Str.{bytes_eq}
 use Rattle.bt_script.specs.declared.cells.Seen.{Seen}
@@ -12,7 +12,7 @@ use Rattle.bt_script.specs.declared.value.Value.{Value}
 use Rattle.bt_script.specs.declared.value.Value.TheVariants.{Int, Text}
 use Rattle.bt_script.specs.Entries.{look_of}
 use Rattle.bt_script.specs.Evaluation.{eval_of}
-use Rattle.bt_script.specs.Operators.{is_true, compares}
+use Rattle.bt_script.specs.Operators.{bounded, is_true, compares}
 use Rattle.bt_model.specs.declared.fault.Cause.{Cause}
 use Rattle.bt_model.specs.declared.fault.Cause.TheVariants.{NoInput, Overflow, ZeroDivisor, NotWhole, Mixed, TextTooLong}
 use Rattle.bt_model.specs.declared.leaf.Instance.{Instance}
@@ -21,6 +21,8 @@ use Rattle.bt_model.specs.declared.leaf.Phase.TheVariants as phase
 use Rattle.bt_model.specs.declared.leaf.Reply.{Reply}
 use Rattle.bt_model.specs.declared.leaf.Reply.TheVariants.{Running, Success, Failure, Broken}
 use Rattle.bt_model.specs.declared.world.Fact.{Fact}
+use Rattle.bt_model.specs.declared.world.How.{How}
+use Rattle.bt_model.specs.declared.world.How.TheVariants.{To, By}
 use Rattle.bt_model.specs.declared.world.Out.{Out}
 use Rattle.bt_model.specs.declared.world.Row.{Row}
 use Rattle.bt_model.specs.declared.world.RowSort.{RowSort}
@@ -61,6 +63,11 @@ abbrev pub as_number : Result Value ExecFault → Result ℤ Cause
 as_number (Ok (Int n)) = Ok n
 as_number (Ok (Text t)) = Err Mixed
 as_number (Err fault) = Err (cause_of fault)
+
+-- a number, or the cause of its fault
+abbrev pub caused : Result ℤ ExecFault → Result ℤ Cause
+caused (Ok n) = Ok n
+caused (Err fault) = Err (cause_of fault)
 
 -- ---- Rules: rows, with each expression taken as what it gives
 
@@ -201,19 +208,31 @@ abbrev pub outputs_of : List Number → List Seen → List ℤ → Result (List 
 outputs_of [] inputs facts = Ok []
 outputs_of (out ∷ outs) inputs facts = with_output (out inputs facts) (outputs_of outs inputs facts)
 
--- the facts after these effects, one after another
-abbrev pub with_effects : List ℤ → List Set → List ℤ
-with_effects facts [] = facts
-with_effects facts (e ∷ es) = with_effects (slice_set facts e.fact e.value) es
+-- what an effect makes of the value that its fact has: the number itself, or the sum; a sum outside 64 bits is a fault
+abbrev pub made_by : How → ℤ → ℤ → Result ℤ Cause
+made_by To number value = Ok number
+made_by By number value = caused (bounded (value +ℤ number))
 
--- SUCCESS with these outputs and effects, or the fault of an output
-abbrev pub finished : Result (List ℤ) Cause → List Set → Instance → Instance → List ℤ → Answered
-finished (Ok outputs) sets before after facts = record { reply = Success; instance = after; facts = with_effects facts sets; outputs = outputs }
-finished (Err cause) sets before after facts = replied (Broken cause) before facts
+-- one more effect in front of the others: its fact has this value among those that they leave; the first fault counts
+abbrev pub with_effect : ℕ → Result ℤ Cause → Result (List ℤ) Cause → Result (List ℤ) Cause
+with_effect fact (Err cause) rest = Err cause
+with_effect fact (Ok value) (Err cause) = Err cause
+with_effect fact (Ok value) (Ok facts) = Ok (slice_set facts fact value)
+
+-- the facts after effects, each worked out over the facts before all of them, or their first fault
+abbrev pub effects_of : List Set → List ℤ → Result (List ℤ) Cause
+effects_of [] facts = Ok facts
+effects_of (e ∷ es) facts = with_effect e.fact (made_by e.how e.value (fact_at facts e.fact)) (effects_of es facts)
+
+-- SUCCESS with these outputs and these facts; a fault of either changes nothing, and that of an output comes first
+abbrev pub finished : Result (List ℤ) Cause → Result (List ℤ) Cause → Instance → Instance → List ℤ → Answered
+finished (Err cause) effects before after facts = replied (Broken cause) before facts
+finished (Ok outputs) (Err cause) before after facts = replied (Broken cause) before facts
+finished (Ok outputs) (Ok left) before after facts = record { reply = Success; instance = after; facts = left; outputs = outputs }
 
 -- completion: the outputs over the facts before the effects, and then the effects
 abbrev pub completion : Rule → Instance → Instance → List Seen → List ℤ → Answered
-completion rule before after inputs facts = finished (outputs_of rule.outs inputs facts) rule.sets before after facts
+completion rule before after inputs facts = finished (outputs_of rule.outs inputs facts) (effects_of rule.sets facts) before after facts
 
 -- completion, or FAILURE
 abbrev pub decided : Bool → Rule → Instance → Instance → List Seen → List ℤ → Answered

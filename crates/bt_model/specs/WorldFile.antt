@@ -9,11 +9,14 @@ use Rattle.bt_script.specs.declared.syntax.Cmp.TheVariants.{Equal, Differ, Less,
 use Rattle.bt_script.specs.declared.syntax.Expr.{Expr}
 use Rattle.bt_script.specs.Scripts.{names_of, texts_of}
 use Rattle.bt_model.specs.declared.world.Fact.{Fact}
+use Rattle.bt_model.specs.declared.world.How.{How}
+use Rattle.bt_model.specs.declared.world.How.TheVariants.{To, By}
 use Rattle.bt_model.specs.declared.world.Row.{Row}
 use Rattle.bt_model.specs.declared.world.RowSort.{RowSort}
 use Rattle.bt_model.specs.declared.world.RowSort.TheVariants.{Is, When, Timed, Replay, Gate}
 use Rattle.bt_model.specs.declared.world.Event.{Event}
 use Rattle.bt_model.specs.declared.world.Out.{Out}
+use Rattle.bt_model.specs.declared.world.Set.{Set}
 use Rattle.bt_model.specs.declared.world.What.{What}
 use Rattle.bt_model.specs.declared.world.What.TheVariants.{Tick, Halt, Change}
 use Rattle.bt_model.specs.declared.world.World.{World}
@@ -135,7 +138,7 @@ pub data Line : Type 0 where
   GateLine : (head : Head) (expr : List ℕ) → Line
   FailsLine : (expr : List ℕ) → Line
   NeedsLine : (id : List ℕ) → Line
-  SetsLine : (fact : List ℕ) (value : ℤ) → Line
+  SetsLine : (fact : List ℕ) (how : How) (value : ℤ) → Line
   OutLine : (port expr : List ℕ) → Line
   GoalLine : (id : List ℕ) → Line
   RunnersLine : (count : ℤ) → Line
@@ -175,11 +178,18 @@ abbrev pub named_number : (List ℕ → ℤ → Line) → List ℕ → Option Li
 named_number line text =
     if is_name (word 0 text) && ends_after 2 text then option_map (line (word 0 text)) (number_in (word 1 text)) else None
 
--- `NAME = INT`
+-- how an effect changes its fact, by the sign of its line
+abbrev pub how_in : List ℕ → Option How
+how_in word =
+    if bytes_eq word (codes "=") then Some To
+    else if bytes_eq word (codes "+=") then Some By
+    else None
+
+-- `NAME = INT` or `NAME += INT`
 abbrev pub sets_line : List ℕ → Option Line
 sets_line text =
-    if is_name (word 0 text) && bytes_eq (word 1 text) (codes "=") && ends_after 3 text
-    then option_map (SetsLine (word 0 text)) (number_in (word 2 text))
+    if is_name (word 0 text) && ends_after 3 text
+    then option_and_then (λ how. option_map (SetsLine (word 0 text) how) (number_in (word 2 text))) (how_in (word 1 text))
     else None
 
 -- `PORT = EXPR`
@@ -380,12 +390,12 @@ row_with_need n row =
     else if nat_le 16 (length row.needs) then Err TooMany
     else Ok (record row { needs = row.needs ++ n ∷ [] })
 
--- a row with one more effect, on the fact of this number
-abbrev pub row_with_effect : ℕ → ℤ → Row → Result Row WorldKind
-row_with_effect n value row =
-    if list_any (λ set. nat_eq n set.fact) row.sets then Err DoubleName
+-- a row with one more effect, on a fact that no other one is on
+abbrev pub row_with_effect : Set → Row → Result Row WorldKind
+row_with_effect effect row =
+    if list_any (λ set. nat_eq effect.fact set.fact) row.sets then Err DoubleName
     else if nat_le 16 (length row.sets) then Err TooMany
-    else Ok (record row { sets = row.sets ++ record { fact = n; value = value } ∷ [] })
+    else Ok (record row { sets = row.sets ++ effect ∷ [] })
 
 -- a row with one more output, whose names are known
 abbrev pub with_output : Out → Bool → Row → Result Row WorldKind
@@ -454,8 +464,9 @@ AfterLine r (GateLine head expr) said = SaysOf expr (λ e. with_head head with_a
 AfterLine r (FailsLine expr) said = SaysOf expr (λ e. with_open r.open_row r (row_with_fails r.facts e)) said
 AfterLine r (NeedsLine id) said =
     said ≡ placed (is_some r.open_row) (numbered (comparison_number r.rows id) (λ n. with_open r.open_row r (row_with_need n)))
-AfterLine r (SetsLine fact value) said =
-    said ≡ placed (is_some r.open_row) (ranged (is_int value) (numbered (fact_number r.facts fact) (λ n. with_open r.open_row r (row_with_effect n value))))
+AfterLine r (SetsLine fact how value) said =
+    said ≡ placed (is_some r.open_row) (ranged (is_int value) (numbered (fact_number r.facts fact)
+    (λ n. with_open r.open_row r (row_with_effect (record { fact = n; how = how; value = value })))))
 AfterLine r (OutLine port expr) said = SaysOf expr (λ e. with_open r.open_row r (row_with_out r.facts port e)) said
 AfterLine r (GoalLine id) said = said ≡ numbered (comparison_number (closed r).rows id) (λ n. with_goal n (closed r))
 AfterLine r (RunnersLine count) said =

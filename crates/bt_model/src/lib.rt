@@ -32,5 +32,5 @@ pub use note::Note;
 pub use numbers::int;
 pub use status::{Answer, RoundEnd, Status};
 pub use term::{Guards, Kind, Port, PortValue, Term, Tree};
-pub use world::{Event, Fact, Out, Row, RowSort, Set, What, World};
+pub use world::{Event, Fact, How, Out, Row, RowSort, Set, What, World};
 pub use world_fault::{WorldFault, WorldKind};

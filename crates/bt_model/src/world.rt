@@ -7,10 +7,20 @@ pub struct Fact {
     pub opening: i64,
 }
 
-/// An effect: the fact of this number gets this value.
+/// How an effect changes its fact.
+#[derive(Clone, Copy, Debug, PartialEq, Eq)]
+pub enum How {
+    /// The fact gets the value.
+    To,
+    /// The value is added to the fact.
+    By,
+}
+
+/// An effect on the fact of this number.
 #[derive(Clone, Copy, Debug, PartialEq, Eq)]
 pub struct Set {
     pub fact: u32,
+    pub how: How,
     pub value: i64,
 }
 
