@@ -1,5 +1,5 @@
 -- Inputs behind the last port may be left out.
-use Rattle.std.proofs.Common.{◌≡◌, ℕ, ◌-◌, ℤ, List, [], ◌∷◌, ◌++◌, length, map, replicate, not, if◌then◌else◌, Bool, true, false, Option, Some, None, refl, ap, ◌∙◌, arith, length-append}
+use Rattle.std.proofs.Common.{◌≡◌, ℕ, ◌-◌, ℤ, List, [], ◌∷◌, ◌++◌, length, map, replicate, not, if◌then◌else◌, Bool, true, false, Option, Some, None, Ok, refl, ap, ◌∙◌, arith, length-append}
 use Rattle.std.specs.Prelude.{option_map}
 use Rattle.std.proofs.lemmas.List.{append-nil, length-replicate}
 use Rattle.bt_script.specs.declared.cells.Seen.{Seen}
@@ -7,6 +7,7 @@ use Rattle.bt_script.specs.declared.cells.Seen.TheVariants as seen
 use Rattle.bt_script.specs.declared.syntax.Expr.{Expr}
 use Rattle.bt_script.specs.Entries.{look_of}
 use Rattle.bt_script.specs.Evaluation.{eval_of}
+use Rattle.bt_script.specs.Results.{◌>>=◌}
 use Rattle.bt_model.specs.declared.leaf.Instance.{Instance}
 use Rattle.bt_model.specs.declared.leaf.Phase.{Phase}
 use Rattle.bt_model.specs.declared.leaf.Reply.TheVariants.{Running, Success, Failure}
@@ -15,7 +16,7 @@ use Rattle.bt_model.specs.declared.world.Out.{Out}
 use Rattle.bt_model.specs.declared.world.Row.{Row}
 use Rattle.bt_model.specs.declared.world.RowSort.{RowSort}
 use Rattle.bt_model.specs.declared.world.RowSort.TheVariants as sort
-use Rattle.bt_model.specs.Leaf.{answer_by, as_number, completed, decided, finished, held, judged, lasting, leaf_rule, let_go, number_of, outcome_at, outputs_of, padded, place_of, replied, rule_by, sights, start_of, test_of, timed_end, truth_of, way_of, with_output}
+use Rattle.bt_model.specs.Leaf.{answer_by, as_number, completed, completion, decided, effects_of, finished, held, judged, lasting, leaf_rule, let_go, number_of, outcome_at, outputs_of, padded, place_of, replied, rule_by, sights, start_of, test_of, timed_end, truth_of, way_of, with_output}
 
 no_more : (inputs : List Seen) (n : ℕ) → n ≡ 0 → inputs ++ replicate n seen.Absent ≡ inputs
 no_more inputs n none = ap (λ k. inputs ++ replicate k seen.Absent) none ∙ append-nil inputs
@@ -42,8 +43,9 @@ module _ (places : List ℕ → ℕ) (inputs : List Seen) (facts : List ℤ) whe
 
   module _ (row : Row) (instance : Instance) (since now : ℕ) where
     same_completion : (after : Instance) →
-        finished (outputs_of (rule_by places row).outs (padded inputs) facts) row.sets instance after facts ≡ finished (outputs_of (rule_by places row).outs inputs facts) row.sets instance after facts
-    same_completion after = ap (λ outputs. finished outputs row.sets instance after facts) (same_outputs row.outs)
+        completion (rule_by places row) instance after (padded inputs) facts ≡ completion (rule_by places row) instance after inputs facts
+    same_completion after =
+        ap (λ given. finished (given >>= λ outputs. effects_of row.sets facts >>= λ left. Ok (outputs, left)) instance after facts) (same_outputs row.outs)
 
     same_decided : (b : Bool) (after : Instance) →
         decided b (rule_by places row) instance after (padded inputs) facts ≡ decided b (rule_by places row) instance after inputs facts

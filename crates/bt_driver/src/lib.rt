@@ -3,6 +3,7 @@
 #![tactic(auto)]
 
 mod driver;
+mod effects;
 mod expression;
 mod facts;
 pub mod laws;

@@ -2,6 +2,7 @@ ghost use Rattle.std.specs.Prelude.{◌+◌, ◌<◌, ◌≤◌, length};
 ghost use Rattle.std.specs.List.{All};
 ghost use Rattle.bt_driver.specs.Ready.{expr_reach, sort_reach};
 
+use crate::effects::apply;
 use crate::expression::{Inputs, ReadyExpr};
 use crate::facts::FactTable;
 use crate::outs::Outs;
@@ -27,7 +28,7 @@ pub struct ReadyRow {
 
 impl ReadyRow {
     ghost use Rattle.std.specs.Prelude.{◌≡◌, Ok, Err, IfErr, OnErr, OnOk};
-    ghost use Rattle.bt_model.specs.Leaf.{completion, outputs_after, outputs_of, with_effects};
+    ghost use Rattle.bt_model.specs.Leaf.{completion, worked_out, outputs_after, outputs_of};
     ghost use Rattle.bt_driver.specs.Rules.{rule};
 
     /// The outputs over these inputs and facts, in order, or the first fault. It is not inlined as most
@@ -44,35 +45,38 @@ impl ReadyRow {
         Ok(outs)
     }
 
-    /// Makes `outs` the outputs over these inputs and facts, in order, or answers the first fault and
-    /// leaves them. Where there are none, no place is copied.
+    /// Makes the facts and `outs` those that a completion leaves, or answers its first fault and leaves
+    /// both. Where the row has no outputs, no place is copied.
     #[inline(always)]
-    fn put_outputs(&self, inputs: &Inputs, facts: &FactTable, outs: &mut Outs) -> Result<(), Cause>
-        requires { length facts.now ≡ self.now.facts }
-        ensures made { OnOk result (outputs_of (rule self.now).outs inputs.now facts.now ≡ Ok outs.new) }
-        ensures fault { IfErr result (λ cause. outputs_of (rule self.now).outs inputs.now facts.now ≡ Err cause) }
-        ensures left { OnErr result (outs.new ≡ outs.old) }
+    fn work_out(
+        &self,
+        inputs: &Inputs,
+        facts: &mut FactTable,
+        outs: &mut Outs,
+    ) -> Result<(), Cause>
+        requires { length facts.old ≡ self.now.facts }
+        ensures made { OnOk result (worked_out (rule self.now) inputs.now facts.old ≡ Ok (outs.new, facts.new)) }
+        ensures fault { IfErr result (λ cause. worked_out (rule self.now) inputs.now facts.old ≡ Err cause) }
+        ensures facts { OnErr result (facts.new ≡ facts.old) }
+        ensures outs { OnErr result (outs.new ≡ outs.old) }
     {
         match self.outs.list() {
-            [] => outs.clear(),
-            _ => *outs = self.outputs(inputs, facts)?,
+            [] => {
+                apply(self.sets.list(), facts)?;
+                outs.clear();
+            }
+            _ => {
+                let given = self.outputs(inputs, facts)?;
+                apply(self.sets.list(), facts)?;
+                *outs = given;
+            }
         }
         Ok(())
     }
 
-    /// Applies the effects, in order.
-    fn apply(&self, facts: &mut FactTable)
-        requires { length facts.old ≡ self.now.facts }
-        ensures { facts.new ≡ with_effects facts.old self.now.sets }
-    {
-        for set in self.sets.list() {
-            facts.put(set.fact, set.value);
-        }
-    }
-
     /// Completes: the outputs over the facts before the effects, and then the effects. It gives the
-    /// reply, and the instance that it leaves: `after`, or `before` where an output has a fault, which
-    /// changes nothing.
+    /// reply, and the instance that it leaves: `after`, or `before` where an output or an effect has a
+    /// fault, which changes nothing.
     pub fn complete(
         &self,
         before: Instance,
@@ -87,11 +91,8 @@ impl ReadyRow {
         ensures facts { facts.new ≡ (completion (rule self.now) before after inputs.now facts.old).facts }
         ensures outs { outs.new ≡ outputs_after (completion (rule self.now) before after inputs.now facts.old) outs.old }
     {
-        match self.put_outputs(inputs, facts, outs) {
-            Ok(()) => {
-                self.apply(facts);
-                (Reply::Success, after)
-            }
+        match self.work_out(inputs, facts, outs) {
+            Ok(()) => (Reply::Success, after),
             Err(cause) => (Reply::Broken(cause), before),
         }
     }

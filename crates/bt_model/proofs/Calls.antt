@@ -1,6 +1,8 @@
 -- What each call of a driver keeps: the number of the facts, and that a leaf is held while it runs.
 use Rattle.std.proofs.Common.{◌≡◌, ℕ, ◌-◌, ℤ, Bool, true, false, not, nat_lt, if◌then◌else◌, List, [], ◌∷◌, length, Option, Some, None, Result, Ok, Err, refl, ◌∙◌}
+use Rattle.std.specs.Prelude.{IfOk, slice_set}
 use Rattle.std.proofs.lemmas.List.{length-set}
+use Rattle.bt_script.specs.Results.{◌>>=◌}
 use Rattle.bt_script.specs.declared.cells.Seen.{Seen}
 use Rattle.bt_model.specs.declared.fault.Cause.{Cause}
 use Rattle.bt_model.specs.declared.leaf.Instance.{Instance}
@@ -11,15 +13,15 @@ use Rattle.bt_model.specs.declared.world.Row.{Row}
 use Rattle.bt_model.specs.declared.world.RowSort.{RowSort}
 use Rattle.bt_model.specs.declared.world.RowSort.TheVariants as sort
 use Rattle.bt_model.specs.declared.world.Set.{Set}
-use Rattle.bt_model.specs.Leaf.{Answered, Rule, Test, Way, Tests, Lasts, Replays, Waits, answer_by, completed, completion, decided, effects_of, fact_at, finished, held, judged, lasting, leaf_rule, let_go, made_by, outcome_at, outputs_of, replied, rule_answer, rule_of, since_after, start_of, timed_end, way_of, with_effect}
+use Rattle.bt_model.specs.Leaf.{Answered, Rule, Test, Way, Tests, Lasts, Replays, Waits, answer_by, completed, completion, decided, effects_of, fact_at, finished, held, judged, lasting, leaf_rule, let_go, made_by, outcome_at, outputs_of, replied, rule_answer, rule_of, since_after, start_of, timed_end, way_of}
 use Rattle.bt_model.specs.Shapes.{Lasts as SortLasts}
 
--- there are as many facts as before, where the effects have no fault
+-- effects leave as many facts as there were
 abbrev AsMany : List ℤ → Result (List ℤ) Cause → Type 0
-AsMany facts (Ok left) = length left ≡ length facts
-AsMany facts (Err cause) = Unit {0}
+AsMany facts effects = IfOk effects (λ left. length left ≡ length facts)
 
-effect_keeps : (facts : List ℤ) (fact : ℕ) (made : Result ℤ Cause) (rest : Result (List ℤ) Cause) → AsMany facts rest → AsMany facts (with_effect fact made rest)
+effect_keeps : (facts : List ℤ) (fact : ℕ) (made : Result ℤ Cause) (rest : Result (List ℤ) Cause) → AsMany facts rest →
+    AsMany facts (made >>= λ value. rest >>= λ left. Ok (slice_set left fact value))
 effect_keeps facts fact (Err cause) rest k = tt
 effect_keeps facts fact (Ok value) (Err cause) k = tt
 effect_keeps facts fact (Ok value) (Ok left) k = length-set left fact value ∙ k
@@ -53,7 +55,8 @@ module _ (way : Way) (rule : Rule) (since : ℕ) (instance : Instance) (inputs :
   running_keeps : WayLasts way → Kept (replied Running (held since instance) facts)
   running_keeps lasts = record { held_while_running = refl; as_many = refl; lasts = λ e. lasts; breaks = λ c e. cc }
 
-  finished_keeps : (outputs effects : Result (List ℤ) Cause) (after : Instance) → AsMany facts effects → after.since ≡ None → Kept (finished outputs effects instance after facts)
+  finished_keeps : (outputs effects : Result (List ℤ) Cause) (after : Instance) → AsMany facts effects → after.since ≡ None →
+      Kept (finished (outputs >>= λ outputs. effects >>= λ left. Ok (outputs, left)) instance after facts)
   finished_keeps (Err cause) effects after many free = broken_keeps cause
   finished_keeps (Ok outputs) (Err cause) after many free = broken_keeps cause
   finished_keeps (Ok outputs) (Ok left) after many free = record { held_while_running = free; as_many = many; lasts = λ e. cc; breaks = λ c e. cc }

@@ -13,6 +13,7 @@ use Rattle.bt_script.specs.declared.value.Value.TheVariants.{Int, Text}
 use Rattle.bt_script.specs.Entries.{look_of}
 use Rattle.bt_script.specs.Evaluation.{eval_of}
 use Rattle.bt_script.specs.Operators.{bounded, is_true, compares}
+use Rattle.bt_script.specs.Results.{◌>>=◌}
 use Rattle.bt_model.specs.declared.fault.Cause.{Cause}
 use Rattle.bt_model.specs.declared.fault.Cause.TheVariants.{NoInput, Overflow, ZeroDivisor, NotWhole, Mixed, TextTooLong}
 use Rattle.bt_model.specs.declared.leaf.Instance.{Instance}
@@ -213,26 +214,24 @@ abbrev pub made_by : How → ℤ → ℤ → Result ℤ Cause
 made_by To number value = Ok number
 made_by By number value = caused (bounded (value +ℤ number))
 
--- one more effect in front of the others: its fact has this value among those that they leave; the first fault counts
-abbrev pub with_effect : ℕ → Result ℤ Cause → Result (List ℤ) Cause → Result (List ℤ) Cause
-with_effect fact (Err cause) rest = Err cause
-with_effect fact (Ok value) (Err cause) = Err cause
-with_effect fact (Ok value) (Ok facts) = Ok (slice_set facts fact value)
-
--- the facts after effects, each worked out over the facts before all of them, or their first fault
+-- the facts that effects leave, each worked out over the facts before all of them, or their first fault
 abbrev pub effects_of : List Set → List ℤ → Result (List ℤ) Cause
 effects_of [] facts = Ok facts
-effects_of (e ∷ es) facts = with_effect e.fact (made_by e.how e.value (fact_at facts e.fact)) (effects_of es facts)
+effects_of (e ∷ es) facts =
+    made_by e.how e.value (fact_at facts e.fact) >>= λ value. effects_of es facts >>= λ left. Ok (slice_set left e.fact value)
 
--- SUCCESS with these outputs and these facts; a fault of either changes nothing, and that of an output comes first
-abbrev pub finished : Result (List ℤ) Cause → Result (List ℤ) Cause → Instance → Instance → List ℤ → Answered
-finished (Err cause) effects before after facts = replied (Broken cause) before facts
-finished (Ok outputs) (Err cause) before after facts = replied (Broken cause) before facts
-finished (Ok outputs) (Ok left) before after facts = record { reply = Success; instance = after; facts = left; outputs = outputs }
+-- the outputs, and then the facts that the effects leave, both over the facts before; or the first fault
+abbrev pub worked_out : Rule → List Seen → List ℤ → Result (List ℤ × List ℤ) Cause
+worked_out rule inputs facts = outputs_of rule.outs inputs facts >>= λ outputs. effects_of rule.sets facts >>= λ left. Ok (outputs, left)
 
--- completion: the outputs over the facts before the effects, and then the effects
+-- SUCCESS with these outputs and these facts, or a fault, which changes nothing
+abbrev pub finished : Result (List ℤ × List ℤ) Cause → Instance → Instance → List ℤ → Answered
+finished (Ok (outputs, left)) before after facts = record { reply = Success; instance = after; facts = left; outputs = outputs }
+finished (Err cause) before after facts = replied (Broken cause) before facts
+
+-- completion: its outputs and its effects
 abbrev pub completion : Rule → Instance → Instance → List Seen → List ℤ → Answered
-completion rule before after inputs facts = finished (outputs_of rule.outs inputs facts) (effects_of rule.sets facts) before after facts
+completion rule before after inputs facts = finished (worked_out rule inputs facts) before after facts
 
 -- completion, or FAILURE
 abbrev pub decided : Bool → Rule → Instance → Instance → List Seen → List ℤ → Answered

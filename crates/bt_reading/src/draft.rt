@@ -128,7 +128,7 @@ impl Draft {
 
     /// Adds an effect.
     pub fn add_set(&mut self, set: Set) -> Result<(), Stop<WorldKind>>
-        ensures added { Leaves result (row_of self.new) (λ said. said ≡ row_with_effect set.fact set.value (row_of self.old)) }
+        ensures added { Leaves result (row_of self.new) (λ said. said ≡ row_with_effect set (row_of self.old)) }
         ensures id { self.new.id ≡ self.old.id }
     {
         if self.has_set(set.fact) {

@@ -292,7 +292,7 @@ impl Reading {
 
     /// Adds an effect to the open action.
     pub fn add_set(&mut self, set: Set) -> Result<(), Stop<WorldKind>>
-        ensures { Leaves result self.new (λ said. said ≡ with_open self.old.open_row self.old (row_with_effect set.fact set.value)) }
+        ensures { Leaves result self.new (λ said. said ≡ with_open self.old.open_row self.old (row_with_effect set)) }
     {
         match &mut self.draft {
             Some(draft) => draft.add_set(set),

@@ -1,10 +1,10 @@
 ghost use Rattle.std.specs.Prelude.{◌≡◌, Some, true};
 ghost use Rattle.std.specs.List.{list_all};
-ghost use Rattle.bt_model.specs.WorldFile.{AfterForm, FailsLine, NeedsLine, is_line_byte, name_line, out_line, sets_line};
+ghost use Rattle.bt_model.specs.WorldFile.{AfterForm, FailsLine, NeedsLine, how_in, is_line_byte, name_line, out_line, sets_line};
 ghost use Rattle.bt_reading.specs.Readings.{Leaves};
 
 use bt_lines::{cut, int, is, is_canonical, is_name, name_of, numeric};
-use bt_model::{Out, Set, WorldKind};
+use bt_model::{How, Out, Set, WorldKind};
 use bt_reading::Reading;
 use bt_script::Stop;
 use std::alloc::Global;
@@ -34,16 +34,32 @@ pub fn read_need(reading: &mut Reading, text: &[u8]) -> Result<(), Stop<WorldKin
     }
 }
 
-/// `sets NAME = INT`
+/// How an effect changes its fact, by the sign of its line.
+fn how_of(sign: &[u8]) -> Option<How>
+    ensures { result ≡ how_in sign.now }
+{
+    if is(sign, "=") {
+        Some(How::To)
+    } else if is(sign, "+=") {
+        Some(How::By)
+    } else {
+        None
+    }
+}
+
+/// `sets NAME = INT`, or `sets NAME += INT`
 pub fn read_effect(reading: &mut Reading, text: &[u8]) -> Result<(), Stop<WorldKind>>
     ensures { Leaves result reading.new (AfterForm reading.old (sets_line text.now)) }
 {
     let (name, rest) = cut(text);
     let (sign, rest) = cut(rest);
     let (number, rest) = cut(rest);
-    if !is_name(name) || !is(sign, "=") || !rest.is_empty() {
+    if !is_name(name) || !rest.is_empty() {
         return Err(Stop::Fault(WorldKind::BadLine));
     }
+    let Some(how) = how_of(sign) else {
+        return Err(Stop::Fault(WorldKind::BadLine));
+    };
     if !is_canonical(number) || !reading.is_open() {
         return Err(Stop::Fault(WorldKind::BadLine));
     }
@@ -51,7 +67,7 @@ pub fn read_effect(reading: &mut Reading, text: &[u8]) -> Result<(), Stop<WorldK
         return Err(Stop::Fault(WorldKind::Range));
     };
     match reading.fact_number(name) {
-        Some(fact) => reading.add_set(Set { fact, value }),
+        Some(fact) => reading.add_set(Set { fact, how, value }),
         None => Err(Stop::Fault(WorldKind::NoName)),
     }
 }

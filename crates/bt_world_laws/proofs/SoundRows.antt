@@ -12,6 +12,7 @@ use Rattle.bt_model.specs.declared.world.Fact.{Fact}
 use Rattle.bt_model.specs.declared.world.Row.{Row}
 use Rattle.bt_model.specs.declared.world.RowSort.{RowSort}
 use Rattle.bt_model.specs.declared.world.RowSort.TheVariants.{Is, When, Timed, Replay, Gate}
+use Rattle.bt_model.specs.declared.world.Set.{Set}
 use Rattle.bt_model.specs.declared.world_fault.WorldKind.{WorldKind}
 use Rattle.bt_model.specs.Names.{is_reserved}
 use Rattle.bt_model.specs.Worlds.{IsComparisonIn, IsExprOver, AreNames, AreNumbers, IsValidRow, IsValidSet, IsValidSort, IsValidWorld, facts_set, ids_of_rows, is_comparison, is_condition, is_int, is_name, names_of_facts, ports_written}
@@ -157,9 +158,9 @@ adds_need facts rows row n action h there =
       },
     )))
 
-pub adds_effect : (facts : List Fact) (rows : List Row) (row : Row) (n : ℕ) (value : ℤ) → is_condition row.sort ≡ false → IsValidRow facts rows row → n < length facts → is_int value ≡ true → Adds facts rows row (row_with_effect n value row)
-adds_effect facts rows row n value action h there int =
-    adds_else facts rows row (list_any (λ set. nat_eq n set.fact) row.sets) _ _ (λ free.
+pub adds_effect : (facts : List Fact) (rows : List Row) (row : Row) (effect : Set) → is_condition row.sort ≡ false → IsValidRow facts rows row → effect.fact < length facts → is_int effect.value ≡ true → Adds facts rows row (row_with_effect effect row)
+adds_effect facts rows row effect action h there int =
+    adds_else facts rows row (list_any (λ set. nat_eq effect.fact set.fact) row.sets) _ _ (λ free.
     adds_else facts rows row (nat_le 16 (length row.sets)) _ _ (λ room.
     let fewer : length (facts_set row.sets) < 16 = omega (arith, length-map row.sets (λ set. set.fact), below 16 (length row.sets) room) in (
       refl,
@@ -171,9 +172,9 @@ adds_effect facts rows row n value action h there int =
         sort = h.sort;
         needs = h.needs;
         needed = h.needed;
-        sets = subst (AreNumbers 16) (sym (map-append (λ set. set.fact) row.sets (record { fact = n; value = value } ∷ [])))
-            (numbers-push 16 (facts_set row.sets) n h.sets (any-map (nat_eq n) (λ set. set.fact) row.sets ∙ free) fewer);
-        effects = All-push (IsValidSet facts) row.sets (record { fact = n; value = value }) h.effects (there, int);
+        sets = subst (AreNumbers 16) (sym (map-append (λ set. set.fact) row.sets (effect ∷ [])))
+            (numbers-push 16 (facts_set row.sets) effect.fact h.sets (any-map (nat_eq effect.fact) (λ set. set.fact) row.sets ∙ free) fewer);
+        effects = All-push (IsValidSet facts) row.sets effect h.effects (there, int);
         outs = h.outs;
         outputs = h.outputs;
         bare = never_bare row _ action;

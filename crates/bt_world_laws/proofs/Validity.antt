@@ -9,6 +9,7 @@ use Rattle.bt_model.specs.declared.world.Event.{Event}
 use Rattle.bt_model.specs.declared.world.Fact.{Fact}
 use Rattle.bt_model.specs.declared.world.Row.{Row}
 use Rattle.bt_model.specs.declared.world.RowSort.TheVariants.{When, Timed, Replay, Gate}
+use Rattle.bt_model.specs.declared.world.Set.{Set}
 use Rattle.bt_model.specs.declared.world.What.TheVariants.{Tick, Halt, Change}
 use Rattle.bt_model.specs.declared.world.World.{World}
 use Rattle.bt_model.specs.declared.world_fault.WorldFault.{WorldFault}
@@ -49,9 +50,10 @@ stays_line r (FailsLine expr) said w h k =
 stays_line r (NeedsLine id) said w h k =
     subst Stays (sym k) (stays_placed _ _ (λ placed. stays_numbered (comparison_number r.rows id) _ (λ n is.
     stays_open r (row_with_need n) h (λ row action valid. adds_need r.facts (r.rows ++ row ∷ []) row n action valid (kept_more r.rows row n (comparison_there r.rows id n is))))))
-stays_line r (SetsLine fact value) said w h k =
+stays_line r (SetsLine fact how value) said w h k =
     subst Stays (sym k) (stays_placed _ _ (λ placed. stays_ranged (is_int value) _ (λ int. stays_numbered (fact_number r.facts fact) _ (λ n is.
-    stays_open r (row_with_effect n value) h (λ row action valid. adds_effect r.facts (r.rows ++ row ∷ []) row n value action valid (fact_there r.facts fact n is) int)))))
+    let effect : Set = record { fact = n; how = how; value = value } in
+    stays_open r (row_with_effect effect) h (λ row action valid. adds_effect r.facts (r.rows ++ row ∷ []) row effect action valid (fact_there r.facts fact n is) int)))))
 stays_line r (OutLine port expr) said w h k =
     stays_says expr _ said k (λ e reads. stays_open r (row_with_out r.facts port e) h (λ row action valid. adds_out r.facts (r.rows ++ row ∷ []) row expr port e action valid w reads))
 stays_line r (GoalLine id) said w h k =

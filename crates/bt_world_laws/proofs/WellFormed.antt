@@ -6,8 +6,9 @@ use Rattle.std.proofs.lemmas.List.{length-map}
 use Rattle.std.proofs.lemmas.Bool.Decides.{nat_tests}
 use Rattle.bt_script.proofs.Bools.{both}
 use Rattle.bt_script.specs.declared.syntax.Cmp.{Cmp}
+use Rattle.bt_model.specs.declared.world.How.{How}
 use Rattle.bt_model.specs.Worlds.{is_name}
-use Rattle.bt_model.specs.WorldFile.{Line, FactLine, IsLine, WhenLine, TimedLine, ReplayLine, GateLine, FailsLine, NeedsLine, SetsLine, OutLine, GoalLine, RunnersLine, AtLine, TickLine, HaltLine, SetLine, Head, head_with, head_of, head_in, comparison_in, outcomes_in, name_line, number_line, named_number, sets_line, out_line, is_line, condition_line, timed_line, replay_line, action_line, event_line, line_by, line_in, number_in, word, behind, ends_after, is_line_byte}
+use Rattle.bt_model.specs.WorldFile.{Line, FactLine, IsLine, WhenLine, TimedLine, ReplayLine, GateLine, FailsLine, NeedsLine, SetsLine, OutLine, GoalLine, RunnersLine, AtLine, TickLine, HaltLine, SetLine, Head, head_with, head_of, head_in, comparison_in, outcomes_in, name_line, number_line, named_number, how_in, sets_line, out_line, is_line, condition_line, timed_line, replay_line, action_line, event_line, line_by, line_in, number_in, word, behind, ends_after, is_line_byte}
 
 pub record NamedHead (head : Head) : Type 0 where
   pub id : is_name head.id ≡ true
@@ -87,8 +88,14 @@ named_well line text h =
 
 sets_well : (text : List ℕ) → AreWell WellFormed (sets_line text)
 sets_well text =
-    pick WellFormed (is_name (word 0 text) && bytes_eq (word 1 text) (codes "=") && ends_after 3 text) (option_map (SetsLine (word 0 text)) (number_in (word 2 text))) None
-    (λ k. mapped WellFormed (SetsLine (word 0 text)) (number_in (word 2 text)) (λ z. tt)) tt
+    pick WellFormed (is_name (word 0 text) && ends_after 3 text)
+    (option_and_then (λ how. option_map (SetsLine (word 0 text) how) (number_in (word 2 text))) (how_in (word 1 text))) None
+    (λ k. chained (λ (how : How). Unit {0}) WellFormed (λ how. option_map (SetsLine (word 0 text) how) (number_in (word 2 text))) (how_in (word 1 text)) (any (how_in (word 1 text)))
+    (λ how u. mapped WellFormed (SetsLine (word 0 text) how) (number_in (word 2 text)) (λ z. tt))) tt
+  where
+    any : (o : Option How) → AreWell (λ how. Unit {0}) o
+    any None = tt
+    any (Some how) = tt
 
 out_well : (text : List ℕ) → AreWell WellFormed (out_line text)
 out_well text =
