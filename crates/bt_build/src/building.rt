@@ -14,15 +14,9 @@ use crate::working::is_within_work;
 use bt_board::is_within_slots;
 use bt_elements::{Element, Elements};
 use bt_manifest::{Manifest, attribute};
-use bt_model::{Term, Tree};
+use bt_model::{MOST_DEPTH, MOST_KEYS, MOST_WORK, Term, Tree};
 use bt_script::{Name, NoMemory, Stop};
 use std::alloc::Global;
-
-/// The most slots of a tree.
-const MOST_SLOTS: u32 = 4096;
-
-/// The most visits that one visit of a tree may make.
-const MOST_WORK: u32 = 100_000;
 
 /// The ID of the only tree.
 fn only_id<'t>(trees: &'t Trees<'_>) -> Option<&'t Name>
@@ -60,7 +54,7 @@ fn main_of<'t>(
 fn most_levels() -> u32
     ensures { result ≡ most_levels }
 {
-    256
+    MOST_DEPTH
 }
 
 /// The term of a root node, the tree of which has this ID.
@@ -84,7 +78,7 @@ fn read_root(
 fn within_limits(alloc: Global, tree: Tree) -> Result<Tree, Stop<BuildFault>>
     ensures { Gives result (within_limits tree) }
 {
-    let stop = match is_within_slots(alloc, &tree, MOST_SLOTS) {
+    let stop = match is_within_slots(alloc, &tree, MOST_KEYS) {
         Ok(true) if is_within_work(&tree.term, MOST_WORK) => return Ok(tree),
         Ok(true) => Stop::Fault(BuildFault::TooMuchWork),
         Ok(false) => Stop::Fault(BuildFault::TooManyKeys),

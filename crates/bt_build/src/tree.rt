@@ -10,15 +10,9 @@ use crate::head::{Head, head_of};
 use crate::trees::{Trees, tree_of};
 use bt_elements::Element;
 use bt_manifest::{Manifest, attribute};
-use bt_model::{Kind, Term, takes};
+use bt_model::{Kind, MOST_NODES, MOST_SCOPES, Term, takes};
 use bt_script::{Items, Name, NoMemory, Stop};
 use std::alloc::Global;
-
-/// The most nodes of a tree.
-const MOST_NODES: u32 = 4096;
-
-/// The most scopes of a tree, the main one counted.
-const MOST_SCOPES: u32 = 256;
 
 /// The nodes and the scopes so far, the main scope counted.
 #[derive(Clone, Copy, Debug, PartialEq, Eq)]

@@ -1,7 +1,8 @@
 //! What control nodes and decorators do, move by move, in whole visits.
 
 ghost use Rattle.std.specs.Prelude.{IsTrue, ◌<◌, ℕ, false};
-ghost use Rattle.bt_model.specs.Moves.{Fits, FitsChild, FitsStart, IsThere, TurnIsLeft, is_control, is_decorator};
+ghost use Rattle.bt_model.specs.BuiltIns.{is_control, is_decorator};
+ghost use Rattle.bt_model.specs.Moves.{Fits, FitsChild, FitsStart, IsThere, TurnIsLeft};
 ghost use Rattle.bt_model.specs.Rules.Choices.{chosen_of};
 ghost use Rattle.bt_model.specs.Rules.Turns.{limit_of, turns_of};
 

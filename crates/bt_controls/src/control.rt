@@ -1,5 +1,6 @@
 ghost use Rattle.std.specs.Prelude.{ℕ, IsTrue, ◌≡◌, ◌+◌, ◌<◌, ◌≢◌, Some};
-ghost use Rattle.bt_model.specs.Moves.{Fits, FitsChild, FitsStart, GoesOn, after, hears, is_control, makes, next_place, rest};
+ghost use Rattle.bt_model.specs.BuiltIns.{is_control};
+ghost use Rattle.bt_model.specs.Moves.{Fits, FitsChild, FitsStart, GoesOn, after, hears, makes, next_place, rest};
 ghost use Rattle.bt_model.specs.Rules.Kinds.{rule};
 ghost use Rattle.bt_controls.specs.Rounds.{next_child};
 

@@ -1,5 +1,6 @@
 ghost use Rattle.std.specs.Prelude.{IsTrue, ◌≡◌, ◌+◌, ◌<◌, ℕ};
-ghost use Rattle.bt_model.specs.Moves.{Fits, FitsChild, FitsStart, GoesOn, after, hears, hears_answer, is_decorator, keep_running_on, makes, next_place, rest};
+ghost use Rattle.bt_model.specs.BuiltIns.{is_decorator};
+ghost use Rattle.bt_model.specs.Moves.{Fits, FitsChild, FitsStart, GoesOn, after, hears, hears_answer, keep_running_on, makes, next_place, rest};
 ghost use Rattle.bt_model.specs.Rules.Decorators.{forced, inverted, keep_running_after};
 ghost use Rattle.bt_model.specs.Rules.Kinds.{rule};
 

@@ -20,15 +20,6 @@ use Rattle.bt_model.specs.Visit.{site_of, status_of}
 use Rattle.bt_laws.proofs.Children.{Family, SoundAll, size_all}
 use Rattle.bt_laws.proofs.Rounds.{StartsAt}
 
--- whether a node of this kind follows a rule over its children
-abbrev pub has_rule : Kind → Bool
-has_rule AlwaysSuccess = false
-has_rule AlwaysFailure = false
-has_rule ScriptNode = false
-has_rule ScriptCondition = false
-has_rule Leaf = false
-has_rule kind = true
-
 abbrev pub Begins : Kind → List Port → ℕ → Memo → List Status → Type 0
 Begins Sequence ports moment (Index at seen) ss = StartsAt at ss
 Begins Fallback ports moment (Index at seen) ss = StartsAt at ss

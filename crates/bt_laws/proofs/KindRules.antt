@@ -34,7 +34,8 @@ use Rattle.bt_laws.proofs.Parallels.{parallel_goes}
 use Rattle.bt_laws.proofs.Choices.{if_then_else_goes, if_then_else_starts, switch_goes, switch_starts, while_do_else_goes}
 use Rattle.bt_laws.proofs.Decorators.{child_goes, delay_goes, failure_runs, idle_none_completed, inverted_runs, keep_running_goes, run_once_goes, run_once_starts, success_runs, timeout_goes}
 use Rattle.bt_laws.proofs.Turning.{turns_go}
-use Rattle.bt_laws.proofs.Beginnings.{Begins, Ruled, has_rule, site_here}
+use Rattle.bt_model.specs.BuiltIns.{has_rule}
+use Rattle.bt_laws.proofs.Beginnings.{Begins, Ruled, site_here}
 use Rattle.bt_laws.proofs.Starts.{parallel_begins, since_begins, turns_begin}
 
 -- ---- From RUNNING

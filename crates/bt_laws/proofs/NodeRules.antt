@@ -22,7 +22,8 @@ use Rattle.bt_model.specs.Steps.{Given}
 use Rattle.bt_model.specs.Visit.{kind_rule, node_rule, status_of}
 use Rattle.bt_laws.proofs.Parts.{left_into, within_same}
 use Rattle.bt_laws.proofs.Children.{Family, SoundAll}
-use Rattle.bt_laws.proofs.Beginnings.{Begins, has_rule, site_here}
+use Rattle.bt_model.specs.BuiltIns.{has_rule}
+use Rattle.bt_laws.proofs.Beginnings.{Begins, site_here}
 use Rattle.bt_laws.proofs.KindRules.{kind_rule_leaves, rests_idle, rests_whole}
 use Rattle.bt_laws.proofs.Scripts.{Runs, script_holds_leaves, script_run_leaves}
 use Rattle.bt_laws.proofs.Whole.{RuledAs, held_same, size_here}

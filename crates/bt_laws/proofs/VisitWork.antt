@@ -25,7 +25,8 @@ use Rattle.bt_model.specs.Terms.{times_of}
 use Rattle.bt_model.specs.Trees.{ports_fit}
 use Rattle.bt_model.specs.Visit.{begun, cleared, continued, ended, guarded, halt, halt_calls, halt_state, halted, node_rule, or_bad_port, reset_by, ruled, started, starts, visit_by}
 use Rattle.bt_laws.proofs.Children.{Family, SoundAll, status_in}
-use Rattle.bt_laws.proofs.Beginnings.{Begins, has_rule, site_here}
+use Rattle.bt_model.specs.BuiltIns.{has_rule}
+use Rattle.bt_laws.proofs.Beginnings.{Begins, site_here}
 use Rattle.bt_laws.proofs.Scripts.{goes_on_leaves, guards_leave}
 use Rattle.bt_laws.proofs.Whole.{NodeKeeps, Own}
 use Rattle.bt_laws.proofs.AfterScripts.{Still, fields_still}

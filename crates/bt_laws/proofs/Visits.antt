@@ -9,7 +9,7 @@ use Rattle.bt_model.specs.declared.status.Answer.TheVariants as answer
 use Rattle.bt_model.specs.declared.status.Status.{Status}
 use Rattle.bt_model.specs.declared.status.Status.TheVariants as status
 use Rattle.bt_model.specs.declared.term.Kind.{Kind}
-use Rattle.bt_model.specs.declared.term.Kind.TheVariants.{AlwaysSuccess, AlwaysFailure, ScriptNode, ScriptCondition, Leaf}
+use Rattle.bt_model.specs.declared.term.Kind.TheVariants.{RunOnce}
 use Rattle.bt_model.specs.declared.term.Port.{Port}
 use Rattle.bt_model.specs.declared.term.Term.{Term-F}
 use Rattle.bt_model.specs.declared.world.Row.{Row}
@@ -25,7 +25,8 @@ use Rattle.bt_model.specs.Visit.{begun, change, continued, ended, guarded, halt,
 use Rattle.bt_laws.proofs.Parts.{follow_leaves, within_same}
 use Rattle.bt_laws.proofs.Children.{Family, SoundAll, all_move, status_in, status_kept}
 use Rattle.bt_laws.proofs.Acts.{as_many_statuses}
-use Rattle.bt_laws.proofs.Beginnings.{Begins, has_rule, site_here}
+use Rattle.bt_model.specs.BuiltIns.{has_rule}
+use Rattle.bt_laws.proofs.Beginnings.{Begins, site_here}
 use Rattle.bt_laws.proofs.KindRules.{kept_begins, running_begins, starts_begin}
 use Rattle.bt_laws.proofs.Scripts.{Rests, goes_on_leaves, guards_leave, posts_leave}
 use Rattle.bt_laws.proofs.Whole.{Answers, NodeKeeps, Own, as_kept, on_path, size_here}
@@ -48,12 +49,8 @@ shape_rests status.Failure kind ports row moment memo ss rests shape = shape
 
 -- a node that starts has children
 pub starts_with_rule : (kind : Kind) (memo : Memo) → starts kind memo ≡ true → has_rule kind ≡ true
-starts_with_rule Leaf memo e = cc
-starts_with_rule ScriptNode memo e = cc
-starts_with_rule ScriptCondition memo e = cc
-starts_with_rule AlwaysSuccess memo e = cc
-starts_with_rule AlwaysFailure memo e = cc
-starts_with_rule _ memo e = refl
+starts_with_rule RunOnce memo e = refl
+starts_with_rule _ memo e = e
 
 not_both : {b : Bool} → b ≡ true → b ≡ false → ⊥
 not_both is_true is_false = cc

@@ -2,6 +2,7 @@ ghost use Rattle.std.specs.Prelude.{◌≡◌, IfOk, IsTrue, MatchOption, false,
 ghost use Rattle.std.specs.List.{list_all};
 ghost use Rattle.bt_model.specs.Worlds as worlds;
 
+use bt_model::MOST_NAME_BYTES;
 use bt_script::{Name, NoMemory, is_identifier};
 use std::alloc::Global;
 
@@ -9,7 +10,7 @@ use std::alloc::Global;
 pub fn is_name(word: &[u8]) -> bool
     ensures { result ≡ worlds.is_name word.now }
 {
-    is_identifier(word) && word.len() <= 64
+    is_identifier(word) && word.len() <= MOST_NAME_BYTES
 }
 
 /// The name that the word is.

@@ -92,6 +92,15 @@ ports_of _ = []
 
 -- the class of each kind
 abbrev pub class_of : Kind → Class
+class_of Sequence = class.Control
+class_of SequenceWithMemory = class.Control
+class_of ReactiveSequence = class.Control
+class_of Fallback = class.Control
+class_of ReactiveFallback = class.Control
+class_of Parallel = class.Control
+class_of (Switch cases) = class.Control
+class_of IfThenElse = class.Control
+class_of WhileDoElse = class.Control
 class_of Inverter = class.Decorator
 class_of ForceSuccess = class.Decorator
 class_of ForceFailure = class.Decorator
@@ -107,7 +116,36 @@ class_of AlwaysFailure = class.Leaf
 class_of ScriptNode = class.Leaf
 class_of ScriptCondition = class.Leaf
 class_of Leaf = class.Leaf
-class_of _ = class.Control
+
+abbrev pub of_control : Class → Bool
+of_control class.Control = true
+of_control class.Decorator = false
+of_control class.SubTree = false
+of_control class.Leaf = false
+
+abbrev pub of_decorator : Class → Bool
+of_decorator class.Control = false
+of_decorator class.Decorator = true
+of_decorator class.SubTree = true
+of_decorator class.Leaf = false
+
+abbrev pub of_parent : Class → Bool
+of_parent class.Control = true
+of_parent class.Decorator = true
+of_parent class.SubTree = true
+of_parent class.Leaf = false
+
+-- whether a kind is a control node
+abbrev pub is_control : Kind → Bool
+is_control kind = of_control (class_of kind)
+
+-- whether a kind is a decorator, or a SubTree
+abbrev pub is_decorator : Kind → Bool
+is_decorator kind = of_decorator (class_of kind)
+
+-- whether a node of this kind has children, and follows a rule over them
+abbrev pub has_rule : Kind → Bool
+has_rule kind = of_parent (class_of kind)
 
 abbrev pub takes_by : Class → ℕ → Bool
 takes_by class.Control children = nat_le 1 children

@@ -4,6 +4,7 @@ pub mod Done
 pub mod Drivers
 pub mod Leaf
 pub mod Leaves
+pub mod Limits
 pub mod Lines
 pub mod Moves
 pub mod Names

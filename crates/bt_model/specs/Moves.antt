@@ -25,33 +25,6 @@ use Rattle.bt_model.specs.Rules.Sequences.{reactive_end, round, round_after, see
 use Rattle.bt_model.specs.Rules.Turns.{limit_of, turn_after, turns_of, turns_on}
 use Rattle.bt_model.specs.Steps.{Rule, keep, over, reset, visit, visit_or_pass}
 
--- a kind that is a control node
-abbrev pub is_control : Kind → Bool
-is_control Sequence = true
-is_control SequenceWithMemory = true
-is_control ReactiveSequence = true
-is_control Fallback = true
-is_control ReactiveFallback = true
-is_control Parallel = true
-is_control (Switch cases) = true
-is_control IfThenElse = true
-is_control WhileDoElse = true
-is_control _ = false
-
--- a kind that is a decorator, or a SubTree
-abbrev pub is_decorator : Kind → Bool
-is_decorator Inverter = true
-is_decorator ForceSuccess = true
-is_decorator ForceFailure = true
-is_decorator KeepRunningUntilFailure = true
-is_decorator Retry = true
-is_decorator Repeat = true
-is_decorator Timeout = true
-is_decorator Delay = true
-is_decorator RunOnce = true
-is_decorator SubTree = true
-is_decorator _ = false
-
 -- a round that is still to come behind the answer of a child
 abbrev pub round_on : Answer → (RoundEnd → Rule) → ℕ → Memo → Heard → Rule
 round_on goes ends n memo (Answered place a) =

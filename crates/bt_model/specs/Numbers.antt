@@ -18,9 +18,17 @@ without_minus (b ∷ bs) = if b == 45 then bs else b ∷ bs
 abbrev pub is_canonical : List ℕ → Bool
 is_canonical word = bytes_eq word (codes "0") || is_positive (without_minus word)
 
+-- the number that a word writes canonically, however large
+abbrev pub number_in : List ℕ → Option ℤ
+number_in word = if is_canonical word then Some (signed_digits_value 10 word) else None
+
+-- whether a number stands in this range, its ends included
+abbrev pub in_range : ℤ → ℤ → ℤ → Bool
+in_range low high number = int_le low number && int_le number high
+
 -- any number of 64 bits
 abbrev pub is_int : ℤ → Bool
-is_int n = int_le (negsuc 9223372036854775807) n && int_le n (pos 9223372036854775807)
+is_int n = in_range (negsuc 9223372036854775807) (pos 9223372036854775807) n
 
 -- a number, where it has 64 bits
 abbrev pub of_64_bits : ℤ → Option ℤ

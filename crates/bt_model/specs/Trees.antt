@@ -15,6 +15,7 @@ use Rattle.bt_model.specs.declared.term.Term.{Term, Term-F, fold-Term}
 use Rattle.bt_model.specs.declared.term.Tree.{Tree}
 use Rattle.bt_model.specs.Boards.{slots}
 use Rattle.bt_model.specs.BuiltIns.{PortRule, has_code, kind_named, ports_of, takes}
+use Rattle.bt_model.specs.Limits.{most_depth, most_keys, most_nodes, most_scopes, most_work}
 use Rattle.bt_model.specs.Names.{is_among}
 use Rattle.bt_model.specs.PrintedTree.{port_text}
 use Rattle.bt_model.specs.Terms.{depth_of, node_count, scope_count, work_of}
@@ -140,11 +141,11 @@ pub record NodeFits (node : Node) : Type 0 where
 -- The nodes of a tree, their depth, the scopes, the main one counted, the slots, and the visits that a visit of the root
 -- may make are not too many.
 pub record IsWithinLimits (tree : Tree) : Type 0 where
-  pub nodes : node_count tree.term ≤ 4096
-  pub depth : depth_of tree.term ≤ 256
-  pub scopes : 1 + scope_count tree.term ≤ 256
-  pub slots : length (slots tree) ≤ 4096
-  pub work : work_of tree.term ≤ 100000
+  pub nodes : node_count tree.term ≤ most_nodes
+  pub depth : depth_of tree.term ≤ most_depth
+  pub scopes : 1 + scope_count tree.term ≤ most_scopes
+  pub slots : length (slots tree) ≤ most_keys
+  pub work : work_of tree.term ≤ most_work
 
 -- A tree is valid where it is within the limits, its ID can be written, and each of its nodes fits.
 pub record IsValid (tree : Tree) : Type 0 where

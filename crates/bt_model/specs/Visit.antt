@@ -17,6 +17,7 @@ use Rattle.bt_model.specs.declared.status.Status.TheVariants.{Idle, Running, Suc
 use Rattle.bt_model.specs.declared.term.Kind.{Kind}
 use Rattle.bt_model.specs.declared.term.Kind.TheVariants.{RunOnce, AlwaysSuccess, AlwaysFailure, ScriptNode, ScriptCondition, Leaf}
 use Rattle.bt_model.specs.declared.term.Term.{Term, Term-F, fold-Term}
+use Rattle.bt_model.specs.BuiltIns.{has_rule}
 use Rattle.bt_model.specs.Done.{Call, Done, State, behind, done, ends, follow}
 use Rattle.bt_model.specs.Leaf.{let_go}
 use Rattle.bt_model.specs.Leaves.{gives, instance_at, leaf_call, row_of, script_condition, script_node}
@@ -119,13 +120,8 @@ ruled site status memo ms s =
 
 -- whether a node starts: one with children does, but for a RunOnce with a mark
 abbrev pub starts : Kind → Memo → Bool
-starts Leaf memo = false
-starts ScriptNode memo = false
-starts ScriptCondition memo = false
-starts AlwaysSuccess memo = false
-starts AlwaysFailure memo = false
 starts RunOnce (Finished (Some a)) = false
-starts kind memo = true
+starts kind memo = has_rule kind
 
 -- the start: the status becomes RUNNING and the memo is new, or a numeric port is bad; then the rule
 abbrev pub started : Site → Memory → State → Done Answer Memory

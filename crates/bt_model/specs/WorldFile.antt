@@ -23,8 +23,10 @@ use Rattle.bt_model.specs.declared.world.World.{World}
 use Rattle.bt_model.specs.declared.world_fault.WorldFault.{WorldFault}
 use Rattle.bt_model.specs.declared.world_fault.WorldKind.{WorldKind}
 use Rattle.bt_model.specs.declared.world_fault.WorldKind.TheVariants.{Header, BadLine, Range, DoubleName, NoName, MomentBack, TooMany}
+use Rattle.bt_model.specs.Limits.{last_moment, most_effects, most_events, most_facts, most_goals, most_needs, most_outcomes, most_outputs, most_ports, most_rows, most_runners}
 use Rattle.bt_model.specs.Names.{is_reserved}
-use Rattle.bt_model.specs.Worlds.{in_range, is_int, is_name, is_comparison, names_of_facts, ids_of_rows}
+use Rattle.bt_model.specs.Worlds.{is_name, is_comparison, names_of_facts, ids_of_rows}
+use Rattle.bt_model.specs.Numbers.{in_range, is_int, number_in}
 
 -- ---- Lines and words
 
@@ -85,24 +87,6 @@ ends_after n text = length (behind n text) == 0
 
 -- ---- Rows, names and numbers
 
--- digits of which the first is not 0
-abbrev pub is_positive : List ℕ → Bool
-is_positive [] = false
-is_positive (b ∷ bs) = nat_lt 48 b && list_all is_ascii_digit (b ∷ bs)
-
--- a word without one minus at its front
-abbrev pub without_minus : List ℕ → List ℕ
-without_minus [] = []
-without_minus (b ∷ bs) = if b == 45 then bs else b ∷ bs
-
--- `0`, or an optional minus and digits of which the first is not 0
-abbrev pub is_canonical : List ℕ → Bool
-is_canonical word = bytes_eq word (codes "0") || is_positive (without_minus word)
-
--- the number that a word writes canonically, however large
-abbrev pub number_in : List ℕ → Option ℤ
-number_in word = if is_canonical word then Some (signed_digits_value 10 word) else None
-
 -- the ID of a row and its input ports
 pub record Head : Type 0 where
   pub id : List ℕ
@@ -161,7 +145,7 @@ comparison_in word =
 -- the outcomes that a word of 1 to 64 letters names, S for success and F for failure
 abbrev pub outcomes_in : List ℕ → Option (List Bool)
 outcomes_in word =
-    if nat_lt 0 (length word) && nat_le (length word) 64 && list_all (λ b. b == 83 || b == 70) word
+    if nat_lt 0 (length word) && nat_le (length word) most_outcomes && list_all (λ b. b == 83 || b == 70) word
     then Some (map (λ b. b == 83) word)
     else None
 
@@ -288,7 +272,7 @@ runners_of r = unwrap_or r.runners 1
 
 -- a moment or a duration in milliseconds
 abbrev pub is_ms : ℤ → Bool
-is_ms = in_range (pos 0) (pos 1000000000000)
+is_ms = in_range (pos 0) (pos last_moment)
 
 -- the number of one of so many runners
 abbrev pub is_runner : ℕ → ℤ → Bool
@@ -333,16 +317,16 @@ plain_row id ports sort = record { id = id; ports = ports; sort = sort; needs = 
 abbrev pub with_fact : List ℕ → ℤ → Reading → Result Reading WorldKind
 with_fact name opening r =
     if list_any (bytes_eq name) (names_of_facts r.facts) then Err DoubleName
-    else if nat_le 1024 (length r.facts) then Err TooMany
+    else if nat_le most_facts (length r.facts) then Err TooMany
     else Ok (record r { facts = r.facts ++ record { name = name; opening = opening } ∷ [] })
 
 -- one more row, which is closed
 abbrev pub with_row : Row → Reading → Result Reading WorldKind
-with_row row r = if nat_le 1024 (length r.rows) then Err TooMany else Ok (record r { rows = r.rows ++ row ∷ [] })
+with_row row r = if nat_le most_rows (length r.rows) then Err TooMany else Ok (record r { rows = r.rows ++ row ∷ [] })
 
 -- one more row, which is open
 abbrev pub with_action : Row → Reading → Result Reading WorldKind
-with_action row r = if nat_le 1024 (length r.rows) then Err TooMany else Ok (record r { open_row = Some row })
+with_action row r = if nat_le most_rows (length r.rows) then Err TooMany else Ok (record r { open_row = Some row })
 
 -- what is said of the number that a name has; a name without one is not known
 abbrev pub numbered : {X : Type 0} → Option ℕ → (ℕ → Result X WorldKind) → Result X WorldKind
@@ -366,7 +350,7 @@ abbrev pub with_head : Head → (Row → Reading → Result Reading WorldKind) �
 with_head head add sort r =
     if is_taken r.rows head.id || repeats [] head.ports then Err DoubleName
     else if not (knows_sort head.ports r.facts sort) then Err NoName
-    else if nat_lt 8 (length head.ports) then Err TooMany
+    else if nat_lt most_ports (length head.ports) then Err TooMany
     else add (plain_row head.id head.ports sort) r
 
 -- the row that is open becomes this one
@@ -387,14 +371,14 @@ row_with_fails facts e row = fails_by row.sort row (knows_all row.ports facts e)
 abbrev pub row_with_need : ℕ → Row → Result Row WorldKind
 row_with_need n row =
     if list_any (nat_eq n) row.needs then Err DoubleName
-    else if nat_le 16 (length row.needs) then Err TooMany
+    else if nat_le most_needs (length row.needs) then Err TooMany
     else Ok (record row { needs = row.needs ++ n ∷ [] })
 
 -- a row with one more effect, on a fact that no other one is on
 abbrev pub row_with_effect : Set → Row → Result Row WorldKind
 row_with_effect effect row =
     if list_any (λ set. nat_eq effect.fact set.fact) row.sets then Err DoubleName
-    else if nat_le 16 (length row.sets) then Err TooMany
+    else if nat_le most_effects (length row.sets) then Err TooMany
     else Ok (record row { sets = row.sets ++ effect ∷ [] })
 
 -- a row with one more output, whose names are known
@@ -402,7 +386,7 @@ abbrev pub with_output : Out → Bool → Row → Result Row WorldKind
 with_output out known row =
     if list_any (λ other. bytes_eq out.port other.port) row.outs then Err DoubleName
     else if not known then Err NoName
-    else if nat_le 8 (length row.outs) then Err TooMany
+    else if nat_le most_outputs (length row.outs) then Err TooMany
     else Ok (record row { outs = row.outs ++ out ∷ [] })
 
 abbrev pub row_with_out : List Fact → List ℕ → Expr → Row → Result Row WorldKind
@@ -412,7 +396,7 @@ row_with_out facts port e row = with_output (record { port = port; expr = e }) (
 abbrev pub with_goal : ℕ → Reading → Result Reading WorldKind
 with_goal n r =
     if list_any (nat_eq n) r.goals then Err DoubleName
-    else if nat_le 64 (length r.goals) then Err TooMany
+    else if nat_le most_goals (length r.goals) then Err TooMany
     else Ok (record r { goals = r.goals ++ n ∷ [] })
 
 -- so many runners, which no earlier line says
@@ -424,7 +408,7 @@ with_moment ms r = if nat_lt ms r.moment then Err MomentBack else Ok (record r {
 
 abbrev pub with_event : What → Reading → Result Reading WorldKind
 with_event what r =
-    if nat_le 100000 (length r.events) then Err TooMany
+    if nat_le most_events (length r.events) then Err TooMany
     else Ok (record r { events = r.events ++ record { at = r.moment; what = what } ∷ [] })
 
 -- what is said, where the number of the line stands in its range
@@ -470,7 +454,7 @@ AfterLine r (SetsLine fact how value) said =
 AfterLine r (OutLine port expr) said = SaysOf expr (λ e. with_open r.open_row r (row_with_out r.facts port e)) said
 AfterLine r (GoalLine id) said = said ≡ numbered (comparison_number (closed r).rows id) (λ n. with_goal n (closed r))
 AfterLine r (RunnersLine count) said =
-    said ≡ placed (length r.events == 0) (ranged (in_range (pos 1) (pos 16) count) (with_runners (nat_abs count) (closed r)))
+    said ≡ placed (length r.events == 0) (ranged (in_range (pos 1) (pos most_runners) count) (with_runners (nat_abs count) (closed r)))
 AfterLine r (AtLine ms) said = said ≡ ranged (is_ms ms) (with_moment (nat_abs ms) (closed r))
 AfterLine r (TickLine runner) said = said ≡ ranged (is_runner (runners_of r) runner) (with_event (Tick (nat_abs runner)) (closed r))
 AfterLine r (HaltLine runner) said = said ≡ ranged (is_runner (runners_of r) runner) (with_event (Halt (nat_abs runner)) (closed r))

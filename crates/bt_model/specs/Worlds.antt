@@ -6,7 +6,9 @@ use Rattle.bt_script.specs.Grammar.{height}
 use Rattle.bt_script.specs.Identifiers.{is_identifier}
 use Rattle.bt_script.specs.declared.syntax.Expr.{Expr}
 use Rattle.bt_script.specs.Scripts.{names_of, texts_of}
+use Rattle.bt_model.specs.Limits.{last_moment, most_effects, most_events, most_facts, most_goals, most_name_bytes, most_needs, most_outcomes, most_outputs, most_ports, most_rows, most_runners}
 use Rattle.bt_model.specs.Names.{is_reserved}
+use Rattle.bt_model.specs.Numbers.{is_int}
 use Rattle.bt_model.specs.declared.world.Event.{Event}
 use Rattle.bt_model.specs.declared.world.Fact.{Fact}
 use Rattle.bt_model.specs.declared.world.Out.{Out}
@@ -20,17 +22,9 @@ use Rattle.bt_model.specs.declared.world.World.{World}
 
 -- ---- Names and numbers
 
--- names of facts, IDs of rows and their ports are identifiers of at most 64 bytes
+-- names of facts, IDs of rows and their ports are identifiers of few bytes
 abbrev pub is_name : List ℕ → Bool
-is_name word = is_identifier word && nat_le (length word) 64
-
--- whether a number stands in this range, its ends included
-abbrev pub in_range : ℤ → ℤ → ℤ → Bool
-in_range low high number = int_le low number && int_le number high
-
--- any number of 64 bits
-abbrev pub is_int : ℤ → Bool
-is_int = in_range (negsuc 9223372036854775807) (pos 9223372036854775807)
+is_name word = is_identifier word && nat_le (length word) most_name_bytes
 
 -- the names of some facts, in the order of their numbers
 abbrev pub names_of_facts : List Fact → List (List ℕ)
@@ -90,8 +84,8 @@ IsComparisonIn rows number = slice_get (comparisons rows) number ≡ Some true
 abbrev pub IsValidSort : List Fact → List (List ℕ) → RowSort → Type 0
 IsValidSort facts ports (Is fact op value) = (fact < length facts) × IsTrue (is_int value) × (ports ≡ [])
 IsValidSort facts ports (When e) = IsExprOver ports (names_of_facts facts) e
-IsValidSort facts ports (Timed ms fails) = (ms ≤ 1000000000000) × IfSome fails (IsExprOver ports (names_of_facts facts))
-IsValidSort facts ports (Replay ms outcomes) = (ms ≤ 1000000000000) × (1 ≤ length outcomes) × (length outcomes ≤ 64)
+IsValidSort facts ports (Timed ms fails) = (ms ≤ last_moment) × IfSome fails (IsExprOver ports (names_of_facts facts))
+IsValidSort facts ports (Replay ms outcomes) = (ms ≤ last_moment) × (1 ≤ length outcomes) × (length outcomes ≤ most_outcomes)
 IsValidSort facts ports (Gate e) = IsExprOver ports (names_of_facts facts) e
 
 -- an effect on a fact
@@ -105,13 +99,13 @@ IsBare row = (row.needs ≡ []) × (row.sets ≡ []) × (row.outs ≡ [])
 -- a row among the facts and the rows of a world
 pub record IsValidRow (facts : List Fact) (rows : List Row) (row : Row) : Type 0 where
   pub own : is_reserved row.id ≡ false
-  pub ports : AreNames 8 row.ports
+  pub ports : AreNames most_ports row.ports
   pub sort : IsValidSort facts row.ports row.sort
-  pub needs : AreNumbers 16 row.needs
+  pub needs : AreNumbers most_needs row.needs
   pub needed : All (IsComparisonIn rows) row.needs
-  pub sets : AreNumbers 16 (facts_set row.sets)
+  pub sets : AreNumbers most_effects (facts_set row.sets)
   pub effects : All (IsValidSet facts) row.sets
-  pub outs : AreNames 8 (ports_written row.outs)
+  pub outs : AreNames most_outputs (ports_written row.outs)
   pub outputs : All (λ out. IsExprOver row.ports (names_of_facts facts) out.expr) row.outs
   pub bare : is_condition row.sort ≡ true → IsBare row
 
@@ -125,18 +119,18 @@ IsValidWhat facts runners (Change fact value) = (fact < length facts) × IsTrue 
 
 -- an event, at a moment of at most 1,000,000,000,000 ms
 abbrev pub IsValidEvent : List Fact → ℕ → Event → Type 0
-IsValidEvent facts runners event = (event.at ≤ 1000000000000) × IsValidWhat facts runners event.what
+IsValidEvent facts runners event = (event.at ≤ last_moment) × IsValidWhat facts runners event.what
 
 -- a world: its names and numbers name what is there, and it is within the limits
 pub record IsValidWorld (w : World) : Type 0 where
-  pub facts : AreNames 1024 (names_of_facts w.facts)
+  pub facts : AreNames most_facts (names_of_facts w.facts)
   pub openings : All (λ fact. IsTrue (is_int fact.opening)) w.facts
-  pub ids : AreNames 1024 (ids_of_rows w.rows)
+  pub ids : AreNames most_rows (ids_of_rows w.rows)
   pub rows : All (IsValidRow w.facts w.rows) w.rows
-  pub goals : AreNumbers 64 w.goals
+  pub goals : AreNumbers most_goals w.goals
   pub wanted : All (IsComparisonIn w.rows) w.goals
   pub some_runner : 1 ≤ w.runners
-  pub few_runners : w.runners ≤ 16
-  pub few_events : length w.events ≤ 100000
+  pub few_runners : w.runners ≤ most_runners
+  pub few_events : length w.events ≤ most_events
   pub events : All (IsValidEvent w.facts w.runners) w.events
   pub in_order : IsNonDecreasingBy (λ event. event.at) w.events

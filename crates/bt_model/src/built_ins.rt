@@ -1,6 +1,6 @@
 ghost use Rattle.std.specs.Prelude.{◌≡◌, ◌+◌, map, take};
 ghost use Rattle.bt_script.specs.declared.value.Value.TheVariants.{Int, Text};
-ghost use Rattle.bt_model.specs.BuiltIns.{class_of, fits, has_code, kind_among, kind_named, named_kinds, ports_of, row_seen, rule_seen, switch_ports, takes, takes_by, writes};
+ghost use Rattle.bt_model.specs.BuiltIns.{class_of, fits, has_code, has_rule, is_control, kind_among, kind_named, named_kinds, ports_of, row_seen, rule_seen, switch_ports, takes, takes_by, writes};
 
 use crate::term::Kind;
 
@@ -189,7 +189,23 @@ pub fn ports_of(kind: Kind) -> &'static [PortRule]
         Kind::Timeout => TIMEOUT_PORTS.as_slice(),
         Kind::Delay => DELAY_PORTS.as_slice(),
         Kind::RunOnce => RUN_ONCE_PORTS.as_slice(),
-        _ => NO_PORTS.as_slice(),
+        Kind::Sequence
+        | Kind::SequenceWithMemory
+        | Kind::ReactiveSequence
+        | Kind::Fallback
+        | Kind::ReactiveFallback
+        | Kind::IfThenElse
+        | Kind::WhileDoElse
+        | Kind::Inverter
+        | Kind::ForceSuccess
+        | Kind::ForceFailure
+        | Kind::KeepRunningUntilFailure
+        | Kind::SubTree
+        | Kind::AlwaysSuccess
+        | Kind::AlwaysFailure
+        | Kind::ScriptNode
+        | Kind::ScriptCondition
+        | Kind::Leaf => NO_PORTS.as_slice(),
     }
 }
 
@@ -208,10 +224,20 @@ fn first_ports(ports: &'static [PortRule], most: usize) -> &'static [PortRule]
 }
 
 /// The class of a kind.
+#[inline(always)]
 pub fn class_of(kind: Kind) -> Class
     ensures { result ≡ class_of kind }
 {
     match kind {
+        Kind::Sequence
+        | Kind::SequenceWithMemory
+        | Kind::ReactiveSequence
+        | Kind::Fallback
+        | Kind::ReactiveFallback
+        | Kind::Parallel
+        | Kind::Switch(_)
+        | Kind::IfThenElse
+        | Kind::WhileDoElse => Class::Control,
         Kind::Inverter
         | Kind::ForceSuccess
         | Kind::ForceFailure
@@ -227,7 +253,28 @@ pub fn class_of(kind: Kind) -> Class
         | Kind::ScriptNode
         | Kind::ScriptCondition
         | Kind::Leaf => Class::Leaf,
-        _ => Class::Control,
+    }
+}
+
+/// Whether a node of this kind is a control node.
+#[inline(always)]
+pub fn is_control(kind: Kind) -> bool
+    ensures { result ≡ is_control kind }
+{
+    match class_of(kind) {
+        Class::Control => true,
+        Class::Decorator | Class::SubTree | Class::Leaf => false,
+    }
+}
+
+/// Whether a node of this kind has children, and follows a rule over them.
+#[inline(always)]
+pub fn has_rule(kind: Kind) -> bool
+    ensures { result ≡ has_rule kind }
+{
+    match class_of(kind) {
+        Class::Control | Class::Decorator | Class::SubTree => true,
+        Class::Leaf => false,
     }
 }
 

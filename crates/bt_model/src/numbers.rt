@@ -1,7 +1,8 @@
 ghost use Rattle.std.specs.Prelude.{◌≡◌};
 ghost use Rattle.std.specs.Char.{is_ascii_digit};
 ghost use Rattle.std.specs.List.{list_all};
-ghost use Rattle.bt_model.specs.Numbers.{int_in, is_canonical, is_positive, without_minus};
+ghost use Rattle.bt_model.specs.Numbers.{int_in, is_positive, without_minus};
+ghost use Rattle.bt_model.specs.Numbers as numbers;
 
 use std::str;
 
@@ -29,8 +30,9 @@ fn positive(word: &[u8]) -> bool
     }
 }
 
-fn canonical(word: &[u8]) -> bool
-    ensures { result ≡ is_canonical word.now }
+/// Whether the word writes a number canonically.
+pub fn is_canonical(word: &[u8]) -> bool
+    ensures { result ≡ numbers.is_canonical word.now }
 {
     word == b"0".as_slice() || positive(unsigned(word))
 }
@@ -39,7 +41,7 @@ fn canonical(word: &[u8]) -> bool
 pub fn int(word: &[u8]) -> Option<i64>
     ensures { result ≡ int_in word.now }
 {
-    if !canonical(word) {
+    if !is_canonical(word) {
         return None;
     }
     match str::from_utf8(word) {

@@ -7,16 +7,10 @@ ghost use Rattle.bt_reading.specs.Drafts.{row_of};
 use crate::facts::Facts;
 use crate::knowing::knows_all;
 use crate::ports::Ports;
-use bt_model::{Out, Row, RowSort, Set, WorldKind};
+use bt_model::{MOST_EFFECTS, MOST_NEEDS, MOST_OUTPUTS, Out, Row, RowSort, Set, WorldKind};
 use bt_script::{Expr, Items, Name, Stop};
 use std::alloc::Global;
 use std::mem::replace;
-
-const MOST_NEEDS: usize = 16;
-
-const MOST_EFFECTS: usize = 16;
-
-const MOST_OUTPUTS: usize = 8;
 
 /// A row to which lines may still add.
 #[derive(Drop)]

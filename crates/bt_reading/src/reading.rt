@@ -11,20 +11,13 @@ use crate::facts::Facts;
 use crate::knowing::knows_all;
 use crate::ports::Ports;
 use crate::rows::Rows;
-use bt_model::{Event, Fact, Out, Row, RowSort, Set, What, World, WorldKind, is_reserved};
+use bt_model::{
+    Event, Fact, MOST_EVENTS, MOST_FACTS, MOST_GOALS, MOST_PORTS, MOST_ROWS, Out, Row, RowSort,
+    Set, What, World, WorldKind, is_reserved,
+};
 use bt_script::{Expr, Items, Name, NoMemory, Stop};
 use std::alloc::Global;
 use std::marker::Model;
-
-const MOST_FACTS: usize = 1024;
-
-const MOST_ROWS: usize = 1024;
-
-const MOST_PORTS: usize = 8;
-
-const MOST_GOALS: usize = 64;
-
-const MOST_EVENTS: usize = 100_000;
 
 /// What the lines so far have made. Facts and rows are numbered from 0 in the order of the file.
 #[derive(Drop)]

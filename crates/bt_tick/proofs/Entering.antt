@@ -5,6 +5,7 @@ use Rattle.std.specs.Prelude.{IfOk, IsErrAnd}
 use Rattle.bt_script.specs.declared.stop.Stop.{Stop}
 use Rattle.bt_script.specs.declared.stop.Stop.TheVariants as stop
 use Rattle.bt_script.specs.declared.value.Value.{Value}
+use Rattle.bt_model.specs.declared.built_ins.Class.{Class}
 use Rattle.bt_model.specs.declared.built_ins.Class.TheVariants as class
 use Rattle.bt_model.specs.declared.fault.NodeFault.{NodeFault}
 use Rattle.bt_model.specs.declared.fault.PortId.{PortId}
@@ -21,7 +22,7 @@ use Rattle.bt_model.specs.declared.term.Kind.{Kind}
 use Rattle.bt_model.specs.declared.term.Kind.TheVariants.{AlwaysSuccess, AlwaysFailure, ScriptNode, ScriptCondition, Leaf}
 use Rattle.bt_model.specs.declared.term.Term.{Term, Term-F, fold_out-Term, out-Term}
 use Rattle.bt_model.specs.declared.term.Term.TheFolds.{map-Term}
-use Rattle.bt_model.specs.BuiltIns.{class_of}
+use Rattle.bt_model.specs.BuiltIns.{class_of, has_rule, of_parent}
 use Rattle.bt_model.specs.Done.{Done, State, behind, done, ends, follow}
 use Rattle.bt_model.specs.Drivers.{DriverState, instance_at}
 use Rattle.bt_model.specs.Leaves.{row_of}
@@ -49,6 +50,7 @@ use Rattle.bt_laws.proofs.Acts.{as_many_statuses}
 use Rattle.bt_laws.proofs.Beginnings.{Begins}
 use Rattle.bt_laws.proofs.Children.{Keeps}
 use Rattle.bt_laws.proofs.KindRules.{kept_begins, running_begins, starts_begin}
+use Rattle.bt_laws.proofs.Visits.{starts_with_rule}
 use Rattle.bt_nodes.specs.Calls.{IsInPhase}
 use Rattle.bt_nodes.specs.Settles.{Settles}
 use Rattle.bt_nodes.proofs.Following.{stops_with}
@@ -59,7 +61,7 @@ use Rattle.bt_tick.specs.Machine.{Turn}
 use Rattle.bt_tick.specs.Machine as turn
 use Rattle.bt_nodes.specs.Here.{site_at}
 use Rattle.bt_tick.specs.declared.machine.Entered.TheVariants as entered
-use Rattle.bt_tick.specs.Turns.{CanBegin, CanFollow, CanGoOn, CanPick, CanVisit, ChildrenSound, Comes, Goes, GoesTo, Starts, children_in, cost, goes_by, has_rule, kind_of, left_of, memory_in, number, ruled_in, started_in, turn_after, visit_in}
+use Rattle.bt_tick.specs.Turns.{CanBegin, CanFollow, CanGoOn, CanPick, CanVisit, ChildrenSound, Comes, Goes, GoesTo, Starts, children_in, cost, goes_by, kind_of, left_of, memory_in, number, ruled_in, started_in, turn_after, visit_in}
 use Rattle.bt_tick.proofs.Children.{beside_both, beside_more, beside_same, terms}
 use Rattle.bt_tick.proofs.Bounds.{begins_less, visits_few}
 use Rattle.bt_tick.proofs.Held.{leaf_kind, sound_opened}
@@ -69,13 +71,14 @@ use Rattle.bt_tick.proofs.Starting.{begins_so, picks_so}
 
 -- ---- Kinds
 
+leaf_class : (c : Class) → of_parent c ≡ false → c ≡ class.Leaf
+leaf_class class.Control e = cc
+leaf_class class.Decorator e = cc
+leaf_class class.SubTree e = cc
+leaf_class class.Leaf e = refl
+
 pub class_alone : (kind : Kind) → has_rule kind ≡ false → class_of kind ≡ class.Leaf
-class_alone AlwaysSuccess e = refl
-class_alone AlwaysFailure e = refl
-class_alone ScriptNode e = refl
-class_alone ScriptCondition e = refl
-class_alone Leaf e = refl
-class_alone _ e = cc
+class_alone kind e = leaf_class (class_of kind) e
 
 node_rule_is : (kind : Kind) (site : Site) (st : Status) (memo : Memo) (ms : List Memory) (s : State) → has_rule kind ≡ true → node_rule kind site st memo ms s ≡ kind_rule site memo ms s
 node_rule_is AlwaysSuccess site st memo ms s e = cc
@@ -84,15 +87,6 @@ node_rule_is ScriptNode site st memo ms s e = cc
 node_rule_is ScriptCondition site st memo ms s e = cc
 node_rule_is Leaf site st memo ms s e = cc
 node_rule_is _ site st memo ms s e = refl
-
--- what starts has a rule over its children
-pub starts_ruled : (kind : Kind) (memo : Memo) → starts kind memo ≡ true → has_rule kind ≡ true
-starts_ruled AlwaysSuccess memo e = cc
-starts_ruled AlwaysFailure memo e = cc
-starts_ruled ScriptNode memo e = cc
-starts_ruled ScriptCondition memo e = cc
-starts_ruled Leaf memo e = cc
-starts_ruled _ memo e = refl
 
 -- ---- Faults
 
@@ -285,7 +279,7 @@ module _ (keeps : (t : Term) → Keeps (meaning t) (Sound t)) (nodes : List Node
     starts_so rests start memo is =
         let site = site_at view uid term in
         let all : length site.node.children ≡ length here_statuses = length-map (out-Term term).children meaning ∙ sym as_many_here in
-        let begins = starts_begin site (kept_at s.kept uid).memo (state_in nodes s moment) here_statuses all (kind_of term) (starts_ruled (kind_of term) (kept_at s.kept uid).memo start) (rests_so rests) in
+        let begins = starts_begin site (kept_at s.kept uid).memo (state_in nodes s moment) here_statuses all (kind_of term) (starts_with_rule (kind_of term) (kept_at s.kept uid).memo start) (rests_so rests) in
         begins_by memo (given_so (new_memo (kind_of term) site (kept_at s.kept uid).memo (state_in nodes s moment)) is begins)
       where
         given_so : (r : Result Memo PortId) → Ok memo ≡ or_bad_port uid r → IfOk r (λ m. Begins (kind_of term) (out-Term term).ports moment m here_statuses) → Begins (kind_of term) (out-Term term).ports moment memo here_statuses
@@ -600,7 +594,7 @@ module _ (keeps : (t : Term) → Keeps (meaning t) (Sound t)) (nodes : List Node
           dated = can.dated;
         };
         begins = λ with_rule. subst (λ (x : Kept). CanBegin (kind_of term) (number term) x.memo) (sym here2) (starts_so keeps nodes moment term view uid s0 can rests start memo (is ∙ memo_read));
-        held = λ alone. absurd (not_both (has_rule (kind_of term)) (starts_ruled (kind_of term) old.memo start) alone);
+        held = λ alone. absurd (not_both (has_rule (kind_of term)) (starts_with_rule (kind_of term) old.memo start) alone);
       },
       record {
         told = Changed uid old.status status.Running ∷ [];

@@ -19,7 +19,7 @@ use Rattle.bt_model.specs.declared.status.Status.{Status}
 use Rattle.bt_model.specs.declared.term.Kind.{Kind}
 use Rattle.bt_model.specs.declared.term.Kind.TheVariants.{Parallel}
 use Rattle.bt_model.specs.declared.term.Term.{Term, out-Term}
-use Rattle.bt_model.specs.BuiltIns.{takes}
+use Rattle.bt_model.specs.BuiltIns.{has_rule, takes}
 use Rattle.bt_model.specs.Done.{Done, State, done, follow}
 use Rattle.bt_model.specs.Drivers.{is_held}
 use Rattle.bt_model.specs.Moves.{Fits as FitsMoves, GoesOn, after, behind_resets, going, hears, makes, next_place, rest}
@@ -50,7 +50,7 @@ use Rattle.bt_tick.specs.Machine.{Step}
 use Rattle.bt_tick.specs.Machine.{Turn}
 use Rattle.bt_tick.specs.Machine as turn
 use Rattle.bt_nodes.specs.Here.{site_at}
-use Rattle.bt_tick.specs.Turns.{CanGoOn, ChildrenSound, Comes, Goes, GoesOnBy, GoesTo, TurnDoes, children_in, goes_by, has_rule, kind_of, memory_in, number, passes_over, ruled_by, turn_to, turn_with, turned}
+use Rattle.bt_tick.specs.Turns.{CanGoOn, ChildrenSound, Comes, Goes, GoesOnBy, GoesTo, TurnDoes, children_in, goes_by, kind_of, memory_in, number, passes_over, ruled_by, turn_to, turn_with, turned}
 use Rattle.bt_tick.proofs.Children.{beside_both, beside_more, child_seen, terms}
 use Rattle.bt_tick.proofs.Passing.{comes_both, follow_follow, met_behind, met_comes, part_made}
 

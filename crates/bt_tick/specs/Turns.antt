@@ -13,6 +13,7 @@ use Rattle.bt_model.specs.declared.status.Status.{Status}
 use Rattle.bt_model.specs.declared.term.Kind.{Kind}
 use Rattle.bt_model.specs.declared.term.Kind.TheVariants.{Parallel, Switch, Leaf, ScriptNode, ScriptCondition, AlwaysSuccess, AlwaysFailure}
 use Rattle.bt_model.specs.declared.term.Term.{Term, out-Term}
+use Rattle.bt_model.specs.BuiltIns.{has_rule}
 use Rattle.bt_model.specs.Done.{Call, Done, State, behind, done, follow}
 use Rattle.bt_model.specs.Moves.{Fits as FitsMoves, FitsStart, after, next_place, rest, visits_left}
 use Rattle.bt_model.specs.Sites.{View, children_of, placed, remembered}
@@ -96,15 +97,6 @@ pub record CanGoOn (nodes : List Node) (moment : ℕ) (term : Term) (view : View
   pub fits : Fits term view uid nodes s
   pub sound : ChildrenSound term view uid (children_in term uid s.kept) (state_in nodes s moment)
   pub dated : Dated (state_in nodes s moment)
-
--- whether a node of this kind follows a rule over its children
-abbrev pub has_rule : Kind → Bool
-has_rule Leaf = false
-has_rule ScriptNode = false
-has_rule ScriptCondition = false
-has_rule AlwaysSuccess = false
-has_rule AlwaysFailure = false
-has_rule kind = true
 
 -- what can be picked for a visit
 abbrev pub CanPick : Kind → ℕ → Type 0

@@ -11,15 +11,15 @@ ghost use Rattle.bt_arena.specs.Nodes.{kept_at, node_at};
 ghost use Rattle.bt_arena.specs.Scenes.{scene};
 ghost use Rattle.bt_arena.specs.Stands.{Beside};
 ghost use Rattle.bt_tick.specs.Machine as turn;
-ghost use Rattle.bt_tick.specs.Turns.{CanFollow, CanVisit, Goes, Starts, has_rule, kind_of, ruled_in, turn_after, turn_work, turned, visit_in};
+ghost use Rattle.bt_model.specs.BuiltIns.{has_rule};
+ghost use Rattle.bt_tick.specs.Turns.{CanFollow, CanVisit, Goes, Starts, kind_of, ruled_in, turn_after, turn_work, turned, visit_in};
 
 use crate::machine::Entered;
-use crate::moves::has_rule;
 use bt_arena::{Kept, Node, Notes, kept_by, node, set_status};
 use bt_board::Board;
 use bt_driver::{Drivers, FactTable};
 use bt_halting::halt_node;
-use bt_model::{Answer, Kind, Memo, NodeFault, Note, Status};
+use bt_model::{Answer, Kind, Memo, NodeFault, Note, Status, has_rule};
 use bt_nodes::{end_visit, goes_on, guards_answer, picked, start_memo, visit_alone};
 use bt_script::Stop;
 use std::alloc::Global;
@@ -31,13 +31,8 @@ fn starts(kind: Kind, memo: Memo) -> bool
     ensures { result ≡ starts kind memo }
 {
     match kind {
-        Kind::Leaf
-        | Kind::ScriptNode
-        | Kind::ScriptCondition
-        | Kind::AlwaysSuccess
-        | Kind::AlwaysFailure => false,
         Kind::RunOnce => !matches!(memo, Memo::Finished(Some(_))),
-        _ => true,
+        _ => has_rule(kind),
     }
 }
 

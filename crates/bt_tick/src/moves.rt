@@ -1,45 +1,11 @@
 ghost use Rattle.std.specs.Prelude.{◌≡◌, IsTrue, true};
-ghost use Rattle.bt_model.specs.BuiltIns.{takes};
-ghost use Rattle.bt_model.specs.Moves.{Fits, GoesOn, after, hears, is_control, makes, next_place, rest};
+ghost use Rattle.bt_model.specs.BuiltIns.{has_rule, takes};
+ghost use Rattle.bt_model.specs.Moves.{Fits, GoesOn, after, hears, makes, next_place, rest};
 ghost use Rattle.bt_model.specs.Steps.{is_completed};
-ghost use Rattle.bt_tick.specs.Turns.{has_rule};
 
 use bt_controls::control_next;
 use bt_decorators::decorator_next;
-use bt_model::{Heard, Kind, Memo, Move, Status};
-
-/// Whether a node of this kind follows a rule over its children.
-#[inline(always)]
-pub(crate) fn has_rule(kind: Kind) -> bool
-    ensures { result ≡ has_rule kind }
-{
-    match kind {
-        Kind::Leaf
-        | Kind::ScriptNode
-        | Kind::ScriptCondition
-        | Kind::AlwaysSuccess
-        | Kind::AlwaysFailure => false,
-        _ => true,
-    }
-}
-
-/// Whether a node of this kind is a control node.
-fn is_control(kind: Kind) -> bool
-    ensures { result ≡ is_control kind }
-{
-    match kind {
-        Kind::Sequence
-        | Kind::SequenceWithMemory
-        | Kind::ReactiveSequence
-        | Kind::Fallback
-        | Kind::ReactiveFallback
-        | Kind::Parallel
-        | Kind::Switch(_)
-        | Kind::IfThenElse
-        | Kind::WhileDoElse => true,
-        _ => false,
-    }
-}
+use bt_model::{Heard, Kind, Memo, Move, Status, is_control};
 
 /// Whether a child with this status has completed.
 pub(crate) fn is_completed(status: Status) -> bool

@@ -11,7 +11,8 @@ ghost use Rattle.bt_arena.specs.Scenes.{scene, state_in};
 ghost use Rattle.bt_arena.specs.Stands.{Beside};
 ghost use Rattle.bt_nodes.specs.Here.{site_at};
 ghost use Rattle.bt_tick.specs.Machine as turn;
-ghost use Rattle.bt_tick.specs.Turns.{CanGoOn, EntersChild, Goes, GoesOnBy, children_in, has_rule, kind_of, passes_over, step_of, turn_of, turn_with, turn_work};
+ghost use Rattle.bt_model.specs.BuiltIns.{has_rule};
+ghost use Rattle.bt_tick.specs.Turns.{CanGoOn, EntersChild, Goes, GoesOnBy, children_in, kind_of, passes_over, step_of, turn_of, turn_with, turn_work};
 
 use crate::machine::Next;
 use crate::moves::{is_completed, next_move};

@@ -1,6 +1,7 @@
 -- What contracts see of the commands that the code reads.
 use Rattle.std.specs.Prelude.{◌≤◌}
 use Rattle.std.specs.Option.{option_copied}
+use Rattle.bt_model.specs.Limits.{most_leaves}
 use Rattle.bt_words.specs.Words.{Command, Tick, Live, Load, Check}
 use Rattle.bt_words.specs.declared.words.Command.{Command as Read}
 use Rattle.bt_words.specs.declared.words.Command.TheVariants as read
@@ -14,5 +15,5 @@ command_seen (read.Check tree main) = Check tree.now (option_copied main)
 
 -- a load has no more leaves than its files can hold
 abbrev pub HasFewLeaves : Command → Type 0
-HasFewLeaves (Load leaves) = leaves ≤ 1000
+HasFewLeaves (Load leaves) = leaves ≤ most_leaves
 HasFewLeaves _ = Unit {0}

@@ -3,6 +3,7 @@ use Rattle.std.specs.Prelude.{ℕ, nat_le, ℤ, pos, List, [], ◌∷◌, codes,
 use Rattle.std.specs.Str.{bytes_eq}
 use Rattle.bt_words.specs.declared.exit.Exit.{Exit}
 use Rattle.bt_words.specs.declared.exit.Exit.TheVariants as exit
+use Rattle.bt_model.specs.Limits.{most_leaves, most_rounds}
 use Rattle.bt_model.specs.Numbers.{int_in}
 
 -- ---- Options
@@ -43,7 +44,7 @@ as_count most _ = None
 
 -- the number from 1 to 100,000 that the option `--ticks` gives, written canonically
 unfoldable pub rounds_in : List (List ℕ) → Option ℕ
-rounds_in options = option_and_then (λ word. as_count 100000 (int_in word)) (value_of (codes "--ticks") options)
+rounds_in options = option_and_then (λ word. as_count most_rounds (int_in word)) (value_of (codes "--ticks") options)
 
 -- `TREE WORLD [--main ID]`
 abbrev pub tick_of : List (List ℕ) → Option Command
@@ -61,7 +62,7 @@ live_of _ = None
 
 -- `N`, a number from 1 to 1,000, written canonically
 abbrev pub load_of : List (List ℕ) → Option Command
-load_of (word ∷ []) = option_map Load (as_count 1000 (int_in word))
+load_of (word ∷ []) = option_map Load (as_count most_leaves (int_in word))
 load_of _ = None
 
 -- `TREE [--main ID]`

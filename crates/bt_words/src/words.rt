@@ -3,9 +3,10 @@ ghost use Rattle.std.specs.IoError.{error_kind};
 ghost use Rattle.std.specs.Option.{option_copied};
 ghost use Rattle.bt_words.specs.Commands.{HasFewLeaves, command_seen};
 ghost use Rattle.bt_words.specs.Words.{are_options, as_count, check_of, command_of, is_option, is_unset, live_of, load_of, rounds_in, tick_of, value_of};
+ghost use Rattle.bt_model.specs.Limits.{most_leaves, most_rounds};
 ghost use Rattle.bt_model.specs.Numbers.{int_in};
 
-use bt_model::int;
+use bt_model::{MOST_LEAVES, MOST_ROUNDS, int};
 use bt_script::{Name, NoMemory};
 use std::alloc::{AllocFailed, Global};
 use std::env::Env;
@@ -98,10 +99,10 @@ fn main_of<'a>(options: &'a [Name]) -> Option<&'a Name>
 
 /// A number from 1 to 100,000.
 fn as_rounds(number: Option<i64>) -> Option<u32>
-    ensures { result ≡ as_count 100000 number }
+    ensures { result ≡ as_count most_rounds number }
 {
     match number {
-        Some(n @ 1..=100_000) => Some(n as u32),
+        Some(n @ 1..=MOST_ROUNDS) => Some(n as u32),
         _ => None,
     }
 }
@@ -159,11 +160,11 @@ fn read_live<'a>(words: &'a [Name]) -> Option<Command<'a>>
 
 /// The number of leaves, from 1 to 1,000, that a word is.
 fn leaves_in(word: &Name) -> Option<u32>
-    ensures number { result ≡ as_count 1000 (int_in word.now) }
-    ensures few { IfSome result (λ leaves. leaves ≤ 1000) }
+    ensures number { result ≡ as_count most_leaves (int_in word.now) }
+    ensures few { IfSome result (λ leaves. leaves ≤ most_leaves) }
 {
     match int(word.list()) {
-        Some(n @ 1..=1_000) => Some(n as u32),
+        Some(n @ 1..=MOST_LEAVES) => Some(n as u32),
         _ => None,
     }
 }

@@ -9,7 +9,8 @@ use Rattle.bt_script.specs.declared.syntax.Expr.{Expr}
 use Rattle.bt_model.specs.declared.world.Row.{Row}
 use Rattle.bt_model.specs.declared.world.RowSort.{RowSort}
 use Rattle.bt_model.specs.declared.world_fault.WorldKind.{WorldKind}
-use Rattle.bt_model.specs.WorldFile.{Line, TimedLine, ReplayLine, AfterForm, AfterLine, Reading, behind, ends_after, is_canonical, is_ms, number_in, outcomes_in, replay_line, timed_line, with_action, word, ReadsNumeric, SaysOf, closed, ranged, with_head}
+use Rattle.bt_model.specs.WorldFile.{Line, TimedLine, ReplayLine, AfterForm, AfterLine, Reading, behind, ends_after, is_ms, outcomes_in, replay_line, timed_line, with_action, word, ReadsNumeric, SaysOf, closed, ranged, with_head}
+use Rattle.bt_model.specs.Numbers.{is_canonical, number_in}
 use Rattle.bt_model.specs.WorldFile as file
 use Rattle.bt_lines.specs.Ranges.{Passes}
 use Rattle.bt_reading.specs.Drafts.{DraftSays, row_of}

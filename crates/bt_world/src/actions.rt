@@ -2,13 +2,14 @@ ghost use Rattle.std.specs.Prelude.{◌≡◌, ◌==◌, ◌||◌, ◌&&◌, Som
 ghost use Rattle.std.specs.List.{list_all};
 ghost use Rattle.std.specs.Str.Parse.{signed_digits_value};
 ghost use Rattle.bt_model.specs.Worlds as worlds;
-ghost use Rattle.bt_model.specs.Worlds.{is_int};
+ghost use Rattle.bt_model.specs.Numbers.{is_int};
+ghost use Rattle.bt_model.specs.Numbers as numbers;
 ghost use Rattle.bt_model.specs.WorldFile as file;
 ghost use Rattle.bt_model.specs.WorldFile.{AfterForm, GateLine, WhenLine, action_line, ranged, with_comparison, comparison_in, condition_line, is_line, is_line_byte, outcomes_in, replay_line, timed_line};
 ghost use Rattle.bt_reading.specs.Readings.{Leaves};
 
 use bt_lines::{cut, head_in, int, is, is_canonical, is_name, ms, name_of, numeric};
-use bt_model::{Row, RowSort, WorldKind};
+use bt_model::{MOST_OUTCOMES, Row, RowSort, WorldKind};
 use bt_reading::Reading;
 use bt_script::{Cmp, Items, Stop};
 use std::alloc::{AllocError, Global};
@@ -55,7 +56,7 @@ fn all_outcomes(word: &[u8]) -> bool
 fn are_outcomes(word: &[u8]) -> bool
     ensures { result ≡ (nat_lt 0 (length word.now) && nat_le (length word.now) 64 && list_all (λ b. b == 83 || b == 70) word.now) }
 {
-    !word.is_empty() && word.len() <= 64 && all_outcomes(word)
+    !word.is_empty() && word.len() <= MOST_OUTCOMES && all_outcomes(word)
 }
 
 /// The outcomes that the letters name: true for success.
@@ -137,7 +138,7 @@ fn compare(
     number: &[u8],
 ) -> Result<(), Stop<WorldKind>>
     requires named { IsTrue (worlds.is_name id.now) }
-    requires canonical { file.is_canonical number.now ≡ true }
+    requires canonical { numbers.is_canonical number.now ≡ true }
     requires open { reading.old.open_row ≡ None }
     ensures { Leaves result reading.new (λ said. said ≡ ranged (is_int (signed_digits_value 10 number.now)) (with_comparison id.now fact.now op (signed_digits_value 10 number.now) reading.old)) }
 {

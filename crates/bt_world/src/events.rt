@@ -3,12 +3,10 @@ ghost use Rattle.bt_model.specs.WorldFile.{AfterForm, AtLine, FactLine, GoalLine
 ghost use Rattle.bt_reading.specs.Readings.{Leaves};
 
 use bt_lines::{cut, int, is_canonical, is_name, ms, name_of, one_of};
-use bt_model::{Fact, What, WorldKind};
+use bt_model::{Fact, MOST_RUNNERS, What, WorldKind};
 use bt_reading::Reading;
 use bt_script::Stop;
 use std::alloc::Global;
-
-const MOST_RUNNERS: u8 = 16;
 
 /// `fact NAME INT`
 pub fn read_fact(alloc: Global, reading: &mut Reading, text: &[u8]) -> Result<(), Stop<WorldKind>>

@@ -17,7 +17,8 @@ use Rattle.bt_model.specs.declared.world.RowSort.TheVariants.{Is, When, Timed, R
 use Rattle.bt_model.specs.declared.world.What.{What}
 use Rattle.bt_model.specs.declared.world.What.TheVariants.{Tick, Halt, Change}
 use Rattle.bt_model.specs.declared.world.World.{World}
-use Rattle.bt_model.specs.Worlds.{AreNames, AreNumbers, IsComparisonIn, IsExprOver, IsValidEvent, IsValidRow, IsValidSet, IsValidSort, IsValidWhat, IsValidWorld, comparisons, ids_of_rows, is_comparison, is_int, is_name, names_of_facts}
+use Rattle.bt_model.specs.Worlds.{AreNames, AreNumbers, IsComparisonIn, IsExprOver, IsValidEvent, IsValidRow, IsValidSet, IsValidSort, IsValidWhat, IsValidWorld, comparisons, ids_of_rows, is_comparison, is_name, names_of_facts}
+use Rattle.bt_model.specs.Numbers.{is_int}
 
 -- ---- Lists
 

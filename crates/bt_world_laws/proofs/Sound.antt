@@ -28,7 +28,8 @@ use Rattle.bt_model.specs.declared.world.Fact.{Fact}
 use Rattle.bt_model.specs.declared.world.Row.{Row}
 use Rattle.bt_model.specs.declared.world.What.{What}
 use Rattle.bt_model.specs.declared.world_fault.WorldKind.{WorldKind}
-use Rattle.bt_model.specs.Worlds.{AreNames, AreNumbers, IsComparisonIn, IsExprOver, IsValidWhat, IsValidWorld, ids_of_rows, in_range, is_comparison, is_condition, is_int, is_name, names_of_facts}
+use Rattle.bt_model.specs.Worlds.{AreNames, AreNumbers, IsComparisonIn, IsExprOver, IsValidWhat, IsValidWorld, ids_of_rows, is_comparison, is_condition, is_name, names_of_facts}
+use Rattle.bt_model.specs.Numbers.{in_range, is_int}
 use Rattle.bt_model.specs.WorldFile.{Reading, ReadsNumeric, closed, comparison_number, fact_number, is_known, is_ms, knows_all, numbered, placed, ranged, repeats, runners_of, where_compares, with_event, with_fact, with_goal, with_moment, with_runners, world_of}
 use Rattle.bt_world_laws.proofs.Grown.{world_with_event, world_with_fact, world_with_goal, world_with_runners}
 

@@ -15,7 +15,8 @@ use Rattle.bt_model.specs.declared.world.RowSort.TheVariants.{Is, When, Timed, R
 use Rattle.bt_model.specs.declared.world.Set.{Set}
 use Rattle.bt_model.specs.declared.world_fault.WorldKind.{WorldKind}
 use Rattle.bt_model.specs.Names.{is_reserved}
-use Rattle.bt_model.specs.Worlds.{IsComparisonIn, IsExprOver, AreNames, AreNumbers, IsValidRow, IsValidSet, IsValidSort, IsValidWorld, facts_set, ids_of_rows, is_comparison, is_condition, is_int, is_name, names_of_facts, ports_written}
+use Rattle.bt_model.specs.Worlds.{IsComparisonIn, IsExprOver, AreNames, AreNumbers, IsValidRow, IsValidSet, IsValidSort, IsValidWorld, facts_set, ids_of_rows, is_comparison, is_condition, is_name, names_of_facts, ports_written}
+use Rattle.bt_model.specs.Numbers.{is_int}
 use Rattle.bt_model.specs.WorldFile.{Reading, Head, ReadsNumeric, fact_number, fails_by, is_taken, knows_all, knows_sort, plain_row, repeats, row_with_effect, row_with_fails, row_with_need, row_with_out, with_action, with_comparison, with_head, with_open, with_open_row, with_row, world_of}
 use Rattle.bt_world_laws.proofs.WellFormed.{NamedHead}
 use Rattle.bt_world_laws.proofs.Grown.{all-last, names-push, numbers-push, world_with_last, world_with_row}

@@ -14,7 +14,8 @@ use Rattle.bt_model.specs.declared.world.What.TheVariants.{Tick, Halt, Change}
 use Rattle.bt_model.specs.declared.world.World.{World}
 use Rattle.bt_model.specs.declared.world_fault.WorldFault.{WorldFault}
 use Rattle.bt_model.specs.declared.world_fault.WorldKind.{WorldKind}
-use Rattle.bt_model.specs.Worlds.{IsComparisonIn, IsValidEvent, IsValidRow, IsValidWorld, in_range, is_int}
+use Rattle.bt_model.specs.Worlds.{IsComparisonIn, IsValidEvent, IsValidRow, IsValidWorld}
+use Rattle.bt_model.specs.Numbers.{in_range, is_int}
 use Rattle.bt_model.specs.WorldFile.{Line, FactLine, IsLine, WhenLine, TimedLine, ReplayLine, GateLine, FailsLine, NeedsLine, SetsLine, OutLine, GoalLine, RunnersLine, AtLine, TickLine, HaltLine, SetLine, AfterForm, AfterLine, AfterLines, AfterText, GoesOn, LinesMake, LinesRead, Reading, ReadsNumeric, ReadsWorld, SaysOf, by_expr, closed, comparison_number, content, fact_number, is_ms, is_read_over, is_runner, line_in, lines_in, no_header, nothing_read, plain_row, row_with_effect, row_with_fails, row_with_need, row_with_out, runners_of, with_action, with_row, without_return, world_after, world_of}
 use Rattle.bt_world_laws.proofs.WellFormed.{AreWell, WellFormed, line_well}
 use Rattle.bt_world_laws.proofs.Grown.{kept_more}

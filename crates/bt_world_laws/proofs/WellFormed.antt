@@ -8,7 +8,8 @@ use Rattle.bt_script.proofs.Bools.{both}
 use Rattle.bt_script.specs.declared.syntax.Cmp.{Cmp}
 use Rattle.bt_model.specs.declared.world.How.{How}
 use Rattle.bt_model.specs.Worlds.{is_name}
-use Rattle.bt_model.specs.WorldFile.{Line, FactLine, IsLine, WhenLine, TimedLine, ReplayLine, GateLine, FailsLine, NeedsLine, SetsLine, OutLine, GoalLine, RunnersLine, AtLine, TickLine, HaltLine, SetLine, Head, head_with, head_of, head_in, comparison_in, outcomes_in, name_line, number_line, named_number, how_in, sets_line, out_line, is_line, condition_line, timed_line, replay_line, action_line, event_line, line_by, line_in, number_in, word, behind, ends_after, is_line_byte}
+use Rattle.bt_model.specs.WorldFile.{Line, FactLine, IsLine, WhenLine, TimedLine, ReplayLine, GateLine, FailsLine, NeedsLine, SetsLine, OutLine, GoalLine, RunnersLine, AtLine, TickLine, HaltLine, SetLine, Head, head_with, head_of, head_in, comparison_in, outcomes_in, name_line, number_line, named_number, how_in, sets_line, out_line, is_line, condition_line, timed_line, replay_line, action_line, event_line, line_by, line_in, word, behind, ends_after, is_line_byte}
+use Rattle.bt_model.specs.Numbers.{number_in}
 
 pub record NamedHead (head : Head) : Type 0 where
   pub id : is_name head.id ≡ true

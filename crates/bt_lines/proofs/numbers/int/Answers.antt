@@ -1,17 +1,15 @@
-use Rattle.std.proofs.Common.{sym, subst}
-use Rattle.std.specs.Prelude.{Option, ℤ}
-use Rattle.std.specs.Str.Parse.{ParsesSigned, signed_digits_value}
-use mir.Syntax.{w64}
-use Rattle.bt_model.specs.Worlds.{is_int}
+use Rattle.std.proofs.Common.{◌≡◌, Bool, true, false, cond, ℤ, Option, Some, None, refl, sym, ◌∙◌, ap, subst}
+use Rattle.std.specs.Str.Parse.{signed_digits_value}
+use Rattle.bt_model.specs.Numbers.{is_int, of_64_bits}
 use Rattle.bt_lines.specs.Ranges.{Passes}
-use Rattle.bt_model.proofs.Canonical.{IsUtf8-from_is_canonical}
-use Rattle.bt_lines.proofs.Canonical.{parsed_canonical}
 use Rattle.bt_lines.proofs.numbers.int.Goals as goal
 
-pub returns-in-Ok : goal.returns-in-Ok
-returns-in-Ok c =
-    subst (λ (o : Option ℤ). Passes is_int (λ z. z) (signed_digits_value 10 c.args.word.now) o) (sym c.ok.ensures.value)
-    (parsed_canonical c.args.word.now _ c.requires (subst (λ bs. ParsesSigned w64 10 bs c.parse.result) c.in-Ok.ensures.cases.0 c.parse.ensures.value.0))
+passes : (t : Bool) (n : ℤ) → is_int n ≡ t → Passes is_int (λ z. z) n (cond t (Some n) None)
+passes true n h = (h, refl)
+passes false n h = h
 
-pub returns-in-Err : goal.returns-in-Err
-returns-in-Err c = absurd (c.in-Err.ensures.cases.0 (IsUtf8-from_is_canonical c.args.word.now c.requires))
+pub returns : goal.returns
+returns c =
+    let n = signed_digits_value 10 c.args.word.now in
+    subst (λ (o : Option ℤ). Passes is_int (λ z. z) n o)
+    (sym (c.int.ensures ∙ ap (λ (t : Bool). cond t (of_64_bits n) None) c.requires)) (passes (is_int n) n refl)

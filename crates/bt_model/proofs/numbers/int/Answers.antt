@@ -7,8 +7,8 @@ use Rattle.bt_model.proofs.numbers.int.Goals as goal
 
 pub returns-in-Ok : goal.returns-in-Ok
 returns-in-Ok c =
-    let canonical : is_canonical c.args.word.now ≡ true = sym c.canonical.ensures ∙ c.if-not-canonical.false in
+    let canonical : is_canonical c.args.word.now ≡ true = sym c.is_canonical.ensures ∙ c.if-not-is_canonical.false in
     c.ok.ensures.value ∙ parsed_canonical c.args.word.now _ canonical (subst (λ bs. ParsesSigned w64 10 bs c.parse.result) c.in-Ok.ensures.cases.0 c.parse.ensures.value.0)
 
 pub returns-in-Err : goal.returns-in-Err
-returns-in-Err c = absurd (c.in-Err.ensures.cases.0 (IsUtf8-from_is_canonical c.args.word.now (sym c.canonical.ensures ∙ c.if-not-canonical.false)))
+returns-in-Err c = absurd (c.in-Err.ensures.cases.0 (IsUtf8-from_is_canonical c.args.word.now (sym c.is_canonical.ensures ∙ c.if-not-is_canonical.false)))

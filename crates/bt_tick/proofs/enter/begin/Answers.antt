@@ -2,10 +2,11 @@ use Rattle.std.proofs.Common.{◌≡◌, true, false, Ok, Err, arith, sym, ap, �
 use Rattle.bt_arena.specs.declared.nodes.Node.{Node}
 use Rattle.bt_arena.specs.Scenes.{scene, state_in}
 use Rattle.bt_laws.proofs.Keeping.{term_keeps}
+use Rattle.bt_laws.proofs.Visits.{starts_with_rule}
 use Rattle.bt_nodes.proofs.Needed.{guards_need}
-use Rattle.bt_tick.specs.Turns.{has_rule}
+use Rattle.bt_model.specs.BuiltIns.{has_rule}
 use Rattle.bt_tick.proofs.Bounds.{cost_positive}
-use Rattle.bt_tick.proofs.Entering.{answers_so, as_node, begin_ends, begin_goes, begins_so_far, can_keep, ended_goes, goes_after, keeps_so, node_here, one_within, start_stops, starts_here, starts_ruled, still_can}
+use Rattle.bt_tick.proofs.Entering.{answers_so, as_node, begin_ends, begin_goes, begins_so_far, can_keep, ended_goes, goes_after, keeps_so, node_here, one_within, start_stops, starts_here, still_can}
 use Rattle.bt_tick.proofs.Moving.{as_many_kept, node_there, turned_with}
 use Rattle.bt_tick.proofs.enter.begin.Goals as goal
 
@@ -90,7 +91,7 @@ begin_rule-requires-clause-can g c =
 pub begin_rule-requires-clause-ruled : goal.begin_rule-requires-clause-ruled
 begin_rule-requires-clause-ruled g c =
     let b : c.starts.result ≡ true = cc in
-    ap (λ (n : Node). has_rule n.kind) (sym c.node-here.ensures) ∙ starts_ruled c.node-here.result.now.kind c.kept_by.result.memo (sym c.starts.ensures ∙ b)
+    ap (λ (n : Node). has_rule n.kind) (sym c.node-here.ensures) ∙ starts_with_rule c.node-here.result.now.kind c.kept_by.result.memo (sym c.starts.ensures ∙ b)
 
 pub returns-clause-goes : goal.returns-clause-goes
 returns-clause-goes g c = λ term view can.
