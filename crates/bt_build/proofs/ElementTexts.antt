@@ -20,8 +20,13 @@ use Rattle.bt_model.specs.BuiltIns.{class_of, kind_named, writes}
 use Rattle.bt_manifest.specs.Attributes.{Attributes, value_of}
 use Rattle.bt_manifest.specs.Models.{attributes_of, children_of, name_of}
 use Rattle.bt_build.specs.declared.head.Head.{Head}
-use Rattle.bt_build.specs.Heads.{compact_by, compact_head, explicit_by, explicit_head, head_of, id_or_empty, is_explicit, is_kept, is_leaf_name}
+use Rattle.bt_build.specs.declared.version.Form.{Form}
+use Rattle.bt_build.specs.declared.version.Form.TheVariants.{Plain}
+use Rattle.bt_build.specs.declared.version.Version.{Version}
+use Rattle.bt_build.specs.declared.version.Version.TheVariants.{Three, Four}
+use Rattle.bt_build.specs.Heads.{compact_by, compact_head, explicit_by, explicit_head, head_by, head_of, id_or_empty, is_explicit, is_kept, is_leaf_name}
 use Rattle.bt_build.specs.Reads.{name_in}
+use Rattle.bt_build.specs.Versions.{id_read, subtree_form}
 use Rattle.bt_build.proofs.PortFits.{some_same}
 
 -- ---- Looking up
@@ -90,27 +95,39 @@ name_some (c ∷ cs) h = all_some (c ∷ cs) (both (is_name_first c) (list_all i
 pub name_value : (name : List ℕ) → name_stands name ≡ true → value_stands name ≡ true
 name_value name h = let t = both (is_name name) (is_utf8 name) h in both_true (name_some name t.0) t.1
 
-head_by : (b : Bool) (kind : Kind) (id : List ℕ) (head : Head) → value_stands id ≡ true → ◌≡◌ {A = Option Head} (if b then Some (record { kind = kind; id = id }) else None) (Some head) → value_stands head.id ≡ true
-head_by true kind id head v h = subst (λ (x : Head). value_stands x.id ≡ true) (some_same (record { kind = kind; id = id }) head h) v
-head_by false kind id head v h = absurd (cc)
+one_stands : (b : Bool) (kind : Kind) (id : List ℕ) (form : Form) (head : Head) → value_stands id ≡ true →
+    ◌≡◌ {A = Option Head} (if b then Some (record { kind = kind; id = id; form = form }) else None) (Some head) → value_stands head.id ≡ true
+one_stands true kind id form head v h = subst (λ (x : Head). value_stands x.id ≡ true) (some_same (record { kind = kind; id = id; form = form }) head h) v
+one_stands false kind id form head v h = absurd (cc)
 
 explicit_stands : (name : List ℕ) (childless : Bool) (id : List ℕ) (head : Head) (o : Option Kind) → value_stands id ≡ true → explicit_by name childless id o ≡ Some head → value_stands head.id ≡ true
-explicit_stands name childless id head (Some kind) v h = head_by (writes name (class_of kind)) kind id head v h
-explicit_stands name childless id head None v h = head_by (is_leaf_name name && childless) Leaf id head v h
+explicit_stands name childless id head (Some kind) v h = one_stands (writes name (class_of kind)) kind id Plain head v h
+explicit_stands name childless id head None v h = one_stands (is_leaf_name name && childless) Leaf id Plain head v h
 
 compact_stands : (childless : Bool) (name : List ℕ) (head : Head) (o : Option Kind) → value_stands name ≡ true → compact_by childless name o ≡ Some head → value_stands head.id ≡ true
-compact_stands childless name head (Some kind) v h = head_by true kind name head v h
-compact_stands childless name head None v h = head_by (not (is_kept name) && childless) Leaf name head v h
+compact_stands childless name head (Some kind) v h = one_stands true kind name Plain head v h
+compact_stands childless name head None v h = one_stands (not (is_kept name) && childless) Leaf name Plain head v h
 
-by_id : (name : List ℕ) (attributes : Attributes) (childless : Bool) (head : Head) (o : Option (List ℕ)) → list_all can_stand attributes ≡ true → value_of (codes "ID") attributes ≡ o →
-    option_and_then (explicit_head name childless) o ≡ Some head → value_stands head.id ≡ true
-by_id name attributes childless head None all e h = absurd (cc)
-by_id name attributes childless head (Some id) all e h = explicit_stands name childless id head (kind_named id) (value_there (codes "ID") attributes id all e) h
+renamed : (b : Bool) (id other : List ℕ) → value_stands id ≡ true → value_stands other ≡ true → value_stands (if b then other else id) ≡ true
+renamed true id other v w = w
+renamed false id other v w = v
 
-by_form : (name : List ℕ) (attributes : Attributes) (childless : Bool) (head : Head) (b : Bool) → name_stands name ≡ true → list_all can_stand attributes ≡ true →
-    (if b then option_and_then (explicit_head name childless) (value_of (codes "ID") attributes) else compact_head childless name) ≡ Some head → value_stands head.id ≡ true
-by_form name attributes childless head true n all h = by_id name attributes childless head (value_of (codes "ID") attributes) all refl h
-by_form name attributes childless head false n all h = compact_stands childless name head (kind_named name) (name_value name n) h
+-- what an ID is read as
+id_read_stands : (version : Version) (id : List ℕ) → value_stands id ≡ true → value_stands (id_read version id) ≡ true
+id_read_stands Four id v = v
+id_read_stands Three id v = renamed (bytes_eq id (codes "SequenceStar")) id (codes "SequenceWithMemory") v (literal_value (codes "SequenceWithMemory") refl refl)
+
+by_id : (version : Version) (name : List ℕ) (attributes : Attributes) (childless : Bool) (head : Head) (o : Option (List ℕ)) → list_all can_stand attributes ≡ true → value_of (codes "ID") attributes ≡ o →
+    option_and_then (λ id. explicit_head name childless (id_read version id)) o ≡ Some head → value_stands head.id ≡ true
+by_id version name attributes childless head None all e h = absurd (cc)
+by_id version name attributes childless head (Some id) all e h =
+    explicit_stands name childless (id_read version id) head (kind_named (id_read version id)) (id_read_stands version id (value_there (codes "ID") attributes id all e)) h
+
+by_name : (version : Version) (name : List ℕ) (attributes : Attributes) (childless : Bool) (head : Head) (b : Bool) → name_stands name ≡ true → list_all can_stand attributes ≡ true →
+    (if b then option_and_then (λ id. explicit_head name childless (id_read version id)) (value_of (codes "ID") attributes) else compact_head childless (id_read version name)) ≡ Some head → value_stands head.id ≡ true
+by_name version name attributes childless head true n all h = by_id version name attributes childless head (value_of (codes "ID") attributes) all refl h
+by_name version name attributes childless head false n all h =
+    compact_stands childless (id_read version name) head (kind_named (id_read version name)) (id_read_stands version name (name_value name n)) h
 
 -- a text that is written, or another one
 or_other : (name : List ℕ) (attributes : Attributes) (other : List ℕ) (o : Option (List ℕ)) → list_all can_stand attributes ≡ true → value_of name attributes ≡ o → value_stands other ≡ true →
@@ -124,14 +141,12 @@ id_stands attributes all = or_other (codes "ID") attributes [] (value_of (codes 
 pub name_in_stands : (attributes : Attributes) (id : List ℕ) → list_all can_stand attributes ≡ true → value_stands id ≡ true → value_stands (name_in attributes id) ≡ true
 name_in_stands attributes id all v = or_other (codes "name") attributes id (value_of (codes "name") attributes) all refl v
 
-by_name : (name : List ℕ) (attributes : Attributes) (childless : Bool) (head : Head) (b : Bool) → name_stands name ≡ true → list_all can_stand attributes ≡ true →
-    (if b then Some (record { kind = SubTree; id = id_or_empty attributes })
-    else if is_explicit name then option_and_then (explicit_head name childless) (value_of (codes "ID") attributes) else compact_head childless name) ≡ Some head →
-    value_stands head.id ≡ true
-by_name name attributes childless head true n all h = head_by true SubTree (id_or_empty attributes) head (id_stands attributes all) h
-by_name name attributes childless head false n all h = by_form name attributes childless head (is_explicit name) n all h
+by_form : (version : Version) (name : List ℕ) (attributes : Attributes) (childless : Bool) (head : Head) (o : Option Form) → name_stands name ≡ true → list_all can_stand attributes ≡ true →
+    head_by o version name attributes childless ≡ Some head → value_stands head.id ≡ true
+by_form version name attributes childless head (Some form) n all h = one_stands true SubTree (id_or_empty attributes) form head (id_stands attributes all) h
+by_form version name attributes childless head None n all h = by_name version name attributes childless head (is_explicit name) n all h
 
 -- the ID of a node
-pub head_stands : (name : List ℕ) (attributes : Attributes) (children : ℕ) (head : Head) → name_stands name ≡ true → list_all can_stand attributes ≡ true →
-    head_of name attributes children ≡ Some head → value_stands head.id ≡ true
-head_stands name attributes children head n all h = by_name name attributes (nat_eq children 0) head (bytes_eq name (codes "SubTree")) n all h
+pub head_stands : (version : Version) (name : List ℕ) (attributes : Attributes) (children : ℕ) (head : Head) → name_stands name ≡ true → list_all can_stand attributes ≡ true →
+    head_of version name attributes children ≡ Some head → value_stands head.id ≡ true
+head_stands version name attributes children head n all h = by_form version name attributes (nat_eq children 0) head (subtree_form version name) n all h

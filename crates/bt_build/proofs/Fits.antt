@@ -28,14 +28,14 @@ use Rattle.bt_build.specs.declared.fault.BuildFault.{BuildFault}
 use Rattle.bt_build.specs.declared.fault.BuildFault.TheVariants.{TooManyNodes, TooDeep, Recursive, TooManyScopes, ChildCount, DoubleTree}
 use Rattle.bt_build.specs.declared.head.Head.{Head}
 use Rattle.bt_build.specs.declared.tree.Numbers.{Numbers}
-use Rattle.bt_build.specs.Content.{content_in}
+use Rattle.bt_build.specs.Content.{content_in, refused_if}
 use Rattle.bt_build.specs.Heads.{head_of, id_or_empty}
-use Rattle.bt_build.specs.Reads.{File, Reader, Trees, is_subtree, is_tree, known, main_of, main_read, most_levels, named_read, no_numbers, node_in, node_of, node_with, nodes_by, not_root, one_node_more, one_scope_more, opened_by, plain_by, read_node, read_root, reads, refused_if, root_read, roots_read, says_format, term_of, tree_of, trees_read, with_first, with_id, with_tree, with_trees, within_limits}
+use Rattle.bt_build.specs.Reads.{File, Reader, Trees, is_subtree, is_tree, known, main_of, main_read, most_levels, named_read, no_numbers, node_in, node_of, node_with, nodes_by, not_root, one_node_more, one_scope_more, opened_by, plain_by, read_node, read_root, reads, root_read, roots_read, term_of, tree_of, trees_read, with_first, with_id, with_tree, with_trees, within_limits}
 use Rattle.bt_build.proofs.ContentFits.{ContentStands, Fitting, content_fits, content_stands}
 use Rattle.bt_build.proofs.ElementTexts.{element_stands, found, head_stands, id_stands, name_in_stands}
 use Rattle.bt_build.proofs.HeadFits.{HeadFits, head_fits}
 use Rattle.bt_build.proofs.ModelTexts.{ModelsStand, manifest_stands}
-use Rattle.bt_build.proofs.Sizes.{both_same, faultless, limited, not_refused, reads_within, same_ok, went}
+use Rattle.bt_build.proofs.Sizes.{both_same, file_read, limited, not_refused, reads_within, same_ok, went}
 
 -- all nodes of a term fit
 abbrev pub TermFits : Term → Type 0
@@ -106,7 +106,7 @@ node_fits : (models : Models) (below : Reader) → Fits below → (head : Head) 
     ModelsStand models → HeadStands head attributes → list_all can_be_written children ≡ true → takes head.kind (length children) ≡ true →
     node_of models below head attributes opened children n uid ≡ Ok (t, m) → TermFits t
 node_fits models below fits head attributes opened children n m uid t stand is_head c count h =
-    let w = went (λ (content : Content). go_on (node_with head attributes content) (nodes_by below opened children n)) (content_in uid models head.kind head.id attributes) (t, m) h in
+    let w = went (λ (content : Content). go_on (node_with head attributes content) (nodes_by below opened children n)) (content_in uid models head.kind head.id head.form attributes) (t, m) h in
     let v = went (node_with head attributes w.0) (nodes_by below opened children n) (t, m) w.2 in
     let all = all_fit below fits opened children n v.0.1 v.0.0 c v.1 in
     subst TermFits (both_same (term_of head attributes w.0 v.0.0) t v.0.1 m v.2).0
@@ -155,14 +155,14 @@ by_kind file below fits head e opened n m t true stand is_head c own h = opened_
 by_kind file below fits head e opened n m t false stand is_head c own h = plain_fits file below fits head e opened n m t stand is_head c h
 
 known_fits : (file : File) (below : Reader) → Fits below → (e : Element) (opened : List (List ℕ)) (n m : Numbers) (t : Term) (o : Option Head) → FileStands file → can_be_written e ≡ true →
-    head_of (name_of e) (attributes_of e) (length (children_of e)) ≡ o → known file below e opened n o ≡ Ok (t, m) → TermFits t
+    head_of file.version (name_of e) (attributes_of e) (length (children_of e)) ≡ o → known file below e opened n o ≡ Ok (t, m) → TermFits t
 known_fits file below fits e opened n m t None stand c is h = absurd (cc)
 known_fits file below fits e opened n m t (Some head) stand c is h =
     let s = element_stands e c in
     by_kind file below fits head e opened n m t (is_subtree head.kind) stand
     (record {
-      fits = head_fits (name_of e) (attributes_of e) (length (children_of e)) head is;
-      id = head_stands (name_of e) (attributes_of e) (length (children_of e)) head s.name s.attributes is;
+      fits = head_fits file.version (name_of e) (attributes_of e) (length (children_of e)) head is;
+      id = head_stands file.version (name_of e) (attributes_of e) (length (children_of e)) head s.name s.attributes is;
       written = s.attributes;
       single = s.single;
     }) c refl h
@@ -174,9 +174,9 @@ read_fits : (file : File) → FileStands file → (left : ℕ) → Fits (read_no
 read_fits file stand zero e opened n m t c h =
     absurd (no_read (TooDeep (n.nodes + 1)) (t, m) (not_refused (nat_le 4096 n.nodes) TooManyNodes (Err (TooDeep (n.nodes + 1))) (t, m) h).1)
 read_fits file stand (suc left) e opened n m t c h =
-    let all = known file (read_node file left) e opened n (head_of (name_of e) (attributes_of e) (length (children_of e))) in
+    let all = known file (read_node file left) e opened n (head_of file.version (name_of e) (attributes_of e) (length (children_of e))) in
     let r = not_refused (nat_le 4096 n.nodes) TooManyNodes all (t, m) h in
-    known_fits file (read_node file left) (read_fits file stand left) e opened n m t (head_of (name_of e) (attributes_of e) (length (children_of e))) stand c refl r.1
+    known_fits file (read_node file left) (read_fits file stand left) e opened n m t (head_of file.version (name_of e) (attributes_of e) (length (children_of e))) stand c refl r.1
 
 -- ---- The file
 
@@ -235,12 +235,10 @@ pub reads_valid : (models : Models) (asked : Option (List ℕ)) (root : Element)
 reads_valid models asked root t spelled manifest h =
     let c = spelled_stands spelled.0 root spelled.2 in
     let s = element_stands root c in
-    let trees = with_trees [] (children_of root) in
-    let read = go_on (trees_read models asked (attributes_of root)) trees in
-    let w = went (trees_read models asked (attributes_of root)) trees t (faultless (not_root root) (says_format (value_of (codes "BTCPP_format") (attributes_of root))) read t h) in
-    let file : File = record { trees = w.0; models = models } in
-    let stand : FileStands file = record { trees = trees_stand [] w.0 (children_of root) tt s.children w.1; models = manifest_stands root models c manifest } in
-    let fit = of_named file (main_of asked (attributes_of root) w.0) t stand w.2 in
+    let f = file_read models asked root t h in
+    let file : File = record { trees = f.trees; models = models; version = f.version } in
+    let stand : FileStands file = record { trees = trees_stand [] f.trees (children_of root) tt s.children f.are; models = manifest_stands root models c manifest } in
+    let fit = of_named file (main_of asked (attributes_of root) f.trees) t stand f.read in
     record { limits = reads_within models asked root t h; main = fit.1; fit = fit.0 }
 
 pub gives_valid : (r : Result Tree (Stop BuildFault)) (models : Models) (asked : Option (List ℕ)) (root : Element) → IsValidElement root → manifest_in root ≡ Ok models → Gives r (reads models asked root) → IfOk r IsValid

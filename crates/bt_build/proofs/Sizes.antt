@@ -22,9 +22,11 @@ use Rattle.bt_build.specs.declared.fault.BuildFault.{BuildFault}
 use Rattle.bt_build.specs.declared.fault.BuildFault.TheVariants.{Format, TooManyNodes, TooDeep, Recursive, TooManyScopes, ChildCount, TooManyKeys, TooMuchWork}
 use Rattle.bt_build.specs.declared.head.Head.{Head}
 use Rattle.bt_build.specs.declared.tree.Numbers.{Numbers}
-use Rattle.bt_build.specs.Content.{content_in}
+use Rattle.bt_build.specs.declared.version.Version.{Version}
+use Rattle.bt_build.specs.Content.{content_in, refused_if}
 use Rattle.bt_build.specs.Heads.{head_of}
-use Rattle.bt_build.specs.Reads.{File, Reader, is_subtree, known, main_of, main_read, most_levels, named_read, no_numbers, node_in, node_of, node_with, nodes_by, not_root, one_node_more, one_scope_more, opened_by, plain_by, read_node, read_root, reads, refused_if, root_faults, root_read, roots_read, says_format, term_of, tree_of, trees_read, with_first, with_trees, within_limits}
+use Rattle.bt_build.specs.Versions.{version_in}
+use Rattle.bt_build.specs.Reads.{File, Reader, Trees, is_subtree, known, main_of, main_read, most_levels, named_read, no_numbers, node_in, node_of, node_with, nodes_by, not_root, one_node_more, one_scope_more, opened_by, plain_by, read_in, read_node, read_root, reads, root_faults, root_read, roots_read, term_of, tree_of, trees_read, with_first, with_trees, within_limits}
 
 -- what was read next, where all was read
 pub went : {A B F : Type 0} (next : A → Result B F) (r : Result A F) (y : B) → go_on next r ≡ Ok y → (x : A) × (r ≡ Ok x) × (next x ≡ Ok y)
@@ -112,7 +114,7 @@ above left n m head attributes content ts few s = record {
 node_sized : (left : ℕ) (models : Models) (below : Reader) → Sizes left below → (head : Head) (attributes : Attributes) (opened : List (List ℕ)) (children : List Element) (n m : Numbers) (uid : ℕ) (t : Term) →
     n.nodes ≤ 4096 → node_of models below head attributes opened children n uid ≡ Ok (t, m) → NodeSized left head.kind n m t
 node_sized left models below sized head attributes opened children n m uid t few h =
-    let w = went (λ (content : Content). go_on (node_with head attributes content) (nodes_by below opened children n)) (content_in uid models head.kind head.id attributes) (t, m) h in
+    let w = went (λ (content : Content). go_on (node_with head attributes content) (nodes_by below opened children n)) (content_in uid models head.kind head.id head.form attributes) (t, m) h in
     let v = went (node_with head attributes w.0) (nodes_by below opened children n) (t, m) w.2 in
     let p = both_same (term_of head attributes w.0 v.0.0) t v.0.1 m v.2 in
     let s = above left n v.0.1 head attributes w.0 v.0.0 few (all_sized left below sized opened children n v.0.1 v.0.0 v.1) in
@@ -163,9 +165,9 @@ read_sized file zero e opened n m t h = absurd (none (not_refused (nat_le 4096 n
     none : {A : Type 0} {f : BuildFault} {x : A} → ◌≡◌ {A = Result A BuildFault} (Err f) (Ok x) → ⊥
     none g = cc
 read_sized file (suc left) e opened n m t h =
-    let all = known file (read_node file left) e opened n (head_of (name_of e) (attributes_of e) (length (children_of e))) in
+    let all = known file (read_node file left) e opened n (head_of file.version (name_of e) (attributes_of e) (length (children_of e))) in
     let r = not_refused (nat_le 4096 n.nodes) TooManyNodes all (t, m) h in
-    let s = known_sized left file (read_node file left) (read_sized file left) e opened n m t (head_of (name_of e) (attributes_of e) (length (children_of e))) (leb-false 4096 n.nodes r.0) r.1 in
+    let s = known_sized left file (read_node file left) (read_sized file left) e opened n m t (head_of file.version (name_of e) (attributes_of e) (length (children_of e))) (leb-false 4096 n.nodes r.0) r.1 in
     record { nodes = s.nodes; few = s.few; scopes = s.scopes; few_scopes = s.few_scopes; depth = omega (arith, s.depth) }
 
 -- ---- The file
@@ -219,14 +221,29 @@ of_named : (file : File) (o : Option (List ℕ)) (t : Tree) → named_read file 
 of_named file None t h = absurd (cc)
 of_named file (Some id) t h = of_main file id (tree_of id file.trees) t h
 
-pub faultless : (o : Option ℕ) (format : Bool) (r : Result Tree BuildFault) (t : Tree) → root_faults o format r ≡ Ok t → r ≡ Ok t
-faultless (Some place) format r t h = absurd (cc)
-faultless None format r t h = (not_refused (not format) Format r t h).1
+-- what is read of a file that is not refused, and in which version
+pub faultless : (o : Option ℕ) (v : Option Version) (read : Version → Result Tree BuildFault) (t : Tree) → root_faults o (read_in v read) ≡ Ok t → (version : Version) × (read version ≡ Ok t)
+faultless (Some place) v read t h = absurd (cc)
+faultless None None read t h = absurd (cc)
+faultless None (Some version) read t h = (version, h)
+
+-- the trees of a file, and what is read of them
+pub record FileRead (models : Models) (asked : Option (List ℕ)) (root : Element) (t : Tree) : Type 0 where
+  pub version : Version
+  pub trees : Trees
+  pub are : with_trees [] (children_of root) ≡ Ok trees
+  pub read : trees_read models asked (attributes_of root) version trees ≡ Ok t
+
+pub file_read : (models : Models) (asked : Option (List ℕ)) (root : Element) (t : Tree) → reads models asked root ≡ Ok t → FileRead models asked root t
+file_read models asked root t h =
+    let trees = with_trees [] (children_of root) in
+    let read = λ (version : Version). go_on (trees_read models asked (attributes_of root) version) trees in
+    let f = faultless (not_root root) (version_in (value_of (codes "BTCPP_format") (attributes_of root))) read t h in
+    let w = went (trees_read models asked (attributes_of root) f.0) trees t f.1 in
+    record { version = f.0; trees = w.0; are = w.1; read = w.2 }
 
 -- a tree that a file reads as is within the limits
 pub reads_within : (models : Models) (asked : Option (List ℕ)) (root : Element) (t : Tree) → reads models asked root ≡ Ok t → IsWithinLimits t
 reads_within models asked root t h =
-    let trees = with_trees [] (children_of root) in
-    let read = go_on (trees_read models asked (attributes_of root)) trees in
-    let w = went (trees_read models asked (attributes_of root)) trees t (faultless (not_root root) (says_format (value_of (codes "BTCPP_format") (attributes_of root))) read t h) in
-    of_named (record { trees = w.0; models = models }) (main_of asked (attributes_of root) w.0) t w.2
+    let f = file_read models asked root t h in
+    of_named (record { trees = f.trees; models = models; version = f.version }) (main_of asked (attributes_of root) f.trees) t f.read

@@ -17,9 +17,9 @@ use Rattle.bt_build.specs.declared.fault.BuildFault.{BuildFault}
 use Rattle.bt_build.specs.declared.fault.BuildFault.TheVariants.{TooManyNodes, Recursive, TooManyScopes, ChildCount}
 use Rattle.bt_build.specs.declared.head.Head.{Head}
 use Rattle.bt_build.specs.declared.tree.Numbers.{Numbers}
-use Rattle.bt_build.specs.Content.{content_in}
+use Rattle.bt_build.specs.Content.{content_in, refused_if}
 use Rattle.bt_build.specs.Heads.{head_of}
-use Rattle.bt_build.specs.Reads.{File, Reader, is_subtree, known, node_by, node_of, node_with, nodes_by, one_node_more, one_scope_more, opened_by, plain_by, read_node, refused_if, tree_of}
+use Rattle.bt_build.specs.Reads.{File, Reader, is_subtree, known, node_by, node_of, node_with, nodes_by, one_node_more, one_scope_more, opened_by, plain_by, read_node, tree_of}
 
 -- a fault of a part is one of the whole
 pub passed : {A B : Type 0} (e : Stop BuildFault) (part : Result A BuildFault) (whole : Result B BuildFault) →
@@ -29,12 +29,12 @@ passed (stop.Fault f) part whole g h = h f g
 
 -- an element that is a node
 pub read_some : (file : File) (left : ℕ) (e : Element) (opened : List (List ℕ)) (n : Numbers) (head : Head) →
-    0 < left → n.nodes < 4096 → Some head ≡ head_of (name_of e) (attributes_of e) (length (children_of e)) →
+    0 < left → n.nodes < 4096 → Some head ≡ head_of file.version (name_of e) (attributes_of e) (length (children_of e)) →
     read_node file left e opened n ≡ node_by file (read_node file (left - 1)) head e opened n
 read_some file zero e opened n head some few h = absurd (omega arith)
 read_some file (suc k) e opened n head some few h =
     let same : k ≡ suc k - 1 = omega arith in
-    ap (λ (b : Bool). refused_if b TooManyNodes (known file (read_node file k) e opened n (head_of (name_of e) (attributes_of e) (length (children_of e))))) (lt-leb 4096 n.nodes few)
+    ap (λ (b : Bool). refused_if b TooManyNodes (known file (read_node file k) e opened n (head_of file.version (name_of e) (attributes_of e) (length (children_of e))))) (lt-leb 4096 n.nodes few)
     ∙ ap (λ (o : Option Head). known file (read_node file k) e opened n o) (sym h)
     ∙ ap (λ (m : ℕ). node_by file (read_node file m) head e opened n) same
 
@@ -74,7 +74,7 @@ node_opened file below head e tree opened inner n written es roots is_written is
 
 -- a node one of whose children can't be read
 pub node_fault : (models : Models) (below : Reader) (head : Head) (attributes : Attributes) (opened : List (List ℕ)) (children : List Element) (n : Numbers) (uid : ℕ) (content : Content) (f : BuildFault) →
-    content_in uid models head.kind head.id attributes ≡ Ok content → nodes_by below opened children n ≡ Err f →
+    content_in uid models head.kind head.id head.form attributes ≡ Ok content → nodes_by below opened children n ≡ Err f →
     node_of models below head attributes opened children n uid ≡ Err f
 node_fault models below head attributes opened children n uid content f is_content fault =
     ap (λ (r : Result Content BuildFault). go_on (λ c. go_on (node_with head attributes c) (nodes_by below opened children n)) r) is_content

@@ -21,8 +21,15 @@ use Rattle.bt_manifest.specs.Models.{Models, model_of}
 use Rattle.bt_manifest.specs.Steps.{go_on}
 use Rattle.bt_build.specs.declared.content.Content.{Content}
 use Rattle.bt_build.specs.declared.fault.BuildFault.{BuildFault}
-use Rattle.bt_build.specs.declared.fault.BuildFault.TheVariants.{UnknownPort, BadLiteral, BadScript}
+use Rattle.bt_build.specs.declared.fault.BuildFault.TheVariants.{UnknownPort, OldSubTree, BadLiteral, BadScript}
+use Rattle.bt_build.specs.declared.version.Form.{Form}
+use Rattle.bt_build.specs.declared.version.Form.TheVariants as form
 use Rattle.bt_build.specs.Scripts.{script_in}
+
+-- a fault where something is so, else what is read
+abbrev pub refused_if : {A : Type 0} → Bool → BuildFault → Result A BuildFault → Result A BuildFault
+refused_if true fault read = Err fault
+refused_if false fault read = read
 
 -- ---- Which ports a node may have
 
@@ -69,6 +76,15 @@ is_port with_code name = is_port_name name && not (with_code && bytes_eq name (c
 -- whether the node has all ports that are written
 abbrev pub all_known : Bool → Rules → Attributes → Bool
 all_known with_code rules attributes = list_all (λ a. not (is_port with_code a.0) || is_some (range_of rules a.0)) attributes
+
+-- whether a node has no attribute but an ID and a name
+abbrev pub is_bare : Attributes → Bool
+is_bare attributes = list_all (λ a. bytes_eq a.0 (codes "ID") || bytes_eq a.0 (codes "name")) attributes
+
+-- an old SubTree has no other attribute
+abbrev pub form_fits : Form → Attributes → Bool
+form_fits form.OldSubTree attributes = is_bare attributes
+form_fits form attributes = true
 
 -- ---- The values of the ports
 
@@ -195,10 +211,18 @@ abbrev pub said_or_false : ℕ → Option (List ℕ) → Result Bool BuildFault
 said_or_false uid None = Ok false
 said_or_false uid (Some text) = or_bad uid (truth_in text)
 
--- whether all keys of a SubTree node are mapped
-abbrev pub autoremap_in : ℕ → Kind → Attributes → Result Bool BuildFault
-autoremap_in uid SubTree attributes = said_or_false uid (value_of (codes "_autoremap") attributes)
-autoremap_in uid kind attributes = Ok false
+-- what a SubTreePlus says by the older name
+abbrev pub older_autoremap : ℕ → Form → Attributes → Result Bool BuildFault
+older_autoremap uid form.SubTreePlus attributes = said_or_false uid (value_of (codes "__autoremap") attributes)
+older_autoremap uid form attributes = Ok false
+
+-- whether all keys of a SubTree node are mapped: either name may say so, and both have to be truth values
+abbrev pub autoremap_in : ℕ → Kind → Form → Attributes → Result Bool BuildFault
+autoremap_in uid SubTree form attributes =
+    go_on (λ now. go_on (λ older. Ok (now || older))
+    (older_autoremap uid form attributes))
+    (said_or_false uid (value_of (codes "_autoremap") attributes))
+autoremap_in uid kind form attributes = Ok false
 
 -- the scripts of a node, whose ports are these
 abbrev pub scripts_in : ℕ → List Port → Option (List ℕ) → Bool → Attributes → Result Content BuildFault
@@ -208,17 +232,20 @@ scripts_in uid ports text autoremap attributes =
     (script_of uid text)
 
 -- the rest of what the attributes of a node say, whose ports are these
-abbrev pub rest_in : ℕ → Kind → Attributes → List Port → Result Content BuildFault
-rest_in uid kind attributes ports =
+abbrev pub rest_in : ℕ → Kind → Form → Attributes → List Port → Result Content BuildFault
+rest_in uid kind form attributes ports =
     go_on (λ text. go_on (λ autoremap. scripts_in uid ports text autoremap attributes)
-    (autoremap_in uid kind attributes))
+    (autoremap_in uid kind form attributes))
     (code_text uid (has_code kind) attributes)
 
-abbrev pub known_in : ℕ → Bool → Kind → Rules → Attributes → Result Content BuildFault
-known_in uid true kind rules attributes = go_on (rest_in uid kind attributes) (ports_in uid (has_code kind) rules attributes)
-known_in uid false kind rules attributes = Err (UnknownPort uid)
+-- what the attributes of a node say, which may have these ports: unknown ports come first, then what an old SubTree may not have,
+-- then values that may not stand, then scripts that can't be read
+abbrev pub ruled_in : ℕ → Kind → Form → Rules → Attributes → Result Content BuildFault
+ruled_in uid kind form rules attributes =
+    refused_if (not (all_known (has_code kind) rules attributes)) (UnknownPort uid)
+    (refused_if (not (form_fits form attributes)) (OldSubTree uid)
+    (go_on (rest_in uid kind form attributes) (ports_in uid (has_code kind) rules attributes)))
 
--- what the attributes of a node say: unknown ports come first, then values that may not stand, then scripts that can't be read
-abbrev pub content_in : ℕ → Models → Kind → List ℕ → Attributes → Result Content BuildFault
-content_in uid models kind id attributes =
-    known_in uid (all_known (has_code kind) (rules_of models kind id) attributes) kind (rules_of models kind id) attributes
+-- what the attributes of a node of this kind, ID and form say
+abbrev pub content_in : ℕ → Models → Kind → List ℕ → Form → Attributes → Result Content BuildFault
+content_in uid models kind id form attributes = ruled_in uid kind form (rules_of models kind id) attributes

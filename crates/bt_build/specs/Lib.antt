@@ -5,3 +5,4 @@ pub mod Heads
 pub mod Reads
 pub mod Scripts
 pub mod Seen
+pub mod Versions

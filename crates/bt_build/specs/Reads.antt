@@ -19,8 +19,10 @@ use Rattle.bt_build.specs.declared.fault.BuildFault.TheVariants.{NotRoot, Format
 use Rattle.bt_build.specs.declared.tree.Numbers.{Numbers}
 use Rattle.bt_build.specs.declared.content.Content.{Content}
 use Rattle.bt_build.specs.declared.head.Head.{Head}
-use Rattle.bt_build.specs.Content.{content_in}
+use Rattle.bt_build.specs.declared.version.Version.{Version}
+use Rattle.bt_build.specs.Content.{content_in, refused_if}
 use Rattle.bt_build.specs.Heads.{head_of, id_or_empty}
+use Rattle.bt_build.specs.Versions.{version_in}
 
 -- the trees of a file by their IDs, in the order of the file
 abbrev pub Trees : Type 0
@@ -29,15 +31,11 @@ Trees = List (List ℕ × Element)
 abbrev pub tree_of : List ℕ → Trees → Option Element
 tree_of id trees = lookup (bytes_eq id) trees
 
--- what a file defines: its trees, and the models of its leaves
+-- what a file defines: its trees, and the models of its leaves; and the version that its nodes are read in
 pub record File : Type 0 where
   pub trees : Trees
   pub models : Models
-
--- a fault where something is so, else what is read
-abbrev pub refused_if : {A : Type 0} → Bool → BuildFault → Result A BuildFault → Result A BuildFault
-refused_if true fault read = Err fault
-refused_if false fault read = read
+  pub version : Version
 
 -- how a node is read, where so many levels are left for it and below it: from its element, the IDs of the trees that are
 -- being opened, and the numbers of nodes and scopes before it
@@ -86,7 +84,7 @@ node_with head attributes content below = Ok (term_of head attributes content be
 abbrev pub node_of : Models → Reader → Head → Attributes → List (List ℕ) → List Element → Numbers → ℕ → Result (Term × Numbers) BuildFault
 node_of models below head attributes opened children numbers uid =
     go_on (λ content. go_on (node_with head attributes content) (nodes_by below opened children numbers))
-    (content_in uid models head.kind head.id attributes)
+    (content_in uid models head.kind head.id head.form attributes)
 
 -- a SubTree node, whose tree is this element: it opens a scope, and has the root of the tree as its one child
 abbrev pub opened_by : File → Reader → Head → Element → List (List ℕ) → Numbers → Option Element → Result (Term × Numbers) BuildFault
@@ -122,7 +120,7 @@ abbrev pub read_node : File → ℕ → Reader
 read_node file zero e opened numbers = refused_if (nat_le 4096 numbers.nodes) TooManyNodes (Err (TooDeep (numbers.nodes + 1)))
 read_node file (suc left) e opened numbers =
     refused_if (nat_le 4096 numbers.nodes) TooManyNodes
-    (known file (read_node file left) e opened numbers (head_of (name_of e) (attributes_of e) (length (children_of e))))
+    (known file (read_node file left) e opened numbers (head_of file.version (name_of e) (attributes_of e) (length (children_of e))))
 
 -- ---- The file
 
@@ -140,10 +138,6 @@ stray_place (e ∷ es) = if may_stand (name_of e) then stray_place es else Some 
 -- the place of what is no root, if anything is none
 abbrev pub not_root : Element → Option ℕ
 not_root root = if bytes_eq (name_of root) (codes "root") then stray_place (children_of root) else Some (place_of root)
-
-abbrev pub says_format : Option (List ℕ) → Bool
-says_format None = false
-says_format (Some text) = bytes_eq text (codes "4")
 
 -- the trees with one of this ID, which no earlier one may have
 abbrev pub with_id : Trees → Element → List ℕ → Result Trees BuildFault
@@ -207,15 +201,21 @@ abbrev pub named_read : File → Option (List ℕ) → Result Tree BuildFault
 named_read file None = Err NoMain
 named_read file (Some id) = main_read file id (tree_of id file.trees)
 
-abbrev pub trees_read : Models → Option (List ℕ) → Attributes → Trees → Result Tree BuildFault
-trees_read models asked attributes trees = named_read (record { trees = trees; models = models }) (main_of asked attributes trees)
+abbrev pub trees_read : Models → Option (List ℕ) → Attributes → Version → Trees → Result Tree BuildFault
+trees_read models asked attributes version trees = named_read (record { trees = trees; models = models; version = version }) (main_of asked attributes trees)
 
-abbrev pub root_faults : Option ℕ → Bool → Result Tree BuildFault → Result Tree BuildFault
-root_faults (Some place) format read = Err (NotRoot place)
-root_faults None format read = refused_if (not format) Format read
+-- what is read in the version of the file, where it has one
+abbrev pub read_in : Option Version → (Version → Result Tree BuildFault) → Result Tree BuildFault
+read_in None read = Err Format
+read_in (Some version) read = read version
+
+abbrev pub root_faults : Option ℕ → Result Tree BuildFault → Result Tree BuildFault
+root_faults (Some place) read = Err (NotRoot place)
+root_faults None read = read
 
 -- the tree that a file's document element reads as, with its models, and with the main tree that is asked for, if one is
 abbrev pub reads : Models → Option (List ℕ) → Element → Result Tree BuildFault
 reads models asked root =
-    root_faults (not_root root) (says_format (value_of (codes "BTCPP_format") (attributes_of root)))
-    (go_on (trees_read models asked (attributes_of root)) (with_trees [] (children_of root)))
+    root_faults (not_root root)
+    (read_in (version_in (value_of (codes "BTCPP_format") (attributes_of root)))
+    (λ version. go_on (trees_read models asked (attributes_of root) version) (with_trees [] (children_of root))))

@@ -9,7 +9,8 @@ ghost use Rattle.bt_build.specs.Seen.{file_seen, trees_seen};
 
 use crate::fault::BuildFault;
 use crate::tree::{File, Numbers, read_node};
-use crate::trees::{Trees, not_root, says_format, tree_of, trees_of};
+use crate::trees::{Trees, not_root, tree_of, trees_of};
+use crate::version::{Version, version_in};
 use crate::working::is_within_work;
 use bt_board::is_within_slots;
 use bt_elements::{Element, Elements};
@@ -124,11 +125,16 @@ fn trees_read(
     models: &Manifest,
     asked: Option<&Name>,
     attributes: &[(Name, Name)],
+    version: Version,
     trees: Trees<'_>,
 ) -> Result<Tree, Stop<BuildFault>>
-    ensures { Gives result (trees_read models.now (option_copied asked.entry) attributes.now (trees_seen trees.entry.entries)) }
+    ensures { Gives result (trees_read models.now (option_copied asked.entry) attributes.now version (trees_seen trees.entry.entries)) }
 {
-    let file = File { trees, models };
+    let file = File {
+        trees,
+        models,
+        version,
+    };
     match main_of(asked, attributes, &file.trees) {
         Some(id) => main_read(alloc, &file, id),
         None => Err(Stop::Fault(BuildFault::NoMain)),
@@ -148,11 +154,11 @@ fn file_read(
     if let Some(place) = not_root(root) {
         return Err(Stop::Fault(BuildFault::NotRoot { place }));
     }
-    if !says_format(attribute(attributes, b"BTCPP_format")) {
+    let Some(version) = version_in(attribute(attributes, b"BTCPP_format")) else {
         return Err(Stop::Fault(BuildFault::Format));
-    }
+    };
     let trees = trees_of(alloc, root.children.list())?;
-    trees_read(alloc, models, asked, attributes, trees)
+    trees_read(alloc, models, asked, attributes, version, trees)
 }
 
 /// The tree that the elements of a file read as, with the main tree that is asked for, or the first

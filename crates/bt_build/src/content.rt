@@ -5,7 +5,7 @@ ghost use Rattle.std.specs.Option.{option_copied};
 ghost use Rattle.bt_script.specs.Stops.{Gives};
 ghost use Rattle.bt_model.specs.Boards.{is_private};
 ghost use Rattle.bt_model.specs.BuiltIns.{has_code};
-ghost use Rattle.bt_build.specs.Content.{all_known, autoremap_in, code_text, content_in, guard_in, guards_in, known_in, rest_in, scripts_in, said_or_false, script_of, truth_in};
+ghost use Rattle.bt_build.specs.Content.{autoremap_in, code_text, content_in, form_fits, guard_in, guards_in, is_bare, older_autoremap, rest_in, ruled_in, scripts_in, said_or_false, script_of, truth_in};
 ghost use Rattle.bt_build.specs.Seen.{rules_seen, text_seen};
 
 use crate::fault::BuildFault;
@@ -13,6 +13,7 @@ use crate::head::Head;
 use crate::ports::ports_in;
 use crate::rules::{Rules, all_known, rules_of};
 use crate::scripts::script;
+use crate::version::Form;
 use bt_manifest::{Manifest, attribute};
 use bt_model::{Guards, Kind, Port, has_code};
 use bt_script::{Items, Name, Script, Stop};
@@ -202,14 +203,35 @@ fn said_or_false(uid: u32, text: Option<&Name>) -> Result<bool, Stop<BuildFault>
     }
 }
 
-/// Whether all keys of a SubTree node are mapped.
-fn autoremap_in(uid: u32, kind: Kind, attributes: &[(Name, Name)]) -> Result<bool, Stop<BuildFault>>
-    ensures { Gives result (autoremap_in uid kind attributes.now) }
+/// What a SubTreePlus says by the older name.
+fn older_autoremap(
+    uid: u32,
+    form: Form,
+    attributes: &[(Name, Name)],
+) -> Result<bool, Stop<BuildFault>>
+    ensures { Gives result (older_autoremap uid form attributes.now) }
 {
-    match kind {
-        Kind::SubTree => said_or_false(uid, attribute(attributes, b"_autoremap")),
+    match form {
+        Form::SubTreePlus => said_or_false(uid, attribute(attributes, b"__autoremap")),
         _ => Ok(false),
     }
+}
+
+/// Whether all keys of a SubTree node are mapped.
+fn autoremap_in(
+    uid: u32,
+    kind: Kind,
+    form: Form,
+    attributes: &[(Name, Name)],
+) -> Result<bool, Stop<BuildFault>>
+    ensures { Gives result (autoremap_in uid kind form attributes.now) }
+{
+    if kind != Kind::SubTree {
+        return Ok(false);
+    }
+    let now = said_or_false(uid, attribute(attributes, b"_autoremap"))?;
+    let older = older_autoremap(uid, form, attributes)?;
+    Ok(now || older)
 }
 
 /// The content of a node with these ports and this code.
@@ -238,30 +260,54 @@ fn rest_in(
     alloc: Global,
     uid: u32,
     kind: Kind,
+    form: Form,
     attributes: &[(Name, Name)],
     ports: Vec<Port>,
 ) -> Result<Content, Stop<BuildFault>>
-    ensures { Gives result (rest_in uid kind attributes.now ports.items) }
+    ensures { Gives result (rest_in uid kind form attributes.now ports.items) }
 {
     let text = code_text(uid, has_code(kind), attributes)?;
-    let autoremap = autoremap_in(uid, kind, attributes)?;
+    let autoremap = autoremap_in(uid, kind, form, attributes)?;
     scripts_in(alloc, uid, ports, text, autoremap, attributes)
 }
 
-fn known_in(
+/// Whether a node has no attribute but an ID and a name.
+fn is_bare(attributes: &[(Name, Name)]) -> bool
+    ensures { result ≡ is_bare attributes.now }
+{
+    attributes.iter().all(|(name, _)| name.list() == b"ID".as_slice()
+        || name.list() == b"name".as_slice())
+}
+
+/// Whether an element of this form may have these attributes.
+fn form_fits(form: Form, attributes: &[(Name, Name)]) -> bool
+    ensures { result ≡ form_fits form attributes.now }
+{
+    match form {
+        Form::OldSubTree => is_bare(attributes),
+        _ => true,
+    }
+}
+
+/// What the attributes of a node say, which may have these ports.
+fn ruled_in(
     alloc: Global,
     uid: u32,
     kind: Kind,
+    form: Form,
     rules: Rules<'_>,
     attributes: &[(Name, Name)],
 ) -> Result<Content, Stop<BuildFault>>
-    ensures { Gives result (known_in uid (all_known (has_code kind) (rules_seen rules.entry) attributes.now) kind (rules_seen rules.entry) attributes.now) }
+    ensures { Gives result (ruled_in uid kind form (rules_seen rules.entry) attributes.now) }
 {
     if !all_known(has_code(kind), rules, attributes) {
         return Err(Stop::Fault(BuildFault::UnknownPort { uid }));
     }
+    if !form_fits(form, attributes) {
+        return Err(Stop::Fault(BuildFault::OldSubTree { uid }));
+    }
     let ports = ports_in(alloc, uid, has_code(kind), rules, attributes)?;
-    rest_in(alloc, uid, kind, attributes, ports)
+    rest_in(alloc, uid, kind, form, attributes, ports)
 }
 
 /// What the attributes of a node say.
@@ -272,7 +318,8 @@ pub fn content_in(
     head: &Head,
     attributes: &[(Name, Name)],
 ) -> Result<Content, Stop<BuildFault>>
-    ensures { Gives result (content_in uid models.now head.now.kind head.now.id attributes.now) }
+    ensures { Gives result (content_in uid models.now head.now.kind head.now.id head.now.form attributes.now) }
 {
-    known_in(alloc, uid, head.kind, rules_of(models, head), attributes)
+    let rules = rules_of(models, head);
+    ruled_in(alloc, uid, head.kind, head.form, rules, attributes)
 }

@@ -7,7 +7,7 @@ pub enum BuildFault {
     /// The document element is no `root`, or a child of it is neither `BehaviorTree` nor
     /// `TreeNodesModel`.
     NotRoot { place: u32 },
-    /// The attribute `BTCPP_format` is not `4`.
+    /// The attribute `BTCPP_format` is there and is neither `4` nor `3`.
     Format,
     /// A second tree of this ID.
     DoubleTree { id: Name },
@@ -30,6 +30,9 @@ pub enum BuildFault {
     ChildCount { uid: u32 },
     /// An attribute that is no port of the node.
     UnknownPort { uid: u32 },
+    /// A `SubTree` of version 3 with an attribute other than `ID` and `name`, which that version reads
+    /// in another way.
+    OldSubTree { uid: u32 },
     /// A port that must be written is not, or a value may not stand at its port.
     BadLiteral { uid: u32 },
     /// A script of the node can't be read.

@@ -1,18 +1,20 @@
-ghost use Rattle.std.specs.Prelude.{◌≡◌, IfOk, length};
+ghost use Rattle.std.specs.Prelude.{◌≡◌, IfOk, IsUtf8, length};
 ghost use Rattle.bt_manifest.specs.Models.{attributes_of, children_of, name_of};
-ghost use Rattle.bt_build.specs.Heads.{compact_head, explicit_head, head_of, id_or_empty, is_explicit, is_kept, is_leaf_name};
+ghost use Rattle.bt_build.specs.Heads.{compact_head, explicit_head, head_of, id_or_empty, is_explicit, is_kept, is_leaf_name, plain_head};
 
+use crate::version::{Form, Version, id_read, subtree_form};
 use bt_elements::Element;
 use bt_manifest::attribute;
 use bt_model::{Kind, class_of, kind_named, writes};
 use bt_script::{Name, NoMemory};
 use std::alloc::Global;
 
-/// The kind and the ID of a node.
+/// The kind and the ID of a node, and the form of its element.
 #[derive(Debug, Drop)]
 pub struct Head {
     pub kind: Kind,
     pub id: Name,
+    pub form: Form,
 }
 
 fn is_leaf_name(name: &[u8]) -> bool
@@ -40,38 +42,43 @@ fn is_kept(name: &[u8]) -> bool
         || name == b"root".as_slice()
 }
 
-fn some_head(alloc: Global, kind: Kind, id: &Name) -> Result<Option<Head>, NoMemory>
-    ensures { IfOk result (λ head. head ≡ Some (record { kind = kind; id = id.now })) }
+/// A node of this kind and ID.
+fn plain_head(alloc: Global, kind: Kind, id: &[u8]) -> Result<Option<Head>, NoMemory>
+    requires { IsUtf8 id.now }
+    ensures { IfOk result (λ head. head ≡ Some (plain_head kind id.now)) }
 {
     Ok(Some(Head {
         kind,
-        id: id.copy(alloc)?,
+        id: Name::of(Vec::from_slice(alloc, id)?),
+        form: Form::Plain,
     }))
 }
 
 /// The node of this ID that an element of this name writes, if it may.
 fn explicit_head(
     alloc: Global,
-    name: &Name,
+    name: &[u8],
     childless: bool,
-    id: &Name,
+    id: &[u8],
 ) -> Result<Option<Head>, NoMemory>
+    requires { IsUtf8 id.now }
     ensures { IfOk result (λ head. head ≡ explicit_head name.now childless id.now) }
 {
-    match kind_named(id.list()) {
-        Some(kind) if writes(name.list(), class_of(kind)) => some_head(alloc, kind, id),
-        None if is_leaf_name(name.list()) && childless => some_head(alloc, Kind::Leaf, id),
+    match kind_named(id) {
+        Some(kind) if writes(name, class_of(kind)) => plain_head(alloc, kind, id),
+        None if is_leaf_name(name) && childless => plain_head(alloc, Kind::Leaf, id),
         _ => Ok(None),
     }
 }
 
 /// The node that an element is by its own name, if it is one.
-fn compact_head(alloc: Global, childless: bool, name: &Name) -> Result<Option<Head>, NoMemory>
+fn compact_head(alloc: Global, childless: bool, name: &[u8]) -> Result<Option<Head>, NoMemory>
+    requires { IsUtf8 name.now }
     ensures { IfOk result (λ head. head ≡ compact_head childless name.now) }
 {
-    match kind_named(name.list()) {
-        Some(kind) => some_head(alloc, kind, name),
-        None if !is_kept(name.list()) && childless => some_head(alloc, Kind::Leaf, name),
+    match kind_named(name) {
+        Some(kind) => plain_head(alloc, kind, name),
+        None if !is_kept(name) && childless => plain_head(alloc, Kind::Leaf, name),
         _ => Ok(None),
     }
 }
@@ -86,25 +93,26 @@ pub fn id_or_empty(alloc: Global, attributes: &[(Name, Name)]) -> Result<Name, N
     }
 }
 
-/// The node that an element is, if it is one.
-pub fn head_of(alloc: Global, element: &Element) -> Result<Option<Head>, NoMemory>
-    ensures { IfOk result (λ head. head ≡ head_of (name_of element.now) (attributes_of element.now) (length (children_of element.now))) }
+/// The node that an element is, if it is one, in a file of this version.
+pub fn head_of(alloc: Global, version: Version, element: &Element) -> Result<Option<Head>, NoMemory>
+    ensures { IfOk result (λ head. head ≡ head_of version (name_of element.now) (attributes_of element.now) (length (children_of element.now))) }
 {
-    let name = &element.name;
+    let name = element.name.list();
     let attributes = element.attributes.list();
     let childless = element.children.list().is_empty();
-    if name.list() == b"SubTree".as_slice() {
+    if let Some(form) = subtree_form(version, name) {
         let id = id_or_empty(alloc, attributes)?;
         return Ok(Some(Head {
             kind: Kind::SubTree,
             id,
+            form,
         }));
     }
-    if !is_explicit(name.list()) {
-        return compact_head(alloc, childless, name);
+    if !is_explicit(name) {
+        return compact_head(alloc, childless, id_read(version, name));
     }
     match attribute(attributes, b"ID") {
-        Some(id) => explicit_head(alloc, name, childless, id),
+        Some(id) => explicit_head(alloc, name, childless, id_read(version, id.list())),
         None => Ok(None),
     }
 }

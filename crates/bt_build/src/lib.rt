@@ -11,6 +11,7 @@ mod scripts;
 mod tree;
 mod trees;
 mod values;
+mod version;
 mod working;
 
 pub use building::build;

@@ -8,6 +8,7 @@ use crate::content::{Content, content_in};
 use crate::fault::BuildFault;
 use crate::head::{Head, head_of};
 use crate::trees::{Trees, tree_of};
+use crate::version::Version;
 use bt_elements::Element;
 use bt_manifest::{Manifest, attribute};
 use bt_model::{Kind, MOST_NODES, MOST_SCOPES, Term, takes};
@@ -21,11 +22,13 @@ pub struct Numbers {
     pub scopes: u32,
 }
 
-/// What a file defines: its trees, and the models of its leaves.
+/// What a file defines: its trees, and the models of its leaves; and the version that its nodes are
+/// read in.
 #[derive(Drop)]
 pub struct File<'a> {
     pub trees: Trees<'a>,
     pub models: &'a Manifest,
+    pub version: Version,
 }
 
 /// Whether the tree of this ID is being opened.
@@ -239,7 +242,7 @@ pub fn read_node(
     if left == 0 {
         return Err(Stop::Fault(BuildFault::TooDeep { uid }));
     }
-    match head_of(alloc, element)? {
+    match head_of(alloc, file.version, element)? {
         Some(head) => node_by(alloc, file, left - 1, head, element, opened, numbers),
         None => Err(Stop::Fault(BuildFault::UnknownNode { uid })),
     }

@@ -3,7 +3,7 @@ ghost use Rattle.std.specs.Option.{option_copied};
 ghost use Rattle.bt_manifest.specs.Models.{attributes_of, children_of};
 ghost use Rattle.bt_build.specs.Gives.{GivesSeen};
 ghost use Rattle.bt_build.specs.Heads as heads;
-ghost use Rattle.bt_build.specs.Reads.{is_tree, may_stand, not_root, says_format, stray_place, tree_of, with_id, with_tree, with_trees};
+ghost use Rattle.bt_build.specs.Reads.{is_tree, may_stand, not_root, stray_place, tree_of, with_id, with_tree, with_trees};
 ghost use Rattle.bt_build.specs.Seen.{trees_seen};
 
 use crate::fault::BuildFault;
@@ -48,16 +48,6 @@ pub fn not_root(root: &Element) -> Option<u32>
         stray_place(root.children.list())
     } else {
         Some(root.place)
-    }
-}
-
-/// Whether the text says the format that is read.
-pub fn says_format(text: Option<&Name>) -> bool
-    ensures { result ≡ says_format (option_copied text.entry) }
-{
-    match text {
-        Some(text) => text.list() == b"4".as_slice(),
-        None => false,
     }
 }
 

@@ -93,6 +93,7 @@ fn fault_text(alloc: Global, fault: &BuildFault) -> Result<String, AllocError> {
         BuildFault::TooManyScopes => format!(in alloc; "TooManyScopes"),
         BuildFault::ChildCount { uid } => format!(in alloc; "ChildCount {uid}"),
         BuildFault::UnknownPort { uid } => format!(in alloc; "UnknownPort {uid}"),
+        BuildFault::OldSubTree { uid } => format!(in alloc; "OldSubTree {uid}"),
         BuildFault::BadLiteral { uid } => format!(in alloc; "BadLiteral {uid}"),
         BuildFault::BadScript { uid, fault } => format!(in alloc; "BadScript {uid} {fault:?}"),
         BuildFault::TooManyKeys => format!(in alloc; "TooManyKeys"),
@@ -167,21 +168,66 @@ fn file_text(alloc: Global, file: &[u8], main: Option<&str>) -> Result<String, A
     }
 }
 
-/// What a node is understood as that is alone in its tree.
-fn node_text(alloc: Global, node: &str) -> Result<String, AllocError> {
+/// The root of a file of version 4, and the one of version 3.
+const FOUR: &str = "<root BTCPP_format=\"4\">";
+
+const THREE: &str = "<root>";
+
+/// What a node is understood as that is the main tree of a file with this root. Another tree `S` is
+/// there.
+fn node_text(alloc: Global, root: &str, node: &str) -> Result<String, AllocError> {
     let file = format!(in alloc;
-        "<root BTCPP_format=\"4\"><BehaviorTree ID=\"M\">{node}</BehaviorTree></root>"
+        "{root}<BehaviorTree ID=\"M\">{node}</BehaviorTree><BehaviorTree ID=\"S\"><A/></BehaviorTree></root>"
     )?;
-    file_text(alloc, file.as_bytes(), None)
+    file_text(alloc, file.as_bytes(), Some("M"))
 }
 
 /// Files with the main tree that is asked for, and what each is understood as.
-static FILES: [(&str, Option<&str>, &str); 17] = [
+static FILES: [(&str, Option<&str>, &str); 28] = [
     ("<tree/>", None, "NotRoot 0"),
     ("<root BTCPP_format=\"5\"><a/></root>", None, "NotRoot 23"),
     ("<root BTCPP_format=\"5\"/>", None, "Format"),
-    ("<root/>", None, "Format"),
+    ("<root BTCPP_format=\"\"/>", None, "Format"),
+    ("<root BTCPP_format=\"03\"/>", None, "Format"),
     ("<root BTCPP_format=\"4\"/>", None, "NoMain"),
+    ("<root BTCPP_format=\"3\"/>", None, "NoMain"),
+    ("<root/>", None, "NoMain"),
+    ("<root><a/></root>", None, "NotRoot 6"),
+    (
+        "<root BTCPP_format=\"3\"><BehaviorTree/><BehaviorTree ID=\"\"/></root>",
+        None,
+        "DoubleTree ''",
+    ),
+    (
+        "<root main_tree_to_execute=\"C\"><BehaviorTree ID=\"A\"/></root>",
+        None,
+        "NoTree 'C'",
+    ),
+    (
+        "<root><BehaviorTree ID=\"A\"/><BehaviorTree ID=\"B\"/></root>",
+        Some("A"),
+        "ChildCount 0",
+    ),
+    (
+        "<root main_tree_to_execute=\"M\"><BehaviorTree ID=\"M\"><Sequence><A/><SubTree ID=\"S\"/></Sequence></BehaviorTree><BehaviorTree ID=\"S\"/></root>",
+        None,
+        "ChildCount 3",
+    ),
+    (
+        "<root main_tree_to_execute=\"M\"><BehaviorTree ID=\"M\"><SubTree ID=\"S\"/></BehaviorTree><BehaviorTree ID=\"S\"><SubTreePlus ID=\"M\"/></BehaviorTree></root>",
+        None,
+        "Recursive 'M'",
+    ),
+    (
+        "<root><BehaviorTree ID=\"M\"><A e=\"1\"/></BehaviorTree><TreeNodesModel><Action ID=\"A\"><input_port name=\"c\"/></Action></TreeNodesModel></root>",
+        None,
+        "UnknownPort 1",
+    ),
+    (
+        "<root><BehaviorTree ID=\"M\"><SequenceStar><A b=\"1\"/></SequenceStar></BehaviorTree><TreeNodesModel><Control ID=\"SequenceStar\"/><SubTreePlus ID=\"S\"><input_port/></SubTreePlus><Action ID=\"A\"><input_port name=\"b\"/><input_port name=\"c\" default=\"2\"/></Action></TreeNodesModel></root>",
+        None,
+        "M: SequenceWithMemory SequenceWithMemory SequenceWithMemory (Leaf A A b=1 c=2)",
+    ),
     (
         "<root BTCPP_format=\"4\"><BehaviorTree/><BehaviorTree ID=\"\"/></root>",
         None,
@@ -257,8 +303,8 @@ fn files(rt: HostRuntime) -> Result<(), Fail> {
     Ok(())
 }
 
-/// Nodes, and what the tree of each is understood as.
-static NODES: [(&str, &str); 40] = [
+/// Nodes, and what the tree of each is understood as, in either version.
+static NODES: [(&str, &str); 41] = [
     ("<Sequence/>", "ChildCount 1"),
     (
         "<Control ID=\"Sequence\" name=\"s\"><A/></Control>",
@@ -353,7 +399,8 @@ static NODES: [(&str, &str); 40] = [
     ),
     ("<Script x=\"{}\"/>", "UnknownPort 1"),
     ("<N x=\"{}\" _post=\"(\"/>", "BadLiteral 1"),
-    ("<SubTree ID=\"S\" x=\"{}\"/>", "NoTree 'S'"),
+    ("<SubTree ID=\"N\" x=\"{}\"/>", "NoTree 'N'"),
+    ("<SubTree ID=\"M\" x=\"{}\"/>", "Recursive 'M'"),
     (
         "<Repeat num_cycles=\"1000\"><Repeat num_cycles=\"{k}\"><A/></Repeat></Repeat>",
         "TooMuchWork",
@@ -368,7 +415,158 @@ static NODES: [(&str, &str); 40] = [
 fn nodes(rt: HostRuntime) -> Result<(), Fail> {
     let alloc = rt.alloc();
     for (node, wanted) in &NODES {
-        assert_eq!(rt; node_text(alloc, node)?.as_str(), *wanted, "{node}");
+        assert_eq!(rt; node_text(alloc, FOUR, node)?.as_str(), *wanted, "{node}");
+        assert_eq!(rt; node_text(alloc, THREE, node)?.as_str(), *wanted, "{node}");
+    }
+    Ok(())
+}
+
+/// Nodes that the versions read otherwise, and what the tree of each is understood as in version 3 and
+/// in version 4.
+static VERSIONS: [(&str, &str, &str); 27] = [
+    (
+        "<SequenceStar/>",
+        "ChildCount 1",
+        "M: Leaf SequenceStar SequenceStar",
+    ),
+    (
+        "<SequenceStar name=\"s\"><A/></SequenceStar>",
+        "M: SequenceWithMemory SequenceWithMemory s (Leaf A A)",
+        "UnknownNode 1",
+    ),
+    (
+        "<SequenceStar x=\"1\"><A/></SequenceStar>",
+        "UnknownPort 1",
+        "UnknownNode 1",
+    ),
+    (
+        "<Control ID=\"SequenceStar\"><A/></Control>",
+        "M: SequenceWithMemory SequenceWithMemory SequenceWithMemory (Leaf A A)",
+        "UnknownNode 1",
+    ),
+    (
+        "<Action ID=\"SequenceStar\"/>",
+        "UnknownNode 1",
+        "M: Leaf SequenceStar SequenceStar",
+    ),
+    (
+        "<Action ID=\"SubTreePlus\"/>",
+        "M: Leaf SubTreePlus SubTreePlus",
+        "M: Leaf SubTreePlus SubTreePlus",
+    ),
+    (
+        "<SubTreePlus/>",
+        "NoTree ''",
+        "M: Leaf SubTreePlus SubTreePlus",
+    ),
+    (
+        "<SubTreePlus ID=\"S\"><A/></SubTreePlus>",
+        "ChildCount 1",
+        "UnknownNode 1",
+    ),
+    (
+        "<SubTreePlus ID=\"S\" a=\"{b}\" name=\"n\" _skipIf=\"1\"/>",
+        "M: SubTree S n a={b} skip_if:1 (Leaf A A)",
+        "M: Leaf SubTreePlus n a={b} skip_if:1",
+    ),
+    (
+        "<SubTreePlus ID=\"S\" _autoremap=\"0\" __autoremap=\"1\"/>",
+        "M: SubTree S S autoremap (Leaf A A)",
+        "M: Leaf SubTreePlus SubTreePlus",
+    ),
+    (
+        "<SubTreePlus ID=\"S\" _autoremap=\"true\" __autoremap=\"false\"/>",
+        "M: SubTree S S autoremap (Leaf A A)",
+        "M: Leaf SubTreePlus SubTreePlus",
+    ),
+    (
+        "<SubTreePlus ID=\"S\" _autoremap=\"0\" __autoremap=\"false\"/>",
+        "M: SubTree S S (Leaf A A)",
+        "M: Leaf SubTreePlus SubTreePlus",
+    ),
+    (
+        "<SubTreePlus ID=\"S\" __autoremap=\"yes\"/>",
+        "BadLiteral 1",
+        "M: Leaf SubTreePlus SubTreePlus",
+    ),
+    (
+        "<SubTreePlus ID=\"S\" _autoremap=\"1\" __autoremap=\"yes\"/>",
+        "BadLiteral 1",
+        "M: Leaf SubTreePlus SubTreePlus",
+    ),
+    (
+        "<SubTreePlus ID=\"S\" _autoremap=\"yes\" __autoremap=\"1\"/>",
+        "BadLiteral 1",
+        "M: Leaf SubTreePlus SubTreePlus",
+    ),
+    (
+        "<SubTreePlus ID=\"S\" _skipIf=\"(\" __autoremap=\"yes\"/>",
+        "BadLiteral 1",
+        "BadScript 1 Syntax { place: 1 }",
+    ),
+    (
+        "<Inverter __autoremap=\"yes\"><A/></Inverter>",
+        "M: Inverter Inverter Inverter (Leaf A A)",
+        "M: Inverter Inverter Inverter (Leaf A A)",
+    ),
+    (
+        "<SubTree ID=\"S\" name=\"n\"/>",
+        "M: SubTree S n (Leaf A A)",
+        "M: SubTree S n (Leaf A A)",
+    ),
+    (
+        "<SubTree ID=\"S\" a=\"b\"/>",
+        "OldSubTree 1",
+        "M: SubTree S S a='b' (Leaf A A)",
+    ),
+    (
+        "<SubTree ID=\"S\" _autoremap=\"1\"/>",
+        "OldSubTree 1",
+        "M: SubTree S S autoremap (Leaf A A)",
+    ),
+    (
+        "<SubTree ID=\"S\" __autoremap=\"yes\"/>",
+        "OldSubTree 1",
+        "M: SubTree S S (Leaf A A)",
+    ),
+    (
+        "<SubTree ID=\"S\" _skipIf=\"(\"/>",
+        "OldSubTree 1",
+        "BadScript 1 Syntax { place: 1 }",
+    ),
+    (
+        "<SubTree ID=\"S\" a=\"{}\"/>",
+        "OldSubTree 1",
+        "BadLiteral 1",
+    ),
+    (
+        "<SubTree ID=\"S\" a=\"{}\"><A/></SubTree>",
+        "ChildCount 1",
+        "ChildCount 1",
+    ),
+    (
+        "<Sequence><A/><SubTree ID=\"S\" a=\"1\"/></Sequence>",
+        "OldSubTree 3",
+        "M: Sequence Sequence Sequence (Leaf A A) (SubTree S S a=1 (Leaf A A))",
+    ),
+    (
+        "<Sequence><SubTree ID=\"S\" a=\"1\"/><N x=\"{}\"/></Sequence>",
+        "OldSubTree 2",
+        "BadLiteral 4",
+    ),
+    (
+        "<Sequence><N x=\"{}\"/><SubTree ID=\"S\" a=\"1\"/></Sequence>",
+        "BadLiteral 2",
+        "BadLiteral 2",
+    ),
+];
+
+#[test]
+fn versions(rt: HostRuntime) -> Result<(), Fail> {
+    let alloc = rt.alloc();
+    for (node, three, four) in &VERSIONS {
+        assert_eq!(rt; node_text(alloc, THREE, node)?.as_str(), *three, "{node}");
+        assert_eq!(rt; node_text(alloc, FOUR, node)?.as_str(), *four, "{node}");
     }
     Ok(())
 }

@@ -1,8 +1,26 @@
 //! How deep and how large a tree may be.
 
-use crate::stage::{answered, given};
+use crate::stage::given;
+use bt_script::NoMemory;
 use std::alloc::{AllocError, Global};
 use std::test::Fail;
+
+/// The root of a file of version 4, and one of version 3 of the same length.
+const FOUR: &str = "<root BTCPP_format=\"4\">";
+
+const THREE: &str = "<root BTCPP_format=\"3\">";
+
+/// What is printed of a file with this root whose main tree has these nodes.
+fn checked(alloc: Global, root: &str, nodes: &str) -> Result<String, NoMemory> {
+    let file = format!(in alloc; "{root}<BehaviorTree ID=\"M\">{nodes}</BehaviorTree></root>")?;
+    given(
+        alloc,
+        &["check", "T", "--main", "M"],
+        file.as_bytes(),
+        b"",
+        &[],
+    )
+}
 
 /// A text so many times, one behind another.
 fn repeated(alloc: Global, text: &str, times: u32) -> Result<String, AllocError> {
@@ -23,12 +41,13 @@ fn inverted(alloc: Global, times: u32, nodes: &str) -> Result<String, AllocError
 #[test]
 fn depth_is_limited(rt: HostRuntime) -> Result<(), Fail> {
     let alloc = rt.alloc();
-    for (times, want) in [
-        (255, "<!-- nodes 256 work 256 -->\nDone"),
-        (256, "refused tree TooDeep 2604\nTree"),
+    for (root, times, want) in [
+        (FOUR, 255, "<!-- nodes 256 work 256 -->\nDone"),
+        (FOUR, 256, "refused tree TooDeep 2604\nTree"),
+        (THREE, 256, "refused tree TooDeep 2604\nTree"),
     ] {
         let nodes = inverted(alloc, times, "<AlwaysSuccess/>")?;
-        let text = answered(alloc, &["check", "T"], nodes.as_str(), &[], &[])?;
+        let text = checked(alloc, root, nodes.as_str())?;
         assert!(rt; text.ends_with(want), "{times}");
     }
     Ok(())
@@ -37,15 +56,15 @@ fn depth_is_limited(rt: HostRuntime) -> Result<(), Fail> {
 #[test]
 fn depth_is_limited_across_trees(rt: HostRuntime) -> Result<(), Fail> {
     let alloc = rt.alloc();
-    for (times, want) in [
-        (127, "<!-- nodes 256 work 256 -->\nDone"),
-        (128, "refused tree TooDeep 257\nTree"),
+    for (root, times, want) in [
+        (FOUR, 127, "<!-- nodes 256 work 256 -->\nDone"),
+        (FOUR, 128, "refused tree TooDeep 257\nTree"),
+        (THREE, 128, "refused tree TooDeep 257\nTree"),
     ] {
         let main = inverted(alloc, 127, "<SubTree ID=\"S\"/>")?;
         let below = inverted(alloc, times, "<A/>")?;
         let nodes = format!(in alloc; "{main}</BehaviorTree><BehaviorTree ID=\"S\">{below}")?;
-        let words = ["check", "T", "--main", "M"];
-        let text = answered(alloc, &words, nodes.as_str(), &[], &[])?;
+        let text = checked(alloc, root, nodes.as_str())?;
         assert!(rt; text.ends_with(want), "{times}");
     }
     Ok(())
@@ -54,19 +73,20 @@ fn depth_is_limited_across_trees(rt: HostRuntime) -> Result<(), Fail> {
 #[test]
 fn nodes_are_counted(rt: HostRuntime) -> Result<(), Fail> {
     let alloc = rt.alloc();
-    for (leaves, want) in [
-        (4_095, "<!-- nodes 4096 work 4096 -->\nDone"),
-        (4_096, "refused tree TooManyNodes\nTree"),
+    for (root, leaves, want) in [
+        (FOUR, 4_095, "<!-- nodes 4096 work 4096 -->\nDone"),
+        (FOUR, 4_096, "refused tree TooManyNodes\nTree"),
+        (THREE, 4_096, "refused tree TooManyNodes\nTree"),
     ] {
         let nodes = format!(in alloc; "<Sequence>{}</Sequence>", repeated(alloc, "<A/>", leaves)?)?;
-        let text = answered(alloc, &["check", "T"], nodes.as_str(), &[], &[])?;
+        let text = checked(alloc, root, nodes.as_str())?;
         assert!(rt; text.ends_with(want), "{leaves}");
     }
     Ok(())
 }
 
 /// The trees `T0` up to the last, each of which opens the next one twice. The last one is a leaf.
-fn doubling(alloc: Global, last: u32) -> Result<String, AllocError> {
+fn doubling(alloc: Global, root: &str, last: u32) -> Result<String, AllocError> {
     let mut trees = String::new(alloc);
     for n in 0..last {
         let below = repeated(
@@ -79,19 +99,20 @@ fn doubling(alloc: Global, last: u32) -> Result<String, AllocError> {
         )?.as_str())?;
     }
     format!(in alloc;
-        "<root BTCPP_format=\"4\">{trees}<BehaviorTree ID=\"T{last}\"><AlwaysSuccess/></BehaviorTree></root>"
+        "{root}{trees}<BehaviorTree ID=\"T{last}\"><AlwaysSuccess/></BehaviorTree></root>"
     )
 }
 
 #[test]
 fn scopes_are_counted(rt: HostRuntime) -> Result<(), Fail> {
     let alloc = rt.alloc();
-    for (last, want) in [
-        (7, "<!-- nodes 509 work 509 -->\nDone"),
-        (8, "refused tree TooManyScopes\nTree"),
-        (11, "refused tree TooManyScopes\nTree"),
+    for (root, last, want) in [
+        (FOUR, 7, "<!-- nodes 509 work 509 -->\nDone"),
+        (FOUR, 8, "refused tree TooManyScopes\nTree"),
+        (FOUR, 11, "refused tree TooManyScopes\nTree"),
+        (THREE, 8, "refused tree TooManyScopes\nTree"),
     ] {
-        let file = doubling(alloc, last)?;
+        let file = doubling(alloc, root, last)?;
         let words = ["check", "T", "--main", "T0"];
         let text = given(alloc, &words, file.as_bytes(), b"", &[])?;
         assert!(rt; text.ends_with(want), "{last}");
@@ -113,17 +134,19 @@ fn leaf_of_keys(alloc: Global, count: u32) -> Result<String, AllocError> {
 #[test]
 fn slots_are_counted_before_work(rt: HostRuntime) -> Result<(), Fail> {
     let alloc = rt.alloc();
-    for (slots, cycles, want) in [
-        (4_096, "98", "<!-- nodes 3 work 99001 -->\nDone"),
-        (4_097, "98", "refused tree TooManyKeys\nTree"),
-        (4_096, "100", "refused tree TooMuchWork\nTree"),
-        (4_097, "100", "refused tree TooManyKeys\nTree"),
+    for (root, slots, cycles, want) in [
+        (FOUR, 4_096, "98", "<!-- nodes 3 work 99001 -->\nDone"),
+        (FOUR, 4_097, "98", "refused tree TooManyKeys\nTree"),
+        (FOUR, 4_096, "100", "refused tree TooMuchWork\nTree"),
+        (FOUR, 4_097, "100", "refused tree TooManyKeys\nTree"),
+        (THREE, 4_096, "100", "refused tree TooMuchWork\nTree"),
+        (THREE, 4_097, "100", "refused tree TooManyKeys\nTree"),
     ] {
         let leaf = leaf_of_keys(alloc, slots)?;
         let nodes = format!(in alloc;
             "<Repeat num_cycles=\"1000\"><Repeat num_cycles=\"{cycles}\">{leaf}</Repeat></Repeat>"
         )?;
-        let text = answered(alloc, &["check", "T"], nodes.as_str(), &[], &[])?;
+        let text = checked(alloc, root, nodes.as_str())?;
         assert!(rt; text.ends_with(want), "{slots} {cycles}");
     }
     Ok(())

@@ -109,10 +109,32 @@ const PATROL_PRINTED: &str = "\
 <!-- nodes 18 work 6012 -->
 Done";
 
+/// A file of version 3.
+const OLD: &str =
+    "<root main_tree_to_execute=\"M\"><BehaviorTree ID=\"M\"><SequenceStar><SubTreePlus ID=\"S\" a=\"{b}\" __autoremap=\"1\"/></SequenceStar></BehaviorTree><BehaviorTree ID=\"S\"><A/></BehaviorTree></root>";
+
+const OLD_PRINTED: &str = "\
+<root BTCPP_format=\"4\" main_tree_to_execute=\"M\">
+  <BehaviorTree ID=\"M\">
+    <SequenceWithMemory>
+      <SubTree ID=\"S\" _autoremap=\"true\" a=\"{b}\"/>
+    </SequenceWithMemory>
+  </BehaviorTree>
+  <BehaviorTree ID=\"S\">
+    <A/>
+  </BehaviorTree>
+</root>
+<!-- nodes 3 work 3 -->
+Done";
+
 #[test]
 fn printed_trees_check_to_themselves(rt: HostRuntime) -> Result<(), Fail> {
     let alloc = rt.alloc();
-    for (file, want) in [(SAVED, SAVED_PRINTED), (PATROL, PATROL_PRINTED)] {
+    for (file, want) in [
+        (SAVED, SAVED_PRINTED),
+        (PATROL, PATROL_PRINTED),
+        (OLD, OLD_PRINTED),
+    ] {
         let text = given(alloc, &["check", "T"], file.as_bytes(), b"", &[])?;
         assert_eq!(rt; text.as_str(), want);
         let printed = want.strip_suffix("Done").unwrap_or("?");

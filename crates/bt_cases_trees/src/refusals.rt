@@ -61,7 +61,7 @@ fn files_are_refused(rt: HostRuntime) -> Result<(), Fail> {
     let alloc = rt.alloc();
     let long = vec![in alloc; b' '; 1_048_577]?;
     let table: [(&[u8], &[u8], &str); 5] = [
-        (b"<!-- a --><root/>", b"", "refused tree Format\nTree"),
+        (b"<!-- a --><root/>", b"", "refused tree NoMain\nTree"),
         (b"\xff", b"bt-world 1", "refused tree NotUtf8 0\nTree"),
         (long.as_slice(), b"bt-world 1", "refused tree TooLong\nTree"),
         (b"", long.as_slice(), "refused world TooLong\nWorld"),
@@ -89,7 +89,7 @@ fn a_read_that_fails_has_its_line(rt: HostRuntime) -> Result<(), Fail> {
 
 #[test]
 fn whole_files_are_refused(rt: HostRuntime) -> Result<(), Fail> {
-    let table: [(&[u8], &str); 23] = [
+    let table: [(&[u8], &str); 26] = [
         (b"", "refused tree Unmatched 0\nTree"),
         (b"\xff", "refused tree NotUtf8 0\nTree"),
         (b"<root BTCPP_f", "refused tree BadMark 0\nTree"),
@@ -121,6 +121,15 @@ fn whole_files_are_refused(rt: HostRuntime) -> Result<(), Fail> {
         ),
         (b"<tree/>", "refused tree NotRoot 0\nTree"),
         (b"<root BTCPP_format=\"5\"/>", "refused tree Format\nTree"),
+        (b"<root BTCPP_format=\"\"/>", "refused tree Format\nTree"),
+        (
+            b"<root main_tree_to_execute=\"M\"><BehaviorTree ID=\"M\"><SequenceStar><SubTree ID=\"S\" a=\"b\"/></SequenceStar></BehaviorTree><BehaviorTree ID=\"S\"><A/></BehaviorTree></root>",
+            "refused tree OldSubTree 2\nTree",
+        ),
+        (
+            b"<root><BehaviorTree ID=\"M\"><A/></BehaviorTree><TreeNodesModel><Action ID=\"SequenceStar\"><input_port/></Action></TreeNodesModel></root>",
+            "refused tree BadModel 88\nTree",
+        ),
         (
             b"<root BTCPP_format=\"4\"><BehaviorTree ID=\"M\"/><BehaviorTree ID=\"M\"/></root>",
             "refused tree DoubleTree 'M'\nTree",

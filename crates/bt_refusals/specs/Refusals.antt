@@ -59,6 +59,7 @@ build_words (build.Recursive id) = named (codes "Recursive") id
 build_words build.TooManyScopes = codes "TooManyScopes"
 build_words (build.ChildCount uid) = numbered (codes "ChildCount") uid
 build_words (build.UnknownPort uid) = numbered (codes "UnknownPort") uid
+build_words (build.OldSubTree uid) = numbered (codes "OldSubTree") uid
 build_words (build.BadLiteral uid) = numbered (codes "BadLiteral") uid
 build_words (build.BadScript uid f) = numbered (codes "BadScript") uid ++ codes " " ++ script_words f
 build_words build.TooManyKeys = codes "TooManyKeys"

@@ -88,6 +88,7 @@ fn put_build_fault(out: &mut Vec<u8>, fault: &BuildFault) -> Result<(), NoMemory
         BuildFault::TooManyScopes => put_bytes(out, b"TooManyScopes"),
         BuildFault::ChildCount { uid } => put_numbered(out, b"ChildCount", *uid),
         BuildFault::UnknownPort { uid } => put_numbered(out, b"UnknownPort", *uid),
+        BuildFault::OldSubTree { uid } => put_numbered(out, b"OldSubTree", *uid),
         BuildFault::BadLiteral { uid } => put_numbered(out, b"BadLiteral", *uid),
         BuildFault::BadScript { uid, fault } => put_bad_script(out, *uid, *fault),
         BuildFault::TooManyKeys => put_bytes(out, b"TooManyKeys"),

@@ -1,6 +1,6 @@
 -- The trees that are read open their trees alike: what an element reads as depends on nothing but the file.
 use Rattle.std.proofs.Common.{◌≡◌, ◌⊎◌, inl, inr, ℕ, zero, suc, ◌+◌, Bool, true, false, not, ◌&&◌, cond, if◌then◌else◌, List, [], ◌∷◌, ◌++◌, map, length, codes, Option, Some, None, Result, Ok, Err, refl, ap, sym, ◌∙◌, subst, append_assoc}
-use Rattle.std.specs.Prelude.{bytes_eq, is_some, option_map, nat_eq, nat_le}
+use Rattle.std.specs.Prelude.{bytes_eq, is_some, option_map, nat_eq, nat_le, ◌||◌}
 use Rattle.std.proofs.lemmas.Slice.Eq.{bytes_eq-Decides}
 use Rattle.std.specs.Cmp.Derive.{both_true}
 use Rattle.std.specs.List.{list_all, AllByRecursion}
@@ -24,18 +24,20 @@ use Rattle.bt_manifest.specs.Models.{Models, attributes_of, children_of, name_of
 use Rattle.bt_manifest.specs.Steps.{go_on}
 use Rattle.bt_build.specs.declared.content.Content.{Content}
 use Rattle.bt_build.specs.declared.fault.BuildFault.{BuildFault}
-use Rattle.bt_build.specs.declared.fault.BuildFault.TheVariants.{TooManyNodes, TooDeep, Recursive, TooManyScopes, ChildCount}
+use Rattle.bt_build.specs.declared.fault.BuildFault.TheVariants.{UnknownPort, OldSubTree, TooManyNodes, TooDeep, Recursive, TooManyScopes, ChildCount}
 use Rattle.bt_build.specs.declared.head.Head.{Head}
 use Rattle.bt_build.specs.declared.tree.Numbers.{Numbers}
-use Rattle.bt_build.specs.Content.{Rules, AnyPort, AnyKey, Modelled, BuiltIn, all_known, autoremap_in, code_text, content_in, guard_in, guards_in, is_port, known_in, name_fits, or_bad, or_bad_script, ports_in, range_of, rest_in, rules_of, said_or_false, script_of, scripts_in, truth_in, with_absent, with_attribute, with_default, with_fallback, with_model, with_modelled, with_ranged, with_rule, with_rules, with_written}
+use Rattle.bt_build.specs.declared.version.Form.{Form}
+use Rattle.bt_build.specs.declared.version.Form.TheVariants.{SubTreePlus}
+use Rattle.bt_build.specs.Content.{Rules, AnyPort, AnyKey, Modelled, BuiltIn, all_known, autoremap_in, code_text, content_in, form_fits, guard_in, guards_in, is_port, name_fits, older_autoremap, or_bad, or_bad_script, ports_in, range_of, refused_if, rest_in, ruled_in, rules_of, said_or_false, script_of, scripts_in, truth_in, with_absent, with_attribute, with_default, with_fallback, with_model, with_modelled, with_ranged, with_rule, with_rules, with_written}
 use Rattle.bt_build.specs.Heads.{head_of}
-use Rattle.bt_build.specs.Reads.{File, Reader, is_subtree, known, main_of, main_read, most_levels, named_read, no_numbers, node_in, node_of, node_with, nodes_by, not_root, one_node_more, one_scope_more, opened_by, plain_by, read_node, read_root, reads, refused_if, root_read, roots_read, says_format, term_of, tree_of, trees_read, with_first, with_trees, within_limits}
+use Rattle.bt_build.specs.Reads.{File, Reader, is_subtree, known, main_of, main_read, most_levels, named_read, no_numbers, node_in, node_of, node_with, nodes_by, one_node_more, one_scope_more, opened_by, plain_by, read_node, read_root, reads, root_read, roots_read, term_of, tree_of, with_first, within_limits}
 use Rattle.bt_build.specs.Scripts.{script_in}
 use Rattle.bt_build.proofs.ElementTexts.{found}
 use Rattle.bt_build.proofs.PortFits.{some_same}
 use Rattle.bt_build.proofs.PortTexts.{to_not}
 use Rattle.bt_build.proofs.ScriptFits.{tail_0, tail_1, tail_2, tail_3, tail_4, tail_5, tail_6, tail_7, tail_8}
-use Rattle.bt_build.proofs.Sizes.{both_same, faultless, limited, not_refused, same_ok, went}
+use Rattle.bt_build.proofs.Sizes.{both_same, file_read, limited, not_refused, same_ok, went}
 use Rattle.bt_reread.specs.Openings.{OpensAlike, fresh_by, fresh_step, opens_fresh}
 use Rattle.bt_reread.specs.TreeElements.{Said, Subtree, own_tree, said, said_node}
 use Rattle.bt_reread.proofs.ReadNodes.{elements_of, opened_in}
@@ -156,9 +158,16 @@ truth_keeps : (u v : ℕ) (o : Option (List ℕ)) → Keeps (said_or_false u o) 
 truth_keeps u v None = ok_keeps false
 truth_keeps u v (Some text) = bad_keeps u v (truth_in text)
 
-autoremap_keeps : (u v : ℕ) (kind : Kind) (A : Attributes) → Keeps (autoremap_in u kind A) (autoremap_in v kind A)
-autoremap_keeps u v SubTree A = truth_keeps u v (value_of (codes "_autoremap") A)
-autoremap_keeps u v kind A = ok_keeps false
+older_keeps : (u v : ℕ) (form : Form) (A : Attributes) → Keeps (older_autoremap u form A) (older_autoremap v form A)
+older_keeps u v SubTreePlus A = truth_keeps u v (value_of (codes "__autoremap") A)
+older_keeps u v form A = ok_keeps false
+
+autoremap_keeps : (u v : ℕ) (kind : Kind) (form : Form) (A : Attributes) → Keeps (autoremap_in u kind form A) (autoremap_in v kind form A)
+autoremap_keeps u v SubTree form A =
+    let said = value_of (codes "_autoremap") A in
+    go_keeps (λ now. go_on (λ older. Ok (now || older)) (older_autoremap u form A)) (λ now. go_on (λ older. Ok (now || older)) (older_autoremap v form A)) (said_or_false u said) (said_or_false v said) (truth_keeps u v said)
+    (λ now. go_keeps (λ older. Ok (now || older)) (λ older. Ok (now || older)) (older_autoremap u form A) (older_autoremap v form A) (older_keeps u v form A) (λ older. ok_keeps (now || older)))
+autoremap_keeps u v kind form A = ok_keeps false
 
 scripts_keep : (u v : ℕ) (ports : List Port) (text : Option (List ℕ)) (b : Bool) (A : Attributes) → Keeps (scripts_in u ports text b A) (scripts_in v ports text b A)
 scripts_keep u v ports text b A =
@@ -167,19 +176,26 @@ scripts_keep u v ports text b A =
     (λ code. go_keeps (λ guards. Ok (record { ports = ports; code = code; guards = guards; autoremap = b })) (λ guards. Ok (record { ports = ports; code = code; guards = guards; autoremap = b }))
     (guards_in u A) (guards_in v A) (keep_0 u v A) (λ guards. ok_keeps (record { ports = ports; code = code; guards = guards; autoremap = b })))
 
-rest_keeps : (u v : ℕ) (kind : Kind) (A : Attributes) (ports : List Port) → Keeps (rest_in u kind A ports) (rest_in v kind A ports)
-rest_keeps u v kind A ports =
-    go_keeps (λ text. go_on (λ b. scripts_in u ports text b A) (autoremap_in u kind A)) (λ text. go_on (λ b. scripts_in v ports text b A) (autoremap_in v kind A)) (code_text u (has_code kind) A) (code_text v (has_code kind) A)
+rest_keeps : (u v : ℕ) (kind : Kind) (form : Form) (A : Attributes) (ports : List Port) → Keeps (rest_in u kind form A ports) (rest_in v kind form A ports)
+rest_keeps u v kind form A ports =
+    go_keeps (λ text. go_on (λ b. scripts_in u ports text b A) (autoremap_in u kind form A)) (λ text. go_on (λ b. scripts_in v ports text b A) (autoremap_in v kind form A)) (code_text u (has_code kind) A) (code_text v (has_code kind) A)
     (text_keeps u v (has_code kind) A)
-    (λ text. go_keeps (λ b. scripts_in u ports text b A) (λ b. scripts_in v ports text b A) (autoremap_in u kind A) (autoremap_in v kind A) (autoremap_keeps u v kind A) (λ b. scripts_keep u v ports text b A))
+    (λ text. go_keeps (λ b. scripts_in u ports text b A) (λ b. scripts_in v ports text b A) (autoremap_in u kind form A) (autoremap_in v kind form A) (autoremap_keeps u v kind form A) (λ b. scripts_keep u v ports text b A))
 
-known_keeps : (u v : ℕ) (b : Bool) (kind : Kind) (rules : Rules) (A : Attributes) → Keeps (known_in u b kind rules A) (known_in v b kind rules A)
-known_keeps u v true kind rules A y h =
-    go_keeps (rest_in u kind A) (rest_in v kind A) (ports_in u (has_code kind) rules A) (ports_in v (has_code kind) rules A) (ports_keep u v (has_code kind) rules A) (λ ports. rest_keeps u v kind A ports) y h
-known_keeps u v false kind rules A y h = absurd (cc)
+refused_keeps : {A : Type 0} (b : Bool) (f g : BuildFault) (r s : Result A BuildFault) → Keeps r s → Keeps (refused_if b f r) (refused_if b g s)
+refused_keeps true f g r s kept y h = absurd (cc)
+refused_keeps false f g r s kept y h = kept y h
 
-content_keeps : (u v : ℕ) (models : Models) (kind : Kind) (id : List ℕ) (A : Attributes) → Keeps (content_in u models kind id A) (content_in v models kind id A)
-content_keeps u v models kind id A = known_keeps u v (all_known (has_code kind) (rules_of models kind id) A) kind (rules_of models kind id) A
+ruled_keeps : (u v : ℕ) (kind : Kind) (form : Form) (rules : Rules) (A : Attributes) → Keeps (ruled_in u kind form rules A) (ruled_in v kind form rules A)
+ruled_keeps u v kind form rules A =
+    let r = go_on (rest_in u kind form A) (ports_in u (has_code kind) rules A) in
+    let s = go_on (rest_in v kind form A) (ports_in v (has_code kind) rules A) in
+    refused_keeps (not (all_known (has_code kind) rules A)) (UnknownPort u) (UnknownPort v) (refused_if (not (form_fits form A)) (OldSubTree u) r) (refused_if (not (form_fits form A)) (OldSubTree v) s)
+    (refused_keeps (not (form_fits form A)) (OldSubTree u) (OldSubTree v) r s
+    (go_keeps (rest_in u kind form A) (rest_in v kind form A) (ports_in u (has_code kind) rules A) (ports_in v (has_code kind) rules A) (ports_keep u v (has_code kind) rules A) (λ ports. rest_keeps u v kind form A ports)))
+
+content_keeps : (u v : ℕ) (models : Models) (kind : Kind) (id : List ℕ) (form : Form) (A : Attributes) → Keeps (content_in u models kind id form A) (content_in v models kind id form A)
+content_keeps u v models kind id form A = ruled_keeps u v kind form (rules_of models kind id) A
 
 -- ---- How a node was read
 
@@ -191,10 +207,10 @@ From file head e opened inner es =
 
 record NodeRead (file : File) (left : ℕ) (e : Element) (opened : List (List ℕ)) (m : Numbers) (t : Term) : Type 0 where
   head : Head
-  is : head_of (name_of e) (attributes_of e) (length (children_of e)) ≡ Some head
+  is : head_of file.version (name_of e) (attributes_of e) (length (children_of e)) ≡ Some head
   uid : ℕ
   content : Content
-  said_so : content_in uid file.models head.kind head.id (attributes_of e) ≡ Ok content
+  said_so : content_in uid file.models head.kind head.id head.form (attributes_of e) ≡ Ok content
   inner : List (List ℕ)
   es : List Element
   before : Numbers
@@ -203,12 +219,12 @@ record NodeRead (file : File) (left : ℕ) (e : Element) (opened : List (List �
   below : nodes_by (read_node file left) inner es before ≡ Ok (ts, m)
   term : term_of head (attributes_of e) content ts ≡ t
 
-made : (file : File) (left : ℕ) (e : Element) (opened inner : List (List ℕ)) (es : List Element) (head : Head) (n m : Numbers) (uid : ℕ) (t : Term) → head_of (name_of e) (attributes_of e) (length (children_of e)) ≡ Some head →
+made : (file : File) (left : ℕ) (e : Element) (opened inner : List (List ℕ)) (es : List Element) (head : Head) (n m : Numbers) (uid : ℕ) (t : Term) → head_of file.version (name_of e) (attributes_of e) (length (children_of e)) ≡ Some head →
     From file head e opened inner es → node_of file.models (read_node file left) head (attributes_of e) inner es n uid ≡ Ok (t, m) → NodeRead file left e opened m t
 made file left e opened inner es head n m uid t is from h =
     let below = read_node file left in
     let A = attributes_of e in
-    let w = went (λ (content : Content). go_on (node_with head A content) (nodes_by below inner es n)) (content_in uid file.models head.kind head.id A) (t, m) h in
+    let w = went (λ (content : Content). go_on (node_with head A content) (nodes_by below inner es n)) (content_in uid file.models head.kind head.id head.form A) (t, m) h in
     let v = went (node_with head A w.0) (nodes_by below inner es n) (t, m) w.2 in
     let p = both_same (term_of head A w.0 v.0.0) t v.0.1 m v.2 in
     record {
@@ -226,7 +242,7 @@ made file left e opened inner es head n m uid t is from h =
       term = p.0;
     }
 
-opened_made : (file : File) (left : ℕ) (e : Element) (opened : List (List ℕ)) (head : Head) (n m : Numbers) (t : Term) (o : Option Element) → head_of (name_of e) (attributes_of e) (length (children_of e)) ≡ Some head →
+opened_made : (file : File) (left : ℕ) (e : Element) (opened : List (List ℕ)) (head : Head) (n m : Numbers) (t : Term) (o : Option Element) → head_of file.version (name_of e) (attributes_of e) (length (children_of e)) ≡ Some head →
     is_subtree head.kind ≡ true → tree_of head.id file.trees ≡ o → opened_by file (read_node file left) head e opened n o ≡ Ok (t, m) → NodeRead file left e opened m t
 opened_made file left e opened head n m t None is own there h = absurd (cc)
 opened_made file left e opened head n m t (Some tree) is own there h =
@@ -239,7 +255,7 @@ opened_made file left e opened head n m t (Some tree) is own there h =
     let p = not_refused (not one) (ChildCount (n.nodes + 1)) node (t, m) q.1 in
     made file left e opened inner (children_of tree) head (one_scope_more (one_node_more n)) m (n.nodes + 1) t is (inr (own, r.0, refl, (tree, there, refl))) p.1
 
-kind_made : (file : File) (left : ℕ) (e : Element) (opened : List (List ℕ)) (head : Head) (n m : Numbers) (t : Term) (b : Bool) → head_of (name_of e) (attributes_of e) (length (children_of e)) ≡ Some head →
+kind_made : (file : File) (left : ℕ) (e : Element) (opened : List (List ℕ)) (head : Head) (n m : Numbers) (t : Term) (b : Bool) → head_of file.version (name_of e) (attributes_of e) (length (children_of e)) ≡ Some head →
     is_subtree head.kind ≡ b → (if b then opened_by file (read_node file left) head e opened n (tree_of head.id file.trees) else plain_by file (read_node file left) head e opened n) ≡ Ok (t, m) → NodeRead file left e opened m t
 kind_made file left e opened head n m t true is own h = opened_made file left e opened head n m t (tree_of head.id file.trees) is own refl h
 kind_made file left e opened head n m t false is own h =
@@ -247,14 +263,14 @@ kind_made file left e opened head n m t false is own h =
     let r = not_refused (not (takes head.kind (length (children_of e)))) (ChildCount (n.nodes + 1)) node (t, m) h in
     made file left e opened opened (children_of e) head (one_node_more n) m (n.nodes + 1) t is (inl (own, refl, refl)) r.1
 
-known_made : (file : File) (left : ℕ) (e : Element) (opened : List (List ℕ)) (n m : Numbers) (t : Term) (o : Option Head) → head_of (name_of e) (attributes_of e) (length (children_of e)) ≡ o →
+known_made : (file : File) (left : ℕ) (e : Element) (opened : List (List ℕ)) (n m : Numbers) (t : Term) (o : Option Head) → head_of file.version (name_of e) (attributes_of e) (length (children_of e)) ≡ o →
     known file (read_node file left) e opened n o ≡ Ok (t, m) → NodeRead file left e opened m t
 known_made file left e opened n m t None is h = absurd (cc)
 known_made file left e opened n m t (Some head) is h = kind_made file left e opened head n m t (is_subtree head.kind) is refl h
 
 read_made : (file : File) (left : ℕ) (e : Element) (opened : List (List ℕ)) (n m : Numbers) (t : Term) → read_node file (suc left) e opened n ≡ Ok (t, m) → NodeRead file left e opened m t
 read_made file left e opened n m t h =
-    let o = head_of (name_of e) (attributes_of e) (length (children_of e)) in
+    let o = head_of file.version (name_of e) (attributes_of e) (length (children_of e)) in
     let r = not_refused (nat_le 4096 n.nodes) TooManyNodes (known file (read_node file left) e opened n o) (t, m) h in
     known_made file left e opened n m t o refl r.1
 
@@ -314,8 +330,8 @@ node_same : (file : File) (a b : ℕ) (e : Element) (o p : List (List ℕ)) (m l
 node_same file a b e o p m l t u same x y =
     let A = attributes_of e in
     let head : x.head ≡ y.head = some_same x.head y.head (sym x.is ∙ y.is) in
-    let moved = subst (λ (h : Head). content_in x.uid file.models h.kind h.id A ≡ Ok x.content) head x.said_so in
-    let content : x.content ≡ y.content = same_ok x.content y.content (sym (content_keeps x.uid y.uid file.models y.head.kind y.head.id A x.content moved) ∙ y.said_so) in
+    let moved = subst (λ (h : Head). content_in x.uid file.models h.kind h.id h.form A ≡ Ok x.content) head x.said_so in
+    let content : x.content ≡ y.content = same_ok x.content y.content (sym (content_keeps x.uid y.uid file.models y.head.kind y.head.id y.head.form A x.content moved) ∙ y.said_so) in
     let es : x.es ≡ y.es = from_same file e x.head y.head o p x.inner y.inner x.es y.es head x.from y.from in
     let below = subst (λ (z : List Element). nodes_by (read_node file a) x.inner z x.before ≡ Ok (x.ts, m)) es x.below in
     let ts : x.ts ≡ y.ts = all_same (read_node file a) (read_node file b) same y.es x.inner y.inner x.before y.before m l x.ts y.ts below y.below in
@@ -479,7 +495,5 @@ named_opens file (Some id) t h = main_opens file id (tree_of id file.trees) t h
 -- a tree that is read opens its trees alike
 pub reads_alike : (models : Models) (asked : Option (List ℕ)) (root : Element) (t : Tree) → reads models asked root ≡ Ok t → OpensAlike t
 reads_alike models asked root t h =
-    let trees = with_trees [] (children_of root) in
-    let read = go_on (trees_read models asked (attributes_of root)) trees in
-    let w = went (trees_read models asked (attributes_of root)) trees t (faultless (not_root root) (says_format (value_of (codes "BTCPP_format") (attributes_of root))) read t h) in
-    named_opens (record { trees = w.0; models = models }) (main_of asked (attributes_of root) w.0) t w.2
+    let f = file_read models asked root t h in
+    named_opens (record { trees = f.trees; models = models; version = f.version }) (main_of asked (attributes_of root) f.trees) t f.read

@@ -26,7 +26,9 @@ use Rattle.bt_manifest.specs.Attributes.{Attributes, value_of}
 use Rattle.bt_manifest.specs.Steps.{go_on}
 use Rattle.bt_build.specs.declared.content.Content.{Content}
 use Rattle.bt_build.specs.declared.fault.BuildFault.{BuildFault}
-use Rattle.bt_build.specs.Content.{Rules, AnyPort, AnyKey, BuiltIn, all_known, autoremap_in, code_text, content_in, guard_in, guards_in, is_port, known_in, name_fits, or_bad, or_bad_script, ports_in, range_among, range_of, rest_in, rules_of, said_or_false, script_of, scripts_in, with_absent, with_attribute, with_ranged, with_rules, with_default, with_written}
+use Rattle.bt_build.specs.declared.fault.BuildFault.TheVariants.{UnknownPort}
+use Rattle.bt_build.specs.declared.version.Form.TheVariants.{Plain}
+use Rattle.bt_build.specs.Content.{Rules, AnyPort, AnyKey, BuiltIn, all_known, autoremap_in, code_text, content_in, guard_in, guards_in, is_port, name_fits, older_autoremap, or_bad, or_bad_script, ports_in, range_among, range_of, refused_if, rest_in, rules_of, said_or_false, script_of, scripts_in, with_absent, with_attribute, with_ranged, with_rules, with_default, with_written}
 use Rattle.bt_build.specs.Reads.{name_in, or_else}
 use Rattle.bt_build.proofs.PortTexts.{neither, not_true}
 use Rattle.bt_build.proofs.ScriptAnswers.{script_in-script}
@@ -270,13 +272,16 @@ front_value : (x : Term-F Term) (n : ℕ) (name : List ℕ) (o : Option (List �
 front_value x n name o fits p d row h =
     value_by x name o None None None h (ports_none name x.ports p (named_ports x n fits)) (code_none name x.code d) (guard_value x name ∙ ap row_text row) ∙ alone o
 
-autoremap_by : (uid : ℕ) (kind : Kind) (A : Attributes) (b : Bool) → autoremap_fits kind b ≡ true → value_of (codes "_autoremap") A ≡ (if b then Some (codes "true") else None) → autoremap_in uid kind A ≡ Ok b
-autoremap_by uid SubTree A true fits h = ap (said_or_false uid) h
-autoremap_by uid SubTree A false fits h = ap (said_or_false uid) h
+autoremap_by : (uid : ℕ) (kind : Kind) (A : Attributes) (b : Bool) → autoremap_fits kind b ≡ true → value_of (codes "_autoremap") A ≡ (if b then Some (codes "true") else None) → autoremap_in uid kind Plain A ≡ Ok b
+autoremap_by uid SubTree A b fits h = ap (λ (o : Option (List ℕ)). go_on (λ now. go_on (λ older. Ok (now || older)) (older_autoremap uid Plain A)) (said_or_false uid o)) h ∙ truth_said b
+  where
+    truth_said : (b : Bool) → go_on (λ (now : Bool). go_on (λ (older : Bool). Ok (now || older)) (older_autoremap uid Plain A)) (said_or_false uid (if b then Some (codes "true") else None)) ≡ Ok b
+    truth_said true = refl
+    truth_said false = refl
 autoremap_by uid kind A true fits h = absurd (cc)
 autoremap_by uid kind A false fits h = refl
 
-autoremap_reads : (uid : ℕ) (x : Term-F Term) (n : ℕ) → NodeFits (counted x n) → autoremap_in uid x.kind (node_attributes x) ≡ Ok x.autoremap
+autoremap_reads : (uid : ℕ) (x : Term-F Term) (n : ℕ) → NodeFits (counted x n) → autoremap_in uid x.kind Plain (node_attributes x) ≡ Ok x.autoremap
 autoremap_reads uid x n fits =
     autoremap_by uid x.kind (node_attributes x) x.autoremap fits.autoremap
     (front_value x n (codes "_autoremap") (if x.autoremap then Some (codes "true") else None) fits refl refl refl
@@ -583,19 +588,20 @@ scripts_read uid x n fits =
     (script_reads uid x.code (code_fits (has_code x.kind) x.code fits.code))
     ∙ ap (λ (r : Result Guards BuildFault). go_on (λ guards. Ok (record { ports = x.ports; code = x.code; guards = guards; autoremap = x.autoremap })) r) (guards_read uid x n fits)
 
-rest_reads : (uid : ℕ) (x : Term-F Term) (n : ℕ) → NodeFits (counted x n) → rest_in uid x.kind (node_attributes x) x.ports ≡ Ok (content_of x)
+rest_reads : (uid : ℕ) (x : Term-F Term) (n : ℕ) → NodeFits (counted x n) → rest_in uid x.kind Plain (node_attributes x) x.ports ≡ Ok (content_of x)
 rest_reads uid x n fits =
     let A = node_attributes x in
-    ap (λ (r : Result (Option (List ℕ)) BuildFault). go_on (λ text. go_on (λ autoremap. scripts_in uid x.ports text autoremap A) (autoremap_in uid x.kind A)) r) (code_reads uid x n fits)
+    ap (λ (r : Result (Option (List ℕ)) BuildFault). go_on (λ text. go_on (λ autoremap. scripts_in uid x.ports text autoremap A) (autoremap_in uid x.kind Plain A)) r) (code_reads uid x n fits)
     ∙ ap (λ (r : Result Bool BuildFault). go_on (λ autoremap. scripts_in uid x.ports (text_of x.code) autoremap A) r) (autoremap_reads uid x n fits)
     ∙ scripts_read uid x n fits
 
 -- the attributes of a node that fits say what it has
-pub content_reads : (uid : ℕ) (x : Term-F Term) (n : ℕ) → NodeFits (counted x n) → content_in uid [] x.kind x.id (node_attributes x) ≡ Ok (content_of x)
+pub content_reads : (uid : ℕ) (x : Term-F Term) (n : ℕ) → NodeFits (counted x n) → content_in uid [] x.kind x.id Plain (node_attributes x) ≡ Ok (content_of x)
 content_reads uid x n fits =
     let A = node_attributes x in
     let rules = rules_of [] x.kind x.id in
     let r = rules_read_by x x.kind fits.ports (named_ports x n fits) (sort_of x.kind) in
-    ap (λ (b : Bool). known_in uid b x.kind rules A) (all_are_known rules x n fits r.read)
-    ∙ ap (λ (q : Result (List Port) BuildFault). go_on (rest_in uid x.kind A) q) (ports_read uid x n fits r)
+    let rest = λ (q : Result (List Port) BuildFault). go_on (rest_in uid x.kind Plain A) q in
+    ap (λ (b : Bool). refused_if (not b) (UnknownPort uid) (rest (ports_in uid (has_code x.kind) rules A))) (all_are_known rules x n fits r.read)
+    ∙ ap rest (ports_read uid x n fits r)
     ∙ rest_reads uid x n fits

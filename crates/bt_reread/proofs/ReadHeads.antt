@@ -11,25 +11,23 @@ use Rattle.bt_model.specs.Names.{built_in_names, format_names, is_among, is_rese
 use Rattle.bt_model.specs.PrintedTree.{element_name, is_compact}
 use Rattle.bt_model.specs.Trees.{IdFits}
 use Rattle.bt_manifest.specs.Attributes.{Attributes, value_of}
-use Rattle.bt_build.specs.declared.head.Head.{Head}
-use Rattle.bt_build.specs.Heads.{compact_by, compact_head, explicit_by, explicit_head, head_of, id_or_empty, is_explicit, is_kept, leaf_head}
+use Rattle.bt_build.specs.declared.version.Form.TheVariants.{Plain}
+use Rattle.bt_build.specs.declared.version.Version.TheVariants.{Four}
+use Rattle.bt_build.specs.Heads.{compact_by, compact_head, explicit_by, explicit_head, head_by, head_of, is_explicit, is_kept, leaf_head, plain_head}
+use Rattle.bt_build.specs.Versions.{id_read}
 use Rattle.bt_build.proofs.PortTexts.{neither, not_true}
 use Rattle.bt_reread.proofs.Marks.{named_by}
-
--- a node of this kind and ID
-abbrev pub head_by : Kind → List ℕ → Head
-head_by kind id = record { kind = kind; id = id }
 
 -- a name that is neither a SubTree's nor that of an explicit element
 abbrev is_plain : List ℕ → Bool
 is_plain name = not (bytes_eq name (codes "SubTree")) && not (is_explicit name)
 
-plain_head : (name : List ℕ) (A : Attributes) (m : ℕ) → is_plain name ≡ true → head_of name A m ≡ compact_head (nat_eq m 0) name
-plain_head name A m h =
+plain_named : (name : List ℕ) (A : Attributes) (m : ℕ) → is_plain name ≡ true → head_of Four name A m ≡ compact_head (nat_eq m 0) name
+plain_named name A m h =
     let t = both (not (bytes_eq name (codes "SubTree"))) (not (is_explicit name)) h in
-    ap (λ (b : Bool). if b then Some (head_by SubTree (id_or_empty A)) else if is_explicit name then option_and_then (explicit_head name (nat_eq m 0)) (value_of (codes "ID") A) else compact_head (nat_eq m 0) name)
-    (not_true (bytes_eq name (codes "SubTree")) t.0)
-    ∙ ap (λ (b : Bool). if b then option_and_then (explicit_head name (nat_eq m 0)) (value_of (codes "ID") A) else compact_head (nat_eq m 0) name) (not_true (is_explicit name) t.1)
+    let explicit = option_and_then (λ (id : List ℕ). explicit_head name (nat_eq m 0) (id_read Four id)) (value_of (codes "ID") A) in
+    ap (λ (b : Bool). head_by (if b then Some Plain else None) Four name A (nat_eq m 0)) (not_true (bytes_eq name (codes "SubTree")) t.0)
+    ∙ ap (λ (b : Bool). if b then explicit else compact_head (nat_eq m 0) name) (not_true (is_explicit name) t.1)
 
 four : (a b c d : Bool) → a ≡ false → b ≡ false → c ≡ false → d ≡ false → (a || b || c || d) ≡ false
 four a b c d p q r s = rw (p, q, r, s) refl
@@ -65,22 +63,22 @@ free_name id h =
 
 -- ---- Leaves
 
-compact_leaf : (id : List ℕ) (A : Attributes) (m : ℕ) → kind_named id ≡ None → is_reserved id ≡ false → nat_eq m 0 ≡ true → head_of id A m ≡ Some (head_by Leaf id)
+compact_leaf : (id : List ℕ) (A : Attributes) (m : ℕ) → kind_named id ≡ None → is_reserved id ≡ false → nat_eq m 0 ≡ true → head_of Four id A m ≡ Some (plain_head Leaf id)
 compact_leaf id A m own free none =
     let f = free_name id free in
-    plain_head id A m f.plain
+    plain_named id A m f.plain
     ∙ ap (compact_by (nat_eq m 0) id) own
     ∙ ap (λ (b : Bool). if not b && nat_eq m 0 then leaf_head id else None) f.kept
     ∙ ap (λ (b : Bool). if b then leaf_head id else None) none
 
-explicit_leaf : (id : List ℕ) (A : Attributes) (m : ℕ) → kind_named id ≡ None → value_of (codes "ID") A ≡ Some id → nat_eq m 0 ≡ true → head_of (codes "Action") A m ≡ Some (head_by Leaf id)
+explicit_leaf : (id : List ℕ) (A : Attributes) (m : ℕ) → kind_named id ≡ None → value_of (codes "ID") A ≡ Some id → nat_eq m 0 ≡ true → head_of Four (codes "Action") A m ≡ Some (plain_head Leaf id)
 explicit_leaf id A m own said none =
     ap (λ (o : Option (List ℕ)). option_and_then (explicit_head (codes "Action") (nat_eq m 0)) o) said
     ∙ ap (explicit_by (codes "Action") (nat_eq m 0) id) own
     ∙ ap (λ (b : Bool). if b then leaf_head id else None) none
 
 leaf_by : (id : List ℕ) (A : Attributes) (m : ℕ) (b : Bool) → is_compact Leaf id ≡ b → kind_named id ≡ None → (b ≡ false → value_of (codes "ID") A ≡ Some id) → nat_eq m 0 ≡ true →
-    head_of (if b then id else codes "Action") A m ≡ Some (head_by Leaf id)
+    head_of Four (if b then id else codes "Action") A m ≡ Some (plain_head Leaf id)
 leaf_by id A m true e own said none = compact_leaf id A m own (not_true (is_reserved id) (both (is_identifier id) (not (is_reserved id)) e).1) none
 leaf_by id A m false e own said none = explicit_leaf id A m own (said refl) none
 
@@ -90,12 +88,12 @@ built_plain : (id : List ℕ) (kind : Kind) → kind_named id ≡ Some kind → 
 unfolding named_kinds
 built_plain id kind h = named_by is_plain named_kinds id kind h refl
 
-built_head : (kind : Kind) (id : List ℕ) (A : Attributes) (m : ℕ) → kind_named id ≡ Some kind → head_of id A m ≡ Some (head_by kind id)
-built_head kind id A m named = plain_head id A m (built_plain id kind named) ∙ ap (compact_by (nat_eq m 0) id) named
+built_head : (kind : Kind) (id : List ℕ) (A : Attributes) (m : ℕ) → kind_named id ≡ Some kind → head_of Four id A m ≡ Some (plain_head kind id)
+built_head kind id A m named = plain_named id A m (built_plain id kind named) ∙ ap (compact_by (nat_eq m 0) id) named
 
 -- the node that the element is, by its name, its attributes and the number of its children
 pub head_reads : (kind : Kind) (id : List ℕ) (A : Attributes) (m : ℕ) → IdFits kind id → (is_compact kind id ≡ false → value_of (codes "ID") A ≡ Some id) → (kind ≡ Leaf → nat_eq m 0 ≡ true) →
-    head_of (element_name kind id) A m ≡ Some (head_by kind id)
-head_reads SubTree id A m fits said none = ap (λ (o : Option (List ℕ)). Some (head_by SubTree (unwrap_or o []))) (said refl)
+    head_of Four (element_name kind id) A m ≡ Some (plain_head kind id)
+head_reads SubTree id A m fits said none = ap (λ (o : Option (List ℕ)). Some (plain_head SubTree (unwrap_or o []))) (said refl)
 head_reads Leaf id A m fits said none = leaf_by id A m (is_compact Leaf id) refl fits said (none refl)
 head_reads kind id A m fits said none = built_head kind id A m fits

@@ -23,8 +23,9 @@ use Rattle.bt_build.specs.declared.content.Content.{Content}
 use Rattle.bt_build.specs.declared.fault.BuildFault.{BuildFault}
 use Rattle.bt_build.specs.declared.head.Head.{Head}
 use Rattle.bt_build.specs.declared.tree.Numbers.{Numbers}
+use Rattle.bt_build.specs.declared.version.Version.TheVariants.{Four}
 use Rattle.bt_build.specs.Content.{content_in}
-use Rattle.bt_build.specs.Heads.{head_of}
+use Rattle.bt_build.specs.Heads.{head_of, plain_head}
 use Rattle.bt_build.specs.Reads.{File, Reader, Trees, is_subtree, node_by, node_of, node_with, nodes_by, one_node_more, one_scope_more, opened_by, plain_by, read_node, term_of, tree_of, with_first}
 use Rattle.bt_build.proofs.PortTexts.{not_true}
 use Rattle.bt_build.proofs.Walk.{node_opened, node_plain, read_some}
@@ -32,7 +33,7 @@ use Rattle.bt_reread.specs.Openings.{fresh_by, fresh_step, opens_fresh}
 use Rattle.bt_reread.specs.Printed.{unplaced, unplaced_step}
 use Rattle.bt_reread.specs.TreeElements.{Said, Subtree, element, own_tree, said, said_node}
 use Rattle.bt_reread.proofs.ReadContent.{content_of, content_reads, counted, id_reads, name_reads}
-use Rattle.bt_reread.proofs.ReadHeads.{head_by, head_reads}
+use Rattle.bt_reread.proofs.ReadHeads.{head_reads}
 
 -- ---- The parts of an element, but for its place
 
@@ -75,9 +76,9 @@ behind n t = record { nodes = n.nodes + node_count t; scopes = n.scopes + scope_
 abbrev behind_all : Numbers → List Term → Numbers
 behind_all n ts = record { nodes = n.nodes + sum (map node_count ts); scopes = n.scopes + sum (map scope_count ts) }
 
--- the file of these trees, which has no models
+-- the file of these trees, which has no models and is of version 4
 abbrev pub plain_file : Trees → File
-plain_file trees = record { trees = trees; models = [] }
+plain_file trees = record { trees = trees; models = []; version = Four }
 
 pub record Given (trees : Trees) (left : ℕ) (opened : List (List ℕ)) (n : Numbers) (t : Term) : Type 0 where
   pub depth : depth_of t ≤ left
@@ -160,7 +161,7 @@ nodes_read trees left opened n (t ∷ ts) (e ∷ es) g h =
 -- ---- A node
 
 node_read : (below : Reader) (head : Head) (A : Attributes) (opened : List (List ℕ)) (es : List Element) (n m : Numbers) (uid : ℕ) (content : Content) (ts : List Term) →
-    content_in uid [] head.kind head.id A ≡ Ok content → nodes_by below opened es n ≡ Ok (ts, m) → node_of [] below head A opened es n uid ≡ Ok (term_of head A content ts, m)
+    content_in uid [] head.kind head.id head.form A ≡ Ok content → nodes_by below opened es n ≡ Ok (ts, m) → node_of [] below head A opened es n uid ≡ Ok (term_of head A content ts, m)
 node_read below head A opened es n m uid content ts h k =
     ap (λ (r : Result Content BuildFault). go_on (λ content. go_on (node_with head A content) (nodes_by below opened es n)) r) h
     ∙ ap (λ (r : Result (List Term × Numbers) BuildFault). go_on (node_with head A content) r) k
@@ -169,7 +170,7 @@ leaf_has_none : (kind : Kind) (m : ℕ) → takes kind m ≡ true → kind ≡ L
 leaf_has_none kind m h leaf = subst (λ (k : Kind). takes k m ≡ true) leaf h
 
 -- the term that is made of what is read
-term_again : (x : Term-F Term) (n : ℕ) → NodeFits (counted x n) → term_of (head_by x.kind x.id) (node_attributes x) (content_of x) x.children ≡ roll-Term x
+term_again : (x : Term-F Term) (n : ℕ) → NodeFits (counted x n) → term_of (plain_head x.kind x.id) (node_attributes x) (content_of x) x.children ≡ roll-Term x
 term_again x n fits =
     ap (λ (name : List ℕ). roll-Term (record { kind = x.kind; id = x.id; name = name; ports = x.ports; code = x.code; guards = x.guards; autoremap = x.autoremap; children = x.children })) (name_reads x n fits)
 
@@ -248,10 +249,10 @@ elements_count ts = length-map (map said ts) (λ (c : Said). c.node) ∙ length-
 
 -- what all of a node is read as
 node_made : (trees : Trees) (left : ℕ) (opened : List (List ℕ)) (n : Numbers) (e : Element) (x : Term-F Term) (es : List Element) → NodeGiven trees left opened n e x → map unplaced es ≡ map unplaced (elements_of x.children) →
-    node_of [] (read_node (plain_file trees) left) (head_by x.kind x.id) (attributes_of e) (below_opened x.kind x.id opened) es (below_numbers x.kind n) (n.nodes + 1) ≡ Ok (roll-Term x, behind n (roll-Term x))
+    node_of [] (read_node (plain_file trees) left) (plain_head x.kind x.id) (attributes_of e) (below_opened x.kind x.id opened) es (below_numbers x.kind n) (n.nodes + 1) ≡ Ok (roll-Term x, behind n (roll-Term x))
 node_made trees left opened n e x es g h =
     let below = read_node (plain_file trees) left in
-    let head = head_by x.kind x.id in
+    let head = plain_head x.kind x.id in
     let m = below_numbers x.kind n in
     ap (λ (A : Attributes). node_of [] below head A (below_opened x.kind x.id opened) es m (n.nodes + 1)) g.parts.attributes
     ∙ node_read below head (node_attributes x) (below_opened x.kind x.id opened) es m (behind_all m x.children) (n.nodes + 1) (content_of x) x.children
@@ -268,10 +269,10 @@ some_scope n x subtree h =
     omega (arith, h, one, fold-roll-Term ℕ (λ node. own_scopes node.kind + sum node.children) x)
 
 head_is : (trees : Trees) (left : ℕ) (opened : List (List ℕ)) (n : Numbers) (e : Element) (x : Term-F Term) → NodeGiven trees left opened n e x →
-    head_of (name_of e) (attributes_of e) (length (children_of e)) ≡ Some (head_by x.kind x.id)
+    head_of Four (name_of e) (attributes_of e) (length (children_of e)) ≡ Some (plain_head x.kind x.id)
 head_is trees left opened n e x g =
-    ap (λ (name : List ℕ). head_of name (attributes_of e) (length (children_of e))) g.parts.name
-    ∙ ap (λ (A : Attributes). head_of (element_name x.kind x.id) A (length (children_of e))) g.parts.attributes
+    ap (λ (name : List ℕ). head_of Four name (attributes_of e) (length (children_of e))) g.parts.name
+    ∙ ap (λ (A : Attributes). head_of Four (element_name x.kind x.id) A (length (children_of e))) g.parts.attributes
     ∙ head_reads x.kind x.id (node_attributes x) (length (children_of e)) g.fits.id (id_reads x (length x.children) g.fits)
     (λ leaf. ap (λ (m : ℕ). nat_eq m 0) (no_children leaf) ∙ leaf_has_none x.kind (length x.children) g.fits.children leaf)
   where
@@ -281,11 +282,11 @@ head_is trees left opened n e x g =
         ∙ ap (λ (es : List Element). length es) (plain_below x.kind (elements_of x.children) (ap is_subtree leaf)) ∙ elements_count x.children
 
 plain_reads : (trees : Trees) (left : ℕ) (opened : List (List ℕ)) (n : Numbers) (e : Element) (x : Term-F Term) → NodeGiven trees left opened n e x → is_subtree x.kind ≡ false →
-    node_by (plain_file trees) (read_node (plain_file trees) left) (head_by x.kind x.id) e opened n ≡ Ok (roll-Term x, behind n (roll-Term x))
+    node_by (plain_file trees) (read_node (plain_file trees) left) (plain_head x.kind x.id) e opened n ≡ Ok (roll-Term x, behind n (roll-Term x))
 plain_reads trees left opened n e x g plain =
     let file = plain_file trees in
     let below = read_node file left in
-    let head = head_by x.kind x.id in
+    let head = plain_head x.kind x.id in
     let es = children_of e in
     let same : map unplaced es ≡ map unplaced (elements_of x.children) = g.parts.children ∙ ap (map unplaced) (plain_below x.kind (elements_of x.children) plain) in
     let count : length es ≡ length x.children = length_same es (elements_of x.children) same ∙ elements_count x.children in
@@ -316,11 +317,11 @@ subtree_given trees left opened n e x g subtree =
     }
 
 subtree_reads : (trees : Trees) (left : ℕ) (opened : List (List ℕ)) (n : Numbers) (e : Element) (x : Term-F Term) → NodeGiven trees left opened n e x → x.kind ≡ SubTree →
-    node_by (plain_file trees) (read_node (plain_file trees) left) (head_by x.kind x.id) e opened n ≡ Ok (roll-Term x, behind n (roll-Term x))
+    node_by (plain_file trees) (read_node (plain_file trees) left) (plain_head x.kind x.id) e opened n ≡ Ok (roll-Term x, behind n (roll-Term x))
 subtree_reads trees left opened n e x g subtree =
     let file = plain_file trees in
     let below = read_node file left in
-    let head = head_by x.kind x.id in
+    let head = plain_head x.kind x.id in
     let s = subtree_given trees left opened n e x g subtree in
     let tree = s.known.0 in
     let roots = children_of tree in
@@ -334,7 +335,7 @@ subtree_reads trees left opened n e x g subtree =
     ∙ node_made trees left opened n e x roots g s.known.2
 
 node_reads : (trees : Trees) (left : ℕ) (opened : List (List ℕ)) (n : Numbers) (e : Element) (x : Term-F Term) → NodeGiven trees left opened n e x → (x.kind ≡ SubTree) ⊎ (is_subtree x.kind ≡ false) →
-    node_by (plain_file trees) (read_node (plain_file trees) left) (head_by x.kind x.id) e opened n ≡ Ok (roll-Term x, behind n (roll-Term x))
+    node_by (plain_file trees) (read_node (plain_file trees) left) (plain_head x.kind x.id) e opened n ≡ Ok (roll-Term x, behind n (roll-Term x))
 node_reads trees left opened n e x g (inl subtree) = subtree_reads trees left opened n e x g subtree
 node_reads trees left opened n e x g (inr plain) = plain_reads trees left opened n e x g plain
 
@@ -343,8 +344,8 @@ level_reads : (trees : Trees) (left : ℕ) (opened : List (List ℕ)) (n : Numbe
 level_reads trees left opened n e x g =
     let file = plain_file trees in
     let level : suc left - 1 ≡ left = omega arith in
-    read_some file (suc left) e opened n (head_by x.kind x.id) (omega arith) (few n x g.given.nodes) (sym (head_is trees left opened n e x g))
-    ∙ ap (λ (k : ℕ). node_by file (read_node file k) (head_by x.kind x.id) e opened n) level
+    read_some file (suc left) e opened n (plain_head x.kind x.id) (omega arith) (few n x g.given.nodes) (sym (head_is trees left opened n e x g))
+    ∙ ap (λ (k : ℕ). node_by file (read_node file k) (plain_head x.kind x.id) e opened n) level
     ∙ node_reads trees left opened n e x g (sort_by x.kind)
 
 whole_reads : (trees : Trees) (y : Term-F ((t : Term) × ReadsBack trees t)) → ReadsBack trees (roll-Term (parts y))

@@ -1,0 +1,64 @@
+ghost use Rattle.std.specs.Prelude.{◌≡◌, IsUtf8};
+ghost use Rattle.std.specs.Option.{option_copied};
+ghost use Rattle.bt_build.specs.Versions.{id_read, subtree_form, version_in};
+
+use bt_script::Name;
+
+/// The version of a tree file.
+#[derive(Clone, Copy, Debug, PartialEq, Eq)]
+pub enum Version {
+    Three,
+    Four,
+}
+
+/// How the element of a node is written, as far as its attributes go by that.
+#[derive(Clone, Copy, Debug, PartialEq, Eq)]
+pub enum Form {
+    /// As in version 4, and any node but a SubTree in version 3.
+    Plain,
+    /// `SubTree` in version 3: it may have an ID and a name alone.
+    OldSubTree,
+    /// `SubTreePlus` in version 3: `__autoremap` counts beside `_autoremap`.
+    SubTreePlus,
+}
+
+/// The version of a file of this format, if it is read.
+pub fn version_in(format: Option<&Name>) -> Option<Version>
+    ensures { result ≡ version_in (option_copied format.entry) }
+{
+    let Some(format) = format else {
+        return Some(Version::Three);
+    };
+    if format.list() == b"4".as_slice() {
+        Some(Version::Four)
+    } else if format.list() == b"3".as_slice() {
+        Some(Version::Three)
+    } else {
+        None
+    }
+}
+
+/// The form of an element of this name, if it is a SubTree node's.
+pub fn subtree_form(version: Version, name: &[u8]) -> Option<Form>
+    ensures { result ≡ subtree_form version name.now }
+{
+    let is_subtree = name == b"SubTree".as_slice();
+    match version {
+        Version::Four if is_subtree => Some(Form::Plain),
+        Version::Three if is_subtree => Some(Form::OldSubTree),
+        Version::Three if name == b"SubTreePlus".as_slice() => Some(Form::SubTreePlus),
+        _ => None,
+    }
+}
+
+/// What the ID is read as: version 3 has another name for SequenceWithMemory.
+pub fn id_read<'a>(version: Version, id: &'a [u8]) -> &'a [u8]
+    requires { IsUtf8 id.now }
+    ensures is { result.now ≡ id_read version id.now }
+    ensures utf8 { IsUtf8 result.now }
+{
+    match version {
+        Version::Three if id == b"SequenceStar".as_slice() => b"SequenceWithMemory",
+        _ => id,
+    }
+}
