@@ -70,7 +70,16 @@
       result.className = `result ${exit === 0 ? "done" : "bad"}`;
     }
 
+    /** Says where the output was cut off, if it was. */
+    showCut() {
+      const cut = this.whole?.cut;
+      byId("cut").hidden = cut === undefined;
+      if (cut === undefined) return;
+      byId("cut").textContent = `The trace was cut off in line ${Words.number(this.whole.lines + 1)}, behind "${cut}". The run is shown up to it.`;
+    }
+
     showWork() {
+      this.showCut();
       byId("message").hidden = true;
       byId("start").hidden = true;
       byId("work").hidden = false;
@@ -352,7 +361,7 @@
     page.chosen = {};
     byId("chosen").textContent = "";
     byId("show-chosen").disabled = true;
-    byId("work").hidden = byId("message").hidden = true;
+    byId("work").hidden = byId("message").hidden = byId("cut").hidden = true;
     byId("start").hidden = false;
     byId("result").hidden = true;
   }

@@ -376,7 +376,7 @@ const Timeline = (() => {
       const node = run.tree.node(uid);
       const status = Words.STATUSES[run.statusAfter(count, runner, uid)];
       return html("button", {
-        class: `label node${uid === this.selected && runner === this.runner ? " chosen" : ""}`, type: "button", tabindex: -1,
+        class: `label of-node${uid === this.selected && runner === this.runner ? " chosen" : ""}`, type: "button", tabindex: -1,
         title: `${node.name}, node ${uid}`, onclick: () => this.actions.select(uid, runner),
       },
         Signs.badgeImage(status), html("span", { class: "label-name" }, node.name), html("span", { class: "label-value" }, `${uid}`));

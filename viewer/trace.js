@@ -23,7 +23,7 @@ const Trace = (() => {
 
   /** The number that this word writes in decimal, or NaN. */
   function natural(word) {
-    if (word === undefined || word === "" || word.length > 15) return NaN;
+    if (word === undefined || word === "" || word.length > 15 || (word[0] === "0" && word !== "0")) return NaN;
     let value = 0;
     for (let at = 0; at < word.length; at++) {
       const digit = word.charCodeAt(at) - 48;
@@ -213,14 +213,35 @@ const Trace = (() => {
     readAll() {
       const { run } = this;
       const last = run.whole ? run.lines : run.lines - 1;
-      for (; this.line < last; this.line++) {
-        const words = run.lineText(this.line).split(" ");
-        const read = READS[words[0]];
-        if (!read) this.refuse("No line of a trace begins so.");
-        if (run.events.length === 0 && !HEADERS.includes(words[0])) this.refuse("The line stands before the header of an event.");
-        read.call(this, words);
-      }
+      for (; this.line < last; this.line++) if (!this.readCommon()) this.readLine();
       if (!run.whole) this.dropPart(last);
+    }
+
+    /**
+     * Reads a line of a node or a call, of which most of a trace consists, without taking it apart. Answers false where
+     * the line is none, or is one with a mistake, which readLine then names.
+     */
+    readCommon() {
+      const { text, starts } = this.run;
+      const start = starts[this.line];
+      const ends = text.startsWith("node ", start) ? NODE_ENDS : text.startsWith("call ", start) ? CALL_ENDS : null;
+      if (!ends || this.run.events.length === 0) return false;
+      let at = start + 5;
+      let uid = 0;
+      for (; text.charCodeAt(at) >= 48 && text.charCodeAt(at) <= 57 && uid <= this.size; at++) uid = uid * 10 + text.charCodeAt(at) - 48;
+      const end = ends.get(text.slice(at, starts[this.line + 1] - 1));
+      if (!end || uid < 1 || uid > this.size || text[start + 5] === "0") return false;
+      if (end.kind === NODE) this.changeNode(uid, end.old, end.answer);
+      else this.callLeaf(uid, end.kind, end.answer);
+      return true;
+    }
+
+    readLine() {
+      const words = this.run.lineText(this.line).split(" ");
+      const read = READS[words[0]];
+      if (!read) this.refuse("No line of a trace begins so.");
+      if (this.run.events.length === 0 && !HEADERS.includes(words[0])) this.refuse("The line stands before the header of an event.");
+      read.call(this, words);
     }
 
     /** The last line lacks its end, so the output was cut off in it. It is left out. */
@@ -306,30 +327,35 @@ const Trace = (() => {
 
     readNode(words) {
       this.expectWords(words, 4);
-      const uid = this.uidOf(words[1]);
-      const old = this.statusOf(words[2]);
-      const status = this.statusOf(words[3]);
+      this.changeNode(this.uidOf(words[1]), this.statusOf(words[2]), this.statusOf(words[3]));
+    }
+
+    changeNode(uid, old, status) {
       if (this.subject === 0) this.refuse("A change of a fact changes no node.");
       const place = this.run.place(this.subject, uid);
       const kept = this.statuses[place];
-      if (kept !== old) this.refuse(`By the lines before it, node ${uid} is ${STATUSES[kept]} here, not ${words[2]}.`);
+      if (kept !== old) this.refuse(`By the lines before it, node ${uid} is ${STATUSES[kept]} here, not ${STATUSES[old]}.`);
       if (old === status) this.refuse("The line tells no change.");
+      if (this.run.fault) this.refuse("A node changes after the fault.");
       this.statuses[place] = status;
       this.keep(NODE, this.subject, uid, old, status);
     }
 
     readCall(words) {
       const uid = this.uidOf(words[1]);
+      const kind = CALLS.get(words[2]);
+      if (kind === undefined) this.refuse(`${words[2]} is no call.`);
+      this.expectWords(words, kind === HALTED ? 3 : 4);
+      this.callLeaf(uid, kind, kind === HALTED ? IDLE : this.answerOf(words[3]));
+    }
+
+    callLeaf(uid, kind, answer) {
       if (this.subject === 0) this.refuse("A change of a fact calls no leaf.");
-      if (this.run.tree.node(uid).family !== "leaf") this.refuse(`Node ${uid} is no leaf that can be called.`);
+      if (this.run.tree.nodes[uid].family !== "leaf") this.refuse(`Node ${uid} is no leaf that can be called.`);
       const runs = this.statuses[this.run.place(this.subject, uid)] === RUNNING;
-      if (words[2] === "start" && runs) this.refuse(`By the lines before it, leaf ${uid} is RUNNING and is not started here.`);
-      if (words[2] !== "start" && !runs) this.refuse(`By the lines before it, leaf ${uid} is not RUNNING here.`);
-      this.expectWords(words, words[2] === "halted" ? 3 : 4);
-      if (words[2] === "halted") this.keep(HALTED, this.subject, uid, 0, 0);
-      else if (words[2] === "start") this.keep(START, this.subject, uid, 0, this.answerOf(words[3]));
-      else if (words[2] === "running") this.keep(RAN, this.subject, uid, 0, this.answerOf(words[3]));
-      else this.refuse(`${words[2]} is no call.`);
+      if (kind === START && runs) this.refuse(`By the lines before it, leaf ${uid} is RUNNING and is not started here.`);
+      if (kind !== START && !runs) this.refuse(`By the lines before it, leaf ${uid} is not RUNNING here.`);
+      this.keep(kind, this.subject, uid, IDLE, answer);
     }
 
     readRoot(words) {
@@ -388,6 +414,18 @@ const Trace = (() => {
   }
 
   const HEADERS = ["tick", "halt", "set", "finish"];
+  const CALLS = new Map([["start", START], ["running", RAN], ["halted", HALTED]]);
+
+  /** What may stand behind the uid in the line of a node, and what it says. */
+  const NODE_ENDS = new Map(STATUSES.flatMap((old, from) =>
+    STATUSES.map((status, to) => [` ${old} ${status}`, { kind: NODE, old: from, answer: to }])));
+  /** What may stand behind the uid in the line of a call, and what it says. */
+  const CALL_ENDS = new Map([[" halted", { kind: HALTED, answer: IDLE }]]);
+  for (const word of ["start", "running"]) {
+    for (let answer = 1; answer <= SKIPPED; answer++) {
+      CALL_ENDS.set(` ${word} ${ANSWERS[answer]}`, { kind: CALLS.get(word), answer });
+    }
+  }
   const READS = {
     tick(words) { this.readStep(TICK, words); },
     halt(words) { this.readStep(HALT, words); },
@@ -404,9 +442,10 @@ const Trace = (() => {
 
   /** Each node's place where the line is of one of these kinds, and -1 elsewhere. */
   function placesOf(run, kinds) {
-    const places = new Int32Array(run.lines).fill(-1);
+    const isOne = KINDS.map((_, kind) => kinds.includes(kind));
+    const places = new Int32Array(run.lines);
     for (let line = 0; line < run.lines; line++) {
-      if (kinds.includes(run.kind[line])) places[line] = run.place(run.runner[line], run.uid[line]);
+      places[line] = isOne[run.kind[line]] ? run.place(run.runner[line], run.uid[line]) : -1;
     }
     return places;
   }
