@@ -17,9 +17,13 @@ const Drawing = (() => {
   const LARGEST = 2.5;
   /** Below this scale texts can't be read, and are not drawn. */
   const READABLE = 0.36;
-  /** At most so many signs stand in a strip. */
-  const STRIP_SIGNS = 7;
+  /** A strip is at most so much wider than its box. */
+  const STRIP_BEYOND = 2;
   const MARGIN = 40;
+  /** What is revealed stands at least so far from the sides of the window. */
+  const REVEAL_ROOM = 24;
+  /** The whole tree is shown at once where this is not below the scale. */
+  const WHOLE = 0.55;
   /** The legend takes so much at the bottom. */
   const LEGEND = 26;
   /** The edges to a node's children turn at this distance from their boxes. */
@@ -65,8 +69,8 @@ const Drawing = (() => {
       new ResizeObserver(() => this.resized()).observe(host);
     }
 
-    /** Shows the tree of a run, folded where it is large, as a whole or from its root on. */
-    open(run, marked) {
+    /** Shows the tree of a run, folded where it is large, with these nodes marked, and in this direction or the better one. */
+    open(run, marked, direction) {
       this.run = run;
       this.marked = marked;
       this.count = 0;
@@ -74,7 +78,7 @@ const Drawing = (() => {
       this.selected = 0;
       this.sizes = new Map();
       this.folded = Layout.firstFolds(run.tree);
-      this.direction = this.betterDirection();
+      this.direction = direction ?? this.betterDirection();
       this.arrange();
       this.fit();
     }
@@ -192,12 +196,12 @@ const Drawing = (() => {
       return Math.min((room.width - MARGIN) / width, (room.height - MARGIN - LEGEND) / height, 1.25);
     }
 
-    /** Shows the whole tree, or its root where the whole would be too small to read. */
-    fit() {
+    /** Shows the whole tree; or, where that would be too small to read and is not asked for, its root. */
+    fit(isWhole = false) {
       const { width, height } = this.extent(this.arranged);
       const { room } = this;
       const whole = this.fittingScale(this.arranged);
-      const scale = whole < 0.5 ? Math.max(whole, 0.7) : whole;
+      const scale = isWhole ? Math.max(whole, SMALLEST) : whole < WHOLE ? 0.75 : whole;
       this.view = { scale, x: (room.width - width * scale) / 2, y: (room.height - LEGEND - height * scale) / 2 };
       if (scale > whole) {
         const root = this.arranged.places.get(1);
@@ -206,14 +210,19 @@ const Drawing = (() => {
         if (this.direction === "down") this.view.y = MARGIN / 2;
         else this.view.x = MARGIN / 2;
       }
+      this.isFitted = true;
+      this.isWhole = isWhole;
       this.drawSoon();
     }
 
     resized() {
-      if (this.run) this.drawSoon();
+      if (!this.run) return;
+      if (this.isFitted) this.fit(this.isWhole);
+      else this.drawSoon();
     }
 
     zoom(factor, at = { x: this.room.width / 2, y: this.room.height / 2 }) {
+      this.isFitted = false;
       const scale = Math.min(LARGEST, Math.max(SMALLEST, this.view.scale * factor));
       const ratio = scale / this.view.scale;
       this.view = { scale, x: at.x - (at.x - this.view.x) * ratio, y: at.y - (at.y - this.view.y) * ratio };
@@ -221,23 +230,25 @@ const Drawing = (() => {
     }
 
     pan(x, y) {
+      this.isFitted = false;
       this.view.x += x;
       this.view.y += y;
       this.drawSoon();
     }
 
-    /** Moves the view so that the node, or what hides it, is well within it; not at all where it is. */
+    /**
+     * Moves the view so that the node, or what hides it, is within it: not at all where it is, as little as will do
+     * where it is near, and else so that it is in the middle.
+     */
     reveal(uid) {
       const place = this.arranged.places.get(this.shownFor(uid));
       const { scale } = this.view;
       const { room } = this;
       const left = place.x * scale + this.view.x;
       const top = place.y * scale + this.view.y;
-      const right = left + place.width * scale;
-      const bottom = top + place.height * scale;
-      if (left < 8 || right > room.width - 8) this.view.x += room.width / 2 - (left + right) / 2;
-      if (top < 8 || bottom > room.height - 8) this.view.y += room.height / 2 - (top + bottom) / 2;
-      this.drawSoon();
+      const x = moveInto(left, left + place.width * scale, REVEAL_ROOM, room.width - REVEAL_ROOM);
+      const y = moveInto(top, top + place.height * scale, REVEAL_ROOM, room.height - REVEAL_ROOM - LEGEND);
+      if (x !== 0 || y !== 0) this.pan(x, y);
     }
 
     listen() {
@@ -369,7 +380,7 @@ const Drawing = (() => {
       const box = { x: 0.5, y: 0.5, width: place.width - 1, height: height - 1, rx: radius };
       const state = svg("g", { class: "state" });
       const group = svg("g", {
-        class: `node ${node.family} ${kind}`, "data-uid": uid, transform: `translate(${place.x} ${place.y})`, role: "button",
+        class: `node ${node.family} ${kind}`, "data-uid": uid, transform: `translate(${place.x} ${place.y})`, role: "img",
       },
         svg("rect", { class: "changed-mark", x: -4, y: -4, width: place.width + 8, height: height + 8, rx: radius + 4 }),
         svg("rect", { class: "selected-mark", x: -7, y: -7, width: place.width + 14, height: height + 14, rx: radius + 7 }),
@@ -394,7 +405,7 @@ const Drawing = (() => {
       const letter = Signs.letterOf(node);
       return svg("g", { class: "sign", transform: `translate(${inset} ${(Math.min(height, BOX_HEIGHT) - 18) / 2}) scale(1.125)` },
         svg("path", { d: Signs.KINDS[kind] }),
-        letter ? svg("text", { x: 13.5, y: 3.5 }, letter) : null);
+        letter ? svg("text", { x: 14.5, y: 15.5 }, letter) : null);
     }
 
     textOf(node, place) {
@@ -474,7 +485,7 @@ const Drawing = (() => {
       group.setAttribute("aria-label", `${node.name}, node ${uid}, ${status}${doings.length ? `: ${group.dataset.doings}` : ""}`);
       state.replaceChildren(
         Signs.badge(isFaulty ? "fault" : status, place.width - 26, (BOX_HEIGHT - 18) / 2, 18),
-        ...stripOf(doings, height),
+        ...stripOf(doings, height, place.width + STRIP_BEYOND),
         ...(folded ? summaryOf(folded, place, height, doings.length > 0) : []));
     }
 
@@ -489,6 +500,14 @@ const Drawing = (() => {
       }
       return { statuses, changed };
     }
+  }
+
+  /** How far a stretch has to move to lie between these bounds: as little as will do where it is near them. */
+  function moveInto(from, to, least, most) {
+    if (from >= least && to <= most) return 0;
+    const isNear = from > least - (most - least) && to < most + (most - least);
+    if (!isNear || to - from > most - least) return (least + most) / 2 - (from + to) / 2;
+    return from < least ? least - from : most - to;
   }
 
   /**
@@ -526,14 +545,18 @@ const Drawing = (() => {
     return { text, badge: answer, said: `${text} ${answer}`, changes: false };
   }
 
-  /** The strip below a box: the last of what the event did with the node. */
-  function stripOf(doings, height) {
+  /** The strip below a box: what the event did with the node, or the last of it and how much goes before. */
+  function stripOf(doings, height, widest) {
     if (doings.length === 0) return [];
-    const last = doings.slice(-STRIP_SIGNS);
+    const widthOf = ({ text }) => (text ? smallWidth(text) + 4 : 0) + 14;
+    let first = doings.length - 1;
+    for (let width = 40 + widthOf(doings[first]); first > 0; first--) {
+      width += widthOf(doings[first - 1]);
+      if (width > widest && !(first === 1 && width - 24 <= widest)) break;
+    }
     const strip = svg("g", { class: "strip" });
-    let x = 6;
-    if (last.length < doings.length) x = addText(strip, x, `${doings.length - last.length} +`);
-    for (const { text, badge } of last) {
+    let x = first > 0 ? addText(strip, 6, `${first} +`) : 6;
+    for (const { text, badge } of doings.slice(first)) {
       if (text) x = addText(strip, x, text);
       strip.append(Signs.badge(badge, x, 3.5, 11));
       x += 14;

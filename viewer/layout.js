@@ -104,7 +104,7 @@ const Layout = (() => {
     }
     const from = place.from + FRAME / 3;
     const to = place.to - FRAME / 3;
-    const room = 26;
+    const room = 8;
     return direction === "down"
       ? { x: from, y: place.y - 10, width: to - from, height: end + room - place.y + 10 }
       : { x: place.x - 10, y: from, width: end + 20 - place.x, height: to - from };

@@ -59,6 +59,7 @@
     }
 
     showNames({ names, exit }) {
+      document.body.classList.remove("starting");
       const [tree, world] = names ?? [];
       byId("title").textContent = tree ?? "A run of a behavior tree";
       byId("subtitle").textContent = world ? `in ${world}` : "";
@@ -95,7 +96,13 @@
       for (const name of ["plan", "run"]) byId(`phase-${name}`).setAttribute("aria-pressed", String(phase === name));
       byId("position-noun").textContent = phase === "plan" ? "Step" : "Event";
       document.body.classList.toggle("planning", phase === "plan");
-      if (phase === "run") this.openRun(this.whole);
+      if (phase === "run") {
+        this.openRun(this.whole);
+      } else {
+        const last = this.stages[this.stages.length - 1];
+        this.openRun(last.run);
+        this.direction = this.tree.direction;
+      }
       this.length = phase === "plan" ? this.plan.steps.length : this.whole.length;
       byId("slider").max = this.length;
       byId("position").max = this.length;
@@ -103,11 +110,11 @@
       this.go(count);
     }
 
-    openRun(run, marked = new Set()) {
+    openRun(run, marked = new Set(), direction = undefined) {
       this.run = run;
       this.runner = 1;
       this.selected = 0;
-      this.tree.open(run, marked);
+      this.tree.open(run, marked, direction);
       this.timeline.open(run);
       this.showRunners();
       this.showChoices();
@@ -174,6 +181,7 @@
         if ((kind >= Trace.START && kind <= Trace.HALTED) || kind === Trace.FAULT) found = run.uid[line];
       }
       if (found) this.tree.reveal(found);
+      if (found) this.timeline.revealRow(found, runner);
     }
 
     announce(count) {
@@ -182,16 +190,21 @@
       byId("announcer").textContent = `${count} of ${run.length}. ${title}. Root ${Words.STATUSES[run.statusAfter(count, this.runner, 1)]}.`;
     }
 
+    announceNode(uid) {
+      const { name } = this.run.tree.node(uid);
+      const status = this.phase === "run" ? `, ${Words.STATUSES[this.run.statusAfter(this.count, this.runner, uid)]}` : "";
+      byId("announcer").textContent = `${name}, node ${uid}${status}`;
+    }
+
     /** Shows the tree after so many steps of the plan. */
     showStage() {
       const { run, added } = this.stages[this.count];
       const { steps, end } = this.plan;
-      this.openRun(run, added);
-      this.events.show(run, 0);
+      this.openRun(run, added, this.direction);
       this.values.show(run, 0, 1);
+      this.events.showPlan(this.plan, this.count === steps.length && steps.length === 0 ? 1 : this.count, (count) => this.go(count));
       const step = steps[this.count - 1];
       byId("event-title").textContent = step ? `${step.condition} by ${step.action}` : "The goals";
-      byId("event-empty").hidden = true;
       const words = [step ? Plan.stepWords(step) : "The first tree asks for the goals, in their order."];
       if (this.count === steps.length) words.push(Plan.endWords(end));
       byId("event-words").textContent = words.join(" ");
@@ -226,6 +239,7 @@
       this.node.follow(this.count);
       this.timeline.select(uid);
       this.events.list.drawSoon();
+      if (uid !== 0) this.announceNode(uid);
     }
 
     setRunner(runner, redraw = true) {
@@ -286,6 +300,11 @@
       for (const [id, is] of Object.entries(pressed)) byId(id).setAttribute("aria-pressed", String(is));
     }
 
+    setDirection(direction) {
+      this.direction = direction;
+      this.tree.setDirection(direction);
+    }
+
     choose(change) {
       change();
       this.showChoices();
@@ -300,9 +319,9 @@
     const buttons = {
       "go-first": () => page.go(0), "go-before": () => page.goBy(-1), "go-next": () => page.goBy(1),
       "go-last": () => page.go(page.length), play: () => page.play(),
-      "zoom-in": () => tree.zoom(1.25), "zoom-out": () => tree.zoom(0.8), "zoom-fit": () => tree.fit(),
+      "zoom-in": () => tree.zoom(1.25), "zoom-out": () => tree.zoom(0.8), "zoom-fit": () => tree.fit(true),
       "fold-all": () => tree.foldAll(), "unfold-all": () => tree.unfoldAll(),
-      "direction-down": choose(() => tree.setDirection("down")), "direction-right": choose(() => tree.setDirection("right")),
+      "direction-down": choose(() => page.setDirection("down")), "direction-right": choose(() => page.setDirection("right")),
       details: choose(() => tree.setDetails(!tree.withDetails)), follow: choose(() => { page.follow = !page.follow; }),
       "rows-leaves": choose(() => timeline.setNodes("leaves")), "rows-all": choose(() => timeline.setNodes("all")),
       "axis-time": choose(() => timeline.setMode("time")), "axis-steps": choose(() => timeline.setMode("steps")),
@@ -334,10 +353,10 @@
       Home: () => page.go(0), End: () => page.go(page.length), " ": () => page.play(),
       n: () => page.goToChange(1), p: () => page.goToChange(-1),
       r: () => page.phase === "run" && page.setRunner((page.runner % page.run.runners) + 1),
-      o: () => page.choose(() => tree.setDirection(tree.direction === "down" ? "right" : "down")),
+      o: () => page.choose(() => page.setDirection(tree.direction === "down" ? "right" : "down")),
       d: () => page.choose(() => tree.setDetails(!tree.withDetails)),
       f: () => page.choose(() => { page.follow = !page.follow; }),
-      "+": () => tree.zoom(1.25), "-": () => tree.zoom(0.8), 0: () => tree.fit(),
+      "+": () => tree.zoom(1.25), "-": () => tree.zoom(0.8), 0: () => tree.fit(true),
       "/": () => byId("search").focus(), "?": () => byId("help").showModal(),
       Enter: () => page.selected && tree.toggleFold(page.selected), Escape: () => page.select(0),
     };
@@ -364,6 +383,7 @@
     byId("work").hidden = byId("message").hidden = byId("cut").hidden = true;
     byId("start").hidden = false;
     byId("result").hidden = true;
+    document.body.classList.add("starting");
   }
 
   /** Which file of a run this text is. */

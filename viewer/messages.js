@@ -24,7 +24,7 @@ const Messages = (() => {
     const last = Math.min(lines.length, number + ROUND);
     const rows = [];
     for (let at = first; at <= last; at++) {
-      rows.push(html("span", { class: at === number ? "here" : "" }, `${String(at).padStart(6)}  ${lines[at - 1]}\n`));
+      rows.push(html("span", { class: at === number ? "here" : "" }, `${String(at).padStart(6)}  ${lines[at - 1]}`));
     }
     return html("pre", {}, ...rows);
   }
@@ -60,6 +60,7 @@ const Messages = (() => {
 
   /** A trace, or a plan, of which a line does not fit what the page holds. */
   function misfit(what, fault, text) {
+    byId("result").hidden = true;
     show(title(`Line ${Words.number(fault.line)} of the ${what} does not fit`),
       html("p", {}, fault.message),
       quoted(text, fault.line),
@@ -68,6 +69,7 @@ const Messages = (() => {
 
   /** A text that is no tree. */
   function noTree(fault) {
+    byId("result").hidden = true;
     show(title("This tree can't be shown"), html("p", {}, fault.message),
       html("p", { class: "muted" }, "A tree is shown as `bt check` prints it."));
   }

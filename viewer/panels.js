@@ -46,7 +46,7 @@ const Panels = (() => {
     reveal(at) {
       const top = at * ROW_HEIGHT;
       if (top < this.host.scrollTop || top + ROW_HEIGHT > this.host.scrollTop + this.host.clientHeight) {
-        this.host.scrollTop = top - this.host.clientHeight / 2;
+        this.host.scrollTop = top - Math.floor(this.host.clientHeight / ROW_HEIGHT / 2) * ROW_HEIGHT;
       }
       this.drawSoon();
     }
@@ -69,10 +69,25 @@ const Panels = (() => {
     constructor(actions) {
       this.actions = actions;
       this.marked = -1;
-      this.list = new VirtualList(byId("event-lines"), (at) => this.rowOf(at));
+      this.makeRow = (at) => this.rowOf(at);
+      this.list = new VirtualList(byId("event-lines"), (at) => this.makeRow(at));
+    }
+
+    /** Shows the lines of a plan, with the one of this step or, at 0, the end marked. */
+    showPlan(plan, count, go) {
+      const lines = [...plan.steps.map(({ text }) => text), plan.end.text];
+      byId("event-moment").textContent = "";
+      byId("event-lines-count").textContent = Words.count(plan.steps.length, "step");
+      byId("event-empty").hidden = byId("fault").hidden = true;
+      this.makeRow = (at) => html("button", {
+        class: `row line${at === count - 1 ? " marked" : ""}`, type: "button", "data-at": at, onclick: () => go(Math.min(at + 1, plan.steps.length)),
+      }, html("span", { class: "line-number" }, Words.number(at + 1)), html("span", { class: "line-text" }, lines[at]));
+      this.list.show(lines.length, false);
+      if (count > 0) this.list.reveal(count - 1);
     }
 
     show(run, count) {
+      this.makeRow = (at) => this.rowOf(at);
       this.run = run;
       this.first = count > 0 ? run.firstLine(count - 1) : 0;
       const last = count > 0 ? run.firstLine(count) : 0;
@@ -226,10 +241,12 @@ const Panels = (() => {
       const series = this.series[at];
       const value = run.valueAfter(count, series);
       const changed = count > 0 && run.isTold(count - 1, series);
+      const before = changed ? run.valueAfter(count - 1, series) : null;
       const { name, where } = titleOf(run, series);
       return html("div", { class: `row value${changed ? " changed" : ""}`, "data-name": name, "data-at": at },
         html("span", { class: "value-mark" }, changed ? "●" : ""),
         html("span", { class: "value-name" }, name, where ? html("span", { class: "muted" }, ` ${where}`) : null),
+        before !== null ? html("span", { class: "value-before", title: before }, `${before} →`) : null,
         html("span", { class: `value-text${value === null ? " muted" : ""}`, title: value ?? "" }, value ?? "no value yet"));
     }
   }

@@ -99,11 +99,12 @@ const Timeline = (() => {
       this.selected = uid;
       this.rows = this.rowsOf();
       this.resized();
-      this.revealRow();
+      this.revealRow(uid, this.runner);
     }
 
-    revealRow() {
-      const at = this.rows.findIndex((row) => row.uid === this.selected && row.runner === this.runner);
+    /** Scrolls so that the row of this node is in the window. */
+    revealRow(uid, runner) {
+      const at = this.rows.findIndex((row) => row.uid === uid && row.runner === runner);
       if (at < 0) return;
       const top = at * ROW;
       const room = this.scroller.clientHeight - AXIS - ROW;

@@ -22,6 +22,8 @@ const [runner, done] = arguments;
 requestAnimationFrame(() => requestAnimationFrame(() => {
   page.follow = false;
   page.setRunner(runner);
+  page.tree.fit(true);
+  page.tree.draw();
   const steps = [];
   for (let count = 0; count <= page.length; count++) {
     page.go(count);
