@@ -337,9 +337,14 @@
       if (event.key === "Enter") page.find(event.target.value);
       if (event.key === "Escape") byId("tree").focus();
     });
-    let undo = null;
-    window.addEventListener("beforeprint", () => { if (page.run) undo = tree.drawWhole(); });
-    window.addEventListener("afterprint", () => { undo?.(); undo = null; });
+    let undo = [];
+    window.addEventListener("beforeprint", () => {
+      if (!byId("work").hidden) undo = [tree.drawWhole(), timeline.drawWhole(), page.events.list.drawMore(), page.values.list.drawMore()];
+    });
+    window.addEventListener("afterprint", () => {
+      for (const act of undo) act();
+      undo = [];
+    });
     document.addEventListener("keydown", (event) => pressed(page, event));
   }
 
@@ -433,6 +438,8 @@
   const page = new Page();
   listen(page);
   listenToFiles(page);
+  Splitters.listen(byId("side-splitter"), document.querySelector(".side"), "--side-width", true);
+  Splitters.listen(byId("time-splitter"), document.querySelector(".time"), "--time-height", false);
   const embedded = byId("run-data").textContent.trim();
   if (embedded) page.openData(JSON.parse(embedded));
   else showStart(page);

@@ -7,6 +7,8 @@ const Panels = (() => {
   const ROW_HEIGHT = 24;
   /** So many rows beyond the window are made too, so that scrolling shows no gap. */
   const BEYOND = 4;
+  /** At most so many rows beyond the window are printed. */
+  const PRINTED = 200;
 
   /** A list of which only the rows in view are in the page. */
   class VirtualList {
@@ -16,6 +18,7 @@ const Panels = (() => {
       this.rows = html("div", { class: "rows" });
       this.host.append(this.rows);
       this.length = 0;
+      this.beyond = BEYOND;
       this.drawSoon = Dom.eachFrame(() => this.draw());
       host.addEventListener("scroll", this.drawSoon);
       new ResizeObserver(this.drawSoon).observe(host);
@@ -30,8 +33,8 @@ const Panels = (() => {
     }
 
     draw() {
-      const first = Math.max(0, Math.floor(this.host.scrollTop / ROW_HEIGHT) - BEYOND);
-      const last = Math.min(this.length, Math.ceil((this.host.scrollTop + this.host.clientHeight) / ROW_HEIGHT) + BEYOND);
+      const first = Math.max(0, Math.floor(this.host.scrollTop / ROW_HEIGHT) - this.beyond);
+      const last = Math.min(this.length, Math.ceil((this.host.scrollTop + this.host.clientHeight) / ROW_HEIGHT) + this.beyond);
       const rows = [];
       for (let at = first; at < last; at++) {
         const row = this.makeRow(at);
@@ -41,6 +44,16 @@ const Panels = (() => {
       const focused = this.rows.contains(document.activeElement) ? document.activeElement.dataset.at : null;
       this.rows.replaceChildren(...rows);
       if (focused !== null) this.rows.querySelector(`[data-at="${focused}"]`)?.focus();
+    }
+
+    /** Makes more rows than are in view, for print. Gives what undoes it. */
+    drawMore() {
+      this.beyond = PRINTED;
+      this.draw();
+      return () => {
+        this.beyond = BEYOND;
+        this.draw();
+      };
     }
 
     reveal(at) {

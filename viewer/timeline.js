@@ -12,6 +12,8 @@ const Timeline = (() => {
   /** Marks that stand closer than this, on average, are drawn as columns of a pixel. */
   const DENSE = 7;
   const NEAR = 9;
+  /** What of the time line goes on a printed page: its width in pixels, and rows. */
+  const PRINTED = { width: 1000, rows: 26 };
   const COLOURS = {
     RUNNING: "#f2b84b", runningEdge: "#9a5b00", SUCCESS: "#157347", FAILURE: "#b3261e", halted: "#5b4b8a", fault: "#8a1460",
     line: "#dfe4ea", text: "#4a5562", value: "#1f5a96",
@@ -381,6 +383,19 @@ const Timeline = (() => {
         title: `${node.name}, node ${uid}`, onclick: () => this.actions.select(uid, runner),
       },
         Signs.badgeImage(status), html("span", { class: "label-name" }, node.name), html("span", { class: "label-value" }, `${uid}`));
+    }
+
+    /** Draws as many rows as go on a printed page. Gives what undoes it. */
+    drawWhole() {
+      const { style } = this.scroller;
+      const rows = Math.min(this.rows.length, PRINTED.rows);
+      Object.assign(style, { width: `${PRINTED.width}px`, height: `${AXIS + rows * ROW + 6}px`, flex: "none" });
+      this.resized();
+      this.draw();
+      return () => {
+        Object.assign(style, { width: "", height: "", flex: "" });
+        this.resized();
+      };
     }
 
     // ---- Clicks
