@@ -320,7 +320,7 @@ const Drawing = (() => {
         const place = places.get(uid);
         const begin = down ? place.y : place.x;
         if (place.to < from || place.from > to || begin > far) {
-          at = this.behind(at, tree.node(uid));
+          at = this.after(at, tree.node(uid));
           continue;
         }
         const node = tree.node(uid);
@@ -332,8 +332,8 @@ const Drawing = (() => {
       return found;
     }
 
-    /** The place in the list of shown nodes behind this node and all that is shown below it. */
-    behind(at, node) {
+    /** The place in the list of shown nodes after this node and all that is shown below it. */
+    after(at, node) {
       const { shown } = this.arranged;
       return this.folded.has(node.uid) ? at + 1 : Trace.countBelow(shown, node.uid + node.size, at, shown.length);
     }

@@ -76,7 +76,8 @@
       const cut = this.whole?.cut;
       byId("cut").hidden = cut === undefined;
       if (cut === undefined) return;
-      byId("cut").textContent = `The trace was cut off in line ${Words.number(this.whole.lines + 1)}, behind "${cut}". The run is shown up to it.`;
+      const line = Words.number(this.whole.lines + 1);
+      byId("cut").textContent = `The trace was cut off in line ${line}, after "${cut}". The run is shown up to that line.`;
     }
 
     showWork() {
@@ -142,7 +143,7 @@
       else this.showEvent();
     }
 
-    /** Goes by so many; behind the last step of a plan comes the run. */
+    /** Goes by so many; after the last step of a plan comes the run. */
     goBy(distance) {
       const next = this.count + distance;
       if (this.phase === "plan" && next > this.length && this.whole) this.openPhase("run", 0);
@@ -187,7 +188,8 @@
     announce(count) {
       const { run } = this;
       const title = count > 0 ? `${run.title(count - 1)} at ${Words.moment(run.moments[count - 1])}` : "Before the first event";
-      byId("announcer").textContent = `${count} of ${run.length}. ${title}. Root ${Words.STATUSES[run.statusAfter(count, this.runner, 1)]}.`;
+      const root = Words.STATUSES[run.statusAfter(count, this.runner, 1)];
+      byId("announcer").textContent = `${count} of ${run.length}. ${title}. Root ${root}.`;
     }
 
     announceNode(uid) {
@@ -280,7 +282,8 @@
       const { tree } = this.run;
       const sought = text.trim().toLowerCase();
       if (sought === "") return;
-      const fits = ({ uid, name, id }) => String(uid) === sought || name.toLowerCase().includes(sought) || id.toLowerCase().includes(sought);
+      const fits = ({ uid, name, id }) =>
+        String(uid) === sought || [name, id].some((word) => word.toLowerCase().includes(sought));
       for (let step = 1; step <= tree.size; step++) {
         const uid = ((this.selected + step - 1) % tree.size) + 1;
         if (fits(tree.node(uid))) return this.select(uid);
@@ -410,7 +413,8 @@
 
   function showChosen(page) {
     const { tree, trace, world, refusal, plan } = page.chosen;
-    const data = { names: [(trace ?? tree ?? plan ?? refusal).name, world?.name], tree: tree?.text, trace: trace?.text, world: world?.text };
+    const names = [(trace ?? tree ?? plan ?? refusal).name, world?.name];
+    const data = { names, tree: tree?.text, trace: trace?.text, world: world?.text };
     if (plan) data.plan = plan.text;
     if (refusal && !tree) data.refusal = refusal.text;
     page.chosen = {};

@@ -3,7 +3,7 @@
 /** What the page says where it has no run to show: a refusal, or a trace that does not fit its tree. */
 const Messages = (() => {
   const { html, byId } = Dom;
-  /** So many lines before and behind one that is quoted are quoted with it. */
+  /** So many lines before and after one that is quoted are quoted with it. */
   const ROUND = 3;
 
   function show(...parts) {
@@ -64,7 +64,8 @@ const Messages = (() => {
     show(title(`Line ${Words.number(fault.line)} of the ${what} does not fit`),
       html("p", {}, fault.message),
       quoted(text, fault.line),
-      html("p", { class: "muted" }, `The page keeps its own state by the lines before this one, and shows nothing of a ${what} that contradicts it.`));
+      html("p", { class: "muted" },
+        `The page keeps its own state by the lines before this one, and shows nothing of a ${what} that contradicts it.`));
   }
 
   /** A text that is no tree. */

@@ -93,7 +93,8 @@ const Panels = (() => {
       byId("event-lines-count").textContent = Words.count(plan.steps.length, "step");
       byId("event-empty").hidden = byId("fault").hidden = true;
       this.makeRow = (at) => html("button", {
-        class: `row line${at === count - 1 ? " marked" : ""}`, type: "button", "data-at": at, onclick: () => go(Math.min(at + 1, plan.steps.length)),
+        class: `row line${at === count - 1 ? " marked" : ""}`, type: "button", "data-at": at,
+        onclick: () => go(Math.min(at + 1, plan.steps.length)),
       }, html("span", { class: "line-number" }, Words.number(at + 1)), html("span", { class: "line-text" }, lines[at]));
       this.list.show(lines.length, false);
       if (count > 0) this.list.reveal(count - 1);

@@ -131,8 +131,9 @@ const Plan = (() => {
 
   /** What a step did, in words. */
   function stepWords({ uid, condition, action, raises }) {
-    const raised = raises === 0 ? "" : ` It was raised ${raises === 1 ? "once" : `${raises} times`}, so that it does not undo what comes before it.`;
-    return `The condition ${condition} (node ${uid} before this step) failed. ${action} makes it true, and was added with what it needs.${raised}`;
+    const times = raises === 1 ? "once" : `${raises} times`;
+    return `The condition ${condition} (node ${uid} before this step) failed. ${action} makes it true, and was added with what ` +
+      `it needs.${raises === 0 ? "" : ` It was raised ${times}, so that it does not undo what comes before it.`}`;
   }
 
   return { read, endWords, stepWords, PlanFault };

@@ -13,7 +13,7 @@ const Timeline = (() => {
   const DENSE = 7;
   const NEAR = 9;
   /** What of the time line goes on a printed page: its width in pixels, and rows. */
-  const PRINTED = { width: 1000, rows: 26 };
+  const PRINTED = { width: 940, rows: 26 };
   const COLOURS = {
     RUNNING: "#f2b84b", runningEdge: "#9a5b00", SUCCESS: "#157347", FAILURE: "#b3261e", halted: "#5b4b8a", fault: "#8a1460",
     line: "#dfe4ea", text: "#4a5562", value: "#1f5a96",

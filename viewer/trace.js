@@ -33,7 +33,7 @@ const Trace = (() => {
     return value;
   }
 
-  /** Where each line begins, and the text's length behind the last. A last line without its line feed counts. */
+  /** Where each line begins, and the text's length after the last. A last line without its line feed counts. */
   function lineStarts(text) {
     let lines = 0;
     for (let at = text.indexOf("\n"); at >= 0; at = text.indexOf("\n", at + 1)) lines++;
@@ -310,7 +310,7 @@ const Trace = (() => {
 
     readStep(kind, words) {
       this.expectWords(words, 4);
-      if (words[2] !== "at") this.refuse(`A line "${words[0]}" names its moment behind "at".`);
+      if (words[2] !== "at") this.refuse(`A line "${words[0]}" names its moment after "at".`);
       this.header(kind, this.runnerOf(words[1]), words[3]);
     }
 
@@ -321,7 +321,7 @@ const Trace = (() => {
 
     readSet(words) {
       this.expectWords(words, 5);
-      if (words[3] !== "at") this.refuse('A line "set" names its moment behind "at".');
+      if (words[3] !== "at") this.refuse('A line "set" names its moment after "at".');
       this.header(SET, 0, words[4]);
     }
 
@@ -416,10 +416,10 @@ const Trace = (() => {
   const HEADERS = ["tick", "halt", "set", "finish"];
   const CALLS = new Map([["start", START], ["running", RAN], ["halted", HALTED]]);
 
-  /** What may stand behind the uid in the line of a node, and what it says. */
+  /** What may stand after the uid in the line of a node, and what it says. */
   const NODE_ENDS = new Map(STATUSES.flatMap((old, from) =>
     STATUSES.map((status, to) => [` ${old} ${status}`, { kind: NODE, old: from, answer: to }])));
-  /** What may stand behind the uid in the line of a call, and what it says. */
+  /** What may stand after the uid in the line of a call, and what it says. */
   const CALL_ENDS = new Map([[" halted", { kind: HALTED, answer: IDLE }]]);
   for (const word of ["start", "running"]) {
     for (let answer = 1; answer <= SKIPPED; answer++) {

@@ -120,7 +120,8 @@ def large_run():
 def large_tick(trace, leaf, is_first):
     """Adds what a tick does in which this leaf, or with 0 the first one, completes. Gives the leaf that runs then."""
     if is_first:
-        trace += ["node 1 IDLE RUNNING", "node 2 IDLE RUNNING", f"call {FIRST} start RUNNING", f"node {FIRST} IDLE RUNNING", "root 1 RUNNING"]
+        trace += ["node 1 IDLE RUNNING", "node 2 IDLE RUNNING"]
+        trace += [f"call {FIRST} start RUNNING", f"node {FIRST} IDLE RUNNING", "root 1 RUNNING"]
         return FIRST
     if leaf == 0:
         trace += ["node 2 IDLE RUNNING", f"call {FIRST} start SUCCESS", f"node {FIRST} IDLE SUCCESS"]
