@@ -6,17 +6,14 @@ import re
 FOLDER = pathlib.Path(__file__).resolve().parent
 
 
+def text_of(name):
+    return (FOLDER / name).read_text(encoding="utf-8")
+
+
 def inlined(html):
     """The page with its style and its scripts in it, in place of the names of their files."""
-
-    def style(match):
-        return f"<style>\n{(FOLDER / match[1]).read_text()}</style>"
-
-    def script(match):
-        return f"<script>\n{(FOLDER / match[1]).read_text()}</script>"
-
-    html = re.sub(r'<link rel="stylesheet" href="([^"]+)">', style, html)
-    return re.sub(r'<script src="([^"]+)"></script>', script, html)
+    html = re.sub(r'<link rel="stylesheet" href="([^"]+)">', lambda link: f"<style>\n{text_of(link[1])}</style>", html)
+    return re.sub(r'<script src="([^"]+)"></script>', lambda link: f"<script>\n{text_of(link[1])}</script>", html)
 
 
 def embedded(data):
@@ -30,5 +27,5 @@ def page(data):
     them: `tree` and `trace`, or `plan` and `trace`, or `refusal`; and `world`, `source` (the tree file), `said`
     (the program's standard error), `names` (of the tree and of the world) and `exit` (the status).
     """
-    before, after = inlined((FOLDER / "page.html").read_text()).split('id="run-data">', 1)
+    before, after = inlined(text_of("page.html")).split('id="run-data">', 1)
     return f'{before}id="run-data">{embedded(data)}{after}'

@@ -45,7 +45,7 @@ const Drawing = (() => {
   }
 
   class TreeView {
-    /** `actions` has what a user's doing leads to: `select(uid)`, `foldChanged()`. */
+    /** `actions` has what a click leads to: `select(uid)`. */
     constructor(host, actions) {
       this.host = host;
       this.actions = actions;
@@ -143,7 +143,6 @@ const Drawing = (() => {
       if (this.run.tree.node(uid).children.length === 0) return;
       if (!this.folded.delete(uid)) this.folded.add(uid);
       this.rearranged(uid);
-      this.actions.foldChanged();
     }
 
     foldAll() {
@@ -586,5 +585,5 @@ const Drawing = (() => {
     return [summary];
   }
 
-  return { TreeView, detailsOf, doingsOf };
+  return { TreeView };
 })();

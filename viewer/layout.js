@@ -110,5 +110,5 @@ const Layout = (() => {
       : { x: place.x - 10, y: from, width: end + 20 - place.x, height: to - from };
   }
 
-  return { firstFolds, arrange, frameOf, AT_ONCE };
+  return { firstFolds, arrange, frameOf };
 })();

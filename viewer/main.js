@@ -21,14 +21,14 @@
         select: (uid, runner) => this.select(uid, runner),
         selected: () => this.selected,
         goToLine: (line) => this.goToLine(line),
-        foldChanged: () => {},
       };
       this.tree = new Drawing.TreeView(byId("tree"), actions);
       this.timeline = new Timeline.TimelineView(actions);
       this.events = new Panels.EventPanel(actions);
       this.node = new Panels.NodePanel(actions);
       this.values = new Panels.ValuePanel();
-      byId("legend").append(...["IDLE", "RUNNING", "SUCCESS", "FAILURE", "SKIPPED", "halted"].map(Signs.status));
+      byId("legend").append(...["IDLE", "RUNNING", "SUCCESS", "FAILURE", "SKIPPED", "halted", "fault"].map(Signs.status));
+      byId("legend").append(html("span", { class: "status" }, html("span", { class: "dotted" }), "changed"));
     }
 
     // ---- What is opened

@@ -10,7 +10,7 @@ const Messages = (() => {
     byId("work").hidden = true;
     byId("start").hidden = true;
     byId("message").hidden = false;
-    byId("message").replaceChildren(...parts);
+    byId("message").replaceChildren(...parts.filter((part) => part !== null));
   }
 
   function title(text) {
@@ -51,8 +51,9 @@ const Messages = (() => {
   function refusal(data) {
     const line = data.refusal.split("\n")[0];
     const said = (data.said ?? "").trim();
-    show(title(line || "The program gave no output"),
-      html("p", {}, html("strong", {}, `Status ${data.exit}`), `: ${Words.EXITS[data.exit] ?? "the program was stopped"}.`),
+    const words = Words.EXITS[data.exit] ?? "the program was stopped";
+    show(title(line.startsWith("refused ") ? line : "The program gave no whole output"),
+      data.exit === undefined ? null : html("p", {}, html("strong", {}, `Status ${data.exit}`), `: ${words}.`),
       excerpt(line, data),
       said ? html("p", {}, "What else the program said:") : null,
       said ? html("pre", {}, said) : null);

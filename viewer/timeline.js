@@ -11,7 +11,11 @@ const Timeline = (() => {
   const FONT = '11px "DejaVu Sans", system-ui, sans-serif';
   /** Marks that stand closer than this, on average, are drawn as columns of a pixel. */
   const DENSE = 7;
+  /** A click so near a mark means the mark. */
   const NEAR = 9;
+  /** The whole may be so wide, in pixels: browsers have a limit. And an event, or a millisecond, so wide. */
+  const WIDEST = 3e7;
+  const LARGEST = 400;
   /** What of the time line goes on a printed page: its width in pixels, and rows. */
   const PRINTED = { width: 940, rows: 26 };
   const COLOURS = {
@@ -147,8 +151,7 @@ const Timeline = (() => {
       const left = this.scroller.scrollLeft + at - LABELS - SIDE;
       const place = left / this.scale;
       const least = this.width / this.span;
-      this.scale = Math.min(Math.max(this.scale * factor, least), Math.max(least, 3e7 / this.span, 0), 400);
-      this.scale = Math.max(this.scale, least);
+      this.scale = Math.max(least, Math.min(this.scale * factor, WIDEST / this.span, LARGEST));
       this.fitted = this.scale === least;
       this.resized();
       this.scroller.scrollLeft = place * this.scale - at + LABELS + SIDE;

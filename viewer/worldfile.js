@@ -16,10 +16,13 @@ const WorldFile = (() => {
     return { id, sort: action ? words[2] : "condition", rule: words.slice(2).join(" "), ports, needs: [], effects: [] };
   }
 
+  /** The lines that are read. A script may have 100,000 others, its events. */
+  const LINES = /^[ \t]*(?:fact|condition|action|needs|sets|out|fails|goal|runners)[ \t].*$/gm;
+
   function read(text) {
     const world = none();
     let last = null;
-    for (const line of text.split("\n")) {
+    for (const [line] of text.matchAll(LINES)) {
       const words = line.split(/[ \t\r]+/).filter((word) => word !== "");
       if (words.length < 2) continue;
       if (words[0] === "fact") world.facts.push({ name: words[1], opening: words[2] });

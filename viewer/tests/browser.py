@@ -73,6 +73,12 @@ class Browser:
     def open(self, file):
         self.driver.get(pathlib.Path(file).resolve().as_uri())
 
+    def processor_seconds(self):
+        """The processor's time that the page's own thread has taken since the page was opened."""
+        self.driver.execute_cdp_cmd("Performance.enable", {})
+        metrics = self.driver.execute_cdp_cmd("Performance.getMetrics", {})["metrics"]
+        return next(metric["value"] for metric in metrics if metric["name"] == "ThreadTime")
+
     def run(self, script, *values):
         return self.driver.execute_script(script, *values)
 

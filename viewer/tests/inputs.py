@@ -2,6 +2,7 @@
 import os
 import pathlib
 import stat
+import subprocess
 
 TOP = pathlib.Path(__file__).resolve().parents[2]
 EXAMPLES = TOP / "examples"
@@ -36,12 +37,10 @@ def built_program():
     """The program that the variable BT names, or one that was proved of these sources; None where there is none."""
     if os.environ.get("BT"):
         return str(pathlib.Path(os.environ["BT"]).resolve())
-    sources = [file for part in ("src", "specs", "proofs") for file in TOP.glob(f"crates/*/{part}/**/*") if file.is_file()]
-    newest = max(file.stat().st_mtime for file in sources)
-    for program in (TOP / "out" / "bt", TOP / "crates" / "bt_main" / "out" / "bt_main"):
-        if program.exists() and program.stat().st_mtime > newest:
-            return str(program)
-    return None
+    finder = TOP / "tools" / "proved"
+    if not finder.exists():
+        return None
+    return subprocess.run([finder], capture_output=True, text=True).stdout.strip() or None
 
 
 class Told:
