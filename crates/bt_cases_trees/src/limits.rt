@@ -1,6 +1,6 @@
 //! How deep and how large a tree may be.
 
-use crate::stage::{answered, given};
+use bt_stage::{answered, given};
 use std::alloc::{AllocError, Global};
 use std::test::Fail;
 
@@ -28,7 +28,7 @@ fn depth_is_limited(rt: HostRuntime) -> Result<(), Fail> {
         (256, "refused tree TooDeep 2604\nTree"),
     ] {
         let nodes = inverted(alloc, times, "<AlwaysSuccess/>")?;
-        let text = answered(alloc, &["check", "T"], nodes.as_str(), &[], &[])?;
+        let text = answered(alloc, &["check", "T"], nodes.as_str(), "", &[])?;
         assert!(rt; text.ends_with(want), "{times}");
     }
     Ok(())
@@ -45,7 +45,7 @@ fn depth_is_limited_across_trees(rt: HostRuntime) -> Result<(), Fail> {
         let below = inverted(alloc, times, "<A/>")?;
         let nodes = format!(in alloc; "{main}</BehaviorTree><BehaviorTree ID=\"S\">{below}")?;
         let words = ["check", "T", "--main", "M"];
-        let text = answered(alloc, &words, nodes.as_str(), &[], &[])?;
+        let text = answered(alloc, &words, nodes.as_str(), "", &[])?;
         assert!(rt; text.ends_with(want), "{times}");
     }
     Ok(())
@@ -59,7 +59,7 @@ fn nodes_are_counted(rt: HostRuntime) -> Result<(), Fail> {
         (4_096, "refused tree TooManyNodes\nTree"),
     ] {
         let nodes = format!(in alloc; "<Sequence>{}</Sequence>", repeated(alloc, "<A/>", leaves)?)?;
-        let text = answered(alloc, &["check", "T"], nodes.as_str(), &[], &[])?;
+        let text = answered(alloc, &["check", "T"], nodes.as_str(), "", &[])?;
         assert!(rt; text.ends_with(want), "{leaves}");
     }
     Ok(())
@@ -123,7 +123,7 @@ fn slots_are_counted_before_work(rt: HostRuntime) -> Result<(), Fail> {
         let nodes = format!(in alloc;
             "<Repeat num_cycles=\"1000\"><Repeat num_cycles=\"{cycles}\">{leaf}</Repeat></Repeat>"
         )?;
-        let text = answered(alloc, &["check", "T"], nodes.as_str(), &[], &[])?;
+        let text = answered(alloc, &["check", "T"], nodes.as_str(), "", &[])?;
         assert!(rt; text.ends_with(want), "{slots} {cycles}");
     }
     Ok(())
