@@ -5,7 +5,5 @@ mod answer;
 mod course;
 mod join;
 mod printing;
-mod roster;
 
 pub use answer::answer_words;
-pub use roster::add_driver;

@@ -3,22 +3,15 @@
 ghost use Rattle.std.specs.Prelude.{map};
 ghost use Rattle.bt_model.specs.Drivers.{NothingHeld};
 
-use crate::stage::{Ending, TICK, answer, answer_with, run_with, shelf_of, shelf_of_rows};
-use bt_answer::add_driver;
 use bt_driver::Driver;
 use bt_leaves::Conditions;
 use bt_outside::{MemClock, MemSink};
+use bt_program::add_driver;
 use bt_script::NoMemory;
+use bt_stage::{answer_with, run, run_with, shelf_of};
 use bt_words::Exit;
 use std::alloc::Global;
 use std::test::Fail;
-
-/// Runs these nodes in a world of these lines with the four drivers of the modelled world.
-fn run(alloc: Global, nodes: &str, lines: &str, sink: &mut MemSink) -> Result<Ending, NoMemory> {
-    let mut shelf = shelf_of_rows(alloc, nodes, lines)?;
-    let mut clock = MemClock::new(Vec::new(alloc));
-    answer(alloc, &TICK, &mut shelf, sink, &mut clock)
-}
 
 /// The exit of a run, what its drivers have counted, and whether they hold anything.
 fn counted(alloc: Global, nodes: &str, lines: &str) -> Result<String, NoMemory> {
@@ -145,7 +138,7 @@ fn load_with(
 ) -> Result<Exit, NoMemory>
     requires { NothingHeld (map (λ b. state b) roster.old.items) }
 {
-    let mut shelf = shelf_of(alloc, b"", b"")?;
+    let mut shelf = shelf_of(alloc, b"", b"", &[])?;
     answer_with(alloc, &["load", "1"], &mut shelf, sink, roster)
 }
 

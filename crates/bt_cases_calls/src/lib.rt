@@ -9,5 +9,3 @@ mod live;
 mod load;
 #[cfg(test)]
 mod marks;
-#[cfg(test)]
-mod stage;

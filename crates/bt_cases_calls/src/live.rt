@@ -1,8 +1,8 @@
 //! Runs at the moments of a clock.
 
-use crate::stage::{answer, shelf_of_rows};
 use bt_outside::{Clock, MemClock, MemSink};
 use bt_script::NoMemory;
+use bt_stage::{answer, shelf_of_rows};
 use bt_words::Exit;
 use std::alloc::Global;
 use std::test::Fail;

@@ -1,14 +1,14 @@
 //! Loads, whose files the program makes: the line that sums up the run, and what the drivers count.
 
-use crate::stage::{Ending, answer, shelf_of};
 use bt_outside::{MemClock, MemSink};
 use bt_script::NoMemory;
+use bt_stage::{Ending, answer, shelf_of};
 use std::alloc::Global;
 use std::test::Fail;
 
 /// Answers these words, which name no file, with the four drivers of the modelled world.
 fn load(alloc: Global, words: &[&str], sink: &mut MemSink) -> Result<Ending, NoMemory> {
-    let mut shelf = shelf_of(alloc, b"", b"")?;
+    let mut shelf = shelf_of(alloc, b"", b"", &[])?;
     let mut clock = MemClock::new(Vec::new(alloc));
     answer(alloc, words, &mut shelf, sink, &mut clock)
 }

@@ -1,6 +1,7 @@
 //! Runs of control nodes.
 
-use crate::stage::{TICK, compare_rows, given, script};
+use crate::compare::compare_rows;
+use bt_stage::{TICK, given, world_of};
 use std::test::Fail;
 
 pub const TWO_CHECKS: &str = "\
@@ -136,13 +137,13 @@ Done";
 #[test]
 fn a_locked_door_is_crossed(rt: HostRuntime) -> Result<(), Fail> {
     let alloc = rt.alloc();
-    let world = script(alloc, LOCKED)?;
+    let world = world_of(alloc, LOCKED)?;
     let table: [(&[&str], &str); 2] = [
         (&["tick", "T", "W", "--main", "MainTree"], DOOR_TRACE),
         (&TICK, "refused tree NoMain\nTree"),
     ];
     for (words, want) in table {
-        let text = given(alloc, words, DOOR.as_bytes(), world.as_bytes())?;
+        let text = given(alloc, words, DOOR.as_bytes(), world.as_bytes(), &[])?;
         assert_eq!(rt; text.as_str(), want);
     }
     Ok(())

@@ -1,6 +1,7 @@
 //! Runs of decorators.
 
-use crate::stage::{compare_rows, ran};
+use crate::compare::compare_rows;
+use bt_stage::ran;
 use std::alloc::{AllocError, Global};
 use std::test::Fail;
 

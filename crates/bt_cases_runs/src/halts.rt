@@ -1,6 +1,7 @@
 //! Halts, and faults within them: what stops, in which order, and what a quench lets go.
 
-use crate::stage::{compare_rows, joined, ran};
+use crate::compare::compare_rows;
+use bt_stage::{joined, ran};
 use std::test::Fail;
 
 const THREE_HELD: &str = "\

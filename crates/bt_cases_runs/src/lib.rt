@@ -2,6 +2,8 @@
 #![tactic(auto)]
 
 #[cfg(test)]
+mod compare;
+#[cfg(test)]
 mod controls;
 #[cfg(test)]
 mod decorators;
@@ -13,7 +15,5 @@ mod halts;
 mod runners;
 #[cfg(test)]
 mod scripts;
-#[cfg(test)]
-mod stage;
 #[cfg(test)]
 mod traces;

@@ -1,6 +1,7 @@
 //! Several runners over one world.
 
-use crate::stage::{compare_rows, ran};
+use crate::compare::compare_rows;
+use bt_stage::ran;
 use std::alloc::{AllocError, Global};
 use std::test::Fail;
 

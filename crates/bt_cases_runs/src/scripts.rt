@@ -1,6 +1,7 @@
 //! Runs of script nodes, guards, ports and blackboards.
 
-use crate::stage::{TICK, compare_rows, given, script};
+use crate::compare::compare_rows;
+use bt_stage::{TICK, given, world_of};
 use std::test::Fail;
 
 const JOINED: &str = "\
@@ -261,9 +262,9 @@ Done";
 #[test]
 fn keys_are_mapped(rt: HostRuntime) -> Result<(), Fail> {
     let alloc = rt.alloc();
-    let world = script(alloc, "tick 1")?;
+    let world = world_of(alloc, "tick 1")?;
     for (file, want) in [(MAPPED, MAPPED_TRACE), (TWICE_MAPPED, TWICE_MAPPED_TRACE)] {
-        let text = given(alloc, &TICK, file.as_bytes(), world.as_bytes())?;
+        let text = given(alloc, &TICK, file.as_bytes(), world.as_bytes(), &[])?;
         assert_eq!(rt; text.as_str(), want);
     }
     Ok(())

@@ -8,6 +8,4 @@ mod printed;
 #[cfg(test)]
 mod refusals;
 #[cfg(test)]
-mod stage;
-#[cfg(test)]
 mod words;

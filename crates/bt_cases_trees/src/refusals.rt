@@ -1,6 +1,6 @@
 //! Tree files and world files that are refused, and reads that fail.
 
-use crate::stage::{answered, given};
+use bt_stage::{answered, given};
 use std::test::Fail;
 
 const TICK: [&str; 3] = ["tick", "T", "W"];
@@ -50,7 +50,7 @@ fn trees_and_worlds_are_refused(rt: HostRuntime) -> Result<(), Fail> {
             "refused world NoRow 'Q'\nWorld",
         ),
     ] {
-        let text = answered(rt.alloc(), &TICK, nodes, &[lines], &[])?;
+        let text = answered(rt.alloc(), &TICK, nodes, lines, &[])?;
         assert_eq!(rt; text.as_str(), want, "{nodes}");
     }
     Ok(())
@@ -81,7 +81,7 @@ fn a_read_that_fails_has_its_line(rt: HostRuntime) -> Result<(), Fail> {
         (1, CHECK_THEN_ACT, "refused read tree\nRead"),
         (2, CHECK_THEN_ACT, "refused read world\nRead"),
     ] {
-        let text = answered(rt.alloc(), &TICK, TWO_CHECKS, &[lines], &[call])?;
+        let text = answered(rt.alloc(), &TICK, TWO_CHECKS, lines, &[call])?;
         assert_eq!(rt; text.as_str(), want, "{call}");
     }
     Ok(())
@@ -192,7 +192,7 @@ fn trees_are_refused(rt: HostRuntime) -> Result<(), Fail> {
             "refused tree TooMuchWork\nTree",
         ),
     ] {
-        let text = answered(rt.alloc(), &["check", "T"], nodes, &[], &[])?;
+        let text = answered(rt.alloc(), &["check", "T"], nodes, "", &[])?;
         assert_eq!(rt; text.as_str(), want, "{nodes}");
     }
     Ok(())

@@ -1,6 +1,6 @@
 //! Which words are commands, and which of them are refused.
 
-use crate::stage::{answered, given, tree_of, world_of};
+use bt_stage::{answered, given, tree_of, world_of};
 use std::test::Fail;
 
 const TWO_CHECKS: &str = "<Sequence><A/><B/></Sequence>";
@@ -62,7 +62,7 @@ fn words_are_commands_or_refused(rt: HostRuntime) -> Result<(), Fail> {
         (&["tick", "T", "none"], "refused world Header 1\nWorld"),
     ];
     for (words, want) in table {
-        let text = answered(rt.alloc(), words, TWO_CHECKS, &[TWO_CONDITIONS], &[])?;
+        let text = answered(rt.alloc(), words, TWO_CHECKS, TWO_CONDITIONS, &[])?;
         assert_eq!(rt; text.as_str(), want);
     }
     Ok(())
@@ -81,7 +81,7 @@ Done";
 fn rounds_are_numbers(rt: HostRuntime) -> Result<(), Fail> {
     let alloc = rt.alloc();
     let tree = tree_of(alloc, "<A/>")?;
-    let world = world_of(alloc, &["action A timed 0"])?;
+    let world = world_of(alloc, "action A timed 0")?;
     let table: [(&[&str], &str); 10] = [
         (&["live", "T", "W"], "refused words\nWords"),
         (&["live", "T", "--ticks", "1"], "refused words\nWords"),

@@ -1,13 +1,10 @@
 //! `bt` ticks a behavior tree over the events of a world script and prints the trace.
 #![tactic(auto)]
 
-mod headline;
-
-use crate::headline::bt;
-use bt_answer::add_driver;
 use bt_driver::Driver;
 use bt_leaves::{Conditions, Gate, Replay, Timed};
 use bt_outside::{DirShelf, HostClock, OutSink};
+use bt_program::{add_driver, bt};
 use bt_script::{Name, NoMemory};
 use bt_words::{Exit, NoWords, words_of};
 use std::io;

@@ -2,7 +2,7 @@ ghost use Rattle.std.specs.Prelude.{◌≡◌, ◌≤◌, ◌⊎◌, None, map};
 ghost use Rattle.bt_answer.specs.Answers.{CommandAnswered, Gave, IsWhole, ReadFailed, WordsUnread, side};
 ghost use Rattle.bt_answer.specs.Output.{words_refused};
 ghost use Rattle.bt_loop.specs.Steps.{IsSameRoster};
-ghost use Rattle.bt_main.specs.Headline.{EachOutput, IsGiven, UnreadLine, WholeOutput};
+ghost use Rattle.bt_program.specs.Headline.{EachOutput, IsGiven, UnreadLine, WholeOutput};
 ghost use Rattle.bt_model.specs.Drivers.{NothingHeld};
 ghost use Rattle.bt_outside.specs.Counts.{Rose};
 ghost use Rattle.bt_words.specs.Words.{command_of};
@@ -18,7 +18,7 @@ use std::alloc::Global;
 
 /// Answers the words of the command line: runs the command that they are, over the files of the
 /// shelf, the moments of the clock and the drivers of the roster, and writes its output line by line to the sink.
-pub(crate) fn bt<S: Shelf, K: Sink, C: Clock>(
+pub fn bt<S: Shelf, K: Sink, C: Clock>(
     alloc: Global,
     words: &[Name],
     shelf: &mut S,

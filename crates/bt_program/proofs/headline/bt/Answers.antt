@@ -1,5 +1,5 @@
-use Rattle.bt_main.proofs.Clauses.{complete_of, each_of, no_command_of, read_of, whole_of, words_of, write_of}
-use Rattle.bt_main.proofs.headline.bt.Goals as goal
+use Rattle.bt_program.proofs.Clauses.{complete_of, each_of, no_command_of, read_of, whole_of, words_of, write_of}
+use Rattle.bt_program.proofs.headline.bt.Goals as goal
 
 pub returns-clause-words : goal.returns-clause-words
 returns-clause-words g c = words_of _ _ _ _ _ _ _ c.answer_words.ensures.answered

@@ -1,0 +1,73 @@
+ghost use Rattle.std.specs.Prelude.{map};
+ghost use Rattle.bt_model.specs.Drivers.{NothingHeld};
+
+use crate::ending::{Ending, answer, answer_with};
+use crate::files::{shelf_of, shelf_of_rows, tree_of, world_of};
+use bt_driver::Driver;
+use bt_outside::{MemClock, MemSink, Sink};
+use bt_script::NoMemory;
+use bt_words::Exit;
+use std::alloc::Global;
+
+/// The words of a run over the files `T` and `W`.
+pub const TICK: [&str; 3] = ["tick", "T", "W"];
+
+/// What words write over files of which these reads fail, with the exit after it.
+pub fn given(
+    alloc: Global,
+    words: &[&str],
+    tree: &[u8],
+    world: &[u8],
+    fails: &[u64],
+) -> Result<String, NoMemory> {
+    let mut shelf = shelf_of(alloc, tree, world, fails)?;
+    let mut sink = MemSink::new(alloc, Vec::new(alloc));
+    let mut clock = MemClock::new(Vec::new(alloc));
+    let exit = answer(alloc, words, &mut shelf, &mut sink, &mut clock)?.exit;
+    let text = str::from_utf8(sink.list()).unwrap_or("?");
+    Ok(format!(in alloc; "{text}{exit:?}")?)
+}
+
+/// What words write over a tree of these nodes and a world of these lines, with the exit after it.
+pub fn answered(
+    alloc: Global,
+    words: &[&str],
+    nodes: &str,
+    lines: &str,
+    fails: &[u64],
+) -> Result<String, NoMemory> {
+    let tree = tree_of(alloc, nodes)?;
+    let world = world_of(alloc, lines)?;
+    given(alloc, words, tree.as_bytes(), world.as_bytes(), fails)
+}
+
+/// What a run writes, with its exit after it.
+pub fn ran(alloc: Global, nodes: &str, lines: &str) -> Result<String, NoMemory> {
+    answered(alloc, &TICK, nodes, lines, &[])
+}
+
+/// Runs these nodes in a world of these lines with the four drivers of the modelled world.
+pub fn run(
+    alloc: Global,
+    nodes: &str,
+    lines: &str,
+    sink: &mut MemSink,
+) -> Result<Ending, NoMemory> {
+    let mut shelf = shelf_of_rows(alloc, nodes, lines)?;
+    let mut clock = MemClock::new(Vec::new(alloc));
+    answer(alloc, &TICK, &mut shelf, sink, &mut clock)
+}
+
+/// Runs these nodes in a world of these lines with these drivers.
+pub fn run_with<K: Sink>(
+    alloc: Global,
+    nodes: &str,
+    lines: &str,
+    sink: &mut K,
+    roster: &mut Vec<Box<dyn Driver>>,
+) -> Result<Exit, NoMemory>
+    requires { NothingHeld (map (λ b. state b) roster.old.items) }
+{
+    let mut shelf = shelf_of_rows(alloc, nodes, lines)?;
+    answer_with(alloc, &TICK, &mut shelf, sink, roster)
+}
