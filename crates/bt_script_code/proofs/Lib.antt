@@ -1,2 +1,4 @@
-pub mod Meanings
-pub mod Reaches
+mod Fitting
+mod Means
+mod Standing
+mod Steps

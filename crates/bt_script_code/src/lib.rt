@@ -2,15 +2,10 @@
 #![tactic(auto)]
 
 mod codes;
-mod compiling;
-mod ints;
-mod numbers;
+mod instr;
+mod machine;
 mod operators;
-mod running;
-mod slots;
+mod postfix;
+mod stack;
 
 pub use codes::{Code, ExprCode};
-pub use compiling::{compile, compile_expr};
-pub use ints::exec_int;
-pub use numbers::number;
-pub use running::exec;
