@@ -188,3 +188,9 @@ module _ (look : ℕ → Result Value ExecFault) where
 
     pub expr_value : (e : Expr) → code_value look (code_of names e) ≡ eval e
     expr_value e = value_when (code_of names e) (eval e) (expr_means e)
+
+    -- the code of an operator between a slot and an expression
+    pub change_value : (op : BinOp) (k : ℕ) (e : Expr) → code_value look (between op (instr.Slot k ∷ []) (code_of names e)) ≡ combined op (look k) (eval e)
+    change_value op k e =
+        value_when (between op (instr.Slot k ∷ []) (code_of names e)) (combined op (look k) (eval e))
+        (between_means op (instr.Slot k ∷ []) (code_of names e) (look k) (eval e) (slot_means k) (expr_means e))

@@ -2,6 +2,7 @@
 #![tactic(auto)]
 
 mod codes;
+mod compiling;
 mod instr;
 mod machine;
 mod operators;
@@ -9,3 +10,4 @@ mod postfix;
 mod stack;
 
 pub use codes::{Code, ExprCode};
+pub use compiling::{compile, compile_expr};

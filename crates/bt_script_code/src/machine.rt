@@ -102,10 +102,10 @@ pub fn run<C, S: Stack<C>>(code: &Postfix, slots: &C, stack: &mut S) -> Result<(
     ensures leaves { Leaves result (put (code_value (S.gives slots.now) code.now.instrs) []) (λ _. S.values stack.new) }
     ensures answered { S.numbers ≡ true → S.IsHeld slots.now → code_texts code.now.instrs ≡ 0 → IsAnswered result }
 {
-    let code = code.instrs.list();
+    let instrs = code.instrs.list();
     let mut place = 0;
-    while place < code.len() {
-        place = turn_at(code, place, slots, stack)?;
+    while place < instrs.len() {
+        place = turn_at(instrs, place, slots, stack)?;
     }
     Ok(())
 }

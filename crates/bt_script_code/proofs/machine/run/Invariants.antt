@@ -1,4 +1,4 @@
-use Rattle.std.proofs.Common.{◌≡◌, ◌-◌, true, length}
+use Rattle.std.proofs.Common.{◌≡◌, true, length}
 use Rattle.bt_script_code.specs.Rooms.{fits_from}
 use Rattle.bt_script_code.specs.Running.{code_value, gives_from}
 use Rattle.bt_script_code.proofs.machine.run.Given as goal
@@ -8,9 +8,6 @@ invariant-loop-place g l =
     let values = g.S.Stack.values in
     let look = g.S.Stack.gives l.slots in
     record {
-      gives : gives_from look l.code-2 l.place (values l.stack) ≡ code_value look l.code-2;
-      room : fits_from l.code-2 l.place (length (values l.stack)) ≡ true;
+      gives : gives_from look l.instrs l.place (values l.stack) ≡ code_value look l.instrs;
+      room : fits_from l.instrs l.place (length (values l.stack)) ≡ true;
     }
-
-abbrev pub measure-loop-place : goal.measure-loop-place
-measure-loop-place g l = length l.code-2 - l.place

@@ -1,0 +1,20 @@
+use Rattle.std.proofs.Common.{◌≡◌, ◌≤◌, ◌∙◌, map, ap, subst, sym, arith}
+use Rattle.std.proofs.lemmas.Grind.{common_steps}
+use Rattle.bt_script_code.specs.Codes.{program}
+use Rattle.bt_script_code.specs.Programs.{Program, program_of, statement_of}
+use Rattle.bt_script_code.specs.Sources.{slot_of}
+use Rattle.bt_script_code.specs.Statements.{stmt_program, one_by_one}
+use Rattle.bt_script_code.proofs.Reaches.{stmts_within}
+use Rattle.bt_script_code.proofs.Same.{same_program}
+use Rattle.bt_script_code.proofs.compiling.compile.Goals as goal
+
+pub returns : goal.returns
+unfolding program
+returns c =
+    let names = slot_of c.args.slots.now in
+    let all : map stmt_program c.of.result ≡ map (statement_of names) c.args.script.now.stmts = grind (arith, common_steps) in
+    let same = ap one_by_one all ∙ same_program names c.args.script.now.stmts in
+    record {
+      meaning = same;
+      reach = λ n below. subst (λ k. k ≤ n) (sym (ap (λ (p : Program). p.reach) same)) (stmts_within n c.args.slots.now below c.args.script.now.stmts c.requires.compilable);
+    }
