@@ -4,10 +4,18 @@
 mod codes;
 mod compiling;
 mod instr;
+mod ints;
 mod machine;
+mod number_stack;
+mod numbers;
 mod operators;
 mod postfix;
+mod running;
 mod stack;
+mod value_stack;
 
 pub use codes::{Code, ExprCode};
 pub use compiling::{compile, compile_expr};
+pub use ints::exec_int;
+pub use numbers::number;
+pub use running::exec;

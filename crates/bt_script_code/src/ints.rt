@@ -1,0 +1,159 @@
+ghost use Rattle.std.specs.Prelude.{◌≡◌, ◌≢◌, ◌+◌, ◌<◌, ◌≤◌, None, IfNone, IfSome, IsErr, OnErr, Ok, length};
+ghost use Rattle.std.specs.List.{All};
+ghost use Rattle.bt_script.specs.declared.value.Value.TheVariants.{Int};
+ghost use Rattle.bt_script.specs.Entries.{entry_of, HoldsNoText, IsAnswered};
+ghost use Rattle.bt_script.specs.Evaluation.{Run, written, if_there};
+ghost use Rattle.bt_script.specs.Stops.{UnlessMemory};
+ghost use Rattle.bt_script_code.specs.Codes.{program};
+ghost use Rattle.bt_script_code.specs.Running.{code_reach, code_texts, code_value};
+ghost use Rattle.bt_script_code.specs.Stacks.{Leaves};
+ghost use Rattle.bt_script_code.specs.Statements.{stmt_code_reach, stmt_code_texts, stmt_run};
+
+use crate::codes::{Code, StmtCode};
+use crate::machine::run;
+use crate::number_stack::NumberStack;
+use crate::postfix::Postfix;
+use crate::stack::Stack;
+use bt_script::{BinOp, Cells, ExecFault, Stop, Txt, UnOp, Value};
+
+/// A stack of numbers over entries. It can't hold texts.
+#[derive(Drop)]
+struct EntryNumbers {
+    numbers: NumberStack,
+}
+
+impl<B: Cells> Stack<B> for EntryNumbers {
+    ghost use Rattle.std.specs.Prelude.{true, length, map};
+    ghost use Rattle.std.specs.List.{All};
+    ghost use Rattle.bt_script.specs.declared.value.Value.TheVariants.{Int as Number};
+    ghost use Rattle.bt_script.specs.Entries.{entry_of as found, HoldsNoText as IsPlain};
+
+    ghost values = { λ s. map Number s.numbers };
+
+    ghost numbers = { true };
+
+    ghost reach = { λ cells. length (B.entries cells) };
+
+    ghost gives = { λ cells. found (B.entries cells) };
+
+    ghost IsHeld = { λ cells. All IsPlain (B.entries cells) };
+
+    #[inline(always)]
+    fn put_number(&mut self, n: i64) {
+        self.numbers.put(n);
+    }
+
+    #[inline(always)]
+    fn put_text(&mut self, _text: &Txt) -> Result<(), Stop<ExecFault>> {
+        Err(Stop::NoMemory)
+    }
+
+    #[inline(always)]
+    fn put_slot(&mut self, slot: u32, slots: &B) -> Result<(), Stop<ExecFault>> {
+        match slots.get(slot) {
+            Some(Value::Int(n)) => {
+                self.numbers.put(*n);
+                Ok(())
+            }
+            Some(Value::Text(_)) => Err(Stop::NoMemory),
+            None => Err(Stop::Fault(ExecFault::NoEntry { slot })),
+        }
+    }
+
+    #[inline(always)]
+    fn unary(&mut self, op: UnOp) -> Result<(), Stop<ExecFault>> {
+        Ok(self.numbers.unary(op)?)
+    }
+
+    #[inline(always)]
+    fn binary(&mut self, op: BinOp) -> Result<(), Stop<ExecFault>> {
+        Ok(self.numbers.binary(op)?)
+    }
+
+    #[inline(always)]
+    fn take_truth(&mut self) -> Result<bool, Stop<ExecFault>> {
+        Ok(self.numbers.take_truth())
+    }
+}
+
+/// The number that a code gives over entries, or its first fault. It gives up where a text is met.
+#[inline(always)]
+fn int_of<B: Cells>(code: &Postfix, cells: &B) -> Result<i64, Stop<ExecFault>>
+    requires { code_reach code.now.instrs ≤ length (B.entries cells.now) }
+    ensures leaves { Leaves result (code_value (entry_of (B.entries cells.now)) code.now.instrs) Int }
+    ensures answered { code_texts code.now.instrs ≡ 0 → All HoldsNoText (B.entries cells.now) → IsAnswered result }
+{
+    let mut stack = EntryNumbers {
+        numbers: NumberStack::empty(),
+    };
+    run(code, cells, &mut stack)?;
+    Ok(stack.numbers.take())
+}
+
+/// Writes the number to a slot that has an entry, and gives it.
+#[inline(always)]
+fn assign_int<B: Cells>(slot: u32, n: i64, cells: &mut B) -> Result<i64, Stop<ExecFault>>
+    requires { slot < length (B.entries cells.old) }
+    ensures answer { let old = B.entries cells.old in
+        Leaves result (written slot old (if_there slot old (Ok (Int n)))).answer Int }
+    ensures entries { let old = B.entries cells.old in
+        UnlessMemory result (B.entries cells.new ≡ (written slot old (if_there slot old (Ok (Int n)))).entries) }
+    ensures nothing { OnErr result (B.entries cells.new ≡ B.entries cells.old) }
+    ensures answered { IsAnswered result }
+    ensures slots { length (B.entries cells.new) ≡ length (B.entries cells.old) }
+    ensures left { All HoldsNoText (B.entries cells.old) → All HoldsNoText (B.entries cells.new) }
+{
+    match cells.get(slot) {
+        None => Err(Stop::Fault(ExecFault::NoEntry { slot })),
+        Some(_) => {
+            cells.put_int(slot, n);
+            Ok(n)
+        }
+    }
+}
+
+/// Runs a statement, and gives its number or its fault. It gives up where a text is met, and then
+/// nothing is written.
+#[inline(always)]
+pub fn step_int<B: Cells>(stmt: &StmtCode, cells: &mut B) -> Result<i64, Stop<ExecFault>>
+    requires { stmt_code_reach stmt.now ≤ length (B.entries cells.old) }
+    ensures answer { Leaves result (stmt_run stmt.now (B.entries cells.old)).answer Int }
+    ensures entries { UnlessMemory result (B.entries cells.new ≡ (stmt_run stmt.now (B.entries cells.old)).entries) }
+    ensures nothing { OnErr result (B.entries cells.new ≡ B.entries cells.old) }
+    ensures answered { stmt_code_texts stmt.now ≡ 0 → All HoldsNoText (B.entries cells.old) → IsAnswered result }
+    ensures slots { length (B.entries cells.new) ≡ length (B.entries cells.old) }
+    ensures left { All HoldsNoText (B.entries cells.old) → All HoldsNoText (B.entries cells.new) }
+{
+    match stmt {
+        StmtCode::Create(slot, code) => {
+            let n = int_of(code, cells)?;
+            cells.put_int(*slot, n);
+            Ok(n)
+        }
+        StmtCode::Assign(slot, code) => {
+            let n = int_of(code, cells)?;
+            assign_int(*slot, n, cells)
+        }
+        StmtCode::Plain(code) => int_of(code, cells),
+    }
+}
+
+/// Runs a script of one statement, and gives its number. None where there are more, and where the
+/// statement gives no number or a text is met, and then nothing is written. It is not inlined, as it
+/// wants more registers than a caller has to spare.
+#[tactic(auto, unfolding(crate::specs::Codes::program))]
+#[inline(never)]
+pub fn exec_int<B: Cells>(code: &Code, cells: &mut B) -> Option<i64>
+    requires { (program code.now).reach ≤ length (B.entries cells.old) }
+    ensures gives { IfSome result (λ n. (program code.now).run (B.entries cells.old) ≡ record { answer = Ok (Int n); entries = B.entries cells.new }) }
+    ensures nothing { IfNone result (B.entries cells.new ≡ B.entries cells.old) }
+    ensures fault { length code.now.stmts ≡ 1 → (program code.now).texts ≡ 0 → All HoldsNoText (B.entries cells.old) → IfNone result (IsErr ((program code.now).run (B.entries cells.old)).answer) }
+    ensures several { length code.now.stmts ≢ 1 → result ≡ None }
+    ensures slots { length (B.entries cells.new) ≡ length (B.entries cells.old) }
+    ensures left { All HoldsNoText (B.entries cells.old) → All HoldsNoText (B.entries cells.new) }
+{
+    match code.stmts.list() {
+        [only] => step_int(only, cells).ok(),
+        _ => None,
+    }
+}

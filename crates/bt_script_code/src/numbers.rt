@@ -1,0 +1,87 @@
+ghost use Rattle.std.specs.Prelude.{◌≡◌, ◌+◌, ◌<◌, ◌≤◌, length};
+ghost use Rattle.bt_script_code.specs.Codes.{formula};
+ghost use Rattle.bt_script.specs.Entries.{look_of};
+ghost use Rattle.bt_script.specs.Operators.{int_value};
+
+use crate::codes::ExprCode;
+use crate::machine::run;
+use crate::number_stack::NumberStack;
+use crate::stack::Stack;
+use bt_script::{BinOp, ExecFault, Looks, Seen, Stop, Txt, UnOp};
+
+/// A stack of numbers over looks.
+#[derive(Drop)]
+struct SeenNumbers {
+    numbers: NumberStack,
+}
+
+impl<L: Looks> Stack<L> for SeenNumbers {
+    ghost use Rattle.std.specs.Prelude.{true, length, map};
+    ghost use Rattle.bt_script.specs.declared.value.Value.TheVariants.{Int as Number};
+    ghost use Rattle.bt_script.specs.Entries.{look_of as seen};
+
+    ghost values = { λ s. map Number s.numbers };
+
+    ghost numbers = { true };
+
+    ghost reach = { λ looks. length (L.sights looks) };
+
+    ghost gives = { λ looks. seen (L.sights looks) };
+
+    ghost IsHeld = { λ looks. Unit {0} };
+
+    #[inline(always)]
+    fn put_number(&mut self, n: i64) {
+        self.numbers.put(n);
+    }
+
+    #[inline(always)]
+    fn put_text(&mut self, _text: &Txt) -> Result<(), Stop<ExecFault>> {
+        Err(Stop::NoMemory)
+    }
+
+    #[inline(always)]
+    fn put_slot(&mut self, slot: u32, slots: &L) -> Result<(), Stop<ExecFault>> {
+        match slots.look(slot) {
+            Seen::Int(n) => {
+                self.numbers.put(n);
+                Ok(())
+            }
+            Seen::Text => Err(Stop::Fault(ExecFault::Mixed)),
+            Seen::Absent => Err(Stop::Fault(ExecFault::NoEntry { slot })),
+        }
+    }
+
+    #[inline(always)]
+    fn unary(&mut self, op: UnOp) -> Result<(), Stop<ExecFault>> {
+        Ok(self.numbers.unary(op)?)
+    }
+
+    #[inline(always)]
+    fn binary(&mut self, op: BinOp) -> Result<(), Stop<ExecFault>> {
+        Ok(self.numbers.binary(op)?)
+    }
+
+    #[inline(always)]
+    fn take_truth(&mut self) -> Result<bool, Stop<ExecFault>> {
+        Ok(self.numbers.take_truth())
+    }
+}
+
+/// The number that an expression without text literals gives over the looks, or its first fault. A
+/// text that is looked at is `Mixed`. It takes no memory.
+#[tactic(auto, unfolding(crate::specs::Codes::formula))]
+pub fn number<L: Looks>(code: &ExprCode, looks: &L) -> Result<i64, ExecFault>
+    requires reach { (formula code.now).reach ≤ length (L.sights looks.now) }
+    requires textless { (formula code.now).texts ≡ 0 }
+    ensures { int_value result ≡ (formula code.now).value (look_of (L.sights looks.now)) }
+{
+    let mut stack = SeenNumbers {
+        numbers: NumberStack::empty(),
+    };
+    match run(&code.postfix, looks, &mut stack) {
+        Ok(()) => Ok(stack.numbers.take()),
+        Err(Stop::Fault(fault)) => Err(fault),
+        Err(Stop::NoMemory) => unreachable!(),
+    }
+}
