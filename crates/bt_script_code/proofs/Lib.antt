@@ -1,7 +1,8 @@
-mod Fitting
-mod Means
-mod Patches
-mod Reaches
-mod Same
-mod Standing
-mod Steps
+pub mod Fitting
+pub mod Given
+pub mod Means
+pub mod Patches
+pub mod Reaches
+pub mod Same
+pub mod Standing
+pub mod Steps

@@ -1,5 +1,7 @@
 -- The code of a script means what the script means.
-use Rattle.std.proofs.Common.{◌≡◌, ℕ, ◌+◌, max, List, [], ◌∷◌, ◌++◌, map, length, refl, sym, ap, ◌∙◌, subst, arith, pos, sum}
+use Rattle.std.proofs.Common.{◌≡◌, ℕ, ◌+◌, max, List, [], ◌∷◌, ◌++◌, map, length, refl, sym, ap, ◌∙◌, subst, arith, pos, sum, take, get_or, ◌<◌}
+use Rattle.std.proofs.lemmas.Grind.{take_at_read}
+use Rattle.std.proofs.lemmas.List.{map-append}
 use Rattle.std.proofs.lemmas.List.Sums.{sum_by-cons}
 use Rattle.std.specs.Prelude.{Option, Result}
 use Rattle.bt_script.specs.declared.value.Value.{Value}
@@ -182,3 +184,9 @@ module _ (names : List ℕ → ℕ) where
     reach = same_reaches stmts i;
     texts = sum (same_counts stmts i);
   }
+
+-- one more of each of two lists that are seen alike
+pub one_more_each : {X Y Z : Type 0} (f : X → Z) (g : Y → Z) (xs : List X) (ys : List Y) (i : ℕ) (x : X) (y : Y) → i < length ys → y ≡ get_or ys i y → f x ≡ g y → map f xs ≡ map g (take i ys) → map f (xs ++ x ∷ []) ≡ map g (take (i + 1) ys)
+one_more_each f g xs ys i x y within is same so_far =
+    map-append f xs (x ∷ []) ∙ (λ k. so_far k ++ same k ∷ []) ∙ sym (map-append g (take i ys) (y ∷ []))
+    ∙ ap (map g) (ap (λ z. take i ys ++ z ∷ []) is ∙ sym (take_at_read ys i y within).1)

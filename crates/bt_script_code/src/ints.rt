@@ -77,6 +77,7 @@ impl<B: Cells> Stack<B> for EntryNumbers {
 }
 
 /// The number that a code gives over entries, or its first fault. It gives up where a text is met.
+#[tactic(auto, using(crate::proofs::Given::number_there, crate::proofs::Given::number_given))]
 #[inline(always)]
 fn int_of<B: Cells>(code: &Postfix, cells: &B) -> Result<i64, Stop<ExecFault>>
     requires { code_reach code.now.instrs ≤ length (B.entries cells.now) }

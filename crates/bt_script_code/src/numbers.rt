@@ -70,7 +70,7 @@ impl<L: Looks> Stack<L> for SeenNumbers {
 
 /// The number that an expression without text literals gives over the looks, or its first fault. A
 /// text that is looked at is `Mixed`. It takes no memory.
-#[tactic(auto, unfolding(crate::specs::Codes::formula))]
+#[tactic(auto, using(crate::proofs::Given::number_there, crate::proofs::Given::number_given), unfolding(crate::specs::Codes::formula))]
 pub fn number<L: Looks>(code: &ExprCode, looks: &L) -> Result<i64, ExecFault>
     requires reach { (formula code.now).reach ≤ length (L.sights looks.now) }
     requires textless { (formula code.now).texts ≡ 0 }

@@ -80,6 +80,7 @@ impl<B: Cells> Stack<B> for EntryValues {
 }
 
 /// The value of a code, or its first fault.
+#[tactic(auto, using(crate::proofs::Given::value_there, crate::proofs::Given::value_given))]
 fn eval<B: Cells>(alloc: Global, code: &Postfix, cells: &B) -> Result<Value, Stop<ExecFault>>
     requires { code_reach code.now.instrs ≤ length (B.entries cells.now) }
     ensures { Gives result (code_value (entry_of (B.entries cells.now)) code.now.instrs) }

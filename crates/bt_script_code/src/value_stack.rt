@@ -28,14 +28,14 @@ pub struct ValueStack {
 }
 
 impl Model for ValueStack {
-    ghost use Rattle.std.specs.Prelude.{◌≡◌, List, map, reverse};
+    ghost use Rattle.std.specs.Prelude.{◌≡◌, ◌≤◌, List, length, map, reverse};
     ghost use Rattle.bt_script.specs.declared.value.Value.{Value as Content};
 
     ghost Value = { List Content };
 
     ghost view = { λ s. reverse (map (λ h. h.value) s.values.items) };
 
-    ghost invariant = { λ s. s.values.capacity ≡ 65 };
+    ghost invariant = { λ s. (s.values.capacity ≡ 65) × (length s.values.items ≤ 65) };
 }
 
 impl ValueStack {
