@@ -9,7 +9,7 @@ use Rattle.bt_script.specs.declared.syntax.Expr.TheOpen.{Expr-F, Num, Lit, Look,
 use Rattle.bt_script.specs.Grammar.{height_step, height}
 use Rattle.bt_script_code.specs.declared.instr.Instr.{Instr}
 use Rattle.bt_script_code.specs.declared.instr.Instr.TheVariants as instr
-use Rattle.bt_script_code.specs.Postfixes.{in_turn, and_code, or_code, choice_code, between, code_step, code_of}
+use Rattle.bt_script_code.specs.Postfixes.{between, choice_code, code_step, code_of}
 use Rattle.bt_script_code.specs.Rooms.{fits_step, fits_from, fits}
 use Rattle.bt_script_code.proofs.Standing.{behind}
 
@@ -37,6 +37,10 @@ taken above most next le one fit = and_from _ _ (and_from _ _ (lt-ltb 0 (above +
 more_needs : (a b : ℕ) (code : List Instr) → a ≤ b → Needs a code → Needs b code
 more_needs a b code le needs rest above room fit = needs rest above (omega arith) fit
 
+-- both operands, and then the operator
+abbrev in_turn : BinOp → List Instr → List Instr → List Instr
+in_turn op a b = a ++ (b ++ instr.Binary op ∷ [])
+
 unary_needs : (op : UnOp) (n : ℕ) (a : List Instr) → Needs n a → Needs n (a ++ instr.Unary op ∷ [])
 unary_needs op n a needs rest above le fit =
     subst (λ code. fits_from code 0 above ≡ true) (sym (append_assoc a (instr.Unary op ∷ []) rest))
@@ -60,14 +64,14 @@ module _ (n : ℕ) (b : List Instr) (nb : Needs n b) (rest : List Instr) (above 
   passed_needs : fits_from (b ++ instr.Truth ∷ rest) (length b + 1) (above + 1) ≡ true
   passed_needs = ap (λ (f : ℕ → Bool). f (above + 1)) (past b (instr.Truth ∷ rest) 1) ∙ fit
 
-and_needs : (n : ℕ) (a b : List Instr) → Needs n a → Needs n b → Needs (1 + n) (and_code a b)
+and_needs : (n : ℕ) (a b : List Instr) → Needs n a → Needs n b → Needs (1 + n) (between And a b)
 and_needs n a b na nb rest above le fit =
     let i = instr.AndThen (length b + 1) in
     subst (λ code. fits_from code 0 above ≡ true) (sym (append_assoc a (i ∷ (b ++ instr.Truth ∷ [])) rest ∙ ap (λ z. a ++ i ∷ z) (append_assoc b (instr.Truth ∷ []) rest)))
     (na (i ∷ (b ++ instr.Truth ∷ rest)) above (omega arith)
     (taken above (1 + n) _ le (omega arith) (and_from _ _ (right_needs n b nb rest above le fit) (passed_needs n b nb rest above le fit))))
 
-or_needs : (n : ℕ) (a b : List Instr) → Needs n a → Needs n b → Needs (1 + n) (or_code a b)
+or_needs : (n : ℕ) (a b : List Instr) → Needs n a → Needs n b → Needs (1 + n) (between Or a b)
 or_needs n a b na nb rest above le fit =
     let i = instr.OrElse (length b + 1) in
     subst (λ code. fits_from code 0 above ≡ true) (sym (append_assoc a (i ∷ (b ++ instr.Truth ∷ [])) rest ∙ ap (λ z. a ++ i ∷ z) (append_assoc b (instr.Truth ∷ []) rest)))

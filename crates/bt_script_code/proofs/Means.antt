@@ -14,9 +14,13 @@ use Rattle.bt_script.specs.Results.{◌>>=◌}
 use Rattle.bt_script.specs.Evaluation.{eval_step, eval_of}
 use Rattle.bt_script_code.specs.declared.instr.Instr.{Instr}
 use Rattle.bt_script_code.specs.declared.instr.Instr.TheVariants as instr
-use Rattle.bt_script_code.specs.Postfixes.{in_turn, and_code, or_code, choice_code, between, code_step, code_of}
+use Rattle.bt_script_code.specs.Postfixes.{between, choice_code, code_step, code_of}
 use Rattle.bt_script_code.specs.Running.{put, told, Step, next, either_step, does, gives_from, code_value}
 use Rattle.bt_script_code.proofs.Standing.{behind}
+
+-- both operands, and then the operator
+abbrev in_turn : BinOp → List Instr → List Instr → List Instr
+in_turn op a b = a ++ (b ++ instr.Binary op ∷ [])
 
 module _ (look : ℕ → Result Value ExecFault) where
   abbrev gives : List Instr → ℕ → List Value → Result Value ExecFault
@@ -107,13 +111,13 @@ module _ (look : ℕ → Result Value ExecFault) where
     or_goes (Err f) = refl
     or_goes (Ok x) = forks (number_in x) (λ below. (length b + 1, Int (pos 1) ∷ below)) (λ below. (0, below)) (b ++ instr.Truth ∷ rest) stack (Ok (Int (pos 1))) counted (λ v. gives rest 0 (v ∷ stack)) (passed (Int (pos 1) ∷ stack)) right_side
 
-  and_means : (a b : List Instr) (ra rb : Result Value ExecFault) → Means a ra → Means b rb → Means (and_code a b) (both ra rb)
+  and_means : (a b : List Instr) (ra rb : Result Value ExecFault) → Means a ra → Means b rb → Means (between And a b) (both ra rb)
   and_means a b ra rb ma mb rest stack =
       let i = instr.AndThen (length b + 1) in
       ap (λ code. gives code 0 stack) (append_assoc a (i ∷ (b ++ instr.Truth ∷ [])) rest ∙ ap (λ z. a ++ i ∷ z) (append_assoc b (instr.Truth ∷ []) rest))
       ∙ ma (i ∷ (b ++ instr.Truth ∷ rest)) stack ∙ and_goes b rb mb rest stack ra
 
-  or_means : (a b : List Instr) (ra rb : Result Value ExecFault) → Means a ra → Means b rb → Means (or_code a b) (either ra rb)
+  or_means : (a b : List Instr) (ra rb : Result Value ExecFault) → Means a ra → Means b rb → Means (between Or a b) (either ra rb)
   or_means a b ra rb ma mb rest stack =
       let i = instr.OrElse (length b + 1) in
       ap (λ code. gives code 0 stack) (append_assoc a (i ∷ (b ++ instr.Truth ∷ [])) rest ∙ ap (λ z. a ++ i ∷ z) (append_assoc b (instr.Truth ∷ []) rest))

@@ -7,22 +7,6 @@ use Rattle.bt_script.specs.declared.syntax.Expr.TheOpen.{Expr-F, Num, Lit, Look,
 use Rattle.bt_script_code.specs.declared.instr.Instr.{Instr}
 use Rattle.bt_script_code.specs.declared.instr.Instr.TheVariants as instr
 
--- both operands, and then the operator
-abbrev pub in_turn : BinOp → List Instr → List Instr → List Instr
-in_turn op a b = a ++ (b ++ instr.Binary op ∷ [])
-
--- `&&`: the right operand is passed over where the left one decides
-abbrev pub and_code : List Instr → List Instr → List Instr
-and_code a b = a ++ instr.AndThen (length b + 1) ∷ (b ++ instr.Truth ∷ [])
-
--- `||`
-abbrev pub or_code : List Instr → List Instr → List Instr
-or_code a b = a ++ instr.OrElse (length b + 1) ∷ (b ++ instr.Truth ∷ [])
-
--- `? :`: the test, and a part that passes over the other one
-abbrev pub choice_code : List Instr → List Instr → List Instr → List Instr
-choice_code a b c = a ++ instr.Unless (length b + 1) ∷ (b ++ instr.Skip (length c) ∷ c)
-
 -- what begins the right operand of an operator: a jump, whose length is not known yet
 abbrev pub begun : BinOp → List Instr
 begun And = instr.AndThen 0 ∷ []
@@ -65,6 +49,10 @@ ended (Compare c) b = b ++ instr.Binary (Compare c) ∷ []
 -- an operator between two operands
 abbrev pub between : BinOp → List Instr → List Instr → List Instr
 between op a b = a ++ ended op b
+
+-- `? :`: the test, and a part that passes over the other one
+abbrev pub choice_code : List Instr → List Instr → List Instr → List Instr
+choice_code a b c = a ++ instr.Unless (length b + 1) ∷ (b ++ instr.Skip (length c) ∷ c)
 
 abbrev pub code_step : (List ℕ → ℕ) → Expr-F (List Instr) → List Instr
 code_step names (Num n) = instr.Number n ∷ []

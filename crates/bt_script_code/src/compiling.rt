@@ -1,6 +1,6 @@
 ghost use Rattle.std.specs.Prelude.{◌≡◌, ◌+◌, ◌<◌, ◌≤◌, ℕ, List, [], ◌∷◌, ◌++◌, true, IfOk, OnOk, length};
 ghost use Rattle.std.specs.List.{All};
-ghost use Rattle.bt_script_code.specs.declared.instr.Instr.{Instr as Code1};
+ghost use Rattle.bt_script_code.specs.declared.instr.Instr.{Instr as Turn};
 ghost use Rattle.bt_script_code.specs.declared.instr.Instr.TheVariants.{Slot, Unless, Skip};
 ghost use Rattle.bt_script_code.specs.Codes.{program, formula};
 ghost use Rattle.bt_script_code.specs.Programs.{program_of, formula_of, statement_of};
@@ -51,7 +51,7 @@ fn begin(op: BinOp, code: &mut Vec<Instr>) -> Result<(), NoMemory>
 /// Ends the right operand of an operator, which began at this place.
 fn end(op: BinOp, place: usize, code: &mut Vec<Instr>) -> Result<(), NoMemory>
     requires { has_jump op ≡ true → place < length code.old.items }
-    ensures { (front b : List Code1) → place ≡ length front → code.old.items ≡ front ++ (begun op ++ b) →
+    ensures { (front b : List Turn) → place ≡ length front → code.old.items ≡ front ++ (begun op ++ b) →
         OnOk result (code.new.items ≡ front ++ ended op b) }
 {
     match op {
@@ -72,7 +72,7 @@ fn end(op: BinOp, place: usize, code: &mut Vec<Instr>) -> Result<(), NoMemory>
 /// Writes the lengths of the two jumps of `? :`, which stand at these places.
 fn aim(test: usize, end: usize, code: &mut Vec<Instr>)
     requires { test < end × end < length code.old.items }
-    ensures { (front b c : List Code1) → test ≡ length front → end ≡ length front + 1 + length b →
+    ensures { (front b c : List Turn) → test ≡ length front → end ≡ length front + 1 + length b →
         code.old.items ≡ front ++ Unless 0 ∷ (b ++ Skip 0 ∷ c) → code.new.items ≡ front ++ Unless (length b + 1) ∷ (b ++ Skip (length c) ∷ c) }
 {
     code[test] = Instr::Unless(end - test);
