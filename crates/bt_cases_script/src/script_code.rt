@@ -104,8 +104,58 @@ fn scripts_give_values_and_faults(rt: HostRuntime) -> Result<(), Fail> {
         ("x = 1", "NoEntry { slot: 1 }"),
         ("x := 0; x = 1", "1"),
         ("x := 1; x += y", "NoEntry { slot: 0 }"),
+        ("0 && 1 / 0", "0"),
+        ("'a' && 1 / 0", "Mixed"),
+        ("1 && 0", "0"),
+        ("1 || 1 / 0", "1"),
+        ("1 ? 2 : 1 / 0", "2"),
+        ("0 ? 1 / 0 : 3", "3"),
+        ("1 ? 0 && 1 / 0 : 1 / 0", "0"),
+        ("0 && (1 ? 1 / 0 : 'a') || (2 || 1 / 0)", "1"),
+        ("(1 || 'a') && (0 ? 1 / 0 : 5) && !(0 && 1 / 0)", "1"),
+        ("1 ? (0 ? 1 / 0 : 1 ? 7 : 1 / 0) : 1 / 0", "7"),
+        ("7 - 2 - 1", "4"),
+        ("x += 1 / 0", "NoEntry { slot: 1 }"),
+        ("x = 1 / 0", "ZeroDivisor"),
     ] {
         assert_eq!(rt; script_text(&rt, alloc, text)?.as_str(), want, "{text}");
+    }
+    Ok(())
+}
+
+/// An expression of 64 levels behind `x := 1` and a front: a text so many times, another one, and a
+/// third so many times.
+fn nested(
+    alloc: Global,
+    front: &str,
+    parts: (&str, &str, &str),
+    times: usize,
+) -> Result<String, AllocError> {
+    let (open, inner, close) = parts;
+    let open = open.repeat(alloc, times)?;
+    let close = close.repeat(alloc, times)?;
+    format!(in alloc; "x := 1; {front}{open}{inner}{close}")
+}
+
+#[test]
+fn expressions_have_64_levels(rt: HostRuntime) -> Result<(), Fail> {
+    let alloc = rt.alloc();
+    for (front, parts, times, want) in [
+        ("", ("-", "5", ""), 63, "-5"),
+        ("", ("!", "x", ""), 63, "0"),
+        ("", ("1 ? ", "7", " : 0"), 63, "7"),
+        ("", ("0 ? 0 : ", "7", ""), 63, "7"),
+        ("", ("1 ? ", "'a'", " : 1 / 0"), 62, "1 bytes a"),
+        ("", ("1 && ", "7", ""), 63, "1"),
+        ("", ("1 && ", "'a'", ""), 63, "Mixed"),
+        ("", ("0 || ", "7", ""), 63, "1"),
+        ("", ("1 && (", "x + 6", ")"), 31, "1"),
+        ("", ("0 || (", "1 / 0", ")"), 31, "ZeroDivisor"),
+        ("x += ", ("1 - (", "-x", ")"), 31, "3"),
+        ("x += ", ("1 ? ", "7", " : 0"), 63, "8"),
+    ] {
+        let text = nested(alloc, front, parts, times)?;
+        assert_eq!(rt; script_text(&rt, alloc, text.as_str())?.as_str(), want, "{text}");
     }
     Ok(())
 }

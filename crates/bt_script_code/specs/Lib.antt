@@ -1,4 +1,9 @@
 pub mod Codes
+pub mod Places
+pub mod Postfixes
 pub mod Programs
-pub mod SlotTrees
+pub mod Rooms
+pub mod Running
 pub mod Sources
+pub mod Stacks
+pub mod Statements

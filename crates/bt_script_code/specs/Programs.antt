@@ -4,7 +4,7 @@ use Rattle.bt_script.specs.declared.value.Value.{Value}
 use Rattle.bt_script.specs.declared.syntax.Expr.{Expr}
 use Rattle.bt_script.specs.declared.syntax.Stmt.{Stmt}
 use Rattle.bt_script.specs.declared.fault.ExecFault.{ExecFault}
-use Rattle.bt_script.specs.Evaluation.{Run, eval_of, exec_of}
+use Rattle.bt_script.specs.Evaluation.{Run, eval_of, stmt_of, exec_of}
 use Rattle.bt_script.specs.Grammar.{expr_of}
 use Rattle.bt_script_code.specs.Sources.{reach_of, stmt_reach}
 use Rattle.bt_script.specs.Scripts.{texts_of}
@@ -43,3 +43,7 @@ program_of names stmts = record {
   reach = greatest (map (stmt_reach names) stmts);
   texts = sum (map (λ s. texts_of (expr_of s)) stmts);
 }
+
+-- the meaning of a statement, with its names looked up through slots
+abbrev pub statement_of : (List ℕ → ℕ) → Stmt → Program
+statement_of names s = record { run = stmt_of names s; reach = stmt_reach names s; texts = texts_of (expr_of s) }

@@ -1,15 +1,19 @@
-ghost use Rattle.std.specs.Prelude.{◌≡◌, ◌<◌, ◌≤◌, ℕ, IfOk, length};
+ghost use Rattle.std.specs.Prelude.{◌≡◌, ◌+◌, ◌<◌, ◌≤◌, ℕ, List, [], ◌∷◌, ◌++◌, true, IfOk, OnOk, length};
 ghost use Rattle.std.specs.List.{All};
+ghost use Rattle.bt_script_code.specs.declared.instr.Instr.{Instr as Turn};
+ghost use Rattle.bt_script_code.specs.declared.instr.Instr.TheVariants.{Slot, Unless, Skip};
 ghost use Rattle.bt_script_code.specs.Codes.{program, formula};
-ghost use Rattle.bt_script_code.specs.Programs.{program_of, formula_of};
+ghost use Rattle.bt_script_code.specs.Programs.{program_of, formula_of, statement_of};
 ghost use Rattle.bt_script.specs.Grammar.{height};
+ghost use Rattle.bt_script_code.specs.Postfixes.{begun, between, code_of, ended, has_jump};
 ghost use Rattle.bt_script_code.specs.Sources.{slot_of, IsListed, IsCompilable};
 ghost use Rattle.bt_script.specs.Scripts.{names_of};
-ghost use Rattle.bt_script_code.specs.SlotTrees.{paired, slotted_expr, slotted_stmt};
+ghost use Rattle.bt_script_code.specs.Statements.{stmt_program};
 
-use crate::codes::{Code, ExprCode};
-use crate::slots::{SlotExpr, SlotStmt};
-use bt_script::{BinOp, Boxed, Expr, Items, Name, NoMemory, Script, Stmt};
+use crate::codes::{Code, ExprCode, StmtCode};
+use crate::instr::Instr;
+use crate::postfix::Postfix;
+use bt_script::{BinOp, Expr, Items, Name, NoMemory, Script, Stmt};
 use std::alloc::Global;
 
 /// The slot of a name: that of its first pair.
@@ -24,70 +28,150 @@ fn slot_at(slots: &[(Name, u32)], name: &Name) -> u32
     0
 }
 
-/// An operator between two trees.
-fn pair(op: BinOp, a: Boxed<SlotExpr>, b: Boxed<SlotExpr>) -> SlotExpr
-    ensures { result ≡ paired op a b }
+/// One more instruction.
+fn put(code: &mut Vec<Instr>, instr: Instr) -> Result<(), NoMemory>
+    ensures { OnOk result (code.new.items ≡ code.old.items ++ instr ∷ []) }
+{
+    code.push(instr)?;
+    Ok(())
+}
+
+/// Begins the right operand of an operator: a jump that may pass over it is put there, still without
+/// its length.
+fn begin(op: BinOp, code: &mut Vec<Instr>) -> Result<(), NoMemory>
+    ensures { OnOk result (code.new.items ≡ code.old.items ++ begun op) }
 {
     match op {
-        BinOp::And => SlotExpr::Both(a, b),
-        BinOp::Or => SlotExpr::Either(a, b),
-        _ => SlotExpr::Binary(op, a, b),
+        BinOp::And => put(code, Instr::AndThen(0)),
+        BinOp::Or => put(code, Instr::OrElse(0)),
+        _ => Ok(()),
     }
 }
 
-/// The tree of an expression, with its names replaced by their slots.
-fn tree_of(alloc: Global, e: &Expr, slots: &[(Name, u32)]) -> Result<SlotExpr, NoMemory>
-    ensures { IfOk result (λ tree. tree ≡ slotted_expr (slot_of slots.now) e.now) }
+/// Ends the right operand of an operator, which began at this place.
+fn end(op: BinOp, place: usize, code: &mut Vec<Instr>) -> Result<(), NoMemory>
+    requires { has_jump op ≡ true → place < length code.old.items }
+    ensures { (front b : List Turn) → place ≡ length front → code.old.items ≡ front ++ (begun op ++ b) →
+        OnOk result (code.new.items ≡ front ++ ended op b) }
+{
+    match op {
+        BinOp::And => {
+            code[place] = Instr::AndThen(code.len() - place);
+            put(code, Instr::Truth)?;
+            Ok(())
+        }
+        BinOp::Or => {
+            code[place] = Instr::OrElse(code.len() - place);
+            put(code, Instr::Truth)?;
+            Ok(())
+        }
+        _ => put(code, Instr::Binary(op)),
+    }
+}
+
+/// Writes the lengths of the two jumps of `? :`, which stand at these places.
+fn aim(test: usize, end: usize, code: &mut Vec<Instr>)
+    requires { test < end × end < length code.old.items }
+    ensures { (front b c : List Turn) → test ≡ length front → end ≡ length front + 1 + length b →
+        code.old.items ≡ front ++ Unless 0 ∷ (b ++ Skip 0 ∷ c) → code.new.items ≡ front ++ Unless (length b + 1) ∷ (b ++ Skip (length c) ∷ c) }
+{
+    code[test] = Instr::Unless(end - test);
+    code[end] = Instr::Skip(code.len() - end - 1);
+}
+
+/// Puts the code of an expression behind what is there, with its names replaced by their slots.
+fn emit(
+    alloc: Global,
+    e: &Expr,
+    slots: &[(Name, u32)],
+    code: &mut Vec<Instr>,
+) -> Result<(), NoMemory>
+    ensures { OnOk result (code.new.items ≡ code.old.items ++ code_of (slot_of slots.now) e.now) }
 {
     match e {
-        Expr::Num(n) => Ok(SlotExpr::Num(*n)),
-        Expr::Lit(t) => Ok(SlotExpr::Lit(t.copy(alloc)?)),
-        Expr::Look(name) => Ok(SlotExpr::Look(slot_at(slots, name))),
-        Expr::Group(a) => tree_of(alloc, a.get(), slots),
+        Expr::Num(n) => put(code, Instr::Number(*n)),
+        Expr::Lit(t) => put(code, Instr::Text(t.copy(alloc)?)),
+        Expr::Look(name) => put(code, Instr::Slot(slot_at(slots, name))),
+        Expr::Group(a) => emit(alloc, a.get(), slots, code),
         Expr::Unary(op, a) => {
-            let a = tree_of(alloc, a.get(), slots)?;
-            Ok(SlotExpr::Unary(*op, Boxed::of(alloc, a)?))
+            emit(alloc, a.get(), slots, code)?;
+            put(code, Instr::Unary(*op))
         }
         Expr::Binary(op, a, b) => {
-            let a = tree_of(alloc, a.get(), slots)?;
-            let a = Boxed::of(alloc, a)?;
-            let b = tree_of(alloc, b.get(), slots)?;
-            let b = Boxed::of(alloc, b)?;
-            Ok(pair(*op, a, b))
+            emit(alloc, a.get(), slots, code)?;
+            let place = code.len();
+            begin(*op, code)?;
+            emit(alloc, b.get(), slots, code)?;
+            end(*op, place, code)?;
+            Ok(())
         }
         Expr::Choose(a, b, c) => {
-            let a = tree_of(alloc, a.get(), slots)?;
-            let a = Boxed::of(alloc, a)?;
-            let b = tree_of(alloc, b.get(), slots)?;
-            let b = Boxed::of(alloc, b)?;
-            let c = tree_of(alloc, c.get(), slots)?;
-            let c = Boxed::of(alloc, c)?;
-            Ok(SlotExpr::Choose(a, b, c))
+            emit(alloc, a.get(), slots, code)?;
+            let test = code.len();
+            put(code, Instr::Unless(0))?;
+            emit(alloc, b.get(), slots, code)?;
+            let end = code.len();
+            put(code, Instr::Skip(0))?;
+            emit(alloc, c.get(), slots, code)?;
+            aim(test, end, code);
+            Ok(())
         }
     }
 }
 
-/// A statement with its names replaced by their slots.
-fn slotted(alloc: Global, stmt: &Stmt, slots: &[(Name, u32)]) -> Result<SlotStmt, NoMemory>
-    ensures { IfOk result (λ s. s ≡ slotted_stmt (slot_of slots.now) stmt.now) }
+/// The code of an expression.
+fn postfix(alloc: Global, e: &Expr, slots: &[(Name, u32)]) -> Result<Postfix, NoMemory>
+    requires { height e.now ≤ 64 }
+    ensures { IfOk result (λ p. p.instrs ≡ code_of (slot_of slots.now) e.now) }
+{
+    let mut code = Vec::new(alloc);
+    emit(alloc, e, slots, &mut code)?;
+    Ok(Postfix {
+        instrs: Items::of(code),
+    })
+}
+
+/// The code of an operator between a slot and an expression.
+fn change(
+    alloc: Global,
+    op: BinOp,
+    slot: u32,
+    e: &Expr,
+    slots: &[(Name, u32)],
+) -> Result<Postfix, NoMemory>
+    requires { height e.now ≤ 64 }
+    ensures { IfOk result (λ p. p.instrs ≡ between op (Slot slot ∷ []) (code_of (slot_of slots.now) e.now)) }
+{
+    let mut code = Vec::new(alloc);
+    put(&mut code, Instr::Slot(slot))?;
+    begin(op, &mut code)?;
+    emit(alloc, e, slots, &mut code)?;
+    end(op, 1, &mut code)?;
+    Ok(Postfix {
+        instrs: Items::of(code),
+    })
+}
+
+/// The code of a statement.
+fn statement(alloc: Global, stmt: &Stmt, slots: &[(Name, u32)]) -> Result<StmtCode, NoMemory>
+    requires { IsCompilable slots.now stmt.now }
+    ensures { IfOk result (λ s. stmt_program s ≡ statement_of (slot_of slots.now) stmt.now) }
 {
     match stmt {
         Stmt::Create(name, e) => {
-            let tree = tree_of(alloc, e, slots)?;
-            Ok(SlotStmt::Create(slot_at(slots, name), tree))
+            let code = postfix(alloc, e, slots)?;
+            Ok(StmtCode::Create(slot_at(slots, name), code))
         }
         Stmt::Assign(name, e) => {
-            let tree = tree_of(alloc, e, slots)?;
-            Ok(SlotStmt::Assign(slot_at(slots, name), tree))
+            let code = postfix(alloc, e, slots)?;
+            Ok(StmtCode::Assign(slot_at(slots, name), code))
         }
         Stmt::Change(op, name, e) => {
             let slot = slot_at(slots, name);
-            let old = Boxed::of(alloc, SlotExpr::Look(slot))?;
-            let tree = tree_of(alloc, e, slots)?;
-            let change = Boxed::of(alloc, tree)?;
-            Ok(SlotStmt::Assign(slot, pair(*op, old, change)))
+            let code = change(alloc, *op, slot, e, slots)?;
+            Ok(StmtCode::Assign(slot, code))
         }
-        Stmt::Plain(e) => Ok(SlotStmt::Plain(tree_of(alloc, e, slots)?)),
+        Stmt::Plain(e) => Ok(StmtCode::Plain(postfix(alloc, e, slots)?)),
     }
 }
 
@@ -100,7 +184,7 @@ pub fn compile(alloc: Global, script: &Script, slots: &[(Name, u32)]) -> Result<
 {
     let mut stmts = Vec::new(alloc);
     for stmt in script.stmts.list() {
-        stmts.push(slotted(alloc, stmt, slots)?)?;
+        stmts.push(statement(alloc, stmt, slots)?)?;
     }
     Ok(Code {
         stmts: Items::of(stmts),
@@ -114,6 +198,6 @@ pub fn compile_expr(alloc: Global, e: &Expr, slots: &[(Name, u32)]) -> Result<Ex
     ensures meaning { IfOk result (λ code. formula code ≡ formula_of (slot_of slots.now) e.now) }
     ensures reach { (n : ℕ) → All (λ pair. pair.1 < n) slots.now → IfOk result (λ code. (formula code).reach ≤ n) }
 {
-    let tree = tree_of(alloc, e, slots)?;
-    Ok(ExprCode { tree })
+    let postfix = postfix(alloc, e, slots)?;
+    Ok(ExprCode { postfix })
 }

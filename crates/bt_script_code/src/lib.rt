@@ -3,11 +3,16 @@
 
 mod codes;
 mod compiling;
+mod instr;
 mod ints;
+mod machine;
+mod number_stack;
 mod numbers;
 mod operators;
+mod postfix;
 mod running;
-mod slots;
+mod stack;
+mod value_stack;
 
 pub use codes::{Code, ExprCode};
 pub use compiling::{compile, compile_expr};

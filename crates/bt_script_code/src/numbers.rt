@@ -2,75 +2,86 @@ ghost use Rattle.std.specs.Prelude.{◌≡◌, ◌+◌, ◌<◌, ◌≤◌, leng
 ghost use Rattle.bt_script_code.specs.Codes.{formula};
 ghost use Rattle.bt_script.specs.Entries.{look_of};
 ghost use Rattle.bt_script.specs.Operators.{int_value};
-ghost use Rattle.bt_script_code.specs.SlotTrees.{tree_value, tree_reach, tree_texts};
 
 use crate::codes::ExprCode;
-use crate::operators::{as_number, binary_ints, unary_int};
-use crate::slots::SlotExpr;
-use bt_script::{ExecFault, Looks, Seen};
+use crate::machine::run;
+use crate::number_stack::NumberStack;
+use crate::stack::Stack;
+use bt_script::{BinOp, ExecFault, Looks, Seen, Stop, Txt, UnOp};
 
-/// The number that is seen at a slot.
-fn see<L: Looks>(slot: u32, looks: &L) -> Result<i64, ExecFault>
-    requires { slot < length (L.sights looks.now) }
-    ensures { int_value result ≡ look_of (L.sights looks.now) slot }
-{
-    match looks.look(slot) {
-        Seen::Absent => Err(ExecFault::NoEntry { slot }),
-        Seen::Int(n) => Ok(n),
-        Seen::Text => Err(ExecFault::Mixed),
-    }
+/// A stack of numbers over looks.
+#[derive(Drop)]
+struct SeenNumbers {
+    numbers: NumberStack,
 }
 
-/// The number that a tree without texts gives, or its first fault.
-fn number_in<L: Looks>(e: &SlotExpr, looks: &L) -> Result<i64, ExecFault>
-    requires reach { tree_reach e.now ≤ length (L.sights looks.now) }
-    requires textless { tree_texts e.now ≡ 0 }
-    ensures { int_value result ≡ tree_value (look_of (L.sights looks.now)) e.now }
-{
-    match e {
-        SlotExpr::Num(n) => Ok(*n),
-        SlotExpr::Lit(_) => unreachable!(),
-        SlotExpr::Look(slot) => see(*slot, looks),
-        SlotExpr::Unary(op, a) => {
-            let x = number_in(a.get(), looks)?;
-            unary_int(*op, x)
-        }
-        SlotExpr::Binary(op, a, b) => {
-            let x = number_in(a.get(), looks)?;
-            let y = number_in(b.get(), looks)?;
-            binary_ints(*op, x, y)
-        }
-        SlotExpr::Both(a, b) => {
-            if number_in(a.get(), looks)? == 0 {
-                return Ok(0);
+impl<L: Looks> Stack<L> for SeenNumbers {
+    ghost use Rattle.std.specs.Prelude.{true, length, map};
+    ghost use Rattle.bt_script.specs.declared.value.Value.TheVariants.{Int as Number};
+    ghost use Rattle.bt_script.specs.Entries.{look_of as seen};
+
+    ghost values = { λ s. map Number s.numbers };
+
+    ghost numbers = { true };
+
+    ghost reach = { λ looks. length (L.sights looks) };
+
+    ghost gives = { λ looks. seen (L.sights looks) };
+
+    ghost IsHeld = { λ looks. Unit {0} };
+
+    #[inline(always)]
+    fn put_number(&mut self, n: i64) {
+        self.numbers.put(n);
+    }
+
+    #[inline(always)]
+    fn put_text(&mut self, _text: &Txt) -> Result<(), Stop<ExecFault>> {
+        Err(Stop::NoMemory)
+    }
+
+    #[inline(always)]
+    fn put_slot(&mut self, slot: u32, slots: &L) -> Result<(), Stop<ExecFault>> {
+        match slots.look(slot) {
+            Seen::Int(n) => {
+                self.numbers.put(n);
+                Ok(())
             }
-            let y = number_in(b.get(), looks)?;
-            Ok(as_number(y != 0))
+            Seen::Text => Err(Stop::Fault(ExecFault::Mixed)),
+            Seen::Absent => Err(Stop::Fault(ExecFault::NoEntry { slot })),
         }
-        SlotExpr::Either(a, b) => {
-            if number_in(a.get(), looks)? != 0 {
-                return Ok(1);
-            }
-            let y = number_in(b.get(), looks)?;
-            Ok(as_number(y != 0))
-        }
-        SlotExpr::Choose(a, b, c) => {
-            if number_in(a.get(), looks)? != 0 {
-                number_in(b.get(), looks)
-            } else {
-                number_in(c.get(), looks)
-            }
-        }
+    }
+
+    #[inline(always)]
+    fn unary(&mut self, op: UnOp) -> Result<(), Stop<ExecFault>> {
+        Ok(self.numbers.unary(op)?)
+    }
+
+    #[inline(always)]
+    fn binary(&mut self, op: BinOp) -> Result<(), Stop<ExecFault>> {
+        Ok(self.numbers.binary(op)?)
+    }
+
+    #[inline(always)]
+    fn take_truth(&mut self) -> Result<bool, Stop<ExecFault>> {
+        Ok(self.numbers.take_truth())
     }
 }
 
 /// The number that an expression without text literals gives over the looks, or its first fault. A
 /// text that is looked at is `Mixed`. It takes no memory.
-#[tactic(auto, unfolding(crate::specs::Codes::formula))]
+#[tactic(auto, using(crate::proofs::Given::number_there, crate::proofs::Given::number_given), unfolding(crate::specs::Codes::formula))]
 pub fn number<L: Looks>(code: &ExprCode, looks: &L) -> Result<i64, ExecFault>
     requires reach { (formula code.now).reach ≤ length (L.sights looks.now) }
     requires textless { (formula code.now).texts ≡ 0 }
     ensures { int_value result ≡ (formula code.now).value (look_of (L.sights looks.now)) }
 {
-    number_in(&code.tree, looks)
+    let mut stack = SeenNumbers {
+        numbers: NumberStack::empty(),
+    };
+    match run(&code.postfix, looks, &mut stack) {
+        Ok(()) => Ok(stack.numbers.take()),
+        Err(Stop::Fault(fault)) => Err(fault),
+        Err(Stop::NoMemory) => unreachable!(),
+    }
 }

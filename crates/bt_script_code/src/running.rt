@@ -2,74 +2,94 @@ ghost use Rattle.std.specs.Prelude.{◌≡◌, ◌+◌, ◌<◌, ◌≤◌, leng
 ghost use Rattle.std.specs.List.{All};
 ghost use Rattle.bt_script.specs.Stops.{Gives, UnlessMemory};
 ghost use Rattle.bt_script_code.specs.Codes.{program};
-ghost use Rattle.bt_script.specs.Entries.{entry_of, HoldsNoText, IsAnswered, GivesInt, IsInt};
+ghost use Rattle.bt_script.specs.Entries.{entry_of, HoldsNoText, IsAnswered};
 ghost use Rattle.bt_script.specs.Evaluation.{written, if_there};
-ghost use Rattle.bt_script_code.specs.SlotTrees.{tree_value, tree_reach, tree_texts, slot_stmt, slot_stmt_reach, slot_stmt_texts};
+ghost use Rattle.bt_script_code.specs.Running.{code_reach, code_value};
+ghost use Rattle.bt_script_code.specs.Statements.{stmt_code_reach, stmt_code_texts, stmt_run};
 
-use crate::codes::Code;
+use crate::codes::{Code, StmtCode};
 use crate::ints::step_int;
-use crate::operators::{as_int, as_number, binary_values, unary_value};
-use crate::slots::{SlotExpr, SlotStmt};
-use bt_script::{Cells, ExecFault, Stop, Value};
+use crate::machine::run;
+use crate::operators::{as_int, binary_values, unary_value};
+use crate::postfix::Postfix;
+use crate::stack::Stack;
+use crate::value_stack::ValueStack;
+use bt_script::{BinOp, Cells, ExecFault, Stop, Txt, UnOp, Value};
 use std::alloc::Global;
 
-/// The value of a slot. Only a text takes memory.
-fn read<B: Cells>(alloc: Global, slot: u32, cells: &B) -> Result<Value, Stop<ExecFault>>
-    requires { slot < length (B.entries cells.now) }
-    ensures gives { Gives result (entry_of (B.entries cells.now) slot) }
-    ensures ints { All HoldsNoText (B.entries cells.now) → GivesInt result }
-{
-    match cells.get(slot) {
-        None => Err(Stop::Fault(ExecFault::NoEntry { slot })),
-        Some(Value::Int(n)) => Ok(Value::Int(*n)),
-        Some(Value::Text(t)) => Ok(Value::Text(t.copy(alloc)?)),
+/// A stack of values over entries.
+#[derive(Drop)]
+struct EntryValues {
+    values: ValueStack,
+}
+
+impl<B: Cells> Stack<B> for EntryValues {
+    ghost use Rattle.std.specs.Prelude.{false, length};
+    ghost use Rattle.bt_script.specs.Entries.{entry_of as found};
+
+    ghost values = { λ s. s.values };
+
+    ghost numbers = { false };
+
+    ghost reach = { λ cells. length (B.entries cells) };
+
+    ghost gives = { λ cells. found (B.entries cells) };
+
+    ghost IsHeld = { λ cells. ⊥ };
+
+    fn put_number(&mut self, n: i64) {
+        self.values.put(Value::Int(n));
+    }
+
+    fn put_text(&mut self, text: &Txt) -> Result<(), Stop<ExecFault>> {
+        let text = text.copy(self.values.allocator())?;
+        self.values.put(Value::Text(text));
+        Ok(())
+    }
+
+    fn put_slot(&mut self, slot: u32, slots: &B) -> Result<(), Stop<ExecFault>> {
+        match slots.get(slot) {
+            None => Err(Stop::Fault(ExecFault::NoEntry { slot })),
+            Some(value) => {
+                let value = value.copy(self.values.allocator())?;
+                self.values.put(value);
+                Ok(())
+            }
+        }
+    }
+
+    fn unary(&mut self, op: UnOp) -> Result<(), Stop<ExecFault>> {
+        let x = self.values.take();
+        let value = unary_value(op, &x)?;
+        self.values.put(value);
+        Ok(())
+    }
+
+    fn binary(&mut self, op: BinOp) -> Result<(), Stop<ExecFault>> {
+        let y = self.values.take();
+        let x = self.values.take();
+        let value = binary_values(op, x, y)?;
+        self.values.put(value);
+        Ok(())
+    }
+
+    fn take_truth(&mut self) -> Result<bool, Stop<ExecFault>> {
+        let x = self.values.take();
+        Ok(as_int(&x)? != 0)
     }
 }
 
-/// The value of an expression, or its first fault.
-fn eval<B: Cells>(alloc: Global, e: &SlotExpr, cells: &B) -> Result<Value, Stop<ExecFault>>
-    requires { tree_reach e.now ≤ length (B.entries cells.now) }
-    ensures gives { Gives result (tree_value (entry_of (B.entries cells.now)) e.now) }
-    ensures ints { tree_texts e.now ≡ 0 → All HoldsNoText (B.entries cells.now) → GivesInt result }
+/// The value of a code, or its first fault.
+#[tactic(auto, using(crate::proofs::Given::value_there, crate::proofs::Given::value_given))]
+fn eval<B: Cells>(alloc: Global, code: &Postfix, cells: &B) -> Result<Value, Stop<ExecFault>>
+    requires { code_reach code.now.instrs ≤ length (B.entries cells.now) }
+    ensures { Gives result (code_value (entry_of (B.entries cells.now)) code.now.instrs) }
 {
-    match e {
-        SlotExpr::Num(n) => Ok(Value::Int(*n)),
-        SlotExpr::Lit(t) => Ok(Value::Text(t.copy(alloc)?)),
-        SlotExpr::Look(slot) => read(alloc, *slot, cells),
-        SlotExpr::Unary(op, a) => {
-            let x = eval(alloc, a.get(), cells)?;
-            unary_value(*op, &x)
-        }
-        SlotExpr::Binary(op, a, b) => {
-            let x = eval(alloc, a.get(), cells)?;
-            let y = eval(alloc, b.get(), cells)?;
-            binary_values(*op, x, y)
-        }
-        SlotExpr::Both(a, b) => {
-            let x = eval(alloc, a.get(), cells)?;
-            if as_int(&x)? == 0 {
-                return Ok(Value::Int(0));
-            }
-            let y = eval(alloc, b.get(), cells)?;
-            Ok(Value::Int(as_number(as_int(&y)? != 0)))
-        }
-        SlotExpr::Either(a, b) => {
-            let x = eval(alloc, a.get(), cells)?;
-            if as_int(&x)? != 0 {
-                return Ok(Value::Int(1));
-            }
-            let y = eval(alloc, b.get(), cells)?;
-            Ok(Value::Int(as_number(as_int(&y)? != 0)))
-        }
-        SlotExpr::Choose(a, b, c) => {
-            let x = eval(alloc, a.get(), cells)?;
-            if as_int(&x)? != 0 {
-                eval(alloc, b.get(), cells)
-            } else {
-                eval(alloc, c.get(), cells)
-            }
-        }
-    }
+    let mut stack = EntryValues {
+        values: ValueStack::empty(alloc),
+    };
+    run(code, cells, &mut stack)?;
+    Ok(stack.values.take())
 }
 
 /// Writes a copy of the value to the slot, and gives the value. Only a text takes memory.
@@ -83,8 +103,6 @@ fn store<B: Cells>(
     ensures answer { Gives result (written slot (B.entries cells.old) (Ok value)).answer }
     ensures entries { UnlessMemory result (B.entries cells.new ≡ (written slot (B.entries cells.old) (Ok value)).entries) }
     ensures slots { length (B.entries cells.new) ≡ length (B.entries cells.old) }
-    ensures ints { IsInt value → GivesInt result }
-    ensures left { IsInt value → All HoldsNoText (B.entries cells.old) → All HoldsNoText (B.entries cells.new) }
 {
     match &value {
         Value::Int(n) => cells.put_int(slot, *n),
@@ -106,8 +124,6 @@ fn assign<B: Cells>(
     ensures entries { let old = B.entries cells.old in
         UnlessMemory result (B.entries cells.new ≡ (written slot old (if_there slot old (Ok value))).entries) }
     ensures slots { length (B.entries cells.new) ≡ length (B.entries cells.old) }
-    ensures ints { IsInt value → GivesInt result }
-    ensures left { IsInt value → All HoldsNoText (B.entries cells.old) → All HoldsNoText (B.entries cells.new) }
 {
     match cells.get(slot) {
         None => Err(Stop::Fault(ExecFault::NoEntry { slot })),
@@ -119,44 +135,42 @@ fn assign<B: Cells>(
 #[inline(never)]
 fn step_value<B: Cells>(
     alloc: Global,
-    stmt: &SlotStmt,
+    stmt: &StmtCode,
     cells: &mut B,
 ) -> Result<Value, Stop<ExecFault>>
-    requires { slot_stmt_reach stmt.now ≤ length (B.entries cells.old) }
-    ensures answer { Gives result (slot_stmt stmt.now (B.entries cells.old)).answer }
-    ensures entries { UnlessMemory result (B.entries cells.new ≡ (slot_stmt stmt.now (B.entries cells.old)).entries) }
+    requires { stmt_code_reach stmt.now ≤ length (B.entries cells.old) }
+    ensures answer { Gives result (stmt_run stmt.now (B.entries cells.old)).answer }
+    ensures entries { UnlessMemory result (B.entries cells.new ≡ (stmt_run stmt.now (B.entries cells.old)).entries) }
     ensures slots { length (B.entries cells.new) ≡ length (B.entries cells.old) }
-    ensures ints { slot_stmt_texts stmt.now ≡ 0 → All HoldsNoText (B.entries cells.old) → GivesInt result }
-    ensures left { slot_stmt_texts stmt.now ≡ 0 →
-        All HoldsNoText (B.entries cells.old) → All HoldsNoText (B.entries cells.new) }
 {
     match stmt {
-        SlotStmt::Create(slot, e) => {
-            let value = eval(alloc, e, cells)?;
+        StmtCode::Create(slot, code) => {
+            let value = eval(alloc, code, cells)?;
             store(alloc, *slot, value, cells)
         }
-        SlotStmt::Assign(slot, e) => {
-            let value = eval(alloc, e, cells)?;
+        StmtCode::Assign(slot, code) => {
+            let value = eval(alloc, code, cells)?;
             assign(alloc, *slot, value, cells)
         }
-        SlotStmt::Plain(e) => eval(alloc, e, cells),
+        StmtCode::Plain(code) => eval(alloc, code, cells),
     }
 }
 
 /// Runs a statement.
 #[inline(always)]
-fn step<B: Cells>(alloc: Global, stmt: &SlotStmt, cells: &mut B) -> Result<Value, Stop<ExecFault>>
-    requires { slot_stmt_reach stmt.now ≤ length (B.entries cells.old) }
-    ensures answer { Gives result (slot_stmt stmt.now (B.entries cells.old)).answer }
-    ensures entries { UnlessMemory result (B.entries cells.new ≡ (slot_stmt stmt.now (B.entries cells.old)).entries) }
+fn step<B: Cells>(alloc: Global, stmt: &StmtCode, cells: &mut B) -> Result<Value, Stop<ExecFault>>
+    requires { stmt_code_reach stmt.now ≤ length (B.entries cells.old) }
+    ensures answer { Gives result (stmt_run stmt.now (B.entries cells.old)).answer }
+    ensures entries { UnlessMemory result (B.entries cells.new ≡ (stmt_run stmt.now (B.entries cells.old)).entries) }
     ensures slots { length (B.entries cells.new) ≡ length (B.entries cells.old) }
-    ensures ints { slot_stmt_texts stmt.now ≡ 0 → All HoldsNoText (B.entries cells.old) → GivesInt result }
-    ensures left { slot_stmt_texts stmt.now ≡ 0 →
+    ensures answered { stmt_code_texts stmt.now ≡ 0 → All HoldsNoText (B.entries cells.old) → IsAnswered result }
+    ensures left { stmt_code_texts stmt.now ≡ 0 →
         All HoldsNoText (B.entries cells.old) → All HoldsNoText (B.entries cells.new) }
 {
     match step_int(stmt, cells) {
-        Some(n) => Ok(Value::Int(n)),
-        None => step_value(alloc, stmt, cells),
+        Ok(n) => Ok(Value::Int(n)),
+        Err(Stop::Fault(fault)) => Err(Stop::Fault(fault)),
+        Err(Stop::NoMemory) => step_value(alloc, stmt, cells),
     }
 }
 

@@ -3,16 +3,16 @@ use Rattle.std.specs.List.{All}
 use Rattle.bt_script.specs.declared.value.Value.TheVariants.{Int}
 use Rattle.bt_script.specs.Entries.{HoldsNoText}
 use Rattle.bt_script.specs.Numbers.{greatest}
-use Rattle.bt_script_code.specs.SlotTrees.{slot_stmts, slot_stmt_reach, slot_stmt_texts}
+use Rattle.bt_script_code.specs.Statements.{runs, stmt_program}
 use Rattle.bt_script_code.proofs.running.exec.Given as goal
 
 abbrev pub invariant-loop-stmt : goal.invariant-loop-stmt
 invariant-loop-stmt g l =
     let entries = g.B.Cells.entries in
-    let rest = drop l.stmt-index l.stmt-items in
+    let rest = map stmt_program (drop l.stmt-index l.stmt-items) in
     record {
-      run : slot_stmts l.last rest (entries l.cells) ≡ slot_stmts (Int (pos 0)) l.stmt-items (entries l.fn.cells);
-      reach : greatest (map slot_stmt_reach rest) ≤ length (entries l.cells);
+      run : runs l.last rest (entries l.cells) ≡ runs (Int (pos 0)) (map stmt_program l.stmt-items) (entries l.fn.cells);
+      reach : greatest (map (λ p. p.reach) rest) ≤ length (entries l.cells);
       slots : length (entries l.cells) ≡ length (entries l.fn.cells);
-      texts : sum (map slot_stmt_texts l.stmt-items) ≡ 0 → All HoldsNoText (entries l.fn.cells) → (sum (map slot_stmt_texts rest) ≡ 0) × All HoldsNoText (entries l.cells);
+      texts : sum (map (λ p. p.texts) (map stmt_program l.stmt-items)) ≡ 0 → All HoldsNoText (entries l.fn.cells) → (sum (map (λ p. p.texts) rest) ≡ 0) × All HoldsNoText (entries l.cells);
     }

@@ -1,0 +1,192 @@
+-- The code of a script means what the script means.
+use Rattle.std.proofs.Common.{◌≡◌, ℕ, ◌+◌, max, List, [], ◌∷◌, ◌++◌, map, length, refl, sym, ap, ◌∙◌, subst, arith, pos, sum, take, get_or, ◌<◌}
+use Rattle.std.proofs.lemmas.Grind.{take_at_read}
+use Rattle.std.proofs.lemmas.List.{map-append}
+use Rattle.std.proofs.lemmas.List.Sums.{sum_by-cons}
+use Rattle.std.specs.Prelude.{Option, Result}
+use Rattle.bt_script.specs.declared.value.Value.{Value}
+use Rattle.bt_script.specs.declared.value.Value.TheVariants.{Int}
+use Rattle.bt_script.specs.declared.syntax.BinOp.{BinOp}
+use Rattle.bt_script.specs.declared.syntax.BinOp.TheVariants.{Add, Sub, Mul, Div, And, Or, BitAnd, BitOr, BitXor, Compare}
+use Rattle.bt_script.specs.declared.syntax.Expr.{Expr, ind-Expr, map-Expr, roll-Expr, fold-roll-Expr}
+use Rattle.bt_script.specs.declared.syntax.Expr.TheOpen.{Expr-F, Num, Lit, Look, Group, Unary, Binary, Choose}
+use Rattle.bt_script.specs.declared.syntax.Stmt.{Stmt}
+use Rattle.bt_script.specs.declared.syntax.Stmt.TheVariants as stmt
+use Rattle.bt_script.specs.declared.fault.ExecFault.{ExecFault}
+use Rattle.bt_script.specs.Entries.{entry_of}
+use Rattle.bt_script.specs.Evaluation.{Run, eval_of, stmts_of, written, if_there, followed}
+use Rattle.bt_script.specs.Grammar.{expr_of}
+use Rattle.bt_script.specs.Numbers.{greatest}
+use Rattle.bt_script.specs.Operators.{combined}
+use Rattle.bt_script.specs.Scripts.{texts_step, texts_of}
+use Rattle.bt_script_code.specs.declared.codes.StmtCode.TheVariants as coded
+use Rattle.bt_script_code.specs.declared.instr.Instr.{Instr}
+use Rattle.bt_script_code.specs.declared.instr.Instr.TheVariants as instr
+use Rattle.bt_script_code.specs.declared.postfix.Postfix.{Postfix}
+use Rattle.bt_script_code.specs.Postfixes.{ended, between, choice_code, code_step, code_of}
+use Rattle.bt_script_code.specs.Programs.{Formula, Program, formula_of, statement_of, program_of}
+use Rattle.bt_script_code.specs.Running.{code_value, instr_reach, code_reach, instr_texts, code_texts}
+use Rattle.bt_script_code.specs.Sources.{reach_step, reach_of, stmt_reach}
+use Rattle.bt_script_code.specs.Statements.{code_formula, stmt_program, runs, one_by_one}
+use Rattle.bt_script_code.proofs.Means.{expr_value, change_value}
+use Rattle.bt_script_code.proofs.Standing.{reach-append, texts-append}
+
+-- the slots that the right operand of an operator needs
+reach-ended : (op : BinOp) (b : List Instr) → code_reach (ended op b) ≡ code_reach b
+reach-ended And b = omega (arith, reach-append b (instr.Truth ∷ []))
+reach-ended Or b = omega (arith, reach-append b (instr.Truth ∷ []))
+reach-ended Add b = omega (arith, reach-append b (instr.Binary Add ∷ []))
+reach-ended Sub b = omega (arith, reach-append b (instr.Binary Sub ∷ []))
+reach-ended Mul b = omega (arith, reach-append b (instr.Binary Mul ∷ []))
+reach-ended Div b = omega (arith, reach-append b (instr.Binary Div ∷ []))
+reach-ended BitAnd b = omega (arith, reach-append b (instr.Binary BitAnd ∷ []))
+reach-ended BitOr b = omega (arith, reach-append b (instr.Binary BitOr ∷ []))
+reach-ended BitXor b = omega (arith, reach-append b (instr.Binary BitXor ∷ []))
+reach-ended (Compare c) b = omega (arith, reach-append b (instr.Binary (Compare c) ∷ []))
+
+reach-between : (op : BinOp) (a b : List Instr) → code_reach (between op a b) ≡ max (code_reach a) (code_reach b)
+reach-between op a b = omega (arith, reach-append a (ended op b), reach-ended op b)
+
+-- one more instruction, without a text
+one_more : (i : Instr) (b : List Instr) → instr_texts i ≡ 0 → code_texts (b ++ i ∷ []) ≡ code_texts b
+one_more i b none = omega (arith, texts-append b (i ∷ []), sum_by-cons instr_texts i [], none)
+
+one_before : (i : Instr) (b : List Instr) → instr_texts i ≡ 0 → code_texts (i ∷ b) ≡ code_texts b
+one_before i b none = omega (arith, sum_by-cons instr_texts i b, none)
+
+texts-ended : (op : BinOp) (b : List Instr) → code_texts (ended op b) ≡ code_texts b
+texts-ended And b = one_before (instr.AndThen (length b + 1)) (b ++ instr.Truth ∷ []) refl ∙ one_more instr.Truth b refl
+texts-ended Or b = one_before (instr.OrElse (length b + 1)) (b ++ instr.Truth ∷ []) refl ∙ one_more instr.Truth b refl
+texts-ended Add b = one_more (instr.Binary Add) b refl
+texts-ended Sub b = one_more (instr.Binary Sub) b refl
+texts-ended Mul b = one_more (instr.Binary Mul) b refl
+texts-ended Div b = one_more (instr.Binary Div) b refl
+texts-ended BitAnd b = one_more (instr.Binary BitAnd) b refl
+texts-ended BitOr b = one_more (instr.Binary BitOr) b refl
+texts-ended BitXor b = one_more (instr.Binary BitXor) b refl
+texts-ended (Compare c) b = one_more (instr.Binary (Compare c)) b refl
+
+texts-between : (op : BinOp) (a b : List Instr) → code_texts (between op a b) ≡ code_texts a + code_texts b
+texts-between op a b = omega (arith, texts-append a (ended op b), texts-ended op b)
+
+texts-choice : (a b c : List Instr) → code_texts (choice_code a b c) ≡ code_texts a + code_texts b + code_texts c
+texts-choice a b c =
+    omega (arith, texts-append a (instr.Unless (length b + 1) ∷ (b ++ instr.Skip (length c) ∷ c)),
+    one_before (instr.Unless (length b + 1)) (b ++ instr.Skip (length c) ∷ c) refl,
+    texts-append b (instr.Skip (length c) ∷ c), one_before (instr.Skip (length c)) c refl)
+
+module _ (names : List ℕ → ℕ) where
+  abbrev SameReach : Expr → Type 0
+  SameReach e = code_reach (code_of names e) ≡ reach_of names e
+
+  reach_layer : (y : Expr-F ((e : Expr) × SameReach e)) →
+      code_reach (code_step names (map-Expr Expr (List Instr) (code_of names) (map-Expr ((e : Expr) × SameReach e) Expr (λ e. e.0) y)))
+      ≡ reach_step names (map-Expr Expr ℕ (reach_of names) (map-Expr ((e : Expr) × SameReach e) Expr (λ e. e.0) y))
+  reach_layer (Num n) = omega arith
+  reach_layer (Lit t) = omega arith
+  reach_layer (Look name) = omega arith
+  reach_layer (Group a) = a.1
+  reach_layer (Unary op a) = omega (arith, reach-append (code_of names a.0) (instr.Unary op ∷ []), a.1)
+  reach_layer (Binary op a b) = omega (arith, reach-between op (code_of names a.0) (code_of names b.0), a.1, b.1)
+  reach_layer (Choose a b c) =
+      let cb = code_of names b.0 in
+      let cc' = code_of names c.0 in
+      omega (arith, reach-append (code_of names a.0) (instr.Unless (length cb + 1) ∷ (cb ++ instr.Skip (length cc') ∷ cc')), reach-append cb (instr.Skip (length cc') ∷ cc'), a.1, b.1, c.1)
+
+  -- a code needs as many slots as its expression
+  same_reach : (e : Expr) → SameReach e
+  same_reach = ind-Expr SameReach (λ x y is.
+      ap code_reach (fold-roll-Expr (List Instr) (code_step names) x)
+      ∙ subst (λ (z : Expr-F Expr). code_reach (code_step names (map-Expr Expr (List Instr) (code_of names) z)) ≡ reach_step names (map-Expr Expr ℕ (reach_of names) z)) is (reach_layer y)
+      ∙ sym (fold-roll-Expr ℕ (reach_step names) x))
+
+  abbrev SameTexts : Expr → Type 0
+  SameTexts e = code_texts (code_of names e) ≡ texts_of e
+
+  texts_layer : (y : Expr-F ((e : Expr) × SameTexts e)) →
+      code_texts (code_step names (map-Expr Expr (List Instr) (code_of names) (map-Expr ((e : Expr) × SameTexts e) Expr (λ e. e.0) y)))
+      ≡ texts_step (map-Expr Expr ℕ texts_of (map-Expr ((e : Expr) × SameTexts e) Expr (λ e. e.0) y))
+  texts_layer (Num n) = sum_by-cons instr_texts (instr.Number n) []
+  texts_layer (Lit t) = sum_by-cons instr_texts (instr.Text t) []
+  texts_layer (Look name) = sum_by-cons instr_texts (instr.Slot (names name)) []
+  texts_layer (Group a) = a.1
+  texts_layer (Unary op a) = one_more (instr.Unary op) (code_of names a.0) refl ∙ a.1
+  texts_layer (Binary op a b) = omega (arith, texts-between op (code_of names a.0) (code_of names b.0), a.1, b.1)
+  texts_layer (Choose a b c) = omega (arith, texts-choice (code_of names a.0) (code_of names b.0) (code_of names c.0), a.1, b.1, c.1)
+
+  -- a code has as many text literals as its expression
+  same_texts : (e : Expr) → SameTexts e
+  same_texts = ind-Expr SameTexts (λ x y is.
+      ap code_texts (fold-roll-Expr (List Instr) (code_step names) x)
+      ∙ subst (λ (z : Expr-F Expr). code_texts (code_step names (map-Expr Expr (List Instr) (code_of names) z)) ≡ texts_step (map-Expr Expr ℕ texts_of z)) is (texts_layer y)
+      ∙ sym (fold-roll-Expr ℕ texts_step x))
+
+  -- the code of an expression means what the expression means
+  pub same_formula : (e : Expr) → code_formula (code_of names e) ≡ formula_of names e
+  same_formula e = λ i. record {
+    value = λ look. expr_value look names e i;
+    reach = same_reach e i;
+    texts = same_texts e i;
+  }
+
+  -- a statement that writes a value, new or not, by what gives the value
+  abbrev created : ℕ → Formula → Program
+  created k f = record { run = λ entries. written k entries (f.value (entry_of entries)); reach = max (k + 1) f.reach; texts = f.texts }
+
+  -- a statement that writes a value where there is one
+  abbrev assigned : ℕ → Formula → Program
+  assigned k f = record { run = λ entries. written k entries (if_there k entries (f.value (entry_of entries))); reach = max (k + 1) f.reach; texts = f.texts }
+
+  abbrev plain : Formula → Program
+  plain f = record { run = λ entries. record { answer = f.value (entry_of entries); entries = entries }; reach = f.reach; texts = f.texts }
+
+  pub same_create : (name : List ℕ) (e : Expr) (p : Postfix) → p.instrs ≡ code_of names e → stmt_program (coded.Create (names name) p) ≡ statement_of names (stmt.Create name e)
+  same_create name e p same = ap (created (names name)) (ap code_formula same ∙ same_formula e)
+
+  pub same_assign : (name : List ℕ) (e : Expr) (p : Postfix) → p.instrs ≡ code_of names e → stmt_program (coded.Assign (names name) p) ≡ statement_of names (stmt.Assign name e)
+  same_assign name e p same = ap (assigned (names name)) (ap code_formula same ∙ same_formula e)
+
+  pub same_plain : (e : Expr) (p : Postfix) → p.instrs ≡ code_of names e → stmt_program (coded.Plain p) ≡ statement_of names (stmt.Plain e)
+  same_plain e p same = ap plain (ap code_formula same ∙ same_formula e)
+
+  -- an operator between a slot and an expression, and its assignment
+  same_changed : (op : BinOp) (name : List ℕ) (e : Expr) → assigned (names name) (code_formula (between op (instr.Slot (names name) ∷ []) (code_of names e))) ≡ statement_of names (stmt.Change op name e)
+  same_changed op name e =
+      let k = names name in
+      let front : List Instr = instr.Slot k ∷ [] in
+      let reach : max (k + 1) (code_reach (between op front (code_of names e))) ≡ max (k + 1) (reach_of names e) = omega (arith, reach-between op front (code_of names e), same_reach e) in
+      let texts : code_texts (between op front (code_of names e)) ≡ texts_of e = omega (arith, texts-between op front (code_of names e), sum_by-cons instr_texts (instr.Slot k) [], same_texts e) in
+      λ i. record {
+        run = λ entries. written k entries (if_there k entries (change_value (entry_of entries) names op k e i));
+        reach = reach i;
+        texts = texts i;
+      }
+
+  pub same_change : (op : BinOp) (name : List ℕ) (e : Expr) (p : Postfix) → p.instrs ≡ between op (instr.Slot (names name) ∷ []) (code_of names e) → stmt_program (coded.Assign (names name) p) ≡ statement_of names (stmt.Change op name e)
+  same_change op name e p same = ap (λ code. assigned (names name) (code_formula code)) same ∙ same_changed op name e
+
+  same_runs : (last : Value) (stmts : List Stmt) (entries : List (Option Value)) → runs last (map (statement_of names) stmts) entries ≡ stmts_of names last stmts entries
+  same_runs last [] entries = refl
+  same_runs last (s ∷ stmts) entries = λ i. followed ((statement_of names s).run entries).answer ((statement_of names s).run entries).entries (λ value left. same_runs value stmts left i)
+
+  same_reaches : (stmts : List Stmt) → greatest (map (λ p. p.reach) (map (statement_of names) stmts)) ≡ greatest (map (stmt_reach names) stmts)
+  same_reaches [] = refl
+  same_reaches (s ∷ stmts) = ap (max (stmt_reach names s)) (same_reaches stmts)
+
+  same_counts : (stmts : List Stmt) → map (λ p. p.texts) (map (statement_of names) stmts) ≡ map (λ s. texts_of (expr_of s)) stmts
+  same_counts [] = refl
+  same_counts (s ∷ stmts) = ap (λ ns. texts_of (expr_of s) ∷ ns) (same_counts stmts)
+
+  -- statements one after the other
+  pub same_program : (stmts : List Stmt) → one_by_one (map (statement_of names) stmts) ≡ program_of names stmts
+  same_program stmts = λ i. record {
+    run = λ entries. same_runs (Int (pos 0)) stmts entries i;
+    reach = same_reaches stmts i;
+    texts = sum (same_counts stmts i);
+  }
+
+-- one more of each of two lists that are seen alike
+pub one_more_each : {X Y Z : Type 0} (f : X → Z) (g : Y → Z) (xs : List X) (ys : List Y) (i : ℕ) (x : X) (y : Y) → i < length ys → y ≡ get_or ys i y → f x ≡ g y → map f xs ≡ map g (take i ys) → map f (xs ++ x ∷ []) ≡ map g (take (i + 1) ys)
+one_more_each f g xs ys i x y within is same so_far =
+    map-append f xs (x ∷ []) ∙ (λ k. so_far k ++ same k ∷ []) ∙ sym (map-append g (take i ys) (y ∷ []))
+    ∙ ap (map g) (ap (λ z. take i ys ++ z ∷ []) is ∙ sym (take_at_read ys i y within).1)

@@ -1,0 +1,65 @@
+-- Places of codes that stand one after the other, and what is said of each instruction of a code.
+use Rattle.std.proofs.Common.{◌≡◌, ℕ, zero, suc, ◌+◌, ◌<◌, ◌≤◌, max, Bool, true, false, ◌&&◌, List, [], ◌∷◌, ◌++◌, map, sum, length, refl, sym, ap, ◌∙◌, subst, arith, true≢false}
+use Rattle.std.specs.Prelude.{Option, Some, None, slice_get}
+use Rattle.std.proofs.lemmas.Option.{slice_get_within}
+use Rattle.std.proofs.lemmas.List.Sums.{sum_by-append, sum_by-cons}
+use Rattle.bt_script.specs.Numbers.{greatest}
+use Rattle.bt_script_code.specs.declared.instr.Instr.{Instr}
+use Rattle.bt_script_code.specs.Places.{at_place}
+use Rattle.bt_script_code.specs.Rooms.{fits_from}
+use Rattle.bt_script_code.specs.Running.{instr_reach, code_reach, instr_texts, code_texts}
+
+module _ {R : Type 0} (makes : Instr → (ℕ → R) → R) (end past : R) where
+  -- a place behind the first of two codes
+  pub behind : (a b : List Instr) (n : ℕ) → at_place makes end past (a ++ b) (length a + n) ≡ at_place makes end past b n
+  behind [] b n = let e : length {A = Instr} [] + n ≡ n = omega arith in ap (at_place makes end past b) e
+  behind (i ∷ a) b n =
+      let e : length (i ∷ a) + n ≡ suc (length a + n) = omega arith in
+      ap (at_place makes end past ((i ∷ a) ++ b)) e ∙ behind a b n
+
+  -- what the instruction at a place makes of those behind it
+  pub opens : (code : List Instr) (place : ℕ) (i : Instr) → slice_get code place ≡ Some i → at_place makes end past code place ≡ makes i (λ n. at_place makes end past code (place + 1 + n))
+  opens [] place i is = absurd (omega (arith, slice_get_within [] place i is))
+  opens (j ∷ code) zero i is =
+      let same : j ≡ i = cc in
+      let shift : (n : ℕ) → at_place makes end past code n ≡ at_place makes end past (j ∷ code) (0 + 1 + n) =
+        λ n. let e : suc n ≡ 0 + 1 + n = omega arith in ap (at_place makes end past (j ∷ code)) e in
+      λ k. makes (same k) (λ n. shift n k)
+  opens (j ∷ code) (suc place) i is =
+      let shift : (n : ℕ) → at_place makes end past code (place + 1 + n) ≡ at_place makes end past (j ∷ code) (suc place + 1 + n) =
+        λ n. let e : suc (place + 1 + n) ≡ suc place + 1 + n = omega arith in ap (at_place makes end past (j ∷ code)) e in
+      opens code place i is ∙ (λ k. makes i (λ n. shift n k))
+
+-- a place that a stack has room for is no place past the end
+pub place_within : (code : List Instr) (place height : ℕ) → fits_from code place height ≡ true → place ≤ length code
+place_within [] zero height fit = omega arith
+place_within [] (suc n) height fit = absurd (true≢false (sym fit))
+place_within (i ∷ code) zero height fit = omega arith
+place_within (i ∷ code) (suc n) height fit = omega (arith, place_within code n height fit)
+
+pub and_first : (a b : Bool) → (a && b) ≡ true → a ≡ true
+and_first true b h = refl
+and_first false b h = h
+
+pub and_second : (a b : Bool) → (a && b) ≡ true → b ≡ true
+and_second true b h = h
+and_second false b h = absurd (true≢false (sym h))
+
+-- the slots that one instruction of a code needs
+pub reach_at : (code : List Instr) (place : ℕ) (i : Instr) → slice_get code place ≡ Some i → instr_reach i ≤ code_reach code
+reach_at [] place i is = absurd (omega (arith, slice_get_within [] place i is))
+reach_at (j ∷ code) zero i is = let same : j ≡ i = cc in omega (arith, ap instr_reach same)
+reach_at (j ∷ code) (suc place) i is = omega (arith, reach_at code place i is)
+
+-- an instruction of a code without texts
+pub texts_at : (code : List Instr) (place : ℕ) (i : Instr) → slice_get code place ≡ Some i → code_texts code ≡ 0 → instr_texts i ≡ 0
+texts_at [] place i is none = absurd (omega (arith, slice_get_within [] place i is))
+texts_at (j ∷ code) zero i is none = let same : j ≡ i = cc in omega (arith, ap instr_texts same, sum_by-cons instr_texts j code, none)
+texts_at (j ∷ code) (suc place) i is none = texts_at code place i is (omega (arith, sum_by-cons instr_texts j code, none))
+
+pub reach-append : (a b : List Instr) → code_reach (a ++ b) ≡ max (code_reach a) (code_reach b)
+reach-append [] b = omega arith
+reach-append (i ∷ a) b = omega (arith, reach-append a b)
+
+pub texts-append : (a b : List Instr) → code_texts (a ++ b) ≡ code_texts a + code_texts b
+texts-append a b = sum_by-append instr_texts a b

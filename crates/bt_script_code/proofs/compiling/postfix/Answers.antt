@@ -1,0 +1,13 @@
+use Rattle.std.proofs.Common.{◌≡◌, ◌∙◌, ◌++◌, true, ap, subst, sym}
+use Rattle.bt_script_code.specs.Postfixes.{code_of}
+use Rattle.bt_script_code.specs.Rooms.{fits}
+use Rattle.bt_script_code.specs.Sources.{slot_of}
+use Rattle.bt_script_code.proofs.Fitting.{expr_fits}
+use Rattle.bt_script_code.proofs.compiling.postfix.Goals as goal
+
+pub invariant_of-result : goal.invariant_of-result
+invariant_of-result c =
+    let names = slot_of c.args.slots.now in
+    let same : c.of.result ≡ code_of names c.args.e.now =
+      c.of.ensures ∙ c.in_ok-emit.ensures ∙ ap (λ z. z ++ code_of names c.args.e.now) c.new-code.ensures.items in
+    record { room = subst (λ code. fits code ≡ true) (sym same) (expr_fits names c.args.e.now c.requires) }

@@ -1,0 +1,16 @@
+use Rattle.std.proofs.Common.{◌≡◌, ◌-◌, true, length}
+use Rattle.bt_script_code.specs.Rooms.{fits_from}
+use Rattle.bt_script_code.specs.Running.{code_value, gives_from}
+use Rattle.bt_script_code.proofs.machine.run.Given as goal
+
+abbrev pub invariant-loop-place : goal.invariant-loop-place
+invariant-loop-place g l =
+    let values = g.S.Stack.values in
+    let look = g.S.Stack.gives l.slots in
+    record {
+      gives : gives_from look l.instrs l.place (values l.stack) ≡ code_value look l.instrs;
+      room : fits_from l.instrs l.place (length (values l.stack)) ≡ true;
+    }
+
+abbrev pub decreases-loop-place : goal.decreases-loop-place
+decreases-loop-place g l = length l.instrs - l.place

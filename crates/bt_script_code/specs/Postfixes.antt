@@ -1,0 +1,68 @@
+-- The postfix code of an expression: the codes of its operands, and then what is done of what they leave on the stack.
+use Rattle.std.specs.Prelude.{ℕ, ◌+◌, List, [], ◌∷◌, ◌++◌, length, Bool, true, false}
+use Rattle.bt_script.specs.declared.syntax.BinOp.{BinOp}
+use Rattle.bt_script.specs.declared.syntax.BinOp.TheVariants.{Add, Sub, Mul, Div, And, Or, BitAnd, BitOr, BitXor, Compare}
+use Rattle.bt_script.specs.declared.syntax.Expr.{Expr, fold-Expr}
+use Rattle.bt_script.specs.declared.syntax.Expr.TheOpen.{Expr-F, Num, Lit, Look, Group, Unary, Binary, Choose}
+use Rattle.bt_script_code.specs.declared.instr.Instr.{Instr}
+use Rattle.bt_script_code.specs.declared.instr.Instr.TheVariants as instr
+
+-- what begins the right operand of an operator: a jump, whose length is not known yet
+abbrev pub begun : BinOp → List Instr
+begun And = instr.AndThen 0 ∷ []
+begun Or = instr.OrElse 0 ∷ []
+begun Add = []
+begun Sub = []
+begun Mul = []
+begun Div = []
+begun BitAnd = []
+begun BitOr = []
+begun BitXor = []
+begun (Compare c) = []
+
+-- whether the right operand of an operator may be passed over
+abbrev pub has_jump : BinOp → Bool
+has_jump And = true
+has_jump Or = true
+has_jump Add = false
+has_jump Sub = false
+has_jump Mul = false
+has_jump Div = false
+has_jump BitAnd = false
+has_jump BitOr = false
+has_jump BitXor = false
+has_jump (Compare c) = false
+
+-- the right operand of an operator, with what is done behind it: that of `&&` and `||` is passed over where the left one decides
+abbrev pub ended : BinOp → List Instr → List Instr
+ended And b = instr.AndThen (length b + 1) ∷ (b ++ instr.Truth ∷ [])
+ended Or b = instr.OrElse (length b + 1) ∷ (b ++ instr.Truth ∷ [])
+ended Add b = b ++ instr.Binary Add ∷ []
+ended Sub b = b ++ instr.Binary Sub ∷ []
+ended Mul b = b ++ instr.Binary Mul ∷ []
+ended Div b = b ++ instr.Binary Div ∷ []
+ended BitAnd b = b ++ instr.Binary BitAnd ∷ []
+ended BitOr b = b ++ instr.Binary BitOr ∷ []
+ended BitXor b = b ++ instr.Binary BitXor ∷ []
+ended (Compare c) b = b ++ instr.Binary (Compare c) ∷ []
+
+-- an operator between two operands
+abbrev pub between : BinOp → List Instr → List Instr → List Instr
+between op a b = a ++ ended op b
+
+-- `? :`: the test, and a part that passes over the other one
+abbrev pub choice_code : List Instr → List Instr → List Instr → List Instr
+choice_code a b c = a ++ instr.Unless (length b + 1) ∷ (b ++ instr.Skip (length c) ∷ c)
+
+abbrev pub code_step : (List ℕ → ℕ) → Expr-F (List Instr) → List Instr
+code_step names (Num n) = instr.Number n ∷ []
+code_step names (Lit t) = instr.Text t ∷ []
+code_step names (Look name) = instr.Slot (names name) ∷ []
+code_step names (Group a) = a
+code_step names (Unary op a) = a ++ instr.Unary op ∷ []
+code_step names (Binary op a b) = between op a b
+code_step names (Choose a b c) = choice_code a b c
+
+-- the code of an expression, with each name replaced by its slot
+abbrev pub code_of : (List ℕ → ℕ) → Expr → List Instr
+code_of names = fold-Expr (List Instr) (code_step names)

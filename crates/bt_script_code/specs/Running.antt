@@ -1,0 +1,119 @@
+-- What postfix code gives, and what it needs.
+use Rattle.std.specs.Prelude.{ℕ, ◌+◌, ℤ, pos, Bool, if◌then◌else◌, List, [], ◌∷◌, map, Result, Ok, Err}
+use Rattle.std.specs.List.{sum_by}
+use Rattle.bt_script.specs.declared.value.Value.{Value}
+use Rattle.bt_script.specs.declared.value.Value.TheVariants.{Int, Text}
+use Rattle.bt_script.specs.declared.syntax.UnOp.{UnOp}
+use Rattle.bt_script.specs.declared.syntax.BinOp.{BinOp}
+use Rattle.bt_script.specs.declared.fault.ExecFault.{ExecFault}
+use Rattle.bt_script.specs.declared.fault.ExecFault.TheVariants.{Mixed}
+use Rattle.bt_script.specs.Operators.{number_in, is_true, unary_on, binary_on}
+use Rattle.bt_script.specs.Results.{◌>>=◌}
+use Rattle.bt_script.specs.Numbers.{greatest}
+use Rattle.bt_script_code.specs.declared.instr.Instr.{Instr}
+use Rattle.bt_script_code.specs.declared.instr.Instr.TheVariants as instr
+use Rattle.bt_script_code.specs.Places.{at_place}
+
+-- with the topmost value; a code that fits has one
+abbrev pub on_top : {R : Type 0} → (Value → List Value → Result R ExecFault) → List Value → Result R ExecFault
+on_top act [] = Err Mixed
+on_top act (x ∷ below) = act x below
+
+-- with the two topmost values
+abbrev pub on_two : {R : Type 0} → (Value → Value → List Value → Result R ExecFault) → List Value → Result R ExecFault
+on_two act [] = Err Mixed
+on_two act (y ∷ []) = Err Mixed
+on_two act (y ∷ x ∷ below) = act x y below
+
+-- a stack, whose topmost value is the first, with a value on top
+abbrev pub put : Result Value ExecFault → List Value → Result (List Value) ExecFault
+put found stack = found >>= λ x. Ok (x ∷ stack)
+
+-- the stack after an operator before one operand
+abbrev pub unary_put : UnOp → List Value → Result (List Value) ExecFault
+unary_put op = on_top (λ x below. put (unary_on op x) below)
+
+-- the stack after an operator between two operands
+abbrev pub binary_put : BinOp → List Value → Result (List Value) ExecFault
+binary_put op = on_two (λ x y below. put (binary_on op x y) below)
+
+-- whether a number is true, beside a stack
+abbrev pub told : List Value → ℤ → Result (Bool × List Value) ExecFault
+told stack n = Ok (is_true n, stack)
+
+-- whether the topmost value is true, and the stack without it
+abbrev pub truth_taken : List Value → Result (Bool × List Value) ExecFault
+truth_taken = on_top (λ x below. number_in x >>= told below)
+
+-- how many instructions one passes over, and the stack that it leaves
+abbrev pub Step : Type 0
+Step = ℕ × List Value
+
+-- on to the next instruction
+abbrev pub next : Result (List Value) ExecFault → Result Step ExecFault
+next left = left >>= λ stack. Ok (0, stack)
+
+-- one step from a stack where something is true, and the other where it is false
+abbrev pub either_step : (List Value → Step) → (List Value → Step) → Bool × List Value → Result Step ExecFault
+either_step one other t = Ok (if t.0 then one t.1 else other t.1)
+
+-- one step where the topmost value is true, and the other where it is false
+abbrev pub by_truth : (List Value → Step) → (List Value → Step) → List Value → Result Step ExecFault
+by_truth one other stack = truth_taken stack >>= either_step one other
+
+-- what an instruction does of a stack
+abbrev pub step_of : (ℕ → Result Value ExecFault) → Instr → List Value → Result Step ExecFault
+step_of look (instr.Number n) = λ stack. Ok (0, Int n ∷ stack)
+step_of look (instr.Text t) = λ stack. Ok (0, Text t ∷ stack)
+step_of look (instr.Slot k) = λ stack. next (put (look k) stack)
+step_of look (instr.Unary op) = λ stack. next (unary_put op stack)
+step_of look (instr.Binary op) = λ stack. next (binary_put op stack)
+step_of look (instr.AndThen n) = by_truth (λ below. (0, below)) (λ below. (n, Int (pos 0) ∷ below))
+step_of look (instr.OrElse n) = by_truth (λ below. (n, Int (pos 1) ∷ below)) (λ below. (0, below))
+step_of look instr.Truth = by_truth (λ below. (0, Int (pos 1) ∷ below)) (λ below. (0, Int (pos 0) ∷ below))
+step_of look (instr.Unless n) = by_truth (λ below. (0, below)) (λ below. (n, below))
+step_of look (instr.Skip n) = λ stack. Ok (n, stack)
+
+-- what an instruction gives, where the places behind it give this
+abbrev pub does : (ℕ → Result Value ExecFault) → Instr → (ℕ → List Value → Result Value ExecFault) → List Value → Result Value ExecFault
+does look i go stack = step_of look i stack >>= λ s. go s.0 s.1
+
+-- what a code gives from a place on: the topmost value in the end
+abbrev pub gives_from : (ℕ → Result Value ExecFault) → List Instr → ℕ → List Value → Result Value ExecFault
+gives_from look = at_place (does look) (on_top (λ x below. Ok x)) (λ stack. Err Mixed)
+
+-- what a code gives where the slots give this
+abbrev pub code_value : (ℕ → Result Value ExecFault) → List Instr → Result Value ExecFault
+code_value look code = gives_from look code 0 []
+
+abbrev pub instr_reach : Instr → ℕ
+instr_reach (instr.Number n) = 0
+instr_reach (instr.Text t) = 0
+instr_reach (instr.Slot k) = k + 1
+instr_reach (instr.Unary op) = 0
+instr_reach (instr.Binary op) = 0
+instr_reach (instr.AndThen n) = 0
+instr_reach (instr.OrElse n) = 0
+instr_reach instr.Truth = 0
+instr_reach (instr.Unless n) = 0
+instr_reach (instr.Skip n) = 0
+
+-- how many slots a code needs
+abbrev pub code_reach : List Instr → ℕ
+code_reach code = greatest (map instr_reach code)
+
+abbrev pub instr_texts : Instr → ℕ
+instr_texts (instr.Number n) = 0
+instr_texts (instr.Text t) = 1
+instr_texts (instr.Slot k) = 0
+instr_texts (instr.Unary op) = 0
+instr_texts (instr.Binary op) = 0
+instr_texts (instr.AndThen n) = 0
+instr_texts (instr.OrElse n) = 0
+instr_texts instr.Truth = 0
+instr_texts (instr.Unless n) = 0
+instr_texts (instr.Skip n) = 0
+
+-- how many text literals stand in a code
+abbrev pub code_texts : List Instr → ℕ
+code_texts code = sum_by instr_texts code

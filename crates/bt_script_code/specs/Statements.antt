@@ -1,0 +1,52 @@
+-- What the code of statements does, one after the other.
+use Rattle.std.specs.Prelude.{ℕ, ◌+◌, pos, max, List, [], ◌∷◌, map, sum, Option, Result, Ok}
+use Rattle.bt_script.specs.declared.value.Value.{Value}
+use Rattle.bt_script.specs.declared.value.Value.TheVariants.{Int}
+use Rattle.bt_script.specs.Entries.{entry_of}
+use Rattle.bt_script.specs.Evaluation.{Run, written, if_there, followed}
+use Rattle.bt_script.specs.Numbers.{greatest}
+use Rattle.bt_script_code.specs.declared.instr.Instr.{Instr}
+use Rattle.bt_script_code.specs.declared.codes.StmtCode.{StmtCode}
+use Rattle.bt_script_code.specs.declared.codes.StmtCode.TheVariants.{Create, Assign, Plain}
+use Rattle.bt_script_code.specs.Programs.{Formula, Program}
+use Rattle.bt_script_code.specs.Running.{code_value, code_reach, code_texts}
+
+-- the meaning of an expression's code
+abbrev pub code_formula : List Instr → Formula
+code_formula code = record { value = λ look. code_value look code; reach = code_reach code; texts = code_texts code }
+
+-- what the code of a statement gives and leaves
+abbrev pub stmt_run : StmtCode → List (Option Value) → Run
+stmt_run (Create k code) entries = written k entries (code_value (entry_of entries) code.instrs)
+stmt_run (Assign k code) entries = written k entries (if_there k entries (code_value (entry_of entries) code.instrs))
+stmt_run (Plain code) entries = record { answer = code_value (entry_of entries) code.instrs; entries = entries }
+
+-- how many slots the code of a statement needs
+abbrev pub stmt_code_reach : StmtCode → ℕ
+stmt_code_reach (Create k code) = max (k + 1) (code_reach code.instrs)
+stmt_code_reach (Assign k code) = max (k + 1) (code_reach code.instrs)
+stmt_code_reach (Plain code) = code_reach code.instrs
+
+-- how many text literals stand in the code of a statement
+abbrev pub stmt_code_texts : StmtCode → ℕ
+stmt_code_texts (Create k code) = code_texts code.instrs
+stmt_code_texts (Assign k code) = code_texts code.instrs
+stmt_code_texts (Plain code) = code_texts code.instrs
+
+-- the meaning of a statement's code
+abbrev pub stmt_program : StmtCode → Program
+stmt_program s = record { run = stmt_run s; reach = stmt_code_reach s; texts = stmt_code_texts s }
+
+-- one run after the other; the last value counts
+abbrev pub runs : Value → List Program → List (Option Value) → Run
+runs last [] entries = record { answer = Ok last; entries = entries }
+runs last (p ∷ rest) entries =
+    followed (p.run entries).answer (p.run entries).entries (λ value left. runs value rest left)
+
+-- the meaning of programs one after the other
+abbrev pub one_by_one : List Program → Program
+one_by_one programs = record {
+  run = runs (Int (pos 0)) programs;
+  reach = greatest (map (λ p. p.reach) programs);
+  texts = sum (map (λ p. p.texts) programs);
+}

@@ -1,0 +1,94 @@
+ghost use Rattle.std.specs.Prelude.{◌≡◌, ◌+◌, ◌<◌, ◌≤◌, [], ◌∷◌, Ok, length, map, reverse, take};
+ghost use Rattle.bt_script.specs.declared.value.Value.TheVariants.{Int};
+ghost use Rattle.bt_script_code.specs.Running.{binary_put, truth_taken, unary_put};
+ghost use Rattle.bt_script_code.specs.Stacks.{left};
+
+use crate::operators::{binary_ints, unary_int};
+use bt_script::{BinOp, ExecFault, UnOp};
+use std::marker::Model;
+
+/// A stack of 65 places for numbers. Contracts see the list of them, the topmost first.
+#[derive(Drop)]
+pub struct NumberStack {
+    places: [i64; 65],
+    height: usize,
+}
+
+impl Model for NumberStack {
+    ghost use Rattle.std.specs.Prelude.{◌≤◌, List, ℤ, reverse, take};
+
+    ghost Value = { List ℤ };
+
+    ghost view = { λ s. reverse (take s.height s.places) };
+
+    ghost invariant = { λ s. s.height ≤ 65 };
+}
+
+impl NumberStack {
+    /// A stack without numbers.
+    #[inline(always)]
+    pub fn empty() -> NumberStack
+        ensures { result ≡ [] }
+    {
+        NumberStack {
+            places: [0; 65],
+            height: 0,
+        }
+    }
+
+    /// Puts a number on top.
+    #[inline(always)]
+    pub fn put(&mut self, n: i64)
+        requires { length self.old < 65 }
+        ensures { self.new ≡ n ∷ self.old }
+    {
+        self.places[self.height] = n;
+        self.height += 1;
+    }
+
+    /// Takes the topmost number.
+    #[inline(always)]
+    pub fn take(&mut self) -> i64
+        requires { 0 < length self.old }
+        ensures taken { self.old ≡ result ∷ self.new }
+        ensures room { length self.new < 65 }
+    {
+        self.height -= 1;
+        self.places[self.height]
+    }
+
+    /// Puts an operator's result in place of its operand.
+    #[inline(always)]
+    pub fn unary(&mut self, op: UnOp) -> Result<(), ExecFault>
+        requires { 0 < length self.old }
+        ensures { unary_put op (map Int self.old) ≡ left result (map Int self.new) }
+    {
+        let x = self.take();
+        let n = unary_int(op, x)?;
+        self.put(n);
+        Ok(())
+    }
+
+    /// Puts an operator's result in place of its two operands.
+    #[inline(always)]
+    pub fn binary(&mut self, op: BinOp) -> Result<(), ExecFault>
+        requires { 1 < length self.old }
+        ensures { binary_put op (map Int self.old) ≡ left result (map Int self.new) }
+    {
+        let y = self.take();
+        let x = self.take();
+        let n = binary_ints(op, x, y)?;
+        self.put(n);
+        Ok(())
+    }
+
+    /// Takes the topmost number, as a truth.
+    #[inline(always)]
+    pub fn take_truth(&mut self) -> bool
+        requires { 0 < length self.old }
+        ensures takes { truth_taken (map Int self.old) ≡ Ok (result, map Int self.new) }
+        ensures height { length self.new + 1 ≡ length self.old }
+    {
+        self.take() != 0
+    }
+}

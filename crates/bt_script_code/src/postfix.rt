@@ -1,0 +1,13 @@
+ghost use Rattle.std.specs.Prelude.{◌≡◌, true};
+ghost use Rattle.bt_script_code.specs.Rooms.{fits};
+
+use crate::instr::Instr;
+use bt_script::Items;
+
+/// The code of an expression: its operands, each followed by what is done of those on top of the stack.
+/// A stack of 65 places has room for it.
+#[derive(Debug, Drop)]
+pub struct Postfix {
+    pub(crate) instrs: Items<Instr>,
+    ghost room: { fits instrs ≡ true },
+}
