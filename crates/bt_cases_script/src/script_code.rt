@@ -155,7 +155,11 @@ fn expressions_have_64_levels(rt: HostRuntime) -> Result<(), Fail> {
         ("x += ", ("1 ? ", "7", " : 0"), 63, "8"),
     ] {
         let text = nested(alloc, front, parts, times)?;
-        assert_eq!(rt; script_text(&rt, alloc, text.as_str())?.as_str(), want, "{text}");
+        assert_eq!(rt;
+            script_text(&rt, alloc, text.as_str())?.as_str(),
+            want,
+            "{text}"
+        );
     }
     Ok(())
 }

@@ -84,10 +84,10 @@ choice_needs n a b c na nb nc rest above le fit =
     let j = instr.Skip (length c) in
     let low : above ≡ above + 1 - 1 = omega arith in
     let over : fits_from (c ++ rest) (length c) (above + 1) ≡ true =
-      (let e : length c ≡ length c + 0 = omega arith in ap (λ n. fits_from (c ++ rest) n (above + 1)) e ∙ ap (λ (f : ℕ → Bool). f (above + 1)) (past c rest 0) ∙ fit) in
+    (let e : length c ≡ length c + 0 = omega arith in ap (λ n. fits_from (c ++ rest) n (above + 1)) e ∙ ap (λ (f : ℕ → Bool). f (above + 1)) (past c rest 0) ∙ fit) in
     let first : fits_from (b ++ j ∷ (c ++ rest)) 0 (above + 1 - 1) ≡ true = at_height (b ++ j ∷ (c ++ rest)) 0 _ _ low (nb (j ∷ (c ++ rest)) above le over) in
     let other : fits_from (b ++ j ∷ (c ++ rest)) (length b + 1) (above + 1 - 1) ≡ true =
-      ap (λ (f : ℕ → Bool). f (above + 1 - 1)) (past b (j ∷ (c ++ rest)) 1) ∙ at_height (c ++ rest) 0 _ _ low (nc rest above le fit) in
+    ap (λ (f : ℕ → Bool). f (above + 1 - 1)) (past b (j ∷ (c ++ rest)) 1) ∙ at_height (c ++ rest) 0 _ _ low (nc rest above le fit) in
     subst (λ code. fits_from code 0 above ≡ true) (sym (append_assoc a (i ∷ (b ++ j ∷ c)) rest ∙ ap (λ z. a ++ i ∷ z) (append_assoc b (j ∷ c) rest)))
     (na (i ∷ (b ++ j ∷ (c ++ rest))) above le (one_left above _ (and_from _ _ first other)))
 

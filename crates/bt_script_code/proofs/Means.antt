@@ -160,9 +160,9 @@ module _ (look : ℕ → Result Value ExecFault) where
   value_when : (code : List Instr) (r : Result Value ExecFault) → Means code r → code_value look code ≡ r
   value_when code r means =
       ap (λ z. gives z 0 []) (sym (append-nil code)) ∙ means [] [] ∙ whole r where
-    whole : (r : Result Value ExecFault) → (r >>= λ v. gives [] 0 (v ∷ [])) ≡ r
-    whole (Ok v) = refl
-    whole (Err f) = refl
+        whole : (r : Result Value ExecFault) → (r >>= λ v. gives [] 0 (v ∷ [])) ≡ r
+        whole (Ok v) = refl
+        whole (Err f) = refl
 
   module _ (names : List ℕ → ℕ) where
     abbrev eval : Expr → Result Value ExecFault

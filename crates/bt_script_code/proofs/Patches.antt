@@ -11,7 +11,7 @@ patch jump t code front b place at is =
     let j = jump (length b + 1) in
     let long : length code - place ≡ length b + 1 = omega (arith, ap length is, length-append front (jump 0 ∷ b), at) in
     let written : slice_set code place j ≡ front ++ j ∷ b =
-      ap (λ c. slice_set c place j) is ∙ ap (λ n. slice_set (front ++ jump 0 ∷ b) n j) at ∙ set-append_seam front (jump 0) b j in
+    ap (λ c. slice_set c place j) is ∙ ap (λ n. slice_set (front ++ jump 0 ∷ b) n j) at ∙ set-append_seam front (jump 0) b j in
     ap (λ n. slice_set code place (jump n) ++ t ∷ []) long ∙ ap (λ c. c ++ t ∷ []) written ∙ append_assoc front (j ∷ b) (t ∷ [])
 
 -- the two jumps of `? :`

@@ -71,9 +71,13 @@ texts-between op a b = omega (arith, texts-append a (ended op b), texts-ended op
 
 texts-choice : (a b c : List Instr) → code_texts (choice_code a b c) ≡ code_texts a + code_texts b + code_texts c
 texts-choice a b c =
-    omega (arith, texts-append a (instr.Unless (length b + 1) ∷ (b ++ instr.Skip (length c) ∷ c)),
-    one_before (instr.Unless (length b + 1)) (b ++ instr.Skip (length c) ∷ c) refl,
-    texts-append b (instr.Skip (length c) ∷ c), one_before (instr.Skip (length c)) c refl)
+    omega (
+      arith,
+      texts-append a (instr.Unless (length b + 1) ∷ (b ++ instr.Skip (length c) ∷ c)),
+      one_before (instr.Unless (length b + 1)) (b ++ instr.Skip (length c) ∷ c) refl,
+      texts-append b (instr.Skip (length c) ∷ c),
+      one_before (instr.Skip (length c)) c refl,
+    )
 
 module _ (names : List ℕ → ℕ) where
   abbrev SameReach : Expr → Type 0

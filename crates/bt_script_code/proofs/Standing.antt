@@ -23,11 +23,11 @@ module _ {R : Type 0} (makes : Instr → (ℕ → R) → R) (end past : R) where
   opens (j ∷ code) zero i is =
       let same : j ≡ i = cc in
       let shift : (n : ℕ) → at_place makes end past code n ≡ at_place makes end past (j ∷ code) (0 + 1 + n) =
-        λ n. let e : suc n ≡ 0 + 1 + n = omega arith in ap (at_place makes end past (j ∷ code)) e in
+      λ n. let e : suc n ≡ 0 + 1 + n = omega arith in ap (at_place makes end past (j ∷ code)) e in
       λ k. makes (same k) (λ n. shift n k)
   opens (j ∷ code) (suc place) i is =
       let shift : (n : ℕ) → at_place makes end past code (place + 1 + n) ≡ at_place makes end past (j ∷ code) (suc place + 1 + n) =
-        λ n. let e : suc (place + 1 + n) ≡ suc place + 1 + n = omega arith in ap (at_place makes end past (j ∷ code)) e in
+      λ n. let e : suc (place + 1 + n) ≡ suc place + 1 + n = omega arith in ap (at_place makes end past (j ∷ code)) e in
       opens code place i is ∙ (λ k. makes i (λ n. shift n k))
 
 -- a place that a stack has room for is no place past the end

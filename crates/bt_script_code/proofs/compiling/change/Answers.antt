@@ -13,9 +13,9 @@ invariant_of-result c =
     let names = slot_of c.args.slots.now in
     let front : List Instr = Slot c.args.slot ∷ [] in
     let made : c.emit.new.code.items ≡ front ++ (begun c.args.op ++ code_of names c.args.e.now) =
-      c.in_ok-emit.ensures
-      ∙ ap (λ z. z ++ code_of names c.args.e.now) (c.in_ok-begin.ensures ∙ ap (λ z. z ++ begun c.args.op) (c.in_ok-put.ensures ∙ ap (λ z. z ++ front) c.new-code.ensures.items))
-      ∙ append_assoc front (begun c.args.op) (code_of names c.args.e.now) in
+    c.in_ok-emit.ensures
+    ∙ ap (λ z. z ++ code_of names c.args.e.now) (c.in_ok-begin.ensures ∙ ap (λ z. z ++ begun c.args.op) (c.in_ok-put.ensures ∙ ap (λ z. z ++ front) c.new-code.ensures.items))
+    ∙ append_assoc front (begun c.args.op) (code_of names c.args.e.now) in
     let same : c.of.result ≡ between c.args.op front (code_of names c.args.e.now) =
-      c.of.ensures ∙ c.in_ok-end.ensures front (code_of names c.args.e.now) (omega arith) made in
+    c.of.ensures ∙ c.in_ok-end.ensures front (code_of names c.args.e.now) (omega arith) made in
     record { room = subst (λ code. fits code ≡ true) (sym same) (change_fits names c.args.op c.args.slot c.args.e.now c.requires) }

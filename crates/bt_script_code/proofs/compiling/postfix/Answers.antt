@@ -9,5 +9,5 @@ pub invariant_of-result : goal.invariant_of-result
 invariant_of-result c =
     let names = slot_of c.args.slots.now in
     let same : c.of.result ≡ code_of names c.args.e.now =
-      c.of.ensures ∙ c.in_ok-emit.ensures ∙ ap (λ z. z ++ code_of names c.args.e.now) c.new-code.ensures.items in
+    c.of.ensures ∙ c.in_ok-emit.ensures ∙ ap (λ z. z ++ code_of names c.args.e.now) c.new-code.ensures.items in
     record { room = subst (λ code. fits code ≡ true) (sym same) (expr_fits names c.args.e.now c.requires) }

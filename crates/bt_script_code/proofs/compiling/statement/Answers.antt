@@ -27,7 +27,7 @@ returns-in_ok-code-in-Change c =
     let names = slot_of c.args.slots.now in
     ap (λ k. stmt_program (coded.Assign k c.in_ok-code-in-Change.code)) c.slot_at-slot.ensures
     ∙ same_change names c.in-Change.op c.in-Change.name c.in-Change.e c.in_ok-code-in-Change.code
-      (c.in_ok-code-in-Change.ensures ∙ ap (λ k. between c.in-Change.op (Slot k ∷ []) (code_of names c.in-Change.e)) c.slot_at-slot.ensures)
+    (c.in_ok-code-in-Change.ensures ∙ ap (λ k. between c.in-Change.op (Slot k ∷ []) (code_of names c.in-Change.e)) c.slot_at-slot.ensures)
     ∙ ap (statement_of names) (sym c.in-Change.is)
 
 pub returns-in_ok-postfix-in-Plain : goal.returns-in_ok-postfix-in-Plain
