@@ -1,16 +1,16 @@
 """What the program's exit and output mean for the files of its words."""
 
-from typing import List, Optional
+from typing import List
 
 from .faults import explained
 from .marks import Finding
-from .opening import open_file
+from .opening import open_file, opened
 from .report import Note, Place, Report
 from .rows import lacking
 from .source import MOST_BYTES, Source, read
 from .table import TREE, WORLD
 from .traces import faulted
-from .trees import TreeFile, read_file
+from .trees import read_file
 from .words import Command, command_of, usage, wrong
 from .worlds import read_world
 
@@ -22,7 +22,7 @@ def explanation(status: int, output: bytes, words: List[str]) -> List[str]:
         return [] if problem is None else [f"bt: {problem}", *usage()]
     command = command_of(words)
     text = output.decode("utf-8", "replace")
-    if command is None or command.tree is None:
+    if command is None:
         return []
     if status == 3:
         return of_tree(command, refused(text, "refused tree "))
@@ -62,19 +62,6 @@ def of_tree(command: Command, words: str) -> List[str]:
     return []
 
 
-def opened(command: Command) -> Optional[TreeFile]:
-    """The tree of a command, where it can be read as the program has read it."""
-    source = read(command.tree or "")
-    if source is None or len(source.data) > MOST_BYTES:
-        return None
-    try:
-        file = read_file(source, command.main)
-        open_file(file)
-    except Finding:
-        return None
-    return file
-
-
 def of_world(command: Command, words: str) -> List[str]:
     """The lines for a world script that was refused."""
     source = read(command.world or "")
@@ -89,14 +76,14 @@ def of_world(command: Command, words: str) -> List[str]:
         world = read_world(source)
     except Finding as finding:
         return told(source, finding) if finding.words == words else []
-    file = opened(command) if kind == "NoRow" else None
+    file = opened(command.tree, command.main) if kind == "NoRow" else None
     return [] if file is None else lacking(file, world, words)
 
 
 def of_fault(command: Command, text: str) -> List[str]:
     """The lines for a run that ended in a fault."""
     ended = faulted(text)
-    file = opened(command)
+    file = opened(command.tree, command.main)
     source = read(command.world or "")
     if ended is None or file is None or source is None:
         return []

@@ -8,7 +8,8 @@ from .contents import check_content
 from .marks import Element, Finding
 from .near import listed, meant
 from .slots import check_sizes
-from .trees import Node, TreeFile, quoted
+from .source import MOST_BYTES, read
+from .trees import Node, TreeFile, quoted, read_file
 
 MOST_NODES = 4096
 
@@ -161,3 +162,16 @@ def open_file(file: TreeFile) -> None:
     sys.setrecursionlimit(20_000)
     Opening(file).open_main()
     check_sizes(file, LOOPS)
+
+
+def opened(name: Optional[str], main: Optional[str]) -> Optional[TreeFile]:
+    """The file of this name with its main tree opened, or none where it can't be read as the program reads it."""
+    source = read(name) if name else None
+    if source is None or len(source.data) > MOST_BYTES:
+        return None
+    try:
+        file = read_file(source, main)
+        open_file(file)
+    except Finding:
+        return None
+    return file
