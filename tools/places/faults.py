@@ -18,7 +18,7 @@ SIGNS = {"ZeroDivisor": ("/", "/="), "NotWhole": ("/", "/="), "TextTooLong": ("+
 
 @dataclass
 class Suspect:
-    """A script of a node or an expression of its row that may have faulted, and where in it."""
+    """A part of a node or of its row that may have faulted, in words before the node's name, and where in it."""
 
     name: str
     place: Place
@@ -30,14 +30,15 @@ def explained(file: TreeFile, world: World, ended: Faulted) -> Optional[Report]:
         return None
     node = file.nodes[ended.uid - 1]
     suspects = list(suspected(file, world, node, ended))
-    report = Report("fault", "", Place(file.source, *node.element.span()), file.where(node))
+    if not suspects:
+        return None
+    report = Report("error", "", Place(file.source, *node.element.span()), file.where(node))
     report.message = f"{node.said()} faulted at {ended.moment} ms: {cause_said(file, node, ended)}"
     if len(suspects) == 1:
         report.place = suspects[0].place
-        report.message = f"{suspects[0].name} of {report.message}"
-    report.helps.append(CAUSES[ended.cause[0]].right)
-    report.helps += given(file, node, ended)
-    report.notes += [Note(f"it may be {suspect.name}", suspect.place) for suspect in suspects[:4] if len(suspects) > 1]
+        report.message = suspects[0].name + report.message
+    report.helps += given(file, node, ended) or [CAUSES[ended.cause[0]].right]
+    report.notes += [Note(f"it may be {suspect.name}this node", suspect.place) for suspect in suspects[:4] if len(suspects) > 1]
     if len(suspects) == 1 and suspects[0].place.source is world.source:
         report.notes.append(Note("the node", Place(file.source, *node.element.span())))
     report.helps.append(f"it was in the event `{ended.header}`, of runner {ended.runner}; {quenched(file, ended)}")
@@ -74,13 +75,13 @@ def given(file: TreeFile, node: Node, ended: Faulted) -> List[str]:
         return []
     attribute = node.element.attribute(rest[0])
     if attribute is None:
-        return [f"the node does not write {rest[0]}"] if kind == "NoInput" else []
+        return [f"the node does not write {rest[0]}: write it there, or take it out of the row"] if kind == "NoInput" else []
     if kind == "NoInput":
-        return [f"the node gives {rest[0]}=\"{attribute.value.text()}\", an entry that has no value by then"]
+        return [f"the node gives {rest[0]}=\"{attribute.value.text()}\", an entry that has no value by then: write it first"]
     ranges = {port.name: port.range for port in NODES[node.kind].ports} if node.kind in NODES else {}
     takes = "1 to the number of children, or below 0 counted from all of them" if node.kind == "Parallel" \
         else RANGES.get(ranges.get(rest[0], "number"), "a number")
-    return [f"{rest[0]} takes {takes}"]
+    return [f"write a number to the entry first, or at the port: {rest[0]} takes {takes}"]
 
 
 def suspected(file: TreeFile, world: World, node: Node, ended: Faulted) -> Iterator[Suspect]:
@@ -89,7 +90,7 @@ def suspected(file: TreeFile, world: World, node: Node, ended: Faulted) -> Itera
     if kind == "BadPort":
         attribute = node.element.attribute(ended.cause[-1])
         if attribute is not None:
-            yield Suspect("the port " + attribute.name, Place(file.source, *attribute.span()))
+            yield Suspect("", Place(file.source, *attribute.span()))
         return
     if kind != "NoInput":
         names = possible(node, ended)
@@ -157,7 +158,7 @@ def in_script(file: TreeFile, node: Node, attribute: Attribute, ended: Faulted) 
     whole = Place(file.source, value.at, value.at + len(value.raw))
     first = wanted[0] if wanted and (kind == "NoEntry" or len(wanted) == 1) else None
     place = whole if first is None else Place(file.source, value.place(first.start), value.place(first.end))
-    yield Suspect(f"the script {attribute.name}", place)
+    yield Suspect(f"the script {attribute.name} of ", place)
 
 
 def signs_of(sign: str, target: Optional[Token], part: Tuple[Token, ...], kind: str) -> Iterator[Token]:
@@ -175,12 +176,12 @@ def in_row(world: World, row: Row, ended: Faulted) -> Iterator[Suspect]:
         if kind == "NoInput":
             wanted = [word for word in expr.names() if word.text == ended.cause[-1]]
             if wanted:
-                yield Suspect("the row", Place(world.source, *wanted[0].span()))
+                yield Suspect("the row of ", Place(world.source, *wanted[0].span()))
                 return
         elif kind == "Mixed" or any(token.is_sign(*SIGNS.get(kind, ())) for token in expr.read.tokens):
             if kind == "Mixed" and not any(word.text in row.ports for word in expr.names()):
                 continue
-            yield Suspect("the row", Place(world.source, expr.start, expr.start + len(expr.text)))
+            yield Suspect("the row of ", Place(world.source, expr.start, expr.start + len(expr.text)))
     if kind == "Overflow":
         for added in row.adds:
-            yield Suspect("an effect of the row", Place(world.source, *added.span()))
+            yield Suspect("an effect of the row of ", Place(world.source, *added.span()))
