@@ -27,6 +27,11 @@ def nodes(text: str, head: str = 'BTCPP_format="4"') -> str:
     return f'<root {head}>\n<BehaviorTree ID="M">\n{text}\n</BehaviorTree>\n</root>\n'
 
 
+def pair(first: str, second: str, head: str = 'BTCPP_format="4" ') -> str:
+    """A file of two trees, M with nodes that begin on line 3, and N with nodes that begin on line 6 where the first are one line."""
+    return nodes(f'{first}\n</BehaviorTree>\n<BehaviorTree ID="N">\n{second}', head + 'main_tree_to_execute="M"')
+
+
 def lines(text: str) -> str:
     """A world script with these lines, which begin on line 2."""
     return "bt-world 1\n" + text + "\n"

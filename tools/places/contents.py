@@ -1,6 +1,6 @@
 """The attributes of a node: its ports, what they say, and its scripts."""
 
-from typing import Dict, List, Optional, Tuple
+from typing import List, Optional, Tuple
 
 from .built_ins import GUARDS, NODES, RANGES, SAMPLES, WITH_CODE, is_identifier
 from .marks import Attribute, Finding

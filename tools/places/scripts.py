@@ -218,40 +218,51 @@ class Order:
         return ScriptFault("Syntax", token.start, token.end, f"the text does not go on with {token.text} here", help_)
 
 
+class Heights:
+    """The heights of the operands so far, and the signs whose operands are not complete."""
+
+    def __init__(self) -> None:
+        self.values: List[int] = []
+        self.signs: List[str] = []
+
+    def apply(self) -> None:
+        """Gives the last sign its operands."""
+        count = {"unary": 1, ":": 3}.get(self.signs.pop(), 2)
+        parts = self.values[-count:]
+        self.values[-count:] = [1 + max(parts)]
+
+    def apply_down_to(self, level: int) -> None:
+        """Gives the signs of this level or a tighter one their operands, back to what is open."""
+        levels = {"unary": 10, ":": 0, **LEVELS}
+        while self.signs and self.signs[-1] not in ("(", "?") and levels[self.signs[-1]] >= level:
+            self.apply()
+
+    def take_operator(self, sign: str) -> None:
+        """Takes a sign behind an operand."""
+        self.apply_down_to({"?": 1, ":": 0, ")": 0}.get(sign, LEVELS.get(sign, 0)))
+        if sign in (":", ")"):
+            self.signs.pop()
+        if sign == ")":
+            self.values[-1] += 1
+        else:
+            self.signs.append(sign)
+
+
 def height(part: Tuple[Token, ...]) -> int:
     """The height of an expression: 1 for a value, one more for each operator and pair of parentheses round it."""
-    values: List[int] = []
-    signs: List[str] = []
-
-    def apply() -> None:
-        count = {"unary": 1, ":": 3}.get(signs.pop(), 2)
-        parts = values[-count:]
-        del values[-count:]
-        values.append(1 + max(parts))
-
-    def apply_down_to(level: int) -> None:
-        while signs and signs[-1] not in ("(", "?") and {"unary": 10, ":": 0, **LEVELS}[signs[-1]] >= level:
-            apply()
-
-    operand = True
+    heights = Heights()
+    wants_operand = True
     for token in part:
         if token.kind != "sign":
-            values.append(1)
-            operand = False
-        elif operand:
-            signs.append("(" if token.text == "(" else "unary")
-        elif token.text == ")":
-            apply_down_to(0)
-            signs.pop()
-            values[-1] += 1
+            heights.values.append(1)
+            wants_operand = False
+        elif wants_operand:
+            heights.signs.append("(" if token.text == "(" else "unary")
         else:
-            apply_down_to({"?": 1, ":": 0}.get(token.text, LEVELS.get(token.text, 0)))
-            if token.text == ":":
-                signs.pop()
-            signs.append(token.text)
-            operand = True
-    apply_down_to(0)
-    return values[-1]
+            heights.take_operator(token.text)
+            wants_operand = token.text != ")"
+    heights.apply_down_to(0)
+    return heights.values[-1]
 
 
 def statements(text: bytes, single: bool = False) -> List[Statement]:

@@ -71,7 +71,8 @@ CAUSES: Dict[str, Kind] = {
     "Overflow": Kind("a number left the 64 bits", "numbers lie between -9223372036854775808 and 9223372036854775807"),
     "ZeroDivisor": Kind("a division by 0", "ask first: `n != 0 ? a / n : 0`"),
     "NotWhole": Kind("a division leaves a remainder", "there are whole numbers only: count in smaller units"),
-    "Mixed": Kind("a number and a text together, or a text where a number is needed", "compare texts with texts, and calculate with numbers"),
+    "Mixed": Kind("a number and a text together, or a text where a number is needed",
+                  "compare texts with texts, and calculate with numbers"),
     "TextTooLong": Kind("a text of more than 4,096 bytes", "keep the texts short"),
     "BadPort": Kind("the key of a port has no number that it takes", "write a number of the port's range to the entry first"),
 }
