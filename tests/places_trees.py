@@ -19,7 +19,7 @@ MISTAKES = [
          ("RetryUntilSuccessful (node 5) lacks its port num_attempts", 'write num_attempts="3": 1 to 1000'),
          changed(THREE_TREES, ' num_attempts="3"', ""), THREE_ROWS, TICK),
     Case("mistake 4, real number", 3, "refused tree BadScript 7 RealNumber 15\n", "T:15:36:",
-         ("code of Script (node 7)", "whole numbers only", "smaller units"),
+         ("code of Script (node 7)", "whole numbers only", "smaller units", " ^~~"),
          changed(THREE_TREES, "steps * 2", "steps * 0.5"), THREE_ROWS, TICK),
     Case("mistake 5, misspelled subtree", 3, "refused tree NoTree 'Dok'\n", "T:16:16:",
          ("no tree 'Dok'", "did you mean Dock?", "'Deliver', 'DriveTo', 'Dock'"),

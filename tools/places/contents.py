@@ -51,7 +51,7 @@ def check_known(file: TreeFile, node: Node) -> None:
         if names is None or attribute.name in names:
             continue
         others = names + list(GUARDS) + (["code"] if node.kind in WITH_CODE else [])
-        has = f"it has the ports {listed(names)}" if names else "it has no ports"
+        has = f"its ports: {listed(names)}" if names else "it has no ports"
         notes = []
         if node.kind == "Leaf":
             notes = [(f"the model of {node.id}", file.models[node.id].element.span())]

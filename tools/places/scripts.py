@@ -85,7 +85,7 @@ def tokens(text: bytes) -> Iterator[Token]:
         if found.lastgroup != "white":
             token = Token(found.lastgroup or "", found.group().decode(), at, found.end())
             if token.kind == "number":
-                check_number(token, text[token.end:token.end + 1])
+                check_number(token, text[token.end:])
             yield token
         at = found.end()
 
@@ -103,11 +103,13 @@ def no_token(text: bytes, at: int) -> ScriptFault:
     return ScriptFault("Syntax", at, end, f"a script has no sign {sign}", hints.get(sign, ""))
 
 
-def check_number(token: Token, behind: bytes) -> None:
+def check_number(token: Token, rest: bytes) -> None:
     """Raises what is wrong with a number, by what stands directly behind it."""
     decimal = not token.text.lower().startswith("0x")
+    behind = rest[:1]
     if decimal and behind and behind in b".eE":
-        raise ScriptFault("RealNumber", token.start, token.end + 1, "a script has whole numbers only",
+        end = token.end + len(rest) - len(rest.lstrip(b".eE0123456789"))
+        raise ScriptFault("RealNumber", token.start, end, "a script has whole numbers only",
                           "count in smaller units: millimetres in place of metres, 15 in place of 1.5")
     if behind.isalpha() or behind == b"_":
         raise ScriptFault("Syntax", token.start, token.end + 1, "a letter stands directly behind a number",
