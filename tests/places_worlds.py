@@ -1,0 +1,91 @@
+"""World scripts that are refused, and words that are no command."""
+
+from places_cases import THREE_ROWS, THREE_TREES, Case, changed, lines, nodes
+
+ONE = nodes("<A/>")
+
+
+def world(name: str, words: str, place: str, said: "tuple[str, ...]", text: str, tree: str = ONE) -> Case:
+    """A world script that is refused by these words."""
+    return Case(name, 4, f"refused world {words}\n", place, said, tree, text, "tick T W")
+
+
+WORLDS = [
+    world("no header", "Header 1", "W:1:1:", ("`bt-world 1`",), "bt-world 2\n"),
+    world("no lines", "Header 1", "W:1:1:", ("`bt-world 1`",), ""),
+    world("an unknown line", "BadLine 2", "W:2:1:", ("no line begins with facts", "did you mean fact"), lines("facts x 1")),
+    world("a line without its number", "BadLine 3", "W:3:7:", ("number is missing", "`fact NAME INT`"), lines("# x\nfact x")),
+    world("a line that goes on", "BadLine 2", "W:2:10:", ("goes on with 2",), lines("fact x 1 2")),
+    world("a number that is none", "BadLine 2", "W:2:8:", ("01 is no number",), lines("fact x 01")),
+    world("signs without blanks", "BadLine 4", "W:4:6:", ("x=1 is no name",), lines("fact x 1\naction A timed 0\nsets x=1")),
+    world("a comparison", "BadLine 3", "W:3:18:", ("here stands ==", "condition ID is FACT OP INT"),
+          lines("fact x 1\ncondition A is x = 1")),
+    world("an unknown way", "BadLine 2", "W:2:10:", ("timed or replay or gate", "`action ROW timed MS`"), lines("action A lasts 100")),
+    world("outcomes", "BadLine 2", "W:2:19:", ("S for success and F for failure",), lines("action A replay 0 FFX")),
+    world("ports with blanks", "BadLine 2", "W:2:13:", ("timed or replay or gate",), lines("action A(p, q) timed 0")),
+    world("an effect without its action", "BadLine 3", "W:3:1:", ("above a line `sets` stands an action",),
+          lines("fact x 1\nsets x = 1")),
+    world("fails of a gate", "BadLine 3", "W:3:1:", ("A is not timed",), lines("action A gate 1\nfails 1")),
+    world("an expression that ends", "BadLine 3", "W:3:21:", ("the text ends where",), lines("fact x 1\ncondition A when x +")),
+    world("a text in an expression", "BadLine 3", "W:3:23:", ("has no texts",), lines("fact x 1\ncondition A when x == 'a'")),
+    world("a real number in an expression", "BadLine 3", "W:3:22:", ("whole numbers",), lines("fact x 1\ncondition A when x > 0.5")),
+    world("runners behind an event", "BadLine 3", "W:3:1:", ("before the first event",), lines("tick 1\nrunners 2")),
+    world("another sign", "BadLine 2", "W:2:6:", ("printable ASCII",), lines("fact ö 1").replace("ö", "\udcf6")),
+    world("a wide number in a line", "Range 2", "W:2:8:", ("out of the range of a fact",), lines("fact x 9223372036854775808")),
+    world("a runner too many", "Range 2", "W:2:6:", ("out of the range of runners", "`runners N`"), lines("tick 2")),
+    world("a fact twice", "DoubleName 3", "W:3:6:", ("second fact x", "W:2:6: note"), lines("fact x 1\nfact x 2")),
+    world("a row of a built-in node", "DoubleName 2", "W:2:8:", ("Sequence is a name of the tree format",),
+          lines("action Sequence timed 0")),
+    world("a fact that is not there", "NoName 3", "W:3:16:",
+          ("no earlier line has a fact batery", "did you mean battery?", "known facts: battery"),
+          lines("fact battery 1\ncondition A is batery == 1")),
+    world("a name in an expression", "NoName 3", "W:3:29:", ("frce is neither", "did you mean force?", "known ports: force"),
+          lines("fact x 1\ncondition A(force) when x > frce")),
+    world("a need that compares nothing", "NoName 4", "W:4:7:", ("C is no condition of the form `is`",),
+          lines("condition C when 1\naction A timed 0\nneeds C")),
+    world("a goal that is not there", "NoName 2", "W:2:6:", ("no earlier line has a condition G", "no conditions are known"),
+          lines("goal G")),
+    world("a moment that goes back", "MomentBack 4", "W:4:4:", ("4 lies before the last moment, 5", "W:2:4: note"),
+          lines("at 5\ntick 1\nat 4")),
+    world("too many ports", "TooMany 2", "W:2:1:", ("at most 8 ports",), lines("action A(a,b,c,d,e,f,g,h,i) timed 0")),
+    world("an effect that adds, twice", "DoubleName 5", "W:5:6:", ("A sets x already",),
+          lines("fact x 1\naction A timed 0\nsets x += 1\nsets x = 1")),
+    world("a file too long", "TooLong", "W: error:", ("1048577 bytes",), " " * 1_048_577),
+    world("mistake 7, leaf without a row", "NoRow 'HandOver'", "T:7:7:",
+          ("the leaf HandOver (node 11) has no row in W", "the row HandsOver is near", "\naction HandOver timed 0\n"),
+          changed(THREE_ROWS, "HandOver", "HandsOver"), THREE_TREES),
+    world("several leaves without rows", "NoRow 'A'", "T:3:11:",
+          ("T:3:29: note: B (node 3) has no row", "\naction A(x,y) timed 0\n", "\ncondition B when 1\n"),
+          lines("action C timed 0"), nodes('<Sequence><A x="1" y="2"/>  <Condition ID="B"/><C/></Sequence>')),
+    world("a leaf that can have no row", "NoRow 'open-door'", "T:3:1:", ("no row can have the ID 'open-door'",), lines("tick 1"),
+          nodes("<open-door/>")),
+]
+
+
+# what the program by itself never answers to a tick
+UNASKED = [
+    Case("a driver that is missing", 4, "refused world NoDriver Gate\n", "W: error:", ("no driver serves",),
+         ONE, lines("action A gate 1"), "tick T W", False),
+    Case("no goal", 4, "refused world NoGoal\n", "W: error:", ("has no goal", "`goal ID`"), ONE, lines("action A gate 1"), "tick T W", False),
+]
+
+
+def words(name: str, text: str, *said: str) -> Case:
+    """Words that are no command."""
+    return Case(name, 2, "refused words\n", "bt: ", said + ("usage: bt tick TREE WORLD [--main ID]", "bt load N"), ONE, words=text)
+
+
+WORDS = [
+    words("no word", "", "a command is missing"),
+    words("an unknown command", "chek T", "'chek' is no command: did you mean check?"),
+    words("a file is missing", "tick T", "tick: WORLD is missing"),
+    words("a word too many", "check T W", "'W' is one word too many"),
+    words("an unknown option", "check T --tree M", "'--tree' is no option of it"),
+    words("an option without its value", "check T --main", "behind --main its ID is missing"),
+    words("an option twice", "check T --main A --main B", "--main stands twice"),
+    words("no number of rounds", "live T W", "--ticks N is missing"),
+    words("a number of rounds", "live T W --ticks 0", "--ticks is a number from 1 to 100000"),
+    words("a number of leaves", "load 01", "N is a number from 1 to 1000"),
+]
+
+CASES = WORLDS + UNASKED + WORDS

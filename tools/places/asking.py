@@ -1,0 +1,136 @@
+"""What `./names` answers: which node is which, in a tree file and in a trace."""
+
+import os
+import stat
+import subprocess
+import sys
+from typing import List, Optional
+
+from .explaining import explanation, told
+from .listing import join_lines, node_lines, tree_lines
+from .marks import Finding, read_marks
+from .naming import Naming
+from .opening import open_file
+from .report import tell
+from .source import Source
+from .trees import TreeFile, main_of, read_file, trees_of
+from .worlds import read_world
+
+USAGE = """\
+./names TREE [--main ID]            a line a node: uid, kind, ID, name, line, and the SubTree nodes round it
+./names TREE [--main ID] < TRACE    the trace, with the name of each node behind its line
+./names TREE WORLD [--main ID]      leaves without rows, rows without leaves, and ports that do not meet
+./names --trees TREE                a line a tree of the file
+./names --all TREE                  what `bt check` says of each tree of the file as the main tree
+"""
+
+TREE_REFUSED, WORLD_REFUSED, WORDS, UNREAD = 3, 4, 2, 7
+
+
+def file_of(name: str) -> Source:
+    """The file of this name; ends with 7 where it can't be read."""
+    try:
+        with open(name, "rb") as opened:
+            return Source(name, opened.read())
+    except (OSError, ValueError) as error:
+        tell([f"names: {error}"])
+        sys.exit(UNREAD)
+
+
+def write(lines: List[str]) -> None:
+    """Writes lines to standard output."""
+    sys.stdout.buffer.write("".join(line + "\n" for line in lines).encode("utf-8", "surrogateescape"))
+
+
+def has_trace() -> bool:
+    """Whether standard input is a file or a pipe, and not a terminal or nothing."""
+    try:
+        mode = os.fstat(0).st_mode
+    except OSError:
+        return False
+    return stat.S_ISREG(mode) or stat.S_ISFIFO(mode) or stat.S_ISSOCK(mode)
+
+
+def opened(source: Source, main: Optional[str]) -> TreeFile:
+    """The file with its main tree opened. Raises its first fault."""
+    file = read_file(source, main)
+    open_file(file)
+    return file
+
+
+def name_nodes(file: TreeFile) -> None:
+    """Lists the nodes of a tree, or names them in the trace on standard input."""
+    if not has_trace() or not sys.stdin.buffer.peek(1):
+        write(node_lines(file))
+        return
+    naming = Naming(file)
+    for line in naming.lines(sys.stdin.buffer):
+        sys.stdout.buffer.write(line)
+    sys.stdout.buffer.flush()
+    tell(filter(None, [naming.complaint()]))
+
+
+def join(file: TreeFile, world: Source) -> int:
+    """Lists what a tree and a world lack for one another."""
+    try:
+        write(list(join_lines(file, read_world(world))))
+    except Finding as finding:
+        tell(told(world, finding))
+        return WORLD_REFUSED
+    return 0
+
+
+def list_trees(source: Source) -> None:
+    """Lists the trees of a file."""
+    root = read_marks(source)
+    trees = trees_of(root)
+    try:
+        main = main_of(root, trees, None)
+    except Finding as finding:
+        main = ""
+        tell(told(source, finding))
+    write(tree_lines(source, trees, main))
+
+
+def check_all(source: Source, program: str) -> int:
+    """Has the program check each tree of a file as the main tree."""
+    status = 0
+    for name, tree in trees_of(read_marks(source)).items():
+        words = ["check", source.name, "--main", name]
+        ran = subprocess.run([program, *words], stdout=subprocess.PIPE, stderr=subprocess.PIPE, stdin=subprocess.DEVNULL)
+        said = ran.stdout.decode("utf-8", "replace").splitlines() or [f"exit {ran.returncode}"]
+        write([f"{name}: line {source.line_of(tree.at)}: {said[-1].replace('<!-- ', '').replace(' -->', '')}"])
+        sys.stdout.flush()
+        if ran.returncode != 0:
+            status = ran.returncode
+            tell(explanation(ran.returncode, ran.stdout, words) or ran.stderr.decode("utf-8", "replace").splitlines())
+    return status
+
+
+def about(source: Source, world: Optional[Source], words: List[str], program: str) -> int:
+    """Does what the words say of a tree file. Raises its first fault."""
+    if words[0] == "--all":
+        return check_all(source, program)
+    if words[0] == "--trees":
+        list_trees(source)
+        return 0
+    file = opened(source, words[-1] if words[-2:-1] == ["--main"] else None)
+    if world is not None:
+        return join(file, world)
+    name_nodes(file)
+    return 0
+
+
+def answer(words: List[str], program: str) -> int:
+    """Does what the words say, and gives the exit. `--all` calls the program."""
+    whole = len(words) == 2 and words[0] in ("--trees", "--all")
+    names = words[1:] if whole else words[:-2] if len(words) > 2 and words[-2] == "--main" else words
+    if not 1 <= len(names) <= 2 or names[0].startswith("--"):
+        tell(USAGE.splitlines())
+        return WORDS
+    source, *others = map(file_of, names)
+    try:
+        return about(source, others[0] if others else None, words, program)
+    except Finding as finding:
+        tell(told(source, finding))
+        return TREE_REFUSED

@@ -1,0 +1,94 @@
+"""What the program's exit and output mean for the files of its words."""
+
+from typing import List
+
+from .faults import explained
+from .marks import Finding
+from .opening import open_file, opened
+from .report import Note, Place, Report
+from .rows import lacking
+from .source import MOST_BYTES, Source, read
+from .table import TREE, WORLD
+from .traces import faulted
+from .trees import read_file
+from .words import Command, command_of, usage, wrong
+from .worlds import read_world
+
+
+def explanation(status: int, output: bytes, words: List[str]) -> List[str]:
+    """The lines that explain an exit, none where nothing sure can be said."""
+    if status == 2:
+        problem = wrong(words)
+        return [] if problem is None else [f"bt: {problem}", *usage()]
+    command = command_of(words)
+    text = output.decode("utf-8", "replace")
+    if command is None:
+        return []
+    if status == 3:
+        return of_tree(command, refused(text, "refused tree "))
+    if status == 4:
+        return of_world(command, refused(text, "refused world "))
+    return of_fault(command, text) if status == 5 else []
+
+
+def refused(text: str, front: str) -> str:
+    """The words of a refusal, behind their front; nothing where the output is another."""
+    whole = text.startswith(front) and text.endswith("\n") and text.count("\n") == 1
+    return text[len(front):-1] if whole else ""
+
+
+def told(source: Source, finding: Finding) -> List[str]:
+    """The lines for a fault that was found in a file."""
+    notes = [Note(message, Place(source, *span)) for message, span in finding.notes]
+    return Report("error", finding.message, Place(source, *finding.span), finding.inside, finding.helps, notes).lines()
+
+
+def too_long(name: str, source: Source) -> List[str]:
+    """The lines for a file that is too long."""
+    return [f"{name}: error: the file has {len(source.data)} bytes, and a file has at most {MOST_BYTES}"]
+
+
+def of_tree(command: Command, words: str) -> List[str]:
+    """The lines for a tree file that was refused."""
+    source = read(command.tree or "")
+    if source is None or words.split(" ")[0] not in TREE:
+        return []
+    if words == "TooLong":
+        return too_long(source.name, source) if len(source.data) > MOST_BYTES else []
+    try:
+        open_file(read_file(source, command.main))
+    except Finding as finding:
+        return told(source, finding) if finding.words == words else []
+    return []
+
+
+def of_world(command: Command, words: str) -> List[str]:
+    """The lines for a world script that was refused."""
+    source = read(command.world or "")
+    kind = words.split(" ")[0]
+    if source is None or kind not in WORLD:
+        return []
+    if words == "TooLong":
+        return too_long(source.name, source) if len(source.data) > MOST_BYTES else []
+    if kind in ("NoDriver", "NoGoal"):
+        return [f"{source.name}: error: {WORLD[kind].wrong} ({words}): {WORLD[kind].right}"]
+    try:
+        world = read_world(source)
+    except Finding as finding:
+        return told(source, finding) if finding.words == words else []
+    file = opened(command.tree, command.main) if kind == "NoRow" else None
+    return [] if file is None else lacking(file, world, words)
+
+
+def of_fault(command: Command, text: str) -> List[str]:
+    """The lines for a run that ended in a fault."""
+    ended = faulted(text)
+    file = opened(command.tree, command.main)
+    source = read(command.world or "")
+    if ended is None or file is None or source is None:
+        return []
+    try:
+        report = explained(file, read_world(source), ended)
+    except Finding:
+        return []
+    return [] if report is None else report.lines()

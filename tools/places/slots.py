@@ -1,0 +1,74 @@
+"""The slots of a tree and its work, both of which have limits."""
+
+from typing import Dict, Iterator, Set, Tuple
+
+from .marks import Finding
+from .scripts import ScriptFault, statements
+from .trees import Node, TreeFile
+from .values import is_key, key_of, number
+
+MOST_SLOTS = 4096
+
+MOST_WORK = 100_000
+
+
+def keys_of(node: Node) -> Iterator[Tuple[int, str]]:
+    """The keys that a node names, each with the scope in which it names it."""
+    for attribute in node.ports():
+        text = attribute.value.text()
+        if is_key(text):
+            yield node.scope(), key_of(attribute.name, text)
+        if node.kind == "SubTree":
+            yield node.uid, attribute.name
+    for attribute in node.scripts():
+        try:
+            parts = statements(attribute.value.said())
+        except ScriptFault:
+            continue
+        for part in parts:
+            names = [token for token in part.tokens if token.is_look()] + ([part.target] if part.target else [])
+            for token in names:
+                yield node.scope(), token.text
+
+
+def default_keys(file: TreeFile, node: Node) -> Iterator[Tuple[int, str]]:
+    """The keys that the defaults of a leaf's model name at a node."""
+    model = file.models.get(node.id) if node.kind == "Leaf" else None
+    for port in model.ports.values() if model is not None else ():
+        if port.default is not None and node.element.attribute(port.name) is None:
+            text = port.default.value.text()
+            if is_key(text):
+                yield node.scope(), key_of(port.name, text)
+
+
+def check_sizes(file: TreeFile, loops: Dict[str, str]) -> None:
+    """Raises where a tree has too many slots, or too much work."""
+    cells: Set[Tuple[int, str]] = set()
+    for node in file.nodes:
+        for scope, key in (*keys_of(node), *default_keys(file, node)):
+            cells.add(file.cell(scope, key))
+        if len(cells) > MOST_SLOTS:
+            raise Finding("TooManyKeys", node.element.span(), f"here the tree has more than {MOST_SLOTS} keys",
+                          ["a tree that is opened often has its keys anew each time: map them with _autoremap or ports"],
+                          inside=file.where(node))
+    works: Dict[int, int] = {}
+    for node in reversed(file.nodes):
+        works[node.uid] = work_of(node, works, loops)
+    heavy = [node for node in file.nodes if works[node.uid] > MOST_WORK]
+    if heavy:
+        node = heavy[-1]
+        raise Finding("TooMuchWork", node.element.span(),
+                      f"one visit of {node.said()} may make {works[node.uid]} visits",
+                      [f"at most {MOST_WORK} in one tick; a RetryUntilSuccessful or Repeat makes as many as its number "
+                       "times those below it, and 1000 times where its number is a key; with -1 it makes one round a tick"],
+                      inside=file.where(node))
+
+
+def work_of(node: Node, works: Dict[int, int], loops: Dict[str, str]) -> int:
+    """How many visits one visit of a node makes at most."""
+    below = sum(works[child.uid] for child in node.children)
+    times = 1
+    if node.kind in loops:
+        times = number(node.element.said(loops[node.kind]) or "")
+        times = 1000 if times is None else 1 if times == -1 else times
+    return 1 + times * below

@@ -1,0 +1,76 @@
+"""A file with its lines, so that a place in it can be told as a line and a column."""
+
+import bisect
+import os
+import stat
+from dataclasses import dataclass, field
+from typing import List, Optional, Tuple
+
+MOST_BYTES = 1_048_576
+
+ORDER_MARK = b"\xef\xbb\xbf"
+
+
+@dataclass
+class Source:
+    """The bytes of a file, and the name by which the user called it."""
+
+    name: str
+    data: bytes
+    starts: List[int] = field(default_factory=list)
+
+    def __post_init__(self) -> None:
+        self.starts = [0]
+        at = self.data.find(b"\n")
+        while at >= 0:
+            self.starts.append(at + 1)
+            at = self.data.find(b"\n", at + 1)
+
+    def line_of(self, at: int) -> int:
+        """The line of a place, from 1."""
+        return bisect.bisect_right(self.starts, at)
+
+    def position(self, at: int) -> Tuple[int, int]:
+        """The line and the column of a place, both from 1; the column counts characters."""
+        line = self.line_of(at)
+        return line, len(self.front(line, at)) + 1
+
+    def front(self, line: int, at: int) -> str:
+        """What stands in the line before the place."""
+        return characters(without_mark(self.data[self.starts[line - 1]:at], line))
+
+    def text(self, line: int) -> str:
+        """The text of a line, without its end."""
+        start = self.starts[line - 1]
+        end = self.starts[line] - 1 if line < len(self.starts) else len(self.data)
+        return characters(without_mark(self.data[start:end].rstrip(b"\r"), line))
+
+    def span_of_line(self, line: int) -> Tuple[int, int]:
+        """The places where the line's content begins and ends, without the white space around it."""
+        start = self.starts[line - 1]
+        end = self.starts[line] - 1 if line < len(self.starts) else len(self.data)
+        text = self.data[start:end]
+        left = len(text) - len(text.lstrip(b" \t\r"))
+        right = len(text.rstrip(b" \t\r"))
+        return start + min(left, right), start + right
+
+
+def without_mark(line_bytes: bytes, line: int) -> bytes:
+    """The bytes of a line, without a byte order mark at the beginning of the file."""
+    return line_bytes[3:] if line == 1 and line_bytes.startswith(ORDER_MARK) else line_bytes
+
+
+def characters(part: bytes) -> str:
+    """The characters of some bytes, a sign for each byte that is none."""
+    return part.decode("utf-8", "replace")
+
+
+def read(name: str) -> Optional[Source]:
+    """The file of this name, or none where it can't be read a second time as it was."""
+    try:
+        if not stat.S_ISREG(os.stat(name).st_mode):
+            return None
+        with open(name, "rb") as opened:
+            return Source(name, opened.read())
+    except (OSError, ValueError):
+        return None

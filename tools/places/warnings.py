@@ -1,0 +1,102 @@
+"""What the program reads over and a user may have meant: warnings of a tree file that was read."""
+
+from typing import Dict, Iterator, List, Set
+
+from .built_ins import GUARDS
+from .marks import Attribute, Element
+from .near import distance, listed, near, plain
+from .report import Place, Report
+from .trees import MODELS, PORTS, Node, TreeFile
+
+# what editors and the library write into files, and the program reads over by design
+SILENT = ("_autoremap", "__autoremap", "_description", "_fullpath", "_uid", "_collapsed", "__shared_blackboard")
+
+
+def warnings(file: TreeFile) -> List[Report]:
+    """The warnings of a file, in the order of the file."""
+    found = [*guard_warnings(file), *model_warnings(file), *tree_warnings(file), *default_warnings(file)]
+    return sorted(found, key=lambda report: report.place.start if report.place else 0)
+
+
+def warning(file: TreeFile, span: "tuple[int, int]", message: str, helps: List[str], inside: str = "") -> Report:
+    """A warning at a part of the file."""
+    return Report("warning", message, Place(file.source, *span), inside, helps)
+
+
+def first_nodes(file: TreeFile) -> List[Node]:
+    """The nodes of the opened tree, each element once."""
+    return list({node.element.at: node for node in reversed(file.nodes)}.values())
+
+
+def guard_warnings(file: TreeFile) -> Iterator[Report]:
+    """Attributes that are read over and are near a guard's name."""
+    for node in first_nodes(file):
+        names = GUARDS + (("_autoremap",) if node.kind == "SubTree" else ())
+        for attribute in node.element.attributes:
+            meant = misspelled(attribute, names) if attribute.name.startswith("_") else []
+            if not meant and attribute.name == "_autoremap" and node.kind != "SubTree":
+                yield warning(file, attribute.span(), "_autoremap is read over at a node that is no SubTree", [],
+                              file.where(node))
+            if meant:
+                yield warning(file, attribute.span(), f"the attribute {attribute.name} is read over: it is no guard",
+                              [f"did you mean {' or '.join(meant)}?"], file.where(node))
+
+
+def misspelled(attribute: Attribute, names: "tuple[str, ...]") -> List[str]:
+    """The guards whose names are near the attribute's."""
+    if attribute.name in names or attribute.name in SILENT:
+        return []
+    return [name for name in near(attribute.name, names, 2)
+            if distance(plain(attribute.name), plain(name), 3) <= (2 if len(name) > 6 else 1)]
+
+
+def model_warnings(file: TreeFile) -> Iterator[Report]:
+    """Leaves that have no model, in a file that has models."""
+    holder = next((child for child in file.root.children if child.name == MODELS), None)
+    if holder is None or not any(child.name in ("Action", "Condition") for child in holder.children):
+        return
+    seen: Set[str] = set()
+    for node in first_nodes(file):
+        if node.kind == "Leaf" and node.id not in file.models and node.id not in seen:
+            seen.add(node.id)
+            helps = [f"did you mean {' or '.join(near(node.id, file.models))}?"] if near(node.id, file.models) else []
+            yield warning(file, node.element.span(), f"the leaf {node.id} has no model in {MODELS}: it may have any port",
+                          helps, file.where(node))
+
+
+def tree_warnings(file: TreeFile) -> Iterator[Report]:
+    """Trees of the file that are never opened."""
+    used = {file.main} | {node.id for node in file.nodes if node.kind == "SubTree"}
+    for name, element in file.trees.items():
+        if name not in used:
+            attribute = element.attribute("ID")
+            yield warning(file, attribute.span() if attribute else element.span(),
+                          f"the tree '{name}' is never opened from '{file.main}', and only its ID is looked at",
+                          [f"`./names --all {file.source.name}` checks each tree"])
+
+
+def default_warnings(file: TreeFile) -> Iterator[Report]:
+    """Defaults in the models of SubTrees, which are read over."""
+    opened: Dict[str, List[Node]] = {}
+    for node in file.nodes:
+        if node.kind == "SubTree":
+            opened.setdefault(node.id, []).append(node)
+    for model in subtree_models(file):
+        nodes = opened.get(model.said("ID") or "", [])
+        for port in model.children:
+            name, default = port.said("name"), port.attribute("default")
+            if port.name not in PORTS or name is None or default is None:
+                continue
+            lacking = [node for node in nodes if node.element.attribute(name) is None]
+            if lacking:
+                lines = listed(dict.fromkeys(str(file.source.line_of(node.element.at)) for node in lacking))
+                yield warning(file, default.span(),
+                              f"the default of {name} is not used: the model of a SubTree is read over",
+                              [f'write {name}="{default.value.text()}" at the SubTree of line {lines}'])
+
+
+def subtree_models(file: TreeFile) -> Iterator[Element]:
+    """The models of SubTrees in the file."""
+    for holder in file.root.children:
+        if holder.name == MODELS:
+            yield from (child for child in holder.children if child.name == "SubTree")

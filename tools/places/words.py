@@ -1,0 +1,120 @@
+"""The words of the program's command line: which command they are, or which of them is wrong."""
+
+from dataclasses import dataclass
+from typing import Dict, List, Optional, Tuple
+
+from .near import meant
+from .values import number
+
+
+@dataclass(frozen=True)
+class Form:
+    """A command: what stands behind its word, and which options it takes and needs."""
+
+    operands: Tuple[str, ...]
+    options: Tuple[str, ...] = ()
+    needed: Tuple[str, ...] = ()
+
+    def usage(self, name: str) -> str:
+        """The command as a line."""
+        options = [f"{option} {VALUES[option]}" if option in self.needed else f"[{option} {VALUES[option]}]"
+                   for option in self.options]
+        return " ".join(["bt", name, *self.operands, *options])
+
+
+VALUES = {"--main": "ID", "--ticks": "N"}
+
+RANGES = {"--ticks": (1, 100_000), "N": (1, 1_000)}
+
+COMMANDS: Dict[str, Form] = {
+    "tick": Form(("TREE", "WORLD"), ("--main",)),
+    "live": Form(("TREE", "WORLD"), ("--ticks", "--main"), ("--ticks",)),
+    "check": Form(("TREE",), ("--main",)),
+    "load": Form(("N",)),
+}
+
+
+@dataclass(frozen=True)
+class Command:
+    """A command with the files and the main tree that its words name."""
+
+    name: str
+    tree: Optional[str]
+    world: Optional[str]
+    main: Optional[str]
+
+
+def command_of(words: List[str]) -> Optional[Command]:
+    """The command that the words are, if they are one."""
+    if not words or words[0] not in COMMANDS or wrong(words) is not None:
+        return None
+    operands = dict(zip(COMMANDS[words[0]].operands, words[1:]))
+    options = words[1 + len(operands):]
+    main = next((value for name, value in zip(options[::2], options[1::2]) if name == "--main"), None)
+    return Command(words[0], operands.get("TREE"), operands.get("WORLD"), main)
+
+
+def wrong(words: List[str]) -> Optional[str]:
+    """What is wrong with the words, if they are no command."""
+    if not words:
+        return "a command is missing"
+    for word in words:
+        if not is_utf8(word):
+            return f"{word!r} is not UTF-8"
+    form = COMMANDS.get(words[0])
+    if form is None:
+        asked = meant(words[0], COMMANDS)
+        return f"'{words[0]}' is no command" + "".join(": " + line for line in asked)
+    rest = words[1:]
+    if len(rest) < len(form.operands):
+        return f"{words[0]}: {form.operands[len(rest)]} is missing"
+    if form.operands == ("N",) and not in_range("N", rest[0]):
+        return out_of_range(words[0], "N", rest[0])
+    return wrong_options(words[0], form, rest[len(form.operands):])
+
+
+def wrong_options(name: str, form: Form, rest: List[str]) -> Optional[str]:
+    """What is wrong with the words behind the operands."""
+    seen = []
+    for at in range(0, len(rest), 2):
+        word = rest[at]
+        if word not in form.options:
+            what = f"'{word}' is no option of it" if word.startswith("-") else f"'{word}' is one word too many"
+            return f"{name}: {what}" + "".join(": " + line for line in meant(word, form.options))
+        if word in seen:
+            return f"{name}: {word} stands twice"
+        if at + 1 == len(rest):
+            return f"{name}: behind {word} its {VALUES[word]} is missing"
+        if word in RANGES and not in_range(word, rest[at + 1]):
+            return out_of_range(name, word, rest[at + 1])
+        seen.append(word)
+    missing = [option for option in form.needed if option not in seen]
+    return f"{name}: {missing[0]} {VALUES[missing[0]]} is missing" if missing else None
+
+
+def in_range(what: str, word: str) -> bool:
+    """Whether the word is a number in the range of an option or an operand."""
+    value = number(word)
+    least, most = RANGES[what]
+    return value is not None and least <= value <= most
+
+
+def out_of_range(name: str, what: str, word: str) -> str:
+    """That a number is none, or out of its range."""
+    least, most = RANGES[what]
+    return f"{name}: {what} is a number from {least} to {most} without a leading zero, and not '{word}'"
+
+
+def is_utf8(word: str) -> bool:
+    """Whether a word of the command line is UTF-8."""
+    try:
+        word.encode("utf-8")
+    except UnicodeEncodeError:
+        return False
+    return True
+
+
+def usage() -> List[str]:
+    """The commands, a line each."""
+    lines = [form.usage(name) for name, form in COMMANDS.items()]
+    return ["usage: " + lines[0]] + ["       " + line for line in lines[1:]]

@@ -1,0 +1,489 @@
+"""World scripts, with the place of each word and of what is wrong."""
+
+import re
+from dataclasses import dataclass, field
+from typing import Callable, Dict, List, NoReturn, Optional, Tuple
+
+from .built_ins import IDENTIFIER_LENGTH, KEPT, NODES, is_identifier
+from .marks import Finding
+from .near import listed, meant
+from .scripts import ScriptFault, Statement, expression
+from .source import Source
+from .values import CANONICAL, number
+
+HEADER = b"bt-world 1"
+
+COMPARISONS = ("==", "!=", "<", "<=", ">", ">=")
+
+LAST_MOMENT = 1_000_000_000_000
+
+MOST = {"facts": 1024, "rows": 1024, "goals": 64, "ports": 8, "needs": 16, "sets": 16, "outs": 8, "events": 100_000}
+
+FORMS = {
+    "fact": ["fact NAME INT"],
+    "condition": ["condition ID is FACT OP INT", "condition ROW when EXPR"],
+    "action": ["action ROW timed MS", "action ROW replay MS OUTCOMES", "action ROW gate EXPR"],
+    "fails": ["fails EXPR"],
+    "needs": ["needs ID"],
+    "sets": ["sets NAME = INT", "sets NAME += INT"],
+    "out": ["out PORT = EXPR"],
+    "goal": ["goal ID"],
+    "runners": ["runners N"],
+    "at": ["at MS"],
+    "tick": ["tick R"],
+    "halt": ["halt R"],
+    "set": ["set NAME INT"],
+}
+
+
+@dataclass(frozen=True)
+class Word:
+    """A word of a line, and where it stands in the file."""
+
+    text: str
+    start: int
+    end: int
+
+    def span(self) -> Tuple[int, int]:
+        """Its bytes in the file."""
+        return self.start, self.end
+
+
+@dataclass
+class Expr:
+    """An expression of a row, and where it stands in the file."""
+
+    text: str
+    start: int
+    read: Statement
+
+    def names(self) -> List[Word]:
+        """The names in it."""
+        return [Word(t.text, self.start + t.start, self.start + t.end) for t in self.read.looks()]
+
+
+@dataclass
+class Row:
+    """A row: its ID, its input ports, how it answers, and what it has besides."""
+
+    id: Word
+    ports: List[str]
+    sort: str
+    exprs: List[Expr] = field(default_factory=list)
+    fails: Optional[Word] = None
+    needs: Dict[str, Word] = field(default_factory=dict)
+    sets: Dict[str, Word] = field(default_factory=dict)
+    adds: List[Word] = field(default_factory=list)
+    outs: Dict[str, Word] = field(default_factory=dict)
+
+
+class Line:
+    """The words of a line, taken one after another."""
+
+    def __init__(self, source: Source, number_: int):
+        start, end = source.span_of_line(number_)
+        data = source.data[start:end]
+        self.source, self.number = source, number_
+        self.start, self.end = start, end
+        self.data = data
+        self.words = [Word(found.group().decode("latin-1"), start + found.start(), start + found.end())
+                      for found in re.finditer(rb"[^ \t]+", data)]
+        self.taken = 0
+
+    def fault(self, kind: str, span: Tuple[int, int], message: str, helps: List[str],
+              notes: Optional[List[Tuple[str, Tuple[int, int]]]] = None) -> Finding:
+        """A fault of this line."""
+        return Finding(f"{kind} {self.number}", span, message, helps, notes)
+
+    def bad(self, span: Tuple[int, int], message: str) -> NoReturn:
+        """Raises that the line has no form."""
+        raise self.fault("BadLine", span, message, self.forms())
+
+    def forms(self) -> List[str]:
+        """The forms of a line with this first word."""
+        kind = self.words[0].text
+        forms = FORMS.get(kind)
+        return [f"a line of this kind is `{'` or `'.join(forms)}`"] if forms else meant(kind, FORMS) + [
+            "a line begins with " + listed(FORMS, 20)]
+
+    def next(self, what: str) -> Word:
+        """The next word."""
+        if self.taken >= len(self.words):
+            self.bad((self.end, self.end), f"{what} is missing")
+        self.taken += 1
+        return self.words[self.taken - 1]
+
+    def name(self, what: str) -> Word:
+        """The next word, which is a name."""
+        word = self.next(what)
+        if not is_name(word.text):
+            self.bad(word.span(), f"{word.text} is no {what}: it is an ASCII letter or _, and then letters, digits and _, "
+                     f"at most {IDENTIFIER_LENGTH}")
+        return word
+
+    def sign(self, *signs: str) -> Word:
+        """The next word, which is one of these signs."""
+        word = self.next(" or ".join(signs))
+        if word.text not in signs:
+            self.bad(word.span(), f"here stands {' or '.join(signs)}, with white space round it, and not {word.text}")
+        return word
+
+    def canonical(self, what: str) -> Word:
+        """The next word, which is a number."""
+        word = self.next(what)
+        if not CANONICAL.fullmatch(word.text):
+            self.bad(word.span(), f"{word.text} is no number: it has a - or none, and digits of which the first is not 0")
+        return word
+
+    def stop(self) -> None:
+        """The line has no further word."""
+        if self.taken < len(self.words):
+            rest = self.words[self.taken]
+            self.bad((rest.start, self.end), f"the line goes on with {rest.text} where it has ended")
+
+    def expr(self) -> Expr:
+        """The rest of the line, an expression without texts."""
+        start = self.words[self.taken].start if self.taken < len(self.words) else self.end
+        text = self.source.data[start:self.end]
+        self.taken = len(self.words)
+        try:
+            read = expression(text)
+        except ScriptFault as fault:
+            message = fault.message + (f"; {fault.help}" if fault.help else "")
+            self.bad((start + fault.start, start + max(fault.end, fault.start)), message)
+        for token in read.tokens:
+            if token.kind == "text":
+                self.bad((start + token.start, start + token.end), "an expression of a world script has no texts, numbers only")
+        return Expr(text.decode("latin-1"), start, read)
+
+    def in_range(self, word: Word, least: int, most: int, what: str) -> int:
+        """The number of a word, which lies between these."""
+        value = number(word.text)
+        if value is None or not least <= value <= most:
+            raise self.fault("Range", word.span(), f"{word.text} is out of the range of {what}", [f"it is {least} to {most}"])
+        return value
+
+
+def is_name(text: str) -> bool:
+    """Whether a fact, a row or a port may have this name."""
+    return is_identifier(text) and len(text) <= IDENTIFIER_LENGTH
+
+
+class World:
+    """What the lines of a world script have said so far."""
+
+    def __init__(self, source: Source):
+        self.source = source
+        self.facts: Dict[str, Word] = {}
+        self.rows: Dict[str, Row] = {}
+        self.goals: Dict[str, Word] = {}
+        self.runners: Optional[Word] = None
+        self.count = 1
+        self.events = 0
+        self.moment = 0
+        self.moment_word: Optional[Word] = None
+        self.open: Optional[Row] = None
+        self.last: Optional[Row] = None
+
+    def read(self) -> "World":
+        """Reads all lines. Raises the fault of the first faulty one."""
+        ended = self.source.data.endswith(b"\n") or not self.source.data
+        count = len(self.source.starts) - (1 if ended else 0)
+        self.check_header(count)
+        for number_ in range(2, count + 1):
+            self.read_line(Line(self.source, number_))
+        return self
+
+    def check_header(self, count: int) -> None:
+        """Raises where the first line is no header."""
+        end = self.source.starts[1] - 1 if len(self.source.starts) > 1 else len(self.source.data)
+        text = self.source.data[:end]
+        if count == 0 or (text[:-1] if text.endswith(b"\r") else text) != HEADER:
+            raise Finding("Header 1", (0, end), "the first line is not the header",
+                          [f"write exactly `{HEADER.decode()}`, with no white space or comment before it"])
+
+    def read_line(self, line: Line) -> None:
+        """Reads a line."""
+        start = self.source.starts[line.number - 1]
+        raw = self.source.data[start:self.source.starts[line.number] - 1
+                               if line.number < len(self.source.starts) else len(self.source.data)]
+        content = (raw[:-1] if raw.endswith(b"\r") else raw).strip(b" \t")
+        if not content or content.startswith(b"#"):
+            return
+        for at, byte in enumerate(content):
+            if byte != 9 and not 32 <= byte <= 126:
+                place = start + raw.find(content) + at
+                line.words = line.words or [Word("", place, place)]
+                line.bad((place, place + 1), "a line holds printable ASCII and tabs; a comment begins with #")
+        kind = line.next("the kind of the line")
+        if kind.text not in FORMS:
+            line.bad(kind.span(), f"no line begins with {kind.text}")
+        getattr(self, "read_" + kind.text)(line)
+
+    def close(self) -> None:
+        """Ends the action to which lines could add."""
+        self.open = None
+
+    def known_fact(self, line: Line, word: Word) -> None:
+        """Raises where no earlier line has the fact."""
+        if word.text not in self.facts:
+            raise line.fault("NoName", word.span(), f"no earlier line has a fact {word.text}",
+                             meant(word.text, self.facts) + self.known("facts", self.facts))
+
+    def known_names(self, line: Line, expr: Expr, ports: List[str]) -> None:
+        """Raises where a name of an expression is neither a port of the row nor a fact."""
+        for word in expr.names():
+            if word.text not in ports and word.text not in self.facts:
+                raise line.fault("NoName", word.span(), f"{word.text} is neither an input port of the row nor an earlier fact",
+                                 meant(word.text, [*ports, *self.facts]) + self.known("facts", self.facts)
+                                 + self.known("ports", ports))
+
+    def known_condition(self, line: Line, word: Word) -> None:
+        """Raises where no earlier line has a condition of this ID that compares a fact."""
+        row = self.rows.get(word.text)
+        if row is not None and row.sort == "is":
+            return
+        names = [id_ for id_, other in self.rows.items() if other.sort == "is"]
+        message = f"no earlier line has a condition {word.text}" if row is None else \
+            f"{word.text} is no condition of the form `is`, which alone can be a goal or a need"
+        raise line.fault("NoName", word.span(), message, meant(word.text, names) + self.known("conditions", names))
+
+    def known(self, what: str, names: "Dict[str, Word] | List[str]") -> List[str]:
+        """A line that lists what is known."""
+        return [f"known {what}: {listed(names)}"] if names else [f"no {what} are known here"] if what != "ports" else []
+
+    def once(self, line: Line, word: Word, earlier: Optional[Word], message: str) -> None:
+        """Raises where something stands a second time."""
+        if earlier is not None:
+            raise line.fault("DoubleName", word.span(), message, ["keep one of them"], [("the first one", earlier.span())])
+
+    def not_too_many(self, line: Line, count: int, what: str) -> None:
+        """Raises where no further one may be added."""
+        if count >= MOST[what]:
+            raise line.fault("TooMany", line.words[0].span(), f"this would be number {count + 1} of its kind",
+                             [f"at most {MOST[what]} {what}"])
+
+    # ---- facts and rows
+
+    def read_fact(self, line: Line) -> None:
+        """`fact NAME INT`"""
+        name = line.name("name")
+        value = line.canonical("number")
+        line.stop()
+        self.close()
+        line.in_range(value, -2 ** 63, 2 ** 63 - 1, "a fact")
+        self.once(line, name, self.facts.get(name.text), f"a second fact {name.text}")
+        self.not_too_many(line, len(self.facts), "facts")
+        self.facts[name.text] = name
+
+    def free_id(self, line: Line, id_: Word) -> None:
+        """Raises where no further row may have this ID."""
+        if id_.text in NODES or id_.text in KEPT:
+            raise line.fault("DoubleName", id_.span(), f"{id_.text} is a name of the tree format, and no row's ID",
+                             ["give the leaf and its row another ID"])
+        earlier = self.rows.get(id_.text)
+        self.once(line, id_, earlier.id if earlier else None, f"a second row of the ID {id_.text}")
+
+    def head(self, line: Line, word: Word) -> Tuple[Word, List[Word]]:
+        """The ID and the input ports of a row."""
+        found = re.fullmatch(r"([^(]*)(?:\(([^(]*)\))?", word.text)
+        if found is None:
+            line.bad(word.span(), f"{word.text} is no row's head: it is ID, or ID(p,q) without blanks")
+        id_ = Word(found.group(1), word.start, word.start + len(found.group(1)))
+        parts = [id_]
+        at = id_.end + 1
+        for text in found.group(2).split(",") if found.group(2) is not None else []:
+            parts.append(Word(text, at, at + len(text)))
+            at += len(text) + 1
+        for part in parts:
+            if not is_name(part.text):
+                line.bad((part.start, max(part.end, part.start + 1)),
+                         f"'{part.text}' is no name: a row's head is ID, or ID(p,q) without blanks")
+        return id_, parts[1:]
+
+    def new_row(self, line: Line, head: Tuple[Word, List[Word]], sort: str, exprs: List[Expr]) -> Row:
+        """A row that may be added."""
+        id_, ports = head
+        self.free_id(line, id_)
+        seen: Dict[str, Word] = {}
+        for port in ports:
+            self.once(line, port, seen.get(port.text), f"the input port {port.text} stands twice")
+            seen[port.text] = port
+        names = [port.text for port in ports]
+        for expr in exprs:
+            self.known_names(line, expr, names)
+        self.not_too_many(line, len(ports) - 1, "ports")
+        self.not_too_many(line, len(self.rows), "rows")
+        row = Row(id_, names, sort, exprs)
+        self.rows[id_.text] = row
+        return row
+
+    def read_condition(self, line: Line) -> None:
+        """`condition ID is NAME OP INT`, or `condition ROW when EXPR`"""
+        word = line.next("ID")
+        if line.sign("is", "when").text == "is":
+            self.read_comparison(line, word)
+            return
+        head = self.head(line, word)
+        expr = line.expr()
+        self.close()
+        self.new_row(line, head, "when", [expr])
+
+    def read_comparison(self, line: Line, id_: Word) -> None:
+        """`NAME OP INT` of the condition of this ID."""
+        if not is_name(id_.text):
+            line.bad(id_.span(), f"{id_.text} is no ID: a condition with `is` has no ports")
+        fact = line.name("fact")
+        line.sign(*COMPARISONS)
+        value = line.canonical("number")
+        line.stop()
+        self.close()
+        line.in_range(value, -2 ** 63, 2 ** 63 - 1, "a fact")
+        self.free_id(line, id_)
+        self.known_fact(line, fact)
+        self.not_too_many(line, len(self.rows), "rows")
+        self.rows[id_.text] = Row(id_, [], "is")
+
+    def read_action(self, line: Line) -> None:
+        """`action ROW timed MS`, `action ROW replay MS OUTCOMES` or `action ROW gate EXPR`"""
+        word = line.next("ID")
+        sort = line.sign("timed", "replay", "gate").text
+        head = self.head(line, word)
+        exprs = []
+        if sort == "gate":
+            exprs = [line.expr()]
+        else:
+            length = line.canonical("number of milliseconds")
+            if sort == "replay":
+                self.outcomes(line)
+            line.stop()
+        self.close()
+        if sort != "gate":
+            line.in_range(length, 0, LAST_MOMENT, "milliseconds")
+        self.open = self.new_row(line, head, sort, exprs)
+
+    def outcomes(self, line: Line) -> None:
+        """1 to 64 letters, each an S or an F."""
+        word = line.next("list of outcomes")
+        if not re.fullmatch(r"[SF]{1,64}", word.text):
+            line.bad(word.span(), "outcomes are 1 to 64 letters, S for success and F for failure")
+
+    # ---- what is added to an action
+
+    def opened(self, line: Line) -> Row:
+        """The action above the line."""
+        if self.open is None:
+            line.bad(line.words[0].span(), f"above a line `{line.words[0].text}` stands an action, with such lines alone between")
+        return self.open
+
+    def read_fails(self, line: Line) -> None:
+        """`fails EXPR`"""
+        expr = line.expr()
+        row = self.opened(line)
+        if row.sort != "timed":
+            line.bad(line.words[0].span(), f"the action {row.id.text} is not timed, and can't have such a line")
+        self.once(line, line.words[0], row.fails, f"a second line `fails` of {row.id.text}")
+        self.known_names(line, expr, row.ports)
+        row.fails = line.words[0]
+        row.exprs.append(expr)
+
+    def read_needs(self, line: Line) -> None:
+        """`needs ID`"""
+        id_ = line.name("ID")
+        line.stop()
+        row = self.opened(line)
+        self.known_condition(line, id_)
+        self.once(line, id_, row.needs.get(id_.text), f"{row.id.text} needs {id_.text} already")
+        self.not_too_many(line, len(row.needs), "needs")
+        row.needs[id_.text] = id_
+
+    def read_sets(self, line: Line) -> None:
+        """`sets NAME = INT` or `sets NAME += INT`"""
+        fact = line.name("name")
+        sign = line.sign("=", "+=")
+        value = line.canonical("number")
+        line.stop()
+        row = self.opened(line)
+        line.in_range(value, -2 ** 63, 2 ** 63 - 1, "a fact")
+        self.known_fact(line, fact)
+        self.once(line, fact, row.sets.get(fact.text), f"{row.id.text} sets {fact.text} already")
+        self.not_too_many(line, len(row.sets), "sets")
+        row.sets[fact.text] = fact
+        row.adds += [fact] if sign.text == "+=" else []
+
+    def read_out(self, line: Line) -> None:
+        """`out PORT = EXPR`"""
+        port = line.name("port")
+        line.sign("=")
+        expr = line.expr()
+        row = self.opened(line)
+        self.once(line, port, row.outs.get(port.text), f"{row.id.text} writes {port.text} already")
+        self.known_names(line, expr, row.ports)
+        self.not_too_many(line, len(row.outs), "outs")
+        row.outs[port.text] = port
+        row.exprs.append(expr)
+
+    # ---- the run
+
+    def read_goal(self, line: Line) -> None:
+        """`goal ID`"""
+        id_ = line.name("ID")
+        line.stop()
+        self.close()
+        self.known_condition(line, id_)
+        self.once(line, id_, self.goals.get(id_.text), f"{id_.text} is a goal already")
+        self.not_too_many(line, len(self.goals), "goals")
+        self.goals[id_.text] = id_
+
+    def read_runners(self, line: Line) -> None:
+        """`runners N`"""
+        word = line.canonical("number of runners")
+        line.stop()
+        if self.events:
+            line.bad(line.words[0].span(), "the number of runners is said before the first event")
+        self.close()
+        count = line.in_range(word, 1, 16, "runners")
+        self.once(line, word, self.runners, "the number of runners is said already")
+        self.runners, self.count = word, count
+
+    def read_at(self, line: Line) -> None:
+        """`at MS`"""
+        word = line.canonical("moment")
+        line.stop()
+        self.close()
+        moment = line.in_range(word, 0, LAST_MOMENT, "moments")
+        if moment < self.moment:
+            notes = [("the last moment", self.moment_word.span())] if self.moment_word else []
+            raise line.fault("MomentBack", word.span(), f"{moment} lies before the last moment, {self.moment}",
+                             ["moments do not go back"], notes)
+        self.moment, self.moment_word = moment, word
+
+    def event(self, line: Line) -> None:
+        """Counts an event."""
+        self.not_too_many(line, self.events, "events")
+        self.events += 1
+
+    def read_tick(self, line: Line) -> None:
+        """`tick R`"""
+        word = line.canonical("number of a runner")
+        line.stop()
+        self.close()
+        line.in_range(word, 1, self.count, "runners, of which a line `runners N` says the number")
+        self.event(line)
+
+    read_halt: Callable[["World", Line], None] = read_tick
+
+    def read_set(self, line: Line) -> None:
+        """`set NAME INT`"""
+        name = line.name("name")
+        value = line.canonical("number")
+        line.stop()
+        self.close()
+        line.in_range(value, -2 ** 63, 2 ** 63 - 1, "a fact")
+        self.known_fact(line, name)
+        self.event(line)
+
+
+def read_world(source: Source) -> World:
+    """What a world script says. Raises the fault of its first faulty line."""
+    return World(source).read()
