@@ -337,8 +337,9 @@ const Timeline = (() => {
           status = run.answer[lines[at]];
         }
         if (gravest === 0 && status !== RUNNING) continue;
-        context.fillStyle = COLOURS[BY_GRAVITY[Math.max(gravest, 1)]];
-        context.fillRect(LABELS + x, top + (gravest > 1 ? 4 : 7), 1, gravest > 1 ? ROW - 9 : ROW - 15);
+        const { name, from, to } = COLUMNS[Math.max(gravest, 1)];
+        context.fillStyle = COLOURS[name];
+        context.fillRect(LABELS + x, top + from, 1, to - from);
       }
     }
 
@@ -428,7 +429,14 @@ const Timeline = (() => {
     }
   }
 
-  const BY_GRAVITY = [null, "RUNNING", "SUCCESS", "halted", "FAILURE"];
+  /** What stands in a column for the gravest change in it, and from where to where: told apart by more than colour. */
+  const COLUMNS = [
+    null,
+    { name: "RUNNING", from: 9, to: ROW - 10 },
+    { name: "SUCCESS", from: ROW - 14, to: ROW - 4 },
+    { name: "halted", from: 3, to: ROW - 11 },
+    { name: "FAILURE", from: 3, to: ROW - 4 },
+  ];
   const GRAVITY = { SUCCESS: 2, halted: 3, FAILURE: 4 };
 
   function drawBar(context, from, to, top) {
