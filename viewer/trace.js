@@ -177,6 +177,17 @@ const Trace = (() => {
       return text.slice(at);
     }
 
+    /** The values of a series, the opening one first where it has one. They are read when this is asked first. */
+    valuesOf(series) {
+      if (!series.values) {
+        const opening = series.opening === null ? [] : [series.opening];
+        const texts = [...opening, ...series.lines.map((line) => this.valueAt(line))];
+        const isNumeric = texts.every((text) => !text.startsWith("'"));
+        series.values = { texts, numbers: isNumeric ? Float64Array.from(texts, Number) : null, before: opening.length };
+      }
+      return series.values;
+    }
+
     /** Whether an event tells a new value of the series. */
     isTold(event, series) {
       const first = countBelow(series.lines, this.firstLine(event));
