@@ -422,7 +422,7 @@ const Drawing = (() => {
       const folded = this.folded.has(node.uid);
       const label = folded ? `+${Words.number(node.size - 1)}` : "−";
       const width = folded ? smallWidth(label) + 14 : 18;
-      const at = this.direction === "down" ? { x: place.width / 2, y: height } : { x: place.width, y: height / 2 };
+      const at = this.direction === "down" ? { x: place.width / 2, y: height + 3 } : { x: place.width + 3, y: height / 2 };
       return svg("g", { class: `fold${folded ? " folded" : ""}`, transform: `translate(${at.x} ${at.y})` },
         svg("title", {}, folded ? `Unfold ${Words.count(node.size - 1, "node")}` : "Fold"),
         svg("rect", { x: -width / 2, y: -8, width, height: 16, rx: 8 }),
@@ -572,7 +572,7 @@ const Drawing = (() => {
 
   /** What stands below a folded node: a badge and a number for each status but IDLE. */
   function summaryOf({ statuses, changed }, place, height, lowered) {
-    const summary = svg("g", { class: "summary", transform: `translate(${lowered ? 6 : 4} ${height + (lowered ? 16 : 9)})` });
+    const summary = svg("g", { class: "summary", transform: `translate(4 ${height + (lowered ? 17 : 12)})` });
     let x = 0;
     for (const status of [Words.RUNNING, Words.SUCCESS, Words.FAILURE]) {
       if (statuses[status] === 0) continue;

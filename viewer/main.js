@@ -392,6 +392,7 @@
     byId("start").hidden = false;
     byId("result").hidden = true;
     document.body.classList.add("starting");
+    byId("back").hidden = page.run === null;
   }
 
   /** Which file of a run this text is. */
@@ -426,6 +427,7 @@
       byId(id).addEventListener("change", (event) => take(page, event.target.files));
     }
     byId("show-chosen").addEventListener("click", () => showChosen(page));
+    byId("back").addEventListener("click", () => page.openData(page.data));
     document.addEventListener("dragover", (event) => {
       event.preventDefault();
       document.body.classList.add("dropping");
