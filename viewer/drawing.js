@@ -2,7 +2,7 @@
 
 /** Draws the tree: only the nodes in view are in the page. */
 const Drawing = (() => {
-  const { html, svg } = Dom;
+  const { svg } = Dom;
   const { STATUSES, ANSWERS, IDLE } = Words;
   const NAME_FONT = '600 13px "DejaVu Sans", system-ui, sans-serif';
   const SMALL_FONT = '11px "DejaVu Sans", system-ui, sans-serif';
@@ -236,8 +236,8 @@ const Drawing = (() => {
     }
 
     /**
-     * Moves the view so that the node, or what hides it, is within it: not at all where it is, as little as will do
-     * where it is near, and else so that it is in the middle.
+     * Moves the view so that the node, or what hides it, is within it: not at all where it is; across, so that it comes
+     * to the middle and its siblings show on both sides; from level to level, as little as will do.
      */
     reveal(uid) {
       const place = this.arranged.places.get(this.shownFor(uid));
@@ -245,8 +245,9 @@ const Drawing = (() => {
       const { room } = this;
       const left = place.x * scale + this.view.x;
       const top = place.y * scale + this.view.y;
-      const x = moveInto(left, left + place.width * scale, REVEAL_ROOM, room.width - REVEAL_ROOM);
-      const y = moveInto(top, top + place.height * scale, REVEAL_ROOM, room.height - REVEAL_ROOM - LEGEND);
+      const across = { x: this.direction === "down", y: this.direction === "right" };
+      const x = moveInto(left, left + place.width * scale, REVEAL_ROOM, room.width - REVEAL_ROOM, across.x);
+      const y = moveInto(top, top + place.height * scale, REVEAL_ROOM, room.height - REVEAL_ROOM - LEGEND, across.y);
       if (x !== 0 || y !== 0) this.pan(x, y);
     }
 
@@ -501,11 +502,10 @@ const Drawing = (() => {
     }
   }
 
-  /** How far a stretch has to move to lie between these bounds: as little as will do where it is near them. */
-  function moveInto(from, to, least, most) {
+  /** How far a stretch has to move to lie between these bounds: not at all, to the middle, or as little as will do. */
+  function moveInto(from, to, least, most, toMiddle) {
     if (from >= least && to <= most) return 0;
-    const isNear = from > least - (most - least) && to < most + (most - least);
-    if (!isNear || to - from > most - least) return (least + most) / 2 - (from + to) / 2;
+    if (toMiddle || to - from > most - least) return (least + most) / 2 - (from + to) / 2;
     return from < least ? least - from : most - to;
   }
 

@@ -115,6 +115,7 @@
       this.run = run;
       this.runner = 1;
       this.selected = 0;
+      this.events.marked = -1;
       this.tree.open(run, marked, direction);
       this.timeline.open(run);
       this.showRunners();

@@ -296,5 +296,5 @@ const Panels = (() => {
     return [...all.filter(({ title }) => typeof title === "string"), ...cells];
   }
 
-  return { EventPanel, NodePanel, ValuePanel, titleOf, seriesOf, ROW_HEIGHT };
+  return { EventPanel, NodePanel, ValuePanel, titleOf, seriesOf };
 })();

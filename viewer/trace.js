@@ -101,7 +101,6 @@ const Trace = (() => {
 
     /** Gives each runner from this one on the cells that its board begins with. */
     openCells(first) {
-      this.cellsOpened = Math.max(this.runners, this.cellsOpened ?? 0);
       for (let runner = first; runner <= this.runners; runner++) {
         for (const { scope, key, value } of this.tree.openingCells()) {
           this.series.set(`board ${runner} ${scope} ${key}`, new Series({ runner, scope, key }, value));
@@ -471,5 +470,5 @@ const Trace = (() => {
     return run;
   }
 
-  return { read, countBelow, TraceFault, KINDS, TICK, HALT, SET, FINISH, NODE, START, RAN, HALTED, ROOT, FAULT, QUENCH, FACT, BOARD };
+  return { read, countBelow, TraceFault, FINISH, NODE, START, RAN, HALTED, ROOT, FAULT, QUENCH };
 })();
