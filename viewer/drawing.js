@@ -2,7 +2,7 @@
 
 /** Draws the tree: only the nodes in view are in the page. */
 const Drawing = (() => {
-  const { html, svg } = Dom;
+  const { svg } = Dom;
   const { STATUSES, ANSWERS, IDLE } = Words;
   const NAME_FONT = '600 13px "DejaVu Sans", system-ui, sans-serif';
   const SMALL_FONT = '11px "DejaVu Sans", system-ui, sans-serif';
@@ -236,8 +236,8 @@ const Drawing = (() => {
     }
 
     /**
-     * Moves the view so that the node, or what hides it, is within it: not at all where it is, as little as will do
-     * where it is near, and else so that it is in the middle.
+     * Moves the view so that the node, or what hides it, is within it: not at all where it is; across, so that it comes
+     * to the middle and its siblings show on both sides; from level to level, as little as will do.
      */
     reveal(uid) {
       const place = this.arranged.places.get(this.shownFor(uid));
@@ -245,8 +245,9 @@ const Drawing = (() => {
       const { room } = this;
       const left = place.x * scale + this.view.x;
       const top = place.y * scale + this.view.y;
-      const x = moveInto(left, left + place.width * scale, REVEAL_ROOM, room.width - REVEAL_ROOM);
-      const y = moveInto(top, top + place.height * scale, REVEAL_ROOM, room.height - REVEAL_ROOM - LEGEND);
+      const across = { x: this.direction === "down", y: this.direction === "right" };
+      const x = moveInto(left, left + place.width * scale, REVEAL_ROOM, room.width - REVEAL_ROOM, across.x);
+      const y = moveInto(top, top + place.height * scale, REVEAL_ROOM, room.height - REVEAL_ROOM - LEGEND, across.y);
       if (x !== 0 || y !== 0) this.pan(x, y);
     }
 
@@ -422,7 +423,7 @@ const Drawing = (() => {
       const folded = this.folded.has(node.uid);
       const label = folded ? `+${Words.number(node.size - 1)}` : "−";
       const width = folded ? smallWidth(label) + 14 : 18;
-      const at = this.direction === "down" ? { x: place.width / 2, y: height } : { x: place.width, y: height / 2 };
+      const at = this.direction === "down" ? { x: place.width / 2, y: height + 3 } : { x: place.width + 3, y: height / 2 };
       return svg("g", { class: `fold${folded ? " folded" : ""}`, transform: `translate(${at.x} ${at.y})` },
         svg("title", {}, folded ? `Unfold ${Words.count(node.size - 1, "node")}` : "Fold"),
         svg("rect", { x: -width / 2, y: -8, width, height: 16, rx: 8 }),
@@ -501,11 +502,10 @@ const Drawing = (() => {
     }
   }
 
-  /** How far a stretch has to move to lie between these bounds: as little as will do where it is near them. */
-  function moveInto(from, to, least, most) {
+  /** How far a stretch has to move to lie between these bounds: not at all, to the middle, or as little as will do. */
+  function moveInto(from, to, least, most, toMiddle) {
     if (from >= least && to <= most) return 0;
-    const isNear = from > least - (most - least) && to < most + (most - least);
-    if (!isNear || to - from > most - least) return (least + most) / 2 - (from + to) / 2;
+    if (toMiddle || to - from > most - least) return (least + most) / 2 - (from + to) / 2;
     return from < least ? least - from : most - to;
   }
 
@@ -572,7 +572,7 @@ const Drawing = (() => {
 
   /** What stands below a folded node: a badge and a number for each status but IDLE. */
   function summaryOf({ statuses, changed }, place, height, lowered) {
-    const summary = svg("g", { class: "summary", transform: `translate(${lowered ? 6 : 4} ${height + (lowered ? 16 : 9)})` });
+    const summary = svg("g", { class: "summary", transform: `translate(4 ${height + (lowered ? 17 : 12)})` });
     let x = 0;
     for (const status of [Words.RUNNING, Words.SUCCESS, Words.FAILURE]) {
       if (statuses[status] === 0) continue;

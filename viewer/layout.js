@@ -6,7 +6,7 @@ const Layout = (() => {
   const BETWEEN_LEVELS = { down: 54, right: 46 };
   const FRAME = 12;
   /** A tree of more nodes than this is folded by itself, so that at most so many are unfolded. */
-  const AT_ONCE = 150;
+  const AT_ONCE = 60;
 
   /** The nodes that are folded in the beginning: those farthest from the root, where the tree is large. */
   function firstFolds(tree) {

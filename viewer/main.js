@@ -115,6 +115,7 @@
       this.run = run;
       this.runner = 1;
       this.selected = 0;
+      this.events.marked = -1;
       this.tree.open(run, marked, direction);
       this.timeline.open(run);
       this.showRunners();
@@ -392,6 +393,7 @@
     byId("start").hidden = false;
     byId("result").hidden = true;
     document.body.classList.add("starting");
+    byId("back").hidden = page.run === null;
   }
 
   /** Which file of a run this text is. */
@@ -426,6 +428,7 @@
       byId(id).addEventListener("change", (event) => take(page, event.target.files));
     }
     byId("show-chosen").addEventListener("click", () => showChosen(page));
+    byId("back").addEventListener("click", () => page.openData(page.data));
     document.addEventListener("dragover", (event) => {
       event.preventDefault();
       document.body.classList.add("dropping");

@@ -76,5 +76,5 @@ const Messages = (() => {
       html("p", { class: "muted" }, "A tree is shown as `bt check` prints it."));
   }
 
-  return { show, refusal, misfit, noTree };
+  return { refusal, misfit, noTree };
 })();

@@ -21,7 +21,22 @@ const Panels = (() => {
       this.beyond = BEYOND;
       this.drawSoon = Dom.eachFrame(() => this.draw());
       host.addEventListener("scroll", this.drawSoon);
+      host.addEventListener("keydown", (event) => this.pressed(event));
       new ResizeObserver(this.drawSoon).observe(host);
+    }
+
+    /** The arrows go from row to row. */
+    pressed(event) {
+      const step = { ArrowDown: 1, ArrowUp: -1 }[event.key];
+      if (!step || event.shiftKey || this.length === 0) return;
+      event.preventDefault();
+      event.stopPropagation();
+      const inView = Math.ceil(this.host.scrollTop / ROW_HEIGHT);
+      const focused = this.rows.contains(document.activeElement) ? Number(document.activeElement.dataset.at) + step : inView;
+      const at = Math.min(this.length - 1, Math.max(0, focused));
+      this.reveal(at);
+      this.draw();
+      this.rows.querySelector(`[data-at="${at}"]`).focus();
     }
 
     /** Shows so many rows, from the first one where the list is a new one. */
@@ -39,6 +54,7 @@ const Panels = (() => {
       for (let at = first; at < last; at++) {
         const row = this.makeRow(at);
         row.style.top = `${at * ROW_HEIGHT}px`;
+        row.tabIndex = -1;
         rows.push(row);
       }
       const focused = this.rows.contains(document.activeElement) ? document.activeElement.dataset.at : null;
@@ -280,5 +296,5 @@ const Panels = (() => {
     return [...all.filter(({ title }) => typeof title === "string"), ...cells];
   }
 
-  return { EventPanel, NodePanel, ValuePanel, titleOf, seriesOf, ROW_HEIGHT };
+  return { EventPanel, NodePanel, ValuePanel, titleOf, seriesOf };
 })();

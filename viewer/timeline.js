@@ -337,25 +337,25 @@ const Timeline = (() => {
           status = run.answer[lines[at]];
         }
         if (gravest === 0 && status !== RUNNING) continue;
-        context.fillStyle = COLOURS[BY_GRAVITY[Math.max(gravest, 1)]];
-        context.fillRect(LABELS + x, top + (gravest > 1 ? 4 : 7), 1, gravest > 1 ? ROW - 9 : ROW - 15);
+        const { name, from, to } = COLUMNS[Math.max(gravest, 1)];
+        context.fillStyle = COLOURS[name];
+        context.fillRect(LABELS + x, top + from, 1, to - from);
       }
     }
 
     drawSeries(context, series, top) {
       const { run } = this;
+      const { texts, numbers, before } = run.valuesOf(series);
       const from = run.firstLine(this.eventFrom(this.left - NEAR));
       const to = run.firstLine(Math.min(run.length, this.eventFrom(this.left + this.width + 2 * SIDE + NEAR) + 1));
-      const first = Math.max(0, Trace.countBelow(series.lines, from) - 1);
-      const last = Trace.countBelow(series.lines, to);
-      const every = Math.max(1, Math.ceil((last - first) / 2000));
-      const points = first === 0 && series.opening !== null ? [{ x: LABELS + SIDE - this.left, value: series.opening }] : [];
-      for (let at = first; at < last; at += every) {
-        points.push({ x: LABELS + this.placeOf(run.eventOf(series.lines[at])) - this.left, value: run.valueAt(series.lines[at]) });
-      }
+      const first = Math.max(0, Trace.countBelow(series.lines, from) + before - 1);
+      const last = Trace.countBelow(series.lines, to) + before;
       const end = LABELS + this.placeOf(Math.max(0, run.length - 1)) - this.left;
-      if (points.every(({ value }) => /^-?\d+$/.test(value))) drawNumbers(context, points, end, top);
-      else drawTexts(context, points, end, top);
+      const placeOf = (at) => (at < before ? SIDE : this.placeOf(run.eventOf(series.lines[at - before])));
+      const x = (at) => (at < last ? LABELS + placeOf(at) - this.left : last < texts.length ? this.scroller.clientWidth : end);
+      if (first >= last) return;
+      if (numbers) drawNumbers(context, numbers, first, last, x, top);
+      else drawTexts(context, texts, first, last, x, top);
     }
 
     drawLabels() {
@@ -428,7 +428,14 @@ const Timeline = (() => {
     }
   }
 
-  const BY_GRAVITY = [null, "RUNNING", "SUCCESS", "halted", "FAILURE"];
+  /** What stands in a column for the gravest change in it, and from where to where: told apart by more than colour. */
+  const COLUMNS = [
+    null,
+    { name: "RUNNING", from: 9, to: ROW - 10 },
+    { name: "SUCCESS", from: ROW - 14, to: ROW - 4 },
+    { name: "halted", from: 3, to: ROW - 11 },
+    { name: "FAILURE", from: 3, to: ROW - 4 },
+  ];
   const GRAVITY = { SUCCESS: 2, halted: 3, FAILURE: 4 };
 
   function drawBar(context, from, to, top) {
@@ -453,45 +460,53 @@ const Timeline = (() => {
     context.restore();
   }
 
-  /** Numbers as a line in steps, between the least and the greatest of those in view. */
-  function drawNumbers(context, points, end, top) {
-    if (points.length === 0) return;
-    const values = points.map(({ value }) => Number(value));
-    const least = values.reduce((one, other) => Math.min(one, other));
-    const most = values.reduce((one, other) => Math.max(one, other));
+  /** The values from first to last as a line in steps, between the least and the greatest of all. */
+  function drawNumbers(context, numbers, first, last, x, top) {
+    const least = numbers.reduce((one, other) => Math.min(one, other));
+    const most = numbers.reduce((one, other) => Math.max(one, other));
     const y = (value) => top + ROW - 6 - (most > least ? ((value - least) / (most - least)) * (ROW - 12) : (ROW - 12) / 2);
-    context.strokeStyle = COLOURS.value;
+    context.strokeStyle = context.fillStyle = COLOURS.value;
     context.lineWidth = 1.5;
     context.beginPath();
-    context.moveTo(points[0].x, y(values[0]));
-    for (let at = 1; at < points.length; at++) {
-      context.lineTo(points[at].x, y(values[at - 1]));
-      context.lineTo(points[at].x, y(values[at]));
+    context.moveTo(x(first), y(numbers[first]));
+    for (let at = first; at < last;) {
+      // What lies in one pixel is one upright line.
+      const from = x(at);
+      let low = numbers[at];
+      let high = numbers[at];
+      for (at++; at < last && x(at) < from + 1; at++) {
+        low = Math.min(low, numbers[at]);
+        high = Math.max(high, numbers[at]);
+      }
+      context.lineTo(from, y(low));
+      context.lineTo(from, y(high));
+      context.lineTo(from, y(numbers[at - 1]));
+      context.lineTo(x(at), y(numbers[at - 1]));
     }
-    context.lineTo(Math.max(end, points[points.length - 1].x), y(values[values.length - 1]));
     context.stroke();
     context.lineWidth = 1;
-    context.fillStyle = COLOURS.value;
-    if (points.length < 400) for (let at = 1; at < points.length; at++) context.fillRect(points[at].x - 2, y(values[at]) - 2, 4, 4);
+    if (last - first > 400) return;
+    for (let at = Math.max(1, first); at < last; at++) context.fillRect(x(at) - 2, y(numbers[at]) - 2, 4, 4);
   }
 
-  /** Texts as pieces with their values in them. */
-  function drawTexts(context, points, end, top) {
+  /** The values from first to last as pieces, each with its text in it where it is wide enough. */
+  function drawTexts(context, texts, first, last, x, top) {
     context.textAlign = "left";
-    points.forEach(({ x, value }, at) => {
-      const to = at + 1 < points.length ? points[at + 1].x : Math.max(end, x + 3);
-      const from = Math.max(x, LABELS - 4);
+    for (let at = first; at < last; at++) {
+      const to = Math.max(x(at + 1), x(at) + 3);
+      const from = Math.max(x(at), LABELS - 4);
       context.fillStyle = "#e4eef8";
       context.fillRect(from, top + 4, Math.max(2, to - from - 1), ROW - 9);
       context.fillStyle = COLOURS.value;
-      context.fillRect(x, top + 4, 2, ROW - 9);
+      context.fillRect(x(at), top + 4, 2, ROW - 9);
+      if (to - from < 12) continue;
       context.save();
       context.beginPath();
-      context.rect(from, top, Math.max(0, to - from - 2), ROW);
+      context.rect(from, top, to - from - 2, ROW);
       context.clip();
-      context.fillText(value.slice(0, 200), from + 6, top + ROW / 2 + 4);
+      context.fillText(texts[at].slice(0, 200), from + 6, top + ROW / 2 + 4);
       context.restore();
-    });
+    }
     context.textAlign = "center";
   }
 

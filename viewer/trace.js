@@ -101,7 +101,6 @@ const Trace = (() => {
 
     /** Gives each runner from this one on the cells that its board begins with. */
     openCells(first) {
-      this.cellsOpened = Math.max(this.runners, this.cellsOpened ?? 0);
       for (let runner = first; runner <= this.runners; runner++) {
         for (const { scope, key, value } of this.tree.openingCells()) {
           this.series.set(`board ${runner} ${scope} ${key}`, new Series({ runner, scope, key }, value));
@@ -175,6 +174,17 @@ const Trace = (() => {
       let at = 0;
       for (let part = 0; part < parts; part++) at = text.indexOf(" ", at) + 1;
       return text.slice(at);
+    }
+
+    /** The values of a series, the opening one first where it has one. They are read when this is asked first. */
+    valuesOf(series) {
+      if (!series.values) {
+        const opening = series.opening === null ? [] : [series.opening];
+        const texts = [...opening, ...series.lines.map((line) => this.valueAt(line))];
+        const isNumeric = texts.every((text) => !text.startsWith("'"));
+        series.values = { texts, numbers: isNumeric ? Float64Array.from(texts, Number) : null, before: opening.length };
+      }
+      return series.values;
     }
 
     /** Whether an event tells a new value of the series. */
@@ -460,5 +470,5 @@ const Trace = (() => {
     return run;
   }
 
-  return { read, countBelow, TraceFault, KINDS, TICK, HALT, SET, FINISH, NODE, START, RAN, HALTED, ROOT, FAULT, QUENCH, FACT, BOARD };
+  return { read, countBelow, TraceFault, FINISH, NODE, START, RAN, HALTED, ROOT, FAULT, QUENCH };
 })();

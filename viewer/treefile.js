@@ -172,5 +172,5 @@ const TreeFile = (() => {
     return tree;
   }
 
-  return { read, opened, quoted, TreeFault };
+  return { read, opened, TreeFault };
 })();

@@ -11,9 +11,8 @@ const WorldFile = (() => {
   }
 
   function rowOf(sort, words) {
-    const [id, ports = ""] = words[1].split(/[()]/);
-    const action = sort === "action";
-    return { id, sort: action ? words[2] : "condition", rule: words.slice(2).join(" "), ports, needs: [], effects: [] };
+    const [id] = words[1].split("(");
+    return { id, sort: sort === "action" ? words[2] : "condition", rule: words.slice(2).join(" "), needs: [], effects: [] };
   }
 
   /** The lines that are read. A script may have 100,000 others, its events. */
