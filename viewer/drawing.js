@@ -255,7 +255,11 @@ const Drawing = (() => {
       const across = { x: this.direction === "down", y: this.direction === "right" };
       const x = moveInto(left, left + place.width * scale, REVEAL_ROOM, room.width - REVEAL_ROOM, across.x);
       const y = moveInto(top, top + place.height * scale, REVEAL_ROOM, room.height - REVEAL_ROOM - LEGEND, across.y);
-      if (x !== 0 || y !== 0) this.pan(x, y);
+      if (x === 0 && y === 0) return;
+      const { width, height } = this.extent(this.arranged);
+      this.view.x = within(this.view.x + x, width * scale, room.width);
+      this.view.y = within(this.view.y + y, height * scale, room.height - LEGEND);
+      this.pan(0, 0);
     }
 
     listen() {
@@ -507,6 +511,12 @@ const Drawing = (() => {
       }
       return { statuses, changed };
     }
+  }
+
+  /** The place at which a drawing that is larger than the window leaves no more than the margin empty; else this place. */
+  function within(place, size, room) {
+    if (size + 2 * MARGIN <= room) return place;
+    return Math.min(MARGIN, Math.max(room - MARGIN - size, place));
   }
 
   /** How far a stretch has to move to lie between these bounds: not at all, to the middle, or as little as will do. */
