@@ -10,6 +10,7 @@ const Drawing = (() => {
   const SIGN_WIDTH = 30;
   const BADGE_ROOM = 30;
   const LINE_HEIGHT = 15;
+  const MOST_DETAILS = 12;
   const BOX_HEIGHT = 42;
   /** Below a box there is room for the strip of what the event did with the node. */
   const STRIP_ROOM = 24;
@@ -37,6 +38,12 @@ const Drawing = (() => {
     const lines = node.ports.map(({ name, value }) => `${name} = ${value}`);
     if (node.code !== null) lines.push(`code: ${node.code}`);
     return lines.concat(node.guards.map(({ name, value }) => `${name}: ${value}`));
+  }
+
+  /** The lines of these that go into a box: all, or the first of them and how many there are more. */
+  function boxDetailsOf(node) {
+    const lines = detailsOf(node);
+    return lines.length <= MOST_DETAILS ? lines : [...lines.slice(0, MOST_DETAILS - 1), `… ${lines.length - MOST_DETAILS + 1} more`];
   }
 
   /** The second line in a box: the uid, and the ID where the name is another. */
@@ -95,7 +102,7 @@ const Drawing = (() => {
     sizeOf(uid) {
       if (!this.sizes.has(uid)) {
         const node = this.run.tree.node(uid);
-        const details = this.withDetails ? detailsOf(node) : [];
+        const details = this.withDetails ? boxDetailsOf(node) : [];
         const lengths = [nameWidth(node.name), smallWidth(underName(node)), ...details.map(smallWidth)];
         const width = Math.min(WIDEST, Math.max(96, Math.ceil(Math.max(...lengths)) + SIGN_WIDTH + BADGE_ROOM + 14));
         this.sizes.set(uid, { width, height: BOX_HEIGHT + details.length * LINE_HEIGHT + (details.length ? 4 : 0) + STRIP_ROOM });
@@ -248,7 +255,11 @@ const Drawing = (() => {
       const across = { x: this.direction === "down", y: this.direction === "right" };
       const x = moveInto(left, left + place.width * scale, REVEAL_ROOM, room.width - REVEAL_ROOM, across.x);
       const y = moveInto(top, top + place.height * scale, REVEAL_ROOM, room.height - REVEAL_ROOM - LEGEND, across.y);
-      if (x !== 0 || y !== 0) this.pan(x, y);
+      if (x === 0 && y === 0) return;
+      const { width, height } = this.extent(this.arranged);
+      this.view.x = within(this.view.x + x, width * scale, room.width);
+      this.view.y = within(this.view.y + y, height * scale, room.height - LEGEND);
+      this.pan(0, 0);
     }
 
     listen() {
@@ -410,7 +421,7 @@ const Drawing = (() => {
 
     textOf(node, place) {
       const room = place.width - SIGN_WIDTH - BADGE_ROOM - 4;
-      const lines = this.withDetails ? detailsOf(node) : [];
+      const lines = this.withDetails ? boxDetailsOf(node) : [];
       return svg("g", { class: "texts", transform: `translate(${SIGN_WIDTH + 2} 0)` },
         svg("text", { class: "name", y: 18 }, Dom.shortened(node.name, room, nameWidth)),
         svg("text", { class: "small", y: 33 }, Dom.shortened(underName(node), room, smallWidth)),
@@ -500,6 +511,12 @@ const Drawing = (() => {
       }
       return { statuses, changed };
     }
+  }
+
+  /** The place at which a drawing that is larger than the window leaves no more than the margin empty; else this place. */
+  function within(place, size, room) {
+    if (size + 2 * MARGIN <= room) return place;
+    return Math.min(MARGIN, Math.max(room - MARGIN - size, place));
   }
 
   /** How far a stretch has to move to lie between these bounds: not at all, to the middle, or as little as will do. */

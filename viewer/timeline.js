@@ -102,10 +102,16 @@ const Timeline = (() => {
     }
 
     select(uid) {
+      const changesRows = this.hasRowOfItsOwn(this.selected) || this.hasRowOfItsOwn(uid);
       this.selected = uid;
-      this.rows = this.rowsOf();
+      if (changesRows) this.rows = this.rowsOf();
       this.resized();
       this.revealRow(uid, this.runner);
+    }
+
+    /** Whether the node has a row only while it is chosen. */
+    hasRowOfItsOwn(uid) {
+      return uid !== 0 && this.nodes === "leaves" && this.run.tree.node(uid).children.length > 0;
     }
 
     /** Scrolls so that the row of this node is in the window. */

@@ -161,7 +161,7 @@ const TreeFile = (() => {
       if (element.name === "BehaviorTree") trees.set(element.attributes.get("ID") ?? "", element);
     }
     const main = root.attributes.get("main_tree_to_execute") ?? (trees.size === 1 ? [...trees.keys()][0] : null);
-    if (main === null) throw new TreeFault("The file has several trees and names no main tree.");
+    if (main === null) throw new TreeFault("The file names no main tree, and has not exactly one tree.");
     return opened(main, trees);
   }
 
