@@ -19,7 +19,7 @@ CASES = [
           "call 10 start RUNNING / node 10 IDLE RUNNING / root 1 RUNNING / fact at 12 / board 1 0 way 24 / "
           "board 1 3 steps 12 / tick 1 at 500 / fault 1 10 NoInput force / quench 1 10", "W:10:7:",
           ("the row of Grip (node 10) faulted at 500 ms: its row needs the input force, and there is none",
-           'the node gives force="{force}", an entry that has no value by then', "`tick 1 at 500`", "let go: Grip (node 10) of runner 1",
+           'the node gives force="{force}", an entry that has no value by then', "`tick 1 at 500`", "halted: Grip (node 10) of runner 1",
            "T:21:7: note: the node", "SubTree Dock (node 8, line 16)"),
           changed(THREE_TREES, 'force="3"', 'force="{force}"'), THREE_ROWS + "at 500\ntick 1\n"),
     fault("an entry without value",
@@ -45,13 +45,13 @@ CASES = [
     fault("a halt", "tick 1 at 0 / node 1 IDLE RUNNING / call 2 start SUCCESS / node 2 IDLE SUCCESS / call 3 start RUNNING / "
           "node 3 IDLE RUNNING / call 4 start RUNNING / node 4 IDLE RUNNING / root 1 RUNNING / halt 1 at 0 / "
           "node 2 SUCCESS IDLE / call 3 halted / node 3 RUNNING IDLE / fault 1 3 ZeroDivisor / quench 1 4", "T:3:50:",
-          ("the script _onHalted of B (node 3)", "let go: C (node 4) of runner 1"),
+          ("the script _onHalted of B (node 3)", "halted: C (node 4) of runner 1"),
           nodes('<Parallel success_count="3"><A/> <B _onHalted="1 / 0"/><C/></Parallel>'),
           lines("action A timed 0\naction B timed 9\naction C timed 9\ntick 1\nhalt 1")),
     fault("what another runner held", "tick 1 at 0 / node 1 IDLE RUNNING / call 2 start RUNNING / node 2 IDLE RUNNING / root 1 RUNNING / "
           "set x 1 at 0 / fact x 1 / tick 2 at 0 / node 1 IDLE RUNNING / call 2 start SUCCESS / node 2 IDLE SUCCESS / "
           "fault 2 3 NoEntry 0 z / quench 1 2", "T:3:30:",
-          ("of runner 2; let go: A (node 2) of runner 1",), nodes('<Sequence><A/> <Script code="z"/></Sequence>'),
+          ("of runner 2; halted: A (node 2) of runner 1",), nodes('<Sequence><A/> <Script code="z"/></Sequence>'),
           lines("runners 2\nfact x 0\naction A gate x == 1\ntick 1\nset x 1\ntick 2")),
     fault("an input that is not written", "tick 1 at 0 / fault 1 1 NoInput force", "W:3:25:",
           ("its row needs the input force", "the node does not write force", "T:3:1: note: the node"), nodes("<A/>"),

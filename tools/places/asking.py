@@ -18,7 +18,7 @@ from .worlds import read_world
 
 USAGE = """\
 ./names TREE [--main ID]            a line a node: uid, kind, ID, name, line, and the SubTree nodes round it
-./names TREE [--main ID] < TRACE    the trace, with the name of each node behind its line
+./names TREE [--main ID] < TRACE    the trace, with the name of each node after its line
 ./names TREE WORLD [--main ID]      leaves without rows, rows without leaves, and ports that do not meet
 ./names --trees TREE                a line a tree of the file
 ./names --all TREE                  what `bt check` says of each tree of the file as the main tree

@@ -21,7 +21,7 @@ def trouble(data: bytes, at: int) -> Trouble:
         return special
     front = FRONT.match(data, at)
     if front is None:
-        return at, at + 1, "behind < no name begins", "a mark is <name>, <name/> or </name>; elsewhere write &lt; for <"
+        return at, at + 1, "after < no name begins", "a mark is <name>, <name/> or </name>; elsewhere write &lt; for <"
     name = front.group(1).decode()
     end = front.end()
     if data.startswith(b"</", at):
@@ -50,13 +50,13 @@ def begun(data: bytes, at: int, length: int, closing: bytes, what: str) -> Troub
     """What is wrong with a comment or an instruction."""
     end = data.find(closing, at + length)
     if end < 0:
-        return at, at + length, f"this {what} does not end", f"write {closing.decode()} behind it"
+        return at, at + length, f"this {what} does not end", f"write {closing.decode()} after it"
     zero = data.find(b"\0", at, end)
     return zero, zero + 1, f"the byte 0 stands in this {what}", "take it out"
 
 
 def attribute_trouble(data: bytes, at: int, end: int, name: str) -> Trouble:
-    """What is wrong behind the attributes that can be read."""
+    """What is wrong after the attributes that can be read."""
     rest = data[end:]
     gap = len(rest) - len(rest.lstrip(b" \t\r\n"))
     start = end + gap
@@ -85,10 +85,10 @@ def half_trouble(data: bytes, half: "re.Match[bytes]", name: str) -> Trouble:
     quote = half.group(3)
     stop = re.compile(b"[<\\0" + quote + b"]").search(data, half.end())
     if stop is None:
-        return half.end() - 1, half.end(), f"the value of {attribute} does not end", f"write {quote.decode()} behind it"
+        return half.end() - 1, half.end(), f"the value of {attribute} does not end", f"write {quote.decode()} after it"
     if stop.group() == b"<":
         if b"\n" in data[half.end():stop.start()] or b">" in data[half.end():stop.start()]:
             return half.end() - 1, half.end(), f"the value of {attribute} does not end: the next < comes before its quote", \
-                f"write {quote.decode()} behind the value; {ESCAPE}"
+                f"write {quote.decode()} after the value; {ESCAPE}"
         return stop.start(), stop.end(), f"the value of {attribute} holds <", ESCAPE
     return stop.start(), stop.end(), f"the value of {attribute} holds the byte 0", "take it out"

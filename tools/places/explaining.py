@@ -32,7 +32,7 @@ def explanation(status: int, output: bytes, words: List[str]) -> List[str]:
 
 
 def refused(text: str, front: str) -> str:
-    """The words of a refusal, behind their front; nothing where the output is another."""
+    """The words of a refusal, after their beginning; nothing where the output is another."""
     whole = text.startswith(front) and text.endswith("\n") and text.count("\n") == 1
     return text[len(front):-1] if whole else ""
 

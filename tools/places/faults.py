@@ -60,12 +60,12 @@ def cause_said(file: TreeFile, node: Node, ended: Faulted) -> str:
 
 
 def quenched(file: TreeFile, ended: Faulted) -> str:
-    """What was let go."""
+    """What was halted."""
     if not ended.quenched:
-        return "no leaf was held, so none was let go"
+        return "no leaf was held, so none was halted"
     names = [f"{file.nodes[uid - 1].name()} (node {uid}) of runner {runner}" for runner, uid in ended.quenched
              if uid <= len(file.nodes)]
-    return "let go: " + ", ".join(names)
+    return "halted: " + ", ".join(names)
 
 
 def given(file: TreeFile, node: Node, ended: Faulted) -> List[str]:

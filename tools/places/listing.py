@@ -72,7 +72,7 @@ def tree_lines(source: Source, trees: Dict[str, Element], main: str) -> List[str
 
 
 def placed(source: Source, at: int, message: str) -> str:
-    """A message behind its place."""
+    """A message after its place."""
     line, column = source.position(at)
     return f"{source.name}:{line}:{column}: {message}"
 

@@ -165,7 +165,7 @@ class Reader:
                           ["a comment stands between <!-- and -->; a value stands in an attribute"])
 
     def take(self, at: int) -> int:
-        """Takes the mark at a place, and gives the place behind it."""
+        """Takes the mark at a place, and gives the place after it."""
         for opening, closing in ((b"<?", b"?>"), (b"<!--", b"-->")):
             if self.data.startswith(opening, at):
                 end = self.data.find(closing, at + len(opening))
@@ -187,7 +187,7 @@ class Reader:
         self.check_attributes(element)
         if self.root is not None and not self.open:
             raise Finding(f"Unmatched {element.at}", element.span(),
-                          f"<{element.name}> stands behind the document element", ["a file has one element at its top"],
+                          f"<{element.name}> stands after the document element", ["a file has one element at its top"],
                           [(f"<{self.root.name}> began here, and has ended", self.root.span())])
         if len(self.open) >= MOST_DEPTH:
             raise Finding(f"TooDeep {element.at}", element.span(), f"this element has {len(self.open)} round it",

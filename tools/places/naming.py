@@ -1,4 +1,4 @@
-"""A trace with the name of each node behind its line, and the moment behind each call."""
+"""A trace with the name of each node after its line, and the moment after each call."""
 
 import re
 from typing import BinaryIO, Iterator, Optional, Set
@@ -19,7 +19,7 @@ class Naming:
         self.strange: Set[int] = set()
 
     def named(self, line: str) -> str:
-        """What belongs behind a line of the trace; nothing where it names no node."""
+        """What belongs after a line of the trace; nothing where it names no node."""
         header = HEADER.fullmatch(line)
         if header is not None:
             self.moment = header.group(2)
@@ -36,7 +36,7 @@ class Naming:
         return "\t" + name_said(node) + moment + around_said(node)
 
     def lines(self, trace: BinaryIO) -> Iterator[bytes]:
-        """The lines of the trace, each with what belongs behind it."""
+        """The lines of the trace, each with what belongs after it."""
         for line in trace:
             text = line.rstrip(b"\n")
             yield text + self.named(text.decode("utf-8", "replace")).encode() + line[len(text):]

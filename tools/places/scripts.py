@@ -58,7 +58,7 @@ class ScriptFault(Exception):
 
 @dataclass(frozen=True)
 class Statement:
-    """A statement: the name that it writes and the sign behind it, if it writes one, and its expression."""
+    """A statement: the name that it writes and the sign after it, if it writes one, and its expression."""
 
     target: Optional[Token]
     sign: str
@@ -94,7 +94,7 @@ def no_token(text: bytes, at: int) -> ScriptFault:
     """Why no token begins here."""
     sign = text[at:].decode("utf-8", "replace")[0]
     if sign == "'":
-        return ScriptFault("Syntax", at, len(text), "this text has no closing quote", "write ' behind it")
+        return ScriptFault("Syntax", at, len(text), "this text has no closing quote", "write ' after it")
     end = at + len(sign.encode())
     hints = {'"': "a text stands between single quotes: '..'", "%": "there is no remainder in scripts",
              "@": "there is no board above that of the main tree", ".": "a number is a whole number",
@@ -104,15 +104,15 @@ def no_token(text: bytes, at: int) -> ScriptFault:
 
 
 def check_number(token: Token, rest: bytes) -> None:
-    """Raises what is wrong with a number, by what stands directly behind it."""
+    """Raises what is wrong with a number, by what stands directly after it."""
     decimal = not token.text.lower().startswith("0x")
-    behind = rest[:1]
-    if decimal and behind and behind in b".eE":
+    after = rest[:1]
+    if decimal and after and after in b".eE":
         end = token.end + len(rest) - len(rest.lstrip(b".eE0123456789"))
         raise ScriptFault("RealNumber", token.start, end, "a script has whole numbers only",
                           "count in smaller units: millimetres in place of metres, 15 in place of 1.5")
-    if behind.isalpha() or behind == b"_":
-        raise ScriptFault("Syntax", token.start, token.end + 1, "a letter stands directly behind a number",
+    if after.isalpha() or after == b"_":
+        raise ScriptFault("Syntax", token.start, token.end + 1, "a letter stands directly after a number",
                           "a name begins with a letter or _, and between a number and a name stands an operator")
     if int(token.text, 10 if decimal else 16) > LARGEST:
         raise ScriptFault("NumberTooWide", token.start, token.end, f"the number is above {LARGEST}",
@@ -152,7 +152,7 @@ class Order:
         self.part.append(token)
 
     def take_operator(self, token: Token) -> None:
-        """Takes a token behind an operand."""
+        """Takes a token after an operand."""
         if token.is_sign(*ASSIGNS) and self.may_assign():
             self.target, self.sign, self.part = self.part[0], token.text, []
             self.wants_operand = True
@@ -177,7 +177,7 @@ class Order:
         return not self.single and self.target is None and len(self.part) == 1 and self.part[0].is_look()
 
     def end_statement(self) -> None:
-        """Ends the statement behind its expression."""
+        """Ends the statement after its expression."""
         self.statements.append(Statement(self.target, self.sign, tuple(self.part)))
         self.target, self.sign, self.part, self.wants_operand = None, "", [], True
 
@@ -212,7 +212,7 @@ class Order:
         elif token.is_sign("="):
             help_ = "to compare write =="
         elif token.is_sign(*ASSIGNS):
-            help_ = "an entry is written at the front of a statement, behind its name alone"
+            help_ = "an entry is written at the beginning of a statement, after its name alone"
         elif token.is_sign(";"):
             help_ = "an expression stands alone here" if self.single else "something is open before the ;"
         else:
@@ -240,7 +240,7 @@ class Heights:
             self.apply()
 
     def take_operator(self, sign: str) -> None:
-        """Takes a sign behind an operand."""
+        """Takes a sign after an operand."""
         self.apply_down_to({"?": 1, ":": 0, ")": 0}.get(sign, LEVELS.get(sign, 0)))
         if sign in (":", ")"):
             self.signs.pop()

@@ -28,7 +28,7 @@ TREE: Dict[str, Kind] = {
     "NotRoot": Kind("an element may not stand at the top", "the top is a root with BehaviorTree and TreeNodesModel"),
     "Format": Kind("the format is not known", 'write BTCPP_format="4"'),
     "DoubleTree": Kind("two trees have one ID", "give one of them another ID"),
-    "NoMain": Kind("no main tree is named", 'write main_tree_to_execute=".." in the root, or --main ID behind the files'),
+    "NoMain": Kind("no main tree is named", 'write main_tree_to_execute=".." in the root, or --main ID after the files'),
     "NoTree": Kind("a tree that is named is not in the file", "all trees stand in one file"),
     "TooManyNodes": Kind("the tree has too many nodes", "at most 4,096, each opening of a tree counted"),
     "UnknownNode": Kind("an element is no node", "nodes with children are those of docs/formats.md; a leaf has none"),

@@ -1,4 +1,4 @@
-"""The lines of a trace: the last block of a run that ended in a fault, and names behind uids."""
+"""The lines of a trace: the last block of a run that ended in a fault, and names after uids."""
 
 import re
 from dataclasses import dataclass, field

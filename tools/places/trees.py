@@ -99,7 +99,7 @@ class TreeFile:
         return " > ".join(parts)
 
     def cell(self, scope: int, key: str) -> Tuple[int, str]:
-        """The cell behind all mappings: the scope that owns it, and its key there."""
+        """The cell at the end of all mappings: the scope that owns it, and its key there."""
         while scope:
             around = self.nodes[scope - 1]
             port = around.element.attribute(key)
@@ -219,14 +219,14 @@ def main_of(root: Element, trees: Dict[str, Element], word: Optional[str]) -> st
     said = "the file has " + (listed(f"'{name}'" for name in trees) if trees else "no tree")
     if word is None and attribute is None and len(trees) != 1:
         raise Finding("NoMain", root.span(), f"no main tree is named, and {said}",
-                      ['write main_tree_to_execute=".." in the root, or --main ID behind the files'] if trees
+                      ['write main_tree_to_execute=".." in the root, or --main ID after the files'] if trees
                       else ['write <BehaviorTree ID="Main"> with a node in the root'])
     if word is None and attribute is None:
         return next(iter(trees))
     main = word if word is not None else attribute.value.text()
     if main not in trees:
         where = root.span() if word is not None or attribute is None else attribute.span()
-        by = "behind --main" if word is not None else "as main_tree_to_execute"
+        by = "after --main" if word is not None else "as main_tree_to_execute"
         raise Finding(f"NoTree {quoted(main)}", where, f"the tree '{main}', which is named {by}, is not in the file",
                       meant(main, trees) + [said])
     return main

@@ -29,16 +29,16 @@ def first_nodes(file: TreeFile) -> List[Node]:
 
 
 def guard_warnings(file: TreeFile) -> Iterator[Report]:
-    """Attributes that are read over and are near a guard's name."""
+    """Attributes that are ignored and are near a guard's name."""
     for node in first_nodes(file):
         names = GUARDS + (("_autoremap",) if node.kind == "SubTree" else ())
         for attribute in node.element.attributes:
             meant = misspelled(attribute, names) if attribute.name.startswith("_") else []
             if not meant and attribute.name == "_autoremap" and node.kind != "SubTree":
-                yield warning(file, attribute.span(), "_autoremap is read over at a node that is no SubTree", [],
+                yield warning(file, attribute.span(), "_autoremap is ignored at a node that is no SubTree", [],
                               file.where(node))
             if meant:
-                yield warning(file, attribute.span(), f"the attribute {attribute.name} is read over: it is no guard",
+                yield warning(file, attribute.span(), f"the attribute {attribute.name} is ignored: it is no guard",
                               [f"did you mean {' or '.join(meant)}?"], file.where(node))
 
 
@@ -76,7 +76,7 @@ def tree_warnings(file: TreeFile) -> Iterator[Report]:
 
 
 def default_warnings(file: TreeFile) -> Iterator[Report]:
-    """Defaults in the models of SubTrees, which are read over."""
+    """Defaults in the models of SubTrees, which are ignored."""
     opened: Dict[str, List[Node]] = {}
     for node in file.nodes:
         if node.kind == "SubTree":
@@ -91,7 +91,7 @@ def default_warnings(file: TreeFile) -> Iterator[Report]:
             if lacking:
                 lines = listed(dict.fromkeys(str(file.source.line_of(node.element.at)) for node in lacking))
                 yield warning(file, default.span(),
-                              f"the default of {name} is not used: the model of a SubTree is read over",
+                              f"the default of {name} is not used: the model of a SubTree is ignored",
                               [f'write {name}="{default.value.text()}" at the SubTree of line {lines}'])
 
 

@@ -9,7 +9,7 @@ from .values import number
 
 @dataclass(frozen=True)
 class Form:
-    """A command: what stands behind its word, and which options it takes and needs."""
+    """A command: what stands after its word, and which options it takes and needs."""
 
     operands: Tuple[str, ...]
     options: Tuple[str, ...] = ()
@@ -74,7 +74,7 @@ def wrong(words: List[str]) -> Optional[str]:
 
 
 def wrong_options(name: str, form: Form, rest: List[str]) -> Optional[str]:
-    """What is wrong with the words behind the operands."""
+    """What is wrong with the words after the operands."""
     seen = []
     for at in range(0, len(rest), 2):
         word = rest[at]
@@ -84,7 +84,7 @@ def wrong_options(name: str, form: Form, rest: List[str]) -> Optional[str]:
         if word in seen:
             return f"{name}: {word} stands twice"
         if at + 1 == len(rest):
-            return f"{name}: behind {word} its {VALUES[word]} is missing"
+            return f"{name}: after {word} its {VALUES[word]} is missing"
         if word in RANGES and not in_range(word, rest[at + 1]):
             return out_of_range(name, word, rest[at + 1])
         seen.append(word)
