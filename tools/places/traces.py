@@ -31,7 +31,7 @@ class Faulted:
 
 def faulted(text: str) -> Optional[Faulted]:
     """How the run of a trace ended in a fault, if it did: `fault` stands in the last block, with `quench` lines behind."""
-    lines = text.splitlines()
+    lines = text.split("\n")
     for at in range(len(lines) - 1, -1, -1):
         fault = FAULT.fullmatch(lines[at])
         if fault is not None:
@@ -58,7 +58,7 @@ def status_of(lines: List[str], runner: str, uid: str) -> str:
     status, turn = "IDLE", ""
     front = f"node {uid} "
     for line in lines:
-        if line.startswith(("tick ", "halt ")):
+        if line.startswith(("tick ", "halt ", "finish ")):
             turn = line.split(" ")[1]
         elif turn == runner and line.startswith(front):
             status = line.rsplit(" ", 1)[1]
