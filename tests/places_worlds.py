@@ -66,7 +66,8 @@ WORLDS = [
 UNASKED = [
     Case("a driver that is missing", 4, "refused world NoDriver Gate\n", "W: error:", ("no driver serves",),
          ONE, lines("action A gate 1"), "tick T W", False),
-    Case("no goal", 4, "refused world NoGoal\n", "W: error:", ("has no goal", "`goal ID`"), ONE, lines("action A gate 1"), "tick T W", False),
+    Case("no goal", 4, "refused world NoGoal\n", "W: error:", ("has no goal", "`goal ID`"),
+         ONE, lines("action A gate 1"), "tick T W", False),
 ]
 
 

@@ -126,6 +126,12 @@ def is_below(node: Node, line: str) -> bool:
     return told is not None and node.uid < int(told.group(1)) <= last.uid
 
 
+def may_answer_at_once(node: Node) -> bool:
+    """Whether the node may answer and run the scripts behind its answer without a line of the trace before."""
+    return node.kind in ("AlwaysSuccess", "AlwaysFailure", "RunOnce") + WITH_CODE \
+        or any(node.element.attribute(name) for name in ("_failureIf", "_successIf"))
+
+
 def possible(node: Node, ended: Faulted) -> Tuple[str, ...]:
     """The scripts that may have run last."""
     if was_halted(node, ended):
@@ -136,7 +142,7 @@ def possible(node: Node, ended: Faulted) -> Tuple[str, ...]:
     after = ("_onSuccess", "_onFailure", "_post")
     if ended.status == "RUNNING":
         return ("_while",) if node.kind == "Leaf" else after if is_below(node, ended.before) else ("_while",) + after
-    if node.kind == "Leaf" and not any(node.element.attribute(name) for name in ("_failureIf", "_successIf")):
+    if not may_answer_at_once(node):
         after = ()
     return BEFORE + (("code",) if node.kind in WITH_CODE else ()) + after
 

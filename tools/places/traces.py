@@ -1,8 +1,8 @@
-"""The lines of a trace: the last block of a run that ended in a fault, and names behind uids."""
+"""The lines of a trace, and the last block of a run that ended in a fault."""
 
 import re
 from dataclasses import dataclass, field
-from typing import Dict, List, Optional, Tuple
+from typing import List, Optional, Tuple
 
 HEADER = re.compile(r"(?:(?:tick|halt|finish) ([0-9]+)|set [A-Za-z0-9_]+ -?[0-9]+) at ([0-9]+)")
 
@@ -30,25 +30,36 @@ class Faulted:
 
 
 def faulted(text: str) -> Optional[Faulted]:
-    """How the run of a trace ended in a fault, if it did."""
-    found: Optional[Faulted] = None
-    statuses: Dict[Tuple[str, str], str] = {}
-    header, moment, runner, before = "", "0", "", ""
-    for line in text.splitlines():
-        begun = HEADER.fullmatch(line)
-        fault = FAULT.fullmatch(line)
-        quench = QUENCH.fullmatch(line)
-        node = NODE.fullmatch(line)
-        if begun is not None:
-            header, runner, moment, before = line, begun.group(1) or "", begun.group(2), ""
-        elif fault is not None:
-            status = statuses.get((fault.group(1), fault.group(2)), "IDLE")
-            found = Faulted(int(fault.group(1)), int(fault.group(2)), fault.group(3).split(" "), header, moment, before, status)
-        elif quench is not None and found is not None:
-            found.quenched.append((int(quench.group(1)), int(quench.group(2))))
-        elif node is not None:
-            statuses[runner, node.group(1)] = node.group(3)
-            before = line
-        else:
-            before = line
-    return found
+    """How the run of a trace ended in a fault, if it did: `fault` stands in the last block, with `quench` lines behind."""
+    lines = text.split("\n")
+    for at in range(len(lines) - 1, -1, -1):
+        fault = FAULT.fullmatch(lines[at])
+        if fault is not None:
+            begun = next((i for i in range(at - 1, -1, -1) if HEADER.fullmatch(lines[i])), None)
+            return None if begun is None else ended_by(fault, lines, begun, at)
+        if HEADER.fullmatch(lines[at]):
+            return None
+    return None
+
+
+def ended_by(fault: "re.Match[str]", lines: List[str], begun: int, at: int) -> Faulted:
+    """What the block of a fault tells, between its header and the lines behind the fault."""
+    runner, uid = fault.group(1), fault.group(2)
+    header = HEADER.fullmatch(lines[begun])
+    moment = header.group(2) if header is not None else "0"
+    quenched = [(int(q.group(1)), int(q.group(2))) for q in map(QUENCH.fullmatch, lines[at + 1:]) if q is not None]
+    before = lines[at - 1] if at - 1 > begun else ""
+    return Faulted(int(runner), int(uid), fault.group(3).split(" "), lines[begun], moment, before,
+                   status_of(lines[:at], runner, uid), quenched)
+
+
+def status_of(lines: List[str], runner: str, uid: str) -> str:
+    """The status of a runner's node behind these lines."""
+    status, turn = "IDLE", ""
+    front = f"node {uid} "
+    for line in lines:
+        if line.startswith(("tick ", "halt ", "finish ")):
+            turn = line.split(" ")[1]
+        elif turn == runner and line.startswith(front):
+            status = line.rsplit(" ", 1)[1]
+    return status
