@@ -1,0 +1,5 @@
+pub mod Expansion
+pub mod Forests
+pub mod Planned
+pub mod Rows
+pub mod Stands

@@ -1,0 +1,11 @@
+//! The plan tree: a tree of conditions and actions that grows where a condition is expanded. It is
+//! one slab of nodes that is edited in place.
+#![tactic(auto)]
+
+mod node;
+mod plan_tree;
+mod rule;
+
+pub use node::{Node, Part};
+pub use plan_tree::PlanTree;
+pub use rule::Rule;
