@@ -6,7 +6,7 @@ use Rattle.bt_domain.specs.declared.template.Template.{Template}
 use Rattle.bt_domain.specs.Templates.{templates_of}
 use Rattle.bt_expand.specs.declared.node.Part.{Part}
 use Rattle.bt_expand.specs.declared.node.Part.TheVariants.{Goals, Sequence, Fallback, Condition, Action}
-use Rattle.bt_expand.specs.Forests.{Forest, Empty, Tree, Ancestor, ancestors, below_at, changed_below, joined, part_at}
+use Rattle.bt_expand.specs.Forests.{Forest, Empty, Tree, Ancestor, ancestors, below_at, changed_below, is_fallback, joined, part_at}
 use Rattle.bt_expand.specs.Rows.{needs_of, row_achieves}
 
 -- nodes without children, each with its key
@@ -30,10 +30,6 @@ sequence_rows (Tree key part below rest) = sequence_rows rest
 abbrev pub tried_below : List Ancestor → Forest → List ℕ
 tried_below [] tree = []
 tried_below (parent ∷ outer) tree = if is_fallback parent.part then sequence_rows (below_at parent.key tree) else []
-  where
-    is_fallback : Part → Bool
-    is_fallback Fallback = true
-    is_fallback _ = false
 
 -- the rows of the actions that were added behind the condition of this key
 abbrev pub tried : ℕ → Forest → List ℕ
@@ -80,7 +76,7 @@ grown _ k fallback new children = wrapped k fallback new children
 
 abbrev pub expanded_below : List Ancestor → ℕ → ℕ → Forest → Forest → Forest
 expanded_below [] k fallback new tree = tree
-expanded_below (parent ∷ outer) k fallback new tree = changed_below parent.key (grown parent.part k fallback new) tree
+expanded_below (parent ∷ outer) k fallback new tree = changed_below parent.key (λ part. grown part k fallback new) tree
 
 -- the tree after the condition of this key was expanded by the action of this row
 abbrev pub expanded : List Row → NewKeys → ℕ → ℕ → Forest → Forest

@@ -17,10 +17,14 @@ joined (Tree key part below rest) others = Tree key part below (joined rest othe
 
 -- ---- What is counted
 
+-- the sum of what each node counts, by its key and by what it is
+abbrev pub total : (ℕ → Part → ℕ) → Forest → ℕ
+total weight Empty = 0
+total weight (Tree key part below rest) = weight key part + (total weight below + total weight rest)
+
 -- the nodes of a forest
 abbrev pub size : Forest → ℕ
-size Empty = 0
-size (Tree key part below rest) = 1 + (size below + size rest)
+size = total (λ key part. 1)
 
 -- the levels of a forest
 abbrev pub height : Forest → ℕ
@@ -39,19 +43,22 @@ added_by _ = 0
 
 -- the sequences that were added
 abbrev pub subtrees : Forest → ℕ
-subtrees Empty = 0
-subtrees (Tree key part below rest) = added_by part + (subtrees below + subtrees rest)
+subtrees = total (λ key part. added_by part)
 
 -- the nodes that have this key
 abbrev pub times : ℕ → Forest → ℕ
-times k Empty = 0
-times k (Tree key part below rest) = (if key == k then 1 else 0) + (times k below + times k rest)
+times k = total (λ key part. if key == k then 1 else 0)
 
 -- no key names two nodes
 pub record AreApart (forest : Forest) : Type 0 where
   pub once : (key : ℕ) → times key forest ≤ 1
 
 -- ---- What is read
+
+-- the keys of the trees, in order
+abbrev pub tops : Forest → List ℕ
+tops Empty = []
+tops (Tree key part below rest) = key ∷ tops rest
 
 -- the keys in pre-order, so that the node of number n has the n-th
 abbrev pub keys_of : Forest → List ℕ
@@ -106,11 +113,15 @@ is_sequence Goals = true
 is_sequence (Sequence row) = true
 is_sequence _ = false
 
+abbrev pub is_fallback : Part → Bool
+is_fallback Fallback = true
+is_fallback _ = false
+
 -- ---- What is changed
 
--- the trees below the node of a key are changed
-abbrev pub changed_below : ℕ → (Forest → Forest) → Forest → Forest
+-- the trees below the node of a key are changed, by what the node is
+abbrev pub changed_below : ℕ → (Part → Forest → Forest) → Forest → Forest
 changed_below k change Empty = Empty
 changed_below k change (Tree key part below rest) =
-    if key == k then Tree key part (change below) rest
+    if key == k then Tree key part (change part below) rest
     else Tree key part (changed_below k change below) (changed_below k change rest)

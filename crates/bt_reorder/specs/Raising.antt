@@ -16,7 +16,7 @@ can_move a = is_sequence a.part && nat_lt 0 (count a.before)
 
 -- in this node the child on the way down and its left neighbour change places
 abbrev pub moved_in : Ancestor → Forest → Forest
-moved_in a tree = changed_below a.key (swap_at (count a.before - 1)) tree
+moved_in a tree = changed_below a.key (λ part. swap_at (count a.before - 1)) tree
 
 -- The node of this key is raised: in the nearest sequence above it in which the child on the way down has a left
 -- neighbour, these two change places. There may be none.
