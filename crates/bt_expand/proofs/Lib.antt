@@ -1,3 +1,4 @@
 pub mod Counted
+pub mod NewNodes
 pub mod Places
 pub mod Standing

@@ -1,5 +1,6 @@
 pub mod Expansion
 pub mod Forests
+pub mod Growth
 pub mod Planned
 pub mod Rows
 pub mod Stands

@@ -2,10 +2,13 @@
 //! one slab of nodes that is edited in place.
 #![tactic(auto)]
 
+mod expanding;
+mod growing;
 mod node;
 mod plan_tree;
 mod rule;
 
+pub use expanding::ExpandFault;
 pub use node::{Node, Part};
-pub use plan_tree::PlanTree;
+pub use plan_tree::{PlanTree, plan_tree_of};
 pub use rule::Rule;
