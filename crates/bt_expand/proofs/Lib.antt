@@ -1,4 +1,7 @@
 pub mod Counted
+pub mod Expansions
 pub mod NewNodes
 pub mod Places
+pub mod Regrown
+pub mod Searched
 pub mod Standing

@@ -192,3 +192,42 @@ parts_with rows action row is = ap (λ (a : Option ℕ). parts_of rows a) is
 pub parts_count : (rows : List ℕ) (action : Option ℕ) (row : ℕ) → action ≡ Some row → length (parts_of rows action) ≡ length rows + 1
 parts_count rows action row is =
     ap (λ (ps : List Part). length ps) (parts_with rows action row is) ∙ length-append (map Condition rows) (Action row ∷ []) ∙ ap (λ (n : ℕ). n + 1) (length-map rows Condition)
+
+-- ---- Room
+
+module _ (old room new : Slab Node) (is : room ≡ record old { capacity = room.capacity }) where
+  same_get : (key : ℕ) → get room key ≡ get old key
+  same_get key = ap (λ (s : Slab Node). get s key) is
+
+  same_len : slab_len room ≡ slab_len old
+  same_len = ap (λ (s : Slab Node). slab_len s) is
+
+  pub adds_node_from : (key : ℕ) (node : Node) → AddsNode room new key node → AddsNode old new key node
+  adds_node_from key node adds = record {
+    vacant = sym (same_get key) ∙ adds.vacant;
+    updates = record { changed = adds.updates.changed; others = λ other differs. adds.updates.others other differs ∙ same_get other };
+    len = adds.len ∙ ap (λ (n : ℕ). n + 1) same_len;
+  }
+
+  pub adds_from : (parent : Option ℕ) (keys : List ℕ) (f : Forest) → Adds room new parent keys f → Adds old new parent keys f
+  adds_from parent keys f adds = record {
+    kept = λ key node there. adds.kept key node (same_get key ∙ there);
+    stands = adds.stands;
+    fresh = λ key node there. adds.fresh key node (same_get key ∙ there);
+    apart = adds.apart;
+    len = adds.len ∙ ap (λ (n : ℕ). n + size f) same_len;
+  }
+
+-- what a node keeps where another parent or other children are written, each by what it was
+pub edited_as : (old new : Slab Node) (key : ℕ) (above : Option ℕ → Option ℕ) (below : List ℕ → List ℕ) →
+    ((node : Node) → get old key ≡ Some node → Edits old new key (above node.parent) (below node.children.items) node) →
+    (parent : Option ℕ) (part : Part) (children : List ℕ) → Keeps old parent key part children → Keeps new (above parent) key part (below children)
+edited_as old new key above below edits parent part children keeps =
+    let now = edited_keeps old new key (above keeps.node.parent) (below keeps.node.children.items) keeps.node keeps.there (edits keeps.node keeps.there) in
+    record {
+      node = now.node;
+      there = now.there;
+      part_is = now.part_is ∙ keeps.part_is;
+      parent_is = now.parent_is ∙ ap above keeps.parent_is;
+      children_are = now.children_are ∙ ap below keeps.children_are;
+    }

@@ -1,3 +1,4 @@
+pub mod Expanded
 pub mod Expansion
 pub mod Forests
 pub mod Growth
