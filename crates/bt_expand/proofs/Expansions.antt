@@ -95,6 +95,7 @@ pub record Stood (s : Slab Node) (tree : Forest) (key : ℕ) (part : Part) : Typ
   pub above : Option ℕ
   pub children : List ℕ
   pub keeps_a : Keeps s above a.key a.part children
+  pub children_of : children ≡ tops a.before ++ key ∷ others
   pub kids : List ℕ
   pub keeps : Keeps s (Some a.key) key part kids
 
@@ -135,6 +136,7 @@ stood world t tree st key part not_root is =
           above = climb.above;
           children = climb.keys;
           keeps_a = climb.keeps;
+          children_of = climb.top.keys_are;
           kids = kept.1;
           keeps = subst (λ (o : Option ℕ). Keeps t.nodes o key part kept.1) own.0 kept.2;
         }

@@ -1,4 +1,5 @@
 pub mod Counted
+pub mod Expands
 pub mod Expansions
 pub mod NewNodes
 pub mod Places

@@ -1,6 +1,7 @@
 -- The slab after an expansion stands for the expanded tree.
 use Rattle.std.proofs.Common.{◌≡◌, ◌≢◌, ℕ, zero, suc, ◌+◌, ◌*◌, ◌<◌, ◌≤◌, nat_eq, Bool, true, false, if◌then◌else◌, List, [], ◌∷◌, ◌++◌, length, map, Option, Some, None, refl, ap, sym, ◌∙◌, subst, arith, inl, inr}
 use Rattle.std.specs.Prelude.{option_map, slice_get}
+use Rattle.std.specs.Option.{option_or}
 use Rattle.slab.specs.Slab.{Slab, get, slab_len}
 use Rattle.bt_model.specs.declared.world.World.{World}
 use Rattle.bt_expand.specs.declared.node.Node.{Node}
@@ -11,10 +12,10 @@ use Rattle.bt_expand.specs.Expansion.{grown, wrapped}
 use Rattle.bt_expand.specs.Forests.{Forest, Empty, Tree, added_by, changed_below, height, is_fallback, joined, node_at, part_at, size, subtrees, times, tops, total}
 use Rattle.bt_expand.specs.Growth.{Adds, AddsLast, AddsNode, Edits, Wraps, blank, branch_tree, replaced}
 use Rattle.bt_expand.specs.Stands.{Keeps, PartFits, PartsFit, Stands, StandsFor}
-use Rattle.bt_expand.proofs.Counted.{changed_here, changed_other, chosen, height-changed, height-grown, is_other, is_same, one_of, one_other, one_same, skipped, test_same, tested, total-changed, total-joined, total-wrapped, zero_or}
+use Rattle.bt_expand.proofs.Counted.{changed_here, changed_other, chosen, height-changed, height-grown, is_other, is_same, one_of, one_other, one_same, skipped, test_other, test_same, tested, total-changed, total-joined, total-wrapped, zero_or}
 use Rattle.bt_expand.proofs.Expansions.{Stood, node_counts, node_found, part_node}
 use Rattle.bt_expand.proofs.NewNodes.{edited_as, edited_keeps, edited_len, edited_other, kept_by_new, not_new}
-use Rattle.bt_expand.proofs.Standing.{kept_at, same_node, stands_by, stands_changed, stands_joined}
+use Rattle.bt_expand.proofs.Standing.{kept_at, same_node, stands_by, stands_changed, stands_joined, tops_are}
 
 -- ---- Forests
 
@@ -23,6 +24,23 @@ in_tops k Empty [] others is = absurd (cc is)
 in_tops k Empty (b ∷ before) others is = absurd (cc is)
 in_tops k (Tree key part below rest) [] others is = let one : one_of key k ≡ 1 = one_same key k (cc is) in omega (arith, one)
 in_tops k (Tree key part below rest) (b ∷ before) others is = let later = in_tops k rest before others (cc is) in omega (arith, later)
+
+-- a key that stands once does not stand below its own node
+pub under_lacks : (k : ℕ) (x : Part) (under f : Forest) → node_at k f ≡ Some (x, under) → times k f ≤ 1 → times k under ≡ 0
+under_lacks k x under Empty found once = absurd (cc found)
+under_lacks k x under (Tree key part below rest) found once = elim (tested key k) [
+  | inl hit ↦
+    let both : Some (part, below) ≡ Some (x, under) = sym (chosen (nat_eq key k) (Some (part, below)) (option_or (node_at k below) (node_at k rest)) hit) ∙ found in
+    let pair : (part, below) ≡ (x, under) = cc both in
+    let one : one_of key k ≡ 1 = one_same key k (is_same key k hit) in
+    let none : times k below ≡ 0 = omega (arith, once, one) in
+    subst (λ (f : Forest). times k f ≡ 0) (ap (λ (n : Part × Forest). n.1) pair) none
+  | inr miss ↦
+    elim (node_at k below) as (λ (o : Option (Part × Forest)). node_at k below ≡ o → option_or o (node_at k rest) ≡ Some (x, under) → times k under ≡ 0) [
+      | Some n ↦ λ lower e. under_lacks k x under below (lower ∙ e) (omega (arith, once))
+      | None ↦ λ lower e. under_lacks k x under rest e (omega (arith, once))
+    ] refl (sym (skipped (nat_eq key k) (Some (part, below)) (option_or (node_at k below) (node_at k rest)) miss) ∙ found)
+]
 
 -- a key of the forest has a node
 pub has_node : (s : Slab Node) (parent : Option ℕ) (keys : List ℕ) (f : Forest) (k : ℕ) → Stands s parent keys f → 1 ≤ times k f →
@@ -235,9 +253,9 @@ module _ (world : World) (t : PlanTree) (tree : Forest) (st : StandsFor t world 
     last_same f lacks parent ks stands = stands_by g.middle new parent ks f
         (λ (k : ℕ) (node : Node) has there. last_other k (λ e. absurd (omega (arith, has, subst (λ (n : ℕ). times n f ≡ 0) (sym e) lacks))) ∙ there) stands
 
-    last_inner : (parent : Option ℕ) (x : Part) (children : List ℕ) (below : Forest) → times at.a.key below ≡ 0 → Keeps g.middle parent at.a.key x children → Stands g.middle (Some at.a.key) children below →
+    last_inner : (parent : Option ℕ) (x : Part) (children : List ℕ) (below : Forest) → times at.a.key below ≡ 0 → ((k : ℕ) → times k below ≤ 1) → Keeps g.middle parent at.a.key x children → Stands g.middle (Some at.a.key) children below →
         (changed : List ℕ) × Keeps new parent at.a.key x changed × Stands new (Some at.a.key) changed (last_change x below)
-    last_inner parent x children below lacks keeps stands =
+    last_inner parent x children below lacks once keeps stands =
         let same = same_node g.middle parent at.above at.a.key x at.a.part children at.children keeps kept_a in
         let joins = grown_joins x key fallback last_added below (ap is_fallback same.1 ∙ is) in
         let fresh = g.adds.fresh at.a.key at.keeps_a.node at.keeps_a.there in
@@ -252,7 +270,7 @@ module _ (world : World) (t : PlanTree) (tree : Forest) (st : StandsFor t world 
       stands = stands_changed g.middle new at.a.key
           (λ (parent : Option ℕ) (k : ℕ) (x : Part) (children : List ℕ) differs apart (keeps : Keeps g.middle parent k x children). record {
             node = keeps.node; there = last_other k differs ∙ keeps.there; part_is = keeps.part_is; parent_is = keeps.parent_is; children_are = keeps.children_are })
-          last_change last_inner None (t.root ∷ []) tree (λ e. absurd (cc e)) (omega (arith, once_above))
+          last_change last_inner None (t.root ∷ []) tree (λ e. absurd (cc e)) st.apart.once
           (stands_by t.nodes g.middle None (t.root ∷ []) tree (λ (k : ℕ) (node : Node) has there. g.adds.kept k node there) st.nodes);
       totals = λ weight. total-changed weight at.a.key (total weight last_added) last_change tree once_above (λ (x : Part) (f : Forest) found.
           ap (total weight) (grown_joins x key fallback last_added f (ap is_fallback (found_above x f found).0 ∙ is)) ∙ total-joined weight f last_added);
@@ -275,3 +293,219 @@ module _ (world : World) (t : PlanTree) (tree : Forest) (st : StandsFor t world 
         | inr miss ↦ (node, last_other k (is_other k at.a.key miss) ∙ g.adds.kept k node there, refl)
       ];
     }
+
+-- ---- Elsewhere
+
+-- trees in which one condition gives way to a fallback of itself and what is new
+module _ (old new : Slab Node) (p key fallback seq : ℕ) (added : Forest)
+    (same : (k : ℕ) (node : Node) → k ≢ p → k ≢ key → get old k ≡ Some node → get new k ≡ Some node)
+    (over : Keeps new (Some p) fallback Fallback (key ∷ seq ∷ [])) (after : Stands new (Some fallback) (seq ∷ []) added)
+    (moved : (part : Part) (children : List ℕ) → Keeps old (Some p) key part children → Keeps new (Some fallback) key part children)
+    where
+  still : (f : Forest) → times p f ≡ 0 → times key f ≡ 0 → (parent : Option ℕ) (ks : List ℕ) → Stands old parent ks f → Stands new parent ks f
+  still f lacks other parent ks stands = stands_by old new parent ks f
+      (λ (k : ℕ) (node : Node) has there. same k node (λ e. absurd (omega (arith, has, subst (λ (n : ℕ). times n f ≡ 0) (sym e) lacks)))
+        (λ e. absurd (omega (arith, has, subst (λ (n : ℕ). times n f ≡ 0) (sym e) other))) there) stands
+
+  stands_wrapped : (children : List ℕ) (f : Forest) (before others : List ℕ) → tops f ≡ before ++ key ∷ others → times p f ≡ 0 → times key f ≤ 1 → Stands old (Some p) children f →
+      Stands new (Some p) (replaced key fallback children) (wrapped key fallback added f)
+  stands_wrapped children Empty [] others is lacks once stands = absurd (cc is)
+  stands_wrapped children Empty (b ∷ before) others is lacks once stands = absurd (cc is)
+  stands_wrapped children (Tree k part below rest) [] others is lacks once (kids, later_keys, keys_are, keeps, stands, later) =
+      let here : k ≡ key = cc is in
+      let hit = test_same k key here in
+      let one : one_of k key ≡ 1 = one_same k key here in
+      let keys_now : replaced key fallback children ≡ fallback ∷ later_keys =
+          ap (λ (l : List ℕ). replaced key fallback l) keys_are ∙ chosen (nat_eq k key) (fallback ∷ later_keys) (k ∷ replaced key fallback later_keys) hit in
+      subst (λ (l : List ℕ). Stands new (Some p) l (wrapped key fallback added (Tree k part below rest))) (sym keys_now)
+      (subst (λ (f : Forest). Stands new (Some p) (fallback ∷ later_keys) f)
+        (sym (chosen (nat_eq k key) (Tree fallback Fallback (Tree k part below added) rest) (Tree k part below (wrapped key fallback added rest)) hit))
+        (key ∷ seq ∷ [], later_keys, refl, over,
+         (kids, seq ∷ [], ap (λ (n : ℕ). n ∷ seq ∷ []) (sym here),
+          subst (λ (n : ℕ). Keeps new (Some fallback) n part kids) (sym here) (moved part kids (subst (λ (n : ℕ). Keeps old (Some p) n part kids) here keeps)),
+          still below (omega (arith, lacks)) (omega (arith, once, one)) (Some k) kids stands,
+          after),
+         still rest (omega (arith, lacks)) (omega (arith, once, one)) (Some p) later_keys later))
+  stands_wrapped children (Tree k part below rest) (b ∷ before) others is lacks once (kids, later_keys, keys_are, keeps, stands, later) =
+      let tops_rest : tops rest ≡ before ++ key ∷ others = cc is in
+      let has = in_tops key rest before others tops_rest in
+      let differs : k ≢ key = λ e. absurd (omega (arith, once, has, one_same k key e)) in
+      let miss = test_other k key differs in
+      let not_p : k ≢ p = λ e. absurd (omega (arith, lacks, one_same k p e)) in
+      let keys_now : replaced key fallback children ≡ k ∷ replaced key fallback later_keys =
+          ap (λ (l : List ℕ). replaced key fallback l) keys_are ∙ skipped (nat_eq k key) (fallback ∷ later_keys) (k ∷ replaced key fallback later_keys) miss in
+      let more = stands_wrapped later_keys rest before others tops_rest (omega (arith, lacks)) (omega (arith, once)) later in
+      subst (λ (l : List ℕ). Stands new (Some p) l (wrapped key fallback added (Tree k part below rest))) (sym keys_now)
+      (subst (λ (f : Forest). Stands new (Some p) (k ∷ replaced key fallback later_keys) f)
+        (sym (skipped (nat_eq k key) (Tree fallback Fallback (Tree k part below added) rest) (Tree k part below (wrapped key fallback added rest)) miss))
+        (kids, replaced key fallback later_keys, refl,
+         record { node = keeps.node; there = same k keeps.node not_p differs keeps.there; part_is = keeps.part_is; parent_is = keeps.parent_is; children_are = keeps.children_are },
+         still below (omega (arith, lacks)) (omega (arith, once, has)) (Some k) kids stands,
+         more))
+
+module _ (world : World) (t : PlanTree) (tree : Forest) (st : StandsFor t world tree) (key : ℕ) (own : Part) (at : Stood t.nodes tree key own)
+    (seq : ℕ) (part : Part) (parts : List Part) (new : Slab Node) (is : is_fallback at.a.part ≡ false) (g : Wraps t.nodes new at.a.key key seq part parts)
+    (few : size (branch_tree seq part g.keys parts) ≤ 18) (one : subtrees (branch_tree seq part g.keys parts) ≡ 1) (low : height (branch_tree seq part g.keys parts) ≤ 2)
+    (fits : PartsFit (length world.rows) (branch_tree seq part g.keys parts)) where
+  abbrev wrap_new : Forest
+  wrap_new = branch_tree seq part g.keys parts
+
+  abbrev wrap_change : Part → Forest → Forest
+  wrap_change x = grown x key g.fallback wrap_new
+
+  -- all that is new
+  abbrev wrap_added : Forest
+  wrap_added = Tree g.fallback Fallback wrap_new Empty
+
+  blank_fallback : get g.second g.fallback ≡ Some (blank Fallback (Some at.a.key))
+  blank_fallback = g.adds.kept g.fallback (blank Fallback (Some at.a.key)) g.inserted.updates.changed
+
+  fills : Edits g.second g.third g.fallback (Some at.a.key) (key ∷ seq ∷ []) (blank Fallback (Some at.a.key))
+  fills = g.filled (blank Fallback (Some at.a.key)) blank_fallback
+
+  third_other : (k : ℕ) → k ≢ g.fallback → get g.third k ≡ get g.second k
+  third_other k differs = edited_other g.second g.third g.fallback (Some at.a.key) (key ∷ seq ∷ []) (blank Fallback (Some at.a.key)) blank_fallback fills k differs
+
+  not_fallback : (k : ℕ) (node : Node) → get t.nodes k ≡ Some node → k ≢ g.fallback
+  not_fallback k node there = not_new t.nodes g.first g.fallback k (blank Fallback (Some at.a.key)) node g.inserted there
+
+  -- up to here each old node is as it was
+  in_third : (k : ℕ) (node : Node) → get t.nodes k ≡ Some node → get g.third k ≡ Some node
+  in_third k node there = third_other k (not_fallback k node there) ∙ g.adds.kept k node (kept_by_new t.nodes g.first g.fallback (blank Fallback (Some at.a.key)) g.inserted k node there)
+
+  kept_in_third : (parent : Option ℕ) (k : ℕ) (x : Part) (children : List ℕ) → Keeps t.nodes parent k x children → Keeps g.third parent k x children
+  kept_in_third parent k x children keeps = record {
+    node = keeps.node; there = in_third k keeps.node keeps.there; part_is = keeps.part_is; parent_is = keeps.parent_is; children_are = keeps.children_are }
+
+  third_a : Keeps g.third at.above at.a.key at.a.part at.children
+  third_a = kept_in_third at.above at.a.key at.a.part at.children at.keeps_a
+
+  third_key : Keeps g.third (Some at.a.key) key own at.kids
+  third_key = kept_in_third (Some at.a.key) key own at.kids at.keeps
+
+  above_differs : at.a.key ≢ key
+  above_differs e =
+      let lacks = under_lacks at.a.key at.a.part at.below tree at.found (st.apart.once at.a.key) in
+      let has = in_tops key at.below (tops at.a.before) at.others at.tops_of in
+      absurd (omega (arith, has, subst (λ (k : ℕ). times k at.below ≡ 0) e lacks))
+
+  moves : (node : Node) → get g.third at.a.key ≡ Some node → Edits g.third g.fourth at.a.key node.parent (replaced key g.fallback node.children.items) node
+  moves = g.moved
+
+  fourth_other : (k : ℕ) → k ≢ at.a.key → get g.fourth k ≡ get g.third k
+  fourth_other k differs =
+      edited_other g.third g.fourth at.a.key third_a.node.parent (replaced key g.fallback third_a.node.children.items) third_a.node third_a.there (moves third_a.node third_a.there) k differs
+
+  key_in_fourth : get g.fourth key ≡ Some third_key.node
+  key_in_fourth = fourth_other key (λ e. above_differs (sym e)) ∙ third_key.there
+
+  new_other : (k : ℕ) → k ≢ key → get new k ≡ get g.fourth k
+  new_other k differs = edited_other g.fourth new key (Some g.fallback) third_key.node.children.items third_key.node key_in_fourth (g.under third_key.node key_in_fourth) k differs
+
+  both_other : (k : ℕ) (node : Node) → k ≢ at.a.key → k ≢ key → get g.third k ≡ Some node → get new k ≡ Some node
+  both_other k node not_a not_key there = new_other k not_key ∙ fourth_other k not_a ∙ there
+
+  wrap_over : Keeps new (Some at.a.key) g.fallback Fallback (key ∷ seq ∷ [])
+  wrap_over =
+      let keeps = edited_keeps g.second g.third g.fallback (Some at.a.key) (key ∷ seq ∷ []) (blank Fallback (Some at.a.key)) blank_fallback fills in
+      record {
+        node = keeps.node;
+        there = both_other g.fallback keeps.node (λ e. not_fallback at.a.key at.keeps_a.node at.keeps_a.there (sym e)) (λ e. not_fallback key at.keeps.node at.keeps.there (sym e)) keeps.there;
+        part_is = keeps.part_is;
+        parent_is = keeps.parent_is;
+        children_are = keeps.children_are;
+      }
+
+  -- an old key is no key of what is new
+  fresh_new : (k : ℕ) (node : Node) → get t.nodes k ≡ Some node → times k wrap_new ≡ 0
+  fresh_new k node there = g.adds.fresh k node (kept_by_new t.nodes g.first g.fallback (blank Fallback (Some at.a.key)) g.inserted k node there)
+
+  fallback_lacks : times g.fallback wrap_new ≡ 0
+  fallback_lacks = g.adds.fresh g.fallback (blank Fallback (Some at.a.key)) g.inserted.updates.changed
+
+  wrap_after : Stands new (Some g.fallback) (seq ∷ []) wrap_new
+  wrap_after = stands_by g.second new (Some g.fallback) (seq ∷ []) wrap_new
+      (λ (k : ℕ) (node : Node) has there. both_other k node
+        (λ e. absurd (omega (arith, has, subst (λ (n : ℕ). times n wrap_new ≡ 0) (sym e) (fresh_new at.a.key at.keeps_a.node at.keeps_a.there))))
+        (λ e. absurd (omega (arith, has, subst (λ (n : ℕ). times n wrap_new ≡ 0) (sym e) (fresh_new key at.keeps.node at.keeps.there))))
+        (third_other k (λ e. absurd (omega (arith, has, subst (λ (n : ℕ). times n wrap_new ≡ 0) (sym e) fallback_lacks))) ∙ there)) g.adds.stands
+
+  wrap_moved : (x : Part) (children : List ℕ) → Keeps g.third (Some at.a.key) key x children → Keeps new (Some g.fallback) key x children
+  wrap_moved x children keeps =
+      let there = fourth_other key (λ e. above_differs (sym e)) ∙ keeps.there in
+      let now = edited_keeps g.fourth new key (Some g.fallback) keeps.node.children.items keeps.node there (g.under keeps.node there) in
+      record { node = now.node; there = now.there; part_is = now.part_is ∙ keeps.part_is; parent_is = now.parent_is; children_are = now.children_are ∙ keeps.children_are }
+
+  wrap_inner : (parent : Option ℕ) (x : Part) (children : List ℕ) (below : Forest) → times at.a.key below ≡ 0 → ((k : ℕ) → times k below ≤ 1) → Keeps g.third parent at.a.key x children → Stands g.third (Some at.a.key) children below →
+      (changed : List ℕ) × Keeps new parent at.a.key x changed × Stands new (Some at.a.key) changed (wrap_change x below)
+  wrap_inner parent x children below lacks once keeps stands =
+      let same = same_node g.third parent at.above at.a.key x at.a.part children at.children keeps third_a in
+      let wraps = grown_wraps x key g.fallback wrap_new below (ap is_fallback same.1 ∙ is) in
+      let kept = edited_as g.third g.fourth at.a.key (λ (o : Option ℕ). o) (λ (ks : List ℕ). replaced key g.fallback ks) moves parent x children keeps in
+      let old_tops : tops below ≡ tops at.a.before ++ key ∷ at.others = sym (tops_are g.third (Some at.a.key) children below stands) ∙ same.2 ∙ at.children_of in
+      (replaced key g.fallback children,
+       record { node = kept.node; there = new_other at.a.key above_differs ∙ kept.there; part_is = kept.part_is; parent_is = kept.parent_is; children_are = kept.children_are },
+       subst (λ (f : Forest). Stands new (Some at.a.key) (replaced key g.fallback children) f) (sym wraps)
+       (stands_wrapped g.third new at.a.key key g.fallback seq wrap_new both_other wrap_over wrap_after wrap_moved children below (tops at.a.before) at.others old_tops lacks (once key) stands))
+
+  in_new : (k : ℕ) (node : Node) → get t.nodes k ≡ Some node → (after : Node) × (get new k ≡ Some after) × (after.part ≡ node.part)
+  in_new k node there = elim (tested k key) [
+    | inl hit ↦
+      let here : k ≡ key = is_same k key hit in
+      let mid : get g.fourth key ≡ Some node = fourth_other key (λ e. above_differs (sym e)) ∙ ap (λ (n : ℕ). get g.third n) (sym here) ∙ in_third k node there in
+      let now = edited_keeps g.fourth new key (Some g.fallback) node.children.items node mid (g.under node mid) in
+      (now.node, ap (λ (n : ℕ). get new n) here ∙ now.there, now.part_is)
+    | inr miss ↦
+      let differs = is_other k key miss in
+      elim (tested k at.a.key) [
+        | inl hit ↦
+          let here : k ≡ at.a.key = is_same k at.a.key hit in
+          let mid : get g.third at.a.key ≡ Some node = ap (λ (n : ℕ). get g.third n) (sym here) ∙ in_third k node there in
+          let now = edited_keeps g.third g.fourth at.a.key node.parent (replaced key g.fallback node.children.items) node mid (moves node mid) in
+          (now.node, new_other k differs ∙ ap (λ (n : ℕ). get g.fourth n) here ∙ now.there, now.part_is)
+        | inr other ↦ (node, both_other k node (is_other k at.a.key other) differs (in_third k node there), refl)
+      ]
+  ]
+
+  pub regrown_wraps : Regrown world t tree new at.a.key wrap_change wrap_added
+  regrown_wraps = record {
+    stands = stands_changed g.third new at.a.key
+        (λ (parent : Option ℕ) (k : ℕ) (x : Part) (children : List ℕ) differs apart (keeps : Keeps g.third parent k x children).
+          let not_key : k ≢ key = λ e. apart (same_node g.third parent (Some at.a.key) key x own children at.kids (subst (λ (n : ℕ). Keeps g.third parent n x children) e keeps) third_key).0 in
+          record { node = keeps.node; there = both_other k keeps.node differs not_key keeps.there; part_is = keeps.part_is; parent_is = keeps.parent_is; children_are = keeps.children_are })
+        wrap_change wrap_inner None (t.root ∷ []) tree (λ e. absurd (cc e)) st.apart.once
+        (stands_by t.nodes g.third None (t.root ∷ []) tree (λ (k : ℕ) (node : Node) has there. in_third k node there) st.nodes);
+    totals = λ weight. total-changed weight at.a.key (total weight wrap_added) wrap_change tree (once_above world t tree st key own at g.fallback) (λ (x : Part) (f : Forest) found.
+        let above = found_above world t tree st key own at g.fallback x f found in
+        ap (total weight) (grown_wraps x key g.fallback wrap_new f (ap is_fallback above.0 ∙ is))
+        ∙ total-wrapped weight key g.fallback wrap_new f (tops at.a.before) at.others (ap (λ (h : Forest). tops h) above.1 ∙ at.tops_of) ∙ omega arith);
+    fresh = λ k node there.
+      let none = fresh_new k node there in
+      let here : one_of g.fallback k ≡ 0 = one_other g.fallback k (λ e. not_fallback k node there (sym e)) in
+      omega (arith, none, here);
+    apart = λ k.
+      let once = g.adds.apart k in
+      elim (tested g.fallback k) [
+        | inl hit ↦
+          let at_it : g.fallback ≡ k = is_same g.fallback k hit in
+          let none : times k wrap_new ≡ 0 = subst (λ (n : ℕ). times n wrap_new ≡ 0) at_it fallback_lacks in
+          let here : one_of g.fallback k ≡ 1 = one_same g.fallback k at_it in
+          omega (arith, none, here)
+        | inr miss ↦
+          let here : one_of g.fallback k ≡ 0 = ap (λ (b : Bool). if b then 1 else 0) miss in
+          omega (arith, once, here)
+      ];
+    len =
+      let last = edited_len g.fourth new key (Some g.fallback) third_key.node.children.items third_key.node key_in_fourth (g.under third_key.node key_in_fourth) in
+      let fourth = edited_len g.third g.fourth at.a.key third_a.node.parent (replaced key g.fallback third_a.node.children.items) third_a.node third_a.there (moves third_a.node third_a.there) in
+      let third = edited_len g.second g.third g.fallback (Some at.a.key) (key ∷ seq ∷ []) (blank Fallback (Some at.a.key)) blank_fallback fills in
+      let second = g.adds.len in
+      let first = g.inserted.len in
+      omega (arith, last, fourth, third, second, first);
+    few = let most = few in omega (arith, most);
+    one = let this = one in omega (arith, this);
+    low = λ x f. height-grown x key g.fallback wrap_new f low;
+    fits = λ x f ok. grown_fits (length world.rows) key g.fallback wrap_new f x ok fits;
+    own = λ x f ok. grown_own (length world.rows) key g.fallback wrap_new f x ok;
+    parts = in_new;
+  }

@@ -95,16 +95,16 @@ module _ (old new : Slab Node) (p : ℕ)
        stands_elsewhere parent others rest apart (lacks_rest p key part below rest lacks) later)
 
   module _ (change : Part → Forest → Forest)
-      (inner : (parent : Option ℕ) (part : Part) (children : List ℕ) (below : Forest) → times p below ≡ 0 → Keeps old parent p part children → Stands old (Some p) children below →
+      (inner : (parent : Option ℕ) (part : Part) (children : List ℕ) (below : Forest) → times p below ≡ 0 → ((k : ℕ) → times k below ≤ 1) → Keeps old parent p part children → Stands old (Some p) children below →
         (changed : List ℕ) × Keeps new parent p part changed × Stands new (Some p) changed (change part below))
       where
-    pub stands_changed : (parent : Option ℕ) (keys : List ℕ) (f : Forest) → parent ≢ Some p → times p f ≤ 1 → Stands old parent keys f → Stands new parent keys (changed_below p change f)
+    pub stands_changed : (parent : Option ℕ) (keys : List ℕ) (f : Forest) → parent ≢ Some p → ((k : ℕ) → times k f ≤ 1) → Stands old parent keys f → Stands new parent keys (changed_below p change f)
     stands_changed parent keys Empty apart once is = is
     stands_changed parent keys (Tree key part below rest) apart once (children, others, is, keeps, stands, later) = elim (tested key p) [
       | inl hit ↦
         let at : key ≡ p = is_same key p hit in
-        let none = only_here p key part below rest once at in
-        let here = inner parent part children below none.0 (subst (λ (n : ℕ). Keeps old parent n part children) at keeps) (subst (λ (n : ℕ). Stands old (Some n) children below) at stands) in
+        let none = only_here p key part below rest (once p) at in
+        let here = inner parent part children below none.0 (λ (k : ℕ). let all = once k in omega (arith, all)) (subst (λ (n : ℕ). Keeps old parent n part children) at keeps) (subst (λ (n : ℕ). Stands old (Some n) children below) at stands) in
         subst (λ (g : Forest). Stands new parent keys g) (sym (changed_here p change key part below rest hit))
         (here.0, others, is, subst (λ (n : ℕ). Keeps new parent n part here.0) (sym at) here.1, subst (λ (n : ℕ). Stands new (Some n) here.0 (change part below)) (sym at) here.2,
          stands_elsewhere parent others rest apart none.1 later)
@@ -112,6 +112,6 @@ module _ (old new : Slab Node) (p : ℕ)
         let differs = is_other key p miss in
         subst (λ (g : Forest). Stands new parent keys g) (sym (changed_other p change key part below rest miss))
         (children, others, is, same parent key part children differs apart keeps,
-         stands_changed (Some key) children below (λ e. differs (cc e)) (omega (arith, once)) stands,
-         stands_changed parent others rest apart (omega (arith, once)) later)
+         stands_changed (Some key) children below (λ e. differs (cc e)) (λ (k : ℕ). let all = once k in omega (arith, all)) stands,
+         stands_changed parent others rest apart (λ (k : ℕ). let all = once k in omega (arith, all)) later)
     ]
