@@ -183,7 +183,7 @@ module _ (world : World) (t : PlanTree) (tree : Forest) (st : StandsFor t world 
   any_tried : (r : ℕ) → list_any (names_sequence t.nodes r) (fallback_children at.a.part at.children) ≡ list_any (λ (own : ℕ). own == r) (tried key tree)
   any_tried r = any_part t.nodes r at.a.key at.children at.below stands_below at.a.part ∙ ap (λ (l : List ℕ). list_any (λ (own : ℕ). own == r) l) (sym tried_is)
 
-  untried_is : untried world.rows key tree ≡ filter (λ (x : Template). row_achieves world.rows row x.row && not (list_any (λ (own : ℕ). own == x.row) (tried key tree))) (templates_of world.rows)
+  pub untried_is : untried world.rows key tree ≡ filter (λ (x : Template). row_achieves world.rows row x.row && not (list_any (λ (own : ℕ). own == x.row) (tried key tree))) (templates_of world.rows)
   untried_is = ap (λ (o : Option Part). untried_of world.rows (condition_row o) (tried key tree)) is
 
   open_is : (x : Template) → is_open t row (fallback_children at.a.part at.children) x ≡ (row_achieves world.rows row x.row && not (list_any (λ (own : ℕ). own == x.row) (tried key tree)))

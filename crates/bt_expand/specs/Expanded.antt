@@ -1,5 +1,5 @@
 -- What an expansion leaves.
-use Rattle.std.specs.Prelude.{◌≡◌, ℕ, ◌&&◌, Bool, true, false, not, List, Option, Some, slice_get}
+use Rattle.std.specs.Prelude.{◌≡◌, ℕ, ◌+◌, ◌&&◌, Bool, true, false, not, List, length, Option, Some, slice_get}
 use Rattle.std.specs.List.{list_any}
 use Rattle.slab.specs.Slab.{Slab, get}
 use Rattle.bt_model.specs.declared.world.World.{World}
@@ -11,6 +11,7 @@ use Rattle.bt_expand.specs.declared.plan_tree.PlanTree.{PlanTree}
 use Rattle.bt_expand.specs.Expansion.{NewKeys, expanded, untried}
 use Rattle.bt_expand.specs.Forests.{Forest, part_at}
 use Rattle.bt_expand.specs.Growth.{AddsLast, Wraps, names_sequence, rule_achieves}
+use Rattle.bt_expand.specs.Rows.{needs_of}
 use Rattle.bt_expand.specs.Stands.{StandsFor}
 
 -- The tree after an expansion stands for the tree with the sequence of the first untried template. The answer is the
@@ -19,6 +20,7 @@ pub record Expands (after : PlanTree) (world : World) (tree : Forest) (key added
   pub template : Template
   pub first : slice_get (untried world.rows key tree) 0 ≡ Some template
   pub keys : NewKeys
+  pub all : length keys.leaves ≡ length (needs_of world.rows template.row) + 1
   pub named : added ≡ keys.sequence
   pub stands : StandsFor after world (expanded world.rows keys key template.row tree)
   pub kept : (old : ℕ) (part : Part) → part_at old tree ≡ Some part → part_at old (expanded world.rows keys key template.row tree) ≡ Some part

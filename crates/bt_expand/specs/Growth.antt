@@ -1,5 +1,5 @@
 -- How the slab of a plan tree grows, step by step.
-use Rattle.std.specs.Prelude.{◌≡◌, ℕ, ◌+◌, ◌≤◌, ◌==◌, Bool, false, if◌then◌else◌, List, [], ◌∷◌, ◌++◌, map, Option, Some, None, slice_get}
+use Rattle.std.specs.Prelude.{◌≡◌, ℕ, ◌+◌, ◌≤◌, ◌==◌, Bool, false, if◌then◌else◌, List, [], ◌∷◌, ◌++◌, length, map, Option, Some, None, slice_get}
 use Rattle.std.specs.Option.{option_and_then, option_map_or}
 use Rattle.slab.specs.Slab.{Slab, Updates, get, slab_len, with_value}
 use Rattle.bt_model.specs.declared.world.Set.{Set}
@@ -57,6 +57,7 @@ branch_tree key part keys parts = Tree key part (leaves keys parts) Empty
 -- the sequence is the last child of its parent
 pub record AddsLast (old new : Slab Node) (parent key : ℕ) (part : Part) (parts : List Part) : Type 0 where
   pub keys : List ℕ
+  pub counted : length keys ≡ length parts
   pub middle : Slab Node
   pub adds : Adds old middle (Some parent) (key ∷ []) (branch_tree key part keys parts)
   pub edits : (node : Node) → get old parent ≡ Some node → Edits middle new parent node.parent (node.children.items ++ key ∷ []) node
@@ -65,6 +66,7 @@ pub record AddsLast (old new : Slab Node) (parent key : ℕ) (part : Part) (part
 pub record Wraps (old new : Slab Node) (parent condition key : ℕ) (part : Part) (parts : List Part) : Type 0 where
   pub fallback : ℕ
   pub keys : List ℕ
+  pub counted : length keys ≡ length parts
   pub first : Slab Node
   pub second : Slab Node
   pub third : Slab Node

@@ -87,6 +87,7 @@ fn add_leaves(
     requires empty { keys.old.items ≡ [] }
     ensures added { Adds nodes.old nodes.new (Some parent) keys.new.items
         (leaves keys.new.items (parts_of branch.now.conditions.now branch.now.action)) }
+    ensures count { length keys.new.items ≡ length (parts_of branch.now.conditions.now branch.now.action) }
     ensures capacity { nodes.new.capacity ≡ nodes.old.capacity }
 {
     add_conditions(alloc, nodes, keys, parent, branch.conditions);
@@ -152,7 +153,8 @@ pub(crate) fn add_branch(
     requires place { HasPlaceFor keys (length (parts_of branch.now.conditions.now branch.now.action)) }
     requires empty { keys.items ≡ [] }
     ensures added { (leaf_keys : List ℕ) × Adds nodes.old nodes.new parent (result ∷ [])
-        (branch_tree result branch.now.part leaf_keys (parts_of branch.now.conditions.now branch.now.action)) }
+        (branch_tree result branch.now.part leaf_keys (parts_of branch.now.conditions.now branch.now.action))
+        × (length leaf_keys ≡ length (parts_of branch.now.conditions.now branch.now.action)) }
     ensures capacity { nodes.new.capacity ≡ nodes.old.capacity }
 {
     let key = insert(alloc, nodes, branch.part, parent);

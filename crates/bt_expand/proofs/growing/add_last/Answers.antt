@@ -14,6 +14,7 @@ returns-clause-added c =
     let adds = adds_from old c.reserve.new.nodes middle c.in_ok-reserve.ensures.kept (Some c.args.parent) (key ∷ []) (branch_tree key c.args.branch.now.part keys parts) c.add_branch-key.ensures.added.1 in
     record {
       keys = keys;
+      counted = c.add_branch-key.ensures.added.2;
       middle = middle;
       adds = adds;
       edits = λ node there.

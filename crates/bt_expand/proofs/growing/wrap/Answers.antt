@@ -8,6 +8,7 @@ pub returns-clause-added : goal.returns-clause-added
 returns-clause-added c = record {
   fallback = c.insert-fallback.result;
   keys = c.add_branch-key.ensures.added.0;
+  counted = c.add_branch-key.ensures.added.2;
   first = c.insert-fallback.new.nodes;
   second = c.add_branch-key.new.nodes;
   third = c.set_children.new.nodes;
