@@ -5,7 +5,7 @@ use Rattle.std.specs.Option.{option_map_or}
 use Rattle.std.specs.List.{All, filter, list_any}
 use Rattle.std.proofs.lemmas.List.{length-append, length-map}
 use Rattle.std.proofs.lemmas.Option.{slice_get_cases, slice_get_within}
-use Rattle.slab.specs.Slab.{Slab, get}
+use Rattle.slab.specs.Slab.{Slab, get, slab_len}
 use Rattle.bt_model.specs.declared.world.Row.{Row}
 use Rattle.bt_model.specs.declared.world.World.{World}
 use Rattle.bt_model.specs.Worlds.{IsComparisonIn, IsValidRow, IsValidWorld, comparisons, is_comparison}
@@ -14,13 +14,13 @@ use Rattle.bt_domain.specs.Templates.{is_template, templates_from, templates_of}
 use Rattle.bt_expand.specs.declared.expanding.Choice.{Choice}
 use Rattle.bt_expand.specs.declared.node.Node.{Node}
 use Rattle.bt_expand.specs.declared.node.Part.{Part}
-use Rattle.bt_expand.specs.declared.node.Part.TheVariants.{Sequence, Fallback, Condition, Action}
+use Rattle.bt_expand.specs.declared.node.Part.TheVariants.{Goals, Sequence, Fallback, Condition, Action}
 use Rattle.bt_expand.specs.declared.plan_tree.PlanTree.{PlanTree}
 use Rattle.bt_expand.specs.declared.rule.Rule.{Rule}
 use Rattle.bt_expand.specs.Expanded.{Chooses, Expands, GrowsBehind}
-use Rattle.bt_expand.specs.Expansion.{NewKeys, expanded, expanded_below, grown, leaves, new_sequence, tried}
+use Rattle.bt_expand.specs.Expansion.{NewKeys, expanded, expanded_below, goal_tree, grown, leaves, new_sequence, tried}
 use Rattle.bt_expand.specs.Forests.{Forest, Empty, Tree, Ancestor, changed_below, is_fallback, part_at, size, subtrees, height}
-use Rattle.bt_expand.specs.Growth.{AddsLast, Wraps, branch_tree, parts_of, rule_needs}
+use Rattle.bt_expand.specs.Growth.{Adds, AddsLast, Wraps, branch_tree, parts_of, rule_needs}
 use Rattle.bt_expand.specs.Rows.{needs_of, row_achieves, rule_of}
 use Rattle.bt_expand.specs.Stands.{IsConditionOf, PartsFit, StandsFor}
 use Rattle.bt_expand.proofs.Counted.{height-leaves, size-leaves}
@@ -113,6 +113,44 @@ pub leaves_some : (keys : List ℕ) (parts : List Part) → 1 ≤ length keys �
 leaves_some [] parts some more e = omega (arith, some)
 leaves_some (key ∷ keys) [] some more e = omega (arith, more)
 leaves_some (key ∷ keys) (part ∷ parts) some more e = cc e
+
+-- ---- The first tree
+
+size-conditions : (keys numbers : List ℕ) → subtrees (leaves keys (map Condition numbers)) ≡ 0
+size-conditions [] numbers = refl
+size-conditions (key ∷ keys) [] = refl
+size-conditions (key ∷ keys) (n ∷ numbers) = let later = size-conditions keys numbers in omega (arith, later)
+
+some_length : (xs : List ℕ) → xs ≢ [] → 1 ≤ length xs
+some_length [] some = absurd (some refl)
+some_length (x ∷ xs) some = omega arith
+
+pub first_stands : (world : World) → IsValidWorld world → world.goals ≢ [] → (t : PlanTree) (keys : List ℕ) (room : Slab Node) → t.rules ≡ map rule_of world.rows → t.templates ≡ templates_of world.rows →
+    slab_len room ≡ 0 → Adds room t.nodes None (t.root ∷ []) (branch_tree t.root Goals keys (map Condition world.goals)) → length keys ≡ length (map Condition world.goals) →
+    StandsFor t world (goal_tree t.root keys world.goals)
+first_stands world valid goal t keys room rules templates none adds counted =
+    let many = length-map world.goals Condition in
+    let some = some_length world.goals goal in
+    let few = valid.goals.few in
+    let most = size-leaves keys (map Condition world.goals) in
+    let low = height-leaves keys (map Condition world.goals) in
+    let len = adds.len in
+    record {
+      valid = valid;
+      rules = rules;
+      templates = templates;
+      nodes = adds.stands;
+      apart = record { once = adds.apart };
+      whole = omega (arith, len, none);
+      shape = record {
+        below = leaves keys (map Condition world.goals);
+        is = refl;
+        fit = (leaves_some keys (map Condition world.goals) (omega (arith, counted, many, some)) (omega (arith, many, some)),
+          conditions_fit (length world.rows) keys world.goals (rows_within world.rows world.goals valid.wanted), tt);
+        few = let no_more = size-conditions keys world.goals in omega (arith, most, many, few, no_more);
+        low = let no_more = size-conditions keys world.goals in omega (arith, low, no_more);
+      };
+    }
 
 -- ---- The expansion
 

@@ -5,4 +5,5 @@ pub mod NewNodes
 pub mod Places
 pub mod Regrown
 pub mod Searched
+pub mod Split
 pub mod Standing
