@@ -7,3 +7,4 @@ pub mod Regrown
 pub mod Searched
 pub mod Split
 pub mod Standing
+pub mod Walked

@@ -54,15 +54,25 @@ stands_none s parent Empty is = refl
 stands_none s parent (Tree key part below rest) (children, others, is, keeps, stands, later) = absurd (cc is)
 
 -- the trees up to a place, and the one at it
-pub split_last : (s : Slab Node) (parent : Option ℕ) (keys : List ℕ) (i key : ℕ) (f : Forest) → i < length keys → key ≡ get_or keys i key → Stands s parent (take (i + 1) keys) f →
-    Split s parent (take i keys) key [] f
-split_last s parent keys i key f within is stands =
-    split_at s parent (take i keys) key [] f (subst (λ (l : List ℕ). Stands s parent l f) (take_more keys i key within ∙ ap (λ (n : ℕ). take i keys ++ n ∷ []) (sym is)) stands)
+pub split_last : (s : Slab Node) (parent : Option ℕ) (keys : List ℕ) (i : ℕ) (f : Forest) → i < length keys → Stands s parent (take (i + 1) keys) f →
+    Split s parent (take i keys) (get_or keys i 0) [] f
+split_last s parent keys i f within stands =
+    split_at s parent (take i keys) (get_or keys i 0) [] f (subst (λ (l : List ℕ). Stands s parent l f) (take_more keys i 0 within) stands)
 
-pub take_around : (keys : List ℕ) (i key : ℕ) → i < length keys → key ≡ get_or keys i key → keys ≡ take i keys ++ key ∷ drop (suc i) keys
-take_around [] i key within is = absurd (omega (arith, within))
-take_around (k ∷ keys) zero key within is = ap (λ (n : ℕ). n ∷ keys) (sym is)
-take_around (k ∷ keys) (suc i) key within is = ap (λ (l : List ℕ). k ∷ l) (take_around keys i key (omega (arith, within)) is)
+take_around : (keys : List ℕ) (i : ℕ) → i < length keys → keys ≡ take i keys ++ get_or keys i 0 ∷ drop (suc i) keys
+take_around [] i within = absurd (omega (arith, within))
+take_around (k ∷ keys) zero within = refl
+take_around (k ∷ keys) (suc i) within = ap (λ (l : List ℕ). k ∷ l) (take_around keys i (omega (arith, within)))
+
+-- all trees, taken apart at a place
+pub split_all : (s : Slab Node) (parent : Option ℕ) (keys : List ℕ) (i : ℕ) (f : Forest) → i < length keys → Stands s parent keys f →
+    Split s parent (take i keys) (get_or keys i 0) (drop (suc i) keys) f
+split_all s parent keys i f within stands =
+    split_at s parent (take i keys) (get_or keys i 0) (drop (suc i) keys) f (subst (λ (l : List ℕ). Stands s parent l f) (take_around keys i within) stands)
+
+pub no_levels : (f : Forest) → height f ≤ 0 → f ≡ Empty
+no_levels Empty low = refl
+no_levels (Tree key part below rest) low = absurd (omega (arith, low))
 
 module _ (s : Slab Node) (parent : Option ℕ) (before : List ℕ) (key : ℕ) (after : List ℕ) (f : Forest) (split : Split s parent before key after f) where
   pub split_height : height f ≡ max (height split.left) (max (1 + height split.below) (height split.right))

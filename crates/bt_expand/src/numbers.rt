@@ -46,9 +46,9 @@ pub fn row_of(t: &PlanTree, key: usize) -> u32
 fn find_in(nodes: &Slab<Node>, keys: &[usize], number: usize, levels: usize) -> Result<usize, usize>
     ensures { (parent : Option ℕ) (f : Forest) → Stands nodes.now parent keys.now f → height f ≤ levels → Numbered f number result }
 {
-    let Some(lower) = levels.checked_sub(1) else {
+    if levels == 0 {
         return Err(number);
-    };
+    }
     let mut left = number;
     for key in keys {
         if left == 0 {
@@ -57,7 +57,7 @@ fn find_in(nodes: &Slab<Node>, keys: &[usize], number: usize, levels: usize) -> 
         let Some(node) = nodes.get(*key) else {
             continue;
         };
-        match find_in(nodes, &node.children, left - 1, lower) {
+        match find_in(nodes, &node.children, left - 1, levels - 1) {
             Ok(found) => return Ok(found),
             Err(rest) => left = rest,
         }

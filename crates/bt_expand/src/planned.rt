@@ -105,14 +105,14 @@ fn terms_of(
     ensures { IfOk result (λ terms. (parent : Option ℕ) (f : Forest) → Stands nodes.now parent keys.now f → height f ≤ levels → terms ≡ terms_of rows.now f) }
 {
     let mut terms = Vec::with_capacity(alloc, keys.len())?;
-    let Some(lower) = levels.checked_sub(1) else {
+    if levels == 0 {
         return Ok(Items::of(terms));
-    };
+    }
     for key in keys {
         let Some(node) = nodes.get(*key) else {
             continue;
         };
-        terms.push(term_of(alloc, nodes, rows, node, lower)?)?;
+        terms.push(term_of(alloc, nodes, rows, node, levels - 1)?)?;
     }
     Ok(Items::of(terms))
 }

@@ -11,5 +11,5 @@ abbrev pub decreases-term_of : goal.decreases-term_of
 decreases-term_of l = 2 * l.levels + 1
 
 -- the terms of the trees that were passed
-abbrev pub terms_of-invariant-loop-key : goal.terms_of-invariant-loop-key
-terms_of-invariant-loop-key l = (parent : Option ℕ) (f : Forest) → Stands l.nodes parent (take l.key-index l.keys) f → height f ≤ l.levels → l.terms.items ≡ terms_of l.rows f
+abbrev pub invariant-terms_of-loop-key : goal.invariant-terms_of-loop-key
+invariant-terms_of-loop-key l = (parent : Option ℕ) (f : Forest) → Stands l.nodes parent (take l.key-index l.keys) f → height f ≤ l.levels → l.terms.items ≡ terms_of l.rows f
