@@ -111,24 +111,24 @@ module _ (weight : ℕ → Part → ℕ) where
   total-changed p more change Empty one grows = absurd (omega (arith, one))
   total-changed p more change (Tree key part below rest) one grows = elim (tested key p) [
     | inl hit ↦
-      let e = grows part below (chosen (nat_eq key p) (Some (part, below)) (option_or (node_at p below) (node_at p rest)) hit) in
-      ap (total weight) (changed_here p change key part below rest hit) ∙ omega (arith, e)
+        let e = grows part below (chosen (nat_eq key p) (Some (part, below)) (option_or (node_at p below) (node_at p rest)) hit) in
+        ap (total weight) (changed_here p change key part below rest hit) ∙ omega (arith, e)
     | inr not ↦
-      let none : one_of key p ≡ 0 = one_other key p (is_other key p not) in
-      let deeper = skipped (nat_eq key p) (Some (part, below)) (option_or (node_at p below) (node_at p rest)) not in
-      ap (total weight) (changed_other p change key part below rest not)
-      ∙ elim (zero_or (times p below)) [
+        let none : one_of key p ≡ 0 = one_other key p (is_other key p not) in
+        let deeper = skipped (nat_eq key p) (Some (part, below)) (option_or (node_at p below) (node_at p rest)) not in
+        ap (total weight) (changed_other p change key part below rest not)
+        ∙ elim (zero_or (times p below)) [
           | inl lacks ↦
-            let same = unchanged p change below lacks in
-            let e = total-changed p more change rest (omega (arith, one, none, lacks))
-                (λ (x : Part) (g : Forest) found. grows x g (deeper ∙ ap (λ (o : Option (Part × Forest)). option_or o (node_at p rest)) (none_at p below lacks) ∙ found)) in
-            ap (λ (g : Forest). weight key part + (total weight g + total weight (changed_below p change rest))) same ∙ omega (arith, e)
+              let same = unchanged p change below lacks in
+              let e = total-changed p more change rest (omega (arith, one, none, lacks))
+              (λ (x : Part) (g : Forest) found. grows x g (deeper ∙ ap (λ (o : Option (Part × Forest)). option_or o (node_at p rest)) (none_at p below lacks) ∙ found)) in
+              ap (λ (g : Forest). weight key part + (total weight g + total weight (changed_below p change rest))) same ∙ omega (arith, e)
           | inr has ↦
-            let lacks : times p rest ≡ 0 = omega (arith, one, none, has) in
-            let same = unchanged p change rest lacks in
-            let e = total-changed p more change below (omega (arith, one, none, lacks))
-                (λ (x : Part) (g : Forest) found. grows x g (deeper ∙ ap (λ (o : Option (Part × Forest)). option_or o (node_at p rest)) found)) in
-            ap (λ (g : Forest). weight key part + (total weight (changed_below p change below) + total weight g)) same ∙ omega (arith, e)
+              let lacks : times p rest ≡ 0 = omega (arith, one, none, has) in
+              let same = unchanged p change rest lacks in
+              let e = total-changed p more change below (omega (arith, one, none, lacks))
+              (λ (x : Part) (g : Forest) found. grows x g (deeper ∙ ap (λ (o : Option (Part × Forest)). option_or o (node_at p rest)) found)) in
+              ap (λ (g : Forest). weight key part + (total weight (changed_below p change below) + total weight g)) same ∙ omega (arith, e)
         ]
   ]
 
@@ -146,10 +146,10 @@ pub height-wrapped : (k fallback : ℕ) (new f : Forest) → height new ≤ 2 �
 height-wrapped k fallback new Empty low = omega arith
 height-wrapped k fallback new (Tree key part below rest) low = elim (tested key k) [
   | inl hit ↦ subst (λ (g : Forest). height g ≤ height (Tree key part below rest) + 2)
-    (sym (chosen (nat_eq key k) (Tree fallback Fallback (Tree key part below new) rest) (Tree key part below (wrapped k fallback new rest)) hit)) (omega (arith, low))
+      (sym (chosen (nat_eq key k) (Tree fallback Fallback (Tree key part below new) rest) (Tree key part below (wrapped k fallback new rest)) hit)) (omega (arith, low))
   | inr not ↦ let later = height-wrapped k fallback new rest low in
-    subst (λ (g : Forest). height g ≤ height (Tree key part below rest) + 2)
-    (sym (skipped (nat_eq key k) (Tree fallback Fallback (Tree key part below new) rest) (Tree key part below (wrapped k fallback new rest)) not)) (omega (arith, later))
+      subst (λ (g : Forest). height g ≤ height (Tree key part below rest) + 2)
+      (sym (skipped (nat_eq key k) (Tree fallback Fallback (Tree key part below new) rest) (Tree key part below (wrapped k fallback new rest)) not)) (omega (arith, later))
 ]
 
 pub height-grown : (part : Part) (k fallback : ℕ) (new f : Forest) → height new ≤ 2 → height (grown part k fallback new f) ≤ height f + 2
@@ -164,9 +164,9 @@ pub height-changed : (p : ℕ) (change : Part → Forest → Forest) (f : Forest
 height-changed p change Empty grows = omega arith
 height-changed p change (Tree key part below rest) grows = elim (tested key p) [
   | inl hit ↦ let lower = grows part below in
-    subst (λ (g : Forest). height g ≤ height (Tree key part below rest) + 2) (sym (changed_here p change key part below rest hit)) (omega (arith, lower))
+      subst (λ (g : Forest). height g ≤ height (Tree key part below rest) + 2) (sym (changed_here p change key part below rest hit)) (omega (arith, lower))
   | inr not ↦ let lower = height-changed p change below grows in let later = height-changed p change rest grows in
-    subst (λ (g : Forest). height g ≤ height (Tree key part below rest) + 2) (sym (changed_other p change key part below rest not)) (omega (arith, lower, later))
+      subst (λ (g : Forest). height g ≤ height (Tree key part below rest) + 2) (sym (changed_other p change key part below rest not)) (omega (arith, lower, later))
 ]
 
 pub height-leaves : (keys : List ℕ) (parts : List Part) → height (leaves keys parts) ≤ 1

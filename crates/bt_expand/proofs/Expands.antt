@@ -66,18 +66,18 @@ pub record KnownNeeds (rows : List Row) (row : ℕ) : Type 0 where
 pub needs_known : (world : World) → IsValidWorld world → (row : ℕ) → KnownNeeds world.rows row
 needs_known world valid row = elim (slice_get_cases world.rows row).1 [
   | inl (found, within, there, at) ↦
-    let fits : IsValidRow world.facts world.rows found = subst (λ (r : Row). IsValidRow world.facts world.rows r) at (valid.rows row found within) in
-    let e : needs_of world.rows row ≡ found.needs = ap (λ (o : Option Row). option_map_or (λ (r : Row). r.needs) o []) there in
-    record {
-      few = subst (λ (l : List ℕ). length l ≤ 16) (sym e) fits.needs.few;
-      within = subst (λ (l : List ℕ). AreRows (length world.rows) l) (sym e) (rows_within world.rows found.needs fits.needed);
-    }
+      let fits : IsValidRow world.facts world.rows found = subst (λ (r : Row). IsValidRow world.facts world.rows r) at (valid.rows row found within) in
+      let e : needs_of world.rows row ≡ found.needs = ap (λ (o : Option Row). option_map_or (λ (r : Row). r.needs) o []) there in
+      record {
+        few = subst (λ (l : List ℕ). length l ≤ 16) (sym e) fits.needs.few;
+        within = subst (λ (l : List ℕ). AreRows (length world.rows) l) (sym e) (rows_within world.rows found.needs fits.needed);
+      }
   | inr (past, none) ↦
-    let e : needs_of world.rows row ≡ [] = ap (λ (o : Option Row). option_map_or (λ (r : Row). r.needs) o []) none in
-    record {
-      few = subst (λ (l : List ℕ). length l ≤ 16) (sym e) (omega arith);
-      within = subst (λ (l : List ℕ). AreRows (length world.rows) l) (sym e) (λ k d w. absurd (omega (arith, w)));
-    }
+      let e : needs_of world.rows row ≡ [] = ap (λ (o : Option Row). option_map_or (λ (r : Row). r.needs) o []) none in
+      record {
+        few = subst (λ (l : List ℕ). length l ≤ 16) (sym e) (omega arith);
+        within = subst (λ (l : List ℕ). AreRows (length world.rows) l) (sym e) (λ k d w. absurd (omega (arith, w)));
+      }
 ]
 
 module _ (test : Template → Bool) where
@@ -93,19 +93,19 @@ module _ (test : Template → Bool) where
   template_within n zero (row ∷ rows) x found =
       elim (is_template row) as (λ (b : Bool). slice_get (filter test (after_row n row rows b)) zero ≡ Some x → x.row < n + suc (length rows)) [
         | true ↦ λ found.
-          elim (test (record { row = n })) as (λ (b : Bool). slice_get (after_test n rows b) zero ≡ Some x → x.row < n + suc (length rows)) [
-            | true ↦ λ found. let e : n ≡ x.row = cc found in omega (arith, e)
-            | false ↦ λ found. let later = template_within (suc n) zero rows x found in omega (arith, later)
-          ] found
+            elim (test (record { row = n })) as (λ (b : Bool). slice_get (after_test n rows b) zero ≡ Some x → x.row < n + suc (length rows)) [
+              | true ↦ λ found. let e : n ≡ x.row = cc found in omega (arith, e)
+              | false ↦ λ found. let later = template_within (suc n) zero rows x found in omega (arith, later)
+            ] found
         | false ↦ λ found. let later = template_within (suc n) zero rows x found in omega (arith, later)
       ] found
   template_within n (suc i) (row ∷ rows) x found =
       elim (is_template row) as (λ (b : Bool). slice_get (filter test (after_row n row rows b)) (suc i) ≡ Some x → x.row < n + suc (length rows)) [
         | true ↦ λ found.
-          elim (test (record { row = n })) as (λ (b : Bool). slice_get (after_test n rows b) (suc i) ≡ Some x → x.row < n + suc (length rows)) [
-            | true ↦ λ found. let later = template_within (suc n) i rows x found in omega (arith, later)
-            | false ↦ λ found. let later = template_within (suc n) (suc i) rows x found in omega (arith, later)
-          ] found
+            elim (test (record { row = n })) as (λ (b : Bool). slice_get (after_test n rows b) (suc i) ≡ Some x → x.row < n + suc (length rows)) [
+              | true ↦ λ found. let later = template_within (suc n) i rows x found in omega (arith, later)
+              | false ↦ λ found. let later = template_within (suc n) (suc i) rows x found in omega (arith, later)
+            ] found
         | false ↦ λ found. let later = template_within (suc n) (suc i) rows x found in omega (arith, later)
       ] found
 
@@ -145,8 +145,11 @@ first_stands world valid goal t keys room rules templates none adds counted =
       shape = record {
         below = leaves keys (map Condition world.goals);
         is = refl;
-        fit = (leaves_some keys (map Condition world.goals) (omega (arith, counted, many, some)) (omega (arith, many, some)),
-          conditions_fit (length world.rows) keys world.goals (rows_within world.rows world.goals valid.wanted), tt);
+        fit = (
+          leaves_some keys (map Condition world.goals) (omega (arith, counted, many, some)) (omega (arith, many, some)),
+          conditions_fit (length world.rows) keys world.goals (rows_within world.rows world.goals valid.wanted),
+          tt,
+        );
         few = let no_more = size-conditions keys world.goals in omega (arith, most, many, few, no_more);
         low = let no_more = size-conditions keys world.goals in omega (arith, low, no_more);
       };
@@ -183,7 +186,7 @@ module _ (world : World) (t : PlanTree) (tree : Forest) (st : StandsFor t world 
   row_within : row < length world.rows
   row_within =
       let within = template_within (λ (x : Template). row_achieves world.rows is.0 x.row && not (list_any (λ (own : ℕ). own == x.row) (tried key tree))) 0 0 world.rows (record { row = row })
-          (ap (λ (l : List Template). slice_get l 0) (sym (untried_is world t tree st key is.0 is.1 at)) ∙ chosen.first) in
+      (ap (λ (l : List Template). slice_get l 0) (sym (untried_is world t tree st key is.0 is.1 at)) ∙ chosen.first) in
       omega (arith, within)
 
   module _ (keys : List ℕ) (counted : length keys ≡ length real_parts) where
@@ -210,11 +213,11 @@ module _ (world : World) (t : PlanTree) (tree : Forest) (st : StandsFor t world 
   by_kind : (b : Bool) → is_fallback at.a.part ≡ b → GrowsBehind b t.nodes new at.a.key key added (Sequence row) real_parts → Expands (record t { nodes = new }) world tree key added
   by_kind true kind g =
       let grew = regrown_last world t tree st key (Condition is.0) at 0 added (Sequence row) real_parts new kind g (omega (arith, branch_few g.keys g.counted)) (branch_one g.keys g.counted) (branch_low g.keys g.counted)
-          (branch_fits g.keys g.counted) in
+      (branch_fits g.keys g.counted) in
       let change : Part → Forest → Forest = λ x. grown x key 0 (branch g.keys g.counted) in
       let keys : NewKeys = record { fallback = 0; sequence = added; leaves = g.keys } in
       let is_changed : expanded world.rows keys key row tree ≡ changed_below at.a.key change tree =
-          ap (λ (up : List Ancestor). expanded_below up key 0 (new_sequence world.rows keys row) tree) at.above_is in
+      ap (λ (up : List Ancestor). expanded_below up key 0 (new_sequence world.rows keys row) tree) at.above_is in
       record {
         template = record { row = row };
         first = chosen.first;
@@ -226,12 +229,12 @@ module _ (world : World) (t : PlanTree) (tree : Forest) (st : StandsFor t world 
       }
   by_kind false kind g =
       let grew = regrown_wraps world t tree st key (Condition is.0) at added (Sequence row) real_parts new kind g (branch_few g.keys g.counted) (branch_one g.keys g.counted) (branch_low g.keys g.counted)
-          (branch_fits g.keys g.counted) in
+      (branch_fits g.keys g.counted) in
       let change : Part → Forest → Forest = λ x. grown x key g.fallback (branch g.keys g.counted) in
       let more : Forest = Tree g.fallback Fallback (branch g.keys g.counted) Empty in
       let keys : NewKeys = record { fallback = g.fallback; sequence = added; leaves = g.keys } in
       let is_changed : expanded world.rows keys key row tree ≡ changed_below at.a.key change tree =
-          ap (λ (up : List Ancestor). expanded_below up key g.fallback (new_sequence world.rows keys row) tree) at.above_is in
+      ap (λ (up : List Ancestor). expanded_below up key g.fallback (new_sequence world.rows keys row) tree) at.above_is in
       record {
         template = record { row = row };
         first = chosen.first;

@@ -39,16 +39,16 @@ node_found k Empty has = absurd (omega (arith, has))
 node_found k (Tree key part below rest) has = elim (tested key k) [
   | inl hit ↦ ((part, below), chosen (nat_eq key k) (Some (part, below)) (option_or (node_at k below) (node_at k rest)) hit)
   | inr miss ↦
-    let here = skipped (nat_eq key k) (Some (part, below)) (option_or (node_at k below) (node_at k rest)) miss in
-    let none : one_of key k ≡ 0 = ap (λ (b : Bool). if b then 1 else 0) miss in
-    elim (zero_or (times k below)) [
-      | inl lacks ↦
-        let later = node_found k rest (omega (arith, has, none, lacks)) in
-        (later.0, here ∙ ap (λ (o : Option (Part × Forest)). option_or o (node_at k rest)) (none_at k below lacks) ∙ later.1)
-      | inr lower ↦
-        let found = node_found k below lower in
-        (found.0, here ∙ ap (λ (o : Option (Part × Forest)). option_or o (node_at k rest)) found.1)
-    ]
+      let here = skipped (nat_eq key k) (Some (part, below)) (option_or (node_at k below) (node_at k rest)) miss in
+      let none : one_of key k ≡ 0 = ap (λ (b : Bool). if b then 1 else 0) miss in
+      elim (zero_or (times k below)) [
+        | inl lacks ↦
+            let later = node_found k rest (omega (arith, has, none, lacks)) in
+            (later.0, here ∙ ap (λ (o : Option (Part × Forest)). option_or o (node_at k rest)) (none_at k below lacks) ∙ later.1)
+        | inr lower ↦
+            let found = node_found k below lower in
+            (found.0, here ∙ ap (λ (o : Option (Part × Forest)). option_or o (node_at k rest)) found.1)
+      ]
 ]
 
 pub part_node : (k : ℕ) (f : Forest) (x : Part) → part_at k f ≡ Some x → (under : Forest) × (node_at k f ≡ Some (x, under))
@@ -88,6 +88,8 @@ pub record Stood (s : Slab Node) (tree : Forest) (key : ℕ) (part : Part) : Typ
   pub a : Ancestor
   pub outer : List Ancestor
   pub above_is : ancestors key tree ≡ a ∷ outer
+  pub rest : Forest
+  pub place : place_of a.key tree ≡ Some (record { before = rest; above = outer })
   pub below : Forest
   pub found : node_at a.key tree ≡ Some (a.part, below)
   pub others : List ℕ
@@ -112,34 +114,36 @@ stood world t tree st key part not_root is =
     let kept = kept_at t.nodes key part node.0 None (t.root ∷ []) tree st.nodes node.1 in
     elim place.0.above as (λ up. place.0.above ≡ up → Climbs t.nodes None (t.root ∷ []) tree key place.0.before up → Stood t.nodes tree key part) [
       | [] ↦ λ e climb.
-        let at : t.root ≡ key = only_top t.root key (tops place.0.before) climb.others climb.keys_are in
-        let root_is : node_at t.root tree ≡ Some (Goals, st.shape.below) =
-            ap (λ (f : Forest). node_at t.root f) st.shape.is
-            ∙ chosen (nat_eq t.root t.root) (Some (Goals, st.shape.below)) (option_or (node_at t.root st.shape.below) None) (test_same t.root t.root refl) in
-        let both : Some (Goals, st.shape.below) ≡ Some (part, node.0) = sym root_is ∙ ap (λ (k : ℕ). node_at k tree) at ∙ node.1 in
-        let pair : (Goals, st.shape.below) ≡ (part, node.0) = cc both in
-        absurd (not_root (sym (ap (λ (n : Part × Forest). n.0) pair)))
+          let at : t.root ≡ key = only_top t.root key (tops place.0.before) climb.others climb.keys_are in
+          let root_is : node_at t.root tree ≡ Some (Goals, st.shape.below) =
+          ap (λ (f : Forest). node_at t.root f) st.shape.is
+          ∙ chosen (nat_eq t.root t.root) (Some (Goals, st.shape.below)) (option_or (node_at t.root st.shape.below) None) (test_same t.root t.root refl) in
+          let both : Some (Goals, st.shape.below) ≡ Some (part, node.0) = sym root_is ∙ ap (λ (k : ℕ). node_at k tree) at ∙ node.1 in
+          let pair : (Goals, st.shape.below) ≡ (part, node.0) = cc both in
+          absurd (not_root (sym (ap (λ (n : Part × Forest). n.0) pair)))
       | a ∷ outer ↦ λ e climb.
-        let has = place_counts a.key tree (record { before = place.0.before; above = outer }) climb.place in
-        let found = node_found a.key tree has in
-        let kept_a = kept_at t.nodes a.key found.0.0 found.0.1 None (t.root ∷ []) tree st.nodes found.1 in
-        let same = same_node t.nodes kept_a.0 climb.above a.key found.0.0 a.part kept_a.1 climb.keys kept_a.2 climb.keeps in
-        let own = same_node t.nodes kept.0 (Some a.key) key part climb.top.part kept.1 climb.top.children kept.2 climb.top.keeps in
-        record {
-          a = a;
-          outer = outer;
-          above_is = ap (λ (o : Option Place). option_map_or (λ (p : Place). p.above) o []) place.1 ∙ e;
+          let has = place_counts a.key tree (record { before = place.0.before; above = outer }) climb.place in
+          let found = node_found a.key tree has in
+          let kept_a = kept_at t.nodes a.key found.0.0 found.0.1 None (t.root ∷ []) tree st.nodes found.1 in
+          let same = same_node t.nodes kept_a.0 climb.above a.key found.0.0 a.part kept_a.1 climb.keys kept_a.2 climb.keeps in
+          let own = same_node t.nodes kept.0 (Some a.key) key part climb.top.part kept.1 climb.top.children kept.2 climb.top.keeps in
+          record {
+            a = a;
+            outer = outer;
+            above_is = ap (λ (o : Option Place). option_map_or (λ (p : Place). p.above) o []) place.1 ∙ e;
+            rest = place.0.before;
+          place = climb.place;
           below = found.0.1;
-          found = found.1 ∙ ap (λ (x : Part). Some (x, found.0.1)) same.1;
-          others = climb.top.others;
-          tops_of = sym (tops_are t.nodes (Some a.key) kept_a.1 found.0.1 kept_a.3) ∙ same.2 ∙ climb.top.keys_are;
-          above = climb.above;
-          children = climb.keys;
-          keeps_a = climb.keeps;
-          children_of = climb.top.keys_are;
-          kids = kept.1;
-          keeps = subst (λ (o : Option ℕ). Keeps t.nodes o key part kept.1) own.0 kept.2;
-        }
+            found = found.1 ∙ ap (λ (x : Part). Some (x, found.0.1)) same.1;
+            others = climb.top.others;
+            tops_of = sym (tops_are t.nodes (Some a.key) kept_a.1 found.0.1 kept_a.3) ∙ same.2 ∙ climb.top.keys_are;
+            above = climb.above;
+            children = climb.keys;
+            keeps_a = climb.keeps;
+            children_of = climb.top.keys_are;
+            kids = kept.1;
+            keeps = subst (λ (o : Option ℕ). Keeps t.nodes o key part kept.1) own.0 kept.2;
+          }
     ] refl (climbs t.nodes key None (t.root ∷ []) tree place.0 st.apart.once st.nodes place.1)
 
 -- ---- Templates that were tried

@@ -22,16 +22,18 @@ pub replaced_from : (old new : ℕ) (i : ℕ) (xs : List ℕ) (j : ℕ) → posi
 replaced_from old new i [] j is = absurd (cc is)
 replaced_from old new i (x ∷ xs) j is = elim (tested x old) [
   | inl hit ↦
-    let e : Some i ≡ Some j = sym (ap (λ (b : Bool). cond b (Some i) (position_from (λ (k : ℕ). k == old) (i + 1) xs)) hit) ∙ is in
-    let at : i ≡ j = cc e in
-    let first : j - i ≡ 0 = omega (arith, at) in
-    (omega (arith, at), ap (λ (n : ℕ). set (x ∷ xs) n new) first ∙ sym (chosen (nat_eq x old) (new ∷ xs) (x ∷ replaced old new xs) hit))
+      let e : Some i ≡ Some j = sym (ap (λ (b : Bool). cond b (Some i) (position_from (λ (k : ℕ). k == old) (i + 1) xs)) hit) ∙ is in
+      let at : i ≡ j = cc e in
+      let first : j - i ≡ 0 = omega (arith, at) in
+      (omega (arith, at), ap (λ (n : ℕ). set (x ∷ xs) n new) first ∙ sym (chosen (nat_eq x old) (new ∷ xs) (x ∷ replaced old new xs) hit))
   | inr miss ↦
-    let e : position_from (λ (k : ℕ). k == old) (i + 1) xs ≡ Some j = sym (ap (λ (b : Bool). cond b (Some i) (position_from (λ (k : ℕ). k == old) (i + 1) xs)) miss) ∙ is in
-    let later = replaced_from old new (i + 1) xs j e in
-    let next : j - i ≡ suc (j - (i + 1)) = omega (arith, later.0) in
-    (omega (arith, later.0), ap (λ (n : ℕ). set (x ∷ xs) n new) next ∙ ap (λ (l : List ℕ). x ∷ l) later.1
-      ∙ sym (skipped (nat_eq x old) (new ∷ xs) (x ∷ replaced old new xs) miss))
+      let e : position_from (λ (k : ℕ). k == old) (i + 1) xs ≡ Some j = sym (ap (λ (b : Bool). cond b (Some i) (position_from (λ (k : ℕ). k == old) (i + 1) xs)) miss) ∙ is in
+      let later = replaced_from old new (i + 1) xs j e in
+      let next : j - i ≡ suc (j - (i + 1)) = omega (arith, later.0) in (
+        omega (arith, later.0),
+        ap (λ (n : ℕ). set (x ∷ xs) n new) next ∙ ap (λ (l : List ℕ). x ∷ l) later.1
+            ∙ sym (skipped (nat_eq x old) (new ∷ xs) (x ∷ replaced old new xs) miss),
+      )
 ]
 
 pub not_replaced_from : (old new : ℕ) (i : ℕ) (xs : List ℕ) → position_from (λ (k : ℕ). k == old) i xs ≡ None → xs ≡ replaced old new xs
@@ -39,8 +41,8 @@ not_replaced_from old new i [] is = refl
 not_replaced_from old new i (x ∷ xs) is = elim (tested x old) [
   | inl hit ↦ absurd (cc (sym (ap (λ (b : Bool). cond b (Some i) (position_from (λ (k : ℕ). k == old) (i + 1) xs)) hit) ∙ is))
   | inr miss ↦
-    let e = sym (ap (λ (b : Bool). cond b (Some i) (position_from (λ (k : ℕ). k == old) (i + 1) xs)) miss) ∙ is in
-    ap (λ (l : List ℕ). x ∷ l) (not_replaced_from old new (i + 1) xs e) ∙ sym (skipped (nat_eq x old) (new ∷ xs) (x ∷ replaced old new xs) miss)
+      let e = sym (ap (λ (b : Bool). cond b (Some i) (position_from (λ (k : ℕ). k == old) (i + 1) xs)) miss) ∙ is in
+      ap (λ (l : List ℕ). x ∷ l) (not_replaced_from old new (i + 1) xs e) ∙ sym (skipped (nat_eq x old) (new ∷ xs) (x ∷ replaced old new xs) miss)
 ]
 
 pub leaves-append : (keys : List ℕ) (parts : List Part) (k : ℕ) (x : Part) → length keys ≡ length parts →
@@ -69,7 +71,7 @@ one_if_some slot = cond (is_some slot) 1 0
 count-set : (slots : List (Option Node)) (key : ℕ) (before after : Node) → get_or slots key None ≡ Some before → count_by is_some (set slots key (Some after)) ≡ count_by is_some slots
 count-set slots key before after is =
     let both : sum_by one_if_some (set slots key (Some after)) + one_if_some (get_or slots key None) ≡ sum_by one_if_some slots + 1 =
-        sum_by-set one_if_some slots key (Some after) None (within_slots slots key before is) in
+    sum_by-set one_if_some slots key (Some after) None (within_slots slots key before is) in
     let one : one_if_some (get_or slots key None) ≡ 1 = ap one_if_some is in
     let e : sum_by one_if_some (set slots key (Some after)) ≡ sum_by one_if_some slots = omega (arith, both, one) in
     e
@@ -115,23 +117,23 @@ adds_leaf old middle new parent keys f key part adds leaf =
           (stands_by middle new parent keys f (λ (k : ℕ) (n : Node) has found. kept_by_new middle new key (blank part parent) leaf k n found) adds.stands)
           ([], [], refl, leaf_keeps, refl, refl);
       fresh = λ k node there.
-        let here : one_of key k ≡ 0 = one_other key k (λ e. not_new middle new key k (blank part parent) node leaf (adds.kept k node there) (sym e)) in
-        let none = adds.fresh k node there in
-        total-joined (λ n x. one_of n k) f (Tree key part Empty Empty) ∙ omega (arith, none, here);
+          let here : one_of key k ≡ 0 = one_other key k (λ e. not_new middle new key k (blank part parent) node leaf (adds.kept k node there) (sym e)) in
+          let none = adds.fresh k node there in
+          total-joined (λ n x. one_of n k) f (Tree key part Empty Empty) ∙ omega (arith, none, here);
       apart = λ k.
-        let none = vacant_lacks middle key leaf.vacant parent keys f adds.stands in
-        let once = adds.apart k in
-        let both = total-joined (λ n x. one_of n k) f (Tree key part Empty Empty) in
-        elim (tested key k) [
-          | inl hit ↦
-            let at : key ≡ k = grind (arith, nat_tests, hit) in
-            let none' : times k f ≡ 0 = subst (λ (n : ℕ). times n f ≡ 0) at none in
-            let here : one_of key k ≡ 1 = one_same key k at in
-            omega (arith, both, none', here)
-          | inr miss ↦
-            let here : one_of key k ≡ 0 = ap (λ (b : Bool). if b then 1 else 0) miss in
-            omega (arith, both, once, here)
-        ];
+          let none = vacant_lacks middle key leaf.vacant parent keys f adds.stands in
+          let once = adds.apart k in
+          let both = total-joined (λ n x. one_of n k) f (Tree key part Empty Empty) in
+          elim (tested key k) [
+            | inl hit ↦
+                let at : key ≡ k = grind (arith, nat_tests, hit) in
+                let none' : times k f ≡ 0 = subst (λ (n : ℕ). times n f ≡ 0) at none in
+                let here : one_of key k ≡ 1 = one_same key k at in
+                omega (arith, both, none', here)
+            | inr miss ↦
+                let here : one_of key k ≡ 0 = ap (λ (b : Bool). if b then 1 else 0) miss in
+                omega (arith, both, once, here)
+          ];
       len = let both = total-joined (λ n x. 1) f (Tree key part Empty Empty) in let before = adds.len in let one = leaf.len in omega (arith, both, before, one);
     }
 
@@ -147,25 +149,30 @@ adds_branch old first second new parent key part keys f node adds fills =
     let kept : (k : ℕ) (n : Node) → k ≢ key → get second k ≡ Some n → get new k ≡ Some n = λ k n differs found. other k differs ∙ found in
     record {
       kept = λ k n found. kept k n (not_new old first key k (blank part parent) n node found) (adds.kept k n (kept_by_new old first key (blank part parent) node k n found));
-      stands = (keys, [], refl, edited_keeps second new key parent keys (blank part parent) there e,
+      stands = (
+        keys,
+        [],
+        refl,
+        edited_keeps second new key parent keys (blank part parent) there e,
         stands_by second new (Some key) keys f (λ (k : ℕ) (n : Node) has found. kept k n (λ at. absurd (omega (arith, has, subst (λ (m : ℕ). times m f ≡ 0) (sym at) lacks))) found) adds.stands,
-        refl);
+        refl,
+      );
       fresh = λ k n found.
-        let here : one_of key k ≡ 0 = one_other key k (λ at. not_new old first key k (blank part parent) n node found (sym at)) in
-        let none = adds.fresh k n (kept_by_new old first key (blank part parent) node k n found) in
-        omega (arith, here, none);
+          let here : one_of key k ≡ 0 = one_other key k (λ at. not_new old first key k (blank part parent) n node found (sym at)) in
+          let none = adds.fresh k n (kept_by_new old first key (blank part parent) node k n found) in
+          omega (arith, here, none);
       apart = λ k.
-        let once = adds.apart k in
-        elim (tested key k) [
-          | inl hit ↦
-            let at : key ≡ k = grind (arith, nat_tests, hit) in
-            let none : times k f ≡ 0 = subst (λ (n : ℕ). times n f ≡ 0) at lacks in
-            let here : one_of key k ≡ 1 = one_same key k at in
-            omega (arith, none, here)
-          | inr miss ↦
-            let here : one_of key k ≡ 0 = ap (λ (b : Bool). if b then 1 else 0) miss in
-            omega (arith, once, here)
-        ];
+          let once = adds.apart k in
+          elim (tested key k) [
+            | inl hit ↦
+                let at : key ≡ k = grind (arith, nat_tests, hit) in
+                let none : times k f ≡ 0 = subst (λ (n : ℕ). times n f ≡ 0) at lacks in
+                let here : one_of key k ≡ 1 = one_same key k at in
+                omega (arith, none, here)
+            | inr miss ↦
+                let here : one_of key k ≡ 0 = ap (λ (b : Bool). if b then 1 else 0) miss in
+                omega (arith, once, here)
+          ];
       len = let last = edited_len second new key parent keys (blank part parent) there e in let more = adds.len in let one = node.len in omega (arith, last, more, one);
     }
 
@@ -181,7 +188,7 @@ pub adds_next : (old middle new : Slab Node) (parent : Option ℕ) (keys keys' :
     length keys ≡ length parts → Adds old middle parent keys (leaves keys parts) → AddsNode middle new key (blank part parent) → Adds old new parent keys' (leaves keys' parts')
 adds_next old middle new parent keys keys' parts parts' key part keys_are parts_are even adds leaf =
     let e : leaves keys' parts' ≡ joined (leaves keys parts) (Tree key part Empty Empty) =
-        ap (λ (ks : List ℕ). leaves ks parts') keys_are ∙ ap (λ (ps : List Part). leaves (keys ++ key ∷ []) ps) parts_are ∙ leaves-append keys parts key part even in
+    ap (λ (ks : List ℕ). leaves ks parts') keys_are ∙ ap (λ (ps : List Part). leaves (keys ++ key ∷ []) ps) parts_are ∙ leaves-append keys parts key part even in
     subst (λ (ks : List ℕ). Adds old new parent ks (leaves keys' parts')) (sym keys_are)
     (subst (λ (f : Forest). Adds old new parent (keys ++ key ∷ []) f) (sym e) (adds_leaf old middle new parent keys (leaves keys parts) key part adds leaf))
 

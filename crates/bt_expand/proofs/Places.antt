@@ -122,28 +122,28 @@ module _ (s : Slab Node) where
   climbs k parent keys Empty place apart is found = absurd (cc found)
   climbs k parent keys (Tree key part below rest) place apart (children, others, is, keeps, stands, later) found = elim (tested key k) [
     | inl hit ↦
-      let at : key ≡ k = is_same key k hit in
-      let e : place ≡ here = cc (found, place_here k key part below rest hit) in
-      subst (λ (q : Place). Climbs parent keys (Tree key part below rest) k q.before q.above) (sym e)
-      (record { part = part; children = children; others = others; keys_are = is ∙ ap (λ (n : ℕ). n ∷ others) at; keeps = subst (λ (n : ℕ). Keeps s parent n part children) at keeps; left = refl })
+        let at : key ≡ k = is_same key k hit in
+        let e : place ≡ here = cc (found, place_here k key part below rest hit) in
+        subst (λ (q : Place). Climbs parent keys (Tree key part below rest) k q.before q.above) (sym e)
+        (record { part = part; children = children; others = others; keys_are = is ∙ ap (λ (n : ℕ). n ∷ others) at; keeps = subst (λ (n : ℕ). Keeps s parent n part children) at keeps; left = refl })
     | inr miss ↦
-      elim (place_of k below) as (λ (o : Option Place). place_of k below ≡ o → option_or (option_map (below_first key part) o) (option_map (after_first key part below) (place_of k rest)) ≡ Some place →
-          Climbs parent keys (Tree key part below rest) k place.before place.above) [
-        | Some q ↦ λ lower e.
-          let is_place : place ≡ below_first key part q = cc e in
-          subst (λ (r : Place). Climbs parent keys (Tree key part below rest) k r.before r.above) (sym is_place)
-          (climbs_below parent keys key part below rest children (only_here key key part below rest (apart key) refl).0 keeps k q.before q.above
-            (climbs k (Some key) children below q (λ (n : ℕ). let once = apart n in omega (arith, once)) stands lower))
-        | None ↦ λ lower e.
-          elim (place_of k rest) as (λ (o : Option Place). place_of k rest ≡ o → option_map (after_first key part below) o ≡ Some place → Climbs parent keys (Tree key part below rest) k place.before place.above) [
-            | Some q ↦ λ right e.
-              let is_place : place ≡ after_first key part below q = cc e in
+        elim (place_of k below) as (λ (o : Option Place). place_of k below ≡ o → option_or (option_map (below_first key part) o) (option_map (after_first key part below) (place_of k rest)) ≡ Some place →
+        Climbs parent keys (Tree key part below rest) k place.before place.above) [
+          | Some q ↦ λ lower e.
+              let is_place : place ≡ below_first key part q = cc e in
               subst (λ (r : Place). Climbs parent keys (Tree key part below rest) k r.before r.above) (sym is_place)
-              (climbs_after parent key part below rest children keys others is keeps stands apart k q.before q.above
-                (climbs k parent others rest q (λ (n : ℕ). let once = apart n in omega (arith, once)) later right))
-            | None ↦ λ right e. absurd (cc e)
-          ] refl e
-      ] refl (sym (place_other k key part below rest miss) ∙ found)
+              (climbs_below parent keys key part below rest children (only_here key key part below rest (apart key) refl).0 keeps k q.before q.above
+              (climbs k (Some key) children below q (λ (n : ℕ). let once = apart n in omega (arith, once)) stands lower))
+          | None ↦ λ lower e.
+              elim (place_of k rest) as (λ (o : Option Place). place_of k rest ≡ o → option_map (after_first key part below) o ≡ Some place → Climbs parent keys (Tree key part below rest) k place.before place.above) [
+                | Some q ↦ λ right e.
+                    let is_place : place ≡ after_first key part below q = cc e in
+                    subst (λ (r : Place). Climbs parent keys (Tree key part below rest) k r.before r.above) (sym is_place)
+                    (climbs_after parent key part below rest children keys others is keeps stands apart k q.before q.above
+                    (climbs k parent others rest q (λ (n : ℕ). let once = apart n in omega (arith, once)) later right))
+                | None ↦ λ right e. absurd (cc e)
+              ] refl e
+        ] refl (sym (place_other k key part below rest miss) ∙ found)
   ]
 
 -- a node that is found has a place
@@ -152,19 +152,27 @@ placed k Empty node found = absurd (cc found)
 placed k (Tree key part below rest) node found = elim (tested key k) [
   | inl hit ↦ (here, place_here k key part below rest hit)
   | inr miss ↦
-    elim (node_at k below) as (λ (o : Option (Part × Forest)). node_at k below ≡ o → option_or o (node_at k rest) ≡ Some node → (place : Place) × (place_of k (Tree key part below rest) ≡ Some place)) [
-      | Some n ↦ λ lower e.
-        let q = placed k below n lower in
-        (below_first key part q.0, place_other k key part below rest miss
-          ∙ ap (λ (o : Option Place). option_or (option_map (below_first key part) o) (option_map (after_first key part below) (place_of k rest))) q.1)
-      | None ↦ λ lower e.
-        let q = placed k rest node e in
-        elim (place_of k below) as (λ (o : Option Place). place_of k below ≡ o → (place : Place) × (place_of k (Tree key part below rest) ≡ Some place)) [
-          | Some r ↦ λ is. (below_first key part r, place_other k key part below rest miss
-              ∙ ap (λ (o : Option Place). option_or (option_map (below_first key part) o) (option_map (after_first key part below) (place_of k rest))) is)
-          | None ↦ λ is. (after_first key part below q.0, place_other k key part below rest miss
-              ∙ ap (λ (o : Option Place). option_or (option_map (below_first key part) o) (option_map (after_first key part below) (place_of k rest))) is
-              ∙ ap (λ (o : Option Place). option_map (after_first key part below) o) q.1)
-        ] refl
-    ] refl (sym (skipped (nat_eq key k) (Some (part, below)) (option_or (node_at k below) (node_at k rest)) miss) ∙ found)
+      elim (node_at k below) as (λ (o : Option (Part × Forest)). node_at k below ≡ o → option_or o (node_at k rest) ≡ Some node → (place : Place) × (place_of k (Tree key part below rest) ≡ Some place)) [
+        | Some n ↦ λ lower e.
+            let q = placed k below n lower in (
+              below_first key part q.0,
+              place_other k key part below rest miss
+                  ∙ ap (λ (o : Option Place). option_or (option_map (below_first key part) o) (option_map (after_first key part below) (place_of k rest))) q.1,
+            )
+        | None ↦ λ lower e.
+            let q = placed k rest node e in
+            elim (place_of k below) as (λ (o : Option Place). place_of k below ≡ o → (place : Place) × (place_of k (Tree key part below rest) ≡ Some place)) [
+              | Some r ↦ λ is. (
+                below_first key part r,
+                place_other k key part below rest miss
+                    ∙ ap (λ (o : Option Place). option_or (option_map (below_first key part) o) (option_map (after_first key part below) (place_of k rest))) is,
+              )
+              | None ↦ λ is. (
+                after_first key part below q.0,
+                place_other k key part below rest miss
+                    ∙ ap (λ (o : Option Place). option_or (option_map (below_first key part) o) (option_map (after_first key part below) (place_of k rest))) is
+                    ∙ ap (λ (o : Option Place). option_map (after_first key part below) o) q.1,
+              )
+            ] refl
+      ] refl (sym (skipped (nat_eq key k) (Some (part, below)) (option_or (node_at k below) (node_at k rest)) miss) ∙ found)
 ]

@@ -30,16 +30,16 @@ pub under_lacks : (k : ℕ) (x : Part) (under f : Forest) → node_at k f ≡ So
 under_lacks k x under Empty found once = absurd (cc found)
 under_lacks k x under (Tree key part below rest) found once = elim (tested key k) [
   | inl hit ↦
-    let both : Some (part, below) ≡ Some (x, under) = sym (chosen (nat_eq key k) (Some (part, below)) (option_or (node_at k below) (node_at k rest)) hit) ∙ found in
-    let pair : (part, below) ≡ (x, under) = cc both in
-    let one : one_of key k ≡ 1 = one_same key k (is_same key k hit) in
-    let none : times k below ≡ 0 = omega (arith, once, one) in
-    subst (λ (f : Forest). times k f ≡ 0) (ap (λ (n : Part × Forest). n.1) pair) none
+      let both : Some (part, below) ≡ Some (x, under) = sym (chosen (nat_eq key k) (Some (part, below)) (option_or (node_at k below) (node_at k rest)) hit) ∙ found in
+      let pair : (part, below) ≡ (x, under) = cc both in
+      let one : one_of key k ≡ 1 = one_same key k (is_same key k hit) in
+      let none : times k below ≡ 0 = omega (arith, once, one) in
+      subst (λ (f : Forest). times k f ≡ 0) (ap (λ (n : Part × Forest). n.1) pair) none
   | inr miss ↦
-    elim (node_at k below) as (λ (o : Option (Part × Forest)). node_at k below ≡ o → option_or o (node_at k rest) ≡ Some (x, under) → times k under ≡ 0) [
-      | Some n ↦ λ lower e. under_lacks k x under below (lower ∙ e) (omega (arith, once))
-      | None ↦ λ lower e. under_lacks k x under rest e (omega (arith, once))
-    ] refl (sym (skipped (nat_eq key k) (Some (part, below)) (option_or (node_at k below) (node_at k rest)) miss) ∙ found)
+      elim (node_at k below) as (λ (o : Option (Part × Forest)). node_at k below ≡ o → option_or o (node_at k rest) ≡ Some (x, under) → times k under ≡ 0) [
+        | Some n ↦ λ lower e. under_lacks k x under below (lower ∙ e) (omega (arith, once))
+        | None ↦ λ lower e. under_lacks k x under rest e (omega (arith, once))
+      ] refl (sym (skipped (nat_eq key k) (Some (part, below)) (option_or (node_at k below) (node_at k rest)) miss) ∙ found)
 ]
 
 -- a key of the forest has a node
@@ -74,9 +74,9 @@ wrapped_fits : (rows k fallback : ℕ) (new f : Forest) → PartsFit rows f → 
 wrapped_fits rows k fallback new Empty fits more = tt
 wrapped_fits rows k fallback new (Tree key part below rest) (own, lower, later) more = elim (tested key k) [
   | inl hit ↦ subst (λ (g : Forest). PartsFit rows g) (sym (chosen (nat_eq key k) (Tree fallback Fallback (Tree key part below new) rest) (Tree key part below (wrapped k fallback new rest)) hit))
-    (λ e. absurd (cc e), (own, lower, more), later)
+      (λ e. absurd (cc e), (own, lower, more), later)
   | inr miss ↦ subst (λ (g : Forest). PartsFit rows g) (sym (skipped (nat_eq key k) (Tree fallback Fallback (Tree key part below new) rest) (Tree key part below (wrapped k fallback new rest)) miss))
-    (own, lower, wrapped_fits rows k fallback new rest later more)
+      (own, lower, wrapped_fits rows k fallback new rest later more)
 ]
 
 grown_fits : (rows k fallback : ℕ) (new f : Forest) (part : Part) → PartsFit rows f → PartsFit rows new → PartsFit rows (grown part k fallback new f)
@@ -125,7 +125,7 @@ module _ (p : ℕ) (change : Part → Forest → Forest) where
   changed_fits rows all own (Tree key part below rest) (here, lower, later) = elim (tested key p) [
     | inl hit ↦ subst (λ (g : Forest). PartsFit rows g) (sym (changed_here p change key part below rest hit)) (own part below here, all part below lower, later)
     | inr miss ↦ subst (λ (g : Forest). PartsFit rows g) (sym (changed_other p change key part below rest miss))
-      (changed_own rows part below here, changed_fits rows all own below lower, changed_fits rows all own rest later)
+        (changed_own rows part below here, changed_fits rows all own below lower, changed_fits rows all own rest later)
   ]
 
 -- ---- The whole tree
@@ -160,34 +160,36 @@ module _ (world : World) (t : PlanTree) (tree : Forest) (st : StandsFor t world 
     rules = st.rules;
     templates = st.templates;
     nodes = g.stands;
-    apart = record { once = λ key.
-      let all = g.totals (λ k x. one_of k key) in
-      let once = st.apart.once key in
-      let added_once = g.apart key in
-      elim (zero_or (times key tree)) [
-        | inl lacks ↦ omega (arith, all, lacks, added_once)
-        | inr has ↦
-          let node = has_node t.nodes None (t.root ∷ []) tree key st.nodes has in
-          let none = g.fresh key node.3.node node.3.there in
-          omega (arith, all, once, none)
-      ] };
+    apart = record {
+      once = λ key.
+          let all = g.totals (λ k x. one_of k key) in
+          let once = st.apart.once key in
+          let added_once = g.apart key in
+          elim (zero_or (times key tree)) [
+            | inl lacks ↦ omega (arith, all, lacks, added_once)
+            | inr has ↦
+                let node = has_node t.nodes None (t.root ∷ []) tree key st.nodes has in
+                let none = g.fresh key node.3.node node.3.there in
+                omega (arith, all, once, none)
+          ];
+    };
     whole = let all = g.totals (λ k x. 1) in let before = st.whole in let after = g.len in omega (arith, all, before, after);
     shape =
-      let root = root_kept p change t.root st.shape.below tree st.shape.is in
-      let all = g.totals (λ k x. 1) in
-      let more = g.totals (λ k x. added_by x) in
-      let few = st.shape.few in
-      let low = st.shape.low in
-      let one = g.one in
-      let most = g.few in
-      let higher = height-changed p change tree g.low in
-      record {
-        below = root.0;
-        is = root.1;
-        fit = changed_fits p change (length world.rows) g.fits g.own tree st.shape.fit;
-        few = omega (arith, all, more, few, one, most);
-        low = omega (arith, more, low, one, higher);
-      };
+        let root = root_kept p change t.root st.shape.below tree st.shape.is in
+        let all = g.totals (λ k x. 1) in
+        let more = g.totals (λ k x. added_by x) in
+        let few = st.shape.few in
+        let low = st.shape.low in
+        let one = g.one in
+        let most = g.few in
+        let higher = height-changed p change tree g.low in
+        record {
+          below = root.0;
+          is = root.1;
+          fit = changed_fits p change (length world.rows) g.fits g.own tree st.shape.fit;
+          few = omega (arith, all, more, few, one, most);
+          low = omega (arith, more, low, one, higher);
+        };
   }
 
   pub regrown_parts : (old : ℕ) (part : Part) → part_at old tree ≡ Some part → part_at old (changed_below p change tree) ≡ Some part
@@ -258,18 +260,24 @@ module _ (world : World) (t : PlanTree) (tree : Forest) (st : StandsFor t world 
     last_inner parent x children below lacks once keeps stands =
         let same = same_node g.middle parent at.above at.a.key x at.a.part children at.children keeps kept_a in
         let joins = grown_joins x key fallback last_added below (ap is_fallback same.1 ∙ is) in
-        let fresh = g.adds.fresh at.a.key at.keeps_a.node at.keeps_a.there in
-        (children ++ seq ∷ [],
-         edited_as g.middle new at.a.key (λ (o : Option ℕ). o) (λ (ks : List ℕ). ks ++ seq ∷ []) last_edit parent x children keeps,
-         subst (λ (f : Forest). Stands new (Some at.a.key) (children ++ seq ∷ []) f) (sym joins)
-         (stands_joined new (Some at.a.key) children (seq ∷ []) below last_added (last_same below lacks (Some at.a.key) children stands)
-           (last_same last_added fresh (Some at.a.key) (seq ∷ []) g.adds.stands)))
+        let fresh = g.adds.fresh at.a.key at.keeps_a.node at.keeps_a.there in (
+          children ++ seq ∷ [],
+          edited_as g.middle new at.a.key (λ (o : Option ℕ). o) (λ (ks : List ℕ). ks ++ seq ∷ []) last_edit parent x children keeps,
+          subst (λ (f : Forest). Stands new (Some at.a.key) (children ++ seq ∷ []) f) (sym joins)
+              (stands_joined new (Some at.a.key) children (seq ∷ []) below last_added (last_same below lacks (Some at.a.key) children stands)
+              (last_same last_added fresh (Some at.a.key) (seq ∷ []) g.adds.stands)),
+        )
 
     pub regrown_last : Regrown world t tree new at.a.key last_change last_added
     regrown_last = record {
       stands = stands_changed g.middle new at.a.key
           (λ (parent : Option ℕ) (k : ℕ) (x : Part) (children : List ℕ) differs apart (keeps : Keeps g.middle parent k x children). record {
-            node = keeps.node; there = last_other k differs ∙ keeps.there; part_is = keeps.part_is; parent_is = keeps.parent_is; children_are = keeps.children_are })
+            node = keeps.node;
+            there = last_other k differs ∙ keeps.there;
+            part_is = keeps.part_is;
+            parent_is = keeps.parent_is;
+            children_are = keeps.children_are;
+          })
           last_change last_inner None (t.root ∷ []) tree (λ e. absurd (cc e)) st.apart.once
           (stands_by t.nodes g.middle None (t.root ∷ []) tree (λ (k : ℕ) (node : Node) has there. g.adds.kept k node there) st.nodes);
       totals = λ weight. total-changed weight at.a.key (total weight last_added) last_change tree once_above (λ (x : Part) (f : Forest) found.
@@ -285,11 +293,11 @@ module _ (world : World) (t : PlanTree) (tree : Forest) (st : StandsFor t world 
       own = λ x f ok. grown_own (length world.rows) key fallback last_added f x ok;
       parts = λ k node there. elim (tested k at.a.key) [
         | inl hit ↦
-          let here : k ≡ at.a.key = is_same k at.a.key hit in
-          let mid : get g.middle at.a.key ≡ Some node = ap (λ (n : ℕ). get g.middle n) (sym here) ∙ g.adds.kept k node there in
-          let e = last_edit node mid in
-          let now = edited_keeps g.middle new at.a.key node.parent (node.children.items ++ seq ∷ []) node mid e in
-          (now.node, ap (λ (n : ℕ). get new n) here ∙ now.there, now.part_is)
+            let here : k ≡ at.a.key = is_same k at.a.key hit in
+            let mid : get g.middle at.a.key ≡ Some node = ap (λ (n : ℕ). get g.middle n) (sym here) ∙ g.adds.kept k node there in
+            let e = last_edit node mid in
+            let now = edited_keeps g.middle new at.a.key node.parent (node.children.items ++ seq ∷ []) node mid e in
+            (now.node, ap (λ (n : ℕ). get new n) here ∙ now.there, now.part_is)
         | inr miss ↦ (node, last_other k (is_other k at.a.key miss) ∙ g.adds.kept k node there, refl)
       ];
     }
@@ -301,47 +309,58 @@ module _ (old new : Slab Node) (p key fallback seq : ℕ) (added : Forest)
     (same : (k : ℕ) (node : Node) → k ≢ p → k ≢ key → get old k ≡ Some node → get new k ≡ Some node)
     (over : Keeps new (Some p) fallback Fallback (key ∷ seq ∷ [])) (after : Stands new (Some fallback) (seq ∷ []) added)
     (moved : (part : Part) (children : List ℕ) → Keeps old (Some p) key part children → Keeps new (Some fallback) key part children)
-    where
-  still : (f : Forest) → times p f ≡ 0 → times key f ≡ 0 → (parent : Option ℕ) (ks : List ℕ) → Stands old parent ks f → Stands new parent ks f
-  still f lacks other parent ks stands = stands_by old new parent ks f
-      (λ (k : ℕ) (node : Node) has there. same k node (λ e. absurd (omega (arith, has, subst (λ (n : ℕ). times n f ≡ 0) (sym e) lacks)))
+  where
+    still : (f : Forest) → times p f ≡ 0 → times key f ≡ 0 → (parent : Option ℕ) (ks : List ℕ) → Stands old parent ks f → Stands new parent ks f
+    still f lacks other parent ks stands = stands_by old new parent ks f
+        (λ (k : ℕ) (node : Node) has there. same k node (λ e. absurd (omega (arith, has, subst (λ (n : ℕ). times n f ≡ 0) (sym e) lacks)))
         (λ e. absurd (omega (arith, has, subst (λ (n : ℕ). times n f ≡ 0) (sym e) other))) there) stands
 
-  stands_wrapped : (children : List ℕ) (f : Forest) (before others : List ℕ) → tops f ≡ before ++ key ∷ others → times p f ≡ 0 → times key f ≤ 1 → Stands old (Some p) children f →
-      Stands new (Some p) (replaced key fallback children) (wrapped key fallback added f)
-  stands_wrapped children Empty [] others is lacks once stands = absurd (cc is)
-  stands_wrapped children Empty (b ∷ before) others is lacks once stands = absurd (cc is)
-  stands_wrapped children (Tree k part below rest) [] others is lacks once (kids, later_keys, keys_are, keeps, stands, later) =
-      let here : k ≡ key = cc is in
-      let hit = test_same k key here in
-      let one : one_of k key ≡ 1 = one_same k key here in
-      let keys_now : replaced key fallback children ≡ fallback ∷ later_keys =
-          ap (λ (l : List ℕ). replaced key fallback l) keys_are ∙ chosen (nat_eq k key) (fallback ∷ later_keys) (k ∷ replaced key fallback later_keys) hit in
-      subst (λ (l : List ℕ). Stands new (Some p) l (wrapped key fallback added (Tree k part below rest))) (sym keys_now)
-      (subst (λ (f : Forest). Stands new (Some p) (fallback ∷ later_keys) f)
-        (sym (chosen (nat_eq k key) (Tree fallback Fallback (Tree k part below added) rest) (Tree k part below (wrapped key fallback added rest)) hit))
-        (key ∷ seq ∷ [], later_keys, refl, over,
-         (kids, seq ∷ [], ap (λ (n : ℕ). n ∷ seq ∷ []) (sym here),
-          subst (λ (n : ℕ). Keeps new (Some fallback) n part kids) (sym here) (moved part kids (subst (λ (n : ℕ). Keeps old (Some p) n part kids) here keeps)),
-          still below (omega (arith, lacks)) (omega (arith, once, one)) (Some k) kids stands,
-          after),
-         still rest (omega (arith, lacks)) (omega (arith, once, one)) (Some p) later_keys later))
-  stands_wrapped children (Tree k part below rest) (b ∷ before) others is lacks once (kids, later_keys, keys_are, keeps, stands, later) =
-      let tops_rest : tops rest ≡ before ++ key ∷ others = cc is in
-      let has = in_tops key rest before others tops_rest in
-      let differs : k ≢ key = λ e. absurd (omega (arith, once, has, one_same k key e)) in
-      let miss = test_other k key differs in
-      let not_p : k ≢ p = λ e. absurd (omega (arith, lacks, one_same k p e)) in
-      let keys_now : replaced key fallback children ≡ k ∷ replaced key fallback later_keys =
-          ap (λ (l : List ℕ). replaced key fallback l) keys_are ∙ skipped (nat_eq k key) (fallback ∷ later_keys) (k ∷ replaced key fallback later_keys) miss in
-      let more = stands_wrapped later_keys rest before others tops_rest (omega (arith, lacks)) (omega (arith, once)) later in
-      subst (λ (l : List ℕ). Stands new (Some p) l (wrapped key fallback added (Tree k part below rest))) (sym keys_now)
-      (subst (λ (f : Forest). Stands new (Some p) (k ∷ replaced key fallback later_keys) f)
-        (sym (skipped (nat_eq k key) (Tree fallback Fallback (Tree k part below added) rest) (Tree k part below (wrapped key fallback added rest)) miss))
-        (kids, replaced key fallback later_keys, refl,
-         record { node = keeps.node; there = same k keeps.node not_p differs keeps.there; part_is = keeps.part_is; parent_is = keeps.parent_is; children_are = keeps.children_are },
-         still below (omega (arith, lacks)) (omega (arith, once, has)) (Some k) kids stands,
-         more))
+    stands_wrapped : (children : List ℕ) (f : Forest) (before others : List ℕ) → tops f ≡ before ++ key ∷ others → times p f ≡ 0 → times key f ≤ 1 → Stands old (Some p) children f →
+        Stands new (Some p) (replaced key fallback children) (wrapped key fallback added f)
+    stands_wrapped children Empty [] others is lacks once stands = absurd (cc is)
+    stands_wrapped children Empty (b ∷ before) others is lacks once stands = absurd (cc is)
+    stands_wrapped children (Tree k part below rest) [] others is lacks once (kids, later_keys, keys_are, keeps, stands, later) =
+        let here : k ≡ key = cc is in
+        let hit = test_same k key here in
+        let one : one_of k key ≡ 1 = one_same k key here in
+        let keys_now : replaced key fallback children ≡ fallback ∷ later_keys =
+        ap (λ (l : List ℕ). replaced key fallback l) keys_are ∙ chosen (nat_eq k key) (fallback ∷ later_keys) (k ∷ replaced key fallback later_keys) hit in
+        subst (λ (l : List ℕ). Stands new (Some p) l (wrapped key fallback added (Tree k part below rest))) (sym keys_now)
+        (subst (λ (f : Forest). Stands new (Some p) (fallback ∷ later_keys) f)
+        (sym (chosen (nat_eq k key) (Tree fallback Fallback (Tree k part below added) rest) (Tree k part below (wrapped key fallback added rest)) hit)) (
+          key ∷ seq ∷ [],
+          later_keys,
+          refl,
+          over,
+          (
+            kids,
+            seq ∷ [],
+            ap (λ (n : ℕ). n ∷ seq ∷ []) (sym here),
+            subst (λ (n : ℕ). Keeps new (Some fallback) n part kids) (sym here) (moved part kids (subst (λ (n : ℕ). Keeps old (Some p) n part kids) here keeps)),
+            still below (omega (arith, lacks)) (omega (arith, once, one)) (Some k) kids stands,
+            after,
+          ),
+          still rest (omega (arith, lacks)) (omega (arith, once, one)) (Some p) later_keys later,
+        ))
+    stands_wrapped children (Tree k part below rest) (b ∷ before) others is lacks once (kids, later_keys, keys_are, keeps, stands, later) =
+        let tops_rest : tops rest ≡ before ++ key ∷ others = cc is in
+        let has = in_tops key rest before others tops_rest in
+        let differs : k ≢ key = λ e. absurd (omega (arith, once, has, one_same k key e)) in
+        let miss = test_other k key differs in
+        let not_p : k ≢ p = λ e. absurd (omega (arith, lacks, one_same k p e)) in
+        let keys_now : replaced key fallback children ≡ k ∷ replaced key fallback later_keys =
+        ap (λ (l : List ℕ). replaced key fallback l) keys_are ∙ skipped (nat_eq k key) (fallback ∷ later_keys) (k ∷ replaced key fallback later_keys) miss in
+        let more = stands_wrapped later_keys rest before others tops_rest (omega (arith, lacks)) (omega (arith, once)) later in
+        subst (λ (l : List ℕ). Stands new (Some p) l (wrapped key fallback added (Tree k part below rest))) (sym keys_now)
+        (subst (λ (f : Forest). Stands new (Some p) (k ∷ replaced key fallback later_keys) f)
+        (sym (skipped (nat_eq k key) (Tree fallback Fallback (Tree k part below added) rest) (Tree k part below (wrapped key fallback added rest)) miss)) (
+          kids,
+          replaced key fallback later_keys,
+          refl,
+          record { node = keeps.node; there = same k keeps.node not_p differs keeps.there; part_is = keeps.part_is; parent_is = keeps.parent_is; children_are = keeps.children_are },
+          still below (omega (arith, lacks)) (omega (arith, once, has)) (Some k) kids stands,
+          more,
+        ))
 
 module _ (world : World) (t : PlanTree) (tree : Forest) (st : StandsFor t world tree) (key : ℕ) (own : Part) (at : Stood t.nodes tree key own)
     (seq : ℕ) (part : Part) (parts : List Part) (new : Slab Node) (is : is_fallback at.a.part ≡ false) (g : Wraps t.nodes new at.a.key key seq part parts)
@@ -375,7 +394,12 @@ module _ (world : World) (t : PlanTree) (tree : Forest) (st : StandsFor t world 
 
   kept_in_third : (parent : Option ℕ) (k : ℕ) (x : Part) (children : List ℕ) → Keeps t.nodes parent k x children → Keeps g.third parent k x children
   kept_in_third parent k x children keeps = record {
-    node = keeps.node; there = in_third k keeps.node keeps.there; part_is = keeps.part_is; parent_is = keeps.parent_is; children_are = keeps.children_are }
+    node = keeps.node;
+    there = in_third k keeps.node keeps.there;
+    part_is = keeps.part_is;
+    parent_is = keeps.parent_is;
+    children_are = keeps.children_are;
+  }
 
   third_a : Keeps g.third at.above at.a.key at.a.part at.children
   third_a = kept_in_third at.above at.a.key at.a.part at.children at.keeps_a
@@ -426,9 +450,9 @@ module _ (world : World) (t : PlanTree) (tree : Forest) (st : StandsFor t world 
   wrap_after : Stands new (Some g.fallback) (seq ∷ []) wrap_new
   wrap_after = stands_by g.second new (Some g.fallback) (seq ∷ []) wrap_new
       (λ (k : ℕ) (node : Node) has there. both_other k node
-        (λ e. absurd (omega (arith, has, subst (λ (n : ℕ). times n wrap_new ≡ 0) (sym e) (fresh_new at.a.key at.keeps_a.node at.keeps_a.there))))
-        (λ e. absurd (omega (arith, has, subst (λ (n : ℕ). times n wrap_new ≡ 0) (sym e) (fresh_new key at.keeps.node at.keeps.there))))
-        (third_other k (λ e. absurd (omega (arith, has, subst (λ (n : ℕ). times n wrap_new ≡ 0) (sym e) fallback_lacks))) ∙ there)) g.adds.stands
+      (λ e. absurd (omega (arith, has, subst (λ (n : ℕ). times n wrap_new ≡ 0) (sym e) (fresh_new at.a.key at.keeps_a.node at.keeps_a.there))))
+      (λ e. absurd (omega (arith, has, subst (λ (n : ℕ). times n wrap_new ≡ 0) (sym e) (fresh_new key at.keeps.node at.keeps.there))))
+      (third_other k (λ e. absurd (omega (arith, has, subst (λ (n : ℕ). times n wrap_new ≡ 0) (sym e) fallback_lacks))) ∙ there)) g.adds.stands
 
   wrap_moved : (x : Part) (children : List ℕ) → Keeps g.third (Some at.a.key) key x children → Keeps new (Some g.fallback) key x children
   wrap_moved x children keeps =
@@ -442,37 +466,38 @@ module _ (world : World) (t : PlanTree) (tree : Forest) (st : StandsFor t world 
       let same = same_node g.third parent at.above at.a.key x at.a.part children at.children keeps third_a in
       let wraps = grown_wraps x key g.fallback wrap_new below (ap is_fallback same.1 ∙ is) in
       let kept = edited_as g.third g.fourth at.a.key (λ (o : Option ℕ). o) (λ (ks : List ℕ). replaced key g.fallback ks) moves parent x children keeps in
-      let old_tops : tops below ≡ tops at.a.before ++ key ∷ at.others = sym (tops_are g.third (Some at.a.key) children below stands) ∙ same.2 ∙ at.children_of in
-      (replaced key g.fallback children,
-       record { node = kept.node; there = new_other at.a.key above_differs ∙ kept.there; part_is = kept.part_is; parent_is = kept.parent_is; children_are = kept.children_are },
-       subst (λ (f : Forest). Stands new (Some at.a.key) (replaced key g.fallback children) f) (sym wraps)
-       (stands_wrapped g.third new at.a.key key g.fallback seq wrap_new both_other wrap_over wrap_after wrap_moved children below (tops at.a.before) at.others old_tops lacks (once key) stands))
+      let old_tops : tops below ≡ tops at.a.before ++ key ∷ at.others = sym (tops_are g.third (Some at.a.key) children below stands) ∙ same.2 ∙ at.children_of in (
+        replaced key g.fallback children,
+        record { node = kept.node; there = new_other at.a.key above_differs ∙ kept.there; part_is = kept.part_is; parent_is = kept.parent_is; children_are = kept.children_are },
+        subst (λ (f : Forest). Stands new (Some at.a.key) (replaced key g.fallback children) f) (sym wraps)
+            (stands_wrapped g.third new at.a.key key g.fallback seq wrap_new both_other wrap_over wrap_after wrap_moved children below (tops at.a.before) at.others old_tops lacks (once key) stands),
+      )
 
   in_new : (k : ℕ) (node : Node) → get t.nodes k ≡ Some node → (after : Node) × (get new k ≡ Some after) × (after.part ≡ node.part)
   in_new k node there = elim (tested k key) [
     | inl hit ↦
-      let here : k ≡ key = is_same k key hit in
-      let mid : get g.fourth key ≡ Some node = fourth_other key (λ e. above_differs (sym e)) ∙ ap (λ (n : ℕ). get g.third n) (sym here) ∙ in_third k node there in
-      let now = edited_keeps g.fourth new key (Some g.fallback) node.children.items node mid (g.under node mid) in
-      (now.node, ap (λ (n : ℕ). get new n) here ∙ now.there, now.part_is)
+        let here : k ≡ key = is_same k key hit in
+        let mid : get g.fourth key ≡ Some node = fourth_other key (λ e. above_differs (sym e)) ∙ ap (λ (n : ℕ). get g.third n) (sym here) ∙ in_third k node there in
+        let now = edited_keeps g.fourth new key (Some g.fallback) node.children.items node mid (g.under node mid) in
+        (now.node, ap (λ (n : ℕ). get new n) here ∙ now.there, now.part_is)
     | inr miss ↦
-      let differs = is_other k key miss in
-      elim (tested k at.a.key) [
-        | inl hit ↦
-          let here : k ≡ at.a.key = is_same k at.a.key hit in
-          let mid : get g.third at.a.key ≡ Some node = ap (λ (n : ℕ). get g.third n) (sym here) ∙ in_third k node there in
-          let now = edited_keeps g.third g.fourth at.a.key node.parent (replaced key g.fallback node.children.items) node mid (moves node mid) in
-          (now.node, new_other k differs ∙ ap (λ (n : ℕ). get g.fourth n) here ∙ now.there, now.part_is)
-        | inr other ↦ (node, both_other k node (is_other k at.a.key other) differs (in_third k node there), refl)
-      ]
+        let differs = is_other k key miss in
+        elim (tested k at.a.key) [
+          | inl hit ↦
+              let here : k ≡ at.a.key = is_same k at.a.key hit in
+              let mid : get g.third at.a.key ≡ Some node = ap (λ (n : ℕ). get g.third n) (sym here) ∙ in_third k node there in
+              let now = edited_keeps g.third g.fourth at.a.key node.parent (replaced key g.fallback node.children.items) node mid (moves node mid) in
+              (now.node, new_other k differs ∙ ap (λ (n : ℕ). get g.fourth n) here ∙ now.there, now.part_is)
+          | inr other ↦ (node, both_other k node (is_other k at.a.key other) differs (in_third k node there), refl)
+        ]
   ]
 
   pub regrown_wraps : Regrown world t tree new at.a.key wrap_change wrap_added
   regrown_wraps = record {
     stands = stands_changed g.third new at.a.key
         (λ (parent : Option ℕ) (k : ℕ) (x : Part) (children : List ℕ) differs apart (keeps : Keeps g.third parent k x children).
-          let not_key : k ≢ key = λ e. apart (same_node g.third parent (Some at.a.key) key x own children at.kids (subst (λ (n : ℕ). Keeps g.third parent n x children) e keeps) third_key).0 in
-          record { node = keeps.node; there = both_other k keeps.node differs not_key keeps.there; part_is = keeps.part_is; parent_is = keeps.parent_is; children_are = keeps.children_are })
+        let not_key : k ≢ key = λ e. apart (same_node g.third parent (Some at.a.key) key x own children at.kids (subst (λ (n : ℕ). Keeps g.third parent n x children) e keeps) third_key).0 in
+        record { node = keeps.node; there = both_other k keeps.node differs not_key keeps.there; part_is = keeps.part_is; parent_is = keeps.parent_is; children_are = keeps.children_are })
         wrap_change wrap_inner None (t.root ∷ []) tree (λ e. absurd (cc e)) st.apart.once
         (stands_by t.nodes g.third None (t.root ∷ []) tree (λ (k : ℕ) (node : Node) has there. in_third k node there) st.nodes);
     totals = λ weight. total-changed weight at.a.key (total weight wrap_added) wrap_change tree (once_above world t tree st key own at g.fallback) (λ (x : Part) (f : Forest) found.
@@ -480,28 +505,28 @@ module _ (world : World) (t : PlanTree) (tree : Forest) (st : StandsFor t world 
         ap (total weight) (grown_wraps x key g.fallback wrap_new f (ap is_fallback above.0 ∙ is))
         ∙ total-wrapped weight key g.fallback wrap_new f (tops at.a.before) at.others (ap (λ (h : Forest). tops h) above.1 ∙ at.tops_of) ∙ omega arith);
     fresh = λ k node there.
-      let none = fresh_new k node there in
-      let here : one_of g.fallback k ≡ 0 = one_other g.fallback k (λ e. not_fallback k node there (sym e)) in
-      omega (arith, none, here);
+        let none = fresh_new k node there in
+        let here : one_of g.fallback k ≡ 0 = one_other g.fallback k (λ e. not_fallback k node there (sym e)) in
+        omega (arith, none, here);
     apart = λ k.
-      let once = g.adds.apart k in
-      elim (tested g.fallback k) [
-        | inl hit ↦
-          let at_it : g.fallback ≡ k = is_same g.fallback k hit in
-          let none : times k wrap_new ≡ 0 = subst (λ (n : ℕ). times n wrap_new ≡ 0) at_it fallback_lacks in
-          let here : one_of g.fallback k ≡ 1 = one_same g.fallback k at_it in
-          omega (arith, none, here)
-        | inr miss ↦
-          let here : one_of g.fallback k ≡ 0 = ap (λ (b : Bool). if b then 1 else 0) miss in
-          omega (arith, once, here)
-      ];
+        let once = g.adds.apart k in
+        elim (tested g.fallback k) [
+          | inl hit ↦
+              let at_it : g.fallback ≡ k = is_same g.fallback k hit in
+              let none : times k wrap_new ≡ 0 = subst (λ (n : ℕ). times n wrap_new ≡ 0) at_it fallback_lacks in
+              let here : one_of g.fallback k ≡ 1 = one_same g.fallback k at_it in
+              omega (arith, none, here)
+          | inr miss ↦
+              let here : one_of g.fallback k ≡ 0 = ap (λ (b : Bool). if b then 1 else 0) miss in
+              omega (arith, once, here)
+        ];
     len =
-      let last = edited_len g.fourth new key (Some g.fallback) third_key.node.children.items third_key.node key_in_fourth (g.under third_key.node key_in_fourth) in
-      let fourth = edited_len g.third g.fourth at.a.key third_a.node.parent (replaced key g.fallback third_a.node.children.items) third_a.node third_a.there (moves third_a.node third_a.there) in
-      let third = edited_len g.second g.third g.fallback (Some at.a.key) (key ∷ seq ∷ []) (blank Fallback (Some at.a.key)) blank_fallback fills in
-      let second = g.adds.len in
-      let first = g.inserted.len in
-      omega (arith, last, fourth, third, second, first);
+        let last = edited_len g.fourth new key (Some g.fallback) third_key.node.children.items third_key.node key_in_fourth (g.under third_key.node key_in_fourth) in
+        let fourth = edited_len g.third g.fourth at.a.key third_a.node.parent (replaced key g.fallback third_a.node.children.items) third_a.node third_a.there (moves third_a.node third_a.there) in
+        let third = edited_len g.second g.third g.fallback (Some at.a.key) (key ∷ seq ∷ []) (blank Fallback (Some at.a.key)) blank_fallback fills in
+        let second = g.adds.len in
+        let first = g.inserted.len in
+        omega (arith, last, fourth, third, second, first);
     few = let most = few in omega (arith, most);
     one = let this = one in omega (arith, this);
     low = λ x f. height-grown x key g.fallback wrap_new f low;

@@ -29,7 +29,11 @@ split_at s parent [] key after (Tree k part below rest) (children, others, is, k
     let here : key ≡ k = cc is in
     let rest_keys : after ≡ others = cc is in
     record {
-      left = Empty; part = part; below = below; right = rest; children = children;
+      left = Empty;
+      part = part;
+      below = below;
+      right = rest;
+      children = children;
       is = ap (λ (n : ℕ). Tree n part below rest) (sym here);
       stands_left = refl;
       keeps = subst (λ (n : ℕ). Keeps s parent n part children) (sym here) keeps;
@@ -41,7 +45,11 @@ split_at s parent (b ∷ before) key after (Tree k part below rest) (children, o
     let rest_keys : before ++ key ∷ after ≡ others = cc is in
     let more = split_at s parent before key after rest (subst (λ (l : List ℕ). Stands s parent l rest) (sym rest_keys) later) in
     record {
-      left = Tree k part below more.left; part = more.part; below = more.below; right = more.right; children = more.children;
+      left = Tree k part below more.left;
+      part = more.part;
+      below = more.below;
+      right = more.right;
+      children = more.children;
       is = ap (λ (g : Forest). Tree k part below g) more.is;
       stands_left = (children, before, ap (λ (n : ℕ). n ∷ before) here, keeps, stands, more.stands_left);
       keeps = more.keeps;

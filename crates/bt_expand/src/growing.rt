@@ -182,7 +182,11 @@ pub(crate) fn leaf_keys(alloc: Global, branch: &Branch<'_>) -> Result<SmallVec<u
 }
 
 /// The slab gets room for a new sequence and this many nodes besides.
-pub(crate) fn reserve(nodes: &mut Slab<Node>, branch: &Branch<'_>, more: usize) -> Result<(), NoMemory>
+pub(crate) fn reserve(
+    nodes: &mut Slab<Node>,
+    branch: &Branch<'_>,
+    more: usize,
+) -> Result<(), NoMemory>
     requires { more ≤ 2 }
     ensures room { OnOk result (HasRoomFor nodes.new (more + length (parts_of branch.now.conditions.now branch.now.action))) }
     ensures kept { nodes.new ≡ record nodes.old { capacity = nodes.new.capacity } }
@@ -192,7 +196,11 @@ pub(crate) fn reserve(nodes: &mut Slab<Node>, branch: &Branch<'_>, more: usize) 
 }
 
 /// The children of a node, with a place for one more.
-fn children_and_one(alloc: Global, nodes: &Slab<Node>, key: usize) -> Result<SmallVec<usize, 4>, NoMemory>
+fn children_and_one(
+    alloc: Global,
+    nodes: &Slab<Node>,
+    key: usize,
+) -> Result<SmallVec<usize, 4>, NoMemory>
     ensures same { IfOk result (λ keys. (node : Node) → get nodes.now key ≡ Some node → keys.items ≡ node.children.items) }
     ensures place { IfOk result (λ keys. HasPlaceFor keys 1) }
 {

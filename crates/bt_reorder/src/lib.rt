@@ -1,2 +1,8 @@
-//! Conflicts of a plan tree, and how a new sequence is raised before what it undoes.
+//! The conflicts of a plan tree, and how a new sequence is raised before what it undoes.
 #![tactic(auto)]
+
+mod conflicts;
+mod raising;
+
+pub use conflicts::conflict;
+pub use raising::raise;

@@ -28,11 +28,11 @@ returns-in_default-next_template c = λ world tree st is.
     let at = stood_condition world t tree st c.args.key is.0 is.1 in
     let site_is : c.in-Some.site ≡ record { row = is.0; parent = at.a.key } = cc (c.in-Some.is, c.site_of.ensures, site_stood t.nodes tree c.args.key is.0 at) in
     let tried_is : c.fallback_children-tried.result.now ≡ fallback_children at.a.part at.children =
-        c.fallback_children-tried.ensures at.keeps_a.node (ap (λ (site : Site). get t.nodes site.parent) site_is ∙ at.keeps_a.there)
-        ∙ ap (λ part. fallback_children part at.keeps_a.node.children.items) at.keeps_a.part_is ∙ ap (λ (ks : List ℕ). fallback_children at.a.part ks) at.keeps_a.children_are in
+    c.fallback_children-tried.ensures at.keeps_a.node (ap (λ (site : Site). get t.nodes site.parent) site_is ∙ at.keeps_a.there)
+    ∙ ap (λ part. fallback_children part at.keeps_a.node.children.items) at.keeps_a.part_is ∙ ap (λ (ks : List ℕ). fallback_children at.a.part ks) at.keeps_a.children_are in
     none_first (untried world.rows c.args.key tree)
     (sym (next_is world t tree st c.args.key is.0 is.1 at) ∙ ap (λ (ks : List ℕ). find (is_open t is.0 ks) t.templates) (sym tried_is)
-      ∙ ap (λ (site : Site). find (is_open t site.row c.fallback_children-tried.result.now) t.templates) (sym site_is) ∙ sym c.next_template.ensures ∙ c.in_default-next_template.is)
+    ∙ ap (λ (site : Site). find (is_open t site.row c.fallback_children-tried.result.now) t.templates) (sym site_is) ∙ sym c.next_template.ensures ∙ c.in_default-next_template.is)
 
 pub returns : goal.returns
 returns c = λ world tree st is.
@@ -40,8 +40,8 @@ returns c = λ world tree st is.
     let at = stood_condition world t tree st c.args.key is.0 is.1 in
     let site_is : c.in-Some.site ≡ record { row = is.0; parent = at.a.key } = cc (c.in-Some.is, c.site_of.ensures, site_stood t.nodes tree c.args.key is.0 at) in
     let tried_is : c.fallback_children-tried.result.now ≡ fallback_children at.a.part at.children =
-        c.fallback_children-tried.ensures at.keeps_a.node (ap (λ (site : Site). get t.nodes site.parent) site_is ∙ at.keeps_a.there)
-        ∙ ap (λ part. fallback_children part at.keeps_a.node.children.items) at.keeps_a.part_is ∙ ap (λ (ks : List ℕ). fallback_children at.a.part ks) at.keeps_a.children_are in
+    c.fallback_children-tried.ensures at.keeps_a.node (ap (λ (site : Site). get t.nodes site.parent) site_is ∙ at.keeps_a.there)
+    ∙ ap (λ part. fallback_children part at.keeps_a.node.children.items) at.keeps_a.part_is ∙ ap (λ (ks : List ℕ). fallback_children at.a.part ks) at.keeps_a.children_are in
     record {
       first = sym (next_is world t tree st c.args.key is.0 is.1 at) ∙ ap (λ (ks : List ℕ). find (is_open t is.0 ks) t.templates) (sym tried_is)
           ∙ ap (λ (site : Site). find (is_open t site.row c.fallback_children-tried.result.now) t.templates) (sym site_is) ∙ sym c.next_template.ensures ∙ c.in-Some-next_template.is;

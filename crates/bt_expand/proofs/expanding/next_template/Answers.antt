@@ -14,7 +14,7 @@ pub returns-then-is_untried : goal.returns-then-is_untried
 returns-then-is_untried c =
     let test = is_open c.args.t.now c.args.condition c.args.tried.now in
     sym (found_item test c.list-template-items.result.now c.loop-template.template-index (record { row = 0 }) c.loop-template-test.true
-      (sym c.is_untried.ensures ∙ c.if-is_untried.true)) ∙ c.loop-template.invariant ∙ ap (λ (l : List Template). find test l) c.list-template-items.ensures
+    (sym c.is_untried.ensures ∙ c.if-is_untried.true)) ∙ c.loop-template.invariant ∙ ap (λ (l : List Template). find test l) c.list-template-items.ensures
 
 pub returns : goal.returns
 returns c =

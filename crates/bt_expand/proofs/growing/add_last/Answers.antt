@@ -18,7 +18,7 @@ returns-clause-added c =
       middle = middle;
       adds = adds;
       edits = λ node there.
-        subst (λ (ks : List ℕ). Edits middle c.set_children.new.nodes c.args.parent node.parent ks node)
-        (c.push_reserved.ensures.items ∙ ap (λ (ks : List ℕ). ks ++ key ∷ []) (c.in_ok-children.ensures.same node there))
-        (c.set_children.ensures.edited node (adds.kept c.args.parent node there));
+          subst (λ (ks : List ℕ). Edits middle c.set_children.new.nodes c.args.parent node.parent ks node)
+          (c.push_reserved.ensures.items ∙ ap (λ (ks : List ℕ). ks ++ key ∷ []) (c.in_ok-children.ensures.same node there))
+          (c.set_children.ensures.edited node (adds.kept c.args.parent node there));
     }

@@ -34,6 +34,6 @@ returns-in_default-clause-count c =
 pub returns-in-Some-clause-count : goal.returns-in-Some-clause-count
 returns-in-Some-clause-count c =
     let more : length c.add_leaf.new.keys.items ≡ length c.add_conditions.new.keys.items + 1 =
-        ap (λ (l : List ℕ). length l) c.add_leaf.ensures.added.2 ∙ length-append c.add_conditions.new.keys.items (c.add_leaf.ensures.added.0 ∷ []) in
+    ap (λ (l : List ℕ). length l) c.add_leaf.ensures.added.2 ∙ length-append c.add_conditions.new.keys.items (c.add_leaf.ensures.added.0 ∷ []) in
     let all = parts_count c.args.branch.now.conditions.now c.args.branch.now.action c.in-Some.row c.in-Some.is in
     omega (arith, more, all, c.add_conditions.ensures.count)

@@ -19,7 +19,9 @@ returns c =
     let goals : c.list-2.result.now ≡ world.goals = c.list-2.ensures in
     let adds = subst (λ (l : List ℕ). Adds room new None (root ∷ []) (branch_tree root Goals keys (map Condition l))) goals c.add_branch-root.ensures.added.1 in
     let counted = subst (λ (l : List ℕ). length keys ≡ length (map Condition l)) goals c.add_branch-root.ensures.added.2 in
-    let none : slab_len room ≡ 0 = ap (λ (s : Slab Node). slab_len s) c.in_ok-reserve.ensures.kept ∙ ap (λ slots. count_by is_some slots) c.new-nodes.ensures.empty in
-    (keys, counted ∙ length-map world.goals Condition,
-     first_stands world c.requires.valid c.requires.goal (record { nodes = new; root = root; rules = c.in_ok-rules.rules; templates = c.of.result }) keys room
-       (c.in_ok-rules.ensures ∙ ap (λ rows. map rule_of rows) c.list.ensures) (c.of.ensures ∙ c.in_ok-templates.ensures) none adds counted)
+    let none : slab_len room ≡ 0 = ap (λ (s : Slab Node). slab_len s) c.in_ok-reserve.ensures.kept ∙ ap (λ slots. count_by is_some slots) c.new-nodes.ensures.empty in (
+      keys,
+      counted ∙ length-map world.goals Condition,
+      first_stands world c.requires.valid c.requires.goal (record { nodes = new; root = root; rules = c.in_ok-rules.rules; templates = c.of.result }) keys room
+          (c.in_ok-rules.ensures ∙ ap (λ rows. map rule_of rows) c.list.ensures) (c.of.ensures ∙ c.in_ok-templates.ensures) none adds counted,
+    )

@@ -11,8 +11,8 @@ loop-row-preserved c =
     let rows = c.args.rows.now in
     let row = c.row-item.result in
     let more : map rule_of (take (i + 1) rows) ≡ map rule_of (take i rows) ++ rule_of row ∷ [] =
-        ap (λ (l : List Row). map rule_of l) (take_more rows i row c.loop-row-test.true) ∙ map-append rule_of (take i rows) (get_or rows i row ∷ [])
-        ∙ ap (λ (r : Row). map rule_of (take i rows) ++ rule_of r ∷ []) (sym c.row-item.is) in
+    ap (λ (l : List Row). map rule_of l) (take_more rows i row c.loop-row-test.true) ∙ map-append rule_of (take i rows) (get_or rows i row ∷ [])
+    ∙ ap (λ (r : Row). map rule_of (take i rows) ++ rule_of r ∷ []) (sym c.row-item.is) in
     c.in_ok-push.ensures.items ∙ ap (λ (l : List Rule). l ++ c.in_ok-rule_of.field-0 ∷ []) c.loop-row.invariant
     ∙ ap (λ (r : Rule). map rule_of (take i rows) ++ r ∷ []) c.in_ok-rule_of.ensures ∙ sym more
 
