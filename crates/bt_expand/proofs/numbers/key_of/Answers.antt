@@ -1,0 +1,20 @@
+use Rattle.std.proofs.Common.{◌≡◌, ◌≢◌, ◌+◌, ◌-◌, ◌≤◌, ℕ, [], ◌∷◌, None, Result, Ok, Err, Some, refl, ap, sym, ◌∙◌, subst, arith}
+use Rattle.std.specs.Prelude.{slice_get}
+use Rattle.std.specs.Result.{result_unwrap_or}
+use Rattle.bt_expand.specs.Forests.{height, keys_of, size}
+use Rattle.bt_expand.specs.Numbers.{Numbered}
+use Rattle.bt_expand.proofs.Counted.{height-le_size}
+use Rattle.bt_expand.proofs.numbers.key_of.Goals as goal
+
+pub returns : goal.returns
+returns c = λ world tree st.
+    let asked = c.requires in
+    let same = asked.2.whole in
+    let whole = st.whole in
+    let high = height-le_size tree in
+    let len = c.len.ensures in
+    let numbered = c.find_in.ensures None tree st.nodes (omega (arith, high, whole, len)) in
+    elim c.find_in.result as (λ (r : Result ℕ ℕ). c.find_in.result ≡ r → Numbered tree (c.args.uid - 1) r → slice_get (keys_of tree) (c.args.uid - 1) ≡ Some c.unwrap_or.result) [
+      | Ok key ↦ λ is found. found ∙ ap (λ (k : ℕ). Some k) (sym (c.unwrap_or.ensures ∙ ap (λ (r : Result ℕ ℕ). result_unwrap_or r c.args.t.now.root) is))
+      | Err left ↦ λ is past. absurd (omega (arith, past, asked.3, asked.4, same, whole))
+    ] refl numbered

@@ -1,0 +1,228 @@
+//! The expansion of a condition.
+
+ghost use Rattle.std.specs.Prelude.{◌≡◌, ◌↔◌, Some, Err, [], OnErr, IfOk, MatchOption};
+ghost use Rattle.std.specs.List.{find, list_any};
+ghost use Rattle.std.specs.Option.{option_and_then};
+ghost use Rattle.slab.specs.Slab.{get};
+ghost use Rattle.bt_script.specs.declared.stop.Stop.TheVariants.{Fault};
+ghost use Rattle.bt_model.specs.declared.world.World.{World};
+ghost use Rattle.bt_expand.specs.declared.expanding.ExpandFault.TheVariants.{NoUntried};
+ghost use Rattle.bt_expand.specs.declared.node.Node.{Node};
+ghost use Rattle.bt_expand.specs.declared.node.Part.TheVariants.{Sequence};
+ghost use Rattle.bt_expand.specs.Expansion.{untried};
+ghost use Rattle.bt_expand.specs.Expanded.{Chooses, Expands, GrowsBehind, is_open};
+ghost use Rattle.bt_expand.specs.Forests.{Forest, is_fallback};
+ghost use Rattle.bt_expand.specs.Growth.{fallback_children, names_sequence, parts_of, rule_achieves, rule_effects, rule_needs, site_of};
+ghost use Rattle.bt_expand.specs.Stands.{IsConditionOf, StandsFor};
+
+use crate::growing::{Branch, add_last, wrap};
+use crate::node::{Node, Part};
+use crate::plan_tree::PlanTree;
+use crate::rule::Rule;
+use bt_domain::{Template, achieves};
+use bt_model::Set;
+use bt_script::{NoMemory, Stop};
+use slab::Slab;
+use std::alloc::Global;
+
+/// Where a condition stands: its row, and the key of the node above it.
+#[derive(Clone, Copy)]
+pub(crate) struct Site {
+    pub row: u32,
+    pub parent: usize,
+}
+
+/// What is added behind a condition: the row of an action, and the key of the node above the condition.
+#[derive(Clone, Copy)]
+pub(crate) struct Choice {
+    pub row: u32,
+    pub parent: usize,
+}
+
+/// Why a condition is not expanded.
+#[derive(Clone, Copy, Debug, PartialEq, Eq)]
+pub enum ExpandFault {
+    /// Every template that achieves the condition was added behind it.
+    NoUntried,
+}
+
+/// Where the condition of this key stands.
+fn site_of(nodes: &Slab<Node>, key: usize) -> Option<Site>
+    ensures { result ≡ option_and_then site_of (get nodes.now key) }
+{
+    let node = nodes.get(key)?;
+    match (node.part, node.parent) {
+        (Part::Condition(row), Some(parent)) => Some(Site { row, parent }),
+        _ => None,
+    }
+}
+
+/// The children of a fallback, and none of any other node.
+fn fallback_children(nodes: &Slab<Node>, key: usize) -> &[usize]
+    ensures { (node : Node) → get nodes.now key ≡ Some node → result.now ≡ fallback_children node.part node.children.items }
+{
+    match nodes.get(key) {
+        Some(node) => match node.part {
+            Part::Fallback => &node.children,
+            _ => &[],
+        },
+        None => &[],
+    }
+}
+
+/// Whether this is the key of the sequence of this row.
+fn names_sequence(nodes: &Slab<Node>, row: u32, key: usize) -> bool
+    ensures { result ≡ names_sequence nodes.now row key }
+{
+    match nodes.get(key) {
+        Some(node) => match node.part {
+            Part::Sequence(own) => own == row,
+            _ => false,
+        },
+        None => false,
+    }
+}
+
+/// Whether the sequence of this row is among these.
+fn is_among(nodes: &Slab<Node>, keys: &[usize], row: u32) -> bool
+    ensures { result ≡ list_any (names_sequence nodes.now row) keys.now }
+{
+    keys.iter().any(|key| names_sequence(nodes, row, *key))
+}
+
+/// The rows of the conditions that the action of this row needs.
+fn needs_of(rules: &[Rule], row: u32) -> &[u32]
+    ensures { result.now ≡ rule_needs rules.now row }
+{
+    match rules.get(row as usize) {
+        Some(rule) => rule.needs.list(),
+        None => &[],
+    }
+}
+
+/// The effects of the action of this row.
+fn effects_of(rules: &[Rule], row: u32) -> &[Set]
+    ensures { result.now ≡ rule_effects rules.now row }
+{
+    match rules.get(row as usize) {
+        Some(rule) => rule.effects.list(),
+        None => &[],
+    }
+}
+
+/// Whether the action of the second row may turn the condition of the first one true.
+fn row_achieves(rules: &[Rule], condition: u32, action: u32) -> bool
+    ensures { result ≡ rule_achieves rules.now condition action }
+{
+    match rules.get(condition as usize) {
+        Some(rule) => match &rule.test {
+            Some(test) => achieves(test, effects_of(rules, action)),
+            None => false,
+        },
+        None => false,
+    }
+}
+
+/// Whether a template achieves the condition of this row, and has no sequence among the tried ones.
+fn is_untried(t: &PlanTree, condition: u32, tried: &[usize], template: Template) -> bool
+    ensures { result ≡ is_open t.now condition tried.now template }
+{
+    row_achieves(t.rules.list(), condition, template.row)
+        && !is_among(&t.nodes, tried, template.row)
+}
+
+/// The first template that achieves the condition of this row and has no sequence among the tried
+/// ones.
+fn next_template(t: &PlanTree, condition: u32, tried: &[usize]) -> Option<Template>
+    ensures { result ≡ find (is_open t.now condition tried.now) t.now.templates }
+{
+    for template in t.templates.list() {
+        if is_untried(t, condition, tried, *template) {
+            return Some(*template);
+        }
+    }
+    None
+}
+
+/// Whether this is the key of a fallback.
+fn is_fallback(nodes: &Slab<Node>, key: usize) -> bool
+    ensures { (node : Node) → get nodes.now key ≡ Some node → result ≡ is_fallback node.part }
+{
+    match nodes.get(key) {
+        Some(node) => matches!(node.part, Part::Fallback),
+        None => false,
+    }
+}
+
+/// The first untried template of the condition of this key.
+fn choose(t: &PlanTree, key: usize) -> Option<Choice>
+    ensures { (world : World) (tree : Forest) → StandsFor t.now world tree → IsConditionOf tree key →
+        MatchOption result (untried world.rows key tree ≡ []) (Chooses t.now world tree key) }
+{
+    let Some(site) = site_of(&t.nodes, key) else {
+        return None;
+    };
+    let tried = fallback_children(&t.nodes, site.parent);
+    let Some(template) = next_template(t, site.row, tried) else {
+        return None;
+    };
+    Some(Choice {
+        row: template.row,
+        parent: site.parent,
+    })
+}
+
+/// A new sequence joins the condition of this key. Refused, only the slab's room has changed.
+fn add_behind(
+    alloc: Global,
+    nodes: &mut Slab<Node>,
+    parent: usize,
+    key: usize,
+    branch: &Branch<'_>,
+) -> Result<usize, NoMemory>
+    ensures added { IfOk result (λ added. (node : Node) → get nodes.old parent ≡ Some node →
+        GrowsBehind (is_fallback node.part) nodes.old nodes.new parent key added branch.now.part (parts_of branch.now.conditions.now branch.now.action)) }
+    ensures kept { OnErr result (nodes.new ≡ record nodes.old { capacity = nodes.new.capacity }) }
+{
+    if is_fallback(nodes, parent) {
+        add_last(alloc, nodes, parent, branch)
+    } else {
+        wrap(alloc, nodes, parent, key, branch)
+    }
+}
+
+/// The sequence of an action joins the condition of this key. Refused, only the slab's room has
+/// changed.
+fn add_sequence(
+    alloc: Global,
+    nodes: &mut Slab<Node>,
+    rules: &[Rule],
+    key: usize,
+    choice: Choice,
+) -> Result<usize, NoMemory>
+    ensures added { IfOk result (λ added. (node : Node) → get nodes.old choice.parent ≡ Some node →
+        GrowsBehind (is_fallback node.part) nodes.old nodes.new choice.parent key added (Sequence choice.row) (parts_of (rule_needs rules.now choice.row) (Some choice.row))) }
+    ensures kept { OnErr result (nodes.new ≡ record nodes.old { capacity = nodes.new.capacity }) }
+{
+    let branch = Branch {
+        part: Part::Sequence(choice.row),
+        conditions: needs_of(rules, choice.row),
+        action: Some(choice.row),
+    };
+    add_behind(alloc, nodes, choice.parent, key, &branch)
+}
+
+/// Expands the condition of this key: the sequence of its first untried template joins it, as the
+/// last one of its fallback, or in a new fallback that takes the condition's place. Gives the key of
+/// the sequence. Every key names the same node as before. Refused, the tree is as it was.
+pub fn expand(alloc: Global, t: &mut PlanTree, key: usize) -> Result<usize, Stop<ExpandFault>>
+    requires { (world : World) × (tree : Forest) × StandsFor t.old world tree × IsConditionOf tree key }
+    ensures added { IfOk result (λ added. (world : World) (tree : Forest) → StandsFor t.old world tree → IsConditionOf tree key → Expands t.new world tree key added) }
+    ensures untried { (world : World) (tree : Forest) → StandsFor t.old world tree → IsConditionOf tree key → (result ≡ Err (Fault NoUntried)) ↔ (untried world.rows key tree ≡ []) }
+    ensures kept { OnErr result (t.new ≡ record t.old { nodes = record t.old.nodes { capacity = t.new.nodes.capacity } }) }
+{
+    match choose(t, key) {
+        Some(choice) => Ok(add_sequence(alloc, &mut t.nodes, t.rules.list(), key, choice)?),
+        None => Err(Stop::Fault(ExpandFault::NoUntried)),
+    }
+}

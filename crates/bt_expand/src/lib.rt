@@ -1,0 +1,18 @@
+//! The plan tree: a tree of conditions and actions that grows where a condition is expanded. It is
+//! one slab of nodes that is edited in place.
+#![tactic(auto)]
+
+mod expanding;
+mod growing;
+mod node;
+mod numbers;
+mod plan_tree;
+mod planned;
+mod rule;
+
+pub use expanding::{ExpandFault, expand};
+pub use node::{Node, Part};
+pub use numbers::{key_of, row_of};
+pub use plan_tree::{PlanTree, plan_tree_of};
+pub use planned::tree_of;
+pub use rule::Rule;

@@ -1,0 +1,150 @@
+//! The behavior tree of a plan tree.
+
+ghost use Rattle.std.specs.Prelude.{◌≡◌, ◌≤◌, ℕ, Option, Some, codes, IfOk};
+ghost use Rattle.bt_model.specs.declared.term.Guards.{Guards};
+ghost use Rattle.bt_model.specs.declared.term.Term.{roll-Term};
+ghost use Rattle.bt_model.specs.Trees.{IsValid};
+ghost use Rattle.bt_expand.specs.Forests.{Forest, height, subtrees};
+ghost use Rattle.bt_expand.specs.Planned.{IsPlanned, id_of, kind_of, no_guards, part_id, plain_node, terms_of};
+ghost use Rattle.bt_expand.specs.Stands.{Stands, StandsFor};
+
+use crate::node::{Node, Part};
+use crate::plan_tree::PlanTree;
+use bt_model::{Guards, Kind, Row, Term, Tree, World};
+use bt_script::{Items, Name, NoMemory};
+use slab::Slab;
+use std::alloc::Global;
+
+/// No guards.
+fn no_guards() -> Guards
+    ensures { result ≡ no_guards }
+{
+    Guards {
+        failure_if: None,
+        success_if: None,
+        skip_if: None,
+        while_true: None,
+        on_success: None,
+        on_failure: None,
+        post: None,
+        on_halted: None,
+    }
+}
+
+/// The kind of a node.
+fn kind_of(part: Part) -> Kind
+    ensures { result ≡ kind_of part }
+{
+    match part {
+        Part::Goals | Part::Sequence(_) => Kind::ReactiveSequence,
+        Part::Fallback => Kind::ReactiveFallback,
+        Part::Condition(_) | Part::Action(_) => Kind::Leaf,
+    }
+}
+
+/// A name of these bytes.
+fn name_of(alloc: Global, text: &str) -> Result<Name, NoMemory>
+    ensures { IfOk result (λ name. name ≡ text.now) }
+{
+    Ok(Name::of(Vec::from_slice(alloc, text.as_bytes())?))
+}
+
+/// The ID of a row.
+fn id_of(alloc: Global, rows: &[Row], row: u32) -> Result<Name, NoMemory>
+    ensures { IfOk result (λ name. name ≡ id_of rows.now row) }
+{
+    match rows.get(row as usize) {
+        Some(row) => row.id.copy(alloc),
+        None => name_of(alloc, ""),
+    }
+}
+
+/// The ID of a node.
+fn part_id(alloc: Global, rows: &[Row], part: Part) -> Result<Name, NoMemory>
+    ensures { IfOk result (λ name. name ≡ part_id rows.now part) }
+{
+    match part {
+        Part::Goals | Part::Sequence(_) => name_of(alloc, "ReactiveSequence"),
+        Part::Fallback => name_of(alloc, "ReactiveFallback"),
+        Part::Condition(row) | Part::Action(row) => id_of(alloc, rows, row),
+    }
+}
+
+/// A node with these children, which is named by its ID alone.
+fn plain_node(
+    alloc: Global,
+    rows: &[Row],
+    part: Part,
+    children: Items<Term>,
+) -> Result<Term, NoMemory>
+    ensures { IfOk result (λ term. term ≡ roll-Term (plain_node (kind_of part) (part_id rows.now part) children)) }
+{
+    let id = part_id(alloc, rows, part)?;
+    let name = part_id(alloc, rows, part)?;
+    Ok(Term {
+        kind: kind_of(part),
+        id,
+        name,
+        ports: Items::of(Vec::new(alloc)),
+        code: None,
+        guards: no_guards(),
+        autoremap: false,
+        children,
+    })
+}
+
+/// The terms of some trees that have at most so many levels.
+#[cycle(walk)]
+fn terms_of(
+    alloc: Global,
+    nodes: &Slab<Node>,
+    rows: &[Row],
+    keys: &[usize],
+    levels: usize,
+) -> Result<Items<Term>, NoMemory>
+    ensures { IfOk result (λ terms. (parent : Option ℕ) (f : Forest) → Stands nodes.now parent keys.now f → height f ≤ levels → terms ≡ terms_of rows.now f) }
+{
+    let mut terms = Vec::with_capacity(alloc, keys.len())?;
+    if levels == 0 {
+        return Ok(Items::of(terms));
+    }
+    for key in keys {
+        let Some(node) = nodes.get(*key) else {
+            continue;
+        };
+        terms.push(term_of(alloc, nodes, rows, node, levels - 1)?)?;
+    }
+    Ok(Items::of(terms))
+}
+
+/// The term of a node, with at most so many levels below it.
+#[cycle(walk)]
+fn term_of(
+    alloc: Global,
+    nodes: &Slab<Node>,
+    rows: &[Row],
+    node: &Node,
+    levels: usize,
+) -> Result<Term, NoMemory>
+    ensures { IfOk result (λ term. (key : ℕ) (below : Forest) → Stands nodes.now (Some key) node.now.children.items below → height below ≤ levels
+        → term ≡ roll-Term (plain_node (kind_of node.now.part) (part_id rows.now node.now.part) (terms_of rows.now below))) }
+{
+    let children = terms_of(alloc, nodes, rows, &node.children, levels)?;
+    plain_node(alloc, rows, node.part, children)
+}
+
+/// The behavior tree of a plan tree to which at most 120 sequences were added. Its ID is `Plan`. Its
+/// nodes stand in the order of the plan tree's, so that its numbers are theirs.
+pub fn tree_of(alloc: Global, t: &PlanTree, world: &World) -> Result<Tree, NoMemory>
+    requires { (tree : Forest) × StandsFor t.now world.now tree × (subtrees tree ≤ 120) }
+    ensures { IfOk result (λ planned. (tree : Forest) → StandsFor t.now world.now tree → IsPlanned world.now.rows tree planned) }
+{
+    match t.nodes.get(t.root) {
+        Some(root) => {
+            let main = name_of(alloc, "Plan")?;
+            let term = term_of(alloc, &t.nodes, world.rows.list(), root, t.nodes.len())?;
+            Ok(Tree { main, term })
+        }
+        None => unreachable!(),
+    }
+}

@@ -1,0 +1,8 @@
+//! The conflicts of a plan tree, and how a new sequence is raised before what it undoes.
+#![tactic(auto)]
+
+mod conflicts;
+mod raising;
+
+pub use conflicts::conflict;
+pub use raising::raise;
