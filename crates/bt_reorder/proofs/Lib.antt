@@ -1,0 +1,3 @@
+pub mod Climbed
+pub mod Raised
+pub mod Swaps

@@ -124,7 +124,9 @@ fn threat_above(t: &PlanTree, action: u32, key: usize, levels: usize) -> Option<
     if levels == 0 {
         return None;
     }
-    let parent = parent_of(&t.nodes, key)?;
+    let Some(parent) = parent_of(&t.nodes, key) else {
+        return None;
+    };
     match threat_above(t, action, parent, levels - 1) {
         Some(head) => Some(head),
         None => threat_in(t, action, parent, key),
