@@ -31,29 +31,29 @@ pub above_height : (k : ℕ) (f : Forest) (place : Place) → place_of k f ≡ S
 above_height k Empty place found = absurd (cc found)
 above_height k (Tree key part below rest) place found = elim (tested key k) [
   | inl hit ↦
-    let e : place ≡ record { before = Empty; above = [] } =
-        cc (found, chosen (nat_eq key k) (Some (record { before = Empty; above = [] })) (option_or (option_map (below_first key part) (place_of k below)) (option_map (after_first key part below) (place_of k rest))) hit) in
-    let none : length place.above ≡ 0 = ap (λ (p : Place). length p.above) e in
-    omega (arith, none)
+      let e : place ≡ record { before = Empty; above = [] } =
+      cc (found, chosen (nat_eq key k) (Some (record { before = Empty; above = [] })) (option_or (option_map (below_first key part) (place_of k below)) (option_map (after_first key part below) (place_of k rest))) hit) in
+      let none : length place.above ≡ 0 = ap (λ (p : Place). length p.above) e in
+      omega (arith, none)
   | inr miss ↦
-    elim (place_of k below) as (λ (o : Option Place). place_of k below ≡ o → option_or (option_map (below_first key part) o) (option_map (after_first key part below) (place_of k rest)) ≡ Some place →
-        length place.above + 1 ≤ height (Tree key part below rest)) [
-      | Some q ↦ λ lower e.
-        let high = above_height k below q lower in
-        let p : below_first key part q ≡ place = cc e in
-        let long : length place.above ≡ length q.above + 1 =
+      elim (place_of k below) as (λ (o : Option Place). place_of k below ≡ o → option_or (option_map (below_first key part) o) (option_map (after_first key part below) (place_of k rest)) ≡ Some place →
+      length place.above + 1 ≤ height (Tree key part below rest)) [
+        | Some q ↦ λ lower e.
+            let high = above_height k below q lower in
+            let p : below_first key part q ≡ place = cc e in
+            let long : length place.above ≡ length q.above + 1 =
             ap (λ (r : Place). length r.above) (sym p) ∙ length-append q.above (record { key = key; part = part; before = q.before } ∷ []) in
-        omega (arith, high, long)
-      | None ↦ λ lower e.
-        elim (place_of k rest) as (λ (o : Option Place). place_of k rest ≡ o → option_map (after_first key part below) o ≡ Some place → length place.above + 1 ≤ height (Tree key part below rest)) [
-          | Some q ↦ λ right e.
-            let high = above_height k rest q right in
-            let p : after_first key part below q ≡ place = cc e in
-            let long : length place.above ≡ length q.above = ap (λ (r : Place). length r.above) (sym p) in
             omega (arith, high, long)
-          | None ↦ λ right e. absurd (cc e)
-        ] refl e
-    ] refl (sym (skipped (nat_eq key k) (Some (record { before = Empty; above = [] })) (option_or (option_map (below_first key part) (place_of k below)) (option_map (after_first key part below) (place_of k rest))) miss) ∙ found)
+        | None ↦ λ lower e.
+            elim (place_of k rest) as (λ (o : Option Place). place_of k rest ≡ o → option_map (after_first key part below) o ≡ Some place → length place.above + 1 ≤ height (Tree key part below rest)) [
+              | Some q ↦ λ right e.
+                  let high = above_height k rest q right in
+                  let p : after_first key part below q ≡ place = cc e in
+                  let long : length place.above ≡ length q.above = ap (λ (r : Place). length r.above) (sym p) in
+                  omega (arith, high, long)
+              | None ↦ λ right e. absurd (cc e)
+            ] refl e
+      ] refl (sym (skipped (nat_eq key k) (Some (record { before = Empty; above = [] })) (option_or (option_map (below_first key part) (place_of k below)) (option_map (after_first key part below) (place_of k rest))) miss) ∙ found)
 ]
 
 -- what stands below a node occurs in the whole
@@ -61,15 +61,15 @@ pub under_counts : (j k : ℕ) (x : Part) (under f : Forest) → node_at k f ≡
 under_counts j k x under Empty found = absurd (cc found)
 under_counts j k x under (Tree key part below rest) found = elim (tested key k) [
   | inl hit ↦
-    let both : Some (part, below) ≡ Some (x, under) = sym (chosen (nat_eq key k) (Some (part, below)) (option_or (node_at k below) (node_at k rest)) hit) ∙ found in
-    let pair : (part, below) ≡ (x, under) = cc both in
-    let same : times j below ≡ times j under = ap (λ (n : Part × Forest). times j n.1) pair in
-    omega (arith, same)
+      let both : Some (part, below) ≡ Some (x, under) = sym (chosen (nat_eq key k) (Some (part, below)) (option_or (node_at k below) (node_at k rest)) hit) ∙ found in
+      let pair : (part, below) ≡ (x, under) = cc both in
+      let same : times j below ≡ times j under = ap (λ (n : Part × Forest). times j n.1) pair in
+      omega (arith, same)
   | inr miss ↦
-    elim (node_at k below) as (λ (o : Option (Part × Forest)). node_at k below ≡ o → option_or o (node_at k rest) ≡ Some (x, under) → times j under ≤ times j (Tree key part below rest)) [
-      | Some n ↦ λ lower e. let few = under_counts j k x under below (lower ∙ e) in omega (arith, few)
-      | None ↦ λ lower e. let few = under_counts j k x under rest e in omega (arith, few)
-    ] refl (sym (skipped (nat_eq key k) (Some (part, below)) (option_or (node_at k below) (node_at k rest)) miss) ∙ found)
+      elim (node_at k below) as (λ (o : Option (Part × Forest)). node_at k below ≡ o → option_or o (node_at k rest) ≡ Some (x, under) → times j under ≤ times j (Tree key part below rest)) [
+        | Some n ↦ λ lower e. let few = under_counts j k x under below (lower ∙ e) in omega (arith, few)
+        | None ↦ λ lower e. let few = under_counts j k x under rest e in omega (arith, few)
+      ] refl (sym (skipped (nat_eq key k) (Some (part, below)) (option_or (node_at k below) (node_at k rest)) miss) ∙ found)
 ]
 
 -- ---- The first place of a key
@@ -167,10 +167,10 @@ module _ (s : Slab Node) (root : ℕ) (tree : Forest) (stands : Stands s None (r
   pub left_is : (key : ℕ) (a : Ancestor) (outer : List Ancestor) (up : Above key a outer) → left_of key up.keeps.node ≡ (if can_move a then Some (count a.before - 1) else None)
   left_is key a outer up =
       let at : position (λ (k : ℕ). k == key) up.keeps.node.children.items ≡ Some (count a.before) =
-          ap (λ (l : List ℕ). position (λ (k : ℕ). k == key) l) (up.keeps.children_are ∙ up.children_of)
-          ∙ position_from-zero (λ (k : ℕ). k == key) (tops a.before ++ key ∷ up.others)
-          ∙ position_at key 0 up.below (tops a.before) up.others up.tops_of up.once
-          ∙ ap (λ (n : ℕ). Some n) (let long = length-tops a.before in omega (arith, long)) in
+      ap (λ (l : List ℕ). position (λ (k : ℕ). k == key) l) (up.keeps.children_are ∙ up.children_of)
+      ∙ position_from-zero (λ (k : ℕ). k == key) (tops a.before ++ key ∷ up.others)
+      ∙ position_at key 0 up.below (tops a.before) up.others up.tops_of up.once
+      ∙ ap (λ (n : ℕ). Some n) (let long = length-tops a.before in omega (arith, long)) in
       ap (λ (x : Part). left_in (is_sequence x) (position (λ (k : ℕ). k == key) up.keeps.node.children.items)) up.keeps.part_is
       ∙ ap (λ (o : Option ℕ). left_in (is_sequence a.part) o) at ∙ left_case (is_sequence a.part) (count a.before)
 
@@ -191,8 +191,8 @@ module _ (s : Slab Node) (root : ℕ) (tree : Forest) (stands : Stands s None (r
       elim place.above as (λ (up : List Ancestor). place.above ≡ up → up ≡ []) [
         | [] ↦ λ is. refl
         | a ∷ outer ↦ λ is.
-          let up = above_at key place a outer found is in
-          absurd (cc (none, ap (λ (o : Option Node). option_and_then (λ (n : Node). n.parent) o) up.there, up.parent_is))
+            let up = above_at key place a outer found is in
+            absurd (cc (none, ap (λ (o : Option Node). option_and_then (λ (n : Node). n.parent) o) up.there, up.parent_is))
       ] refl
 
   pub some_parent : (key p : ℕ) (place : Place) → place_of key tree ≡ Some place → option_and_then (λ (n : Node). n.parent) (get s key) ≡ Some p →
@@ -200,12 +200,12 @@ module _ (s : Slab Node) (root : ℕ) (tree : Forest) (stands : Stands s None (r
   some_parent key p place found some =
       elim place.above as (λ (up : List Ancestor). place.above ≡ up → (a : Ancestor) × (outer : List Ancestor) × (place.above ≡ a ∷ outer) × (p ≡ a.key)) [
         | [] ↦ λ is.
-          let top = top_at key place found is in
-          absurd (cc (some, ap (λ (o : Option Node). option_and_then (λ (n : Node). n.parent) o) top.1, top.2))
+            let top = top_at key place found is in
+            absurd (cc (some, ap (λ (o : Option Node). option_and_then (λ (n : Node). n.parent) o) top.1, top.2))
         | a ∷ outer ↦ λ is.
-          let up = above_at key place a outer found is in
-          let both : Some p ≡ Some a.key = sym some ∙ ap (λ (o : Option Node). option_and_then (λ (n : Node). n.parent) o) up.there ∙ up.parent_is in
-          (a, outer, is, cc both)
+            let up = above_at key place a outer found is in
+            let both : Some p ≡ Some a.key = sym some ∙ ap (λ (o : Option Node). option_and_then (λ (n : Node). n.parent) o) up.there ∙ up.parent_is in
+            (a, outer, is, cc both)
       ] refl
 
   -- the child on the way down moves here

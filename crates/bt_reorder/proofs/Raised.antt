@@ -29,9 +29,9 @@ height_kept : (p : ℕ) (change : Part → Forest → Forest) (f : Forest) → (
 height_kept p change Empty keeps = omega arith
 height_kept p change (Tree key part below rest) keeps = elim (tested key p) [
   | inl hit ↦ let lower = keeps part below in
-    subst (λ (g : Forest). height g ≤ height (Tree key part below rest)) (sym (changed_here p change key part below rest hit)) (omega (arith, lower))
+      subst (λ (g : Forest). height g ≤ height (Tree key part below rest)) (sym (changed_here p change key part below rest hit)) (omega (arith, lower))
   | inr miss ↦ let lower = height_kept p change below keeps in let later = height_kept p change rest keeps in
-    subst (λ (g : Forest). height g ≤ height (Tree key part below rest)) (sym (changed_other p change key part below rest miss)) (omega (arith, lower, later))
+      subst (λ (g : Forest). height g ≤ height (Tree key part below rest)) (sym (changed_other p change key part below rest miss)) (omega (arith, lower, later))
 ]
 
 root_stays : (p : ℕ) (change : Part → Forest → Forest) (root : ℕ) (below tree : Forest) → tree ≡ Tree root Goals below Empty → (under : Forest) × (changed_below p change tree ≡ Tree root Goals under Empty)
@@ -56,11 +56,12 @@ module _ (world : World) (t : PlanTree) (tree : Forest) (st : StandsFor t world 
 
   inner : (parent : Option ℕ) (part : Part) (children : List ℕ) (below : Forest) → times a.key below ≡ 0 → ((k : ℕ) → times k below ≤ 1) → Keeps t.nodes parent a.key part children → Stands t.nodes (Some a.key) children below →
       (changed : List ℕ) × Keeps new parent a.key part changed × Stands new (Some a.key) changed (change part below)
-  inner parent part children below lacks few keeps stands =
-      (swapped place children,
-       edited_as t.nodes new a.key (λ (o : Option ℕ). o) (λ (ks : List ℕ). swapped place ks) edit parent part children keeps,
-       swap_stands new place (Some a.key) children below (stands_by t.nodes new (Some a.key) children below
-         (λ (k : ℕ) (node : Node) has there. other_nodes k (λ e. absurd (omega (arith, has, subst (λ (n : ℕ). times n below ≡ 0) (sym e) lacks))) ∙ there) stands))
+  inner parent part children below lacks few keeps stands = (
+    swapped place children,
+    edited_as t.nodes new a.key (λ (o : Option ℕ). o) (λ (ks : List ℕ). swapped place ks) edit parent part children keeps,
+    swap_stands new place (Some a.key) children below (stands_by t.nodes new (Some a.key) children below
+        (λ (k : ℕ) (node : Node) has there. other_nodes k (λ e. absurd (omega (arith, has, subst (λ (n : ℕ). times n below ≡ 0) (sym e) lacks))) ∙ there) stands),
+  )
 
   totals : (weight : ℕ → Part → ℕ) → total weight (changed_below a.key change tree) ≡ total weight tree
   totals weight =
@@ -70,7 +71,12 @@ module _ (world : World) (t : PlanTree) (tree : Forest) (st : StandsFor t world 
   stands_now : Stands new None (t.root ∷ []) (changed_below a.key change tree)
   stands_now = stands_changed t.nodes new a.key
       (λ (parent : Option ℕ) (k : ℕ) (part : Part) (children : List ℕ) differs apart (keeps : Keeps t.nodes parent k part children). record {
-        node = keeps.node; there = other_nodes k differs ∙ keeps.there; part_is = keeps.part_is; parent_is = keeps.parent_is; children_are = keeps.children_are })
+        node = keeps.node;
+        there = other_nodes k differs ∙ keeps.there;
+        part_is = keeps.part_is;
+        parent_is = keeps.parent_is;
+        children_are = keeps.children_are;
+      })
       change inner None (t.root ∷ []) tree (λ e. absurd (cc e)) st.apart.once st.nodes
 
   pub moved_stands : StandsFor (record t { nodes = new }) world (moved_in a tree)
@@ -81,34 +87,34 @@ module _ (world : World) (t : PlanTree) (tree : Forest) (st : StandsFor t world 
     nodes = stands_now;
     apart = record { once = λ key. let same = totals (λ k x. one_of k key) in let few = st.apart.once key in omega (arith, same, few) };
     whole =
-      let same = totals (λ k x. 1) in
-      let before = st.whole in
-      let len = edited_len t.nodes new a.key up.keeps.node.parent (swapped place up.keeps.node.children.items) up.keeps.node up.keeps.there (edit up.keeps.node up.keeps.there) in
-      omega (arith, same, before, len);
+        let same = totals (λ k x. 1) in
+        let before = st.whole in
+        let len = edited_len t.nodes new a.key up.keeps.node.parent (swapped place up.keeps.node.children.items) up.keeps.node up.keeps.there (edit up.keeps.node up.keeps.there) in
+        omega (arith, same, before, len);
     shape =
-      let root = root_stays a.key change t.root st.shape.below tree st.shape.is in
-      let nodes = totals (λ k x. 1) in
-      let added = totals (λ k x. added_by x) in
-      let few = st.shape.few in
-      let low = st.shape.low in
-      let level = height_kept a.key change tree (λ (part : Part) (f : Forest). let same = height-swap place f in omega (arith, same)) in
-      record {
-        below = root.0;
-        is = root.1;
-        fit = changed_fits a.key change (length world.rows) (λ (part : Part) (f : Forest) ok. swap_fits (length world.rows) place f ok)
-            (λ (part : Part) (f : Forest) ok. swap_own (length world.rows) place part f ok) tree st.shape.fit;
-        few = omega (arith, nodes, added, few);
-        low = omega (arith, added, low, level);
-      };
+        let root = root_stays a.key change t.root st.shape.below tree st.shape.is in
+        let nodes = totals (λ k x. 1) in
+        let added = totals (λ k x. added_by x) in
+        let few = st.shape.few in
+        let low = st.shape.low in
+        let level = height_kept a.key change tree (λ (part : Part) (f : Forest). let same = height-swap place f in omega (arith, same)) in
+        record {
+          below = root.0;
+          is = root.1;
+          fit = changed_fits a.key change (length world.rows) (λ (part : Part) (f : Forest) ok. swap_fits (length world.rows) place f ok)
+              (λ (part : Part) (f : Forest) ok. swap_own (length world.rows) place part f ok) tree st.shape.fit;
+          few = omega (arith, nodes, added, few);
+          low = omega (arith, added, low, level);
+        };
   }
 
   part_kept : (k : ℕ) (node : Node) → get t.nodes k ≡ Some node → (after : Node) × (get new k ≡ Some after) × (after.part ≡ node.part)
   part_kept k node there = elim (tested k a.key) [
     | inl hit ↦
-      let here : k ≡ a.key = is_same k a.key hit in
-      let mid : get t.nodes a.key ≡ Some node = ap (λ (n : ℕ). get t.nodes n) (sym here) ∙ there in
-      let now = edited_keeps t.nodes new a.key node.parent (swapped place node.children.items) node mid (edit node mid) in
-      (now.node, ap (λ (n : ℕ). get new n) here ∙ now.there, now.part_is)
+        let here : k ≡ a.key = is_same k a.key hit in
+        let mid : get t.nodes a.key ≡ Some node = ap (λ (n : ℕ). get t.nodes n) (sym here) ∙ there in
+        let now = edited_keeps t.nodes new a.key node.parent (swapped place node.children.items) node mid (edit node mid) in
+        (now.node, ap (λ (n : ℕ). get new n) here ∙ now.there, now.part_is)
     | inr miss ↦ (node, other_nodes k (is_other k a.key miss) ∙ there, refl)
   ]
 
@@ -165,7 +171,7 @@ module _ (world : World) (t : PlanTree) (tree : Forest) (st : StandsFor t world 
       let place : count c.a.before - 1 ≡ change.place = ap (λ (m : Move). m.place) c.change_is in
       let some = moves_some _ (count c.a.before) c.moves in
       let long : length c.up.keeps.node.children.items ≡ length (tops c.a.before) + suc (length c.up.others) =
-          ap (λ (l : List ℕ). length l) (c.up.keeps.children_are ∙ c.up.children_of) ∙ length-append (tops c.a.before) (c.child ∷ c.up.others) in
+      ap (λ (l : List ℕ). length l) (c.up.keeps.children_are ∙ c.up.children_of) ∙ length-append (tops c.a.before) (c.child ∷ c.up.others) in
       let many = length-tops c.a.before in
       (c.up.keeps.node, ap (λ (k : ℕ). get t.nodes k) (sym parent) ∙ c.up.keeps.there, omega (arith, place, some, long, many))
 
@@ -174,7 +180,7 @@ module _ (world : World) (t : PlanTree) (tree : Forest) (st : StandsFor t world 
       Raises (record t { nodes = new }) world tree key
   raises change c new edit =
       let edit_a : (node : Node) → get t.nodes c.a.key ≡ Some node → Edits t.nodes new c.a.key node.parent (swapped (count c.a.before - 1) node.children.items) node =
-          subst (λ (m : Move). (node : Node) → get t.nodes m.parent ≡ Some node → Edits t.nodes new m.parent node.parent (swapped m.place node.children.items) node) (sym c.change_is) edit in
+      subst (λ (m : Move). (node : Node) → get t.nodes m.parent ≡ Some node → Edits t.nodes new m.parent node.parent (swapped m.place node.children.items) node) (sym c.change_is) edit in
       record {
         tree_after = moved_in c.a tree;
         is = ap (λ (o : Option Ancestor). option_map (λ (a : Ancestor). moved_in a tree) o) c.first;

@@ -133,6 +133,20 @@ fn threat_above(t: &PlanTree, action: u32, key: usize, levels: usize) -> Option<
     }
 }
 
+/// The first conflict of the action of this key and row.
+fn own_conflict(t: &PlanTree, action: u32, key: usize) -> Option<(usize, usize)>
+    ensures { (world : World) (tree : Forest) (place : Place) → StandsFor t.now world tree → place_of key tree ≡ Some place
+        → result ≡ slice_get (conflicts_of world.rows tree (record { key = key; row = action } ∷ [])) 0 }
+{
+    let Some(parent) = parent_of(&t.nodes, key) else {
+        return None;
+    };
+    match threat_above(t, action, parent, t.nodes.len()) {
+        Some(head) => Some((key, head)),
+        None => None,
+    }
+}
+
 /// The first conflict in some trees that have at most so many levels.
 #[cycle(walk)]
 fn conflict_in(t: &PlanTree, keys: &[usize], levels: usize) -> Option<(usize, usize)>
@@ -157,12 +171,11 @@ fn conflict_at(t: &PlanTree, key: usize, levels: usize) -> Option<(usize, usize)
         → get t.now.nodes key ≡ Some node → Stands t.now.nodes (Some key) node.children.items below → height below ≤ levels
         → result ≡ slice_get (conflicts_of world.rows tree (own_actions key node.part (actions below))) 0 }
 {
-    let node = t.nodes.get(key)?;
+    let Some(node) = t.nodes.get(key) else {
+        return None;
+    };
     match node.part {
-        Part::Action(row) => {
-            let head = threat_above(t, row, node.parent?, t.nodes.len())?;
-            Some((key, head))
-        }
+        Part::Action(row) => own_conflict(t, row, key),
         _ => conflict_in(t, &node.children, levels),
     }
 }

@@ -21,7 +21,7 @@ returns-in-Some-left_of t c = λ root tree place stands apart found low.
     let up = some_parent s root tree stands apart.once c.args.key c.in-Some.parent place found (sym c.in-Some.ensures) in
     let above = above_at s root tree stands apart.once c.args.key place up.0 up.1 found up.2 in
     let left : left_of c.args.key above.keeps.node ≡ Some c.in-Some-left_of.place =
-        sym (c.in-Some-left_of.ensures above.keeps.node (ap (λ (k : ℕ). get s k) up.3 ∙ above.keeps.there)) in
+    sym (c.in-Some-left_of.ensures above.keeps.node (ap (λ (k : ℕ). get s k) up.3 ∙ above.keeps.there)) in
     ap (λ (k : ℕ). Some (record { parent = k; place = c.in-Some-left_of.place })) up.3 ∙ sym (move_here s root tree stands apart.once c.args.key c.in-Some-left_of.place up.0 up.1 above left)
     ∙ ap (λ (l : List Ancestor). option_map move_in (find can_move l)) (sym up.2)
 

@@ -7,11 +7,11 @@ use Rattle.bt_reorder.proofs.raising.raise.Goals as goal
 pub returns-in-None : goal.returns-in-None
 returns-in-None c = record {
   raised = λ world tree st is.
-    let place = place_is world c.args.t.now tree st c.args.added is in
-    let high = above_height c.args.added tree place.0 place.1 in
-    let wide = height-le_size tree in
-    let whole = st.whole in
-    (no_raise world c.args.t.now tree st c.args.added is (c.in-None.ensures c.args.t.now.root tree place.0 st.nodes st.apart place.1 (omega (arith, high, wide, whole, c.len.ensures))), refl);
+      let place = place_is world c.args.t.now tree st c.args.added is in
+      let high = above_height c.args.added tree place.0 place.1 in
+      let wide = height-le_size tree in
+      let whole = st.whole in
+      (no_raise world c.args.t.now tree st c.args.added is (c.in-None.ensures c.args.t.now.root tree place.0 st.nodes st.apart place.1 (omega (arith, high, wide, whole, c.len.ensures))), refl);
 }
 
 pub swap_children-requires : goal.swap_children-requires
@@ -26,17 +26,17 @@ swap_children-requires c =
     let whole = st.whole in
     change_within world c.args.t.now tree st c.args.added is c.in-Some.change
     (chosen world c.args.t.now tree st c.args.added is c.in-Some.change
-      (c.in-Some.ensures c.args.t.now.root tree place.0 st.nodes st.apart place.1 (omega (arith, high, wide, whole, c.len.ensures))))
+    (c.in-Some.ensures c.args.t.now.root tree place.0 st.nodes st.apart place.1 (omega (arith, high, wide, whole, c.len.ensures))))
 
 pub returns-in-Some : goal.returns-in-Some
 returns-in-Some c = record {
   raised = λ world tree st is.
-    let place = place_is world c.args.t.now tree st c.args.added is in
-    let high = above_height c.args.added tree place.0 place.1 in
-    let wide = height-le_size tree in
-    let whole = st.whole in
-    raises world c.args.t.now tree st c.args.added is c.in-Some.change
-    (chosen world c.args.t.now tree st c.args.added is c.in-Some.change
+      let place = place_is world c.args.t.now tree st c.args.added is in
+      let high = above_height c.args.added tree place.0 place.1 in
+      let wide = height-le_size tree in
+      let whole = st.whole in
+      raises world c.args.t.now tree st c.args.added is c.in-Some.change
+      (chosen world c.args.t.now tree st c.args.added is c.in-Some.change
       (c.in-Some.ensures c.args.t.now.root tree place.0 st.nodes st.apart place.1 (omega (arith, high, wide, whole, c.len.ensures))))
-    c.swap_children.new.nodes c.swap_children.ensures;
+      c.swap_children.new.nodes c.swap_children.ensures;
 }
