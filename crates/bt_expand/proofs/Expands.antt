@@ -23,9 +23,10 @@ use Rattle.bt_expand.specs.Forests.{Forest, Empty, Tree, Ancestor, changed_below
 use Rattle.bt_expand.specs.Growth.{Adds, AddsLast, Wraps, branch_tree, parts_of, rule_needs}
 use Rattle.bt_expand.specs.Rows.{needs_of, row_achieves, rule_of}
 use Rattle.bt_expand.specs.Stands.{IsConditionOf, PartsFit, StandsFor}
-use Rattle.bt_expand.proofs.Counted.{height-leaves, size-leaves}
+use Rattle.bt_expand.proofs.Counted.{height-leaves, one_of, one_same, size-leaves}
 use Rattle.bt_expand.proofs.Expansions.{Stood, rule_needs_is, stood_condition, untried_is}
-use Rattle.bt_expand.proofs.Regrown.{Regrown, regrown_last, regrown_parts, regrown_stands, regrown_wraps}
+use Rattle.bt_expand.proofs.Regrown.{last_sequence, regrown_last, regrown_new, regrown_parts, regrown_stands, regrown_wraps, wrap_after}
+use Rattle.bt_expand.proofs.Standing.{stands_by}
 
 -- ---- Rows of a valid world
 
@@ -225,6 +226,11 @@ module _ (world : World) (t : PlanTree) (tree : Forest) (st : StandsFor t world 
         all = branch_all g.keys g.counted;
         named = refl;
         stands = subst (λ (f : Forest). StandsFor (record t { nodes = new }) world f) (sym is_changed) (regrown_stands world t tree st new at.a.key change (branch g.keys g.counted) grew);
+        sequence =
+          let keeps = (last_sequence world t tree st key (Condition is.0) at 0 added (Sequence row) real_parts new kind g (omega (arith, branch_few g.keys g.counted)) (branch_one g.keys g.counted) (branch_low g.keys g.counted)
+              (branch_fits g.keys g.counted)).3 in
+          let one : one_of added added ≡ 1 = one_same added added refl in
+          ap (λ (f : Forest). part_at added f) is_changed ∙ regrown_new world t tree st new at.a.key change (branch g.keys g.counted) grew added (Sequence row) (Some at.a.key) _ (omega (arith, one)) keeps;
         kept = λ old x there. ap (λ (f : Forest). part_at old f) is_changed ∙ regrown_parts world t tree st new at.a.key change (branch g.keys g.counted) grew old x there;
       }
   by_kind false kind g =
@@ -242,6 +248,11 @@ module _ (world : World) (t : PlanTree) (tree : Forest) (st : StandsFor t world 
         all = branch_all g.keys g.counted;
         named = refl;
         stands = subst (λ (f : Forest). StandsFor (record t { nodes = new }) world f) (sym is_changed) (regrown_stands world t tree st new at.a.key change more grew);
+        sequence =
+          let keeps = (wrap_after world t tree st key (Condition is.0) at added (Sequence row) real_parts new kind g (branch_few g.keys g.counted) (branch_one g.keys g.counted) (branch_low g.keys g.counted)
+              (branch_fits g.keys g.counted)).3 in
+          let one : one_of added added ≡ 1 = one_same added added refl in
+          ap (λ (f : Forest). part_at added f) is_changed ∙ regrown_new world t tree st new at.a.key change more grew added (Sequence row) (Some g.fallback) _ (omega (arith, one)) keeps;
         kept = λ old x there. ap (λ (f : Forest). part_at old f) is_changed ∙ regrown_parts world t tree st new at.a.key change more grew old x there;
       }
 
@@ -253,3 +264,15 @@ module _ (world : World) (t : PlanTree) (tree : Forest) (st : StandsFor t world 
       let second = subst (λ (k : ℕ). GrowsBehind (is_fallback node.part) t.nodes new k key added (Sequence row) row_parts) parent_at first in
       let third = subst (λ (x : Part). GrowsBehind (is_fallback x) t.nodes new at.a.key key added (Sequence row) row_parts) at.keeps_a.part_is second in
       by_kind (is_fallback at.a.part) refl (subst (λ (ps : List Part). GrowsBehind (is_fallback at.a.part) t.nodes new at.a.key key added (Sequence row) ps) parts_now third)
+
+-- room alone changes nothing
+pub room_stands : (world : World) (t : PlanTree) (tree : Forest) (room : ℕ) → StandsFor t world tree → StandsFor (record t { nodes = record t.nodes { capacity = room } }) world tree
+room_stands world t tree room st = record {
+  valid = st.valid;
+  rules = st.rules;
+  templates = st.templates;
+  nodes = stands_by t.nodes (record t.nodes { capacity = room }) None (t.root ∷ []) tree (λ (k : ℕ) (node : Node) has there. there) st.nodes;
+  apart = st.apart;
+  whole = st.whole;
+  shape = st.shape;
+}

@@ -207,6 +207,16 @@ module _ (world : World) (t : PlanTree) (tree : Forest) (st : StandsFor t world 
       let part_is : found.0.0 ≡ part = sym now.2.part_is ∙ ap (λ (n : Node). n.part) (sym node_is) ∙ after.2 ∙ kept.2.part_is in
       ap (λ (o : Option (Part × Forest)). option_map (λ (n : Part × Forest). n.0) o) found.1 ∙ ap (λ (x : Part). Some x) part_is
 
+  -- what a new node is
+  pub regrown_new : (k : ℕ) (part : Part) (above : Option ℕ) (children : List ℕ) → 1 ≤ times k added → Keeps new above k part children → part_at k (changed_below p change tree) ≡ Some part
+  regrown_new k part above children some keeps =
+      let all = g.totals (λ n x. one_of n k) in
+      let still : 1 ≤ times k (changed_below p change tree) = omega (arith, some, all) in
+      let found = node_found k (changed_below p change tree) still in
+      let now = kept_at new k found.0.0 found.0.1 None (t.root ∷ []) (changed_below p change tree) g.stands found.1 in
+      let same = same_node new now.0 above k found.0.0 part now.1 children now.2 keeps in
+      ap (λ (o : Option (Part × Forest)). option_map (λ (n : Part × Forest). n.0) o) found.1 ∙ ap (λ (x : Part). Some x) same.1
+
 -- ---- In a fallback
 
 module _ (world : World) (t : PlanTree) (tree : Forest) (st : StandsFor t world tree) (key : ℕ) (own : Part) (at : Stood t.nodes tree key own) (fallback : ℕ) where
@@ -267,6 +277,10 @@ module _ (world : World) (t : PlanTree) (tree : Forest) (st : StandsFor t world 
               (stands_joined new (Some at.a.key) children (seq ∷ []) below last_added (last_same below lacks (Some at.a.key) children stands)
               (last_same last_added fresh (Some at.a.key) (seq ∷ []) g.adds.stands)),
         )
+
+    -- the new sequence itself
+    pub last_sequence : Stands new (Some at.a.key) (seq ∷ []) last_added
+    last_sequence = last_same last_added (g.adds.fresh at.a.key at.keeps_a.node at.keeps_a.there) (Some at.a.key) (seq ∷ []) g.adds.stands
 
     pub regrown_last : Regrown world t tree new at.a.key last_change last_added
     regrown_last = record {
@@ -447,7 +461,7 @@ module _ (world : World) (t : PlanTree) (tree : Forest) (st : StandsFor t world 
   fallback_lacks : times g.fallback wrap_new ≡ 0
   fallback_lacks = g.adds.fresh g.fallback (blank Fallback (Some at.a.key)) g.inserted.updates.changed
 
-  wrap_after : Stands new (Some g.fallback) (seq ∷ []) wrap_new
+  pub wrap_after : Stands new (Some g.fallback) (seq ∷ []) wrap_new
   wrap_after = stands_by g.second new (Some g.fallback) (seq ∷ []) wrap_new
       (λ (k : ℕ) (node : Node) has there. both_other k node
       (λ e. absurd (omega (arith, has, subst (λ (n : ℕ). times n wrap_new ≡ 0) (sym e) (fresh_new at.a.key at.keeps_a.node at.keeps_a.there))))

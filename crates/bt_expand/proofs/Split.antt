@@ -1,13 +1,13 @@
 -- Trees that stand side by side, taken apart at a key.
-use Rattle.std.proofs.Common.{◌≡◌, ◌≢◌, ℕ, zero, suc, ◌+◌, ◌<◌, ◌≤◌, max, List, [], ◌∷◌, ◌++◌, length, take, drop, get_or, Option, Some, None, refl, ap, sym, ◌∙◌, subst, arith, append_assoc}
+use Rattle.std.proofs.Common.{◌≡◌, ◌≢◌, ℕ, zero, suc, ◌+◌, ◌<◌, ◌≤◌, max, List, [], ◌∷◌, ◌++◌, length, take, drop, get_or, Option, Some, None, refl, ap, sym, ◌∙◌, subst, arith, append_assoc, ◌⊎◌, inl, inr}
 use Rattle.std.specs.Prelude.{slice_get}
 use Rattle.std.proofs.lemmas.List.{length-append, take_more}
 use Rattle.slab.specs.Slab.{Slab, get}
 use Rattle.bt_expand.specs.declared.node.Node.{Node}
 use Rattle.bt_expand.specs.declared.node.Part.{Part}
-use Rattle.bt_expand.specs.Forests.{Forest, Empty, Tree, height, joined, keys_of, size}
+use Rattle.bt_expand.specs.Forests.{Forest, Empty, Tree, height, joined, keys_of, size, times}
 use Rattle.bt_expand.specs.Stands.{Keeps, Stands}
-use Rattle.bt_expand.proofs.Counted.{height-joined, total-joined}
+use Rattle.bt_expand.proofs.Counted.{height-joined, one_of, one_same, total-joined}
 
 -- the trees before a key, the tree of the key, and those behind it
 pub record Split (s : Slab Node) (parent : Option ℕ) (before : List ℕ) (key : ℕ) (after : List ℕ) (f : Forest) : Type 0 where
@@ -110,3 +110,17 @@ pub get-append_right : (xs ys : List ℕ) (i j key : ℕ) → i ≡ length xs + 
 get-append_right [] ys i j key at is = ap (λ (n : ℕ). slice_get ys n) (omega (arith, at)) ∙ is
 get-append_right (x ∷ xs) ys zero j key at is = absurd (omega (arith, at))
 get-append_right (x ∷ xs) ys (suc i) j key at is = get-append_right xs ys i j key (omega (arith, at)) is
+
+get-append_cases : (xs ys : List ℕ) (i key : ℕ) → slice_get (xs ++ ys) i ≡ Some key → (slice_get xs i ≡ Some key) ⊎ ((j : ℕ) × (slice_get ys j ≡ Some key))
+get-append_cases [] ys i key is = inr (i, is)
+get-append_cases (x ∷ xs) ys zero key is = inl is
+get-append_cases (x ∷ xs) ys (suc i) key is = get-append_cases xs ys i key is
+
+-- a key that has a number is one of the forest's
+pub key_counts : (f : Forest) (i key : ℕ) → slice_get (keys_of f) i ≡ Some key → 1 ≤ times key f
+key_counts Empty i key found = absurd (cc found)
+key_counts (Tree k part below rest) zero key found = let one : one_of k key ≡ 1 = one_same k key (cc found) in omega (arith, one)
+key_counts (Tree k part below rest) (suc i) key found = elim (get-append_cases (keys_of below) (keys_of rest) i key found) [
+  | inl lower ↦ let has = key_counts below i key lower in omega (arith, has)
+  | inr later ↦ let has = key_counts rest later.0 key later.1 in omega (arith, has)
+]

@@ -7,6 +7,7 @@ use Rattle.bt_domain.specs.declared.template.Template.{Template}
 use Rattle.bt_expand.specs.declared.expanding.Choice.{Choice}
 use Rattle.bt_expand.specs.declared.node.Node.{Node}
 use Rattle.bt_expand.specs.declared.node.Part.{Part}
+use Rattle.bt_expand.specs.declared.node.Part.TheVariants.{Sequence}
 use Rattle.bt_expand.specs.declared.plan_tree.PlanTree.{PlanTree}
 use Rattle.bt_expand.specs.Expansion.{NewKeys, expanded, untried}
 use Rattle.bt_expand.specs.Forests.{Forest, part_at}
@@ -23,6 +24,7 @@ pub record Expands (after : PlanTree) (world : World) (tree : Forest) (key added
   pub all : length keys.leaves ≡ length (needs_of world.rows template.row) + 1
   pub named : added ≡ keys.sequence
   pub stands : StandsFor after world (expanded world.rows keys key template.row tree)
+  pub sequence : part_at added (expanded world.rows keys key template.row tree) ≡ Some (Sequence template.row)
   pub kept : (old : ℕ) (part : Part) → part_at old tree ≡ Some part → part_at old (expanded world.rows keys key template.row tree) ≡ Some part
 
 -- a template that achieves the condition of this row and has no sequence among these

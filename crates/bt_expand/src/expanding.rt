@@ -220,6 +220,7 @@ pub fn expand(alloc: Global, t: &mut PlanTree, key: usize) -> Result<usize, Stop
     ensures added { IfOk result (λ added. (world : World) (tree : Forest) → StandsFor t.old world tree → IsConditionOf tree key → Expands t.new world tree key added) }
     ensures untried { (world : World) (tree : Forest) → StandsFor t.old world tree → IsConditionOf tree key → (result ≡ Err (Fault NoUntried)) ↔ (untried world.rows key tree ≡ []) }
     ensures kept { OnErr result (t.new ≡ record t.old { nodes = record t.old.nodes { capacity = t.new.nodes.capacity } }) }
+    ensures stands { OnErr result ((world : World) (tree : Forest) → StandsFor t.old world tree → StandsFor t.new world tree) }
 {
     match choose(t, key) {
         Some(choice) => Ok(add_sequence(alloc, &mut t.nodes, t.rules.list(), key, choice)?),

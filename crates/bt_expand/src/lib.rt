@@ -12,7 +12,7 @@ mod rule;
 
 pub use expanding::{ExpandFault, expand};
 pub use node::{Node, Part};
-pub use numbers::{key_of, row_of};
+pub use numbers::{key_of, part_of, row_of};
 pub use plan_tree::{PlanTree, plan_tree_of};
 pub use planned::tree_of;
 pub use rule::Rule;

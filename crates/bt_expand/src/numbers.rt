@@ -5,7 +5,7 @@ ghost use Rattle.std.specs.Option.{option_and_then};
 ghost use Rattle.slab.specs.Slab.{get};
 ghost use Rattle.bt_model.specs.declared.world.World.{World};
 ghost use Rattle.bt_expand.specs.declared.node.Node.{Node};
-ghost use Rattle.bt_expand.specs.Forests.{Forest, height, keys_of, size};
+ghost use Rattle.bt_expand.specs.Forests.{Forest, height, keys_of, part_at, size, times};
 ghost use Rattle.bt_expand.specs.Numbers.{IsRowAt, Numbered, row_in};
 ghost use Rattle.bt_expand.specs.Stands.{Stands, StandsFor};
 
@@ -30,6 +30,16 @@ fn row_at(nodes: &Slab<Node>, key: usize) -> u32
     match nodes.get(key) {
         Some(node) => row_in(node.part).unwrap_or(0),
         None => 0,
+    }
+}
+
+/// What the node of this key is, for a key that the plan tree has.
+pub fn part_of(t: &PlanTree, key: usize) -> Option<Part>
+    ensures { (world : World) (tree : Forest) → StandsFor t.now world tree → 1 ≤ times key tree → result ≡ part_at key tree }
+{
+    match t.nodes.get(key) {
+        Some(node) => Some(node.part),
+        None => None,
     }
 }
 
@@ -68,7 +78,8 @@ fn find_in(nodes: &Slab<Node>, keys: &[usize], number: usize, levels: usize) -> 
 /// The key of the node that has this number in the behavior tree, from 1 on.
 pub fn key_of(t: &PlanTree, uid: u32) -> usize
     requires { (world : World) × (tree : Forest) × StandsFor t.now world tree × (1 ≤ uid) × (uid ≤ size tree) }
-    ensures { (world : World) (tree : Forest) → StandsFor t.now world tree → slice_get (keys_of tree) (uid - 1) ≡ Some result }
+    ensures numbered { (world : World) (tree : Forest) → StandsFor t.now world tree → slice_get (keys_of tree) (uid - 1) ≡ Some result }
+    ensures known { (world : World) (tree : Forest) → StandsFor t.now world tree → 1 ≤ times result tree }
 {
     find_in(&t.nodes, &[t.root], uid as usize - 1, t.nodes.len()).unwrap_or(t.root)
 }

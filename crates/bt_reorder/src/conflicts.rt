@@ -124,10 +124,26 @@ fn threat_above(t: &PlanTree, action: u32, key: usize, levels: usize) -> Option<
     if levels == 0 {
         return None;
     }
-    let parent = parent_of(&t.nodes, key)?;
+    let Some(parent) = parent_of(&t.nodes, key) else {
+        return None;
+    };
     match threat_above(t, action, parent, levels - 1) {
         Some(head) => Some(head),
         None => threat_in(t, action, parent, key),
+    }
+}
+
+/// The first conflict of the action of this key and row.
+fn own_conflict(t: &PlanTree, action: u32, key: usize) -> Option<(usize, usize)>
+    ensures { (world : World) (tree : Forest) (place : Place) → StandsFor t.now world tree → place_of key tree ≡ Some place
+        → result ≡ slice_get (conflicts_of world.rows tree (record { key = key; row = action } ∷ [])) 0 }
+{
+    let Some(parent) = parent_of(&t.nodes, key) else {
+        return None;
+    };
+    match threat_above(t, action, parent, t.nodes.len()) {
+        Some(head) => Some((key, head)),
+        None => None,
     }
 }
 
@@ -155,12 +171,11 @@ fn conflict_at(t: &PlanTree, key: usize, levels: usize) -> Option<(usize, usize)
         → get t.now.nodes key ≡ Some node → Stands t.now.nodes (Some key) node.children.items below → height below ≤ levels
         → result ≡ slice_get (conflicts_of world.rows tree (own_actions key node.part (actions below))) 0 }
 {
-    let node = t.nodes.get(key)?;
+    let Some(node) = t.nodes.get(key) else {
+        return None;
+    };
     match node.part {
-        Part::Action(row) => {
-            let head = threat_above(t, row, node.parent?, t.nodes.len())?;
-            Some((key, head))
-        }
+        Part::Action(row) => own_conflict(t, row, key),
         _ => conflict_in(t, &node.children, levels),
     }
 }

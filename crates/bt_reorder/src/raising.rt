@@ -66,7 +66,9 @@ fn find_move(nodes: &Slab<Node>, key: usize, levels: usize) -> Option<Move>
     if levels == 0 {
         return None;
     }
-    let parent = parent_of(nodes, key)?;
+    let Some(parent) = parent_of(nodes, key) else {
+        return None;
+    };
     match left_of(nodes, parent, key) {
         Some(place) => Some(Move { parent, place }),
         None => find_move(nodes, parent, levels - 1),

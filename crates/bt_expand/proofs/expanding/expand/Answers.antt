@@ -9,7 +9,8 @@ use Rattle.bt_expand.specs.Expanded.{GrowsBehind}
 use Rattle.bt_expand.specs.Expansion.{untried}
 use Rattle.bt_expand.specs.Forests.{is_fallback}
 use Rattle.bt_expand.specs.Growth.{parts_of, rule_needs}
-use Rattle.bt_expand.proofs.Expands.{expands}
+use Rattle.bt_expand.specs.Stands.{StandsFor}
+use Rattle.bt_expand.proofs.Expands.{expands, room_stands}
 use Rattle.bt_expand.proofs.Searched.{first_none}
 use Rattle.bt_expand.proofs.expanding.expand.Goals as goal
 
@@ -31,3 +32,10 @@ pub returns-in_ok-add_sequence-in-Some-clause-untried : goal.returns-in_ok-add_s
 returns-in_ok-add_sequence-in-Some-clause-untried c = λ world tree st is.
     let chosen = c.in-Some.ensures world tree st is in
     (λ e. absurd (cc e), λ e. absurd (cc (chosen.first, first_none (untried world.rows c.args.key tree) e)))
+
+pub returns-in_err-add_sequence-in-Some-clause-stands : goal.returns-in_err-add_sequence-in-Some-clause-stands
+returns-in_err-add_sequence-in-Some-clause-stands c =
+    let p = err_from_is_err_and c.from_residual.result c.from_residual.ensures.1 in
+    let t = c.args.t.now in
+    rw (p.1) (λ world tree st.
+      subst (λ nodes. StandsFor (record t { nodes = nodes }) world tree) (sym c.in_err-add_sequence-in-Some.ensures.kept) (room_stands world t tree c.add_sequence.new.nodes.capacity st))

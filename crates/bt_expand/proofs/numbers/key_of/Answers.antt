@@ -4,10 +4,11 @@ use Rattle.std.specs.Result.{result_unwrap_or}
 use Rattle.bt_expand.specs.Forests.{height, keys_of, size}
 use Rattle.bt_expand.specs.Numbers.{Numbered}
 use Rattle.bt_expand.proofs.Counted.{height-le_size}
+use Rattle.bt_expand.proofs.Split.{key_counts}
 use Rattle.bt_expand.proofs.numbers.key_of.Goals as goal
 
-pub returns : goal.returns
-returns c = λ world tree st.
+pub returns-clause-numbered : goal.returns-clause-numbered
+returns-clause-numbered c = λ world tree st.
     let asked = c.requires in
     let same = asked.2.whole in
     let whole = st.whole in
@@ -18,3 +19,6 @@ returns c = λ world tree st.
       | Ok key ↦ λ is found. found ∙ ap (λ (k : ℕ). Some k) (sym (c.unwrap_or.ensures ∙ ap (λ (r : Result ℕ ℕ). result_unwrap_or r c.args.t.now.root) is))
       | Err left ↦ λ is past. absurd (omega (arith, past, asked.3, asked.4, same, whole))
     ] refl numbered
+
+pub returns-clause-known : goal.returns-clause-known
+returns-clause-known c = λ world tree st. key_counts tree (c.args.uid - 1) c.unwrap_or.result (returns-clause-numbered c world tree st)
