@@ -227,10 +227,10 @@ module _ (world : World) (t : PlanTree) (tree : Forest) (st : StandsFor t world 
         named = refl;
         stands = subst (λ (f : Forest). StandsFor (record t { nodes = new }) world f) (sym is_changed) (regrown_stands world t tree st new at.a.key change (branch g.keys g.counted) grew);
         sequence =
-          let keeps = (last_sequence world t tree st key (Condition is.0) at 0 added (Sequence row) real_parts new kind g (omega (arith, branch_few g.keys g.counted)) (branch_one g.keys g.counted) (branch_low g.keys g.counted)
-              (branch_fits g.keys g.counted)).3 in
-          let one : one_of added added ≡ 1 = one_same added added refl in
-          ap (λ (f : Forest). part_at added f) is_changed ∙ regrown_new world t tree st new at.a.key change (branch g.keys g.counted) grew added (Sequence row) (Some at.a.key) _ (omega (arith, one)) keeps;
+            let keeps = (last_sequence world t tree st key (Condition is.0) at 0 added (Sequence row) real_parts new kind g (omega (arith, branch_few g.keys g.counted)) (branch_one g.keys g.counted) (branch_low g.keys g.counted)
+            (branch_fits g.keys g.counted)).3 in
+            let one : one_of added added ≡ 1 = one_same added added refl in
+            ap (λ (f : Forest). part_at added f) is_changed ∙ regrown_new world t tree st new at.a.key change (branch g.keys g.counted) grew added (Sequence row) (Some at.a.key) _ (omega (arith, one)) keeps;
         kept = λ old x there. ap (λ (f : Forest). part_at old f) is_changed ∙ regrown_parts world t tree st new at.a.key change (branch g.keys g.counted) grew old x there;
       }
   by_kind false kind g =
@@ -249,10 +249,10 @@ module _ (world : World) (t : PlanTree) (tree : Forest) (st : StandsFor t world 
         named = refl;
         stands = subst (λ (f : Forest). StandsFor (record t { nodes = new }) world f) (sym is_changed) (regrown_stands world t tree st new at.a.key change more grew);
         sequence =
-          let keeps = (wrap_after world t tree st key (Condition is.0) at added (Sequence row) real_parts new kind g (branch_few g.keys g.counted) (branch_one g.keys g.counted) (branch_low g.keys g.counted)
-              (branch_fits g.keys g.counted)).3 in
-          let one : one_of added added ≡ 1 = one_same added added refl in
-          ap (λ (f : Forest). part_at added f) is_changed ∙ regrown_new world t tree st new at.a.key change more grew added (Sequence row) (Some g.fallback) _ (omega (arith, one)) keeps;
+            let keeps = (wrap_after world t tree st key (Condition is.0) at added (Sequence row) real_parts new kind g (branch_few g.keys g.counted) (branch_one g.keys g.counted) (branch_low g.keys g.counted)
+            (branch_fits g.keys g.counted)).3 in
+            let one : one_of added added ≡ 1 = one_same added added refl in
+            ap (λ (f : Forest). part_at added f) is_changed ∙ regrown_new world t tree st new at.a.key change more grew added (Sequence row) (Some g.fallback) _ (omega (arith, one)) keeps;
         kept = λ old x there. ap (λ (f : Forest). part_at old f) is_changed ∙ regrown_parts world t tree st new at.a.key change more grew old x there;
       }
 

@@ -38,4 +38,4 @@ returns-in_err-add_sequence-in-Some-clause-stands c =
     let p = err_from_is_err_and c.from_residual.result c.from_residual.ensures.1 in
     let t = c.args.t.now in
     rw (p.1) (λ world tree st.
-      subst (λ nodes. StandsFor (record t { nodes = nodes }) world tree) (sym c.in_err-add_sequence-in-Some.ensures.kept) (room_stands world t tree c.add_sequence.new.nodes.capacity st))
+    subst (λ nodes. StandsFor (record t { nodes = nodes }) world tree) (sym c.in_err-add_sequence-in-Some.ensures.kept) (room_stands world t tree c.add_sequence.new.nodes.capacity st))
