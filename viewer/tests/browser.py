@@ -1,4 +1,5 @@
 """A headless Chromium, and what the tests ask of a page in it."""
+import contextlib
 import json
 import pathlib
 import shutil
@@ -48,6 +49,7 @@ def is_there():
 
 try:
     from selenium import webdriver
+    from selenium.common.exceptions import WebDriverException
     from selenium.webdriver.chrome.service import Service
     from selenium.webdriver.common.by import By
     from selenium.webdriver.common.keys import Keys
@@ -129,7 +131,9 @@ class Browser:
         return [entry["message"] for entry in self.driver.get_log("browser")]
 
     def close(self):
-        self.driver.quit()
+        """Ends the browser, which may have ended by itself."""
+        with contextlib.suppress(WebDriverException):
+            self.driver.quit()
 
 
 def skip():
