@@ -1,6 +1,6 @@
 //! Which worlds scripts describe, and the first faulty line of the others.
 
-use bt_model::{Row, RowSort, World};
+use bt_model::{How, Row, RowSort, World};
 use bt_script::{Name, Stop};
 use bt_world::read_world;
 use std::alloc::{AllocError, Global};
@@ -32,7 +32,11 @@ fn put_sort(alloc: Global, row: &Row, out: &mut String) -> Result<(), AllocError
 /// What a row sets and puts out.
 fn put_effects(alloc: Global, row: &Row, out: &mut String) -> Result<(), AllocError> {
     for set in row.sets.list() {
-        out.push_str(format!(in alloc; " {}={}", set.fact, set.value)?.as_str())?;
+        let sign = match set.how {
+            How::To => "=",
+            How::By => "+=",
+        };
+        out.push_str(format!(in alloc; " {}{sign}{}", set.fact, set.value)?.as_str())?;
     }
     for output in row.outs.list() {
         out.push_str(format!(in alloc; " {}:", shown(&output.port))?.as_str())?;
@@ -204,7 +208,7 @@ fn whole_files(rt: HostRuntime) -> Result<(), Fail> {
 }
 
 /// Scripts, with their lines between slashes, and the world of each.
-static ACCEPTED: [(&str, &str); 9] = [
+static ACCEPTED: [(&str, &str); 11] = [
     (
         "fact x -9223372036854775808 / fact y 9223372036854775807",
         "x -9223372036854775808; y 9223372036854775807; [] 1",
@@ -225,6 +229,14 @@ static ACCEPTED: [(&str, &str); 9] = [
     (
         "fact x 0 / action A(p) gate x == p / sets x = 1",
         "x 0; A,p gate [] 0=1; [] 1",
+    ),
+    (
+        "fact x 0 / fact y 0 / action A timed 1 / sets y += -1 / sets x = 1",
+        "x 0; y 0; A timed 1 false [] 1+=-1 0=1; [] 1",
+    ),
+    (
+        "fact x 0 / fact y 0 / fact z 0 / action A replay 0 F / sets\tx\t+=  0 / sets y += -9223372036854775808 / sets z += 9223372036854775807",
+        "x 0; y 0; z 0; A replay 0 [false] [] 0+=0 1+=-9223372036854775808 2+=9223372036854775807; [] 1",
     ),
     (
         "runners 2 / fact x 0 / tick 2 / at 5 / halt 1 / at 5 / set x 7",
@@ -281,6 +293,16 @@ action A timed 1 / fails => BadLine 3
 condition C when 1 / needs C => BadLine 3
 fact x 1 / action A timed 1 / tick 1 / sets x = 1 => BadLine 5
 fact x 1 / action A timed 1 / sets x=1 => BadLine 4
+fact x 1 / action A timed 1 / sets x +=1 => BadLine 4
+fact x 1 / action A timed 1 / sets x+= 1 => BadLine 4
+fact x 1 / action A timed 1 / sets x + = 1 => BadLine 4
+fact x 1 / action A timed 1 / sets x =+ 1 => BadLine 4
+fact x 1 / action A timed 1 / sets x -= 1 => BadLine 4
+fact x 1 / action A timed 1 / sets x += +1 => BadLine 4
+fact x 1 / action A timed 1 / sets x += x => BadLine 4
+fact x 1 / action A timed 1 / sets x += => BadLine 4
+fact x 1 / action A timed 1 / sets x += 1 2 => BadLine 4
+fact x 1 / condition C is x == 1 / sets x += 1 => BadLine 4
 fact x 1 / action A timed 1 / out p 1 => BadLine 4
 goal => BadLine 2
 tick 1 / runners 1 => BadLine 3
@@ -294,6 +316,7 @@ action A timed 1000000000001 => Range 2
 action A timed -1 => Range 2
 action A replay 1000000000001 S => Range 2
 fact x 1 / action A timed 1 / sets x = 9223372036854775808 => Range 4
+fact x 1 / action A timed 1 / sets x += -9223372036854775809 => Range 4
 runners 0 => Range 2
 runners 17 => Range 2
 at 1000000000001 => Range 2
@@ -309,6 +332,9 @@ action A(p,q,p) timed 1 => DoubleName 2
 action A timed 1 / fails 1 / fails 1 => DoubleName 4
 fact x 1 / condition C is x == 1 / action A timed 1 / needs C / needs C => DoubleName 6
 fact x 1 / action A timed 1 / sets x = 1 / sets x = 2 => DoubleName 5
+fact x 1 / action A timed 1 / sets x = 1 / sets x += 1 => DoubleName 5
+fact x 1 / action A timed 1 / sets x += 1 / sets x = 1 => DoubleName 5
+fact x 1 / action A timed 1 / sets x += 1 / sets x += 1 => DoubleName 5
 action A timed 1 / out p = 1 / out p = 1 => DoubleName 4
 fact x 1 / condition C is x == 1 / goal C / goal C => DoubleName 5
 runners 1 / runners 1 => DoubleName 3
@@ -319,6 +345,7 @@ action A timed 1 / fails x => NoName 3
 action A timed 1 / needs A => NoName 3
 condition W when 1 / action A timed 1 / needs W => NoName 4
 action A timed 1 / sets x = 1 => NoName 3
+action A timed 1 / sets x += 1 => NoName 3
 action A timed 1 / out p = p => NoName 3
 goal G => NoName 2
 condition W when 1 / goal W => NoName 3
@@ -385,7 +412,7 @@ static LIMITS: [((&str, &str, usize), (&str, &str, usize), &str); 15] = [
     ),
     (
         ("", "fact f# 1", 17),
-        ("\naction A timed 1", "sets f# = 1", 17),
+        ("\naction A timed 1", "sets f# += 1", 17),
         "TooMany 36",
     ),
     (

@@ -528,6 +528,75 @@ fn actions_answer_by_their_rows(rt: HostRuntime) -> Result<(), NoMemory> {
 }
 
 #[test]
+fn effects_add(rt: HostRuntime) -> Result<(), NoMemory> {
+    compare_rows(
+        &rt,
+        rt.alloc(),
+        &[
+            (
+                "fact x 7 / fact y 0 / action A timed 0 / sets y += 0 / sets x += -1 / out p = x",
+                "",
+                "0 at 0, 0 at 0, 1 at 0",
+                "Success; Success; Success; facts 4 0; outputs [5]",
+            ),
+            // up to either end of 64 bits
+            (
+                "fact x -1 / fact y -9223372036854775808 / action A gate 1 / sets x += -9223372036854775807 / sets y += 9223372036854775807",
+                "",
+                "0 at 0",
+                "Success; facts -9223372036854775808 -1; outputs []",
+            ),
+            (
+                "fact x 9223372036854775806 / action A timed 0 / sets x += 1 / out p = x",
+                "",
+                "0 at 0, 0 at 0",
+                "Success; Broken(Overflow); facts 9223372036854775807; outputs [9223372036854775806]",
+            ),
+            // the second overflows, and the first is not applied
+            (
+                "fact x 1 / fact y 9223372036854775807 / action A timed 0 / sets x = 5 / sets y += 1 / out p = x",
+                "",
+                "0 at 0, 0 at 0",
+                "Broken(Overflow); Broken(Overflow); facts 1 9223372036854775807; outputs []",
+            ),
+            (
+                "fact x 1 / fact y 9223372036854775807 / action A timed 0 / sets y += 1 / sets x = 5",
+                "",
+                "0 at 0",
+                "Broken(Overflow); facts 1 9223372036854775807; outputs []",
+            ),
+            // an overflow is no completion, and what is held stays held
+            (
+                "fact x -9223372036854775808 / action A replay 5 SF / sets x += -1",
+                "",
+                "0 at 0, 0 at 5, 0 at 6",
+                "Running; Broken(Overflow); Broken(Overflow); facts -9223372036854775808; outputs []; held",
+            ),
+            (
+                "fact x 9223372036854775807 / action A gate x / sets x += 1",
+                "",
+                "0 at 0",
+                "Broken(Overflow); facts 9223372036854775807; outputs []",
+            ),
+            // a fault of an output comes first
+            (
+                "fact x 9223372036854775807 / action A timed 0 / sets x += 1 / out p = 1/(x - x)",
+                "",
+                "0 at 0",
+                "Broken(ZeroDivisor); facts 9223372036854775807; outputs []",
+            ),
+            // no effect without success
+            (
+                "fact x 9223372036854775807 / action A replay 0 F / sets x += 1",
+                "",
+                "0 at 0",
+                "Failure; facts 9223372036854775807; outputs []",
+            ),
+        ],
+    )
+}
+
+#[test]
 fn last_outcomes_stay(rt: HostRuntime) -> Result<(), NoMemory> {
     let alloc = rt.alloc();
     let lines = format!(in alloc; "action A replay 0 {}S", "F".repeat(alloc, 63)?)?;

@@ -197,6 +197,68 @@ fn runs_have_their_traces(rt: HostRuntime) -> Result<(), Fail> {
     Ok(())
 }
 
+const COUNTED: &str = "\
+tick 1 at 0
+node 1 IDLE RUNNING
+call 2 start SUCCESS
+node 2 IDLE SUCCESS
+call 3 start SUCCESS
+node 3 IDLE SUCCESS
+call 4 start SUCCESS
+node 4 IDLE SUCCESS
+node 2 SUCCESS IDLE
+node 3 SUCCESS IDLE
+node 4 SUCCESS IDLE
+node 1 RUNNING SUCCESS
+root 1 SUCCESS
+node 1 SUCCESS IDLE
+fact n 2
+finish 1 at 0
+Done";
+
+const OVERFLOW: &str = "\
+tick 1 at 0
+node 1 IDLE RUNNING
+fault 1 2 Overflow
+Fault";
+
+const HELD_OVERFLOW: &str = "\
+tick 1 at 0
+call 1 start RUNNING
+node 1 IDLE RUNNING
+root 1 RUNNING
+tick 1 at 100
+fault 1 1 Overflow
+quench 1 1
+Fault";
+
+#[test]
+fn effects_add(rt: HostRuntime) -> Result<(), Fail> {
+    compare_rows(
+        &rt,
+        rt.alloc(),
+        &[
+            (
+                "<Sequence><Inc/><Inc/><Two/></Sequence>",
+                "fact n 0 / action Inc timed 0 / sets n += 1 / condition Two is n == 2 / tick 1",
+                COUNTED,
+            ),
+            (
+                "<Sequence><Inc/></Sequence>",
+                "fact n 9223372036854775807 / action Inc timed 0 / sets n += 1 / tick 1",
+                OVERFLOW,
+            ),
+            (
+                "<Inc/>",
+                "fact x 0 / fact n 9223372036854775807 / action Inc timed 100 / sets x = 1 / sets n += 1 / \
+                tick 1 / at 100 / tick 1",
+                HELD_OVERFLOW,
+            ),
+        ],
+    )?;
+    Ok(())
+}
+
 #[test]
 fn runs_without_ticks_have_no_calls(rt: HostRuntime) -> Result<(), Fail> {
     compare_rows(

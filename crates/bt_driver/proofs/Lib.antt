@@ -1,3 +1,4 @@
+pub mod Applying
 pub mod Missing
 pub mod Outputs
 pub mod Padding

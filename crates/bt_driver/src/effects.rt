@@ -1,17 +1,21 @@
 ghost use Rattle.std.specs.Prelude.{◌≡◌, ◌<◌, Ok, Err, IfErr, OnErr, OnOk, length};
 ghost use Rattle.std.specs.List.{All};
-ghost use Rattle.bt_model.specs.Leaf.{effects_of, made_by};
+ghost use Rattle.bt_model.specs.Leaf.{effects_of, fact_at, made_by};
 
 use crate::facts::FactTable;
 use bt_model::{Cause, How, Set};
 
-/// What an effect makes of the value that its fact has, or the overflow of the sum.
-fn made(how: How, number: i64, value: i64) -> Result<i64, Cause>
-    ensures { result ≡ made_by how number value }
+/// What an effect makes of its fact, or the overflow of the sum.
+fn made(set: &Set, facts: &FactTable) -> Result<i64, Cause>
+    requires { set.now.fact < length facts.now }
+    ensures { result ≡ made_by set.now.how set.now.value (fact_at facts.now set.now.fact) }
 {
-    match how {
-        How::To => Ok(number),
-        How::By => value.checked_add(number).ok_or(Cause::Overflow),
+    match set.how {
+        How::To => Ok(set.value),
+        How::By => {
+            let sum = facts.get(set.fact).checked_add(set.value);
+            sum.ok_or(Cause::Overflow)
+        }
     }
 }
 
@@ -27,7 +31,7 @@ pub fn apply(sets: &[Set], facts: &mut FactTable) -> Result<(), Cause>
     let [set, rest @ ..] = sets else {
         return Ok(());
     };
-    let value = made(set.how, set.value, facts.get(set.fact))?;
+    let value = made(set, facts)?;
     apply(rest, facts)?;
     facts.put(set.fact, value);
     Ok(())

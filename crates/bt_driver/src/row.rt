@@ -48,12 +48,7 @@ impl ReadyRow {
     /// Makes the facts and `outs` those that a completion leaves, or answers its first fault and leaves
     /// both. Where the row has no outputs, no place is copied.
     #[inline(always)]
-    fn work_out(
-        &self,
-        inputs: &Inputs,
-        facts: &mut FactTable,
-        outs: &mut Outs,
-    ) -> Result<(), Cause>
+    fn work_out(&self, inputs: &Inputs, facts: &mut FactTable, outs: &mut Outs) -> Result<(), Cause>
         requires { length facts.old ≡ self.now.facts }
         ensures made { OnOk result (worked_out (rule self.now) inputs.now facts.old ≡ Ok (outs.new, facts.new)) }
         ensures fault { IfErr result (λ cause. worked_out (rule self.now) inputs.now facts.old ≡ Err cause) }
