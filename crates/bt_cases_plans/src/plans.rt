@@ -117,6 +117,19 @@ goal G
 goal H
 ";
 
+/// An action that adds, and one that takes away.
+const ADDS: &str = "bt-world 1
+fact n 0
+condition Three is n >= 3
+condition Low is n <= 5
+action Inc timed 0
+sets n += 1
+action Dec timed 0
+sets n += -1
+goal Low
+goal Three
+";
+
 /// Ten actions, each of which needs what the next one does.
 const LADDER: &str = "bt-world 1
 fact f0 0
@@ -263,7 +276,17 @@ expand Pick
 /// After one more step.
 static PICK_4: Row = Row {
     world: PICK,
-    steps: &[Step::Expand(2), Step::Expand(5), Step::Expand(9), Step::Conflict, Step::Expand(12), Step::Conflict, Step::Raise, Step::Conflict, Step::Raise],
+    steps: &[
+        Step::Expand(2),
+        Step::Expand(5),
+        Step::Expand(9),
+        Step::Conflict,
+        Step::Expand(12),
+        Step::Conflict,
+        Step::Raise,
+        Step::Conflict,
+        Step::Raise,
+    ],
     want: r#"expand Place
 expand GoGoal
 expand Pick
@@ -309,7 +332,16 @@ not raised
 /// Two goals whose actions undo each other: no raise mends the conflict.
 static UNDOING: Row = Row {
     world: SWAP,
-    steps: &[Step::Expand(2), Step::Conflict, Step::Expand(6), Step::Conflict, Step::Raise, Step::Conflict, Step::Raise, Step::Conflict],
+    steps: &[
+        Step::Expand(2),
+        Step::Conflict,
+        Step::Expand(6),
+        Step::Conflict,
+        Step::Raise,
+        Step::Conflict,
+        Step::Raise,
+        Step::Conflict,
+    ],
     want: r#"expand A
 no conflict
 expand B
@@ -342,7 +374,14 @@ conflict A G2
 /// One condition with three templates.
 static ALTERNATIVES: Row = Row {
     world: THREE,
-    steps: &[Step::Expand(2), Step::Expand(3), Step::Expand(3), Step::Conflict, Step::Expand(3), Step::Conflict],
+    steps: &[
+        Step::Expand(2),
+        Step::Expand(3),
+        Step::Expand(3),
+        Step::Conflict,
+        Step::Expand(3),
+        Step::Conflict,
+    ],
     want: r#"expand A
 expand B
 expand C
@@ -374,7 +413,14 @@ no conflict
 /// A condition that stands twice: each node has its own untried templates.
 static TWO_NODES: Row = Row {
     world: NEEDS,
-    steps: &[Step::Expand(2), Step::Expand(7), Step::Expand(5), Step::Expand(13), Step::Expand(6), Step::Expand(14)],
+    steps: &[
+        Step::Expand(2),
+        Step::Expand(7),
+        Step::Expand(5),
+        Step::Expand(13),
+        Step::Expand(6),
+        Step::Expand(14),
+    ],
     want: r#"expand MakeY
 expand MakeZ
 expand MakeX
@@ -417,7 +463,16 @@ untried
 /// A sequence that is raised in two sequences, one after the other.
 static TWO_RAISES: Row = Row {
     world: DEEP,
-    steps: &[Step::Expand(3), Step::Expand(7), Step::Conflict, Step::Raise, Step::Conflict, Step::Raise, Step::Conflict, Step::Raise],
+    steps: &[
+        Step::Expand(3),
+        Step::Expand(7),
+        Step::Conflict,
+        Step::Raise,
+        Step::Conflict,
+        Step::Raise,
+        Step::Conflict,
+        Step::Raise,
+    ],
     want: r#"expand MakeMid
 expand MakeLow
 conflict MakeLow Keep
@@ -452,7 +507,13 @@ not raised
 /// A goal that an action needs, too.
 static GOAL_TWICE: Row = Row {
     world: TWICE,
-    steps: &[Step::Expand(3), Step::Expand(6), Step::Expand(2), Step::Expand(3), Step::Conflict],
+    steps: &[
+        Step::Expand(3),
+        Step::Expand(6),
+        Step::Expand(2),
+        Step::Expand(3),
+        Step::Conflict,
+    ],
     want: r#"expand B
 expand A
 expand A
@@ -485,10 +546,65 @@ no conflict
 "#,
 };
 
+/// Effects that add are judged by their sign.
+static ADDING: Row = Row {
+    world: ADDS,
+    steps: &[
+        Step::Expand(3),
+        Step::Conflict,
+        Step::Raise,
+        Step::Conflict,
+        Step::Expand(6),
+        Step::Conflict,
+        Step::Expand(3),
+    ],
+    want: r#"expand Inc
+conflict Inc Low
+raised
+no conflict
+expand Dec
+conflict Dec Three
+untried
+<root BTCPP_format="4" main_tree_to_execute="Plan">
+  <BehaviorTree ID="Plan">
+    <ReactiveSequence>
+      <ReactiveFallback>
+        <Three/>
+        <ReactiveSequence>
+          <Inc/>
+        </ReactiveSequence>
+      </ReactiveFallback>
+      <ReactiveFallback>
+        <Low/>
+        <ReactiveSequence>
+          <Dec/>
+        </ReactiveSequence>
+      </ReactiveFallback>
+    </ReactiveSequence>
+  </BehaviorTree>
+</root>
+"#,
+};
+
 /// Ten expansions, each below the one before, and two raises.
 static LADDER_10: Row = Row {
     world: LADDER,
-    steps: &[Step::Expand(3), Step::Expand(6), Step::Expand(9), Step::Expand(12), Step::Expand(15), Step::Expand(18), Step::Expand(21), Step::Expand(24), Step::Expand(27), Step::Expand(30), Step::Conflict, Step::Raise, Step::Conflict, Step::Raise],
+    steps: &[
+        Step::Expand(3),
+        Step::Expand(6),
+        Step::Expand(9),
+        Step::Expand(12),
+        Step::Expand(15),
+        Step::Expand(18),
+        Step::Expand(21),
+        Step::Expand(24),
+        Step::Expand(27),
+        Step::Expand(30),
+        Step::Conflict,
+        Step::Raise,
+        Step::Conflict,
+        Step::Raise,
+    ],
     want: r#"expand A0
 expand A1
 expand A2
@@ -575,7 +691,7 @@ not raised
 
 #[test]
 fn plan_trees(rt: HostRuntime) -> Result<(), NoMemory> {
-    let rows: [&Row; 10] = [
+    let rows: [&Row; 11] = [
         &PICK_1,
         &PICK_2,
         &PICK_3,
@@ -585,6 +701,7 @@ fn plan_trees(rt: HostRuntime) -> Result<(), NoMemory> {
         &TWO_NODES,
         &TWO_RAISES,
         &GOAL_TWICE,
+        &ADDING,
         &LADDER_10,
     ];
     compare(&rt, rt.alloc(), &rows)

@@ -190,7 +190,9 @@ fn parts_of(alloc: Global, t: &PlanTree) -> Result<Vec<(usize, Part)>, NoMemory>
 
 /// Whether each of these keys still names such a node.
 fn are_kept(t: &PlanTree, parts: &[(usize, Part)]) -> bool {
-    parts.iter().all(|(key, part)| part_of(t, *key) == Some(*part))
+    parts
+        .iter()
+        .all(|(key, part)| part_of(t, *key) == Some(*part))
 }
 
 /// What is told of the steps over a world that has a goal.
