@@ -1,0 +1,56 @@
+//! Which effects achieve a test and which threaten it.
+
+use bt_domain::{Test, achieves, threatens};
+use bt_model::{How, Set};
+use bt_script::Cmp;
+
+/// A comparison with 3, an effect, and whether it achieves and threatens the test.
+type Row = (Cmp, How, i64, bool, bool);
+
+static ROWS: [Row; 24] = [
+    (Cmp::Equal, How::To, 3, true, false),
+    (Cmp::Equal, How::To, 4, false, true),
+    (Cmp::Differ, How::To, 3, false, true),
+    (Cmp::Less, How::To, 2, true, false),
+    (Cmp::AtMost, How::To, 3, true, false),
+    (Cmp::More, How::To, 3, false, true),
+    (Cmp::AtLeast, How::To, 3, true, false),
+    (Cmp::Equal, How::By, 1, true, true),
+    (Cmp::Equal, How::By, -1, true, true),
+    (Cmp::Differ, How::By, 1, true, true),
+    (Cmp::Differ, How::By, -1, true, true),
+    (Cmp::Less, How::By, 1, false, true),
+    (Cmp::Less, How::By, -1, true, false),
+    (Cmp::AtMost, How::By, 1, false, true),
+    (Cmp::AtMost, How::By, -1, true, false),
+    (Cmp::More, How::By, 1, true, false),
+    (Cmp::More, How::By, -1, false, true),
+    (Cmp::AtLeast, How::By, 1, true, false),
+    (Cmp::AtLeast, How::By, -1, false, true),
+    (Cmp::Equal, How::By, 0, false, false),
+    (Cmp::Differ, How::By, 0, false, false),
+    (Cmp::Less, How::By, 0, false, false),
+    (Cmp::More, How::By, 0, false, false),
+    (Cmp::AtLeast, How::By, 0, false, false),
+];
+
+#[test]
+fn single_effects(rt: HostRuntime) {
+    for (op, how, value, achieved, threatened) in &ROWS {
+        let test = Test {
+            fact: 1,
+            op: *op,
+            value: 3,
+        };
+        let effect = Set {
+            fact: 1,
+            how: *how,
+            value: *value,
+        };
+        let elsewhere = Set { fact: 0, ..effect };
+        assert_eq!(rt; achieves(&test, &[elsewhere, effect]), *achieved);
+        assert_eq!(rt; threatens(&[elsewhere, effect], &test), *threatened);
+        assert!(rt; !achieves(&test, &[elsewhere]));
+        assert!(rt; !threatens(&[elsewhere], &test));
+    }
+}
