@@ -1,9 +1,5 @@
-//! Tests alone: which effects achieve and threaten a test, and plan trees step by step.
+//! Tests alone: which effects achieve and threaten a test.
 #![tactic(auto)]
 
 #[cfg(test)]
 mod effects;
-#[cfg(test)]
-mod plans;
-#[cfg(test)]
-mod stage;
