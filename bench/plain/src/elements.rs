@@ -1,7 +1,7 @@
 //! From the bytes of a tree file to its elements, in one pass and without recursion.
 
 use crate::output::Refusal;
-use crate::scan::{are_different, is_name_byte, is_name_start, is_space};
+use crate::scan::{are_different, find, is_name_byte, is_name_start, is_space};
 use std::borrow::Cow;
 use std::ops::Range;
 
@@ -134,7 +134,7 @@ impl<'f> Scanner<'f> {
     /// Goes on to the next `<`, and says whether there is one.
     fn skip_text(&mut self) -> Result<bool, Refusal> {
         if self.models > 0 {
-            self.at = self.text[self.at..].find('<').map_or(self.bytes.len(), |it| self.at + it);
+            self.at = find(self.bytes, self.at, b'<').unwrap_or(self.bytes.len());
         } else {
             self.skip_spaces();
         }
@@ -156,8 +156,8 @@ impl<'f> Scanner<'f> {
         let place = self.at;
         let from = place + opening;
         let mut at = from;
-        while let Some(found) = self.text[at..].find('>') {
-            at += found + 1;
+        while let Some(found) = find(self.bytes, at, b'>') {
+            at = found + 1;
             if at >= from + end.len() && self.bytes[..at].ends_with(end.as_bytes()) {
                 if self.has_zeros && self.bytes[place..at].contains(&0) {
                     break;

@@ -6,8 +6,9 @@ use crate::build::{Given, Guards, Kind, Node, Tree};
 use crate::elements::NONE;
 use crate::output::{quoted, Exit, Refusal};
 use crate::scan::{canonical, Canonical};
-use crate::scripts::{Cause, Cells, Code, Stacks, Stop, Value};
+use crate::scripts::{Cause, Cells, Code, Setting, Stacks, Stop, Value};
 use crate::world::{Event, Row, Sort, What, World, PORTS};
+use std::rc::Rc;
 
 /// What a node keeps between visits.
 #[derive(Clone, Copy, PartialEq)]
@@ -165,6 +166,7 @@ impl<T: PartialEq> Changing<T> {
         Changing { written: vec![0; values.len()], values, block: 1, old: Vec::new() }
     }
 
+    #[inline]
     fn put(&mut self, place: u32, value: T) {
         let at = place as usize;
         let old = std::mem::replace(&mut self.values[at], value);
@@ -201,7 +203,7 @@ impl Runner {
     fn new(tree: &Tree, leaves: &Leaves) -> Runner {
         let opening = tree.cells.iter().map(|it| match it.literal {
             Some(Given::Int(number)) => Value::Int(number),
-            Some(Given::Text(text)) => Value::Text(text.as_bytes().into()),
+            Some(Given::Text(text)) => Value::Text(Rc::new(text.as_bytes().into())),
             _ => Value::Absent,
         });
         Runner {
@@ -287,19 +289,19 @@ impl<'t, N: Notes> Turn<'t, N> {
         self.runner.memos[at as usize] = memo;
     }
 
-    fn run(&mut self, at: u32, node: &Node, code: Code) -> Result<Value, Broken> {
+    fn run(&mut self, at: u32, node: &Node, code: Code) -> Result<Option<i64>, Broken> {
         let slots = &self.plan.tree.slots[node.base as usize..];
         let mut scope = Scope { slots, board: &mut self.runner.board };
         match self.plan.tree.codes.run(code, &mut scope, self.stacks) {
-            Ok(value) => Ok(value),
+            Ok(number) => Ok(number),
             Err(cause) => self.fail(at, cause),
         }
     }
 
     fn is_true(&mut self, at: u32, node: &Node, code: Code) -> Result<bool, Broken> {
         match self.run(at, node, code)? {
-            Value::Int(number) => Ok(number != 0),
-            _ => self.fail(at, Cause::Mixed),
+            Some(number) => Ok(number != 0),
+            None => self.fail(at, Cause::Mixed),
         }
     }
 
@@ -453,13 +455,14 @@ impl<'t, N: Notes> Turn<'t, N> {
             Kind::Switch(cases) => self.switch(at, node, starts, u32::from(cases)),
             Kind::IfThenElse => self.if_then_else(at, node, starts),
             Kind::WhileDoElse => self.while_do_else(node),
-            Kind::Retry => self.again(at, node, starts, Answer::Failure, "num_attempts"),
-            Kind::Repeat => self.again(at, node, starts, Answer::Success, "num_cycles"),
+            Kind::Retry => self.again(at, node, starts, Answer::Failure, Setting::NumAttempts),
+            Kind::Repeat => self.again(at, node, starts, Answer::Success, Setting::NumCycles),
             Kind::Timeout | Kind::Delay => self.timed(at, node, starts),
             _ => self.decorated(at, node),
         }
     }
 
+    #[inline(never)]
     fn script(&mut self, at: u32, node: &Node) -> Visited {
         let Some(code) = node.code else {
             return Ok(Answer::Success);
@@ -472,6 +475,7 @@ impl<'t, N: Notes> Turn<'t, N> {
     }
 
     /// The children in order, from the index on.
+    #[inline(never)]
     fn in_order(&mut self, at: u32, node: &Node, starts: bool, goes_on: Answer) -> Visited {
         let (first, mut seen) = match self.memo(at) {
             Memo::Index { at, seen } if !starts => (at, seen),
@@ -491,6 +495,7 @@ impl<'t, N: Notes> Turn<'t, N> {
         self.over(node, if seen { goes_on } else { Answer::Skipped })
     }
 
+    #[inline(never)]
     fn with_memory(&mut self, at: u32, node: &Node, starts: bool) -> Visited {
         let (first, mut seen) = match self.memo(at) {
             Memo::Index { at, seen } => (at, seen && !starts),
@@ -515,6 +520,7 @@ impl<'t, N: Notes> Turn<'t, N> {
         self.over(node, if seen { Answer::Success } else { Answer::Skipped })
     }
 
+    #[inline(never)]
     fn reactive(&mut self, node: &Node, goes_on: Answer) -> Visited {
         let mut seen = false;
         for number in 0..node.count {
@@ -531,6 +537,7 @@ impl<'t, N: Notes> Turn<'t, N> {
         self.over(node, if seen { goes_on } else { Answer::Skipped })
     }
 
+    #[inline(never)]
     fn parallel(&mut self, at: u32, node: &Node, starts: bool) -> Visited {
         let memo = if starts { self.counts(at, node)? } else { self.memo(at) };
         let Memo::Counts { need, most, skips, mut successes, mut failures } = memo else {
@@ -566,7 +573,7 @@ impl<'t, N: Notes> Turn<'t, N> {
     fn counts(&mut self, at: u32, node: &Node) -> Result<Memo, Broken> {
         let count = i64::from(node.count);
         let mut read = [(0, 0); 2];
-        for (place, port) in ["success_count", "failure_count"].into_iter().enumerate() {
+        for (place, port) in [Setting::SuccessCount, Setting::FailureCount].into_iter().enumerate() {
             let written = self.setting(at, node, place, port, i64::MIN, i64::MAX)?;
             let number = if written < 0 { count + 1 + written } else { written };
             if !(1..=count).contains(&number) {
@@ -578,7 +585,7 @@ impl<'t, N: Notes> Turn<'t, N> {
     }
 
     /// The number of a port, whose literal is known to fit.
-    fn setting(&mut self, at: u32, node: &Node, place: usize, port: &'static str, least: i64, greatest: i64) -> Result<i64, Broken> {
+    fn setting(&mut self, at: u32, node: &Node, place: usize, port: Setting, least: i64, greatest: i64) -> Result<i64, Broken> {
         match self.plan.tree.settings[node.detail as usize + place] {
             Given::Int(number) => Ok(number),
             Given::Key(_, name) => {
@@ -595,10 +602,11 @@ impl<'t, N: Notes> Turn<'t, N> {
     fn then_skips(&mut self, at: u32, node: &Node) -> Result<bool, Broken> {
         match self.plan.tree.settings[node.detail as usize] {
             Given::Text(text) => Ok(text == "true"),
-            _ => Ok(self.setting(at, node, 0, "then_skip", i64::MIN, i64::MAX)? != 0),
+            _ => Ok(self.setting(at, node, 0, Setting::ThenSkip, i64::MIN, i64::MAX)? != 0),
         }
     }
 
+    #[inline(never)]
     fn switch(&mut self, at: u32, node: &Node, starts: bool, cases: u32) -> Visited {
         let picked = (0..cases).find(|&it| self.is_case(node, it)).unwrap_or(cases);
         if let (false, Memo::Chosen(chosen)) = (starts, self.memo(at)) {
@@ -635,6 +643,7 @@ impl<'t, N: Notes> Turn<'t, N> {
         }
     }
 
+    #[inline(never)]
     fn if_then_else(&mut self, at: u32, node: &Node, starts: bool) -> Visited {
         let chosen = match self.memo(at) {
             Memo::Chosen(branch) if !starts => branch,
@@ -653,6 +662,7 @@ impl<'t, N: Notes> Turn<'t, N> {
         self.pass(node, answer)
     }
 
+    #[inline(never)]
     fn while_do_else(&mut self, node: &Node) -> Visited {
         let branch = match self.visit(self.child(node, 0))? {
             Answer::Running => return Ok(Answer::Running),
@@ -666,7 +676,8 @@ impl<'t, N: Notes> Turn<'t, N> {
     }
 
     /// RetryUntilSuccessful and Repeat, by the answer after which the child is visited again.
-    fn again(&mut self, at: u32, node: &Node, starts: bool, on: Answer, port: &'static str) -> Visited {
+    #[inline(never)]
+    fn again(&mut self, at: u32, node: &Node, starts: bool, on: Answer, port: Setting) -> Visited {
         let (mut done, limit) = match self.memo(at) {
             Memo::Turns { done, limit } if !starts => (done, limit),
             _ => (0, self.turns(at, node, port)?),
@@ -693,7 +704,7 @@ impl<'t, N: Notes> Turn<'t, N> {
         }
     }
 
-    fn turns(&mut self, at: u32, node: &Node, port: &'static str) -> Result<i32, Broken> {
+    fn turns(&mut self, at: u32, node: &Node, port: Setting) -> Result<i32, Broken> {
         match self.setting(at, node, 0, port, -1, 1_000)? {
             0 => self.fail(at, Cause::BadPort(port)),
             turns => Ok(turns as i32),
@@ -701,12 +712,13 @@ impl<'t, N: Notes> Turn<'t, N> {
     }
 
     /// Timeout and Delay.
+    #[inline(never)]
     fn timed(&mut self, at: u32, node: &Node, starts: bool) -> Visited {
         let is_delay = node.kind == Kind::Delay;
         let (first, length) = match self.memo(at) {
             Memo::Since { first, length } if !starts => (first, length),
             _ => {
-                let port = if is_delay { "delay_msec" } else { "msec" };
+                let port = if is_delay { Setting::DelayMsec } else { Setting::Msec };
                 let length = self.setting(at, node, 0, port, 0, i64::from(u32::MAX))? as u32;
                 self.keep(at, Memo::Since { first: self.now, length });
                 (self.now, length)
@@ -724,6 +736,7 @@ impl<'t, N: Notes> Turn<'t, N> {
     }
 
     /// The decorators that change an answer, and SubTree.
+    #[inline(never)]
     fn decorated(&mut self, at: u32, node: &Node) -> Visited {
         let child = self.child(node, 0);
         let answer = self.visit(child)?;
@@ -745,6 +758,7 @@ impl<'t, N: Notes> Turn<'t, N> {
     }
 
     /// One call of a leaf's driver.
+    #[inline(never)]
     fn leaf(&mut self, at: u32, node: &Node, starts: bool) -> Visited {
         let leaf = &self.plan.leaves.leaves[node.detail as usize];
         let row = &self.plan.world.rows[leaf.row as usize];

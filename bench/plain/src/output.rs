@@ -257,7 +257,7 @@ impl Notes for Trace<'_> {
             Cause::NotWhole => " NotWhole\n".into(),
             Cause::Mixed => " Mixed\n".into(),
             Cause::TextTooLong => " TextTooLong\n".into(),
-            Cause::BadPort(port) => format!(" BadPort {port}\n"),
+            Cause::BadPort(port) => format!(" BadPort {}\n", port.name()),
         };
         self.out.text(&line);
     }

@@ -63,6 +63,24 @@ pub fn is_identifier(name: &[u8]) -> bool {
     matches!(name, [first, rest @ ..] if is_letter(*first) && rest.iter().all(|&it| is_word_byte(it)))
 }
 
+/// The first place of a byte from here on. It looks at eight bytes at a time.
+pub fn find(bytes: &[u8], from: usize, byte: u8) -> Option<usize> {
+    const ONES: u64 = 0x0101_0101_0101_0101;
+    let wanted = ONES * u64::from(byte);
+    let mut words = bytes.get(from..)?.chunks_exact(8);
+    let mut at = from;
+    for word in &mut words {
+        let word = u64::from_le_bytes(word.try_into().unwrap_or_default()) ^ wanted;
+        // The lowest byte that is 0 has its highest bit set here, and those below it have not.
+        let zeros = word.wrapping_sub(ONES) & !word & (ONES << 7);
+        if zeros != 0 {
+            return Some(at + zeros.trailing_zeros() as usize / 8);
+        }
+        at += 8;
+    }
+    words.remainder().iter().position(|&it| it == byte).map(|it| at + it)
+}
+
 /// A number in its canonical spelling.
 #[derive(Clone, Copy, PartialEq)]
 pub enum Canonical {

@@ -18,7 +18,7 @@ pub enum Value {
     /// A number.
     Int(i64),
     /// A text.
-    Text(Rc<[u8]>),
+    Text(Rc<Box<[u8]>>),
 }
 
 /// Why a script or an expression has no value.
@@ -39,7 +39,35 @@ pub enum Cause {
     /// A text of too many bytes.
     TextTooLong,
     /// The key of this port has no number that the port takes.
-    BadPort(&'static str),
+    BadPort(Setting),
+}
+
+/// A port of a built-in node that takes a number.
+#[derive(Clone, Copy, PartialEq)]
+#[allow(missing_docs)]
+pub enum Setting {
+    SuccessCount,
+    FailureCount,
+    NumAttempts,
+    NumCycles,
+    Msec,
+    DelayMsec,
+    ThenSkip,
+}
+
+impl Setting {
+    /// Its name.
+    pub fn name(self) -> &'static str {
+        match self {
+            Setting::SuccessCount => "success_count",
+            Setting::FailureCount => "failure_count",
+            Setting::NumAttempts => "num_attempts",
+            Setting::NumCycles => "num_cycles",
+            Setting::Msec => "msec",
+            Setting::DelayMsec => "delay_msec",
+            Setting::ThenSkip => "then_skip",
+        }
+    }
 }
 
 /// Why a text is no script; each but `TooLong` has its place in the text.
@@ -78,6 +106,10 @@ enum Op {
     Not,
     Flip,
     Binary(Binary),
+    /// An operator whose right operand is a number.
+    WithNumber(Binary, i64),
+    /// An operator whose right operand is a name.
+    WithName(Binary, u32),
     /// Leaves a 0 and jumps where a 0 is on top, and else drops it.
     And(u32),
     /// Leaves a 1 and jumps where no 0 is on top, and else drops it.
@@ -136,7 +168,7 @@ pub struct Code {
 pub struct Codes {
     ops: Vec<Op>,
     statements: Vec<Statement>,
-    texts: Vec<Rc<[u8]>>,
+    texts: Vec<Rc<Box<[u8]>>>,
 }
 
 /// What may be read.
@@ -392,10 +424,12 @@ impl<'t> Reader<'_, 't> {
             }
             (token, place) = self.tokens.next()?;
         }
+        if let Some(operator) = change {
+            self.push_binary(operator);
+        }
         if self.heights.pop().is_some_and(|it| it > HIGHEST) {
             self.too_nested.get_or_insert(start);
         }
-        self.codes.ops.extend(change.map(Op::Binary));
         let ops = (from as u32, self.codes.ops.len() as u32);
         self.codes.statements.push(Statement { ops, ending, has_texts: self.codes.texts.len() > texts });
         Ok(token)
@@ -424,7 +458,7 @@ impl<'t> Reader<'_, 't> {
             Token::Name(b"false") => Op::Number(0),
             Token::Name(name) => Op::Load((self.number_of)(name)),
             Token::Text(text) if self.form == Form::Script => {
-                self.codes.texts.push(Rc::from(text));
+                self.codes.texts.push(Rc::new(text.into()));
                 Op::Text(self.codes.texts.len() as u32 - 1)
             }
             _ => return Err(ScriptFault::Syntax(place)),
@@ -481,6 +515,20 @@ impl<'t> Reader<'_, 't> {
         self.codes.ops.len() - 1
     }
 
+    /// Emits an operator. A right operand of height 1 is one instruction, the last one, which is taken into the operator.
+    fn push_binary(&mut self, operator: Binary) {
+        let op = match (self.heights.last(), self.codes.ops.last()) {
+            (Some(1), Some(&Op::Number(number))) => Op::WithNumber(operator, number),
+            (Some(1), Some(&Op::Load(name))) => Op::WithName(operator, name),
+            _ => {
+                self.push(Op::Binary(operator));
+                return;
+            }
+        };
+        self.codes.ops.pop();
+        self.push(op);
+    }
+
     /// Lets a jump that was emitted lead to what is emitted next.
     fn land(&mut self, jump: usize) {
         let here = self.codes.ops.len() as u32;
@@ -503,7 +551,7 @@ impl<'t> Reader<'_, 't> {
                     1
                 }
                 Some(Open::Infix(Infix::Plain(operator), ..)) => {
-                    self.push(Op::Binary(operator));
+                    self.push_binary(operator);
                     2
                 }
                 Some(Open::Infix(_, _, jump)) => {
@@ -561,32 +609,32 @@ impl Stacks {
 }
 
 impl Codes {
-    /// Runs a script: the value of its last statement. A statement runs on numbers alone as long as it meets no text.
-    pub fn run(&self, code: Code, cells: &mut impl Cells, stacks: &mut Stacks) -> Result<Value, Cause> {
-        let mut last = Value::Absent;
+    /// Runs a script: the number of its last statement, or none where that is a text. A statement runs on numbers alone as
+    /// long as it meets no text.
+    pub fn run(&self, code: Code, cells: &mut impl Cells, stacks: &mut Stacks) -> Result<Option<i64>, Cause> {
+        let mut last = None;
         for statement in &self.statements[code.first as usize..code.end as usize] {
-            let value = if statement.has_texts {
-                self.values(statement, cells, stacks)?
+            last = if statement.has_texts {
+                self.statement_of_values(statement, cells, stacks)?
             } else {
-                let load = |name| match cells.get(name) {
-                    Value::Int(number) => Ok(*number),
-                    Value::Absent => Err(Stop::Fault(cells.missing(name))),
-                    Value::Text(_) => Err(Stop::Text),
-                };
-                match self.numbers(statement, load, stacks) {
-                    Ok(number) => Value::Int(number),
+                match self.numbers(statement, |name| number_of(cells, name), stacks) {
+                    Ok(number) => {
+                        store(statement, Value::Int(number), cells)?;
+                        Some(number)
+                    }
                     Err(Stop::Fault(cause)) => return Err(cause),
-                    Err(Stop::Text) => self.values(statement, cells, stacks)?,
+                    Err(Stop::Text) => self.statement_of_values(statement, cells, stacks)?,
                 }
             };
-            match statement.ending {
-                Ending::Assign(name) if *cells.get(name) == Value::Absent => return Err(cells.missing(name)),
-                Ending::Create(name) | Ending::Assign(name) => cells.put(name, value.clone()),
-                Ending::Plain => {}
-            }
-            last = value;
         }
         Ok(last)
+    }
+
+    fn statement_of_values(&self, statement: &Statement, cells: &mut impl Cells, stacks: &mut Stacks) -> Result<Option<i64>, Cause> {
+        let value = self.values(statement, cells, stacks)?;
+        let number = if let Value::Int(number) = value { Some(number) } else { None };
+        store(statement, value, cells)?;
+        Ok(number)
     }
 
     /// Evaluates an expression over numbers.
@@ -597,15 +645,19 @@ impl Codes {
         })
     }
 
+    /// The instructions of a statement from a place on.
+    fn ops_from(&self, place: u32, statement: &Statement) -> std::slice::Iter<'_, Op> {
+        self.ops[place as usize..statement.ops.1 as usize].iter()
+    }
+
     /// The machine of numbers. The topmost one is kept apart, the others are in the stack below.
+    #[inline(never)]
     fn numbers(&self, statement: &Statement, load: impl Fn(u32) -> Result<i64, Stop>, stacks: &mut Stacks) -> Result<i64, Stop> {
         let stack = &mut stacks.numbers;
-        let ops = &self.ops[..statement.ops.1 as usize];
-        let mut at = statement.ops.0 as usize;
+        let mut rest = self.ops_from(statement.ops.0, statement);
         let mut below = 0usize;
         let mut top = 0i64;
-        while let Some(op) = ops.get(at) {
-            at += 1;
+        while let Some(op) = rest.next() {
             match *op {
                 Op::Number(number) => {
                     stack[below & 127] = top;
@@ -626,10 +678,12 @@ impl Codes {
                     below = below.wrapping_sub(1);
                     top = operator.of_numbers(stack[below & 127], top)?;
                 }
-                Op::And(to) if top == 0 => at = to as usize,
+                Op::WithNumber(operator, number) => top = operator.of_numbers(top, number)?,
+                Op::WithName(operator, name) => top = operator.of_numbers(top, load(name)?)?,
+                Op::And(to) if top == 0 => rest = self.ops_from(to, statement),
                 Op::Or(to) if top != 0 => {
                     top = 1;
-                    at = to as usize;
+                    rest = self.ops_from(to, statement);
                 }
                 Op::And(_) | Op::Or(_) => {
                     below = below.wrapping_sub(1);
@@ -637,32 +691,28 @@ impl Codes {
                 }
                 Op::Unless(to) => {
                     if top == 0 {
-                        at = to as usize;
+                        rest = self.ops_from(to, statement);
                     }
                     below = below.wrapping_sub(1);
                     top = stack[below & 127];
                 }
-                Op::Jump(to) => at = to as usize,
+                Op::Jump(to) => rest = self.ops_from(to, statement),
             }
         }
         Ok(top)
     }
 
-    /// The machine of values, which runs all code.
+    /// The machine of values, which runs all code. It stays out of the way of the machine of numbers.
+    #[inline(never)]
     fn values(&self, statement: &Statement, cells: &impl Cells, stacks: &mut Stacks) -> Result<Value, Cause> {
         let stack = &mut stacks.values;
         stack.clear();
-        let ops = &self.ops[..statement.ops.1 as usize];
-        let mut at = statement.ops.0 as usize;
-        while let Some(op) = ops.get(at) {
-            at += 1;
+        let mut rest = self.ops_from(statement.ops.0, statement);
+        while let Some(op) = rest.next() {
             let value = match *op {
                 Op::Number(number) => Value::Int(number),
                 Op::Text(text) => Value::Text(self.texts[text as usize].clone()),
-                Op::Load(name) => match cells.get(name) {
-                    Value::Absent => return Err(cells.missing(name)),
-                    value => value.clone(),
-                },
+                Op::Load(name) => loaded(cells, name)?,
                 Op::Neg => Value::Int(popped(stack)?.checked_neg().ok_or(Cause::Overflow)?),
                 Op::Not => Value::Int(i64::from(popped(stack)? == 0)),
                 Op::Flip => Value::Int(!popped(stack)?),
@@ -672,34 +722,73 @@ impl Codes {
                     let left = stack.pop().unwrap_or_default();
                     operator.of_values(left, right)?
                 }
+                Op::WithNumber(operator, number) => operator.of_values(stack.pop().unwrap_or_default(), Value::Int(number))?,
+                Op::WithName(operator, name) => {
+                    let right = loaded(cells, name)?;
+                    operator.of_values(stack.pop().unwrap_or_default(), right)?
+                }
                 Op::And(to) => {
                     if popped(stack)? != 0 {
                         continue;
                     }
-                    at = to as usize;
+                    rest = self.ops_from(to, statement);
                     Value::Int(0)
                 }
                 Op::Or(to) => {
                     if popped(stack)? == 0 {
                         continue;
                     }
-                    at = to as usize;
+                    rest = self.ops_from(to, statement);
                     Value::Int(1)
                 }
                 Op::Unless(to) => {
                     if popped(stack)? == 0 {
-                        at = to as usize;
+                        rest = self.ops_from(to, statement);
                     }
                     continue;
                 }
                 Op::Jump(to) => {
-                    at = to as usize;
+                    rest = self.ops_from(to, statement);
                     continue;
                 }
             };
             stack.push(value);
         }
         Ok(stack.pop().unwrap_or_default())
+    }
+}
+
+/// The number of a name.
+#[inline(always)]
+fn number_of(cells: &impl Cells, name: u32) -> Result<i64, Stop> {
+    match cells.get(name) {
+        Value::Int(number) => Ok(*number),
+        Value::Absent => Err(Stop::Fault(cells.missing(name))),
+        Value::Text(_) => Err(Stop::Text),
+    }
+}
+
+/// Does with a value what a statement says.
+#[inline(always)]
+fn store(statement: &Statement, value: Value, cells: &mut impl Cells) -> Result<(), Cause> {
+    match statement.ending {
+        Ending::Plain => {}
+        Ending::Create(name) => cells.put(name, value),
+        Ending::Assign(name) => {
+            if let Value::Absent = cells.get(name) {
+                return Err(cells.missing(name));
+            }
+            cells.put(name, value);
+        }
+    }
+    Ok(())
+}
+
+/// The value of a name.
+fn loaded(cells: &impl Cells, name: u32) -> Result<Value, Cause> {
+    match cells.get(name) {
+        Value::Absent => Err(cells.missing(name)),
+        value => Ok(value.clone()),
     }
 }
 
@@ -752,7 +841,7 @@ impl Binary {
             (Value::Int(left), Value::Int(right)) => self.of_numbers(left, right).map(Value::Int),
             (Value::Text(left), Value::Text(right)) => match self {
                 Binary::Add if left.len() + right.len() > LONGEST => Err(Cause::TextTooLong),
-                Binary::Add => Ok(Value::Text([&left[..], &right[..]].concat().into())),
+                Binary::Add => Ok(Value::Text(Rc::new([&left[..], &right[..]].concat().into()))),
                 Binary::Sub | Binary::Mul | Binary::Div | Binary::BitAnd | Binary::BitOr | Binary::BitXor => Err(Cause::Mixed),
                 _ => Ok(Value::Int(i64::from(self.holds(&left[..], &right[..])))),
             },
