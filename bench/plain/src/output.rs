@@ -193,6 +193,13 @@ impl<'t> Trace<'t> {
         self.out.text(second);
     }
 
+    /// The input port of a leaf's row at a place.
+    fn input(&self, node: u32, place: u32) -> &'t [u8] {
+        let id = self.tree.specs[self.tree.nodes[node as usize].spec as usize].id;
+        let row = self.world.row_of.get(id.as_bytes()).map(|&it| &self.world.rows[it as usize]);
+        row.and_then(|it| it.ports.get(place as usize)).copied().unwrap_or_default()
+    }
+
     fn header(&mut self, word: &str, runner: u32, at: u64) {
         self.words(word, runner, " at ");
         self.out.number(at as i64);
@@ -251,7 +258,7 @@ impl Notes for Trace<'_> {
                 let cell = &self.tree.cells[slot as usize];
                 format!(" NoEntry {} {}\n", cell.scope, cell.key)
             }
-            Cause::NoInput(place) => format!(" NoInput {place}\n"),
+            Cause::NoInput(place) => format!(" NoInput {}\n", String::from_utf8_lossy(self.input(node, place))),
             Cause::Overflow => " Overflow\n".into(),
             Cause::ZeroDivisor => " ZeroDivisor\n".into(),
             Cause::NotWhole => " NotWhole\n".into(),
