@@ -119,8 +119,8 @@ impl<'f> Scanner<'f> {
         while self.skip_text()? {
             let place = self.at;
             match self.bytes.get(place + 1) {
-                Some(b'?') => self.skip_past(2, "?>")?,
-                Some(b'!') if self.bytes[place..].starts_with(b"<!--") => self.skip_past(4, "-->")?,
+                Some(b'?') => self.skip_past(2, b"?>")?,
+                Some(b'!') if self.bytes[place..].starts_with(b"<!--") => self.skip_past(4, b"-->")?,
                 Some(b'/') => self.end_mark(place)?,
                 _ => self.start_mark(place)?,
             }
@@ -152,13 +152,14 @@ impl<'f> Scanner<'f> {
     }
 
     /// Goes past an instruction or a comment, whose opening has so many bytes. Each of the two ends with `>`.
-    fn skip_past(&mut self, opening: usize, end: &str) -> Result<(), Refusal> {
+    #[inline(always)]
+    fn skip_past<const N: usize>(&mut self, opening: usize, end: &[u8; N]) -> Result<(), Refusal> {
         let place = self.at;
-        let from = place + opening;
-        let mut at = from;
+        // Where the last byte of the end may stand at first.
+        let mut at = place + opening + N - 1;
         while let Some(found) = find(self.bytes, at, b'>') {
             at = found + 1;
-            if at >= from + end.len() && self.bytes[..at].ends_with(end.as_bytes()) {
+            if self.bytes[at - N..at] == *end {
                 if self.has_zeros && self.bytes[place..at].contains(&0) {
                     break;
                 }
