@@ -1,0 +1,110 @@
+//! The printed tree.
+
+use crate::build::{is_reserved, Given, Kind, Tree, GUARDS};
+use crate::output::Output;
+use crate::scan::is_identifier;
+
+/// Prints a tree and the line after it.
+pub fn print(tree: &Tree, out: &mut Output) {
+    let main = tree.opened.first().and_then(|&it| tree.elements.attribute(it, "ID")).unwrap_or("");
+    out.text("<root BTCPP_format=\"4\"");
+    attribute(out, "main_tree_to_execute", main);
+    out.text(">\n");
+    for &element in &tree.opened {
+        out.text("  <BehaviorTree");
+        attribute(out, "ID", tree.elements.attribute(element, "ID").unwrap_or(""));
+        out.text(">\n");
+        node(tree, tree.elements.first_child(element), 4, out);
+        out.text("  </BehaviorTree>\n");
+    }
+    out.text("</root>\n");
+    out.text(&format!("<!-- nodes {} work {} -->\n", tree.nodes.len(), tree.work));
+}
+
+fn node(tree: &Tree, element: u32, indent: usize, out: &mut Output) {
+    let spec = &tree.specs[tree.spec_of[element as usize] as usize];
+    let (name, tells_id) = match spec.kind {
+        Kind::SubTree => ("SubTree", false),
+        Kind::Leaf if is_reserved(spec.id) || !is_identifier(spec.id.as_bytes()) => ("Action", false),
+        _ => (spec.id, true),
+    };
+    blanks(out, indent);
+    out.text("<");
+    out.text(name);
+    if !tells_id {
+        attribute(out, "ID", spec.id);
+    }
+    if spec.name != spec.id {
+        attribute(out, "name", spec.name);
+    }
+    if spec.autoremap {
+        attribute(out, "_autoremap", "true");
+    }
+    for port in tree.ports(spec) {
+        match port.given {
+            Given::Int(number) => {
+                out.text(" ");
+                out.text(port.name);
+                out.text("=\"");
+                out.number(number);
+                out.text("\"");
+            }
+            Given::Text(text) => attribute(out, port.name, text),
+            Given::Key(key, _) => attribute(out, port.name, &format!("{{{key}}}")),
+        }
+    }
+    if let Some((_, text)) = spec.code {
+        attribute(out, "code", text);
+    }
+    if let Some(guards) = spec.guards {
+        for (name, text) in GUARDS.iter().zip(tree.guards[guards as usize].texts) {
+            if let Some(text) = text {
+                attribute(out, name, text);
+            }
+        }
+    }
+    if tree.elements.get(element).count == 0 {
+        out.text("/>\n");
+        return;
+    }
+    out.text(">\n");
+    for child in tree.elements.children(element) {
+        node(tree, child, indent + 2, out);
+    }
+    blanks(out, indent);
+    out.text("</");
+    out.text(name);
+    out.text(">\n");
+}
+
+fn blanks(out: &mut Output, count: usize) {
+    const BLANKS: [u8; 64] = [b' '; 64];
+    let mut rest = count;
+    while rest > 0 {
+        let now = rest.min(BLANKS.len());
+        out.bytes(&BLANKS[..now]);
+        rest -= now;
+    }
+}
+
+fn attribute(out: &mut Output, name: &str, value: &str) {
+    out.text(" ");
+    out.text(name);
+    out.text("=\"");
+    let mut from = 0;
+    for (at, byte) in value.bytes().enumerate() {
+        if byte > b'<' || !matches!(byte, b'&' | b'<' | b'"' | 1..=31) {
+            continue;
+        }
+        out.bytes(&value.as_bytes()[from..at]);
+        match byte {
+            b'&' => out.text("&amp;"),
+            b'<' => out.text("&lt;"),
+            b'"' => out.text("&quot;"),
+            _ => out.text(&format!("&#{byte};")),
+        }
+        from = at + 1;
+    }
+    out.bytes(&value.as_bytes()[from..]);
+    out.text("\"");
+}
