@@ -9,7 +9,7 @@ use bt_outside::{MemClock, MemSink};
 use bt_program::add_driver;
 use bt_script::NoMemory;
 use bt_stage::{answer_with, run, run_with, shelf_of};
-use bt_words::Exit;
+use bt_command_line::Exit;
 use std::alloc::Global;
 use std::test::Fail;
 

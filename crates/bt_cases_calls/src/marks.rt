@@ -6,7 +6,7 @@ use bt_outside::{MemSink, Sink, SinkFault};
 use bt_program::add_driver;
 use bt_script::NoMemory;
 use bt_stage::run_with;
-use bt_words::Exit;
+use bt_command_line::Exit;
 use std::alloc::{AllocError, Global};
 use std::cell::Cell;
 use std::rc::Rc;

@@ -6,10 +6,10 @@ use Rattle.bt_model.specs.Run.{Trace}
 use Rattle.bt_model.specs.Terms.{node_count}
 use Rattle.bt_arena.specs.declared.nodes.Node.{Node}
 use Rattle.bt_loop.specs.Runs.{roster_over}
-use Rattle.bt_run.specs.declared.counts.Counts.{Counts}
-use Rattle.bt_run.specs.declared.ended.Ended.{Ended}
-use Rattle.bt_run.specs.Counts.{counts_of}
-use Rattle.bt_run.specs.Traces.{ended}
+use Rattle.bt_trace.specs.declared.counts.Counts.{Counts}
+use Rattle.bt_trace.specs.declared.ended.Ended.{Ended}
+use Rattle.bt_trace.specs.Counts.{counts_of}
+use Rattle.bt_trace.specs.Traces.{ended}
 
 -- the summary of the load of this number: how many nodes and events there are, and what the run tells of its calls
 abbrev pub summary_line : ℕ → ℕ → ℕ → Counts → List ℕ

@@ -5,7 +5,7 @@ ghost use Rattle.bt_model.specs.Drivers.{NothingHeld};
 ghost use Rattle.bt_model.specs.Lines.{line_names};
 ghost use Rattle.bt_loop.specs.Runs.{arenas_of};
 ghost use Rattle.bt_loop.specs.Steps.{IsSameRoster};
-ghost use Rattle.bt_run.specs.Traces.{CanAllCome, CanRun, trace_of};
+ghost use Rattle.bt_trace.specs.Traces.{CanAllCome, CanRun, trace_of};
 ghost use Rattle.bt_load.specs.Summaries.{IsLoad};
 
 use crate::nodes::nodes;
@@ -13,7 +13,7 @@ use crate::summary::summary_line;
 use bt_driver::Driver;
 use bt_loop::Runs;
 use bt_model::Event;
-use bt_run::{Ended, count_events};
+use bt_trace::{Ended, count_events};
 use bt_script::NoMemory;
 use std::alloc::Global;
 

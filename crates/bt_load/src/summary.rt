@@ -1,7 +1,7 @@
 ghost use Rattle.std.specs.Prelude.{◌≡◌, ◌++◌, IfOk, OnOk, decimal};
 ghost use Rattle.bt_load.specs.Summaries.{summary_line};
 
-use bt_run::Counts;
+use bt_trace::Counts;
 use bt_script::NoMemory;
 use bt_text::{put_bytes, put_number};
 use std::alloc::Global;

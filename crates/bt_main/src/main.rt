@@ -6,7 +6,7 @@ use bt_leaves::{Conditions, Gate, Replay, Timed};
 use bt_outside::{DirShelf, HostClock, OutSink};
 use bt_program::{add_driver, bt};
 use bt_script::{Name, NoMemory};
-use bt_words::{Exit, NoWords, words_of};
+use bt_command_line::{Exit, NoWords, words_of};
 use std::io;
 use std::process::ExitCode;
 use std::rt::{Clock, Files};

@@ -4,16 +4,16 @@ use Rattle.bt_elements.specs.declared.element.Element.{Element}
 use Rattle.bt_elements.specs.declared.element.ElementFault.{ElementFault}
 use Rattle.bt_elements.specs.Elements.{Spells}
 use Rattle.bt_elements.specs.Faults.{ElementFaultOf}
-use Rattle.bt_answer.specs.declared.course.Course.TheVariants as course
-use Rattle.bt_words.specs.declared.exit.Exit.{Exit}
-use Rattle.bt_words.specs.declared.exit.Exit.TheVariants as exit
+use Rattle.bt_output.specs.declared.course.Course.TheVariants as course
+use Rattle.bt_command_line.specs.declared.exit.Exit.{Exit}
+use Rattle.bt_command_line.specs.declared.exit.Exit.TheVariants as exit
 use Rattle.bt_refusals.specs.declared.tree_file.TreeFault.{TreeFault}
 use Rattle.bt_refusals.specs.declared.tree_file.TreeFault.TheVariants as fault
-use Rattle.bt_answer.specs.Answers.{Answers, AreUncalled, AtMoments, CommandAnswered, DriversLeft, FilesAnswered, Gave, IfTold, IsWhole, ReadFailed, Side, ToldIfNamed}
+use Rattle.bt_output.specs.Answers.{Answers, AreUncalled, AtMoments, CommandAnswered, DriversLeft, FilesAnswered, Gave, IfTold, IsWhole, ReadFailed, Side, ToldIfNamed}
 use Rattle.bt_program.specs.Headline.{EachOutput, IsGiven, UnreadLine, WholeOutput, moments_for}
-use Rattle.bt_answer.specs.Output.{CheckGives, CommandGives, FilesGive, Given, Output, RunGives, TreeGives, WorldGives, check_output, given, held_by, is_too_long, joined_output, lack_of, run_exit, tree_name, tree_refused, tree_too_long, unread, words_refused, world_name, world_output, world_too_long}
+use Rattle.bt_output.specs.Output.{CheckGives, CommandGives, FilesGive, Given, Output, RunGives, TreeGives, WorldGives, check_output, given, held_by, is_too_long, joined_output, lack_of, run_exit, tree_name, tree_refused, tree_too_long, unread, words_refused, world_name, world_output, world_too_long}
 use Rattle.bt_refusals.specs.TreeFiles.{TreeReads, element_read}
-use Rattle.bt_words.specs.Words.{Command, File, Tick, Live, Load, Check, TreeFile, WorldFile}
+use Rattle.bt_command_line.specs.Words.{Command, File, Tick, Live, Load, Check, TreeFile, WorldFile}
 use Rattle.bt_arena.specs.declared.join_fault.JoinFault.{JoinFault}
 use Rattle.bt_load.specs.Texts.{tree_text, world_text}
 use Rattle.bt_model.specs.declared.fault.RunFault.{RunFault}

@@ -1,10 +1,10 @@
 -- What `bt` says of its answer.
 use Rattle.std.specs.Prelude.{ℕ, List, Option, Some, None}
-use Rattle.bt_answer.specs.Answers.{AreUncalled, IfTold, IsWhole, Side, no_moments}
-use Rattle.bt_answer.specs.Output.{CommandGives, Output, unread}
-use Rattle.bt_words.specs.declared.exit.Exit.{Exit}
-use Rattle.bt_words.specs.declared.exit.Exit.TheVariants as exit
-use Rattle.bt_words.specs.Words.{Command, File, Live}
+use Rattle.bt_output.specs.Answers.{AreUncalled, IfTold, IsWhole, Side, no_moments}
+use Rattle.bt_output.specs.Output.{CommandGives, Output, unread}
+use Rattle.bt_command_line.specs.declared.exit.Exit.{Exit}
+use Rattle.bt_command_line.specs.declared.exit.Exit.TheVariants as exit
+use Rattle.bt_command_line.specs.Words.{Command, File, Live}
 use Rattle.bt_outside.specs.Appending.{Appended}
 use Rattle.bt_outside.specs.Moments.{Moments}
 

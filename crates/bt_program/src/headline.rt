@@ -1,18 +1,18 @@
 ghost use Rattle.std.specs.Prelude.{◌≡◌, ◌≤◌, ◌⊎◌, None, map};
-ghost use Rattle.bt_answer.specs.Answers.{CommandAnswered, Gave, IsWhole, ReadFailed, WordsUnread, side};
-ghost use Rattle.bt_answer.specs.Output.{words_refused};
+ghost use Rattle.bt_output.specs.Answers.{CommandAnswered, Gave, IsWhole, ReadFailed, WordsUnread, side};
+ghost use Rattle.bt_output.specs.Output.{words_refused};
 ghost use Rattle.bt_loop.specs.Steps.{IsSameRoster};
 ghost use Rattle.bt_program.specs.Headline.{EachOutput, IsGiven, UnreadLine, WholeOutput};
 ghost use Rattle.bt_model.specs.Drivers.{NothingHeld};
 ghost use Rattle.bt_outside.specs.Counts.{Rose};
-ghost use Rattle.bt_words.specs.Words.{command_of};
+ghost use Rattle.bt_command_line.specs.Words.{command_of};
 
-use bt_answer::answer_words;
+use bt_output::answer_words;
 use bt_driver::Driver;
 use bt_elements::{element_or_fault, one_element};
 use bt_outside::{Clock, Shelf, Sink};
 use bt_script::Name;
-use bt_words::Exit;
+use bt_command_line::Exit;
 use bt_world::laws::worlds_read_one_way;
 use std::alloc::Global;
 

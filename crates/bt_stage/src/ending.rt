@@ -6,7 +6,7 @@ use bt_leaves::{Conditions, Gate, Replay, Timed};
 use bt_outside::{MemClock, MemShelf, MemSink, Sink};
 use bt_program::{add_driver, bt};
 use bt_script::{Name, NoMemory};
-use bt_words::{Exit, word_of};
+use bt_command_line::{Exit, word_of};
 use std::alloc::{AllocError, Global};
 
 /// How the program has ended.

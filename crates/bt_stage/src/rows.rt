@@ -6,7 +6,7 @@ use crate::files::{shelf_of, shelf_of_rows, tree_of, world_of};
 use bt_driver::Driver;
 use bt_outside::{MemClock, MemSink, Sink};
 use bt_script::NoMemory;
-use bt_words::Exit;
+use bt_command_line::Exit;
 use std::alloc::Global;
 
 /// The words of a run over the files `T` and `W`.

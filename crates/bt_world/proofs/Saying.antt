@@ -13,9 +13,9 @@ use Rattle.bt_model.specs.WorldFile.{Line, TimedLine, ReplayLine, AfterForm, Aft
 use Rattle.bt_model.specs.Numbers.{is_canonical, number_in}
 use Rattle.bt_model.specs.WorldFile as file
 use Rattle.bt_lines.specs.Ranges.{Passes}
-use Rattle.bt_reading.specs.Drafts.{DraftSays, row_of}
-use Rattle.bt_reading.specs.Readings.{Leaves}
-use Rattle.bt_reading.specs.declared.draft.Draft.{Draft}
+use Rattle.bt_world_draft.specs.Drafts.{DraftSays, row_of}
+use Rattle.bt_world_draft.specs.Readings.{Leaves}
+use Rattle.bt_world_draft.specs.declared.draft.Draft.{Draft}
 
 pub leaves_map : {A X F : Type 0} (result : Result A (Stop F)) (left : X) (P Q : Result X F → Type 0) → ((said : Result X F) → P said → Q said) → Leaves result left P → Leaves result left Q
 leaves_map (Ok a) left P Q h k = h (Ok left) k

@@ -6,11 +6,11 @@ ghost use Rattle.bt_model.specs.Numbers.{is_int};
 ghost use Rattle.bt_model.specs.Numbers as numbers;
 ghost use Rattle.bt_model.specs.WorldFile as file;
 ghost use Rattle.bt_model.specs.WorldFile.{AfterForm, GateLine, WhenLine, action_line, ranged, with_comparison, comparison_in, condition_line, is_line, is_line_byte, outcomes_in, replay_line, timed_line};
-ghost use Rattle.bt_reading.specs.Readings.{Leaves};
+ghost use Rattle.bt_world_draft.specs.Readings.{Leaves};
 
 use bt_lines::{cut, head_in, int, is, is_canonical, is_name, ms, name_of, numeric};
 use bt_model::{MOST_OUTCOMES, Row, RowSort, WorldKind};
-use bt_reading::Reading;
+use bt_world_draft::Reading;
 use bt_script::{Cmp, Items, Stop};
 use std::alloc::{AllocError, Global};
 

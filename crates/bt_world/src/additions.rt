@@ -1,11 +1,11 @@
 ghost use Rattle.std.specs.Prelude.{◌≡◌, Some, true};
 ghost use Rattle.std.specs.List.{list_all};
 ghost use Rattle.bt_model.specs.WorldFile.{AfterForm, FailsLine, NeedsLine, how_in, is_line_byte, name_line, out_line, sets_line};
-ghost use Rattle.bt_reading.specs.Readings.{Leaves};
+ghost use Rattle.bt_world_draft.specs.Readings.{Leaves};
 
 use bt_lines::{cut, int, is, is_canonical, is_name, name_of, numeric};
 use bt_model::{How, Out, Set, WorldKind};
-use bt_reading::Reading;
+use bt_world_draft::Reading;
 use bt_script::Stop;
 use std::alloc::Global;
 

@@ -1,10 +1,10 @@
 ghost use Rattle.std.specs.Prelude.{◌≡◌};
 ghost use Rattle.bt_model.specs.WorldFile.{AfterForm, AtLine, FactLine, GoalLine, HaltLine, RunnersLine, SetLine, TickLine, name_line, named_number, number_line};
-ghost use Rattle.bt_reading.specs.Readings.{Leaves};
+ghost use Rattle.bt_world_draft.specs.Readings.{Leaves};
 
 use bt_lines::{cut, int, is_canonical, is_name, ms, name_of, one_of};
 use bt_model::{Fact, MOST_RUNNERS, What, WorldKind};
-use bt_reading::Reading;
+use bt_world_draft::Reading;
 use bt_script::Stop;
 use std::alloc::Global;
 

@@ -1,7 +1,7 @@
 ghost use Rattle.std.specs.Prelude.{◌≡◌, true};
 ghost use Rattle.std.specs.List.{list_all};
 ghost use Rattle.bt_model.specs.WorldFile.{AfterForm, AfterText, event_line, is_line_byte, line_by};
-ghost use Rattle.bt_reading.specs.Readings.{Leaves};
+ghost use Rattle.bt_world_draft.specs.Readings.{Leaves};
 
 use crate::actions::{read_action, read_condition};
 use crate::additions::{read_effect, read_fails, read_need, read_out};
@@ -10,7 +10,7 @@ use crate::events::{
 };
 use bt_lines::{content, cut, is, is_line, is_read_over};
 use bt_model::WorldKind;
-use bt_reading::Reading;
+use bt_world_draft::Reading;
 use bt_script::Stop;
 use std::alloc::Global;
 

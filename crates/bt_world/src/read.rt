@@ -1,14 +1,14 @@
 ghost use Rattle.std.specs.Prelude.{◌≡◌, ◌≤◌, length, map, IfOk};
 ghost use Rattle.bt_model.specs.WorldFile.{AfterLines, LinesMake, LinesRead, ReadsWorld};
 ghost use Rattle.bt_model.specs.Worlds.{IsValidWorld};
-ghost use Rattle.bt_reading.specs.Readings.{Leaves};
+ghost use Rattle.bt_world_draft.specs.Readings.{Leaves};
 ghost use Rattle.bt_world.specs.Readings.{Gives};
 ghost use Rattle.bt_world.specs.Readings as readings;
 
 use crate::forms::read_text;
 use bt_lines::{is, parts, trimmed, without_rest};
 use bt_model::{World, WorldFault, WorldKind};
-use bt_reading::Reading;
+use bt_world_draft::Reading;
 use bt_script::{NoMemory, Stop};
 use bt_world_laws::read_worlds_are_valid;
 use std::alloc::Global;

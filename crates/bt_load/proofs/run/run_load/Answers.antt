@@ -1,6 +1,6 @@
 use Rattle.std.proofs.Common.{ℕ, ◌∙◌, ap, length}
 use Rattle.bt_model.specs.Terms.{node_count}
-use Rattle.bt_run.specs.declared.counts.Counts.{Counts}
+use Rattle.bt_trace.specs.declared.counts.Counts.{Counts}
 use Rattle.bt_load.specs.Summaries.{summary_line}
 use Rattle.bt_load.proofs.run.run_load.Goals as goal
 

@@ -2,7 +2,7 @@ use Rattle.std.proofs.Common.{Some, Err, refl, sym, ap, subst, ◌∙◌}
 use Rattle.std.specs.Prelude.{option_map}
 use Rattle.bt_model.specs.WorldFile.{GateLine, ReadsNumeric, with_action}
 use Rattle.bt_model.specs.declared.world.RowSort.TheVariants.{Gate}
-use Rattle.bt_reading.specs.Drafts.{row_of}
+use Rattle.bt_world_draft.specs.Drafts.{row_of}
 use Rattle.bt_lines.specs.Heads.{seen_head}
 use Rattle.bt_world.proofs.Saying.{adds, of_mapped, refuses, says_head}
 use Rattle.bt_world.proofs.actions.read_gate.Goals as goal

@@ -3,7 +3,7 @@ use Rattle.std.specs.Prelude.{option_map}
 use Rattle.std.specs.Str.Parse.{signed_digits_value}
 use Rattle.bt_model.specs.WorldFile.{ReplayLine, behind_word, front_word, replay_line, with_action}
 use Rattle.bt_model.specs.declared.world.RowSort.TheVariants.{Replay}
-use Rattle.bt_reading.specs.Drafts.{DraftSays, row_of}
+use Rattle.bt_world_draft.specs.Drafts.{DraftSays, row_of}
 use Rattle.bt_lines.specs.Heads.{seen_head}
 use Rattle.bt_world.proofs.Saying.{adds, lasts, of_head, refuses, replay_is}
 use Rattle.bt_world.proofs.actions.read_replay.Goals as goal

@@ -3,7 +3,7 @@ use Rattle.std.specs.Prelude.{option_map}
 use Rattle.std.specs.Str.Parse.{signed_digits_value}
 use Rattle.bt_model.specs.WorldFile.{TimedLine, timed_line, with_action}
 use Rattle.bt_model.specs.declared.world.RowSort.TheVariants.{Timed}
-use Rattle.bt_reading.specs.Drafts.{row_of}
+use Rattle.bt_world_draft.specs.Drafts.{row_of}
 use Rattle.bt_lines.specs.Heads.{seen_head}
 use Rattle.bt_world.proofs.Saying.{adds, lasts, of_head, refuses, timed_is}
 use Rattle.bt_world.proofs.actions.read_timed.Goals as goal

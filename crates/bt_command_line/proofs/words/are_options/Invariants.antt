@@ -1,0 +1,10 @@
+use Rattle.std.proofs.Common.{◌≡◌, length}
+use Rattle.bt_command_line.specs.Words.{are_options, is_option}
+use Rattle.bt_command_line.proofs.words.are_options.Given as goal
+
+-- what the options that are left say is what all say
+abbrev pub invariant-loop-rest : goal.invariant-loop-rest
+invariant-loop-rest l = are_options (is_option l.ticks) l.rest ≡ are_options (is_option l.ticks) l.options
+
+abbrev pub decreases-loop-rest : goal.decreases-loop-rest
+decreases-loop-rest l = length l.rest

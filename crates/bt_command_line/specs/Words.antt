@@ -1,0 +1,100 @@
+-- The words of the command line.
+use Rattle.std.specs.Prelude.{ℕ, nat_le, ℤ, pos, List, [], ◌∷◌, codes, Bool, true, false, ◌&&◌, ◌||◌, Option, Some, None, is_none, option_and_then, option_map, if◌then◌else◌}
+use Rattle.std.specs.Str.{bytes_eq}
+use Rattle.bt_command_line.specs.declared.exit.Exit.{Exit}
+use Rattle.bt_command_line.specs.declared.exit.Exit.TheVariants as exit
+use Rattle.bt_model.specs.Limits.{most_leaves, most_rounds}
+use Rattle.bt_model.specs.Numbers.{int_in}
+
+-- ---- Options
+
+-- the value that options, each a name and a value behind it, give to this name
+abbrev pub value_of : List ℕ → List (List ℕ) → Option (List ℕ)
+value_of name [] = None
+value_of name (one ∷ []) = None
+value_of name (other ∷ value ∷ options) = if bytes_eq other name then Some value else value_of name options
+
+-- whether no option has this name
+unfoldable pub is_unset : List ℕ → List (List ℕ) → Bool
+is_unset name options = is_none (value_of name options)
+
+-- whether words are options in any order, whose names pass this test, each at most once
+abbrev pub are_options : (List ℕ → Bool) → List (List ℕ) → Bool
+are_options is_name [] = true
+are_options is_name (one ∷ []) = false
+are_options is_name (name ∷ value ∷ options) = is_name name && is_unset name options && are_options is_name options
+
+-- ---- Commands
+
+-- a command: its files, how many rounds, and the main tree where it names one; or how many leaves a load has
+pub data Command : Type 0 where
+  Tick : (tree world : List ℕ) (main : Option (List ℕ)) → Command
+  Live : (tree world : List ℕ) (rounds : ℕ) (main : Option (List ℕ)) → Command
+  Load : (leaves : ℕ) → Command
+  Check : (tree : List ℕ) (main : Option (List ℕ)) → Command
+
+-- the options: the ID of the main tree, and for some commands a number of ticks
+unfoldable pub is_option : Bool → List ℕ → Bool
+is_option ticks name = bytes_eq name (codes "--main") || ticks && bytes_eq name (codes "--ticks")
+
+-- a number from 1 to this one
+abbrev pub as_count : ℕ → Option ℤ → Option ℕ
+as_count most (Some (pos n)) = if nat_le 1 n && nat_le n most then Some n else None
+as_count most _ = None
+
+-- the number from 1 to 100,000 that the option `--ticks` gives, written canonically
+unfoldable pub rounds_in : List (List ℕ) → Option ℕ
+rounds_in options = option_and_then (λ word. as_count most_rounds (int_in word)) (value_of (codes "--ticks") options)
+
+-- `TREE WORLD [--main ID]`
+abbrev pub tick_of : List (List ℕ) → Option Command
+tick_of (tree ∷ world ∷ options) =
+    if are_options (is_option false) options then Some (Tick tree world (value_of (codes "--main") options)) else None
+tick_of _ = None
+
+-- `TREE WORLD --ticks N [--main ID]`
+abbrev pub live_of : List (List ℕ) → Option Command
+live_of (tree ∷ world ∷ options) =
+    if are_options (is_option true) options
+    then option_map (λ rounds. Live tree world rounds (value_of (codes "--main") options)) (rounds_in options)
+    else None
+live_of _ = None
+
+-- `N`, a number from 1 to 1,000, written canonically
+abbrev pub load_of : List (List ℕ) → Option Command
+load_of (word ∷ []) = option_map Load (as_count most_leaves (int_in word))
+load_of _ = None
+
+-- `TREE [--main ID]`
+abbrev pub check_of : List (List ℕ) → Option Command
+check_of (tree ∷ options) = if are_options (is_option false) options then Some (Check tree (value_of (codes "--main") options)) else None
+check_of _ = None
+
+-- the commands by their first words, each with what it makes of the words behind it
+abbrev pub commands : List (List ℕ × (List (List ℕ) → Option Command))
+commands = (codes "tick", tick_of) ∷ (codes "live", live_of) ∷ (codes "load", load_of) ∷ (codes "check", check_of) ∷ []
+
+abbrev pub command_among : List (List ℕ × (List (List ℕ) → Option Command)) → List ℕ → List (List ℕ) → Option Command
+command_among [] word words = None
+command_among (row ∷ rows) word words = if bytes_eq word row.0 then row.1 words else command_among rows word words
+
+-- the command that the words are, or none
+abbrev pub command_of : List (List ℕ) → Option Command
+command_of [] = None
+command_of (word ∷ words) = command_among commands word words
+
+-- the files of a command
+pub data File : Type 0 where
+  TreeFile : File
+  WorldFile : File
+
+-- the status of the process
+abbrev pub status_of : Exit → ℕ
+status_of exit.Done = 0
+status_of exit.Words = 2
+status_of exit.Tree = 3
+status_of exit.World = 4
+status_of exit.Fault = 5
+status_of exit.Read = 7
+status_of exit.Write = 8
+status_of exit.Memory = 9

@@ -1,0 +1,277 @@
+ghost use Rattle.std.specs.Prelude.{◌≡◌, ◌≤◌, ◌↔◌, IfOk, IfSome, MatchOption, Some, None, codes};
+ghost use Rattle.std.specs.IoError.{error_kind};
+ghost use Rattle.std.specs.Option.{option_copied};
+ghost use Rattle.bt_command_line.specs.Commands.{HasFewLeaves, command_seen};
+ghost use Rattle.bt_command_line.specs.Words.{are_options, as_count, check_of, command_of, is_option, is_unset, live_of, load_of, rounds_in, tick_of, value_of};
+ghost use Rattle.bt_model.specs.Limits.{most_leaves, most_rounds};
+ghost use Rattle.bt_model.specs.Numbers.{int_in};
+
+use bt_model::{MOST_LEAVES, MOST_ROUNDS, int};
+use bt_script::{Name, NoMemory};
+use std::alloc::{AllocFailed, Global};
+use std::env::Env;
+use std::io::ErrorKind;
+use std::{env, io};
+
+/// A command: the files that it names, how many rounds, and the ID of the main tree where it names
+/// one; or how many leaves a load has.
+#[derive(Clone, Copy)]
+pub enum Command<'a> {
+    /// `tick TREE WORLD [--main ID]`
+    Tick {
+        tree: &'a Name,
+        world: &'a Name,
+        main: Option<&'a Name>,
+    },
+    /// `live TREE WORLD --ticks N [--main ID]`
+    Live {
+        tree: &'a Name,
+        world: &'a Name,
+        /// 1 to 100,000.
+        rounds: u32,
+        main: Option<&'a Name>,
+    },
+    /// `load N`
+    Load {
+        /// 1 to 1,000.
+        leaves: u32,
+    },
+    /// `check TREE [--main ID]`
+    Check {
+        tree: &'a Name,
+        main: Option<&'a Name>,
+    },
+}
+
+/// The value that options, each a name and a value behind it, give to this name.
+fn value_of<'a>(options: &'a [Name], name: &[u8]) -> Option<&'a Name>
+    ensures { option_copied result ≡ value_of name.now options.now }
+{
+    let mut rest = options;
+    while let [other, value, more @ ..] = rest {
+        if other.list() == name {
+            return Some(value);
+        }
+        rest = more;
+    }
+    None
+}
+
+/// Whether no option has this name.
+#[tactic(auto, unfolding(crate::specs::Words::is_unset))]
+fn is_unset(options: &[Name], name: &Name) -> bool
+    ensures { result ≡ is_unset name.now options.now }
+{
+    value_of(options, name.list()).is_none()
+}
+
+/// Whether this is the name of an option, `--ticks` among them where the command has it.
+#[tactic(auto, unfolding(crate::specs::Words::is_option))]
+fn is_option(ticks: bool, name: &Name) -> bool
+    ensures { result ≡ is_option ticks name.now }
+{
+    name.list() == b"--main".as_slice() || ticks && name.list() == b"--ticks".as_slice()
+}
+
+/// Whether the words are options, each at most once, `--ticks` among them where the command has it.
+fn are_options(options: &[Name], ticks: bool) -> bool
+    ensures { result ≡ are_options (is_option ticks) options.now }
+{
+    let mut rest = options;
+    while let [name, _value, more @ ..] = rest {
+        if !is_option(ticks, name) {
+            return false;
+        }
+        if !is_unset(more, name) {
+            return false;
+        }
+        rest = more;
+    }
+    rest.is_empty()
+}
+
+/// The ID of the main tree, where options name one.
+fn main_of<'a>(options: &'a [Name]) -> Option<&'a Name>
+    ensures { option_copied result ≡ value_of (codes "--main") options.now }
+{
+    value_of(options, b"--main")
+}
+
+/// A number from 1 to 100,000.
+fn as_rounds(number: Option<i64>) -> Option<u32>
+    ensures { result ≡ as_count most_rounds number }
+{
+    match number {
+        Some(n @ 1..=MOST_ROUNDS) => Some(n as u32),
+        _ => None,
+    }
+}
+
+/// The number that the option `--ticks` gives.
+#[tactic(auto, unfolding(crate::specs::Words::rounds_in))]
+fn rounds_in(options: &[Name]) -> Option<u32>
+    ensures { result ≡ rounds_in options.now }
+{
+    match value_of(options, b"--ticks") {
+        Some(word) => as_rounds(int(word.list())),
+        None => None,
+    }
+}
+
+/// The command `tick` with these words behind it.
+fn read_tick<'a>(words: &'a [Name]) -> Option<Command<'a>>
+    ensures command { MatchOption result (tick_of words.now ≡ None) (λ c. tick_of words.now ≡ Some (command_seen c)) }
+    ensures few { IfSome result (λ c. HasFewLeaves (command_seen c)) }
+{
+    let [tree, world, options @ ..] = words else {
+        return None;
+    };
+    if !are_options(options, false) {
+        return None;
+    }
+    Some(Command::Tick {
+        tree,
+        world,
+        main: main_of(options),
+    })
+}
+
+/// The command `live` with these words behind it.
+fn read_live<'a>(words: &'a [Name]) -> Option<Command<'a>>
+    ensures command { MatchOption result (live_of words.now ≡ None) (λ c. live_of words.now ≡ Some (command_seen c)) }
+    ensures few { IfSome result (λ c. HasFewLeaves (command_seen c)) }
+{
+    let [tree, world, options @ ..] = words else {
+        return None;
+    };
+    if !are_options(options, true) {
+        return None;
+    }
+    match rounds_in(options) {
+        Some(rounds) => Some(Command::Live {
+            tree,
+            world,
+            rounds,
+            main: main_of(options),
+        }),
+        None => None,
+    }
+}
+
+/// The number of leaves, from 1 to 1,000, that a word is.
+fn leaves_in(word: &Name) -> Option<u32>
+    ensures number { result ≡ as_count most_leaves (int_in word.now) }
+    ensures few { IfSome result (λ leaves. leaves ≤ most_leaves) }
+{
+    match int(word.list()) {
+        Some(n @ 1..=MOST_LEAVES) => Some(n as u32),
+        _ => None,
+    }
+}
+
+/// The command `load` with these words behind it.
+fn read_load<'a>(words: &'a [Name]) -> Option<Command<'a>>
+    ensures command { MatchOption result (load_of words.now ≡ None) (λ c. load_of words.now ≡ Some (command_seen c)) }
+    ensures few { IfSome result (λ c. HasFewLeaves (command_seen c)) }
+{
+    let [word] = words else {
+        return None;
+    };
+    match leaves_in(word) {
+        Some(leaves) => Some(Command::Load { leaves }),
+        None => None,
+    }
+}
+
+/// The command `check` with these words behind it.
+fn read_check<'a>(words: &'a [Name]) -> Option<Command<'a>>
+    ensures command { MatchOption result (check_of words.now ≡ None) (λ c. check_of words.now ≡ Some (command_seen c)) }
+    ensures few { IfSome result (λ c. HasFewLeaves (command_seen c)) }
+{
+    let [tree, options @ ..] = words else {
+        return None;
+    };
+    if !are_options(options, false) {
+        return None;
+    }
+    Some(Command::Check {
+        tree,
+        main: main_of(options),
+    })
+}
+
+/// The command that the words are.
+pub fn read_command<'a>(words: &'a [Name]) -> Option<Command<'a>>
+    ensures command { MatchOption result (command_of words.now ≡ None) (λ c. command_of words.now ≡ Some (command_seen c)) }
+    ensures few { IfSome result (λ c. HasFewLeaves (command_seen c)) }
+{
+    let [word, words @ ..] = words else {
+        return None;
+    };
+    if word.list() == b"tick".as_slice() {
+        read_tick(words)
+    } else if word.list() == b"live".as_slice() {
+        read_live(words)
+    } else if word.list() == b"load".as_slice() {
+        read_load(words)
+    } else if word.list() == b"check".as_slice() {
+        read_check(words)
+    } else {
+        None
+    }
+}
+
+/// A word of the command line.
+pub fn word_of(alloc: Global, word: &str) -> Result<Name, NoMemory>
+    ensures { IfOk result (λ name. name ≡ word.now) }
+{
+    let bytes = Vec::from_slice(alloc, word.as_bytes())?;
+    Ok(Name::of(bytes))
+}
+
+/// Why the words of the command line can't be had.
+pub enum NoWords {
+    /// A word is no UTF-8.
+    NotUtf8,
+    /// Want of memory.
+    NoMemory,
+}
+
+impl From<NoMemory> for NoWords {
+    ghost use Rattle.bt_command_line.specs.declared.words.NoWords.TheVariants as no_words;
+
+    ghost from_gives = { λ _ e. e ≡ no_words.NoMemory };
+
+    fn from(_e: NoMemory) -> NoWords {
+        NoWords::NoMemory
+    }
+}
+
+impl<T: Drop> From<AllocFailed<T>> for NoWords {
+    ghost use Rattle.bt_command_line.specs.declared.words.NoWords.TheVariants as no_words;
+
+    ghost from_gives = { λ _ e. e ≡ no_words.NoMemory };
+
+    fn from(_e: AllocFailed<T>) -> NoWords {
+        NoWords::NoMemory
+    }
+}
+
+// What it means that the host does not give the words.
+fn refused_words(error: io::Error) -> NoWords
+    ensures { (result ≡ NoWords.NoMemory) ↔ (error_kind error ≡ ErrorKind.OutOfMemory) }
+{
+    match error.kind() {
+        ErrorKind::OutOfMemory => NoWords::NoMemory,
+        _ => NoWords::NotUtf8,
+    }
+}
+
+/// The words of the command line without the program's own name.
+pub fn words_of(rt: &(impl Env + AllocGlobal)) -> Result<Vec<Name>, NoWords> {
+    let mut words = Vec::new(rt.alloc());
+    for word in env::args(rt).map_err(refused_words)?.skip(1) {
+        words.push(word_of(rt.alloc(), word.as_str())?)?;
+    }
+    Ok(words)
+}

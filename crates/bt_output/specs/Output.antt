@@ -1,0 +1,221 @@
+-- What a command writes, how it ends, and what it leaves of the drivers.
+use Rattle.std.specs.Prelude.{ℕ, ◌≡◌, List, [], ◌++◌, codes, decimal, length, nat_lt, Bool, Option, Some, None, Result, Ok, Err, MatchBool}
+use Rattle.std.specs.List.{concat}
+use Rattle.bt_arena.specs.declared.join_fault.JoinFault.{JoinFault}
+use Rattle.bt_arena.specs.Joins.{first_lack}
+use Rattle.bt_load.specs.Summaries.{load_line}
+use Rattle.bt_load.specs.Texts.{tree_text, world_text}
+use Rattle.bt_loop.specs.Served.{roster_after_run}
+use Rattle.bt_output.specs.declared.course.Course.{Course}
+use Rattle.bt_output.specs.declared.course.Course.TheVariants as course
+use Rattle.bt_command_line.specs.declared.exit.Exit.{Exit}
+use Rattle.bt_command_line.specs.declared.exit.Exit.TheVariants as exit
+use Rattle.bt_refusals.specs.declared.tree_file.TreeFault.{TreeFault}
+use Rattle.bt_refusals.specs.Refusals.{join_words, tree_words, world_words}
+use Rattle.bt_refusals.specs.TreeFiles.{TreeReads}
+use Rattle.bt_command_line.specs.Words.{Command, Tick, Live, Load, Check, File, TreeFile, WorldFile}
+use Rattle.bt_model.specs.declared.fault.RunFault.{RunFault}
+use Rattle.bt_model.specs.declared.term.Tree.{Tree}
+use Rattle.bt_model.specs.declared.world.Event.{Event}
+use Rattle.bt_model.specs.declared.world.World.{World}
+use Rattle.bt_model.specs.declared.world_fault.WorldFault.{WorldFault}
+use Rattle.bt_model.specs.Drivers.{DriverState}
+use Rattle.bt_model.specs.Lines.{line_names}
+use Rattle.bt_model.specs.PrintedTree.{tree_lines}
+use Rattle.bt_model.specs.Run.{Trace, run_over}
+use Rattle.bt_model.specs.Terms.{leaf_ids, node_count, work_of}
+use Rattle.bt_model.specs.WorldFile.{ReadsWorld}
+use Rattle.bt_outside.specs.Moments.{Moments}
+use Rattle.bt_trace.specs.Rounds.{live_events, taken}
+use Rattle.bt_trace.specs.Texts.{text_of}
+
+-- how often the clock was asked: never, so many times, or once for each round at these moments up to the one that faults
+pub data Asked : Type 0 where
+  Never : Asked
+  Times : (times : ℕ) → Asked
+  UpToFault : (tree : Tree) (world : World) (moments : List ℕ) → Asked
+
+-- the bytes that are written, the exit, the drivers behind the run, where a tree was run, and how often the clock was
+-- asked
+pub record Output : Type 0 where
+  pub bytes : List ℕ
+  pub exit : Exit
+  pub drivers : Option (List DriverState)
+  pub asked : Asked
+
+-- a refusal is one line, and no tree was run
+abbrev pub refused : List ℕ → Exit → Output
+refused line exit = record { bytes = line ++ codes "\n"; exit = exit; drivers = None; asked = Never }
+
+abbrev pub words_refused : Output
+words_refused = refused (codes "refused words") exit.Words
+
+abbrev pub tree_refused : TreeFault → Output
+tree_refused fault = refused (codes "refused tree " ++ tree_words fault) exit.Tree
+
+abbrev pub tree_too_long : Output
+tree_too_long = refused (codes "refused tree TooLong") exit.Tree
+
+abbrev pub world_refused : WorldFault → Output
+world_refused fault = refused (codes "refused world " ++ world_words fault) exit.World
+
+abbrev pub world_too_long : Output
+world_too_long = refused (codes "refused world TooLong") exit.World
+
+-- a leaf lacks a row, or a driver for its row
+abbrev pub join_refused : JoinFault → Output
+join_refused fault = refused (codes "refused world " ++ join_words fault) exit.World
+
+-- a file that could not be read
+abbrev pub unread : File → Output
+unread TreeFile = refused (codes "refused read tree") exit.Read
+unread WorldFile = refused (codes "refused read world") exit.Read
+
+-- a file of more bytes is too long
+abbrev pub is_too_long : List ℕ → Bool
+is_too_long bytes = nat_lt 1048576 (length bytes)
+
+-- ---- Checks
+
+-- the last line of a check: how many nodes the tree has, and its work
+abbrev pub count_line : Tree → List ℕ
+count_line tree = codes "<!-- nodes " ++ decimal (node_count tree.term) ++ codes " work " ++ decimal (work_of tree.term) ++ codes " -->\n"
+
+-- a check prints the tree as it was read
+abbrev pub check_output : Result Tree TreeFault → Output
+check_output (Ok tree) = record { bytes = concat (tree_lines tree) ++ count_line tree; exit = exit.Done; drivers = None; asked = Never }
+check_output (Err fault) = tree_refused fault
+
+-- ---- Runs
+
+-- a run ends at its first fault, or is done
+abbrev pub run_exit : Option RunFault → Exit
+run_exit None = exit.Done
+run_exit (Some fault) = exit.Fault
+
+-- the events that are run: those of the world's script, or rounds at the moments of a clock
+abbrev pub events_by : Course → Moments → World → List Event
+events_by course.Script moments world = world.events
+events_by (course.Rounds rounds) moments world = live_events world 0 (taken rounds moments)
+events_by (course.Load leaves) moments world = world.events
+
+-- what is written of a run: its trace, block by block, or of a load the line that sums it up
+abbrev pub bytes_by : Course → Tree → World → Trace → List ℕ
+bytes_by course.Script tree world trace = text_of (line_names tree world) trace.blocks
+bytes_by (course.Rounds rounds) tree world trace = text_of (line_names tree world) trace.blocks
+bytes_by (course.Load leaves) tree world trace = load_line leaves tree (length world.events) trace
+
+-- how often a run asks the clock: once a round, and never for a script
+abbrev pub asked_by : Course → Moments → Tree → World → Option RunFault → Asked
+asked_by course.Script moments tree world fault = Never
+asked_by (course.Rounds rounds) moments tree world None = Times rounds
+asked_by (course.Rounds rounds) moments tree world (Some fault) = UpToFault tree world (taken rounds moments)
+asked_by (course.Load leaves) moments tree world fault = Never
+
+-- what a run is given beside its files: its events, what is written of its trace, how often it asks the clock, and the
+-- drivers
+pub record Given : Type 0 where
+  pub events : World → List Event
+  pub bytes : Tree → World → Trace → List ℕ
+  pub asked : Tree → World → Option RunFault → Asked
+  pub drivers : List DriverState
+
+abbrev pub given : Course → Moments → List DriverState → Given
+given course moments drivers = record { events = events_by course moments; bytes = bytes_by course; asked = asked_by course moments; drivers = drivers }
+
+-- what is written of a run's trace; the drivers were prepared and then made its calls
+abbrev pub traced : Tree → World → Given → Trace → Output
+traced tree world g trace = record {
+  bytes = g.bytes tree world trace;
+  exit = run_exit trace.fault;
+  drivers = Some (roster_after_run tree world g.drivers trace.calls);
+  asked = g.asked tree world trace.fault;
+}
+
+-- the run of a tree in a world
+abbrev pub run_output : Tree → World → Given → Output
+run_output tree world g = traced tree world g (run_over tree world (g.events world))
+
+-- a tree and a world run where every leaf has a row and a driver; else the first that lacks one is told
+abbrev pub joined_output : Option JoinFault → Tree → World → Given → Output
+joined_output None tree world g = run_output tree world g
+joined_output (Some fault) tree world g = join_refused fault
+
+-- what the first leaf in pre-order lacks that lacks a row or a driver
+abbrev pub lack_of : Tree → World → List DriverState → Option JoinFault
+lack_of tree world drivers = first_lack world.rows drivers (leaf_ids tree.term)
+
+-- a tree with what the world file reads as
+abbrev pub world_output : Result World WorldFault → Tree → Given → Output
+world_output (Ok world) tree g = joined_output (lack_of tree world g.drivers) tree world g
+world_output (Err fault) tree g = world_refused fault
+
+-- ---- Files
+
+-- the output of a tree over the bytes of a world file
+abbrev pub WorldGives : Tree → List ℕ → Given → Output → Type 0
+WorldGives tree world g output = (described : Result World WorldFault) × ReadsWorld world described × (output ≡ world_output described tree g)
+
+-- the output of what a tree file reads as over the bytes of a world file
+abbrev pub TreeGives : Result Tree TreeFault → List ℕ → Given → Output → Type 0
+TreeGives (Ok tree) world g output = WorldGives tree world g output
+TreeGives (Err fault) world g output = output ≡ tree_refused fault
+
+-- ---- Commands
+
+-- the output of a file that must not be too long, which comes before all else of it
+abbrev pub OrTooLong : List ℕ → Output → Output → Type 0 → Type 0
+OrTooLong bytes refusal output Given = MatchBool (is_too_long bytes) (output ≡ refusal) Given
+
+-- the output of a run over the bytes of both files, with the main tree that is asked for, if one is
+abbrev pub RunGives : Option (List ℕ) → List ℕ → List ℕ → Given → Output → Type 0
+RunGives main tree world g output =
+    OrTooLong tree tree_too_long output
+    (OrTooLong world world_too_long output
+    ((read : Result Tree TreeFault) × TreeReads main tree read × TreeGives read world g output))
+
+-- what a tree file, a world file, moments and drivers have for outputs
+abbrev pub Giving : Type 1
+Giving = List ℕ → List ℕ → Moments → List DriverState → Output → Type 0
+
+-- the output of a run on this course
+abbrev pub RunsOn : Course → Option (List ℕ) → Giving
+RunsOn course main = λ tree world moments drivers. RunGives main tree world (given course moments drivers)
+
+-- the output of `check` over the bytes of its file
+abbrev pub CheckGives : Option (List ℕ) → List ℕ → Output → Type 0
+CheckGives main tree output =
+    OrTooLong tree tree_too_long output
+    ((read : Result Tree TreeFault) × TreeReads main tree read × (output ≡ check_output read))
+
+-- the output of a command over these bytes of the files that it names, these moments and these drivers; a load makes both
+-- of its files
+abbrev pub FilesGive : Command → Giving
+FilesGive (Tick _ _ main) = RunsOn course.Script main
+FilesGive (Live _ _ rounds main) = RunsOn (course.Rounds rounds) main
+FilesGive (Load leaves) = λ tree world. RunsOn (course.Load leaves) None (tree_text leaves) (world_text leaves)
+FilesGive (Check _ main) = λ tree world moments drivers output. CheckGives main tree output
+
+-- the files that a command names
+abbrev pub tree_name : Command → Option (List ℕ)
+tree_name (Tick tree world main) = Some tree
+tree_name (Live tree world rounds main) = Some tree
+tree_name (Load leaves) = None
+tree_name (Check tree main) = Some tree
+
+abbrev pub world_name : Command → Option (List ℕ)
+world_name (Tick tree world main) = Some world
+world_name (Live tree world rounds main) = Some world
+world_name (Load leaves) = None
+world_name (Check tree main) = None
+
+-- what a file holds that may be named
+abbrev pub held_by : (List ℕ → List ℕ) → Option (List ℕ) → List ℕ
+held_by holds (Some name) = holds name
+held_by holds None = []
+
+-- the output of a command over what the files hold; words that are no command are refused
+abbrev pub CommandGives : Option Command → (List ℕ → List ℕ) → Moments → List DriverState → Output → Type 0
+CommandGives None holds moments drivers output = output ≡ words_refused
+CommandGives (Some command) holds moments drivers output =
+    FilesGive command (held_by holds (tree_name command)) (held_by holds (world_name command)) moments drivers output

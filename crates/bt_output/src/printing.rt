@@ -1,0 +1,76 @@
+ghost use Rattle.std.specs.Prelude.{◌≡◌, ◌<◌, ◌≤◌, ◌^◌, ◌++◌, IfOk, OnOk, IsErrOf, List, Option};
+ghost use Rattle.std.specs.List.{concat};
+ghost use Rattle.bt_output.specs.Answers.{AreUncalled, Gave, side};
+ghost use Rattle.bt_output.specs.Output.{check_output, count_line};
+ghost use Rattle.bt_model.specs.Drivers.{DriverState};
+ghost use Rattle.bt_model.specs.PrintedTree.{tree_lines};
+ghost use Rattle.bt_model.specs.Terms.{node_count};
+ghost use Rattle.bt_model.specs.Trees.{IsValid};
+ghost use Rattle.bt_outside.specs.Appending.{Appended, AppendedFront};
+ghost use Rattle.bt_outside.specs.Counts.{Rose};
+ghost use Rattle.bt_outside.specs.Moments.{Moments};
+
+use bt_build::work;
+use bt_model::{Term, Tree};
+use bt_outside::Sink;
+use bt_script::NoMemory;
+use bt_text::{TextStop, put_bytes, put_number, write_line, write_tree};
+use bt_command_line::Exit;
+use std::alloc::Global;
+
+// The number of nodes of a term.
+fn nodes_of(term: &Term) -> u32
+    requires { node_count term.now < 2 ^ 32 }
+    ensures { result ≡ node_count term.now }
+{
+    let mut count = 1;
+    for child in term.children.list() {
+        count += nodes_of(child);
+    }
+    count
+}
+
+// The last line of a check.
+fn count_line(alloc: Global, tree: &Tree) -> Result<Vec<u8>, NoMemory>
+    requires { IsValid tree.now }
+    ensures { IfOk result (λ line. line.items ≡ count_line tree.now) }
+{
+    let mut line = Vec::new(alloc);
+    put_bytes(&mut line, b"<!-- nodes ")?;
+    put_number(&mut line, u64::from(nodes_of(&tree.term)))?;
+    put_bytes(&mut line, b" work ")?;
+    put_number(&mut line, u64::from(work(tree)))?;
+    put_bytes(&mut line, b" -->\n")?;
+    Ok(line)
+}
+
+// Writes the tree and then its counts.
+#[tactic(auto, using(bt_outside::proofs::Appends::appending))]
+fn write_check<K: Sink>(alloc: Global, tree: &Tree, out: &mut K) -> Result<(), TextStop>
+    requires { IsValid tree.now }
+    ensures whole { OnOk result (Appended
+        (K.written out.old) (K.written out.new) (concat (tree_lines tree.now) ++ count_line tree.now)) }
+    ensures front { AppendedFront
+        (K.written out.old) (K.written out.new) (concat (tree_lines tree.now) ++ count_line tree.now) }
+    ensures failed { IsErrOf result TextStop.WriteFault → Rose (K.faults out.old) (K.faults out.new) }
+    ensures count { K.faults out.old ≤ K.faults out.new }
+{
+    write_tree(alloc, out, tree)?;
+    let line = count_line(alloc, tree)?;
+    write_line(out, line.as_slice())?;
+    Ok(())
+}
+
+/// Prints the tree as it was read.
+pub fn print_tree<K: Sink>(alloc: Global, tree: &Tree, out: &mut K) -> Exit
+    requires { IsValid tree.now }
+    ensures gave { (clock : Option Moments) (old new : List DriverState) → AreUncalled old new → Gave (check_output (Ok tree.now)) result
+        (side (K.written out.old) (K.faults out.old) clock old) (side (K.written out.new) (K.faults out.new) clock new) }
+    ensures count { K.faults out.old ≤ K.faults out.new }
+{
+    match write_check(alloc, tree, out) {
+        Ok(()) => Exit::Done,
+        Err(TextStop::WriteFault) => Exit::Write,
+        Err(TextStop::NoMemory) => Exit::Memory,
+    }
+}

@@ -1,0 +1,499 @@
+-- The trees that are read open their trees alike: what an element reads as depends on nothing but the file.
+use Rattle.std.proofs.Common.{◌≡◌, ◌⊎◌, inl, inr, ℕ, zero, suc, ◌+◌, Bool, true, false, not, ◌&&◌, cond, if◌then◌else◌, List, [], ◌∷◌, ◌++◌, map, length, codes, Option, Some, None, Result, Ok, Err, refl, ap, sym, ◌∙◌, subst, append_assoc}
+use Rattle.std.specs.Prelude.{bytes_eq, is_some, option_map, nat_eq, nat_le, ◌||◌}
+use Rattle.std.proofs.lemmas.Slice.Eq.{bytes_eq-Decides}
+use Rattle.std.specs.Cmp.Derive.{both_true}
+use Rattle.std.specs.List.{list_all, AllByRecursion}
+use Rattle.std.specs.Map.{lookup}
+use Rattle.bt_script.specs.declared.fault.ScriptFault.{ScriptFault}
+use Rattle.bt_script.specs.declared.syntax.Script.{Script}
+use Rattle.bt_elements.specs.declared.element.Element.{Element}
+use Rattle.bt_model.specs.declared.built_ins.Range.{Range}
+use Rattle.bt_model.specs.declared.built_ins.Range.TheVariants.{AnyValue}
+use Rattle.bt_model.specs.declared.term.Kind.{Kind}
+use Rattle.bt_model.specs.declared.term.Kind.TheVariants.{SubTree}
+use Rattle.bt_model.specs.declared.term.Port.{Port}
+use Rattle.bt_model.specs.declared.term.Term.{Term, fold-roll-Term}
+use Rattle.bt_model.specs.declared.term.Tree.{Tree}
+use Rattle.bt_model.specs.BuiltIns.{PortRule, has_code, takes}
+use Rattle.bt_model.specs.Names.{is_among}
+use Rattle.bt_model.specs.Values.{value_in}
+use Rattle.bt_manifest.specs.declared.models.ModelPort.{ModelPort}
+use Rattle.bt_manifest.specs.Attributes.{Attributes, value_of}
+use Rattle.bt_manifest.specs.Models.{Models, attributes_of, children_of, name_of}
+use Rattle.bt_manifest.specs.Steps.{go_on}
+use Rattle.bt_build.specs.declared.content.Content.{Content}
+use Rattle.bt_build.specs.declared.fault.BuildFault.{BuildFault}
+use Rattle.bt_build.specs.declared.fault.BuildFault.TheVariants.{UnknownPort, OldSubTree, TooManyNodes, TooDeep, Recursive, TooManyScopes, ChildCount}
+use Rattle.bt_build.specs.declared.head.Head.{Head}
+use Rattle.bt_build.specs.declared.tree.Numbers.{Numbers}
+use Rattle.bt_build.specs.declared.version.Form.{Form}
+use Rattle.bt_build.specs.declared.version.Form.TheVariants.{SubTreePlus}
+use Rattle.bt_build.specs.Content.{Rules, AnyPort, AnyKey, Modelled, BuiltIn, all_known, autoremap_in, code_text, content_in, form_fits, guard_in, guards_in, is_port, name_fits, older_autoremap, or_bad, or_bad_script, ports_in, range_of, refused_if, rest_in, ruled_in, rules_of, said_or_false, script_of, scripts_in, truth_in, with_absent, with_attribute, with_default, with_fallback, with_model, with_modelled, with_ranged, with_rule, with_rules, with_written}
+use Rattle.bt_build.specs.Heads.{head_of}
+use Rattle.bt_build.specs.Reads.{File, Reader, is_subtree, known, main_of, main_read, most_levels, named_read, no_numbers, node_in, node_of, node_with, nodes_by, one_node_more, one_scope_more, opened_by, plain_by, read_node, read_root, reads, root_read, roots_read, term_of, tree_of, with_first, within_limits}
+use Rattle.bt_build.specs.Scripts.{script_in}
+use Rattle.bt_build.proofs.ElementTexts.{found}
+use Rattle.bt_build.proofs.PortFits.{some_same}
+use Rattle.bt_build.proofs.PortTexts.{to_not}
+use Rattle.bt_build.proofs.ScriptFits.{tail_0, tail_1, tail_2, tail_3, tail_4, tail_5, tail_6, tail_7, tail_8}
+use Rattle.bt_build.proofs.Sizes.{both_same, file_read, limited, not_refused, same_ok, went}
+use Rattle.bt_round_trip.specs.Openings.{OpensAlike, fresh_by, fresh_step, opens_fresh}
+use Rattle.bt_round_trip.specs.TreeElements.{Said, Subtree, own_tree, said, said_node}
+use Rattle.bt_round_trip.proofs.ReadNodes.{elements_of, opened_in}
+
+-- ---- What the attributes of a node say does not depend on its uid
+
+-- what is read stays the same
+abbrev Keeps : {A : Type 0} → Result A BuildFault → Result A BuildFault → Type 0
+Keeps {A} r s = (x : A) → r ≡ Ok x → s ≡ Ok x
+
+go_keeps : {A B : Type 0} (f g : A → Result B BuildFault) (r s : Result A BuildFault) → Keeps r s → ((x : A) → Keeps (f x) (g x)) → Keeps (go_on f r) (go_on g s)
+go_keeps f g r s kept next y h =
+    let w = went f r y h in ap (λ (q : Result _ BuildFault). go_on g q) (kept w.0 w.1) ∙ next w.0 y w.2
+
+bad_keeps : {A : Type 0} (u v : ℕ) (o : Option A) → Keeps (or_bad u o) (or_bad v o)
+bad_keeps u v (Some x) y h = h
+bad_keeps u v None y h = absurd (cc)
+
+ranged_keeps : (u v : ℕ) (ports : List Port) (b : Bool) (o : Option Range) (name text : List ℕ) → Keeps (with_ranged u ports b o name text) (with_ranged v ports b o name text)
+ranged_keeps u v ports true (Some range) name text y h = bad_keeps u v (option_map (λ value. ports ++ (record { name = name; value = value }) ∷ []) (value_in range name text)) y h
+ranged_keeps u v ports true None name text y h = absurd (cc)
+ranged_keeps u v ports false (Some range) name text y h = absurd (cc)
+ranged_keeps u v ports false None name text y h = absurd (cc)
+
+if_keeps : {A : Type 0} (b : Bool) (p q r s : Result A BuildFault) → Keeps p r → Keeps q s → Keeps (if b then p else q) (if b then r else s)
+if_keeps true p q r s k l = k
+if_keeps false p q r s k l = l
+
+ok_keeps : {A : Type 0} (x : A) → Keeps (Ok x) (Ok x)
+ok_keeps x y h = h
+
+attribute_keeps : (u v : ℕ) (c : Bool) (rules : Rules) (ports : List Port) (a : List ℕ × List ℕ) → Keeps (with_attribute u c rules ports a) (with_attribute v c rules ports a)
+attribute_keeps u v c rules ports a =
+    if_keeps (is_port c a.0) (with_ranged u ports (name_fits rules a.0) (range_of rules a.0) a.0 a.1) (Ok ports) (with_ranged v ports (name_fits rules a.0) (range_of rules a.0) a.0 a.1) (Ok ports)
+    (ranged_keeps u v ports (name_fits rules a.0) (range_of rules a.0) a.0 a.1) (ok_keeps ports)
+
+written_keeps : (u v : ℕ) (c : Bool) (rules : Rules) (ports : List Port) (A : Attributes) → Keeps (with_written u c rules ports A) (with_written v c rules ports A)
+written_keeps u v c rules ports [] = ok_keeps ports
+written_keeps u v c rules ports (a ∷ A) =
+    go_keeps (λ next. with_written u c rules next A) (λ next. with_written v c rules next A) (with_attribute u c rules ports a) (with_attribute v c rules ports a) (attribute_keeps u v c rules ports a)
+    (λ next. written_keeps u v c rules next A)
+
+default_keeps : (u v : ℕ) (ports : List Port) (rule : PortRule) (o : Option (List ℕ)) → Keeps (with_default u ports rule o) (with_default v ports rule o)
+default_keeps u v ports rule (Some text) y h = bad_keeps u v (option_map (λ value. ports ++ (record { name = rule.name; value = value }) ∷ []) (value_in rule.range rule.name text)) y h
+default_keeps u v ports rule None y h = absurd (cc)
+
+rules_keep : (u v : ℕ) (A : Attributes) (ports : List Port) (rules : List PortRule) → Keeps (with_rules u A ports rules) (with_rules v A ports rules)
+rules_keep u v A ports [] = ok_keeps ports
+rules_keep u v A ports (rule ∷ rules) =
+    go_keeps (λ next. with_rules u A next rules) (λ next. with_rules v A next rules) (with_rule u A ports rule) (with_rule v A ports rule)
+    (if_keeps (is_some (value_of rule.name A)) (Ok ports) (with_default u ports rule rule.default) (Ok ports) (with_default v ports rule rule.default) (ok_keeps ports) (default_keeps u v ports rule rule.default))
+    (λ next. rules_keep u v A next rules)
+
+fallback_keeps : (u v : ℕ) (ports : List Port) (name : List ℕ) (o : Option (List ℕ)) → Keeps (with_fallback u ports name o) (with_fallback v ports name o)
+fallback_keeps u v ports name (Some text) = bad_keeps u v (option_map (λ value. ports ++ (record { name = name; value = value }) ∷ []) (value_in AnyValue name text))
+fallback_keeps u v ports name None = ok_keeps ports
+
+model_keeps : (u v : ℕ) (A : Attributes) (ports : List Port) (model : List ModelPort) → Keeps (with_model u A ports model) (with_model v A ports model)
+model_keeps u v A ports [] = ok_keeps ports
+model_keeps u v A ports (port ∷ more) =
+    go_keeps (λ next. with_model u A next more) (λ next. with_model v A next more) (with_modelled u A ports port) (with_modelled v A ports port)
+    (if_keeps (is_some (value_of port.name A)) (Ok ports) (with_fallback u ports port.name port.fallback) (Ok ports) (with_fallback v ports port.name port.fallback) (ok_keeps ports) (fallback_keeps u v ports port.name port.fallback))
+    (λ next. model_keeps u v A next more)
+
+absent_keeps : (u v : ℕ) (A : Attributes) (rules : Rules) (ports : List Port) → Keeps (with_absent u A rules ports) (with_absent v A rules ports)
+absent_keeps u v A AnyPort ports = ok_keeps ports
+absent_keeps u v A AnyKey ports = ok_keeps ports
+absent_keeps u v A (Modelled model) ports = model_keeps u v A ports model
+absent_keeps u v A (BuiltIn rules) ports = rules_keep u v A ports rules
+
+ports_keep : (u v : ℕ) (c : Bool) (rules : Rules) (A : Attributes) → Keeps (ports_in u c rules A) (ports_in v c rules A)
+ports_keep u v c rules A =
+    go_keeps (with_absent u A rules) (with_absent v A rules) (with_written u c rules [] A) (with_written v c rules [] A) (written_keeps u v c rules [] A) (λ ports. absent_keeps u v A rules ports)
+
+read_keeps : (u v : ℕ) (r : Result Script ScriptFault) → Keeps (or_bad_script u r) (or_bad_script v r)
+read_keeps u v (Ok script) y h = h
+read_keeps u v (Err fault) y h = absurd (cc)
+
+script_keeps : (u v : ℕ) (o : Option (List ℕ)) → Keeps (script_of u o) (script_of v o)
+script_keeps u v None = ok_keeps None
+script_keeps u v (Some text) = read_keeps u v (script_in text)
+
+guard_keeps : (u v : ℕ) (A : Attributes) (name : List ℕ) → Keeps (guard_in u A name) (guard_in v A name)
+guard_keeps u v A name = script_keeps u v (value_of name A)
+
+keep_8 : (u v : ℕ) (A : Attributes) (a b c d e f g h : Option Script) → Keeps (tail_8 u A a b c d e f g h) (tail_8 v A a b c d e f g h)
+keep_8 u v A a b c d e f g h x k = k
+
+keep_7 : (u v : ℕ) (A : Attributes) (a b c d e f g : Option Script) → Keeps (tail_7 u A a b c d e f g) (tail_7 v A a b c d e f g)
+keep_7 u v A a b c d e f g = go_keeps (tail_8 u A a b c d e f g) (tail_8 v A a b c d e f g) (guard_in u A (codes "_onHalted")) (guard_in v A (codes "_onHalted")) (guard_keeps u v A (codes "_onHalted")) (λ x. keep_8 u v A a b c d e f g x)
+
+keep_6 : (u v : ℕ) (A : Attributes) (a b c d e f : Option Script) → Keeps (tail_6 u A a b c d e f) (tail_6 v A a b c d e f)
+keep_6 u v A a b c d e f = go_keeps (tail_7 u A a b c d e f) (tail_7 v A a b c d e f) (guard_in u A (codes "_post")) (guard_in v A (codes "_post")) (guard_keeps u v A (codes "_post")) (λ x. keep_7 u v A a b c d e f x)
+
+keep_5 : (u v : ℕ) (A : Attributes) (a b c d e : Option Script) → Keeps (tail_5 u A a b c d e) (tail_5 v A a b c d e)
+keep_5 u v A a b c d e = go_keeps (tail_6 u A a b c d e) (tail_6 v A a b c d e) (guard_in u A (codes "_onFailure")) (guard_in v A (codes "_onFailure")) (guard_keeps u v A (codes "_onFailure")) (λ x. keep_6 u v A a b c d e x)
+
+keep_4 : (u v : ℕ) (A : Attributes) (a b c d : Option Script) → Keeps (tail_4 u A a b c d) (tail_4 v A a b c d)
+keep_4 u v A a b c d = go_keeps (tail_5 u A a b c d) (tail_5 v A a b c d) (guard_in u A (codes "_onSuccess")) (guard_in v A (codes "_onSuccess")) (guard_keeps u v A (codes "_onSuccess")) (λ x. keep_5 u v A a b c d x)
+
+keep_3 : (u v : ℕ) (A : Attributes) (a b c : Option Script) → Keeps (tail_3 u A a b c) (tail_3 v A a b c)
+keep_3 u v A a b c = go_keeps (tail_4 u A a b c) (tail_4 v A a b c) (guard_in u A (codes "_while")) (guard_in v A (codes "_while")) (guard_keeps u v A (codes "_while")) (λ x. keep_4 u v A a b c x)
+
+keep_2 : (u v : ℕ) (A : Attributes) (a b : Option Script) → Keeps (tail_2 u A a b) (tail_2 v A a b)
+keep_2 u v A a b = go_keeps (tail_3 u A a b) (tail_3 v A a b) (guard_in u A (codes "_skipIf")) (guard_in v A (codes "_skipIf")) (guard_keeps u v A (codes "_skipIf")) (λ x. keep_3 u v A a b x)
+
+keep_1 : (u v : ℕ) (A : Attributes) (a : Option Script) → Keeps (tail_1 u A a) (tail_1 v A a)
+keep_1 u v A a = go_keeps (tail_2 u A a) (tail_2 v A a) (guard_in u A (codes "_successIf")) (guard_in v A (codes "_successIf")) (guard_keeps u v A (codes "_successIf")) (λ x. keep_2 u v A a x)
+
+keep_0 : (u v : ℕ) (A : Attributes) → Keeps (tail_0 u A) (tail_0 v A)
+keep_0 u v A = go_keeps (tail_1 u A) (tail_1 v A) (guard_in u A (codes "_failureIf")) (guard_in v A (codes "_failureIf")) (guard_keeps u v A (codes "_failureIf")) (λ x. keep_1 u v A x)
+
+text_keeps : (u v : ℕ) (c : Bool) (A : Attributes) → Keeps (code_text u c A) (code_text v c A)
+text_keeps u v false A = ok_keeps None
+text_keeps u v true A = bad_keeps u v (option_map Some (value_of (codes "code") A))
+
+truth_keeps : (u v : ℕ) (o : Option (List ℕ)) → Keeps (said_or_false u o) (said_or_false v o)
+truth_keeps u v None = ok_keeps false
+truth_keeps u v (Some text) = bad_keeps u v (truth_in text)
+
+older_keeps : (u v : ℕ) (form : Form) (A : Attributes) → Keeps (older_autoremap u form A) (older_autoremap v form A)
+older_keeps u v SubTreePlus A = truth_keeps u v (value_of (codes "__autoremap") A)
+older_keeps u v form A = ok_keeps false
+
+autoremap_keeps : (u v : ℕ) (kind : Kind) (form : Form) (A : Attributes) → Keeps (autoremap_in u kind form A) (autoremap_in v kind form A)
+autoremap_keeps u v SubTree form A =
+    let said = value_of (codes "_autoremap") A in
+    go_keeps (λ now. go_on (λ older. Ok (now || older)) (older_autoremap u form A)) (λ now. go_on (λ older. Ok (now || older)) (older_autoremap v form A)) (said_or_false u said) (said_or_false v said) (truth_keeps u v said)
+    (λ now. go_keeps (λ older. Ok (now || older)) (λ older. Ok (now || older)) (older_autoremap u form A) (older_autoremap v form A) (older_keeps u v form A) (λ older. ok_keeps (now || older)))
+autoremap_keeps u v kind form A = ok_keeps false
+
+scripts_keep : (u v : ℕ) (ports : List Port) (text : Option (List ℕ)) (b : Bool) (A : Attributes) → Keeps (scripts_in u ports text b A) (scripts_in v ports text b A)
+scripts_keep u v ports text b A =
+    go_keeps (λ code. go_on (λ guards. Ok (record { ports = ports; code = code; guards = guards; autoremap = b })) (guards_in u A)) (λ code. go_on (λ guards. Ok (record { ports = ports; code = code; guards = guards; autoremap = b })) (guards_in v A))
+    (script_of u text) (script_of v text) (script_keeps u v text)
+    (λ code. go_keeps (λ guards. Ok (record { ports = ports; code = code; guards = guards; autoremap = b })) (λ guards. Ok (record { ports = ports; code = code; guards = guards; autoremap = b }))
+    (guards_in u A) (guards_in v A) (keep_0 u v A) (λ guards. ok_keeps (record { ports = ports; code = code; guards = guards; autoremap = b })))
+
+rest_keeps : (u v : ℕ) (kind : Kind) (form : Form) (A : Attributes) (ports : List Port) → Keeps (rest_in u kind form A ports) (rest_in v kind form A ports)
+rest_keeps u v kind form A ports =
+    go_keeps (λ text. go_on (λ b. scripts_in u ports text b A) (autoremap_in u kind form A)) (λ text. go_on (λ b. scripts_in v ports text b A) (autoremap_in v kind form A)) (code_text u (has_code kind) A) (code_text v (has_code kind) A)
+    (text_keeps u v (has_code kind) A)
+    (λ text. go_keeps (λ b. scripts_in u ports text b A) (λ b. scripts_in v ports text b A) (autoremap_in u kind form A) (autoremap_in v kind form A) (autoremap_keeps u v kind form A) (λ b. scripts_keep u v ports text b A))
+
+refused_keeps : {A : Type 0} (b : Bool) (f g : BuildFault) (r s : Result A BuildFault) → Keeps r s → Keeps (refused_if b f r) (refused_if b g s)
+refused_keeps true f g r s kept y h = absurd (cc)
+refused_keeps false f g r s kept y h = kept y h
+
+ruled_keeps : (u v : ℕ) (kind : Kind) (form : Form) (rules : Rules) (A : Attributes) → Keeps (ruled_in u kind form rules A) (ruled_in v kind form rules A)
+ruled_keeps u v kind form rules A =
+    let r = go_on (rest_in u kind form A) (ports_in u (has_code kind) rules A) in
+    let s = go_on (rest_in v kind form A) (ports_in v (has_code kind) rules A) in
+    refused_keeps (not (all_known (has_code kind) rules A)) (UnknownPort u) (UnknownPort v) (refused_if (not (form_fits form A)) (OldSubTree u) r) (refused_if (not (form_fits form A)) (OldSubTree v) s)
+    (refused_keeps (not (form_fits form A)) (OldSubTree u) (OldSubTree v) r s
+    (go_keeps (rest_in u kind form A) (rest_in v kind form A) (ports_in u (has_code kind) rules A) (ports_in v (has_code kind) rules A) (ports_keep u v (has_code kind) rules A) (λ ports. rest_keeps u v kind form A ports)))
+
+content_keeps : (u v : ℕ) (models : Models) (kind : Kind) (id : List ℕ) (form : Form) (A : Attributes) → Keeps (content_in u models kind id form A) (content_in v models kind id form A)
+content_keeps u v models kind id form A = ruled_keeps u v kind form (rules_of models kind id) A
+
+-- ---- How a node was read
+
+-- its children are its own, or those of the tree that it opens
+abbrev From : File → Head → Element → List (List ℕ) → List (List ℕ) → List Element → Type 0
+From file head e opened inner es =
+    ((is_subtree head.kind ≡ false) × (inner ≡ opened) × (es ≡ children_of e))
+    ⊎ ((is_subtree head.kind ≡ true) × (is_among head.id opened ≡ false) × (inner ≡ opened ++ head.id ∷ []) × ((tree : Element) × (tree_of head.id file.trees ≡ Some tree) × (es ≡ children_of tree)))
+
+record NodeRead (file : File) (left : ℕ) (e : Element) (opened : List (List ℕ)) (m : Numbers) (t : Term) : Type 0 where
+  head : Head
+  is : head_of file.version (name_of e) (attributes_of e) (length (children_of e)) ≡ Some head
+  uid : ℕ
+  content : Content
+  said_so : content_in uid file.models head.kind head.id head.form (attributes_of e) ≡ Ok content
+  inner : List (List ℕ)
+  es : List Element
+  before : Numbers
+  from : From file head e opened inner es
+  ts : List Term
+  below : nodes_by (read_node file left) inner es before ≡ Ok (ts, m)
+  term : term_of head (attributes_of e) content ts ≡ t
+
+made : (file : File) (left : ℕ) (e : Element) (opened inner : List (List ℕ)) (es : List Element) (head : Head) (n m : Numbers) (uid : ℕ) (t : Term) → head_of file.version (name_of e) (attributes_of e) (length (children_of e)) ≡ Some head →
+    From file head e opened inner es → node_of file.models (read_node file left) head (attributes_of e) inner es n uid ≡ Ok (t, m) → NodeRead file left e opened m t
+made file left e opened inner es head n m uid t is from h =
+    let below = read_node file left in
+    let A = attributes_of e in
+    let w = went (λ (content : Content). go_on (node_with head A content) (nodes_by below inner es n)) (content_in uid file.models head.kind head.id head.form A) (t, m) h in
+    let v = went (node_with head A w.0) (nodes_by below inner es n) (t, m) w.2 in
+    let p = both_same (term_of head A w.0 v.0.0) t v.0.1 m v.2 in
+    record {
+      head = head;
+      is = is;
+      uid = uid;
+      content = w.0;
+      said_so = w.1;
+      inner = inner;
+      es = es;
+      before = n;
+      from = from;
+      ts = v.0.0;
+      below = subst (λ (k : Numbers). nodes_by below inner es n ≡ Ok (v.0.0, k)) p.1 v.1;
+      term = p.0;
+    }
+
+opened_made : (file : File) (left : ℕ) (e : Element) (opened : List (List ℕ)) (head : Head) (n m : Numbers) (t : Term) (o : Option Element) → head_of file.version (name_of e) (attributes_of e) (length (children_of e)) ≡ Some head →
+    is_subtree head.kind ≡ true → tree_of head.id file.trees ≡ o → opened_by file (read_node file left) head e opened n o ≡ Ok (t, m) → NodeRead file left e opened m t
+opened_made file left e opened head n m t None is own there h = absurd (cc)
+opened_made file left e opened head n m t (Some tree) is own there h =
+    let inner = opened ++ head.id ∷ [] in
+    let node = node_of file.models (read_node file left) head (attributes_of e) inner (children_of tree) (one_scope_more (one_node_more n)) (n.nodes + 1) in
+    let one = nat_eq (length (children_of e)) 0 && nat_eq (length (children_of tree)) 1 in
+    let counted = refused_if (not one) (ChildCount (n.nodes + 1)) node in
+    let r = not_refused (is_among head.id opened) (Recursive head.id) (refused_if (nat_le 256 n.scopes) TooManyScopes counted) (t, m) h in
+    let q = not_refused (nat_le 256 n.scopes) TooManyScopes counted (t, m) r.1 in
+    let p = not_refused (not one) (ChildCount (n.nodes + 1)) node (t, m) q.1 in
+    made file left e opened inner (children_of tree) head (one_scope_more (one_node_more n)) m (n.nodes + 1) t is (inr (own, r.0, refl, (tree, there, refl))) p.1
+
+kind_made : (file : File) (left : ℕ) (e : Element) (opened : List (List ℕ)) (head : Head) (n m : Numbers) (t : Term) (b : Bool) → head_of file.version (name_of e) (attributes_of e) (length (children_of e)) ≡ Some head →
+    is_subtree head.kind ≡ b → (if b then opened_by file (read_node file left) head e opened n (tree_of head.id file.trees) else plain_by file (read_node file left) head e opened n) ≡ Ok (t, m) → NodeRead file left e opened m t
+kind_made file left e opened head n m t true is own h = opened_made file left e opened head n m t (tree_of head.id file.trees) is own refl h
+kind_made file left e opened head n m t false is own h =
+    let node = node_of file.models (read_node file left) head (attributes_of e) opened (children_of e) (one_node_more n) (n.nodes + 1) in
+    let r = not_refused (not (takes head.kind (length (children_of e)))) (ChildCount (n.nodes + 1)) node (t, m) h in
+    made file left e opened opened (children_of e) head (one_node_more n) m (n.nodes + 1) t is (inl (own, refl, refl)) r.1
+
+known_made : (file : File) (left : ℕ) (e : Element) (opened : List (List ℕ)) (n m : Numbers) (t : Term) (o : Option Head) → head_of file.version (name_of e) (attributes_of e) (length (children_of e)) ≡ o →
+    known file (read_node file left) e opened n o ≡ Ok (t, m) → NodeRead file left e opened m t
+known_made file left e opened n m t None is h = absurd (cc)
+known_made file left e opened n m t (Some head) is h = kind_made file left e opened head n m t (is_subtree head.kind) is refl h
+
+read_made : (file : File) (left : ℕ) (e : Element) (opened : List (List ℕ)) (n m : Numbers) (t : Term) → read_node file (suc left) e opened n ≡ Ok (t, m) → NodeRead file left e opened m t
+read_made file left e opened n m t h =
+    let o = head_of file.version (name_of e) (attributes_of e) (length (children_of e)) in
+    let r = not_refused (nat_le 4096 n.nodes) TooManyNodes (known file (read_node file left) e opened n o) (t, m) h in
+    known_made file left e opened n m t o refl r.1
+
+none_read : (file : File) (e : Element) (opened : List (List ℕ)) (n m : Numbers) (t : Term) → read_node file zero e opened n ≡ Ok (t, m) → ⊥
+none_read file e opened n m t h =
+    let r = (not_refused (nat_le 4096 n.nodes) TooManyNodes (Err (TooDeep (n.nodes + 1))) (t, m) h).1 in no r
+  where
+    no : {X : Type 0} {f : BuildFault} {x : X} → ◌≡◌ {A = Result X BuildFault} (Err f) (Ok x) → ⊥
+    no k = cc
+
+-- how the first of some nodes was read, and the others
+record FirstRead (reader : Reader) (opened : List (List ℕ)) (e : Element) (es : List Element) (n m : Numbers) (ts : List Term) : Type 0 where
+  first : Term
+  between : Numbers
+  rest : List Term
+  is_first : reader e opened n ≡ Ok (first, between)
+  are_rest : nodes_by reader opened es between ≡ Ok (rest, m)
+  all : first ∷ rest ≡ ts
+
+first_read : (reader : Reader) (opened : List (List ℕ)) (e : Element) (es : List Element) (n m : Numbers) (ts : List Term) → nodes_by reader opened (e ∷ es) n ≡ Ok (ts, m) → FirstRead reader opened e es n m ts
+first_read reader opened e es n m ts h =
+    let w = went (λ (r : Term × Numbers). with_first r.0 (nodes_by reader opened es r.1)) (reader e opened n) (ts, m) h in
+    let v = went (λ (r : List Term × Numbers). Ok (w.0.0 ∷ r.0, r.1)) (nodes_by reader opened es w.0.1) (ts, m) w.2 in
+    let p = both_same (w.0.0 ∷ v.0.0) ts v.0.1 m v.2 in
+    record {
+      first = w.0.0;
+      between = w.0.1;
+      rest = v.0.0;
+      is_first = w.1;
+      are_rest = subst (λ (k : Numbers). nodes_by reader opened es w.0.1 ≡ Ok (v.0.0, k)) p.1 v.1;
+      all = p.0;
+    }
+
+-- ---- One element reads in one way
+
+abbrev Same : Reader → Reader → Type 0
+Same r s = (e : Element) (o p : List (List ℕ)) (n k m l : Numbers) (t u : Term) → r e o n ≡ Ok (t, m) → s e p k ≡ Ok (u, l) → t ≡ u
+
+all_same : (r s : Reader) → Same r s → (es : List Element) (o p : List (List ℕ)) (n k m l : Numbers) (ts us : List Term) → nodes_by r o es n ≡ Ok (ts, m) → nodes_by s p es k ≡ Ok (us, l) → ts ≡ us
+all_same r s same [] o p n k m l ts us h g = sym (both_same [] ts n m h).0 ∙ (both_same [] us k l g).0
+all_same r s same (e ∷ es) o p n k m l ts us h g =
+    let a = first_read r o e es n m ts h in
+    let b = first_read s p e es k l us g in
+    let first : a.first ≡ b.first = same e o p n k a.between b.between a.first b.first a.is_first b.is_first in
+    let rest : a.rest ≡ b.rest = all_same r s same es o p a.between b.between m l a.rest b.rest a.are_rest b.are_rest in
+    sym a.all ∙ ap (λ (t : Term). t ∷ a.rest) first ∙ ap (λ (z : List Term). b.first ∷ z) rest ∙ b.all
+
+from_same : (file : File) (e : Element) (h k : Head) (o p i j : List (List ℕ)) (es fs : List Element) → h ≡ k → From file h e o i es → From file k e p j fs → es ≡ fs
+from_same file e h k o p i j es fs same (inl a) (inl b) = a.2 ∙ sym b.2
+from_same file e h k o p i j es fs same (inl a) (inr b) = let c : is_subtree h.kind ≡ is_subtree k.kind = ap (λ (x : Head). is_subtree x.kind) same in let x = a.0 in let y = b.0 in absurd (cc)
+from_same file e h k o p i j es fs same (inr a) (inl b) = let c : is_subtree h.kind ≡ is_subtree k.kind = ap (λ (x : Head). is_subtree x.kind) same in let x = a.0 in let y = b.0 in absurd (cc)
+from_same file e h k o p i j es fs same (inr a) (inr b) =
+    let tree : a.3.0 ≡ b.3.0 = some_same a.3.0 b.3.0 (sym a.3.1 ∙ ap (λ (x : Head). tree_of x.id file.trees) same ∙ b.3.1) in
+    a.3.2 ∙ ap (λ (x : Element). children_of x) tree ∙ sym b.3.2
+
+node_same : (file : File) (a b : ℕ) (e : Element) (o p : List (List ℕ)) (m l : Numbers) (t u : Term) → Same (read_node file a) (read_node file b) → NodeRead file a e o m t → NodeRead file b e p l u → t ≡ u
+node_same file a b e o p m l t u same x y =
+    let A = attributes_of e in
+    let head : x.head ≡ y.head = some_same x.head y.head (sym x.is ∙ y.is) in
+    let moved = subst (λ (h : Head). content_in x.uid file.models h.kind h.id h.form A ≡ Ok x.content) head x.said_so in
+    let content : x.content ≡ y.content = same_ok x.content y.content (sym (content_keeps x.uid y.uid file.models y.head.kind y.head.id y.head.form A x.content moved) ∙ y.said_so) in
+    let es : x.es ≡ y.es = from_same file e x.head y.head o p x.inner y.inner x.es y.es head x.from y.from in
+    let below = subst (λ (z : List Element). nodes_by (read_node file a) x.inner z x.before ≡ Ok (x.ts, m)) es x.below in
+    let ts : x.ts ≡ y.ts = all_same (read_node file a) (read_node file b) same y.es x.inner y.inner x.before y.before m l x.ts y.ts below y.below in
+    sym x.term
+    ∙ ap (λ (h : Head). term_of h A x.content x.ts) head
+    ∙ ap (λ (c : Content). term_of y.head A c x.ts) content
+    ∙ ap (λ (z : List Term). term_of y.head A y.content z) ts
+    ∙ y.term
+
+reads_same : (file : File) (a b : ℕ) → Same (read_node file a) (read_node file b)
+reads_same file zero b e o p n k m l t u h g = absurd (none_read file e o n m t h)
+reads_same file (suc a) zero e o p n k m l t u h g = absurd (none_read file e p k l u g)
+reads_same file (suc a) (suc b) e o p n k m l t u h g = node_same file a b e o p m l t u (reads_same file a b) (read_made file a e o n m t h) (read_made file b e p k l u g)
+
+-- ---- No tree is opened in itself
+
+abbrev Fresh : Reader → Type 0
+Fresh reader = (e : Element) (opened : List (List ℕ)) (n m : Numbers) (t : Term) → reader e opened n ≡ Ok (t, m) → opens_fresh t opened ≡ true
+
+abbrev all_open : List Term → List (List ℕ) → Bool
+all_open ts opened = list_all (λ (child : List (List ℕ) → Bool). child opened) (map opens_fresh ts)
+
+all_fresh : (reader : Reader) → Fresh reader → (opened : List (List ℕ)) (es : List Element) (n m : Numbers) (ts : List Term) → nodes_by reader opened es n ≡ Ok (ts, m) → all_open ts opened ≡ true
+all_fresh reader fresh opened [] n m ts h = subst (λ (z : List Term). all_open z opened ≡ true) (both_same [] ts n m h).0 refl
+all_fresh reader fresh opened (e ∷ es) n m ts h =
+    let f = first_read reader opened e es n m ts h in
+    subst (λ (z : List Term). all_open z opened ≡ true) f.all
+    (both_true (fresh e opened n f.between f.first f.is_first) (all_fresh reader fresh opened es f.between m f.rest f.are_rest))
+
+plain_fresh : (kind : Kind) (id : List ℕ) (ts : List Term) (opened : List (List ℕ)) → is_subtree kind ≡ false → all_open ts opened ≡ true → fresh_by kind id (map opens_fresh ts) opened ≡ true
+plain_fresh SubTree id ts opened h all = absurd (cc)
+plain_fresh kind id ts opened h all = all
+
+subtree_fresh : (kind : Kind) (id : List ℕ) (ts : List Term) (opened : List (List ℕ)) → is_subtree kind ≡ true → is_among id opened ≡ false → all_open ts (opened ++ id ∷ []) ≡ true →
+    fresh_by kind id (map opens_fresh ts) opened ≡ true
+subtree_fresh SubTree id ts opened h new all = both_true (to_not (is_among id opened) new) all
+subtree_fresh kind id ts opened h new all = absurd (cc)
+
+from_fresh : (file : File) (head : Head) (e : Element) (opened inner : List (List ℕ)) (es : List Element) (ts : List Term) → From file head e opened inner es → all_open ts inner ≡ true →
+    fresh_by head.kind head.id (map opens_fresh ts) opened ≡ true
+from_fresh file head e opened inner es ts (inl a) all = plain_fresh head.kind head.id ts opened a.0 (subst (λ (o : List (List ℕ)). all_open ts o ≡ true) a.1 all)
+from_fresh file head e opened inner es ts (inr a) all = subtree_fresh head.kind head.id ts opened a.0 a.1 (subst (λ (o : List (List ℕ)). all_open ts o ≡ true) a.2 all)
+
+read_fresh : (file : File) (left : ℕ) → Fresh (read_node file left)
+read_fresh file zero e opened n m t h = absurd (none_read file e opened n m t h)
+read_fresh file (suc left) e opened n m t h =
+    let x = read_made file left e opened n m t h in
+    let below = all_fresh (read_node file left) (read_fresh file left) x.inner x.es x.before m x.ts x.below in
+    subst (λ (z : Term). opens_fresh z opened ≡ true) x.term
+    (ap (λ (f : List (List ℕ) → Bool). f opened) (fold-roll-Term (List (List ℕ) → Bool) fresh_step (node_in x.head (attributes_of e) x.content x.ts)) ∙ from_fresh file x.head e opened x.inner x.es x.ts x.from below)
+
+-- ---- Each opened tree is what the file's tree of its ID reads as
+
+-- some elements read as these terms
+abbrev ReadBy : File → List Element → List Term → Type 0
+ReadBy file es ts = (left : ℕ) × (opened : List (List ℕ)) × (n : Numbers) × (m : Numbers) × (nodes_by (read_node file left) opened es n ≡ Ok (ts, m))
+
+record SaidBy (file : File) (t : Subtree) : Type 0 where
+  tree : Element
+  there : tree_of t.0 file.trees ≡ Some tree
+  ts : List Term
+  read : ReadBy file (children_of tree) ts
+  is : elements_of ts ≡ t.1
+
+abbrev AllSaid : File → List Subtree → Type 0
+AllSaid file ts = AllByRecursion (SaidBy file) ts
+
+joined : (file : File) (ts us : List Subtree) → AllSaid file ts → AllSaid file us → AllSaid file (ts ++ us)
+joined file [] us p q = q
+joined file (t ∷ ts) us p q = (p.0, joined file ts us p.1 q)
+
+abbrev SaysAll : File → Reader → Type 0
+SaysAll file reader = (e : Element) (opened : List (List ℕ)) (n m : Numbers) (t : Term) → reader e opened n ≡ Ok (t, m) → AllSaid file (said t).opened
+
+all_say : (file : File) (reader : Reader) → SaysAll file reader → (opened : List (List ℕ)) (es : List Element) (n m : Numbers) (ts : List Term) → nodes_by reader opened es n ≡ Ok (ts, m) → AllSaid file (opened_in ts)
+all_say file reader says opened [] n m ts h = let none : AllSaid file (opened_in []) = tt in subst (λ (z : List Term). AllSaid file (opened_in z)) (both_same [] ts n m h).0 none
+all_say file reader says opened (e ∷ es) n m ts h =
+    let f = first_read reader opened e es n m ts h in
+    subst (λ (z : List Term). AllSaid file (opened_in z)) f.all
+    (joined file (said f.first).opened (opened_in f.rest) (says e opened n f.between f.first f.is_first) (all_say file reader says opened es f.between m f.rest f.are_rest))
+
+no_own : (file : File) (kind : Kind) (id : List ℕ) (es : List Element) → is_subtree kind ≡ false → AllSaid file (own_tree kind id es)
+no_own file SubTree id es h = absurd (cc)
+no_own file kind id es h = tt
+
+one_own : (file : File) (kind : Kind) (id : List ℕ) (es : List Element) → SaidBy file (id, es) → AllSaid file (own_tree kind id es)
+one_own file SubTree id es s = (s, tt)
+one_own file kind id es s = tt
+
+own_said : (file : File) (left : ℕ) (head : Head) (e : Element) (opened inner : List (List ℕ)) (es : List Element) (n m : Numbers) (ts : List Term) → From file head e opened inner es →
+    nodes_by (read_node file left) inner es n ≡ Ok (ts, m) → AllSaid file (own_tree head.kind head.id (elements_of ts))
+own_said file left head e opened inner es n m ts (inl a) h = no_own file head.kind head.id (elements_of ts) a.0
+own_said file left head e opened inner es n m ts (inr a) h =
+    one_own file head.kind head.id (elements_of ts)
+    (record {
+      tree = a.3.0;
+      there = a.3.1;
+      ts = ts;
+      read = (left, inner, n, m, subst (λ (z : List Element). nodes_by (read_node file left) inner z n ≡ Ok (ts, m)) a.3.2 h);
+      is = refl;
+    })
+
+read_says : (file : File) (left : ℕ) → SaysAll file (read_node file left)
+read_says file zero e opened n m t h = absurd (none_read file e opened n m t h)
+read_says file (suc left) e opened n m t h =
+    let x = read_made file left e opened n m t h in
+    let node = node_in x.head (attributes_of e) x.content x.ts in
+    subst (λ (z : Term). AllSaid file (said z).opened) x.term
+    (subst (λ (s : Said). AllSaid file s.opened) (sym (fold-roll-Term Said said_node node))
+    (joined file (own_tree x.head.kind x.head.id (elements_of x.ts)) (opened_in x.ts) (own_said file left x.head e opened x.inner x.es x.before m x.ts x.from x.below)
+    (all_say file (read_node file left) (read_says file left) x.inner x.es x.before m x.ts x.below)))
+
+said_same : (file : File) (id : List ℕ) (a b : List Element) → SaidBy file (id, a) → SaidBy file (id, b) → a ≡ b
+said_same file id a b x y =
+    let tree : x.tree ≡ y.tree = some_same x.tree y.tree (sym x.there ∙ y.there) in
+    let below = subst (λ (z : Element). nodes_by (read_node file x.read.0) x.read.1 (children_of z) x.read.2 ≡ Ok (x.ts, x.read.3)) tree x.read.4 in
+    let ts : x.ts ≡ y.ts =
+    all_same (read_node file x.read.0) (read_node file y.read.0) (reads_same file x.read.0 y.read.0) (children_of y.tree) x.read.1 y.read.1 x.read.2 y.read.2 x.read.3 y.read.3 x.ts y.ts below y.read.4 in
+    sym x.is ∙ ap (λ (z : List Term). elements_of z) ts ∙ y.is
+
+there_behind : (id : List ℕ) (front : List Subtree) (t : Subtree) (ts : List Subtree) → bytes_eq id t.0 ≡ true → is_some (lookup (bytes_eq id) (front ++ t ∷ ts)) ≡ true
+there_behind id [] t ts h = ap (λ (b : Bool). is_some (cond b (Some t.1) (lookup (bytes_eq id) ts))) h
+there_behind id (u ∷ front) t ts h = by_first (bytes_eq id u.0) (there_behind id front t ts h)
+  where
+    by_first : (b : Bool) → is_some (lookup (bytes_eq id) (front ++ t ∷ ts)) ≡ true → is_some (cond b (Some u.1) (lookup (bytes_eq id) (front ++ t ∷ ts))) ≡ true
+    by_first true rest = refl
+    by_first false rest = rest
+
+first_said : (file : File) (whole : List Subtree) (t : Subtree) (o : Option (List Element)) → AllSaid file whole → SaidBy file t → lookup (bytes_eq t.0) whole ≡ o → is_some o ≡ true → o ≡ Some t.1
+first_said file whole t None all s is some = absurd (cc)
+first_said file whole t (Some es) all s is some = ap (λ (x : List Element). Some x) (said_same file t.0 es t.1 (found (SaidBy file) t.0 whole es all is) s)
+
+alike_by : (file : File) (whole front ts : List Subtree) → whole ≡ front ++ ts → AllSaid file whole → AllSaid file ts → AllByRecursion (λ t. lookup (bytes_eq t.0) whole ≡ Some t.1) ts
+alike_by file whole front [] is all s = tt
+alike_by file whole front (t ∷ ts) is all s =
+    let some = ap (λ (z : List Subtree). is_some (lookup (bytes_eq t.0) z)) is ∙ there_behind t.0 front t ts ((bytes_eq-Decides t.0 t.0).1 refl) in
+    (first_said file whole t (lookup (bytes_eq t.0) whole) all s.0 refl some, alike_by file whole (front ++ t ∷ []) ts (is ∙ sym (append_assoc front (t ∷ []) ts)) all s.1)
+
+-- ---- The file
+
+root_opens : (file : File) (id : List ℕ) (root : Element) (t : Tree) → root_read file id root ≡ Ok t → OpensAlike t
+root_opens file id root t h =
+    let w = went (λ (r : Term × Numbers). within_limits (record { main = id; term = r.0 })) (read_root file root id) t h in
+    let all = read_says file most_levels root (id ∷ []) no_numbers w.0.1 w.0.0 w.1 in
+    subst OpensAlike (limited (record { main = id; term = w.0.0 }) t w.2).same
+    (record { fresh = read_fresh file most_levels root (id ∷ []) no_numbers w.0.1 w.0.0 w.1; alike = alike_by file (said w.0.0).opened [] (said w.0.0).opened refl all all })
+
+roots_open : (file : File) (id : List ℕ) (roots : List Element) (t : Tree) → roots_read file id roots ≡ Ok t → OpensAlike t
+roots_open file id [] t h = absurd (cc)
+roots_open file id (root ∷ []) t h = root_opens file id root t h
+roots_open file id (root ∷ other ∷ more) t h = absurd (cc)
+
+main_opens : (file : File) (id : List ℕ) (o : Option Element) (t : Tree) → main_read file id o ≡ Ok t → OpensAlike t
+main_opens file id None t h = absurd (cc)
+main_opens file id (Some tree) t h = roots_open file id (children_of tree) t h
+
+named_opens : (file : File) (o : Option (List ℕ)) (t : Tree) → named_read file o ≡ Ok t → OpensAlike t
+named_opens file None t h = absurd (cc)
+named_opens file (Some id) t h = main_opens file id (tree_of id file.trees) t h
+
+-- a tree that is read opens its trees alike
+pub reads_alike : (models : Models) (asked : Option (List ℕ)) (root : Element) (t : Tree) → reads models asked root ≡ Ok t → OpensAlike t
+reads_alike models asked root t h =
+    let f = file_read models asked root t h in
+    named_opens (record { trees = f.trees; models = models; version = f.version }) (main_of asked (attributes_of root) f.trees) t f.read

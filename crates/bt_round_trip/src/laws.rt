@@ -1,0 +1,43 @@
+ghost use Rattle.std.specs.Prelude.{◌≡◌, ◌≤◌, List, [], ℕ, IsTrue, None, Ok, Option};
+ghost use Rattle.std.specs.List.{concat, flat_map, list_all};
+ghost use Rattle.bt_build.specs.Reads.{reads};
+ghost use Rattle.bt_elements.specs.Elements.{IsValid as IsValidElement, Spells, depth_of};
+ghost use Rattle.bt_elements.specs.Marks.{is_not_zero, is_value_byte};
+ghost use Rattle.bt_elements.specs.References.{decoded};
+ghost use Rattle.bt_elements.specs.Written.{can_be_written};
+ghost use Rattle.bt_elements.specs.declared.element.Element.{Element};
+ghost use Rattle.bt_manifest.specs.Models.{Models, manifest_in};
+ghost use Rattle.bt_model.specs.PrintedTree.{escaped_byte, tree_lines};
+ghost use Rattle.bt_model.specs.Trees.{IsValid};
+ghost use Rattle.bt_model.specs.declared.term.Tree.{Tree};
+ghost use Rattle.bt_round_trip.specs.Openings.{OpensAlike};
+ghost use Rattle.bt_round_trip.specs.Printed.{lines_of, unplaced};
+ghost use Rattle.bt_round_trip.specs.TreeElements.{element_of};
+
+/// A value without the byte 0 is printed as one that may stand between two `"`, and says itself.
+pub fn printed_values_read_back()
+    ensures stands { (value : List ℕ) → IsTrue (list_all is_not_zero value) → IsTrue (list_all (is_value_byte 34) (flat_map escaped_byte value)) }
+    ensures says { (value : List ℕ) → IsTrue (list_all is_not_zero value) → decoded (flat_map escaped_byte value) ≡ value }
+{}
+
+/// An element that can be written is spelled by the bytes that are printed of it, at the places that
+/// it has there.
+pub fn printed_elements_read_back()
+    ensures { (e : Element) → IsTrue (can_be_written e) → depth_of e ≤ 258
+        → (f : Element) × Spells (concat (lines_of e [])) f × (unplaced f ≡ unplaced e) }
+{}
+
+/// The bytes that are printed of a valid tree spell its element.
+pub fn printed_trees_spell_their_elements()
+    ensures { (tree : Tree) → IsValid tree → (f : Element) × Spells (concat (tree_lines tree)) f × (unplaced f ≡ unplaced (element_of tree)) }
+{}
+
+/// The bytes that are printed of a tree that was read spell an element without models that reads as
+/// the tree again. So do those of each valid tree whose SubTree nodes of one ID have the same tree
+/// below them.
+pub fn printed_trees_read_back()
+    ensures alike { (tree : Tree) → IsValid tree → OpensAlike tree
+        → (f : Element) × Spells (concat (tree_lines tree)) f × (manifest_in f ≡ Ok []) × (reads [] None f ≡ Ok tree) }
+    ensures read { (root : Element) (models : Models) (asked : Option (List ℕ)) (tree : Tree) → IsValidElement root → manifest_in root ≡ Ok models → reads models asked root ≡ Ok tree
+        → (f : Element) × Spells (concat (tree_lines tree)) f × (manifest_in f ≡ Ok []) × (reads [] None f ≡ Ok tree) }
+{}
