@@ -3,13 +3,13 @@
 ghost use Rattle.std.specs.Prelude.{map};
 ghost use Rattle.bt_model.specs.Drivers.{NothingHeld};
 
+use bt_command_line::Exit;
 use bt_driver::Driver;
 use bt_leaves::Conditions;
 use bt_outside::{MemClock, MemSink};
 use bt_program::add_driver;
 use bt_script::NoMemory;
 use bt_stage::{answer_with, run, run_with, shelf_of};
-use bt_command_line::Exit;
 use std::alloc::Global;
 use std::test::Fail;
 

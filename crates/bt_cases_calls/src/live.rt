@@ -1,9 +1,9 @@
 //! Runs at the moments of a clock.
 
+use bt_command_line::Exit;
 use bt_outside::{Clock, MemClock, MemSink};
 use bt_script::NoMemory;
 use bt_stage::{answer, shelf_of_rows};
-use bt_command_line::Exit;
 use std::alloc::Global;
 use std::test::Fail;
 

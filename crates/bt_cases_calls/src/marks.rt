@@ -1,12 +1,12 @@
 //! When the calls of a run are made.
 
+use bt_command_line::Exit;
 use bt_driver::{Driver, DriverKind, FactTable, Inputs, Outs, ReadyRow, Reply, Totals};
 use bt_leaves::{Conditions, Timed};
 use bt_outside::{MemSink, Sink, SinkFault};
 use bt_program::add_driver;
 use bt_script::NoMemory;
 use bt_stage::run_with;
-use bt_command_line::Exit;
 use std::alloc::{AllocError, Global};
 use std::cell::Cell;
 use std::rc::Rc;

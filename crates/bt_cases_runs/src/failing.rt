@@ -3,10 +3,10 @@
 use crate::controls::{HALTED_BY_A_CHECK, TWO_CHECKS};
 use crate::halts::FAULT_AT_THE_END;
 use crate::runners::{ONE_FAULTS, WAITS, sixteen, sixteen_trace};
+use bt_command_line::Exit;
 use bt_outside::MemSink;
 use bt_script::NoMemory;
 use bt_stage::run;
-use bt_command_line::Exit;
 use std::alloc::Global;
 use std::test::Fail;
 

@@ -13,8 +13,8 @@ use crate::summary::summary_line;
 use bt_driver::Driver;
 use bt_loop::Runs;
 use bt_model::Event;
-use bt_trace::{Ended, count_events};
 use bt_script::NoMemory;
+use bt_trace::{Ended, count_events};
 use std::alloc::Global;
 
 /// Runs a load of this number: makes the events in order, finishes all runners, and gives the line

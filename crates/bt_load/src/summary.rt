@@ -1,9 +1,9 @@
 ghost use Rattle.std.specs.Prelude.{◌≡◌, ◌++◌, IfOk, OnOk, decimal};
 ghost use Rattle.bt_load.specs.Summaries.{summary_line};
 
-use bt_trace::Counts;
 use bt_script::NoMemory;
 use bt_text::{put_bytes, put_number};
+use bt_trace::Counts;
 use std::alloc::Global;
 
 /// Puts words and the number behind them.

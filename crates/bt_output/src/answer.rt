@@ -11,12 +11,12 @@ ghost use Rattle.bt_outside.specs.Moments.{Moments};
 use crate::course::Course;
 use crate::join::{refuse_tree, run_world, write_last};
 use crate::printing::print_tree;
+use bt_command_line::{Command, Exit, read_command};
 use bt_driver::Driver;
 use bt_load::{load_tree, load_world};
 use bt_outside::{Clock, Shelf, ShelfFault, Sink};
 use bt_refusals::read_tree;
 use bt_script::{Name, Stop};
-use bt_command_line::{Command, Exit, read_command};
 use std::alloc::Global;
 
 /// The most bytes of a file.

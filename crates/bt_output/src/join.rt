@@ -16,16 +16,16 @@ ghost use Rattle.bt_trace.specs.Traces.{CanAllCome, CanRun, trace_of};
 use crate::course::Course;
 use bt_arena::JoinFault;
 use bt_board::slots_of;
+use bt_command_line::Exit;
 use bt_driver::Driver;
 use bt_load::run_load;
 use bt_loop::{Runs, runs_of};
 use bt_model::{Event, Tree, World, WorldFault};
 use bt_outside::{Clock, Sink};
 use bt_refusals::{TreeFault, join_refusal, tree_refusal, world_refusal};
-use bt_trace::{Ended, run_events, run_rounds};
 use bt_script::{NoMemory, Stop};
 use bt_text::{TextStop, names_of, write_line};
-use bt_command_line::Exit;
+use bt_trace::{Ended, run_events, run_rounds};
 use bt_world::read_world;
 use std::alloc::Global;
 

@@ -11,11 +11,11 @@ ghost use Rattle.bt_outside.specs.Counts.{Rose};
 ghost use Rattle.bt_outside.specs.Moments.{Moments};
 
 use bt_build::work;
+use bt_command_line::Exit;
 use bt_model::{Term, Tree};
 use bt_outside::Sink;
 use bt_script::NoMemory;
 use bt_text::{TextStop, put_bytes, put_number, write_line, write_tree};
-use bt_command_line::Exit;
 use std::alloc::Global;
 
 // The number of nodes of a term.

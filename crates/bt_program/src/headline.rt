@@ -7,12 +7,12 @@ ghost use Rattle.bt_model.specs.Drivers.{NothingHeld};
 ghost use Rattle.bt_outside.specs.Counts.{Rose};
 ghost use Rattle.bt_command_line.specs.Words.{command_of};
 
-use bt_output::answer_words;
+use bt_command_line::Exit;
 use bt_driver::Driver;
 use bt_elements::{element_or_fault, one_element};
+use bt_output::answer_words;
 use bt_outside::{Clock, Shelf, Sink};
 use bt_script::Name;
-use bt_command_line::Exit;
 use bt_world::laws::worlds_read_one_way;
 use std::alloc::Global;
 

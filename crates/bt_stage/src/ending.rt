@@ -1,12 +1,12 @@
 ghost use Rattle.std.specs.Prelude.{map};
 ghost use Rattle.bt_model.specs.Drivers.{NothingHeld};
 
+use bt_command_line::{Exit, word_of};
 use bt_driver::{Driver, Totals, hold_nothing};
 use bt_leaves::{Conditions, Gate, Replay, Timed};
 use bt_outside::{MemClock, MemShelf, MemSink, Sink};
 use bt_program::{add_driver, bt};
 use bt_script::{Name, NoMemory};
-use bt_command_line::{Exit, word_of};
 use std::alloc::{AllocError, Global};
 
 /// How the program has ended.

@@ -1,6 +1,6 @@
+use bt_command_line::word_of;
 use bt_outside::MemShelf;
 use bt_script::{Name, NoMemory};
-use bt_command_line::word_of;
 use std::alloc::{AllocError, Global};
 
 /// One text of these parts.

@@ -3,10 +3,10 @@ ghost use Rattle.bt_model.specs.Drivers.{NothingHeld};
 
 use crate::ending::{Ending, answer, answer_with};
 use crate::files::{shelf_of, shelf_of_rows, tree_of, world_of};
+use bt_command_line::Exit;
 use bt_driver::Driver;
 use bt_outside::{MemClock, MemSink, Sink};
 use bt_script::NoMemory;
-use bt_command_line::Exit;
 use std::alloc::Global;
 
 /// The words of a run over the files `T` and `W`.

@@ -10,8 +10,8 @@ ghost use Rattle.bt_world_draft.specs.Readings.{Leaves};
 
 use bt_lines::{cut, head_in, int, is, is_canonical, is_name, ms, name_of, numeric};
 use bt_model::{MOST_OUTCOMES, Row, RowSort, WorldKind};
-use bt_world_draft::Reading;
 use bt_script::{Cmp, Items, Stop};
+use bt_world_draft::Reading;
 use std::alloc::{AllocError, Global};
 
 /// The comparison that the word names.

@@ -5,8 +5,8 @@ ghost use Rattle.bt_world_draft.specs.Readings.{Leaves};
 
 use bt_lines::{cut, int, is, is_canonical, is_name, name_of, numeric};
 use bt_model::{How, Out, Set, WorldKind};
-use bt_world_draft::Reading;
 use bt_script::Stop;
+use bt_world_draft::Reading;
 use std::alloc::Global;
 
 /// `fails EXPR`

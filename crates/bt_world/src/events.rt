@@ -4,8 +4,8 @@ ghost use Rattle.bt_world_draft.specs.Readings.{Leaves};
 
 use bt_lines::{cut, int, is_canonical, is_name, ms, name_of, one_of};
 use bt_model::{Fact, MOST_RUNNERS, What, WorldKind};
-use bt_world_draft::Reading;
 use bt_script::Stop;
+use bt_world_draft::Reading;
 use std::alloc::Global;
 
 /// `fact NAME INT`

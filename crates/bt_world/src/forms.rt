@@ -10,8 +10,8 @@ use crate::events::{
 };
 use bt_lines::{content, cut, is, is_line, is_read_over};
 use bt_model::WorldKind;
-use bt_world_draft::Reading;
 use bt_script::Stop;
+use bt_world_draft::Reading;
 use std::alloc::Global;
 
 /// Reads the text of a line.

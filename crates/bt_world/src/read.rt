@@ -8,8 +8,8 @@ ghost use Rattle.bt_world.specs.Readings as readings;
 use crate::forms::read_text;
 use bt_lines::{is, parts, trimmed, without_rest};
 use bt_model::{World, WorldFault, WorldKind};
-use bt_world_draft::Reading;
 use bt_script::{NoMemory, Stop};
+use bt_world_draft::Reading;
 use bt_world_laws::read_worlds_are_valid;
 use std::alloc::Global;
 
