@@ -13,7 +13,7 @@ use Rattle.bt_script.specs.Climb.{Found, climb}
 use Rattle.bt_script.proofs.Bools.{both}
 use Rattle.bt_script.proofs.Climbing.{Stops, finds, finds-alone, height_some, le-yes, more-stops, found-same}
 
--- what may stand behind a statement
+-- what may follow a statement
 abbrev pub Rests : List Token → Type 0
 Rests [] = Unit {0}
 Rests (Semicolon ∷ ts) = Unit {0}
@@ -124,7 +124,7 @@ stmt-alone (Plain e) (Change op m f) rest more_rest p q r k same = absurd (expr-
 stmt-alone (Plain e) (Plain f) rest more_rest p q r k same =
     let i = assigned e f rest more_rest p q r k same in (λ j. Plain (i.0 j), i.1)
 
--- what stands behind the first of some statements
+-- what follows the first of some statements
 abbrev pub rest_of : List (Option Stmt) → List Token
 rest_of [] = []
 rest_of (x ∷ xs) = Semicolon ∷ separated (map spelled_slot (x ∷ xs))
@@ -146,7 +146,7 @@ fit-first s xs h = both (fits_stmt s) (list_all fits_stmt (kept xs)) h
 pub tails : (t u : Token) (ts us : List Token) → t ∷ ts ≡ u ∷ us → ts ≡ us
 tails t u ts us h = cc
 
--- the first of some statements, and those behind it
+-- the first of some statements, and those after it
 slot-alone : (x y : Option Stmt) (xs ys : List (Option Stmt)) → Fit (x ∷ xs) → Fit (y ∷ ys) →
     spelled_slot x ++ rest_of xs ≡ spelled_slot y ++ rest_of ys → (x ≡ y) × (rest_of xs ≡ rest_of ys) × Fit xs × Fit ys
 slot-alone None None xs ys p q same = (refl, same, p, q)

@@ -16,7 +16,7 @@ use Rattle.bt_script.specs.Climb.{Found, then_found, closed, negated, first, Nex
 use Rattle.bt_script.proofs.Bools.{both}
 use Rattle.bt_script.proofs.Trees.{induct, spelled_is, fits_is, height_is}
 
--- what stands in front, as far as it may go on an expression before it
+-- what stands in front, as far as it may follow an expression and take it in
 pub data Front : Type 0 where
   Sign : BinOp → Front
   Mark : Front
@@ -118,7 +118,7 @@ stops-tighter place tight (Sign op) less h = omega arith
 stops-tighter place tight Mark less h = omega arith
 stops-tighter place tight Other less h = tt
 
--- behind a part of a tighter level
+-- after a part of a tighter level
 Stops-tighter : (place tight : ℕ) (ts : List Token) → place < tight → Ends_at place ts → Stops tight ts
 Stops-tighter place tight ts = stops-tighter place tight (front_of ts)
 
@@ -127,7 +127,7 @@ stops-zero (Sign op) h = let some = (level_some op).0 in absurd (omega arith)
 stops-zero Mark h = absurd (omega arith)
 stops-zero Other h = tt
 
--- behind the last part of a choice
+-- after the last part of a choice
 Stops-zero : (ts : List Token) → Ends_at 0 ts → Stops 0 ts
 Stops-zero ts = stops-zero (front_of ts)
 
@@ -135,12 +135,12 @@ Stops-zero ts = stops-zero (front_of ts)
 abbrev pub low : ℕ → Expr → List Token → Option Found
 low left e rest = cond (nat_le (height e) left) (Some (e, rest)) None
 
--- What stands behind an expression goes on it after enough turns.
+-- What follows an expression takes it in after enough turns.
 abbrev GoesOn : Expr → Type 0
 GoesOn e = (left place tight : ℕ) (rest : List Token) → place ≤ tight → fits e tight ≡ true → Ends_at tight rest →
     (turns : ℕ) × (left < turns + height e) × (climb (suc left) place (spelled e ++ rest) ≡ cond (nat_le (height e) (suc left)) (more (climb left) left turns place e rest) None)
 
--- An expression with what does not go on it behind it is found, if it is not too high.
+-- An expression is found with what follows it and does not take it in, if it is not too high.
 abbrev pub Finds : Expr → Type 0
 Finds e = (limit place : ℕ) (rest : List Token) → fits e place ≡ true → Stops place rest → climb limit place (spelled e ++ rest) ≡ low limit e rest
 
@@ -211,7 +211,7 @@ operand e found left place tight rest le fit ends =
 low-by_parts : (e : Expr) (n left : ℕ) (m : Option Found) → height e ≡ 1 + n → cond (nat_le n left) m None ≡ cond (nat_le (height e) (suc left)) m None
 low-by_parts e n left m h = ap (λ (b : Bool). cond b m None) (sym (le-suc n left) ∙ ap (λ (k : ℕ). nat_le k (suc left)) (sym h))
 
--- the right part of a binary operation, behind its left part and its sign
+-- the right part of a binary operation, after its left part and its sign
 infix-step : (op : BinOp) (a b : Expr) (left place tight : ℕ) (rest : List Token) (again : Expr → List Token → Option Found) →
     Finds b → place ≤ tight → tight ≤ level op → fits b (level op + 1) ≡ true → Ends_at tight rest →
     cond (nat_le (height a) (suc left)) (go_on again (climb left) left a (Operator op ∷ (spelled b ++ rest)) (next_of place (Operator op ∷ (spelled b ++ rest)))) None
@@ -268,7 +268,7 @@ binary op a b ga gb left place tight rest le fit ends =
     let g = ga left place (level op) (Operator op ∷ (spelled b ++ rest)) below q.0 same in
     binary-turns op a b left place tight rest (finds-from_goes_on b gb) le tl q.1 ends g.0 g.1 g.2
 
--- the parts of a choice behind its test
+-- the parts of a choice after its test
 asks-step : (a b c : Expr) (left : ℕ) (rest : List Token) (again : Expr → List Token → Option Found) →
     Finds b → Finds c → fits b 0 ≡ true → fits c 0 ≡ true → Stops 0 rest →
     cond (nat_le (height a) (suc left)) (go_on again (climb left) left a (Question ∷ (spelled b ++ Colon ∷ (spelled c ++ rest))) (next_of 0 (Question ∷ (spelled b ++ Colon ∷ (spelled c ++ rest))))) None
@@ -367,7 +367,7 @@ finds e = finds-from_goes_on e (induct GoesOn goes_on_at e)
 pub found-same : {X : Type 0} (x y : X) → Some x ≡ Some y → x ≡ y
 found-same x y h = cc
 
--- an expression with what does not go on it behind it has these tokens alone
+-- an expression that is followed by what does not take it in has these tokens alone
 pub finds-alone : (e f : Expr) (rest more_rest : List Token) → fits e 0 ≡ true → fits f 0 ≡ true → Stops 0 rest → Stops 0 more_rest →
     spelled e ++ rest ≡ spelled f ++ more_rest → (e ≡ f) × (rest ≡ more_rest)
 finds-alone e f rest more_rest fit_e fit_f stop_e stop_f same =

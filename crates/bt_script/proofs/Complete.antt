@@ -41,7 +41,7 @@ choose-parts a b c place h =
     let r = both (fits b 0) (fits c 0) q.1 in
     (eq-from place 0 p.0, q.0, r.0, r.1)
 
--- An expression behind one sign is an expression.
+-- An expression after one sign is an expression.
 abbrev Signs : UnOp → Expr → Type 0
 Signs op x = (place : ℕ) → fits x place ≡ true → (y : Expr) × (fits y place ≡ true) × (spelled y ≡ unary_sign op ∷ spelled x)
 
@@ -73,7 +73,7 @@ signs op = induct (Signs op) (signs_at op)
 abbrev pub Operand : Expr → Type 0
 Operand x = (place : ℕ) → fits x place ≡ true
 
--- An expression behind an operand and the sign of an operator is an expression.
+-- An expression after an operand and the sign of an operator is an expression.
 abbrev Joins : BinOp → Expr → Expr → Type 0
 Joins op x z = (place : ℕ) → place ≤ level op → fits z place ≡ true → (y : Expr) × (fits y place ≡ true) × (spelled y ≡ spelled x ++ Operator op ∷ spelled z)
 
@@ -158,7 +158,7 @@ operand-name n place = ap (λ (f : ℕ → Bool). f place) (fits_is (Look n))
 operand-group : (a : Expr) → fits a 0 ≡ true → Operand (roll-Expr (Group a))
 operand-group a fit place = ap (λ (f : ℕ → Bool). f place) (fits_is (Group a)) ∙ fit
 
--- fewer tokens begin it too
+-- a prefix of what begins it begins it too
 pub begins-fewer : (X : Type 0) (Is : List Token → X → Type 0) (ts us : List Token) → Begins Is (ts ++ us) → Begins Is ts
 begins-fewer X Is ts us b = record { behind = us ++ b.behind; whole = b.whole; is = subst (λ (vs : List Token). Is vs b.whole) (append_assoc ts us b.behind) b.is }
 
@@ -167,7 +167,7 @@ pub begins-whole : (X : Type 0) (Is : List Token → X → Type 0) (ts : List To
 begins-whole X Is ts x is = record { behind = []; whole = x; is = subst (λ (vs : List Token). Is vs x) (sym (append-nil ts)) is }
 
 module _ (X : Type 0) (Is : List Token → X → Type 0) (Bare : Type 0) where
-  -- behind these tokens any expression ends the whole
+  -- after these tokens any expression ends the whole
   abbrev pub Head : List Token → Type 0
   Head ts = (e : Expr) → fits e 0 ≡ true → (x : X) × Is (ts ++ spelled e) x
 
@@ -194,7 +194,7 @@ module _ (X : Type 0) (Is : List Token → X → Type 0) (Bare : Type 0) where
     pub fit : fits test 1 ≡ true
     pub opens : Opens tail
 
-  -- tokens behind which an expression stands in what is open
+  -- tokens after which an expression stands in what is open
   abbrev pub Inside : List Opened → List Token → Type 0
   Inside [] ts = Bare × Base ts
   Inside (Whole ∷ os) ts = Base ts
@@ -225,7 +225,7 @@ module _ (X : Type 0) (Is : List Token → X → Type 0) (Bare : Type 0) where
     opens = opens-append i.tail us i.opens o;
   }
 
-  -- an operand behind tokens behind which an expression stands
+  -- an operand after tokens after which an expression stands
   past-operand : (os : List Opened) (ts : List Token) (x : Expr) (t : Token) → Inside os ts → Operand x → spelled x ≡ t ∷ [] → Past os (ts ++ t ∷ [])
   past-operand os ts x t i operand is = record { before = ts; last = x; is = ap (λ (vs : List Token). ts ++ vs) (sym is); inner = i; operand = operand }
 
@@ -271,7 +271,7 @@ module _ (X : Type 0) (Is : List Token → X → Type 0) (Bare : Type 0) where
       let w = b.ends y.0 y.1 in
       (w.0, subst (λ (vs : List Token). Is vs w.0) (ap (λ (vs : List Token). b.head ++ vs) y.2 ∙ sym (append_assoc b.head b.tail (spelled x)) ∙ ap (λ (vs : List Token). vs ++ spelled x) (sym b.is) ∙ sym is) w.1)
 
-  -- behind an operand with nothing open the tokens are whole
+  -- after an operand with nothing open the tokens are whole
   pub past-whole : (ts : List Token) → Past [] ts → (w : X) × Is ts w
   past-whole ts p = whole-base ts p.before p.last p.is p.inner.1 p.operand
 
@@ -353,7 +353,7 @@ module _ (X : Type 0) (Is : List Token → X → Type 0) (Bare : Type 0) where
     semicolon-moves [] ts ends p = (refl, ends ts p)
     semicolon-moves (o ∷ os) ts ends p = tt
 
-    -- a token behind an operand
+    -- a token after an operand
     pub behind-moves : (os : List Opened) (ts : List Token) (t : Token) → ((us : List Token) → Past [] us → Later (us ++ Semicolon ∷ [])) → Past os ts → Moves (behind_step os t) (ts ++ t ∷ [])
     behind-moves os ts (Number n) ends p = tt
     behind-moves os ts (Text n) ends p = tt

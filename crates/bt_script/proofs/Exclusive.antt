@@ -24,7 +24,7 @@ tail-same : (p q : Placed) (ps qs : List Placed) → p ∷ ps ≡ q ∷ qs → p
 tail-same p q ps qs h = cc
 
 module _ (X : Type 0) (Is : List Token → X → Type 0) (high : X → List Placed → Option ℕ) (unique : (ts : List Token) (x y : X) → Is ts x → Is ts y → x ≡ y) where
-  -- the first token with which nothing goes on is one
+  -- there is one first token with which nothing goes on
   same-stuck : (before : List Token) (f g : List Placed) (p q : Placed) (ps qs : List Placed) → f ++ p ∷ ps ≡ g ++ q ∷ qs →
       Begins Is (before ++ bare f) → (Begins Is ((before ++ bare f) ++ p.token ∷ []) → ⊥) → Begins Is (before ++ bare g) → (Begins Is ((before ++ bare g) ++ q.token ∷ []) → ⊥) → p ≡ q
   same-stuck before [] [] p q ps qs same bf sf bg sg = head-same p q ps qs same
@@ -44,7 +44,7 @@ module _ (X : Type 0) (Is : List Token → X → Type 0) (high : X → List Plac
       (subst (Begins Is) move_f bf) (λ b. sf (subst (λ (ts : List Token). Begins Is (ts ++ p.token ∷ [])) (sym move_f) b))
       (subst (Begins Is) move_g bg) (λ b. sg (subst (λ (ts : List Token). Begins Is (ts ++ q.token ∷ [])) (sym move_g) b))
 
-  -- what all tokens begin, none of them is stuck with
+  -- no token is stuck where the tokens with it begin something
   not-stuck : (ts : List Placed) (place : ℕ) → Begins Is (bare ts) → StuckAt Is ts place → ⊥
   not-stuck ts place b s =
       let p : Placed = record { token = s.token; place = place } in

@@ -22,7 +22,7 @@ use Rattle.bt_script.proofs.Complete
 abbrev Slots : Type 0
 Slots = List (Option Stmt)
 
--- a further slot behind some
+-- a further slot after some
 sep-last : (slots : Slots) (x : Option Stmt) → separated (map spelled_slot (slots ++ x ∷ [])) ≡ separated (map spelled_slot (slots ++ None ∷ [])) ++ spelled_slot x
 sep-last [] x = refl
 sep-last (s ∷ []) x = sym (append_assoc (spelled_slot s) (Semicolon ∷ []) (spelled_slot x))
@@ -30,7 +30,7 @@ sep-last (s ∷ t ∷ slots) x =
     ap (λ (ts : List Token). spelled_slot s ++ Semicolon ∷ ts) (sep-last (t ∷ slots) x)
     ∙ sym (append_assoc (spelled_slot s) (Semicolon ∷ separated (map spelled_slot (t ∷ slots ++ None ∷ []))) (spelled_slot x))
 
--- an empty slot behind some
+-- an empty slot after some
 sep-semicolon : (s : Option Stmt) (slots : Slots) → separated (map spelled_slot (s ∷ slots ++ None ∷ [])) ≡ separated (map spelled_slot (s ∷ slots)) ++ Semicolon ∷ []
 sep-semicolon s [] = refl
 sep-semicolon s (t ∷ slots) =
@@ -61,7 +61,7 @@ record NamedAt (ts : List Token) : Type 0 where
   is : ts ≡ before ++ Word name ∷ []
   opening : Opening before
 
--- behind a statement's beginning any expression ends a script
+-- after a statement's beginning any expression ends a script
 head-of : (before head : List Token) → Opening before → (make : Expr → Stmt) →
     ((e : Expr) → spelled_stmt (make e) ≡ head ++ spelled e) → ((e : Expr) → fits e 0 ≡ true → fits_stmt (make e) ≡ true) →
     Complete.Head Slots IsStmts (Unit {0}) (before ++ head)
@@ -89,7 +89,7 @@ plain-inside ts o = subst (Complete.Inside Slots IsStmts (Unit {0}) []) (append-
 named-past : (ts : List Token) → NamedAt ts → Complete.Past Slots IsStmts (Unit {0}) [] ts
 named-past ts n = subst (Complete.Past Slots IsStmts (Unit {0}) []) (sym n.is) (Complete.name-past Slots IsStmts (Unit {0}) [] n.before n.name (plain-inside n.before n.opening))
 
--- a semicolon behind whole statements
+-- a semicolon after whole statements
 later-whole : (ts : List Token) (slots : Slots) → IsStmts ts slots → Later (ts ++ Semicolon ∷ [])
 later-whole ts [] w = let h = w.some in absurd (omega arith)
 later-whole ts (s ∷ slots) w = record {
@@ -164,7 +164,7 @@ start-moves ts Creates l = operand-start ts Creates l.opening
 start-moves ts Assigns l = operand-start ts Assigns l.opening
 start-moves ts (Changes op) l = operand-start ts (Changes op) l.opening
 
--- a sign behind the name with which a statement begins
+-- a sign after the name with which a statement begins
 sign-inside : (ts : List Token) (t : Token) (n : NamedAt ts) (make : Expr → Stmt) →
     ((e : Expr) → spelled_stmt (make e) ≡ Word n.name ∷ t ∷ spelled e) → ((e : Expr) → fits e 0 ≡ true → fits_stmt (make e) ≡ true) →
     Complete.Inside Slots IsStmts (Unit {0}) [] (ts ++ t ∷ [])
@@ -243,7 +243,7 @@ script-begins ts spot led = at-begins spot.0 spot.1 ts (script-at ts spot led)
 pub script-whole : (ts : List Token) (spot : Spot) → run ts (Blank, []) ≡ Some spot → may_end spot ≡ true → (slots : Slots) × IsStmts ts slots
 script-whole ts spot led end = at-whole spot.0 spot.1 ts (script-at ts spot led) end
 
--- The same of an expression alone.
+-- What tokens of an expression alone are that lead to a spot.
 abbrev AtExpr : Stage → List Opened → List Token → Type 0
 AtExpr = Complete.At Expr IsExpr ⊥ (λ ts. ⊥) (λ ts. ⊥) (λ ts. ⊥)
 

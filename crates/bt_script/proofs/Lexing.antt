@@ -17,7 +17,7 @@ front-step : (p : ℕ → Bool) (b : Bool) (c : ℕ) (cs : List ℕ) → p c ≡
 front-step p true c cs is all = rw (one-add (prefix_len p cs)) (ap (λ (b : Bool). b && list_all p (take (prefix_len p cs) cs)) is ∙ all)
 front-step p false c cs is all = refl
 
--- the bytes of a front pass
+-- the bytes of a prefix that passes pass
 pub list_all-front : (p : ℕ → Bool) (bs : List ℕ) → list_all p (take (prefix_len p bs) bs) ≡ true
 list_all-front p [] = refl
 list_all-front p (c ∷ cs) = front-step p (p c) c cs refl (list_all-front p cs)
@@ -30,7 +30,7 @@ pub le-read_on : (base n : ℕ) (ds : List ℕ) → 1 ≤ base → n ≤ read_on
 le-read_on base n [] h = omega arith
 le-read_on base n (d ∷ ds) h = omega (arith, le-read_on base (n * base + digit_value d) ds h, le-times n base h)
 
--- what belongs to the token before is passed over
+-- what belongs to the token before is skipped
 pub read_past : (place within : ℕ) (bs : List ℕ) → within ≤ length bs → read_tokens place within bs ≡ read_tokens (place + within) 0 (drop within bs)
 read_past place zero bs h = let e : place ≡ place + 0 = omega arith in ap (λ (p : ℕ). read_tokens p 0 bs) e
 read_past place (suc within) [] h = absurd (omega arith)

@@ -39,7 +39,7 @@ then-same : (o : Option Spot) (f g : Spot → Option Spot) → ((s : Spot) → f
 then-same None f g h = refl
 then-same (Some s) f g h = h s
 
--- tokens behind others lead on from where those lead
+-- tokens that follow others lead on from where those lead
 pub run-append : (ts us : List Token) (s : Spot) → run (ts ++ us) s ≡ then_spot (run ts s) (run us)
 run-append [] us s = refl
 run-append (t ∷ ts) us s =
@@ -50,7 +50,7 @@ pub run-push : (ts : List Token) (t : Token) (s at next : Spot) → run ts s ≡
 run-push ts t s at next led is =
     run-append ts (t ∷ []) s ∙ ap (λ (o : Option Spot). then_spot o (run (t ∷ []))) led ∙ ap (λ (o : Option Spot). then_spot o (run [])) is
 
--- an expression leads from before an operand to behind one
+-- an expression leads from before an operand to after one
 abbrev Runs : Expr → Type 0
 Runs e = (opened : List Opened) (rest : List Token) → run (spelled e ++ rest) (Before, opened) ≡ run rest (Behind, opened)
 
@@ -193,7 +193,7 @@ nothing-begins Is start spot front t all led stuck b =
 placed-at : (ts : List Placed) (i : ℕ) (p : Placed) → i < length ts → p ≡ get_or ts i p → drop i ts ≡ p ∷ drop (i + 1) ts
 placed-at ts i p within is = drop_more ts i p within ∙ ap (λ (q : Placed). q ∷ drop (i + 1) ts) (sym is)
 
--- the spot behind one more token
+-- the spot after one more token
 pub run-next : (ts : List Placed) (i : ℕ) (p : Placed) (start at next : Spot) → i < length ts → p ≡ get_or ts i p →
     run (bare (take i ts)) start ≡ Some at → step at p.token ≡ Some next → run (bare (take (i + 1) ts)) start ≡ Some next
 run-next ts i p start at next within is led go =

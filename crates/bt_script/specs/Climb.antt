@@ -24,7 +24,7 @@ use Rattle.bt_script.specs.declared.stop.Stop.TheVariants as stop
 use Rattle.bt_script.specs.Grammar.{level, height, kept, IsExpr, IsStmts}
 use Rattle.bt_script.specs.Reading.{bare, high_expr, high_stmt}
 
--- an expression and the tokens behind it
+-- an expression and the tokens after it
 abbrev pub Found : Type 0
 Found = Expr × List Token
 
@@ -32,7 +32,7 @@ abbrev pub then_found : Option Found → (Expr → List Token → Option Found) 
 then_found None next = None
 then_found (Some f) next = next f.0 f.1
 
--- the expression in parentheses, if they are closed
+-- the expression in parentheses, if `)` comes first
 abbrev pub closed : Expr → List Token → Option Found
 closed e [] = None
 closed e (Close ∷ ts) = Some (roll-Expr (Group e), ts)
@@ -41,7 +41,7 @@ closed e (t ∷ ts) = None
 abbrev pub negated : UnOp → Expr → List Token → Option Found
 negated op e ts = Some (roll-Expr (Unary op e), ts)
 
--- only `-` stands before an operand too
+-- of the operators only `-` stands before an operand too
 abbrev pub only_minus : BinOp → Option Found → Option Found
 only_minus Sub f = f
 only_minus op f = None
@@ -58,7 +58,7 @@ first lower (Tilde ∷ ts) = then_found (lower 10 ts) (negated Flip)
 first lower (Open ∷ ts) = then_found (lower 0 ts) closed
 first lower (t ∷ ts) = None
 
--- what goes on an expression: an operator of the level or a tighter one, or `?` at level 0
+-- what follows an expression and takes it as its first part: an operator of this level or a tighter one, or `?` at level 0
 pub data Next : Type 0 where
   Ends : Next
   Infix : BinOp → List Token → Next
@@ -75,7 +75,7 @@ last_part lower a b [] = None
 last_part lower a b (Colon ∷ ts) = then_found (lower 0 ts) (λ c rest. Some (roll-Expr (Choose a b c), rest))
 last_part lower a b (t ∷ ts) = None
 
--- an expression with what goes on it, where less than this height is left for its parts
+-- an expression with what follows it, where less than this height is left for its parts
 abbrev pub go_on : (Expr → List Token → Option Found) → (ℕ → List Token → Option Found) → ℕ → Expr → List Token → Next → Option Found
 go_on again lower left e ts Ends = Some (e, ts)
 go_on again lower left e ts (Infix op rest) =
@@ -87,7 +87,7 @@ abbrev pub more : (ℕ → List Token → Option Found) → ℕ → ℕ → ℕ 
 more lower left zero place e ts = go_on (λ f rest. None) lower left e ts (next_of place ts)
 more lower left (suc turns) place e ts = go_on (more lower left turns place) lower left e ts (next_of place ts)
 
--- the expression at the front, no higher than this, as far as it goes in a place of this level
+-- the expression at the front, no higher than this, as long as a place of this level can have it
 abbrev pub climb : ℕ → ℕ → List Token → Option Found
 climb zero place ts = None
 climb (suc left) place ts = then_found (first (climb left) ts) (more (climb left) left left place)
@@ -96,7 +96,7 @@ climb (suc left) place ts = then_found (first (climb left) ts) (more (climb left
 abbrev pub from_token : List Placed → ℕ → List Token
 from_token ts at = drop at (bare ts)
 
--- what was built, with the tokens behind it
+-- what was built, with the tokens after it
 abbrev pub seen : List Placed → Option Built → Option Found
 seen ts None = None
 seen ts (Some b) = Some (b.expr, from_token ts b.next)
@@ -106,7 +106,7 @@ abbrev pub sound : List Placed → ℕ → Option Built → Type 0
 sound ts limit None = Unit {0}
 sound ts limit (Some b) = (b.height ≡ height b.expr) × (b.height ≤ limit) × (b.next ≤ length ts)
 
--- the first of some tokens, and those behind it
+-- the first of some tokens, and those after it
 abbrev pub IsFirst : List Placed → ℕ → Option (Bor Token) → Type 0
 IsFirst ts at None = from_token ts at ≡ []
 IsFirst ts at (Some t) = (from_token ts at ≡ t.now ∷ from_token ts (at + 1)) × (at < length ts)
@@ -154,7 +154,7 @@ begun ts Evaluated = as_stmt Plain (whole_expr ts)
 abbrev pub statement_at : List Token → Option (Stmt × List Token)
 statement_at ts = begun ts (beginning ts)
 
--- a statement that was built, with the tokens behind it
+-- a statement that was built, with the tokens after it
 abbrev pub seen_stmt : List Placed → Option (Stmt × ℕ) → Option (Stmt × List Token)
 seen_stmt ts None = None
 seen_stmt ts (Some b) = Some (b.0, from_token ts b.1)

@@ -34,7 +34,7 @@ HoldsNoText (Some (Int n)) = Unit {0}
 HoldsNoText (Some (Text t)) = ⊥
 HoldsNoText None = Unit {0}
 
--- a value or a fault, and no want of memory
+-- a value or a fault, and not want of memory
 abbrev pub IsAnswered : {X F : Type 0} → Result X (Stop F) → Type 0
 IsAnswered (Ok x) = Unit {0}
 IsAnswered (Err (stop.Fault f)) = Unit {0}
@@ -45,7 +45,7 @@ abbrev pub IsInt : Value → Type 0
 IsInt (Int n) = Unit {0}
 IsInt (Text t) = ⊥
 
--- a number or a fault, and no want of memory
+-- a number or a fault, and not want of memory
 abbrev pub GivesInt : {F : Type 0} → Result Value (Stop F) → Type 0
 GivesInt (Ok value) = IsInt value
 GivesInt (Err (stop.Fault f)) = Unit {0}

@@ -40,7 +40,7 @@ high_stmt (None ∷ slots) ts = high_stmt slots (drop 1 ts)
 high_stmt (Some s ∷ slots) ts =
     if nat_le (height (expr_of s)) 64 then high_stmt slots (drop (length (spelled_stmt s) + 1) ts) else first_place ts
 
--- some tokens behind these make them whole
+-- with some tokens after these they are whole
 pub record Begins {X : Type 0} (Is : List Token → X → Type 0) (ts : List Token) : Type 0 where
   pub behind : List Token
   pub whole : X
@@ -106,7 +106,7 @@ ReadsScript text s = (s.text ≡ text) × ((slots : List (Option Stmt)) × Reads
 abbrev pub StmtsFault : List ℕ → ScriptFault → Type 0
 StmtsFault text fault = Faulty IsStmts high_stmt text fault
 
--- What reading answers: a value that the text reads as, or a fault that it has. Want of memory may come anywhere.
+-- What reading answers: a value that the text reads as, or a fault that it has. Want of memory (out of memory) may come anywhere.
 abbrev pub Answers : {X : Type 0} → (List ℕ → X → Type 0) → (List ℕ → ScriptFault → Type 0) → List ℕ → Result X (Stop ScriptFault) → Type 0
 Answers Is Has text (Ok x) = Is text x
 Answers Is Has text (Err (stop.Fault fault)) = Has text fault

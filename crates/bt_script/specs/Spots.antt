@@ -21,7 +21,7 @@ use Rattle.bt_script.specs.Reading.{bare}
 abbrev pub Spot : Type 0
 Spot = Stage × List Opened
 
--- the same as the code keeps it, the innermost last
+-- a spot as the code keeps it, what is open with the innermost last
 abbrev pub spot_of : Option Stage → List Opened → Option Spot
 spot_of None opened = None
 spot_of (Some stage) opened = Some (stage, reverse opened)
@@ -30,7 +30,7 @@ abbrev pub after_minus : BinOp → Option Spot → Option Spot
 after_minus Sub s = s
 after_minus op s = None
 
--- a token where an operand may stand, and the stage behind a name
+-- a token where an operand may stand; a name leads to the given stage
 abbrev pub operand_step : Stage → List Opened → Token → Option Spot
 operand_step word_stage opened (Number n) = Some (Behind, opened)
 operand_step word_stage opened (Text t) = Some (Behind, opened)
@@ -52,7 +52,7 @@ abbrev pub semicolon_step : List Opened → Option Spot
 semicolon_step [] = Some (Start, [])
 semicolon_step opened = None
 
--- a token behind an operand
+-- a token after an operand
 abbrev pub behind_step : List Opened → Token → Option Spot
 behind_step opened (Operator op) = Some (Before, opened)
 behind_step opened Question = Some (Before, Choice ∷ opened)
@@ -70,7 +70,7 @@ abbrev pub change_step : Bool → List Opened → Option Spot
 change_step true opened = Some (Before, opened)
 change_step false opened = None
 
--- a token behind the name with which a statement begins
+-- a token after the name with which a statement begins
 abbrev pub named_step : List Opened → Token → Option Spot
 named_step opened Creates = Some (Before, opened)
 named_step opened Assigns = Some (Before, opened)

@@ -3,7 +3,7 @@ use Rattle.std.specs.Prelude.{◌≡◌, Result, Ok, Err}
 use Rattle.bt_script.specs.declared.stop.Stop.{Stop}
 use Rattle.bt_script.specs.declared.stop.Stop.TheVariants as stop
 
--- The call gives the value that is said, and a fault exactly where this fault is said. Want of memory may come anywhere.
+-- The call gives the value that is said, and a fault exactly where this fault is said. Want of memory (out of memory) may come anywhere.
 abbrev pub Gives : {X F : Type 0} → Result X (Stop F) → Result X F → Type 0
 Gives (Ok x) said = said ≡ Ok x
 Gives (Err stop.NoMemory) said = Unit {0}

@@ -5,7 +5,7 @@ use Rattle.std.specs.List.{list_all}
 use Rattle.std.specs.Str.{is_utf8}
 use Rattle.bt_script.specs.Identifiers.{is_identifier_start}
 
--- a letter, `_` or a byte of a character past ASCII
+-- a letter, `_` or a byte of a character that is not ASCII
 abbrev pub is_name_first : ℕ → Bool
 is_name_first c = is_identifier_start c || nat_le 128 c
 

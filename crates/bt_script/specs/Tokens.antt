@@ -36,12 +36,12 @@ word_token word = if bytes_eq word (codes "true") then Number (pos 1) else (if b
 abbrev pub word_at : List ℕ → Token × ℕ
 word_at bytes = (word_token (take (prefix_len is_identifier_continue bytes) bytes), prefix_len is_identifier_continue bytes)
 
--- the fault of decimal digits with these bytes behind them
+-- the fault of decimal digits that these bytes follow
 abbrev pub decimal_end : ℕ → List ℕ → Option ScriptFault
 decimal_end place [] = None
 decimal_end place (c ∷ cs) = if c == 46 || c == 101 || c == 69 then Some (RealNumber place) else (if is_identifier_start c then Some (Syntax place) else None)
 
--- the fault of hexadecimal digits with these bytes behind them
+-- the fault of hexadecimal digits that these bytes follow
 abbrev pub hex_end : ℕ → List ℕ → Option ScriptFault
 hex_end place [] = None
 hex_end place (c ∷ cs) = if is_identifier_start c then Some (Syntax place) else None
@@ -62,7 +62,7 @@ decimal_at place bytes =
     let n = prefix_len is_ascii_digit bytes in
     ended place (decimal_end place (drop n bytes)) (number_in 10 (take n bytes)) n
 
--- the hexadecimal number at the front, of which these are the bytes behind `0x`
+-- the hexadecimal number at the front, of which these are the bytes after `0x`
 abbrev pub hex_at : ℕ → List ℕ → Result (Token × ℕ) ScriptFault
 hex_at place bytes =
     let n = prefix_len is_ascii_hexdigit bytes in
@@ -74,7 +74,7 @@ starts_hex [] = false
 starts_hex (c ∷ []) = false
 starts_hex (c ∷ d ∷ cs) = c == 48 && (d == 120 || d == 88)
 
--- the text in single quotes of which these are the bytes behind the first quote
+-- the text in single quotes of which these are the bytes after the first quote
 abbrev pub text_at : ℕ → List ℕ → Result (Token × ℕ) ScriptFault
 text_at place bytes =
     let n = position_or_len (λ c. c == 39) bytes in
@@ -151,7 +151,7 @@ pub record Tokens : Type 0 where
   pub tokens : List Placed
   pub fault : Option ScriptFault
 
--- a token in front of those that are read behind it, or the fault with which reading ends
+-- a token before those that are read after it, or the fault with which reading ends
 abbrev pub read_then : ℕ → Result (Token × ℕ) ScriptFault → (ℕ → Tokens) → Tokens
 read_then place (Err fault) behind = record { tokens = []; fault = Some fault }
 read_then place (Ok found) behind = record { tokens = (record { token = found.0; place = place }) ∷ (behind found.1).tokens; fault = (behind found.1).fault }

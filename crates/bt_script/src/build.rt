@@ -15,25 +15,25 @@ use crate::syntax::{BinOp, Cmp, Expr, Stmt, UnOp};
 use crate::token::{Placed, Token};
 use std::alloc::Global;
 
-/// The height that no expression may pass.
+/// The greatest height of an expression.
 const MOST: u32 = 64;
 
 /// The level of `? :`, the loosest.
 const LOOSEST: u32 = 0;
 
-/// The level of what has no operator between operands.
+/// The level of an expression that is no operation and no choice.
 const TIGHTEST: u32 = 10;
 
-/// An expression that was built.
+/// An expression that was built, with its height.
 #[derive(Debug, Drop)]
 pub struct Built {
     pub expr: Expr,
     pub height: u32,
-    /// The number of the token behind it.
+    /// The number of the token after it.
     pub next: usize,
 }
 
-/// What goes on an expression in its place.
+/// What follows an expression and takes it as its first part.
 #[derive(Clone, Copy, Debug, PartialEq, Eq)]
 pub enum Follow {
     Nothing,
@@ -41,7 +41,7 @@ pub enum Follow {
     Choosing,
 }
 
-/// The token with this number.
+/// The token with this number, if there is one.
 fn peek(tokens: &[Placed], at: usize) -> Option<&Token>
     ensures { IsFirst tokens.now at result }
 {
@@ -84,7 +84,8 @@ fn level(op: BinOp) -> u32
     }
 }
 
-/// What goes on an expression before the token with this number, in a place of this level.
+/// What follows an expression at the token with this number, in a place of this level: an operator of
+/// this level or a tighter one, `?` at level 0, or nothing.
 fn follow_at(tokens: &[Placed], at: usize, place: u32) -> Follow
     ensures value { next_of place (from_token tokens.now at) ≡ follows (from_token tokens.now (at + 1)) result }
     ensures within { Within tokens.now at result }
@@ -108,6 +109,7 @@ fn follow_at(tokens: &[Placed], at: usize, place: u32) -> Follow
     }
 }
 
+/// The operation on this operand. `NoMemory` where an allocation fails, as in the functions below.
 fn unary(alloc: Global, op: UnOp, a: Built) -> Result<Built, NoMemory>
     requires { a.height ≤ 64 }
     ensures { IfOk result (λ b. (b.expr ≡ roll-Expr (layer.Unary op a.expr)) × (b.height ≡ a.height + 1) × (b.next ≡ a.next)) }
@@ -121,7 +123,7 @@ fn unary(alloc: Global, op: UnOp, a: Built) -> Result<Built, NoMemory>
     })
 }
 
-/// The expression in parentheses, of which the last is the token behind it.
+/// The expression in parentheses. The token after it is its `)`, which it takes in.
 fn group(alloc: Global, a: Built) -> Result<Built, NoMemory>
     requires { (a.height ≤ 64) × (a.next + 1 < 2 ^ 63) }
     ensures { IfOk result (λ b. (b.expr ≡ roll-Expr (layer.Group a.expr)) × (b.height ≡ a.height + 1) × (b.next ≡ a.next + 1)) }
@@ -135,6 +137,7 @@ fn group(alloc: Global, a: Built) -> Result<Built, NoMemory>
     })
 }
 
+/// The operation between these operands.
 fn binary(alloc: Global, op: BinOp, a: Built, b: Built) -> Result<Built, NoMemory>
     requires { (a.height ≤ 64) × (b.height ≤ 64) }
     ensures { IfOk result (λ c. (c.expr ≡ roll-Expr (layer.Binary op a.expr b.expr))
@@ -148,6 +151,7 @@ fn binary(alloc: Global, op: BinOp, a: Built, b: Built) -> Result<Built, NoMemor
     Ok(Built { expr, height, next })
 }
 
+/// The choice `a ? b : c`.
 fn choice(alloc: Global, a: Built, b: Built, c: Built) -> Result<Built, NoMemory>
     requires { (a.height ≤ 64) × (b.height ≤ 64) × (c.height ≤ 64) }
     ensures { IfOk result (λ d. (d.expr ≡ roll-Expr (layer.Choose a.expr b.expr c.expr))
@@ -196,7 +200,8 @@ fn leaf(expr: Expr, at: usize) -> Built
     }
 }
 
-/// The operand that begins with this token, if its parts are no higher than the limit.
+/// The operand that begins with this token. None where there is none, or where one of its parts is
+/// higher than the limit.
 #[cycle(climbing)]
 fn operand(
     alloc: Global,
@@ -220,7 +225,7 @@ fn operand(
     }
 }
 
-/// The operation on the operand that begins with this token.
+/// The operation of a sign on the operand that begins with this token. None as for `operand`.
 #[cycle(climbing)]
 fn prefixed(
     alloc: Global,
@@ -239,7 +244,8 @@ fn prefixed(
     }
 }
 
-/// The expression that begins with this token and that a parenthesis closes.
+/// The expression in parentheses of which the first token is this one, after the `(`. None where it is
+/// not closed, and as for `operand`.
 #[cycle(climbing)]
 fn grouped(
     alloc: Global,
@@ -260,7 +266,8 @@ fn grouped(
     Ok(Some(group(alloc, a)?))
 }
 
-/// The last part of a choice, behind its first two.
+/// The choice `a ? b : c`, of which `c` is to be read: the `:` is the token after `b`. None where it is
+/// not there, and as for `operand`.
 #[cycle(climbing)]
 fn otherwise(
     alloc: Global,
@@ -292,7 +299,8 @@ fn otherwise(
     }
 }
 
-/// The parts of a choice, behind its test.
+/// The choice of which `a` is the test; the `?` is the token after it. None where one of its parts is
+/// missing, and as for `operand`.
 #[cycle(climbing)]
 fn chosen(alloc: Global, tokens: &[Placed], a: Built, limit: u32) -> Result<Option<Built>, NoMemory>
     requires small { (limit < 64) × (length tokens.now < 2 ^ 32) }
@@ -307,8 +315,8 @@ fn chosen(alloc: Global, tokens: &[Placed], a: Built, limit: u32) -> Result<Opti
     }
 }
 
-/// The expression that begins with this token, as far as it goes in a place of this level. None
-/// where it is higher than the limit.
+/// The expression that begins with this token, as long as a place of this level can have it. None where
+/// there is none, or where it is higher than the limit.
 #[cycle(climbing)]
 pub fn climb(
     alloc: Global,
@@ -352,7 +360,7 @@ pub fn climb(
     }
 }
 
-/// The expression that begins with this token. None where it is higher than 64.
+/// The expression that begins with this token. None where there is none, or where it is higher than 64.
 fn expression(alloc: Global, tokens: &[Placed], at: usize) -> Result<Option<Built>, NoMemory>
     requires { length tokens.now < 2 ^ 32 }
     ensures value { IfOk result (λ found. seen tokens.now found ≡ whole_expr (from_token tokens.now at)) }
@@ -361,7 +369,8 @@ fn expression(alloc: Global, tokens: &[Placed], at: usize) -> Result<Option<Buil
     climb(alloc, tokens, at, LOOSEST, MOST)
 }
 
-/// The expression of tokens that are one alone.
+/// The expression that all these tokens are. The fault `TooNested`, with the place of the first token,
+/// where it is higher than 64.
 pub fn alone(alloc: Global, tokens: &[Placed]) -> Result<Expr, Stop<ScriptFault>>
     requires small { length tokens.now < 2 ^ 32 }
     requires whole { (e : Expr) × IsExpr (bare tokens.now) e }
@@ -374,7 +383,7 @@ pub fn alone(alloc: Global, tokens: &[Placed]) -> Result<Expr, Stop<ScriptFault>
     }
 }
 
-/// The statement that is an expression.
+/// The statement that is an expression, and the number of the token after it. None as for `expression`.
 fn evaluated(alloc: Global, tokens: &[Placed], at: usize) -> Result<Option<(Stmt, usize)>, NoMemory>
     requires { length tokens.now < 2 ^ 32 }
     ensures value { IfOk result (λ found. seen_stmt tokens.now found ≡ as_stmt Plain (whole_expr (from_token tokens.now at))) }
@@ -386,7 +395,8 @@ fn evaluated(alloc: Global, tokens: &[Placed], at: usize) -> Result<Option<(Stmt
     }
 }
 
-/// The statement that begins with this token. None where its expression is higher than 64.
+/// The statement that begins with this token, and the number of the token after it. None where its
+/// expression is higher than 64.
 fn statement(alloc: Global, tokens: &[Placed], at: usize) -> Result<Option<(Stmt, usize)>, NoMemory>
     requires { length tokens.now < 2 ^ 32 }
     ensures value { IfOk result (λ found. seen_stmt tokens.now found ≡ statement_at (from_token tokens.now at)) }
@@ -422,6 +432,7 @@ fn statement(alloc: Global, tokens: &[Placed], at: usize) -> Result<Option<(Stmt
     }
 }
 
+/// Whether the token is `;`.
 fn is_semicolon(placed: &Placed) -> bool
     ensures { MatchBool result (placed.now.token ≡ Semicolon) (placed.now.token ≡ Semicolon → ⊥) }
 {
@@ -431,7 +442,8 @@ fn is_semicolon(placed: &Placed) -> bool
     }
 }
 
-/// The statements of tokens that are a whole script.
+/// The statements of tokens that are a whole script. The fault `TooNested`, with the place of the first
+/// token of the statement, where an expression is higher than 64.
 pub fn statements(alloc: Global, tokens: &[Placed]) -> Result<Vec<Stmt>, Stop<ScriptFault>>
     requires small { length tokens.now < 2 ^ 32 }
     requires whole { (slots : List (Option Stmt)) × IsStmts (bare tokens.now) slots }

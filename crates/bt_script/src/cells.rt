@@ -6,8 +6,8 @@ ghost use Rattle.bt_script.specs.declared.cells.Seen.{Seen};
 use crate::txt::Txt;
 use crate::value::Value;
 
-/// The entries that a script reads and writes: a value, or none, for each slot below a number of
-/// slots. No call takes memory.
+/// The entries that a script reads and writes: a value, or none, for each slot below the number of
+/// slots. No call allocates.
 pub trait Cells {
     /// The values by slot.
     ghost entries: { Self → List (Option Value) };
@@ -38,8 +38,7 @@ pub enum Seen {
     Text,
 }
 
-/// The values that an expression looks at, for each slot below a number of slots. A look takes no
-/// memory.
+/// What an expression sees of the entries, for each slot below the number of slots. No call allocates.
 pub trait Looks {
     /// What is seen, by slot.
     ghost sights: { Self → List Seen };

@@ -13,7 +13,7 @@ pub enum Opened {
     Paren,
     /// A `?` that has no `:` yet.
     Choice,
-    /// An expression that is the whole text: it is not closed, and no `;` stands behind it.
+    /// The expression that is the whole text: it is not closed, and no `;` comes after it.
     Whole,
 }
 
@@ -24,11 +24,11 @@ pub enum Stage {
     Blank,
     /// At the start of a later statement.
     Start,
-    /// Behind a name with which a statement begins.
+    /// After a name with which a statement begins.
     Named,
     /// Where an operand must stand.
     Before,
-    /// Behind an operand.
+    /// After an operand.
     Behind,
 }
 
@@ -42,7 +42,8 @@ pub enum Verdict {
     Stuck(u32),
 }
 
-/// The stage behind a token where an operand may stand.
+/// The stage after a token where an operand may stand; a word leads to `word_stage`. None where the
+/// token begins no operand. `NoMemory` where `opened` cannot grow, as below.
 fn behind_start_of_operand(
     token: &Token,
     word_stage: Stage,
@@ -65,7 +66,7 @@ fn behind_start_of_operand(
     }
 }
 
-/// The stage behind a token that closes what is innermost.
+/// The stage after a token that closes what is innermost. None where something else is innermost.
 fn closed(opened: &mut Vec<Opened>, wanted: Opened, stage: Stage) -> Option<Stage>
     ensures { spot_of result opened.new.items ≡ closing_step wanted stage (reverse opened.old.items) }
 {
@@ -75,7 +76,7 @@ fn closed(opened: &mut Vec<Opened>, wanted: Opened, stage: Stage) -> Option<Stag
     }
 }
 
-/// The stage behind a token behind an operand.
+/// The stage after a token that comes after an operand. None where it may not stand there.
 fn behind_operand(token: &Token, opened: &mut Vec<Opened>) -> Result<Option<Stage>, NoMemory>
     ensures { IfOk result (λ stage. spot_of stage opened.new.items ≡ behind_step (reverse opened.old.items) token.now) }
 {
@@ -109,7 +110,8 @@ fn may_change(op: BinOp) -> bool
     }
 }
 
-/// The stage behind a token behind the name with which a statement begins.
+/// The stage after a token that comes after the name with which a statement begins. None where it may not
+/// stand there.
 fn behind_name(token: &Token, opened: &mut Vec<Opened>) -> Result<Option<Stage>, NoMemory>
     ensures { IfOk result (λ stage. spot_of stage opened.new.items ≡ named_step (reverse opened.old.items) token.now) }
 {
@@ -125,7 +127,7 @@ fn behind_name(token: &Token, opened: &mut Vec<Opened>) -> Result<Option<Stage>,
     }
 }
 
-/// The stage behind a token in this stage.
+/// The stage after a token, in any stage. None where the token may not stand there.
 fn step(token: &Token, stage: Stage, opened: &mut Vec<Opened>) -> Result<Option<Stage>, NoMemory>
     ensures { IfOk result (λ next. spot_of next opened.new.items ≡ stage_step stage (reverse opened.old.items) token.now) }
 {
@@ -154,7 +156,7 @@ fn may_end(stage: Stage, opened: &[Opened]) -> bool
     }
 }
 
-/// Whether the tokens are a whole text, from this stage with this open.
+/// Reads the tokens, from this stage and with this much open, and says whether they are a whole text.
 pub fn check(tokens: &[Placed], start: Stage, mut opened: Vec<Opened>) -> Result<Verdict, NoMemory>
     ensures { IfOk result (λ verdict. Checked (start, reverse opened.items) tokens.now verdict) }
 {

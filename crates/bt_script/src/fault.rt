@@ -2,8 +2,8 @@ ghost use Rattle.std.specs.Prelude.{◌≡◌};
 
 use crate::stop::Stop;
 
-/// Why a text is no script. A place counts the bytes before it, and is that of the first byte of a
-/// token, or the text's length.
+/// Why a text is no script. A place is a number of bytes before it: that of the first byte of a token, or
+/// the text's length.
 #[derive(Clone, Copy, Debug, PartialEq, Eq)]
 pub enum ScriptFault {
     /// The text has more than 4,096 bytes.

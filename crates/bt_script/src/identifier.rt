@@ -23,6 +23,7 @@ pub fn is_identifier_continue(c: u8) -> bool
     is_identifier_start(c) || c.is_ascii_digit()
 }
 
+/// Whether an identifier may go on with each of the bytes.
 fn all_continue(bytes: &[u8]) -> bool
     ensures { result ≡ list_all identifiers.is_identifier_continue bytes.now }
 {

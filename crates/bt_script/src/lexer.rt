@@ -14,6 +14,7 @@ use crate::token::{Placed, Token};
 use crate::txt::Txt;
 use std::alloc::Global;
 
+/// The value of a digit, hexadecimal or not. 0 of other bytes.
 fn value(c: u8) -> u8
     ensures value { result ≡ digit_value c }
     ensures small { result ≤ 15 }
@@ -26,6 +27,7 @@ fn value(c: u8) -> u8
     }
 }
 
+/// How many bytes at the front may be in an identifier.
 #[tactic(auto, using(crate::proofs::Lexing::fronts))]
 fn rest_len(bytes: &[u8]) -> usize
     ensures value { result ≡ prefix_len identifiers.is_identifier_continue bytes.now }
@@ -37,6 +39,7 @@ fn rest_len(bytes: &[u8]) -> usize
         .count()
 }
 
+/// How many bytes at the front are decimal digits.
 #[tactic(auto, using(crate::proofs::Lexing::fronts))]
 fn digits_len(bytes: &[u8]) -> usize
     ensures value { result ≡ prefix_len is_ascii_digit bytes.now }
@@ -45,6 +48,7 @@ fn digits_len(bytes: &[u8]) -> usize
     bytes.iter().take_while(|c| c.is_ascii_digit()).count()
 }
 
+/// How many bytes at the front are hexadecimal digits.
 #[tactic(auto, using(crate::proofs::Lexing::fronts))]
 fn hex_len(bytes: &[u8]) -> usize
     ensures value { result ≡ prefix_len is_ascii_hexdigit bytes.now }
@@ -53,7 +57,7 @@ fn hex_len(bytes: &[u8]) -> usize
     bytes.iter().take_while(|c| c.is_ascii_hexdigit()).count()
 }
 
-/// The number that digits spell, if it is at most `i64::MAX`.
+/// The number that digits spell to this base. None where it is above `i64::MAX`.
 fn number(digits: &[u8], base: u64) -> Option<i64>
     requires { (1 ≤ base) × (base ≤ 16) }
     ensures { result ≡ number_in base digits.now }
@@ -69,6 +73,7 @@ fn number(digits: &[u8], base: u64) -> Option<i64>
     Some(n as i64)
 }
 
+/// The sign that these two bytes are.
 fn two_bytes(c: u8, d: u8) -> Option<Token>
     ensures { result ≡ two_sign c d }
 {
@@ -88,6 +93,7 @@ fn two_bytes(c: u8, d: u8) -> Option<Token>
     }
 }
 
+/// The sign that this byte is.
 fn one_byte(c: u8) -> Option<Token>
     ensures { result ≡ one_sign c }
 {
@@ -113,7 +119,8 @@ fn one_byte(c: u8) -> Option<Token>
     }
 }
 
-/// The sign at the front, and its length.
+/// The sign at the front, the longer one where there are two, and its length. The fault `Syntax` where
+/// there is none.
 fn sign(bytes: &[u8], place: u32) -> Result<(Token, usize), ScriptFault>
     ensures value { result ≡ sign_at place bytes.now }
     ensures len { IfOk result (λ found. (0 < found.1) × (found.1 ≤ length bytes.now)) }
@@ -134,7 +141,7 @@ fn sign(bytes: &[u8], place: u32) -> Result<(Token, usize), ScriptFault>
     }
 }
 
-/// The fault of decimal digits with these bytes behind them.
+/// The fault of decimal digits that these bytes follow, if any.
 fn fault_behind_decimal(bytes: &[u8], place: u32) -> Option<ScriptFault>
     ensures { result ≡ decimal_end place bytes.now }
 {
@@ -148,7 +155,7 @@ fn fault_behind_decimal(bytes: &[u8], place: u32) -> Option<ScriptFault>
     None
 }
 
-/// The fault of hexadecimal digits with these bytes behind them.
+/// The fault of hexadecimal digits that these bytes follow, if any.
 fn fault_behind_hex(bytes: &[u8], place: u32) -> Option<ScriptFault>
     ensures { result ≡ hex_end place bytes.now }
 {
@@ -159,7 +166,8 @@ fn fault_behind_hex(bytes: &[u8], place: u32) -> Option<ScriptFault>
     None
 }
 
-/// The decimal number at the front, and its length.
+/// The decimal number at the front, and its length. The fault `RealNumber`, `Syntax` or `NumberTooWide`
+/// where it is none.
 fn decimal(bytes: &[u8], place: u32) -> Result<(Token, usize), ScriptFault>
     ensures value { result ≡ decimal_at place bytes.now }
     ensures len { IfOk result (λ found. found.1 ≤ length bytes.now) }
@@ -175,7 +183,8 @@ fn decimal(bytes: &[u8], place: u32) -> Result<(Token, usize), ScriptFault>
     }
 }
 
-/// The hexadecimal number at the front, of which these are the bytes behind `0x`, and its length.
+/// The hexadecimal number of which these are the bytes after its `0x`, and its length with it. The fault
+/// `Syntax` or `NumberTooWide` where it is none.
 fn hexadecimal(bytes: &[u8], place: u32) -> Result<(Token, usize), ScriptFault>
     requires { length bytes.now < 2 ^ 32 }
     ensures value { result ≡ hex_at place bytes.now }
@@ -195,6 +204,7 @@ fn hexadecimal(bytes: &[u8], place: u32) -> Result<(Token, usize), ScriptFault>
     }
 }
 
+/// Whether `0x` or `0X` stands at the front.
 fn is_hex_mark(bytes: &[u8]) -> bool
     ensures { result ≡ starts_hex bytes.now }
 {
@@ -204,7 +214,7 @@ fn is_hex_mark(bytes: &[u8]) -> bool
     }
 }
 
-/// The token of a word.
+/// The token of a word: `true` and `false` are numbers. `NoMemory` where an allocation fails, as below.
 fn word(alloc: Global, word: &[u8]) -> Result<Token, NoMemory>
     requires { list_all identifiers.is_identifier_continue word.now ≡ true }
     ensures { IfOk result (λ token. token ≡ word_token word.now) }
@@ -219,6 +229,7 @@ fn word(alloc: Global, word: &[u8]) -> Result<Token, NoMemory>
     Ok(Token::Word(name))
 }
 
+/// How many bytes stand before the first single quote.
 #[tactic(auto, using(crate::proofs::Lexing::fronts))]
 fn quote_place(bytes: &[u8]) -> usize
     ensures value { result ≡ position_or_len (λ c. c == 39) bytes.now }
@@ -227,7 +238,8 @@ fn quote_place(bytes: &[u8]) -> usize
     bytes.iter().take_while(|c| **c != 39).count()
 }
 
-/// The text in single quotes, of which the first stands at this place, and its length.
+/// The text in single quotes of which the first stands at this place, and its length with them. The
+/// fault `Syntax` where there is no second quote.
 fn quoted(alloc: Global, text: &[u8], at: usize) -> Result<(Token, usize), Stop<ScriptFault>>
     requires utf8 { IsUtf8 text.now }
     requires short { length text.now ≤ 4096 }
@@ -245,7 +257,7 @@ fn quoted(alloc: Global, text: &[u8], at: usize) -> Result<(Token, usize), Stop<
     Ok((Token::Text(body), len + 2))
 }
 
-/// The number or the sign at the front, and its length.
+/// The number or the sign at the front, and its length, or its fault.
 fn unquoted(bytes: &[u8], place: u32) -> Result<(Token, usize), ScriptFault>
     requires { (0 < length bytes.now) × (length bytes.now ≤ 4096) }
     ensures value { result ≡ unquoted_at place bytes.now }
@@ -260,7 +272,7 @@ fn unquoted(bytes: &[u8], place: u32) -> Result<(Token, usize), ScriptFault>
     decimal(bytes, place)
 }
 
-/// The token that begins at this place, and its length.
+/// The token that begins at this place, and its length, or its fault.
 fn token(alloc: Global, text: &[u8], at: usize) -> Result<(Token, usize), Stop<ScriptFault>>
     requires utf8 { IsUtf8 text.now }
     requires short { length text.now ≤ 4096 }
@@ -291,7 +303,7 @@ pub struct Lexed {
     pub fault: Option<ScriptFault>,
 }
 
-/// The tokens of a text.
+/// The tokens of a text, up to its first fault. `NoMemory` where an allocation fails.
 pub fn read(alloc: Global, text: &[u8]) -> Result<Lexed, NoMemory>
     requires utf8 { IsUtf8 text.now }
     requires short { length text.now ≤ 4096 }

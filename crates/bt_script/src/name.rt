@@ -47,7 +47,7 @@ impl Name {
         bytes
     }
 
-    /// An equal name.
+    /// An equal name. `NoMemory` where an allocation fails.
     pub fn copy(&self, alloc: Global) -> Result<Name, NoMemory>
         ensures { IfOk result (λ name. name ≡ self.now) }
     {

@@ -12,11 +12,11 @@ use crate::syntax::{Expr, Script};
 use crate::txt::Txt;
 use std::alloc::Global;
 
-/// The bytes that no script may pass.
+/// The greatest length of a script, in bytes.
 const MOST: usize = 4096;
 
-/// The first fault of a text: of the grammar before the faulty token, else of that token, else at
-/// the text's end.
+/// The first fault of a text, of which `fault` is the first that a token has: one of the grammar comes
+/// before it, and else there may be one at the text's end.
 fn refusal(verdict: Verdict, fault: Option<ScriptFault>, end: u32) -> Option<ScriptFault>
     ensures { result ≡ refused verdict fault end }
 {
@@ -30,7 +30,7 @@ fn refusal(verdict: Verdict, fault: Option<ScriptFault>, end: u32) -> Option<Scr
     }
 }
 
-/// Reads a script: statements between semicolons.
+/// Reads a script: statements with semicolons between them. Its fault is the first of the text.
 pub fn parse_script(alloc: Global, text: &[u8]) -> Result<Script, Stop<ScriptFault>>
     requires { IsUtf8 text.now }
     ensures { Answers ReadsScript StmtsFault text.now result }
@@ -50,7 +50,7 @@ pub fn parse_script(alloc: Global, text: &[u8]) -> Result<Script, Stop<ScriptFau
     }
 }
 
-/// Reads one expression, with the faults of a script.
+/// Reads one expression. Its faults are those of a script.
 pub fn parse_expr(alloc: Global, text: &[u8]) -> Result<Expr, Stop<ScriptFault>>
     requires { IsUtf8 text.now }
     ensures { Answers ReadsExpr ExprFault text.now result }

@@ -3,7 +3,7 @@ ghost use Rattle.std.specs.Prelude.{◌≡◌};
 
 use std::alloc::{AllocError, AllocFailed};
 
-/// Want of memory.
+/// Want of memory, that is, out of memory: an allocation failed.
 #[derive(Clone, Copy, Debug, PartialEq, Eq)]
 pub struct NoMemory;
 
@@ -12,7 +12,7 @@ pub struct NoMemory;
 pub enum Stop<F> {
     /// The fault that the call's contract names.
     Fault(F),
-    /// Want of memory, which may come at any growth.
+    /// Want of memory, which may come wherever the call allocates.
     NoMemory,
 }
 

@@ -3,7 +3,7 @@ use crate::items::Items;
 use crate::name::Name;
 use crate::txt::Txt;
 
-/// A comparison of two numbers, or of two texts by their bytes.
+/// A comparison of two numbers, or of two texts byte by byte.
 #[derive(Clone, Copy, Debug, PartialEq, Eq)]
 pub enum Cmp {
     /// `==`
@@ -80,7 +80,7 @@ pub enum Stmt {
     Create(Name, Expr),
     /// `NAME = E` writes an entry that is there.
     Assign(Name, Expr),
-    /// `NAME += E` and the like, with one of the four arithmetic operators.
+    /// `NAME += E`, or `-=`, `*=`, `/=` in place of `+=`.
     Change(BinOp, Name, Expr),
     /// `E` is evaluated.
     Plain(Expr),

@@ -47,7 +47,7 @@ impl Txt {
         bytes
     }
 
-    /// An equal text.
+    /// An equal text. `NoMemory` where an allocation fails.
     pub fn copy(&self, alloc: Global) -> Result<Txt, NoMemory>
         ensures { IfOk result (λ text. text ≡ self.now) }
     {

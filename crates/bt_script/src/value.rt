@@ -12,7 +12,7 @@ pub enum Value {
 }
 
 impl Value {
-    /// An equal value.
+    /// An equal value. `NoMemory` where an allocation fails.
     pub fn copy(&self, alloc: Global) -> Result<Value, NoMemory>
         ensures { IfOk result (λ value. value ≡ self.now) }
     {
