@@ -33,19 +33,19 @@ Appended-more a b c x i n p q =
     let rest : Appended b c (take n (drop i x)) = subst (λ (z : List ℕ). Appended b c (take n z)) (take_rest x i) q in
     subst (λ (z : List ℕ). Appended a c z) (sym (take-add i n x)) (Appended-trans a b c (take i x) (take n (drop i x)) p rest)
 
--- a front of nothing
+-- a prefix of nothing
 pub AppendedFront-nothing : (a : Option (List ℕ)) (x : List ℕ) → AppendedFront a a x
 AppendedFront-nothing a x = record { front = []; rest = x; parts = refl; appended = Appended-nil a }
 
--- the whole piece is a front of it
+-- the whole piece is a prefix of it
 pub AppendedFront-whole : (a b : Option (List ℕ)) (x : List ℕ) → Appended a b x → AppendedFront a b x
 AppendedFront-whole a b x p = record { front = x; rest = []; parts = sym (append-nil x); appended = p }
 
--- the first bytes of a piece are a front of it
+-- the first bytes of a piece are a prefix of it
 pub AppendedFront-taken : (a b : Option (List ℕ)) (x : List ℕ) (n : ℕ) → Appended a b (take n x) → AppendedFront a b x
 AppendedFront-taken a b x n p = record { front = take n x; rest = drop n x; parts = sym (take-append-drop n x); appended = p }
 
--- a front of a piece is a front of a longer one
+-- a prefix of a piece is a prefix of a longer one
 pub AppendedFront-longer : (a b : Option (List ℕ)) (x rest : List ℕ) → AppendedFront a b x → AppendedFront a b (x ++ rest)
 AppendedFront-longer a b x rest p =
     record {
@@ -55,7 +55,7 @@ AppendedFront-longer a b x rest p =
       appended = p.appended;
     }
 
--- a whole piece and then a front of another
+-- a whole piece and then a prefix of another
 pub AppendedFront-after : (a b c : Option (List ℕ)) (x y : List ℕ) → Appended a b x → AppendedFront b c y → AppendedFront a c (x ++ y)
 AppendedFront-after a b c x y p q =
     record {
@@ -65,7 +65,7 @@ AppendedFront-after a b c x y p q =
       appended = Appended-trans a b c x q.front p q.appended;
     }
 
--- the first bytes of a piece, and a front of the rest
+-- the first bytes of a piece, and a prefix of the rest
 pub AppendedFront-more : (a b c : Option (List ℕ)) (x : List ℕ) (n : ℕ)
     → Appended a b (take n x) → AppendedFront b c (take (length x - n) (drop n x)) → AppendedFront a c x
 AppendedFront-more a b c x n p q =

@@ -6,7 +6,7 @@ abbrev pub Appended : Option (List ℕ) → Option (List ℕ) → List ℕ → T
 Appended None new piece = Unit {0}
 Appended (Some old) new piece = new ≡ Some (old ++ piece)
 
--- new is old with a front of the piece at its end
+-- new is old with a prefix of the piece at its end
 pub record AppendedFront (old new : Option (List ℕ)) (piece : List ℕ) : Type 0 where
   pub front : List ℕ
   pub rest : List ℕ

@@ -26,7 +26,7 @@ impl<R: Files + Drop> Model for DirShelf<R> {
 }
 
 impl<R: Files + Drop> DirShelf<R> {
-    /// A shelf of the files of this host. It takes no memory.
+    /// A shelf of the files of this host. It allocates nothing.
     pub fn new(host: R) -> DirShelf<R>
         ensures { result ≡ 0 }
     {
@@ -34,11 +34,12 @@ impl<R: Files + Drop> DirShelf<R> {
     }
 }
 
-// The most bytes of one turn.
+/// The most bytes of one turn.
 const TURN: usize = 4096;
 
-// Reads what is left of a file, in turns that each give at least one byte: one that gives none is the
-// file's end. It stops behind `limit + 1` bytes.
+/// Reads what is left of a file, in turns that each give at least one byte: one that gives none is the
+/// file's end. It stops after `limit + 1` bytes, with `TooLong`. `Failed` where the host fails to read,
+/// `NoMemory` (want of memory, that is, out of memory) where the room cannot grow.
 fn read_turns<F: Read>(file: &mut F, room: &mut Vec<u8>, limit: u64) -> Result<(), ShelfFault>
     requires empty { room.old.items ≡ [] }
     requires below_last { limit < 2 ^ 64 - 1 }
@@ -66,7 +67,7 @@ fn read_turns<F: Read>(file: &mut F, room: &mut Vec<u8>, limit: u64) -> Result<(
     Err(ShelfFault::TooLong)
 }
 
-// Reads the file at the path of this name.
+/// Reads the file at the path of this name. Its faults are those of `Shelf::read`.
 fn read_file<R: Files>(
     host: &R,
     name: &Name,

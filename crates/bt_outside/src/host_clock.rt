@@ -29,7 +29,7 @@ impl<R: rt::Clock + Drop> Model for HostClock<R> {
 
 impl<R: rt::Clock + Drop> HostClock<R> {
     /// A clock that counts from now on. Where the host answers a fault, it counts from the first
-    /// time that the host gives. It takes no memory.
+    /// time that the host gives. It allocates nothing.
     pub fn new(host: R) -> HostClock<R>
         ensures { result.last ≡ 0 }
     {
@@ -41,7 +41,7 @@ impl<R: rt::Clock + Drop> HostClock<R> {
         }
     }
 
-    // Takes a time that the host gave, or its fault, after which the last moment stands.
+    /// Takes a time that the host gave. None is a fault of the host, and changes nothing.
     fn take_reading(&mut self, reading: Option<Instant>)
         ensures { self.new ≡ after_reading self.old (option_map instant_nanos reading) }
     {
@@ -52,7 +52,7 @@ impl<R: rt::Clock + Drop> HostClock<R> {
     }
 }
 
-// A time before the start counts as the start.
+/// The whole milliseconds between the two. A time before the start counts as the start.
 fn millis_between(start: Instant, time: Instant) -> u64
     ensures { result ≡ millis (instant_nanos start) (instant_nanos time) }
 {

@@ -22,8 +22,8 @@ impl Model for MemClock {
 }
 
 impl MemClock {
-    /// A clock that gives these moments, in milliseconds, and behind them the last one again and
-    /// again. Where there is none it gives 0. It takes no memory.
+    /// A clock that gives these moments, in milliseconds, and after them the last one again and
+    /// again. Where there is none it gives 0. It allocates nothing.
     pub fn new(ahead: Vec<u64>) -> MemClock
         ensures { result ≡ record { ahead = ahead.items; last = 0 } }
     {

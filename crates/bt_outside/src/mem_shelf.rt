@@ -28,7 +28,7 @@ impl Model for MemShelf {
 
 impl MemShelf {
     /// A shelf of these files. The first pair of a name counts, and a name of no pair has no bytes.
-    /// `fails` has the numbers of the calls that are to fail, counted from 1. It takes no memory.
+    /// `fails` has the numbers of the calls that are to fail, counted from 1. It allocates nothing.
     pub fn new(files: Vec<(Name, Vec<u8>)>, fails: Vec<u64>) -> MemShelf
         ensures { result ≡ record { files = contents files.items; fails = fails.items; calls = 0; faults = 0 } }
     {
@@ -40,7 +40,7 @@ impl MemShelf {
         }
     }
 
-    // Counts one more call, and says whether it is to fail.
+    /// Counts one more call, and says whether it is to fail.
     fn next_fails(&mut self) -> bool
         ensures counted { self.new ≡ record self.old { calls = next self.old.calls } }
         ensures value { result ≡ fails_now self.old }

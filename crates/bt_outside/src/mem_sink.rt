@@ -28,7 +28,7 @@ impl Model for MemSink {
 
 impl MemSink {
     /// A sink without bytes. Each pair of `fails` is the number of a call that is to fail, counted
-    /// from 1, with the number of bytes of its piece that it still takes. It takes no memory.
+    /// from 1, with the number of bytes of its piece that it still takes. It allocates nothing.
     pub fn new(alloc: Global, fails: Vec<(u64, u64)>) -> MemSink
         ensures { result ≡ record { written = []; fails = fails.items; calls = 0; faults = 0 } }
     {
@@ -48,7 +48,7 @@ impl MemSink {
     }
 }
 
-// How many bytes this call still takes, where it is to fail.
+/// How many bytes this call still takes, where it is to fail; else none.
 fn takes(fails: &[(u64, u64)], call: u64) -> Option<u64>
     ensures { result ≡ takes_at fails.now call }
 {

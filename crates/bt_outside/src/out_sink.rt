@@ -13,7 +13,7 @@ use std::marker::Model;
 /// A sink over a writer of the host, which gathers pieces and hands them on when its room is full:
 /// `io::writer(&rt)` is the standard output of the host, which tells nothing of what it wrote. A writer
 /// that tells its bytes makes a sink that does. What a failure leaves unwritten stays gathered, so that
-/// no byte is written twice or passed over. Who is done calls `flush`, which says whether all was
+/// no byte is written twice or left out. Who is done calls `flush`, which says whether all was
 /// written; a sink that is dropped tries it and tells nobody.
 #[derive(Drop)]
 pub struct OutSink<W: Write + Drop> {
@@ -30,11 +30,11 @@ impl<W: Write + Drop> Model for OutSink<W> {
     ghost view = { λ s. record { told = W.contents (writer_inner s.writer); gathered = writer_buffer s.writer; faults = s.faults } };
 }
 
-// The most bytes that are gathered.
+/// The most bytes that are gathered.
 const ROOM: usize = 65_536;
 
 impl<W: Write + Drop> OutSink<W> {
-    /// A sink over this writer. Refused, the writer is dropped.
+    /// A sink over this writer. Where there is no memory for its room, the writer is dropped.
     pub fn new(alloc: Global, writer: W) -> Result<OutSink<W>, NoMemory>
         ensures { IfOk result (λ sink. sink ≡ record { told = W.contents writer; gathered = []; faults = 0 }) }
     {
@@ -45,7 +45,7 @@ impl<W: Write + Drop> OutSink<W> {
     }
 
     /// Hands what is gathered to the writer. `SinkFault::Failed` comes only where the writer fails, and
-    /// raises the count of failures; what was not written stays gathered. It takes no memory.
+    /// raises the count of failures; what was not written stays gathered. It allocates nothing.
     pub fn flush(&mut self) -> Result<(), SinkFault>
         ensures whole { OnOk result (self.new.gathered ≡ []) }
         ensures kept { Keeps (written_so_far self.old) (written_so_far self.new) }
@@ -59,8 +59,8 @@ impl<W: Write + Drop> OutSink<W> {
         }
     }
 
-    // One turn: how many bytes of the piece the writer takes, and none where it fails. The writer is
-    // called in two places, so that of the call with room nothing is left but the copy.
+    /// One turn: how many bytes of the piece the writer takes, and 0 where it fails. The writer is
+    /// called in two places, so that of the call with room only the copy is left.
     #[inline(always)]
     fn turn(&mut self, piece: &[u8]) -> usize
         ensures bound { result ≤ length piece.now }
@@ -78,7 +78,7 @@ impl<W: Write + Drop> OutSink<W> {
         }
     }
 
-    // Hands the piece to the writer: how many bytes it takes, and none where it fails.
+    /// Hands the piece to the writer: how many bytes it takes, and 0 where it fails.
     #[inline(always)]
     fn hand_on(&mut self, piece: &[u8]) -> usize
         ensures bound { result ≤ length piece.now }
@@ -88,6 +88,7 @@ impl<W: Write + Drop> OutSink<W> {
         self.writer.write(piece).unwrap_or(0)
     }
 
+    /// `hand_on` as a call of its own, for a piece that has no room.
     #[cold]
     #[inline(never)]
     fn hand_on_apart(&mut self, piece: &[u8]) -> usize
@@ -98,7 +99,8 @@ impl<W: Write + Drop> OutSink<W> {
         self.hand_on(piece)
     }
 
-    // Writes the piece in turns that each take at least one byte: a turn that takes none is a failure.
+    /// Writes the piece in turns that each take at least one byte. A turn that takes none is a failure, the
+    /// fault `Failed`.
     #[cold]
     #[inline(never)]
     fn write_turns(&mut self, piece: &[u8]) -> Result<(), SinkFault>
@@ -121,7 +123,7 @@ impl<W: Write + Drop> OutSink<W> {
         Ok(())
     }
 
-    // Counts a failure.
+    /// Counts a failure, and answers it.
     #[cold]
     fn fail(&mut self) -> Result<(), SinkFault>
         ensures result { result ≡ Err SinkFault.Failed }

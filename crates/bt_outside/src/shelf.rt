@@ -13,7 +13,7 @@ pub enum ShelfFault {
     Failed,
     /// The file has more bytes than the limit.
     TooLong,
-    /// Want of memory.
+    /// Want of memory (out of memory): the room cannot grow.
     NoMemory,
 }
 
@@ -32,7 +32,7 @@ pub trait Shelf {
     ///
     /// `ShelfFault::Failed` comes only where the count of failures rose in this call.
     /// `ShelfFault::TooLong` comes only for a file of more than `limit` bytes, and the room then has
-    /// its first `limit + 1` bytes. At every return the room has some front of the file.
+    /// its first `limit + 1` bytes. At every return the room has some prefix of the file.
     fn read(&mut self, name: &Name, room: &mut Vec<u8>, limit: u64) -> Result<(), ShelfFault>
         requires empty { room.old.items ≡ [] }
         requires below_last { limit < 2 ^ 64 - 1 }

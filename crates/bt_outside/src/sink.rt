@@ -7,7 +7,7 @@ ghost use Rattle.bt_outside.specs.Counts.{Rose};
 pub enum SinkFault {
     /// The sink did not take the whole piece.
     Failed,
-    /// Want of memory.
+    /// Want of memory (out of memory).
     NoMemory,
 }
 
@@ -19,7 +19,7 @@ pub trait Sink {
     /// The count of failures. It never falls.
     ghost faults: { Self → ℕ };
 
-    /// Writes the piece behind what was written before. At every return some front of the piece
+    /// Writes the piece after what was written before. At every return some prefix of the piece
     /// was written. `SinkFault::Failed` comes only where the count of failures rose in this call.
     fn write(&mut self, piece: &[u8]) -> Result<(), SinkFault>
         ensures whole { OnOk result (Appended (written self.old) (written self.new) piece.now) }

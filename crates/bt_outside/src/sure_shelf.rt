@@ -22,14 +22,14 @@ impl Model for SureShelf {
 
 impl SureShelf {
     /// A shelf of these files. The first pair of a name counts, and a name of no pair has no bytes.
-    /// It takes no memory.
+    /// It allocates nothing.
     pub fn new(files: Vec<(Name, Vec<u8>)>) -> SureShelf
         ensures { result ≡ contents files.items }
     {
         SureShelf { files }
     }
 
-    // The bytes of the first pair of the name.
+    /// The bytes of the first pair of the name, none where no pair has it.
     fn file(&self, name: &Name) -> &[u8]
         ensures { result.now ≡ file_of self.now name.now }
     {

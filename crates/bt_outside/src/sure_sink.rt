@@ -20,7 +20,7 @@ impl Model for SureSink {
 }
 
 impl SureSink {
-    /// A sink without bytes. It takes no memory.
+    /// A sink without bytes. It allocates nothing.
     pub fn new(alloc: Global) -> SureSink
         ensures { result ≡ [] }
     {
