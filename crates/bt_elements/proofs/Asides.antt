@@ -1,4 +1,4 @@
--- What an instruction or a comment holds up to its end is read over, and what was read over stood there.
+-- What an instruction or a comment holds up to its end is ignored, and what was ignored stood there.
 use Rattle.std.proofs.Common.{◌≡◌, ℕ, Bool, true, false, not, ◌==◌, ◌||◌, List, [], ◌∷◌, ◌++◌, length, ◌<◌, drop, Some, None, refl, ap, sym, ◌∙◌, subst, append_assoc, arith, if◌then◌else◌}
 use Rattle.std.proofs.lemmas.Bool.Decides.{nat_tests, Decides-eqb}
 use Rattle.std.proofs.lemmas.Slice.Eq.{starts_is}
@@ -19,7 +19,7 @@ begins_is word text = (starts_is Decides-eqb text word (begins_with word text) r
 pub is_begins : (word text rest : List ℕ) → text ≡ word ++ rest → begins_with word text ≡ true
 is_begins word text rest = (starts_is Decides-eqb text word (begins_with word text) refl).1 rest
 
--- what follows takes nothing from the front
+-- a text that begins with a word still does so with more after it
 begins_more : (word xs ys : List ℕ) → begins_with word xs ≡ true → begins_with word (xs ++ ys) ≡ true
 begins_more word xs ys h =
     is_begins word (xs ++ ys) (drop (length word) xs ++ ys)
@@ -75,7 +75,7 @@ instruction_again = word_again instruction_end instruction_apart instruction_her
 pub comment_again : (body more : List ℕ) → list_all is_not_zero body ≡ true → not (holds comment_end body) ≡ true → behind_first comment_end (body ++ (comment_end ++ more)) ≡ Some more
 comment_again = word_again comment_end comment_apart comment_here
 
--- what was read over
+-- what was ignored
 pub record BodyFound (word bytes rest : List ℕ) : Type 0 where
   pub body : List ℕ
   pub not_zero : list_all is_not_zero body ≡ true

@@ -1,4 +1,4 @@
--- Where a text may be cut: before an ASCII byte, and behind one.
+-- Where a text may be cut: before an ASCII byte, and after one.
 use Rattle.std.proofs.Common.{◌≡◌, ℕ, ◌<◌, Bool, true, false, List, [], ◌∷◌, ◌++◌, length, get_or, take, drop, ap, sym, ◌∙◌, subst, arith}
 use Rattle.std.proofs.lemmas.Bool.Decides.{nat_tests}
 use Rattle.std.proofs.lemmas.List.{take-append-drop, length-append}
@@ -27,14 +27,14 @@ stops_before p bs ascii h = ascii (get_or bs (prefix_len p bs) 0) (prefix_len_st
 boundary : (p : ℕ → Bool) (bs : List ℕ) → StopsAtAscii p → IsCharBoundary bs (prefix_len p bs)
 boundary p bs ascii = (prefix_len-le-length p bs, λ h big. absurd (let k = stops_before p bs ascii h in omega arith))
 
--- a text may be cut where bytes stop to pass that past ASCII all pass
+-- a text may be cut where bytes stop to pass, if all bytes that are not ASCII pass
 pub cut_front : (p : ℕ → Bool) (bs : List ℕ) → StopsAtAscii p → IsUtf8 bs → IsUtf8 (take (prefix_len p bs) bs)
 cut_front p bs ascii u = IsUtf8-take bs (prefix_len p bs) u (boundary p bs ascii)
 
 pub cut_rest : (p : ℕ → Bool) (bs : List ℕ) → StopsAtAscii p → IsUtf8 bs → IsUtf8 (drop (prefix_len p bs) bs)
 cut_rest p bs ascii u = IsUtf8-drop bs (prefix_len p bs) u (boundary p bs ascii)
 
--- a text goes on behind an ASCII byte
+-- a text goes on after an ASCII byte
 pub cut_first : (c : ℕ) (bs : List ℕ) → c < 128 → IsUtf8 (c ∷ bs) → IsUtf8 bs
 cut_first c bs small u =
     let h : 0 < length (c ∷ bs) = omega arith in
@@ -76,7 +76,7 @@ cut_behind c bs rest is small u = cut_first c rest small (subst IsUtf8 is u)
 passes_ascii : PassesAscii is_ascii
 passes_ascii c h = grind (arith, nat_tests)
 
--- a text goes on behind ASCII bytes that stand anywhere in it
+-- a text goes on after ASCII bytes that stand anywhere in it
 pub cut_within : (body word rest : List ℕ) → 0 < length word → list_all is_ascii word ≡ true → IsUtf8 (body ++ (word ++ rest)) → IsUtf8 rest
 cut_within body [] rest some h u = absurd (omega arith)
 cut_within body (c ∷ cs) rest some h u =
@@ -88,7 +88,7 @@ cut_within body (c ∷ cs) rest some h u =
     let cut : IsUtf8 (drop (length body) bs) = IsUtf8-drop bs (length body) u (IsCharBoundary-before_ascii bs (length body) within low) in
     cut_all is_ascii (c ∷ cs) rest passes_ascii h (subst IsUtf8 (drop-append_seam body ((c ∷ cs) ++ rest)) cut)
 
--- the same of a front and a rest that a call gave
+-- what stands before such a cut, where a call gave it
 pub front_cut : (p : ℕ → Bool) (bs front : List ℕ) (n : ℕ) → StopsAtAscii p → IsUtf8 bs → front ≡ take n bs → n ≡ prefix_len p bs → IsUtf8 front
 front_cut p bs front n ascii u is len = subst IsUtf8 (sym (is ∙ ap (λ (m : ℕ). take m bs) len)) (cut_front p bs ascii u)
 
@@ -112,7 +112,7 @@ cut_before front (c ∷ cs) h u =
 pub quote_ascii : (c : ℕ) → is_quote c ≡ true → c < 128
 quote_ascii c h = grind (arith, nat_tests)
 
--- a text goes on behind a byte order mark
+-- a text goes on after a byte order mark
 pub cut_order_mark : (bs rest : List ℕ) → bs ≡ 0xEF ∷ 0xBB ∷ 0xBF ∷ rest → IsUtf8 bs → IsUtf8 rest
 unfolding encode_utf8
 cut_order_mark bs rest is u = IsUtf8-past_char bs rest 0xFEFF u is

@@ -71,7 +71,7 @@ pub read_stray : (total : ℕ) (st : State) (bytes : List ℕ) → may_stand st 
 read_stray total st bytes stands =
     ap (λ (b : Bool). if b then by_marks (length bytes) total st (drop (text_len bytes) bytes) else stray (total - length bytes) (take (text_len bytes) bytes)) stands
 
--- a text that may stand there is read over
+-- a text that may stand there is ignored
 read_text : (total : ℕ) (st : State) (bytes rest : List ℕ) → may_stand st (take (text_len bytes) bytes) ≡ true → drop (text_len bytes) bytes ≡ rest →
     read_rest total st bytes ≡ by_marks (length bytes) total st rest
 read_text total st bytes rest stands is =
@@ -202,7 +202,7 @@ at_once at total st text rest r is edge ends =
     let here : at ≡ at + 0 = omega arith in
     record { pieces = []; text = text; rest = rest; last = st; valid = tt; no_mark = is; edge = edge; is = refl; runs = refl; ends = subst (λ (n : ℕ). Ends n total st text rest r) here ends }
 
--- reading that goes on behind a piece
+-- reading that goes on after a piece
 behind_piece : (at total : ℕ) (st next : State) (p : Piece) (more : List ℕ) (r : Result Element ElementFault) → IsPiece p → may_stand st p.text ≡ true →
     step st (at + length p.text) (said p.mark) ≡ Ok next → Found (at + length (piece_written p)) total next more r → Found at total st (piece_written p ++ more) r
 behind_piece at total st next p more r is stands taken_is found =
@@ -233,7 +233,7 @@ mark_read k at total st text m more r is stands form ih (Ok next) e h =
     subst (λ (z : List ℕ). Found at total st z r) (append_assoc text (mark_written m) more)
     (behind_piece at total st next p more r is_piece stands e (ih next h))
 
--- what was read behind a `<`
+-- what was read after a `<`
 inner_read : (k at total : ℕ) (st : State) (text inner : List ℕ) (r : Result Element ElementFault) → list_all is_text_byte text ≡ true → may_stand st text ≡ true → at + length (text ++ (60 ∷ inner)) ≡ total →
     ((end : ℕ) (next : State) (x : List ℕ) → end + length x ≡ total → length x < length (60 ∷ inner) → read_from k total next x ≡ r → Found end total next x r) →
     (o : Option (Mark × List ℕ)) → mark_of inner ≡ o →
@@ -256,7 +256,7 @@ inner_read k at total st text inner r is stands place ih (Some m) e h =
     (λ next g. ih (at + length (text ++ mark_written w)) next m.1 end_place (omega arith) g)
     (step st (at + length text) (said w)) refl step_is)
 
--- what was read behind a text
+-- what was read after a text
 rest_read : (k at total : ℕ) (st : State) (text rest : List ℕ) (r : Result Element ElementFault) → list_all is_text_byte text ≡ true → may_stand st text ≡ true → begins is_text_byte rest ≡ false → at + length (text ++ rest) ≡ total →
     ((end : ℕ) (next : State) (x : List ℕ) → end + length x ≡ total → length x < length rest → read_from k total next x ≡ r → Found end total next x r) →
     by_marks k total st rest ≡ r → Found at total st (text ++ rest) r
@@ -269,7 +269,7 @@ rest_read k at total st text (c ∷ inner) r is stands edge place ih h =
     inner_read k at total st text inner r is stands here (λ end next x e few i. ih end next x e few i) (mark_of inner) refl opened)
     place h
 
--- what was read of a text and what stands behind it
+-- what was read of a text and what follows it
 text_read : (k at total : ℕ) (st : State) (text rest : List ℕ) (r : Result Element ElementFault) → list_all is_text_byte text ≡ true → begins is_text_byte rest ≡ false → at + length (text ++ rest) ≡ total →
     ((end : ℕ) (next : State) (x : List ℕ) → end + length x ≡ total → length x < length rest → read_from k total next x ≡ r → Found end total next x r) →
     (b : Bool) → may_stand st text ≡ b → (if b then by_marks k total st rest else stray (total - length (text ++ rest)) text) ≡ r → Found at total st (text ++ rest) r
@@ -294,7 +294,7 @@ mark_at_if : (place : ℕ) (o : Option (Mark × List ℕ)) (m : Mark × List ℕ
 mark_at_if place None m h = absurd (cc)
 mark_at_if place (Some x) m h = ap (λ (z : Mark × List ℕ). Some z) (ok_inj x m h)
 
--- reading goes on behind a mark that was taken
+-- reading goes on after a mark that was taken
 pub read_on : (total : ℕ) (st next : State) (bytes : List ℕ) (c : ℕ) (inner : List ℕ) (m : Mark) (more : List ℕ) → may_stand st (take (text_len bytes) bytes) ≡ true →
     drop (text_len bytes) bytes ≡ c ∷ inner → mark_at (total - length (c ∷ inner)) inner ≡ Ok (m, more) → step st (total - length (c ∷ inner)) m ≡ Ok next → read_rest total next more ≡ read_rest total st bytes
 read_on total st next bytes c inner m more stands is mark taken_is =

@@ -37,7 +37,7 @@ not_first : (a b : Bool) → not (a || b) ≡ true → not a ≡ true
 not_first true b h = h
 not_first false b h = refl
 
--- a front of them has no more names
+-- a prefix of names of which none stands twice has none that does
 twice_kept : (xs ys : List (List ℕ × List ℕ)) → no_name_twice (xs ++ ys) ≡ true → no_name_twice xs ≡ true
 twice_kept [] ys h = refl
 twice_kept (x ∷ xs) ys h =

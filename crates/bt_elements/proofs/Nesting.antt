@@ -313,7 +313,7 @@ run_one at st p ps m next stands is s =
     (ap (λ (b : Bool). if b then step st (at + length p.text) (said p.mark) else Err (StrayText (at + prefix_len is_white p.text))) stands
     ∙ ap (step st (at + length p.text)) is ∙ s)
 
--- an instruction or a comment is read over
+-- an instruction or a comment is ignored
 pub run_aside : (at : ℕ) (st : State) (p : Piece) (ps : List Piece) → may_stand st p.text ≡ true → said p.mark ≡ read.Aside →
     run at st (p ∷ ps) ≡ run (at + length (piece_written p)) st ps
 run_aside at st p ps stands is = run_one at st p ps read.Aside st stands is refl

@@ -107,7 +107,7 @@ part_said said rest plain marked value c behind o cut is reference so_far =
     ∙ ap (λ (z : List ℕ). said ++ (plain ++ z)) (sym (decoded_marked c behind o marks reference))
     ∙ ap (λ (z : List ℕ). said ++ z) (sym (decoded_plain plain (c ∷ behind) cut.all) ∙ ap decoded (ap (λ (z : List ℕ). plain ++ z) (sym is) ∙ sym cut.split)) ∙ so_far
 
--- a part with a reference behind it
+-- a part that a reference follows
 pub reference_said : (said rest plain marked value : List ℕ) (c : ℕ) (behind : List ℕ) (r : ℕ × ℕ) → PlainCut rest plain marked → marked ≡ c ∷ behind → reference_of behind ≡ Some r →
     said ++ decoded rest ≡ value → ((said ++ plain) ++ encode_utf8 r.0) ++ decoded (drop r.1 behind) ≡ value
 reference_said said rest plain marked value c behind r cut is reference so_far =
@@ -115,7 +115,7 @@ reference_said said rest plain marked value c behind r cut is reference so_far =
     ∙ ap (λ (z : List ℕ). (said ++ plain) ++ (encode_utf8 r.0 ++ z)) (sym (decoded_past r.1 behind))
     ∙ part_said said rest plain marked value c behind (Some r) cut is reference so_far
 
--- a part with an `&` behind it that begins no reference
+-- a part that an `&` follows which begins no reference
 pub ampersand_said : (said rest plain marked value : List ℕ) (c : ℕ) (behind : List ℕ) → PlainCut rest plain marked → marked ≡ c ∷ behind → reference_of behind ≡ None →
     said ++ decoded rest ≡ value → ((said ++ plain) ++ c ∷ []) ++ decoded behind ≡ value
 ampersand_said said rest plain marked value c behind cut is reference so_far =
@@ -190,7 +190,7 @@ reference_ends cs r h =
     if_numeric 16 2 cs _ r (begins_with (codes "#x") cs) h (λ h.
     if_numeric 10 1 cs None r (begins_with (codes "#") cs) h (λ h. absurd (cc))))))))
 
--- a value goes on behind a reference
+-- a value goes on after a reference
 pub behind_reference : (cs : List ℕ) (r : ℕ × ℕ) → reference_of cs ≡ Some r → (r.1 ≤ length cs) × (IsUtf8 cs → IsUtf8 (drop r.1 cs)) × IsUtf8 (encode_utf8 r.0)
 behind_reference cs r h =
     let e = reference_ends cs r h in

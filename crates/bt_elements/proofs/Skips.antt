@@ -1,4 +1,4 @@
--- What may be read over at once in an instruction or a comment.
+-- What may be skipped at once in an instruction or a comment.
 use Rattle.std.proofs.Common.{◌≡◌, ℕ, ◌+◌, ◌<◌, Bool, true, false, not, ◌==◌, ◌||◌, List, [], ◌∷◌, length, drop, Some, None, cond, refl, ap, sym, ◌∙◌, arith, slice_index, if◌then◌else◌}
 use Rattle.std.proofs.lemmas.Bool.Decides.{nat_tests}
 use Rattle.std.proofs.lemmas.Grind.{common_steps}

@@ -70,7 +70,7 @@ begun_agrees stack done place o =
     single_agrees (if is_none done then (if nat_lt (length stack) 258 then Ok x else Err (TooDeep place)) else Err (Unmatched place)) x place (nesting_fault (standing done stack) place)
     (nesting_agrees stack done place x) (no_name_twice (pairs_of o.attributes))
 
--- what a mark did, against the fault that it has there and what stands behind it
+-- what a mark did, against the fault that it has there and what follows it
 abbrev pub Agrees : Result State ElementFault → Standing → ℕ → Mark → Type 0
 Agrees (Ok next) s place m = (mark_fault s place m ≡ None) × (standing next.done next.stack ≡ behind_mark s m)
 Agrees (Err fault) s place m = mark_fault s place m ≡ Some fault
@@ -125,7 +125,7 @@ mark_agrees stack (Some e) place (Instruction body) good = (refl, refl)
 mark_agrees stack None place (Comment body) good = (refl, refl)
 mark_agrees stack (Some e) place (Comment body) good = (refl, refl)
 
--- what is known behind pieces that were run
+-- what is known after the marks of some pieces were taken
 pub record Passed (at : ℕ) (stack : List Open) (done : Option Element) (ps : List Piece) (last : State) : Type 0 where
   pub good : IsState last.done last.stack
   pub standing : standing last.done last.stack ≡ behind_pieces (standing done stack) ps

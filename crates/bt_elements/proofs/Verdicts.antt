@@ -52,11 +52,11 @@ read_pieces bytes ps tail last all is runs =
     ∙ pieces_again (length bytes) (order_mark_len bytes) start ps tail all (ap (λ (z : List ℕ). order_mark_len bytes + length z) (sym is) ∙ mark_fits bytes)
     ∙ ap (λ (r : Result State ElementFault). r >=> λ x. read_rest (length bytes) x tail) runs
 
--- the place behind them
+-- the place after them
 tail_place : (bytes : List ℕ) (ps : List Piece) (tail : List ℕ) → rest_of bytes ≡ pieces_written ps ++ tail → order_mark_len bytes + length (pieces_written ps) + length tail ≡ length bytes
 tail_place bytes ps tail is = omega (arith, mark_fits bytes, ap length is, length-append (pieces_written ps) tail)
 
--- a mark with no tags is read over
+-- a mark with no tags is ignored
 no_tags : (place : ℕ) (m : Mark) (more : List Tag) → [] ≡ tags_of_mark false place m ++ more → (said m ≡ read_as.Aside) × (more ≡ [])
 no_tags place (Start o) more h = absurd (cc)
 no_tags place (Empty o) more h = absurd (cc)
@@ -67,7 +67,7 @@ no_tags place (Comment body) more h = (refl, sym h)
 abbrev ended : Element → State
 ended e = record { stack = []; done = Some e }
 
--- what stands behind the document element is read over
+-- what follows the document element is ignored
 all_run : (at : ℕ) (e : Element) (ps : List Piece) → HaveTags at ps [] → run at (ended e) ps ≡ Ok (ended e)
 all_run at e [] h = refl
 all_run at e (p ∷ ps) h =
@@ -158,7 +158,7 @@ some_next_if inner (Some m) e =
     let found = mark_found inner m e in
     (Marked found.0, (found.1, (m.1, found.3)))
 
--- something stands behind each text
+-- something follows each text
 some_next : (rest : List ℕ) → begins is_text_byte rest ≡ false → (next : Next) × IsNext rest next
 some_next [] h = (Over, refl)
 some_next (c ∷ inner) h = subst (λ (z : ℕ). (next : Next) × IsNext (z ∷ inner) next) (sym (angle c h)) (some_next_if inner (mark_of inner) refl)

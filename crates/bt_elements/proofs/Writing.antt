@@ -34,7 +34,7 @@ some_high (b ∷ bs) h = both_true (not_zero b (h 0 (omega arith))) (some_high b
 at_least : (c b : ℕ) → 128 ≤ c → (b < 128 → c ≡ b) → 128 ≤ b
 at_least c b high h = grind arith
 
--- each byte of a character past ASCII is past ASCII
+-- each byte of a character that is not ASCII is not ASCII
 pub high_bytes : (c k : ℕ) → 128 ≤ c → k < length (encode_utf8 c) → 128 ≤ get_or (encode_utf8 c) k 0
 high_bytes c k high within = at_least c (get_or (encode_utf8 c) k 0) high (inside_one c [] (encode_utf8 c) k (sym (append-nil (encode_utf8 c))) within)
 

@@ -64,7 +64,7 @@ pub record IsPiece (p : Piece) : Type 0 where
   pub mark : IsMark p.mark
 
 -- The tags of a mark at a place, by whether the mark stands inside of models. An empty mark is a start and an end.
--- Instructions and comments are read over.
+-- Instructions and comments are ignored.
 abbrev pub tags_of_mark : Bool → ℕ → Mark → List Tag
 tags_of_mark inside place (Start o) = Begin inside place o.name (pairs_of o.attributes) ∷ []
 tags_of_mark inside place (Empty o) =
@@ -90,7 +90,7 @@ HaveTags at (p ∷ ps) tags =
     × (tags ≡ tags_of_mark (inside_before tags) (at + length p.text) p.mark ++ more)
     × HaveTags (at + length (piece_written p)) ps more
 
--- the length of the byte order mark at the beginning of a file, which is read over
+-- the length of the byte order mark at the beginning of a file, which is ignored
 abbrev pub order_mark_len : List ℕ → ℕ
 order_mark_len bytes = if begins_with (0xEF ∷ 0xBB ∷ 0xBF ∷ []) bytes then 3 else 0
 

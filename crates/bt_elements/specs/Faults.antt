@@ -11,17 +11,17 @@ use Rattle.bt_elements.specs.declared.element.ElementFault.TheVariants.{NotUtf8,
 use Rattle.bt_elements.specs.Marks.{Mark, Start, Empty, End, mark_written, is_single, IsMark}
 use Rattle.bt_elements.specs.Elements.{is_models, Piece, piece_written, pieces_written, is_text_byte, IsPiece, order_mark_len}
 
--- where marks and texts stand: in these elements, which are named the innermost first, or behind the document element
+-- where marks and texts stand: in these elements, which are named the innermost first, or after the document element
 pub data Standing : Type 0 where
   In : (names : List (List ℕ)) → Standing
   Behind : Standing
 
--- behind an element that stands in these
+-- after an element that stands in these
 abbrev pub ended_in : List (List ℕ) → Standing
 ended_in [] = Behind
 ended_in (name ∷ names) = In (name ∷ names)
 
--- the standing behind a mark that has no fault
+-- the standing after a mark that has no fault
 abbrev pub behind_mark : Standing → Mark → Standing
 behind_mark (In names) (Start o) = In (o.name ∷ names)
 behind_mark (In names) (Empty o) = ended_in names
@@ -59,7 +59,7 @@ abbrev pub last_fault : Standing → ℕ → Option ElementFault
 last_fault (In names) place = Some (Unmatched place)
 last_fault Behind place = None
 
--- what stands behind a text: a mark in one of the forms, a `<` that begins none, or the file's end
+-- what follows a text: a mark in one of the forms, a `<` that begins none, or the file's end
 pub data Next : Type 0 where
   Marked : Mark → Next
   Unmarked : Next
@@ -70,13 +70,13 @@ IsNext rest (Marked m) = IsMark m × ((more : List ℕ) × (rest ≡ mark_writte
 IsNext rest Unmarked = ((inner : List ℕ) × (rest ≡ 60 ∷ inner)) × ((m : Mark) (more : List ℕ) → IsMark m → rest ≡ mark_written m ++ more → ⊥)
 IsNext rest Over = rest ≡ []
 
--- the fault of what stands behind a text
+-- the fault of what follows a text
 abbrev pub fault_behind : Standing → ℕ → Next → Option ElementFault
 fault_behind s place (Marked m) = mark_fault s place m
 fault_behind s place Unmarked = Some (BadMark place)
 fault_behind s place Over = last_fault s place
 
--- the fault of a text at this offset, or else of what stands behind it
+-- the fault of a text at this offset, or else of what follows it
 abbrev pub next_fault : Standing → ℕ → List ℕ → Next → Option ElementFault
 next_fault s at text next =
     if may_hold s text then fault_behind s (at + length text) next else Some (StrayText (at + prefix_len is_white text))
@@ -87,7 +87,7 @@ faultless s at [] = true
 faultless s at (p ∷ ps) =
     is_none (next_fault s at p.text (Marked p.mark)) && faultless (behind_mark s p.mark) (at + length (piece_written p)) ps
 
--- Pieces without a fault, a text behind them, and what stands next, of which one has the fault.
+-- Pieces without a fault, a text after them, and what stands next, of which one has the fault.
 pub record FirstFault (bytes : List ℕ) (fault : ElementFault) : Type 0 where
   pub pieces : List Piece
   pub text : List ℕ
@@ -100,7 +100,7 @@ pub record FirstFault (bytes : List ℕ) (fault : ElementFault) : Type 0 where
   pub before : IsTrue (faultless (In []) (order_mark_len bytes) pieces)
   pub is : next_fault (behind_pieces (In []) pieces) (order_mark_len bytes + length (pieces_written pieces)) text next ≡ Some fault
 
--- The fault of the bytes. A file that is not UTF-8 has the length of its longest front that is.
+-- The fault of the bytes. A file that is not UTF-8 has the length of its longest prefix that is.
 abbrev pub ElementFaultOf : List ℕ → ElementFault → Type 0
 ElementFaultOf bytes fault = (IsUtf8 bytes × FirstFault bytes fault) ⊎ ((IsUtf8 bytes → ⊥) × (fault ≡ NotUtf8 (utf8_valid_len bytes)))
 

@@ -32,7 +32,7 @@ pub record Attribute : Type 0 where
 abbrev pub attribute_written : Attribute → List ℕ
 attribute_written a = a.gap ++ (a.name ++ (a.before ++ (61 ∷ (a.after ++ (a.quote ∷ (a.value ++ a.quote ∷ []))))))
 
--- a start mark or an empty mark behind its `<`, up to the white space before its end
+-- a start mark or an empty mark after its `<`, up to the white space before its end
 pub record Opening : Type 0 where
   pub name : List ℕ
   pub attributes : List Attribute

@@ -22,7 +22,7 @@ use Rattle.bt_elements.specs.Marks.{is_name_first, is_name_rest, is_quote, is_va
 use Rattle.bt_elements.specs.Elements.{is_text_byte, is_models, order_mark_len}
 
 -- What a scanner gave, seen by view, is what reading gives, and it finds no mark exactly where reading gives nothing.
--- Want of memory may come anywhere.
+-- Want of memory (out of memory) may come anywhere.
 abbrev pub Scans : {X Y : Type 0} → (X → Y) → Result X (Stop NoMark) → Option Y → Type 0
 Scans view (Ok x) said = said ≡ Some (view x)
 Scans view (Err stop.NoMemory) said = Unit {0}
@@ -52,7 +52,7 @@ name_of bytes =
     let n = prefix_len is_name_rest bytes in
     if begins is_name_first bytes then Some (take n bytes, drop n bytes) else None
 
--- what a value says that stands behind this quote, and what follows it
+-- what a value says that comes after this quote, and what follows it
 abbrev pub value_behind : ℕ → List ℕ → Option (List ℕ × List ℕ)
 value_behind quote bytes =
     let n = prefix_len (is_value_byte quote) bytes in
@@ -111,11 +111,11 @@ behind_first word (c ∷ cs) =
 abbrev pub aside_of : List ℕ → List ℕ → Option (Mark × List ℕ)
 aside_of ending bytes = option_map (λ rest. (Aside, rest)) (behind_first ending bytes)
 
--- the mark behind a `<!`
+-- the mark after a `<!`
 abbrev pub comment_of : List ℕ → Option (Mark × List ℕ)
 comment_of bytes = behind 45 bytes >>= λ one. behind 45 one >>= λ two. aside_of comment_end two
 
--- the mark behind a `<`
+-- the mark after a `<`
 abbrev pub mark_of : List ℕ → Option (Mark × List ℕ)
 mark_of [] = None
 mark_of (c ∷ cs) =
@@ -123,7 +123,7 @@ mark_of (c ∷ cs) =
     else (if c == 63 then aside_of instruction_end cs
     else (if c == 33 then comment_of cs else opening_of (c ∷ cs)))
 
--- the mark behind a `<` at this place
+-- the mark after a `<` at this place
 abbrev pub mark_at : ℕ → List ℕ → Result (Mark × List ℕ) ElementFault
 mark_at place bytes = elim (mark_of bytes) [ Some m ↦ Ok m | None ↦ Err (BadMark place) ]
 

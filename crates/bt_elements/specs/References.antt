@@ -12,14 +12,14 @@ begins_with word text = starts_with nat_eq text word
 abbrev pub is_character : ℕ → Bool
 is_character n = not (n == 0) && (nat_lt n 0xD800 || nat_le 0xE000 n && nat_le n 0x10FFFF)
 
--- digits of this base and a `;`, behind so many bytes: the character, and how many bytes there are in all
+-- digits of this base and a `;`, after so many bytes: the character, and how many bytes there are in all
 abbrev pub numeric : ℕ → ℕ → List ℕ → Option (ℕ × ℕ)
 numeric base before cs =
     let n = prefix_len (λ c. is_digit c base) cs in
     let c = digits_value base (take n cs) in
     if begins_with (codes ";") (drop n cs) && is_character c then Some (c, before + n + 1) else None
 
--- the reference behind an `&`: its character, and how many bytes it has there
+-- the reference after an `&`: its character, and how many bytes it has there
 abbrev pub reference_of : List ℕ → Option (ℕ × ℕ)
 reference_of cs =
     if begins_with (codes "lt;") cs then Some (60, 3)
@@ -34,7 +34,7 @@ reference_of cs =
 abbrev pub is_plain_byte : ℕ → Bool
 is_plain_byte c = not (c == 38)
 
--- what a value says behind so many bytes that are part of a reference
+-- what a value says after so many bytes that are part of a reference
 abbrev pub decoded_from : ℕ → List ℕ → List ℕ
 decoded_from n [] = []
 decoded_from (suc n) (c ∷ cs) = decoded_from n cs

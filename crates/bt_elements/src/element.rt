@@ -21,17 +21,17 @@ pub struct Elements {
 /// Why a tree file spells no element. Each place is an offset from the first byte of the file.
 #[derive(Clone, Copy, Debug, PartialEq, Eq)]
 pub enum ElementFault {
-    /// The file is not UTF-8. The place is the length of its longest front that is.
+    /// The file is not UTF-8. The place is the length of its longest prefix that is.
     NotUtf8 { place: u32 },
     /// A `<` that begins no mark in one of the forms.
     BadMark { place: u32 },
-    /// An end mark of another element than the innermost one that stands unended, or a start behind the document
+    /// An end mark of another element than the innermost one that has not ended, or a start after the document
     /// element, or the end of a file whose document element has not ended.
     Unmatched { place: u32 },
     /// A mark in which an attribute's name occurs twice.
     DoubleAttribute { place: u32 },
     /// The first byte that is no white space of a text that may not stand there.
     StrayText { place: u32 },
-    /// The mark of an element with 258 round it.
+    /// The mark of an element that stands in 258 others.
     TooDeep { place: u32 },
 }

@@ -10,7 +10,7 @@ pub fn one_element()
     ensures { (bytes : List ℕ) (a b : Element) → Spells bytes a → Spells bytes b → a ≡ b }
 {}
 
-/// Each sequence of bytes spells an element or has a fault, has one fault at most, and never has both.
+/// Any bytes spell an element or have a fault; they have one fault at most, and never both.
 pub fn element_or_fault()
     ensures either { (bytes : List ℕ) → ((e : Element) × Spells bytes e) ⊎ ((fault : ElementFault) × ElementFaultOf bytes fault) }
     ensures once { (bytes : List ℕ) (f g : ElementFault) → ElementFaultOf bytes f → ElementFaultOf bytes g → f ≡ g }

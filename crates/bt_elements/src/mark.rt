@@ -16,10 +16,10 @@ pub enum Mark {
     Empty(Front),
     /// `</a>`
     End(Name),
-    /// `<?a?>` or `<!--a-->`, which are read over.
+    /// `<?a?>` or `<!--a-->`, which are ignored.
     Aside,
 }
 
-/// What stands there begins no mark in one of the forms.
+/// What stands there is no mark in one of the forms.
 #[derive(Clone, Copy)]
 pub struct NoMark;

@@ -31,6 +31,7 @@ pub struct Nest {
 }
 
 impl Open {
+    /// The element, which ends here.
     fn ended(self) -> Element
         ensures { result ≡ element_of self }
     {
@@ -49,6 +50,7 @@ impl Open {
         }
     }
 
+    /// The element with one more child, its last. `NoMemory` where an allocation fails.
     fn with(self, child: Element) -> Result<Open, NoMemory>
         ensures { IfOk result (λ o. o ≡ with_child self child) }
     {
@@ -83,14 +85,14 @@ impl Nest {
         }
     }
 
-    /// Whether the text may stand here: it is white space, or stands inside of models.
+    /// Whether the text may stand here: it is white space, or stands inside of `TreeNodesModel`.
     pub fn allows(&self, text: &[u8]) -> bool
         ensures { result ≡ may_stand (seen self.now) text.now }
     {
         all_white(text) || self.done.is_none() && self.inside()
     }
 
-    /// The document element, if it has ended where the file ends.
+    /// The document element, where the file ends at this place. The fault `Unmatched` where it has not ended.
     pub fn finish(self, place: u32) -> Result<Element, Stop<ElementFault>>
         ensures { Gives result (finished (seen self) place) }
     {
@@ -98,6 +100,7 @@ impl Nest {
         ended_by(done, place)
     }
 
+    /// Whether what stands here is inside of `TreeNodesModel`.
     fn inside(&self) -> bool
         ensures { result ≡ inside_of (seen self.now).stack }
     {
@@ -107,7 +110,7 @@ impl Nest {
         }
     }
 
-    /// Takes the mark that stands at this place.
+    /// Takes the mark that stands at this place. Its faults are `DoubleAttribute`, `Unmatched` and `TooDeep`.
     pub fn take(&mut self, alloc: Global, mark: Mark, place: u32) -> Result<(), Stop<ElementFault>>
         ensures { GivesAs (λ _. seen self.new) result (step (seen self.old) place mark) }
     {
@@ -119,6 +122,7 @@ impl Nest {
         }
     }
 
+    /// Takes a start mark.
     fn begin(&mut self, alloc: Global, front: Front, place: u32) -> Result<(), Stop<ElementFault>>
         ensures { GivesAs (λ _. seen self.new) result (step (seen self.old) place (Mark.Start front)) }
     {
@@ -127,6 +131,7 @@ impl Nest {
         Ok(())
     }
 
+    /// Takes an empty mark, a start and an end in one.
     fn add(&mut self, alloc: Global, front: Front, place: u32) -> Result<(), Stop<ElementFault>>
         ensures { GivesAs (λ _. seen self.new) result (step (seen self.old) place (Mark.Empty front)) }
     {
@@ -135,6 +140,7 @@ impl Nest {
         Ok(())
     }
 
+    /// Takes an end mark. The fault `Unmatched` where it does not name the innermost open element.
     fn end(&mut self, name: &Name, place: u32) -> Result<(), Stop<ElementFault>>
         ensures { GivesAs (λ _. seen self.new) result (step (seen self.old) place (Mark.End name.now)) }
     {
@@ -148,7 +154,7 @@ impl Nest {
         Ok(())
     }
 
-    /// The element that begins at this place.
+    /// The element that begins at this place, or the fault of its mark.
     fn begun(&self, alloc: Global, front: Front, place: u32) -> Result<Open, Stop<ElementFault>>
         ensures { Gives result (begun (seen self.now) place front) }
     {
@@ -164,6 +170,7 @@ impl Nest {
         Ok(self.opened(alloc, front, place))
     }
 
+    /// The element that begins at this place, where its mark has no fault.
     fn opened(&self, alloc: Global, front: Front, place: u32) -> Open
         ensures { result ≡ opened (seen self.now).stack place front }
     {
@@ -178,7 +185,7 @@ impl Nest {
         }
     }
 
-    /// Puts an element that has ended into the innermost open one, or has it as the document element.
+    /// Puts an element that has ended into the innermost open one; where none is open it is the document element.
     fn attach(&mut self, element: Element) -> Result<(), NoMemory>
         ensures { IfOk result (λ _. seen self.new ≡ attach element (seen self.old).stack) }
     {
@@ -193,13 +200,14 @@ impl Nest {
     }
 }
 
-/// The document element, where the file ends at this place.
+/// The document element, where the file ends at this place. The fault `Unmatched` where there is none.
 fn ended_by(done: Option<Element>, place: u32) -> Result<Element, Stop<ElementFault>>
     ensures { Gives result (ended_by done place) }
 {
     done.ok_or(Stop::Fault(ElementFault::Unmatched { place }))
 }
 
+/// Whether the name is `TreeNodesModel`.
 fn is_models(name: &Name) -> bool
     ensures { result ≡ is_models name.now }
 {

@@ -14,8 +14,8 @@ use crate::scan::{mark_behind, text_at, white_len};
 use bt_script::Stop;
 use std::alloc::Global;
 
-/// The element that the bytes spell, or their fault. Of several faults it is the first along the file, but one that is
-/// not UTF-8 has that fault; of one mark it is the first of `BadMark`, `DoubleAttribute`, `Unmatched` and `TooDeep`.
+/// The element that the bytes spell, or their fault. A file that is not UTF-8 has that fault. Of other faults
+/// the first along the file counts, and of one mark the first of `BadMark`, `DoubleAttribute`, `Unmatched`, `TooDeep`.
 pub fn read_elements(alloc: Global, bytes: &[u8]) -> Result<Elements, Stop<ElementFault>>
     requires { length bytes.now ≤ 1048576 }
 
@@ -32,7 +32,7 @@ pub fn read_elements(alloc: Global, bytes: &[u8]) -> Result<Elements, Stop<Eleme
     }
 }
 
-/// Whether all bytes are ASCII. It goes through all of them without a test, so that many are taken at once.
+/// Whether all bytes are ASCII. It tests nothing on the way, so that many bytes are taken at once.
 fn all_ascii(bytes: &[u8]) -> bool
     ensures { IsTrue result → IsAscii bytes.now }
 {
@@ -43,7 +43,7 @@ fn all_ascii(bytes: &[u8]) -> bool
     all < 128
 }
 
-/// The length of the longest front that is UTF-8, where not all is.
+/// The length of the longest prefix that is UTF-8, where not all is; else none.
 fn utf8_fault(bytes: &[u8]) -> Option<u32>
     requires { length bytes.now ≤ 1048576 }
     ensures { MatchOption result (IsUtf8 bytes.now) (λ place. ¬ (IsUtf8 bytes.now) × (place ≡ utf8_valid_len bytes.now)) }
@@ -57,7 +57,7 @@ fn utf8_fault(bytes: &[u8]) -> Option<u32>
     }
 }
 
-/// What follows a byte order mark at the front.
+/// What follows a byte order mark at the front, or all where there is none.
 fn behind_order_mark(bytes: &[u8]) -> &[u8]
     requires { IsUtf8 bytes.now }
     ensures value { result.now ≡ drop (order_mark_len bytes.now) bytes.now }
@@ -72,7 +72,7 @@ fn behind_order_mark(bytes: &[u8]) -> &[u8]
     }
 }
 
-/// The mark behind the `<` that stands at this place.
+/// The mark after the `<` that stands at this place, and what follows it. The fault `BadMark` where there is none.
 fn mark_after(alloc: Global, bytes: &[u8], place: u32) -> Result<(Mark, &[u8]), Stop<ElementFault>>
     requires { IsUtf8 bytes.now }
     ensures read { GivesAs (λ x. (x.0, x.1.now)) result (mark_at place bytes.now) }
@@ -86,7 +86,7 @@ fn mark_after(alloc: Global, bytes: &[u8], place: u32) -> Result<(Mark, &[u8]), 
     }
 }
 
-/// The document element.
+/// The document element, or the fault of a file that is UTF-8.
 fn document(alloc: Global, bytes: &[u8]) -> Result<Element, Stop<ElementFault>>
     requires few { length bytes.now ≤ 1048576 }
     requires utf8 { IsUtf8 bytes.now }

@@ -7,12 +7,14 @@ ghost use Rattle.bt_elements.specs.References.{is_plain_byte, is_character, nume
 use bt_script::{Name, NoMemory};
 use std::alloc::Global;
 
+/// Whether the byte is not `&`, so that it begins no reference.
 fn plain_byte(c: u8) -> bool
     ensures { result ≡ is_plain_byte c }
 {
     c != b'&'
 }
 
+/// How many bytes stand before the first `&`.
 #[tactic(auto, using(crate::proofs::Fronts::fronts))]
 fn plain_len(bytes: &[u8]) -> usize
     ensures value { result ≡ prefix_len is_plain_byte bytes.now }
@@ -21,6 +23,7 @@ fn plain_len(bytes: &[u8]) -> usize
     bytes.iter().take_while(|c| plain_byte(**c)).count()
 }
 
+/// Whether the byte is a digit of this base, 10 or 16.
 fn digit(c: u8, base: u32) -> bool
     requires { (2 ≤ base) × (base ≤ 16) }
     ensures { result ≡ is_digit c base }
@@ -28,6 +31,7 @@ fn digit(c: u8, base: u32) -> bool
     char::from(c).is_digit(base)
 }
 
+/// How many digits of this base stand at the front.
 #[tactic(auto, using(crate::proofs::Fronts::fronts))]
 fn digits_len(bytes: &[u8], base: u32) -> usize
     requires { (2 ≤ base) × (base ≤ 16) }
@@ -37,7 +41,7 @@ fn digits_len(bytes: &[u8], base: u32) -> usize
     bytes.iter().take_while(|c| digit(**c, base)).count()
 }
 
-/// The character of a number, which is neither 0 nor a surrogate nor too large.
+/// The character of this number. None where it is 0, a surrogate, or above 0x10FFFF.
 fn numbered(digits: &[u8], base: u32) -> Option<char>
     requires base { (2 ≤ base) × (base ≤ 16) }
     requires digits { IsTrue (list_all (λ c. is_digit c base) digits.now) }
@@ -56,7 +60,7 @@ fn numbered(digits: &[u8], base: u32) -> Option<char>
     char::from_u32(n)
 }
 
-/// A numeric reference, of which so many bytes stand before its digits.
+/// The character of a numeric reference, and how many bytes it has. Its digits come after `before` bytes.
 fn numeric(bytes: &[u8], base: u32, before: usize) -> Option<(char, usize)>
     requires base { (2 ≤ base) × (base ≤ 16) }
     requires few { before ≤ 2 }
@@ -71,7 +75,7 @@ fn numeric(bytes: &[u8], base: u32, before: usize) -> Option<(char, usize)>
     Some((c, before + len + 1))
 }
 
-/// The character of the reference behind an `&`, and how many bytes it has there.
+/// The character of the reference after an `&`, and how many bytes it has there. None where it is no reference.
 fn reference_at(bytes: &[u8]) -> Option<(char, usize)>
     ensures { result ≡ reference_of bytes.now }
 {
@@ -96,6 +100,7 @@ fn reference_at(bytes: &[u8]) -> Option<(char, usize)>
     }
 }
 
+/// Puts the character at the end, as UTF-8. `NoMemory` where the text cannot grow.
 fn push(said: &mut Vec<u8>, c: char) -> Result<(), NoMemory>
     ensures { IfOk result (λ _. said.new.items ≡ said.old.items ++ encode_utf8 c) }
 {
@@ -104,7 +109,7 @@ fn push(said: &mut Vec<u8>, c: char) -> Result<(), NoMemory>
     Ok(())
 }
 
-/// What a value says.
+/// What a value says: each reference in it stands for its character. `NoMemory` where an allocation fails.
 pub fn decode(alloc: Global, value: &[u8]) -> Result<Name, NoMemory>
     requires { IsUtf8 value.now }
     ensures { IfOk result (λ name. name ≡ decoded value.now) }

@@ -14,12 +14,14 @@ use memchr::{memchr2, memchr3};
 use std::alloc::Global;
 use std::collections::BTreeSet;
 
+/// Whether a name may begin with the byte.
 fn name_first(c: u8) -> bool
     ensures { result ≡ is_name_first c }
 {
     is_identifier_start(c) || c >= 128
 }
 
+/// Whether a name may have the byte after its first.
 fn name_rest(c: u8) -> bool
     ensures { result ≡ is_name_rest c }
 {
@@ -29,12 +31,14 @@ fn name_rest(c: u8) -> bool
     }
 }
 
+/// Whether the byte is `"` or `'`.
 fn quote(c: u8) -> bool
     ensures { result ≡ is_quote c }
 {
     c == b'"' || c == b'\''
 }
 
+/// Whether the byte may stand in a value between two such quotes.
 fn value_byte(quote: u8, c: u8) -> bool
     ensures { result ≡ is_value_byte quote c }
 {
@@ -48,7 +52,7 @@ pub fn all_white(bytes: &[u8]) -> bool
     bytes.iter().all(|c| is_white(*c))
 }
 
-/// How much white space stands at the front.
+/// How many bytes of white space stand at the front.
 #[tactic(auto, using(crate::proofs::Fronts::fronts))]
 pub fn white_len(bytes: &[u8]) -> usize
     ensures value { result ≡ prefix_len identifiers.is_white bytes.now }
@@ -57,6 +61,7 @@ pub fn white_len(bytes: &[u8]) -> usize
     bytes.iter().take_while(|c| is_white(**c)).count()
 }
 
+/// How many bytes at the front may stand in a name.
 #[tactic(auto, using(crate::proofs::Fronts::fronts))]
 fn name_len(bytes: &[u8]) -> usize
     ensures value { result ≡ prefix_len is_name_rest bytes.now }
@@ -65,6 +70,7 @@ fn name_len(bytes: &[u8]) -> usize
     bytes.iter().take_while(|c| name_rest(**c)).count()
 }
 
+/// How many bytes at the front may stand in a value between two such quotes.
 #[tactic(auto, using(crate::proofs::Fronts::fronts))]
 fn value_len(quote: u8, bytes: &[u8]) -> usize
     ensures value { result ≡ prefix_len (is_value_byte quote) bytes.now }
@@ -73,12 +79,14 @@ fn value_len(quote: u8, bytes: &[u8]) -> usize
     memchr3(quote, b'<', 0, bytes).unwrap_or(bytes.len())
 }
 
+/// Whether the byte is not `<`.
 fn text_byte(c: u8) -> bool
     ensures { result ≡ is_text_byte c }
 {
     c != b'<'
 }
 
+/// How many bytes stand before the first `<`.
 #[tactic(auto, using(crate::proofs::Fronts::fronts))]
 fn text_length(bytes: &[u8]) -> usize
     ensures value { result ≡ text_len bytes.now }
@@ -108,7 +116,7 @@ fn white_at(bytes: &[u8]) -> &[u8]
     rest
 }
 
-/// What follows this byte.
+/// What follows this byte at the front. `NoMark`, here and below, where the bytes have not the form.
 fn byte_at(bytes: &[u8], c: u8) -> Result<&[u8], Stop<NoMark>>
     requires utf8 { IsUtf8 bytes.now }
     requires ascii { c < 128 }
@@ -125,6 +133,7 @@ fn byte_at(bytes: &[u8], c: u8) -> Result<&[u8], Stop<NoMark>>
     Ok(rest)
 }
 
+/// Whether white space stands at the front.
 fn begins_white(bytes: &[u8]) -> bool
     ensures { result ≡ begins identifiers.is_white bytes.now }
 {
@@ -134,6 +143,7 @@ fn begins_white(bytes: &[u8]) -> bool
     }
 }
 
+/// Whether a name begins at the front.
 fn begins_name(bytes: &[u8]) -> bool
     ensures { result ≡ begins is_name_first bytes.now }
 {
@@ -143,7 +153,7 @@ fn begins_name(bytes: &[u8]) -> bool
     }
 }
 
-/// The name at the front.
+/// The name at the front, and what follows it.
 #[inline(always)]
 fn name_at(alloc: Global, bytes: &[u8]) -> Result<(Name, &[u8]), Stop<NoMark>>
     requires { IsUtf8 bytes.now }
@@ -159,7 +169,7 @@ fn name_at(alloc: Global, bytes: &[u8]) -> Result<(Name, &[u8]), Stop<NoMark>>
     Ok((name, rest))
 }
 
-/// What the value says behind its quote.
+/// What the value says that comes after this quote, and what follows it.
 fn value_behind(alloc: Global, quote: u8, bytes: &[u8]) -> Result<(Name, &[u8]), Stop<NoMark>>
     requires utf8 { IsUtf8 bytes.now }
     requires ascii { quote < 128 }
@@ -173,6 +183,7 @@ fn value_behind(alloc: Global, quote: u8, bytes: &[u8]) -> Result<(Name, &[u8]),
     Ok((value, rest))
 }
 
+/// What the quoted value at the front says, and what follows it.
 fn value_at(alloc: Global, bytes: &[u8]) -> Result<(Name, &[u8]), Stop<NoMark>>
     requires { IsUtf8 bytes.now }
     ensures read { Scans (λ x. (x.0, x.1.now)) result (value_of bytes.now) }
@@ -188,7 +199,7 @@ fn value_at(alloc: Global, bytes: &[u8]) -> Result<(Name, &[u8]), Stop<NoMark>>
     value_behind(alloc, *c, rest)
 }
 
-/// The attribute at the front.
+/// The attribute at the front, and what follows it.
 fn attribute_at(alloc: Global, bytes: &[u8]) -> Result<((Name, Name), &[u8]), Stop<NoMark>>
     requires { IsUtf8 bytes.now }
     ensures read { Scans (λ x. (x.0, x.1.now)) result (attribute_of bytes.now) }
@@ -201,6 +212,7 @@ fn attribute_at(alloc: Global, bytes: &[u8]) -> Result<((Name, Name), &[u8]), St
     Ok(((name, value), rest))
 }
 
+/// Whether white space stands at the front, and then a name.
 fn begins_attribute(bytes: &[u8]) -> bool
     requires { IsUtf8 bytes.now }
     ensures { result ≡ attribute_begins bytes.now }
@@ -208,7 +220,7 @@ fn begins_attribute(bytes: &[u8]) -> bool
     begins_white(bytes) && begins_name(white_at(bytes))
 }
 
-/// The attributes at the front, with the white space before each.
+/// The attributes at the front, each with white space before it, and what follows them.
 fn attributes_at(alloc: Global, bytes: &[u8]) -> Result<(Items<(Name, Name)>, &[u8]), Stop<NoMark>>
     requires { IsUtf8 bytes.now }
     ensures read { Scans (λ x. (x.0, x.1.now)) result (attributes_of (length bytes.now) bytes.now) }
@@ -225,13 +237,14 @@ fn attributes_at(alloc: Global, bytes: &[u8]) -> Result<(Items<(Name, Name)>, &[
     Ok((Items::of(attributes), rest))
 }
 
+/// Whether one of the attributes has this name.
 fn has_name(attributes: &[(Name, Name)], name: &Name) -> bool
     ensures { result ≡ list_any (λ a. bytes_eq a.0 name.now) attributes.now }
 {
     attributes.iter().any(|(other, _)| other == name)
 }
 
-/// Whether no name of a few attributes occurs twice. Each is compared with those behind it.
+/// Whether no name of a few attributes occurs twice. Each is compared with those after it.
 #[tactic(auto, using(crate::proofs::FewNames::few_names))]
 fn few_single_names(attributes: &[(Name, Name)]) -> bool
     ensures { result ≡ no_name_twice attributes.now }
@@ -248,10 +261,10 @@ fn few_single_names(attributes: &[(Name, Name)]) -> bool
     }
 }
 
-/// Up to so many attributes it costs least to compare each name with all behind it.
+/// Up to so many attributes it costs least to compare each name with all that come after it.
 const FEW_NAMES: usize = 8;
 
-/// Whether no attribute's name occurs twice.
+/// Whether no attribute's name occurs twice. `NoMemory` where an allocation fails.
 pub fn single_names(alloc: Global, attributes: &[(Name, Name)]) -> Result<bool, NoMemory>
     ensures { IfOk result (λ single. single ≡ no_name_twice attributes.now) }
 {
@@ -267,7 +280,7 @@ pub fn single_names(alloc: Global, attributes: &[(Name, Name)]) -> Result<bool, 
     Ok(true)
 }
 
-/// A start mark or an empty mark behind its `<`, up to its end.
+/// A start mark or an empty mark after its `<`, up to its end, and what follows.
 fn front_at(alloc: Global, bytes: &[u8]) -> Result<(Front, &[u8]), Stop<NoMark>>
     requires { IsUtf8 bytes.now }
     ensures read { Scans (λ x. (x.0, x.1.now)) result (front_of bytes.now) }
@@ -279,7 +292,7 @@ fn front_at(alloc: Global, bytes: &[u8]) -> Result<(Front, &[u8]), Stop<NoMark>>
     Ok((Front { name, attributes }, white_at(rest)))
 }
 
-/// The end of a start mark or of an empty mark.
+/// The end of a start mark or of an empty mark, with that mark, and what follows it.
 fn closing_at(front: Front, bytes: &[u8]) -> Result<(Mark, &[u8]), Stop<NoMark>>
     requires { IsUtf8 bytes.now }
     ensures read { Scans (λ x. (x.0, x.1.now)) result (closing front bytes.now) }
@@ -299,7 +312,7 @@ fn closing_at(front: Front, bytes: &[u8]) -> Result<(Mark, &[u8]), Stop<NoMark>>
     Ok((Mark::Empty(front), rest))
 }
 
-/// A start mark or an empty mark behind its `<`.
+/// A start mark or an empty mark after its `<`, and what follows it.
 fn opening_at(alloc: Global, bytes: &[u8]) -> Result<(Mark, &[u8]), Stop<NoMark>>
     requires { IsUtf8 bytes.now }
     ensures read { Scans (λ x. (x.0, x.1.now)) result (opening_of bytes.now) }
@@ -310,7 +323,7 @@ fn opening_at(alloc: Global, bytes: &[u8]) -> Result<(Mark, &[u8]), Stop<NoMark>
     closing_at(front, rest)
 }
 
-/// An end mark behind its `</`.
+/// An end mark after its `</`, and what follows it.
 fn end_at(alloc: Global, bytes: &[u8]) -> Result<(Mark, &[u8]), Stop<NoMark>>
     requires { IsUtf8 bytes.now }
     ensures read { Scans (λ x. (x.0, x.1.now)) result (end_of bytes.now) }
@@ -322,14 +335,14 @@ fn end_at(alloc: Global, bytes: &[u8]) -> Result<(Mark, &[u8]), Stop<NoMark>>
     Ok((Mark::End(name), rest))
 }
 
-/// Whether the byte is neither 0 nor the first of an ending.
+/// Whether the byte is neither 0 nor the first of the ending.
 fn passed_byte(first: u8, c: u8) -> bool
     ensures { result ≡ not (c == first || c == 0) }
 {
     !(c == first || c == 0)
 }
 
-/// How many of a few bytes are passed.
+/// How many of a few bytes come before a 0 or the first of the ending.
 #[tactic(auto, using(crate::proofs::Fronts::fronts))]
 fn passed_near(first: u8, bytes: &[u8]) -> usize
     ensures value { result ≡ prefix_len (λ c. not (c == first || c == 0)) bytes.now }
@@ -338,7 +351,7 @@ fn passed_near(first: u8, bytes: &[u8]) -> usize
     bytes.iter().take_while(|c| passed_byte(first, **c)).count()
 }
 
-/// The same for many.
+/// How many of many bytes come before a 0 or the first of the ending.
 #[inline(never)]
 fn passed_far(first: u8, bytes: &[u8]) -> usize
     ensures value { result ≡ prefix_len (λ c. not (c == first || c == 0)) bytes.now }
@@ -350,6 +363,7 @@ fn passed_far(first: u8, bytes: &[u8]) -> usize
 /// Up to so many bytes it costs least to look at each.
 const FEW_BYTES: usize = 8;
 
+/// How many bytes come before a 0 or the first of the ending.
 fn passed_len(first: u8, bytes: &[u8]) -> usize
     ensures value { result ≡ prefix_len (λ c. not (c == first || c == 0)) bytes.now }
     ensures within { result ≤ length bytes.now }
@@ -362,7 +376,7 @@ fn passed_len(first: u8, bytes: &[u8]) -> usize
     len + passed_far(first, more)
 }
 
-/// What is left from the first byte on that is 0 or that the ending may begin with.
+/// The bytes from the first one on that is 0 or with which the ending may begin.
 fn skipped<'a>(bytes: &'a [u8], ending: &[u8]) -> &'a [u8]
     requires { 0 < length ending.now }
     ensures read { behind_first ending.now result.now ≡ behind_first ending.now bytes.now }
@@ -372,7 +386,7 @@ fn skipped<'a>(bytes: &'a [u8], ending: &[u8]) -> &'a [u8]
     rest
 }
 
-/// What follows the first of these endings, before which no byte is 0.
+/// What follows the first such ending. `NoMark` where there is none, or a byte 0 comes before it.
 fn ending_at<'a>(bytes: &'a [u8], ending: &[u8]) -> Result<&'a [u8], Stop<NoMark>>
     requires utf8 { IsUtf8 bytes.now }
     requires some { 0 < length ending.now }
@@ -398,7 +412,7 @@ fn ending_at<'a>(bytes: &'a [u8], ending: &[u8]) -> Result<&'a [u8], Stop<NoMark
     }
 }
 
-/// An instruction behind its `<?`.
+/// An instruction after its `<?`, and what follows it.
 fn instruction_at(bytes: &[u8]) -> Result<(Mark, &[u8]), Stop<NoMark>>
     requires { IsUtf8 bytes.now }
     ensures read { Scans (λ x. (x.0, x.1.now)) result (aside_of instruction_end bytes.now) }
@@ -409,7 +423,7 @@ fn instruction_at(bytes: &[u8]) -> Result<(Mark, &[u8]), Stop<NoMark>>
     Ok((Mark::Aside, rest))
 }
 
-/// A comment behind its `<!`.
+/// A comment after its `<!`, and what follows it.
 fn comment_at(bytes: &[u8]) -> Result<(Mark, &[u8]), Stop<NoMark>>
     requires { IsUtf8 bytes.now }
     ensures read { Scans (λ x. (x.0, x.1.now)) result (comment_of bytes.now) }
@@ -422,7 +436,7 @@ fn comment_at(bytes: &[u8]) -> Result<(Mark, &[u8]), Stop<NoMark>>
     Ok((Mark::Aside, rest))
 }
 
-/// The mark behind its `<`.
+/// The mark after its `<`, and what follows it.
 pub fn mark_behind(alloc: Global, bytes: &[u8]) -> Result<(Mark, &[u8]), Stop<NoMark>>
     requires { IsUtf8 bytes.now }
     ensures read { Scans (λ x. (x.0, x.1.now)) result (mark_of bytes.now) }
