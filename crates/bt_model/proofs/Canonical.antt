@@ -54,7 +54,7 @@ by_sign b bs false e p = let k = above b bs p in subst (IsNumeral 10) (sym (no_s
 zero_word : (b : ℕ) (bs : List ℕ) → bytes_eq (b ∷ bs) (codes "0") ≡ true → (b ∷ bs) ≡ 48 ∷ []
 zero_word b bs h = (bytes_eq-Decides (b ∷ bs) (codes "0")).0 h
 
--- a canonical number is a numeral behind its sign
+-- a canonical number is a numeral after its sign
 numeral : (w : List ℕ) → is_canonical w ≡ true → IsNumeral 10 (without_leading_sign w)
 numeral [] h = absurd (cc)
 numeral (b ∷ bs) h =

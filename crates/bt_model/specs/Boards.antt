@@ -44,8 +44,8 @@ abbrev pub cell_by_value : PortValue → ℕ → Scope → Scope
 cell_by_value (Key mapped) uid outer key = outer mapped
 cell_by_value (Lit value) uid outer key = owner uid key
 
--- the cell of a key by its port. A key without a port is the parent's key of the same name where all
--- others are mapped, and else the scope's own
+-- the cell of a key by its port. A key without a port is the key of its name in the parent's scope, where
+-- all others are mapped, and else the scope's own
 abbrev pub cell_by_port : Option Port → ℕ → Bool → Scope → Scope
 cell_by_port (Some port) uid autoremap outer key = cell_by_value port.value uid outer key
 cell_by_port None uid false outer key = owner uid key
@@ -55,8 +55,8 @@ cell_by_port None uid true outer key = if is_private key then owner uid key else
 abbrev pub port_of : List Port → List ℕ → Option Port
 port_of ports name = find (λ (port : Port). bytes_eq port.name name) ports
 
--- the scope that a SubTree node makes, with its uid, its ports and whether it maps all other keys,
--- within the scope in which it stands
+-- the scope that a SubTree node makes within the scope in which it stands, by its uid, its ports and
+-- whether it maps all other keys
 abbrev pub scope_below : ℕ → List Port → Bool → Scope → Scope
 scope_below uid ports autoremap outer key = cell_by_port (port_of ports key) uid autoremap outer key
 

@@ -30,18 +30,18 @@ pub record Done (A M : Type 0) : Type 0 where
   pub notes : List Note
   pub calls : List Call
 
--- an answer or a fault that takes no call and no note
+-- an answer or a fault, with no note and no call
 abbrev pub ends : {A M : Type 0} → Result A NodeFault → M → State → Done A M
 ends answer memory state = record { answer = answer; memory = memory; state = state; notes = []; calls = [] }
 
 abbrev pub done : {A M : Type 0} → A → M → State → Done A M
 done a memory state = ends (Ok a) memory state
 
--- the same, behind these notes and calls
+-- what a part leaves, with these notes and calls before its own
 abbrev pub behind : {A M : Type 0} → List Note → List Call → Done A M → Done A M
 behind notes calls d = record { answer = d.answer; memory = d.memory; state = d.state; notes = notes ++ d.notes; calls = calls ++ d.calls }
 
--- a part goes on with its answer; a fault ends it, and what was done before stands, its memory in its place
+-- after a part another goes on with its answer; a fault ends it, and what was done before stands, its memory in its place
 abbrev pub carried : {A M B N : Type 0} → Result A NodeFault → Done A M → (M → N) → (A → M → State → Done B N) → Done B N
 carried (Ok a) d place go = behind d.notes d.calls (go a d.memory d.state)
 carried (Err f) d place go = record { answer = Err f; memory = place d.memory; state = d.state; notes = d.notes; calls = d.calls }

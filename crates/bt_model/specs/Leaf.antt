@@ -36,11 +36,11 @@ use Rattle.bt_model.specs.declared.world.Set.{Set}
 abbrev pub padded : List Seen → List Seen
 padded inputs = inputs ++ replicate (8 - length inputs) seen.Absent
 
--- the inputs, and behind them the facts
+-- the inputs, and after them the facts
 abbrev pub sights : List Seen → List ℤ → List Seen
 sights inputs facts = padded inputs ++ map (λ n. seen.Int n) facts
 
--- the place of the first of these names that is this one, where the first of them has this place; else another place
+-- the place of a name in a list whose first name has the given place; `other` where it is not there
 abbrev pub place_from : ℕ → List (List ℕ) → List ℕ → ℕ → ℕ
 place_from place [] name other = other
 place_from place (n ∷ ns) name other = if bytes_eq n name then place else place_from (place + 1) ns name other
@@ -198,7 +198,7 @@ abbrev pub judged : Result Bool Cause → Instance → List ℤ → (Bool → An
 judged (Ok b) instance facts go = go b
 judged (Err cause) instance facts go = replied (Broken cause) instance facts
 
--- one more output in front of the others; the first fault counts
+-- one more output, before the others; the first fault counts
 abbrev pub with_output : Result ℤ Cause → Result (List ℤ) Cause → Result (List ℤ) Cause
 with_output (Err cause) rest = Err cause
 with_output (Ok n) (Err cause) = Err cause

@@ -76,7 +76,7 @@ reply_answer uid reply.Success = Ok (record { answer = Success; memo = Nothing }
 reply_answer uid reply.Failure = Ok (record { answer = Failure; memo = Nothing })
 reply_answer uid (reply.Broken cause) = Err (fault_of_node uid cause)
 
--- the note of a call with its answer; a call that broke has none
+-- the note of a call with its answer; a call without an answer has none
 abbrev pub called : Phase → ℕ → Answer → Note
 called phase.Start uid answer = Started uid answer
 called _ uid answer = Ran uid answer
@@ -102,7 +102,7 @@ replied site row phase ms s a = record {
   calls = record { uid = site.uid; phase = phase; left = a.instance } ∷ [];
 }
 
--- one call of the driver of a leaf with this status; a leaf without a row, which no run has, is passed over
+-- one call of the driver of a leaf with this status; a leaf without a row, which no run has, is not called
 abbrev pub leaf_call : Option Row → Site → Status → List Memory → State → Done Given (List Memory)
 leaf_call (Some row) site old ms s =
     replied site row (phase_of old) ms s (leaf_rule site.view.facts row (phase_of old) (instance_at s site.uid) (inputs_of site s row) s.facts s.moment)

@@ -25,7 +25,7 @@ use Rattle.bt_model.specs.Rules.Sequences.{reactive_end, round, round_after, see
 use Rattle.bt_model.specs.Rules.Turns.{limit_of, turn_after, turns_of, turns_on}
 use Rattle.bt_model.specs.Steps.{Rule, keep, over, reset, visit, visit_or_pass}
 
--- a round that is still to come behind the answer of a child
+-- the rest of a round after the answer of a child
 abbrev pub round_on : Answer → (RoundEnd → Rule) → ℕ → Memo → Heard → Rule
 round_on goes ends n memo (Answered place a) =
     round_after goes ends place (seen_of memo) (λ b. round goes ends (n - (place + 1)) (place + 1) b) a
@@ -99,7 +99,7 @@ rest kind n now memo (Passed place) = after kind n memo (Passed place)
 abbrev pub hears_answer : ℕ → (Heard → Rule) → Rule
 hears_answer place go = visit place (λ a. go (Answered place a))
 
--- .. or that it is passed over
+-- .. or that it has completed, and is not visited
 abbrev pub hears_or_passes : ℕ → (Heard → Rule) → Rule
 hears_or_passes place go = visit_or_pass place (go (Passed place)) (λ a. go (Answered place a))
 
@@ -116,7 +116,7 @@ abbrev pub behind_resets : Span → Rule → Rule
 behind_resets span.None rule = rule
 behind_resets span rule = reset span rule
 
--- a move, with the memo behind it and what follows it
+-- a move, with the memo that it leaves and what follows it
 abbrev pub makes : (ℕ → (Heard → Rule) → Rule) → (Memo → Heard → Rule) → Memo → Move → Rule
 makes hear next memo move = behind_resets move.reset (going hear next memo move.then)
 
@@ -166,13 +166,13 @@ FitsChild Repeat n memo place = (memo ≡ Turned (turns_of memo)) × TurnIsLeft 
 FitsChild RunOnce n memo place = memo ≡ Finished None
 FitsChild _ n memo place = Unit {0}
 
--- a child that is heard of is there, and the memo fits; only a Parallel passes children over
+-- a child that is heard of is there, and the memo fits; only a Parallel hears of children that it does not visit
 abbrev pub Fits : Kind → ℕ → Memo → Heard → Type 0
 Fits kind n memo (Begin picked) = FitsStart kind n memo picked
 Fits kind n memo (Answered place a) = (place < n) × FitsChild kind n memo place
 Fits kind n memo (Passed place) = (kind ≡ Parallel) × (place < n) × FitsChild kind n memo place
 
--- the first place that can come behind what was heard
+-- the first place that can come after what was heard
 abbrev pub next_place : Heard → ℕ
 next_place (Begin picked) = 0
 next_place (Answered place a) = place + 1

@@ -125,7 +125,7 @@ abbrev pub is_case : Option (List ℕ) → List ℕ → Bool
 is_case (Some case) text = bytes_eq case text
 is_case None text = false
 
--- the first case with this text, of those that are left from this place on; the child behind them where none has it
+-- the first case with this text, of those that are left from this place on; where none has it, the child after them
 abbrev pub case_from : Site → State → ℕ → ℕ → List ℕ → ℕ
 case_from site s zero place text = place
 case_from site s (suc left) place text =

@@ -92,7 +92,7 @@ node_attributes node =
     ++ script_attribute (codes "code") node.code
     ++ guard_attributes node.guards
 
--- a mark behind its `<`, up to its end
+-- a mark after its `<`, up to its end
 abbrev pub opening_text : List ℕ → List Attribute → List ℕ
 opening_text name attributes = name ++ flat_map attribute_text attributes
 

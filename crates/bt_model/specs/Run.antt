@@ -95,7 +95,7 @@ root_reset tree view m s = (meaning tree.term).reset view 1 m s
 
 -- ---- Quench
 
--- the calls that let go of all instances that are held, by uid, of instances of which the first has this uid
+-- the calls of `halted` of all instances that are held, by uid, of instances of which the first has this uid
 abbrev pub letting_go : ℕ → List Instance → List Call
 letting_go uid [] = []
 letting_go uid (i ∷ instances) =
@@ -119,7 +119,7 @@ abbrev pub quench_calls : ℕ → List Runner → List RunnerCall
 quench_calls runner [] = []
 quench_calls runner (r ∷ runners) = runner_calls runner (letting_go 0 r.instances) ++ quench_calls (runner + 1) runners
 
--- all nodes become IDLE and their memos are cleared, and every instance is let go; no script runs
+-- all nodes become IDLE and their memos are cleared, and no instance is held; no script runs
 abbrev pub quenched_runner : Tree → Runner → Runner
 quenched_runner tree r = record { memory = idle tree.term; board = r.board; instances = map let_go r.instances }
 

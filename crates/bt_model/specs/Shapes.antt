@@ -40,7 +40,7 @@ is_failure _ = false
 
 -- ---- Patterns of statuses
 
--- the status of the child at a place; none stands behind the last child
+-- the status of the child at a place; none comes after the last child
 abbrev pub status_at : List Status → ℕ → Status
 status_at ss place = slice_index_or ss place Idle
 
@@ -55,7 +55,7 @@ AllIdle ss = IdleFrom 0 ss
 abbrev pub NoneRunsBefore : ℕ → List Status → Type 0
 NoneRunsBefore place ss = (k : ℕ) → k < place → is_running (status_at ss k) ≡ false
 
--- the child at this place is RUNNING, those behind it are IDLE, and none before it is RUNNING
+-- the child at this place is RUNNING, those after it are IDLE, and none before it is RUNNING
 pub record StandsAt (place : ℕ) (ss : List Status) : Type 0 where
   pub runs : status_at ss place ≡ Running
   pub before : NoneRunsBefore place ss

@@ -47,7 +47,7 @@ sizes cs = sum_by (λ (c : Meaning). c.size) cs
 abbrev pub remembered : Status → Memo → List Memory → Memory
 remembered status memo children = roll-Memory (record { status = status; memo = memo; children = children })
 
--- the memory at a place; there is none behind the last child
+-- the memory at a place; there is none after the last child
 abbrev pub memory_at : List Memory → ℕ → Memory
 memory_at ms place = slice_index_or ms place (remembered Idle Nothing [])
 

@@ -1,5 +1,5 @@
--- The rules of states: what holds of a node and all below it wherever a run has come, and what each part of an
--- event leaves so.
+-- The rules of states: what holds of a node and all below it at each point of a run, and that each part of an
+-- event keeps it.
 use Rattle.std.specs.Prelude.{ℕ, ◌+◌, ◌<◌, ◌≤◌, ◌≡◌, List, [], ◌∷◌, length, map, Bool, true, false, is_some, slice_get, Option, Some, None, option_map, Result, Ok, Err}
 use Rattle.bt_model.specs.declared.fault.NodeFault.{NodeFault}
 use Rattle.bt_model.specs.declared.leaf.Instance.{Instance}
@@ -42,8 +42,8 @@ pub record NodeRule (kind : Kind) (ports : List Port) (row : Option Row) (uid : 
 
 -- ---- A node and all below it
 
--- a rule that is asked of the nodes off the path to a fault alone: of those that do not have it among the nodes from
--- their uid on
+-- a rule that is asked only of nodes off the path to a fault, that is, of a node that does not have the faulty one
+-- among itself and the nodes below it: `size` nodes from its uid on
 abbrev pub OffPath : Option ℕ → ℕ → ℕ → Type 0 → Type 0
 OffPath None uid size Rule = Rule
 OffPath (Some fault) uid size Rule = (uid ≤ fault → fault < uid + size → ⊥) → Rule

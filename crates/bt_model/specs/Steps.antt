@@ -18,7 +18,7 @@ pub record Child : Type 0 where
   pub reset : List Memory → State → Done (Unit {0}) (List Memory)
   pub visit : List Memory → State → Done Answer (List Memory)
 
--- no child stands behind the last one
+-- no child comes after the last one
 abbrev pub nobody : Child
 nobody = record { status = λ ms. status.Idle; reset = λ ms s. done tt ms s; visit = λ ms s. done Skipped ms s }
 
@@ -49,7 +49,7 @@ is_completed status.Success = true
 is_completed status.Failure = true
 is_completed _ = false
 
--- a child that has completed is passed over, and any other is visited
+-- a child that has completed is not visited, and any other is
 unfoldable pub visit_or_pass : ℕ → Rule → (Answer → Rule) → Rule
 visit_or_pass place passed go = λ children ms s.
     if is_completed ((child_at children place).status ms) then passed children ms s else visit place go children ms s

@@ -49,7 +49,7 @@ abbrev pub cleared : Memo → Memo
 cleared (Finished (Some a)) = Finished (Some a)
 cleared memo = Nothing
 
--- a leaf's driver is called `halted`, and lets its instance go
+-- a leaf's driver is called `halted`, and its instance is no longer held
 abbrev pub halt_state : Kind → ℕ → State → State
 halt_state Leaf uid s = record s { instances = slice_set s.instances uid (let_go (instance_at s uid)) }
 halt_state _ uid s = s

@@ -68,11 +68,11 @@ content text = before_gap (behind_gap (without_return text))
 abbrev pub front_word : List ℕ → List ℕ
 front_word text = take (position_or_len is_gap text) text
 
--- what stands behind that word and the gap after it
+-- what follows that word and the gap after it
 abbrev pub behind_word : List ℕ → List ℕ
 behind_word text = behind_gap (drop (position_or_len is_gap text) text)
 
--- what stands behind so many words
+-- what follows so many words
 abbrev pub behind : ℕ → List ℕ → List ℕ
 behind zero text = text
 behind (suc n) text = behind n (behind_word text)
@@ -96,7 +96,7 @@ pub record Head : Type 0 where
 abbrev pub head_with : List ℕ → List (List ℕ) → Option Head
 head_with id ports = if is_name id && list_all is_name ports then Some (record { id = id; ports = ports }) else None
 
--- an ID, with what stands behind its `(`: ports between commas, and the `)`
+-- an ID, with what follows its `(`: ports between commas, and the `)`
 abbrev pub head_before : List ℕ → List ℕ → Option Head
 head_before id rest =
     if ends_with nat_eq rest (codes ")") then head_with id (slice_split (λ b. b == 44) (take (length rest - 1) rest)) else None
@@ -181,7 +181,7 @@ abbrev pub out_line : List ℕ → Option Line
 out_line text =
     if is_name (word 0 text) && bytes_eq (word 1 text) (codes "=") then Some (OutLine (word 0 text) (behind 2 text)) else None
 
--- `ID is NAME OP INT`, behind `is`
+-- `ID is NAME OP INT`, after `is`
 abbrev pub is_line : List ℕ → List ℕ → Option Line
 is_line id text =
     if is_name id && is_name (word 0 text) && ends_after 3 text
@@ -225,7 +225,7 @@ event_line kind text =
     else if bytes_eq kind (codes "set") then named_number SetLine text
     else None
 
--- what a line says that begins with this word, by what stands behind it
+-- what a line says that begins with this word, by what follows the word
 abbrev pub line_by : List ℕ → List ℕ → Option Line
 line_by kind text =
     if bytes_eq kind (codes "fact") then named_number FactLine text
@@ -465,7 +465,7 @@ abbrev pub AfterForm : Reading → Option Line → Result Reading WorldKind → 
 AfterForm r None said = said ≡ Err BadLine
 AfterForm r (Some line) said = AfterLine r line said
 
--- blank lines, and lines that begin with `#`, are read over
+-- blank lines, and lines that begin with `#`, are ignored
 abbrev pub is_read_over : List ℕ → Bool
 is_read_over text = length text == 0 || starts_with nat_eq text (codes "#")
 
@@ -479,7 +479,7 @@ AfterText r text said = AfterContent r (content text) said
 
 -- ---- The world of a file
 
--- the lines behind one are read, or it is the first faulty one
+-- the lines after one are read, or it is the first faulty one
 abbrev pub GoesOn : ℕ → (Reading → Type 0) → Result Reading WorldFault → Result Reading WorldKind → Type 0
 GoesOn number rest said (Ok r) = rest r
 GoesOn number rest said (Err kind) = said ≡ Err (record { line = number; kind = kind })
@@ -502,7 +502,7 @@ world_after (Err fault) = Err fault
 abbrev pub no_header : Result World WorldFault
 no_header = Err (record { line = 1; kind = Header })
 
--- the lines behind the header make this world, or have this first fault
+-- the lines after the header make this world, or have this first fault
 pub record LinesMake (texts : List (List ℕ)) (said : Result World WorldFault) : Type 0 where
   pub after : Result Reading WorldFault
   pub lines : AfterLines 2 texts nothing_read after

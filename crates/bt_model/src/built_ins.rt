@@ -29,7 +29,7 @@ pub enum Range {
     Truth,
 }
 
-/// A port of a built-in node. It must be written where it has no default.
+/// A port of a built-in node. One without a default must be written.
 #[derive(Clone, Copy, Debug)]
 pub struct PortRule {
     pub name: &'static str,
@@ -37,7 +37,7 @@ pub struct PortRule {
     pub default: Option<&'static str>,
 }
 
-/// The names of the built-in nodes.
+/// The built-in nodes by their names.
 static NAMED: [(&str, Kind); 26] = [
     ("Sequence", Kind::Sequence),
     ("SequenceWithMemory", Kind::SequenceWithMemory),
@@ -67,6 +67,7 @@ static NAMED: [(&str, Kind); 26] = [
     ("ScriptCondition", Kind::ScriptCondition),
 ];
 
+/// The counts of a Parallel, and their defaults.
 static PARALLEL_PORTS: [PortRule; 2] = [
     PortRule {
         name: "success_count",
@@ -80,7 +81,7 @@ static PARALLEL_PORTS: [PortRule; 2] = [
     },
 ];
 
-/// The variable and the cases of a Switch of six cases.
+/// The variable and the cases of a Switch of six cases. A smaller one has the first of them.
 static SWITCH_PORTS: [PortRule; 7] = [
     PortRule {
         name: "variable",
@@ -119,45 +120,52 @@ static SWITCH_PORTS: [PortRule; 7] = [
     },
 ];
 
+/// The limit of a RetryUntilSuccessful.
 static RETRY_PORTS: [PortRule; 1] = [PortRule {
     name: "num_attempts",
     range: Range::Turns,
     default: None,
 }];
 
+/// The limit of a Repeat.
 static REPEAT_PORTS: [PortRule; 1] = [PortRule {
     name: "num_cycles",
     range: Range::Turns,
     default: None,
 }];
 
+/// The length of a Timeout, in milliseconds.
 static TIMEOUT_PORTS: [PortRule; 1] = [PortRule {
     name: "msec",
     range: Range::Duration,
     default: None,
 }];
 
+/// The length of a Delay, in milliseconds.
 static DELAY_PORTS: [PortRule; 1] = [PortRule {
     name: "delay_msec",
     range: Range::Duration,
     default: None,
 }];
 
+/// Whether a RunOnce that has answered is skipped.
 static RUN_ONCE_PORTS: [PortRule; 1] = [PortRule {
     name: "then_skip",
     range: Range::Truth,
     default: Some("true"),
 }];
 
+/// No ports.
 static NO_PORTS: [PortRule; 0] = [];
 
-/// The built-in node of this name.
+/// The built-in node of this name. None where there is none; a SubTree and a Leaf are not built in.
 pub fn kind_named(name: &[u8]) -> Option<Kind>
     ensures { result ≡ kind_named name.now }
 {
     kind_among(named_kinds(), name)
 }
 
+/// The built-in nodes by their names.
 #[tactic(auto, unfolding(crate::specs::BuiltIns::named_kinds))]
 fn named_kinds() -> &'static [(&'static str, Kind)]
     ensures { map row_seen result.now ≡ named_kinds }
@@ -165,7 +173,7 @@ fn named_kinds() -> &'static [(&'static str, Kind)]
     NAMED.as_slice()
 }
 
-/// The kind of this name among the rows.
+/// The kind of this name among these rows. None where no row has it.
 fn kind_among(rows: &[(&str, Kind)], name: &[u8]) -> Option<Kind>
     ensures { result ≡ kind_among (map row_seen rows.now) name.now }
 {
@@ -177,7 +185,7 @@ fn kind_among(rows: &[(&str, Kind)], name: &[u8]) -> Option<Kind>
     None
 }
 
-/// The ports of a node of this kind, in their order.
+/// The ports of a node of this kind, in their order. Those of a SubTree and of a Leaf are not built in.
 pub fn ports_of(kind: Kind) -> &'static [PortRule]
     ensures { map rule_seen result.now ≡ ports_of kind }
 {
@@ -209,6 +217,7 @@ pub fn ports_of(kind: Kind) -> &'static [PortRule]
     }
 }
 
+/// The ports of a Switch of six cases.
 #[tactic(auto, unfolding(crate::specs::BuiltIns::switch_ports))]
 fn switch_ports() -> &'static [PortRule]
     ensures { map rule_seen result.now ≡ switch_ports }
@@ -216,14 +225,14 @@ fn switch_ports() -> &'static [PortRule]
     SWITCH_PORTS.as_slice()
 }
 
-/// The first ports, as many as there are up to this number.
+/// The first of the ports, at most so many.
 fn first_ports(ports: &'static [PortRule], most: usize) -> &'static [PortRule]
     ensures { map rule_seen result.now ≡ take most (map rule_seen ports.now) }
 {
     &ports[..most.min(ports.len())]
 }
 
-/// The class of a kind.
+/// The class of this kind.
 #[inline(always)]
 pub fn class_of(kind: Kind) -> Class
     ensures { result ≡ class_of kind }
@@ -278,6 +287,7 @@ pub fn has_rule(kind: Kind) -> bool
     }
 }
 
+/// How many children the nodes of a class may have, but for the kinds that ask for a number of their own.
 fn takes_by(class: Class, children: usize) -> bool
     ensures { result ≡ takes_by class children }
 {

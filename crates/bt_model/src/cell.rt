@@ -4,8 +4,8 @@ use bt_script::{Name, NoMemory};
 use std::alloc::Global;
 use std::cmp::Ordering;
 
-/// A cell of a blackboard: a scope's number, and the key that this scope owns. The main tree has
-/// scope 0, and the subtree below a SubTree node the scope of that node's uid. Cells are ordered by
+/// A cell of a blackboard: the number of a scope, and the key that this scope owns. The main tree has
+/// scope 0, and the subtree below a SubTree node has that node's uid. Cells are ordered by
 /// scope, and within a scope by the bytes of the key.
 #[derive(Debug, Drop)]
 pub struct Cell {
@@ -14,7 +14,7 @@ pub struct Cell {
 }
 
 impl Cell {
-    /// An equal cell.
+    /// An equal cell. `NoMemory` (want of memory, that is, out of memory) where an allocation fails.
     pub fn copy(&self, alloc: Global) -> Result<Cell, NoMemory>
         ensures { IfOk result (λ cell. cell ≡ self.now) }
     {

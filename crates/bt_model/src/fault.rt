@@ -15,10 +15,13 @@ pub enum PortId {
 pub enum Cause {
     /// A script reads an entry that is not there.
     NoEntry { slot: u32 },
-    /// A row reads an input that is not there.
+    /// A row reads an input that is not there: the one at this place among the row's ports.
     NoInput { place: u8 },
+    /// A number, or the sum that an effect makes, would not fit 64 bits.
     Overflow,
+    /// A division by 0.
     ZeroDivisor,
+    /// A quotient that is no whole number.
     NotWhole,
     /// A number stands where a text must, or a text where a number must.
     Mixed,

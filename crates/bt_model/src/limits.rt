@@ -1,16 +1,16 @@
 ghost use Rattle.std.specs.Prelude.{◌≡◌, pos};
 ghost use Rattle.bt_model.specs.Limits.{last_moment, most_depth, most_effects, most_events, most_facts, most_file_bytes, most_goals, most_keys, most_leaves, most_name_bytes, most_needs, most_nodes, most_outcomes, most_outputs, most_ports, most_rounds, most_rows, most_runners, most_scopes, most_work};
 
-/// The most bytes of a file.
+/// The greatest size of a file, in bytes.
 pub const MOST_FILE_BYTES: u64 = 1_048_576;
 
 /// The most nodes of a tree.
 pub const MOST_NODES: u32 = 4096;
 
-/// The most depth of a node of a tree, whose root has 1.
+/// The greatest depth of a node in a tree, whose root has depth 1.
 pub const MOST_DEPTH: u32 = 256;
 
-/// The most scopes of a tree, that of its root among them.
+/// The most scopes of a tree, the main one included.
 pub const MOST_SCOPES: u32 = 256;
 
 /// The most entries of a blackboard.
@@ -52,7 +52,7 @@ pub const MOST_OUTPUTS: usize = 8;
 /// The most outcomes of a row that replays.
 pub const MOST_OUTCOMES: usize = 64;
 
-/// The most bytes of a name in a world.
+/// The greatest length of a name in a world, in bytes.
 pub const MOST_NAME_BYTES: usize = 64;
 
 /// The most rounds of a run by the clock.
@@ -61,7 +61,7 @@ pub const MOST_ROUNDS: i64 = 100_000;
 /// The most leaves of a load.
 pub const MOST_LEAVES: i64 = 1000;
 
-/// Each constant is the number that the definitions name.
+/// A law: each constant is the number that has its name in the definitions.
 pub fn limits_are_named()
     ensures file_bytes { MOST_FILE_BYTES ≡ most_file_bytes }
     ensures nodes { MOST_NODES ≡ most_nodes }

@@ -1,7 +1,7 @@
 use crate::status::{Answer, Status};
 use bt_script::Items;
 
-/// What a node keeps between visits beside its status. A cleared memo is `Nothing`.
+/// What a node keeps between visits beside its status. A memo that is cleared is `Nothing`.
 #[derive(Clone, Copy, Debug, PartialEq, Eq)]
 pub enum Memo {
     Nothing,

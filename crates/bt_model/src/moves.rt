@@ -1,6 +1,6 @@
 use crate::status::Answer;
 
-/// What a node hears before it makes its next move. Children are counted from 0.
+/// What a node learns before it makes its next move. Children are counted from 0.
 #[derive(Clone, Copy, Debug, PartialEq, Eq)]
 pub enum Heard {
     /// A visit begins. `picked` is the child that a Switch selects; for a RunOnce with a mark it is
@@ -8,7 +8,7 @@ pub enum Heard {
     Begin { picked: u32 },
     /// The child at this place has answered.
     Answered(u32, Answer),
-    /// The child at this place has completed in an earlier visit of a Parallel, and is passed over.
+    /// The child at this place has completed in an earlier visit of a Parallel, and is not visited again.
     Passed(u32),
 }
 
@@ -27,10 +27,10 @@ pub enum Span {
     One(u32),
 }
 
-/// What comes behind the resets.
+/// What follows the resets.
 #[derive(Clone, Copy, Debug, PartialEq, Eq)]
 pub enum Then {
-    /// The child at this place is visited, or passed over where it is a Parallel's and has completed.
+    /// The child at this place is visited, or passed where it is a Parallel's and has completed.
     Visit(u32),
     /// The node answers.
     Give(Answer),

@@ -46,19 +46,21 @@ const FORMAT: [&str; 8] = [
     "root",
 ];
 
-/// Whether the name is one of these.
+/// Whether the name is one of these names.
 fn is_one_of(name: &[u8], names: &[&str]) -> bool
     ensures { result ≡ list_any (λ n. bytes_eq name.now n.now) names.now }
 {
     names.iter().any(|n| name == n.as_bytes())
 }
 
+/// Whether the name is that of a built-in node.
 fn is_built_in(name: &[u8]) -> bool
     ensures { result ≡ is_among name.now built_in_names }
 {
     is_one_of(name, BUILT_IN.as_slice())
 }
 
+/// Whether the file format keeps the name for itself.
 fn is_of_format(name: &[u8]) -> bool
     ensures { result ≡ is_among name.now format_names }
 {

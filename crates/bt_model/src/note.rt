@@ -16,6 +16,6 @@ pub enum Note {
     Root { runner: u8, answer: Answer },
     /// The runner's visit or halt ended in a fault.
     Faulted { runner: u8, uid: u32, cause: Cause },
-    /// The held leaf was let go after a fault.
+    /// The leaf, which was held, was halted after a fault.
     Quenched { runner: u8, uid: u32 },
 }

@@ -6,12 +6,14 @@ ghost use Rattle.bt_model.specs.Numbers as numbers;
 
 use std::str;
 
+/// Whether all bytes are decimal digits.
 fn all_digits(word: &[u8]) -> bool
     ensures { result ≡ list_all is_ascii_digit word.now }
 {
     word.iter().all(|b| b.is_ascii_digit())
 }
 
+/// The word without one minus at its front.
 fn unsigned(word: &[u8]) -> &[u8]
     ensures { result.now ≡ without_minus word.now }
 {
@@ -21,6 +23,7 @@ fn unsigned(word: &[u8]) -> &[u8]
     }
 }
 
+/// Whether the word is digits of which the first is not 0.
 fn positive(word: &[u8]) -> bool
     ensures { result ≡ is_positive word.now }
 {
@@ -30,14 +33,14 @@ fn positive(word: &[u8]) -> bool
     }
 }
 
-/// Whether the word writes a number canonically.
+/// Whether the word writes a number canonically: `0`, or digits that do not begin with 0, with or without a minus.
 pub fn is_canonical(word: &[u8]) -> bool
     ensures { result ≡ numbers.is_canonical word.now }
 {
     word == b"0".as_slice() || positive(unsigned(word))
 }
 
-/// The number that the word writes canonically, within 64 bits.
+/// The number that the word writes canonically. None where it does not, or where it would not fit 64 bits.
 pub fn int(word: &[u8]) -> Option<i64>
     ensures { result ≡ int_in word.now }
 {

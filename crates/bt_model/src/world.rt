@@ -52,7 +52,7 @@ pub struct Row {
     pub id: Name,
     pub ports: Items<Name>,
     pub sort: RowSort,
-    /// The rows of the conditions that the action needs; for the planner alone.
+    /// The rows of the conditions that the action needs, which the planner alone reads.
     pub needs: Items<u32>,
     pub sets: Items<Set>,
     pub outs: Items<Out>,

@@ -27,7 +27,7 @@ counted Running c = c
 abbrev pub parallel_after : ℕ → Counts → Rule → Rule
 parallel_after n c others = if success_holds c then over Success else if failure_holds n c then over Failure else others
 
--- behind the last child: SKIPPED where all were skipped in this visit, else RUNNING
+-- after the last child: SKIPPED where all were skipped in this visit, else RUNNING
 abbrev pub parallel_end : ℕ → Counts → Rule
 parallel_end n c = if nat_eq c.skipped n then over Skipped else keep Running (Counted (record c { skipped = 0 }))
 

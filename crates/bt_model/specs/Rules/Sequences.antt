@@ -29,7 +29,7 @@ round goes ends (suc left) place seen =
     visit place (λ a. round_after goes ends place seen (λ b. round goes ends left (place + 1) b) a)
 
 -- Sequence and Fallback: RUNNING keeps the index of the child; another answer of a child is the node's
--- answer; and behind the last child the answer is the one that goes on, or SKIPPED where every child was
+-- answer; and after the last child the answer is the one that goes on, or SKIPPED where every child was
 -- skipped since the start
 abbrev pub sequence_end : Answer → RoundEnd → Rule
 sequence_end goes (AtChild place Running) = keep Running (Index place true)
