@@ -37,7 +37,7 @@ place_of e = (out-Element e).place
 
 -- ---- The ports of a model
 
--- a child of a model that is a port; its other children are read over
+-- a child of a model that is a port; its other children are ignored
 abbrev pub is_port : List ℕ → Bool
 is_port name = bytes_eq name (codes "input_port") || bytes_eq name (codes "output_port") || bytes_eq name (codes "inout_port")
 
@@ -74,7 +74,7 @@ with_children p (e ∷ es) = go_on (λ q. with_children q es) (with_child p e)
 
 -- ---- The models
 
--- a child of `TreeNodesModel` that is a model; its other children are read over
+-- a child of `TreeNodesModel` that is a model; its other children are ignored
 abbrev pub is_model : List ℕ → Bool
 is_model name = bytes_eq name (codes "Action") || bytes_eq name (codes "Condition")
 
@@ -89,7 +89,7 @@ with_ports models id p = models ++ (id, record { id = id; ports = p.ports }) ∷
 abbrev pub no_ports : Ports
 no_ports = record { ports = []; names = [] }
 
--- the model of this element, which needs an ID that no earlier one has; a built-in node needs no model, and one is read over
+-- the model of this element, which needs an ID that no earlier one has; a built-in node needs no model, and one is ignored
 abbrev pub with_model_of : Models → Element → Option (List ℕ) → Result Models ManifestFault
 with_model_of models e None = Err (BadModel (place_of e))
 with_model_of models e (Some id) =

@@ -1,5 +1,5 @@
-/// Why the models of a file can't be read. A place is that of the mark with which an element begins,
-/// as the number of bytes before it.
+/// Why the models of a file can't be read. A place is that of the mark with which an element begins, a number of
+/// bytes before it.
 #[derive(Clone, Copy, Debug, PartialEq, Eq)]
 pub enum ManifestFault {
     /// The second `TreeNodesModel`, or the second model of one ID.

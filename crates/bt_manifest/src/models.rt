@@ -35,7 +35,7 @@ impl Model for Manifest {
     ghost view = { λ manifest. manifest.models.entries };
 }
 
-/// The model of the leaves of this ID. It takes no memory.
+/// The model of the leaves of this ID. None where the file has none. It allocates nothing.
 pub fn model<'a>(manifest: &'a Manifest, id: &Name) -> Option<&'a NodeModel>
     ensures { option_copied result ≡ model_of id.now manifest.now }
 {

@@ -20,6 +20,7 @@ fn can_go_on(c: u8) -> bool
     can_begin(c) || c.is_ascii_digit() || c == b'-' || c == b'.' || c == b':'
 }
 
+/// Whether the name of an attribute may go on with each of the bytes.
 fn all_go_on(bytes: &[u8]) -> bool
     ensures { result ≡ list_all is_name_rest bytes.now }
 {

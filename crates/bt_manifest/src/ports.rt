@@ -13,7 +13,7 @@ use indexmap::IndexSet;
 use std::alloc::Global;
 use std::marker::Model;
 
-/// The ports of a model so far, with the names of all.
+/// The ports of a model so far, and the names of all, also of those that can't be written.
 #[derive(Drop)]
 pub struct Ports {
     ports: Vec<ModelPort>,
@@ -29,6 +29,7 @@ impl Model for Ports {
 }
 
 impl Ports {
+    /// No ports.
     fn new(alloc: Global) -> Ports
         ensures { result ≡ no_ports }
     {
@@ -38,7 +39,7 @@ impl Ports {
         }
     }
 
-    /// The ports themselves. It takes no memory.
+    /// The ports themselves. It allocates nothing.
     pub fn into_ports(self) -> Vec<ModelPort>
         ensures { result.items ≡ self.ports }
     {
@@ -46,7 +47,8 @@ impl Ports {
         ports
     }
 
-    /// The ports with one of this name, which no earlier one has.
+    /// The ports with one of this name, which no earlier one has. `NoMemory` (want of memory, that is, out of memory),
+    /// here and below, where an allocation fails.
     fn with(self, alloc: Global, name: &Name, fallback: Option<&Name>) -> Result<Ports, NoMemory>
         requires { is_among name.now self.names ≡ false }
         ensures { IfOk result (λ p. p ≡ with_port self name.now (option_copied fallback.entry)) }
@@ -58,6 +60,7 @@ impl Ports {
     }
 }
 
+/// An equal text, where there is one.
 fn copied(alloc: Global, text: Option<&Name>) -> Result<Option<Name>, NoMemory>
     ensures { IfOk result (λ copy. copy ≡ option_copied text.entry) }
 {
@@ -67,7 +70,7 @@ fn copied(alloc: Global, text: Option<&Name>) -> Result<Option<Name>, NoMemory>
     }
 }
 
-/// The ports with one of this name, where it can be written.
+/// The ports of nodes with one of this name, if it can be written as an attribute.
 fn with_written(
     alloc: Global,
     mut ports: Vec<ModelPort>,
@@ -88,7 +91,8 @@ fn with_written(
 }
 
 impl Ports {
-    /// The ports with that of this child of a model, where it is one.
+    /// The ports with that of this child of a model, where it is one. The fault `BadModel` where it has no name, or an
+    /// earlier one has it.
     fn with_child(self, alloc: Global, child: &Element) -> Result<Ports, Stop<ManifestFault>>
         ensures { Gives result (with_child self child.now) }
     {
@@ -105,7 +109,7 @@ impl Ports {
     }
 }
 
-/// The ports of a model, by its children.
+/// The ports of a model, by its children, or the first fault.
 pub fn ports_of(alloc: Global, children: &[Element]) -> Result<Ports, Stop<ManifestFault>>
     ensures { Gives result (with_children no_ports children.now) }
 {

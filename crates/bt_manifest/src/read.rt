@@ -14,6 +14,7 @@ use indexmap::IndexMap;
 use std::alloc::Global;
 
 impl Manifest {
+    /// No models.
     fn new(alloc: Global) -> Manifest
         ensures { result ≡ [] }
     {
@@ -43,7 +44,8 @@ impl Manifest {
         Ok(Manifest { models })
     }
 
-    /// The models with that of this element, which has this ID.
+    /// The models with that of this element, which has this ID. The fault `DoubleModel` where an earlier one has it, or
+    /// that of its ports. A built-in node needs no model, and one of its name is ignored.
     fn with_id(
         self,
         alloc: Global,
@@ -64,7 +66,7 @@ impl Manifest {
         Ok(self.with(alloc, id, ports)?)
     }
 
-    /// The models with that of this element, where it is one.
+    /// The models with that of this element, where it is one. The fault `BadModel` where it has no ID, and as above.
     fn with_model(self, alloc: Global, element: &Element) -> Result<Manifest, Stop<ManifestFault>>
         ensures { Gives result (with_model self element.now) }
     {
@@ -93,7 +95,7 @@ fn with_new(
     Ok(models)
 }
 
-/// The models of these elements.
+/// The models of these elements, or the first fault.
 fn models_of(alloc: Global, elements: &[Element]) -> Result<Manifest, Stop<ManifestFault>>
     ensures { Gives result (with_models [] elements.now) }
 {
@@ -104,7 +106,7 @@ fn models_of(alloc: Global, elements: &[Element]) -> Result<Manifest, Stop<Manif
     Ok(manifest)
 }
 
-/// The models, where none of these elements holds more.
+/// The models, where none of the later elements holds more of them. Else the fault `DoubleModel`.
 fn alone(manifest: Manifest, elements: &[Element]) -> Result<Manifest, Stop<ManifestFault>>
     ensures { Gives result (no_second manifest elements.now) }
 {
@@ -118,7 +120,7 @@ fn alone(manifest: Manifest, elements: &[Element]) -> Result<Manifest, Stop<Mani
     Ok(manifest)
 }
 
-/// The node models of a tree file.
+/// The node models of a tree file, or the first fault. A file without `TreeNodesModel` has none.
 pub fn manifest_of(alloc: Global, elements: &Elements) -> Result<Manifest, Stop<ManifestFault>>
     ensures { Gives result (manifest_in elements.now.root) }
 {
