@@ -38,6 +38,6 @@ own_name_count node =
     length (script_names (scripts_of node.code node.guards)) + length (flat_map (λ (port : Port). value_keys port.value) node.ports)
     + (if makes_scope node.kind then length node.ports else 0)
 
--- how many the nodes of a term name
+-- how many keys the nodes of a term name
 abbrev pub name_count : Term → ℕ
 name_count = fold-Term ℕ (λ node. own_name_count node + sum node.children)

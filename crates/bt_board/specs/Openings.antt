@@ -7,7 +7,7 @@ use Rattle.bt_model.specs.declared.term.Port.{Port}
 use Rattle.bt_model.specs.declared.term.Term.{Term, out-Term}
 use Rattle.bt_model.specs.Boards.{makes_scope, value_literals}
 
--- those of a node of this uid
+-- the literals of a node of this uid
 abbrev pub node_literals : Term → ℕ → List (Cell × Value)
 node_literals node uid =
     if makes_scope (out-Term node).kind then flat_map (λ (port : Port). value_literals port.value port.name uid) (out-Term node).ports else []

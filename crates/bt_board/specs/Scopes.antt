@@ -22,12 +22,12 @@ cells_below mappings outer key = cell_by_entry (get bytes_eq mappings.cells key)
 abbrev pub cell_of_port : Port → ℕ → model.Scope → List ℕ → Option Cell
 cell_of_port port uid outer key = if bytes_eq port.name key then Some (cell_by_value port.value uid outer key) else None
 
--- the scope that is meant
+-- the scope that the code's scope stands for
 abbrev pub cells_of : Scope → model.Scope
 cells_of Main key = main_scope key
 cells_of (Below' mappings _ outer) key = cells_below mappings.now (cells_of outer) key
 
--- its number
+-- the number of that scope
 abbrev pub number_of : Scope → ℕ
 number_of Main = 0
 number_of (Below' mappings _ outer) = mappings.now.uid

@@ -75,7 +75,7 @@ fn put_literal(
     Ok(())
 }
 
-/// Puts in the literals of a SubTree node.
+/// Puts the literals of a SubTree node's ports into their cells.
 fn put_literals(
     alloc: Global,
     ports: &[Port],
@@ -107,7 +107,7 @@ fn open_node(
     Ok(())
 }
 
-/// Puts in the literals of a term, whose first uid this is, and answers the uid behind it.
+/// Puts in the literals of the nodes of a term, whose first uid this is. Answers the uid after its last.
 #[cycle(terms)]
 fn open_term(
     alloc: Global,
@@ -124,7 +124,8 @@ fn open_term(
     open_terms(alloc, term.children.list(), first, slots, entries)
 }
 
-/// The same for some terms, one after the other.
+/// Puts in the literals of the nodes of some terms, one term after the other, from this uid on. Answers the
+/// uid after the last.
 #[cycle(terms)]
 fn open_terms(
     alloc: Global,
@@ -143,7 +144,7 @@ fn open_terms(
     Ok(next)
 }
 
-/// A board without values.
+/// So many entries without values.
 fn empty_entries(alloc: Global, count: u32) -> Result<Vec<Option<Value>>, NoMemory>
     ensures { IfOk result (λ entries. entries.items ≡ replicate count None) }
 {
@@ -155,7 +156,8 @@ fn empty_entries(alloc: Global, count: u32) -> Result<Vec<Option<Value>>, NoMemo
 }
 
 /// The board of a tree before the first event, over its slots: it holds the literals of the SubTree
-/// nodes and nothing else.
+/// nodes and nothing else. `NoMemory` (want of memory, that is, out of memory) where an allocation fails, as in
+/// every function of this crate that answers it.
 pub fn board_of(alloc: Global, tree: &Tree, slots: &Slots) -> Result<Board, NoMemory>
     requires { slots.now ≡ slot_table tree.now }
     ensures board { IfOk result (λ board. board ≡ opening_board tree.now) }

@@ -10,7 +10,8 @@ use bt_model::{Guards, Kind, Port, PortValue, Term, Tree};
 use bt_script::{Expr, NoMemory, Script, Stmt};
 use std::alloc::Global;
 
-/// What is left of so many names behind those of an expression, if it has no more.
+/// Counts down from `left` by the names in an expression. None where it has more than `left`; so in all
+/// functions here.
 fn left_by_expr(e: &Expr, left: usize) -> Option<usize>
     ensures { IfSome result (λ rest. length (names_of e.now) + rest ≤ left) }
 {
@@ -30,6 +31,7 @@ fn left_by_expr(e: &Expr, left: usize) -> Option<usize>
     }
 }
 
+/// Counts down by the names of a statement.
 fn left_by_stmt(stmt: &Stmt, left: usize) -> Option<usize>
     ensures { IfSome result (λ rest. length (stmt_names stmt.now) + rest ≤ left) }
 {
@@ -41,6 +43,7 @@ fn left_by_stmt(stmt: &Stmt, left: usize) -> Option<usize>
     }
 }
 
+/// Counts down by the names of a script, where there is one.
 fn left_by_script(script: &Option<Script>, left: usize) -> Option<usize>
     ensures { IfSome result (λ rest. length (script_names (given script.now)) + rest ≤ left) }
 {
@@ -53,7 +56,7 @@ fn left_by_script(script: &Option<Script>, left: usize) -> Option<usize>
     Some(rest)
 }
 
-/// The same for the code and the guards of a node.
+/// Counts down by the names of the code and the guards of a node.
 fn left_by_scripts(code: &Option<Script>, guards: &Guards, left: usize) -> Option<usize>
     ensures { IfSome result (λ rest. length (script_names (scripts_of code.now guards.now)) + rest ≤ left) }
 {
@@ -68,7 +71,7 @@ fn left_by_scripts(code: &Option<Script>, guards: &Guards, left: usize) -> Optio
     left_by_script(&guards.on_halted, left)
 }
 
-/// The same for the keys that the ports of a node name.
+/// Counts down by the keys that the ports of a node name.
 fn left_by_values(ports: &[Port], left: usize) -> Option<usize>
     ensures { IfSome result (λ rest. length (flat_map (λ port. value_keys port.value) ports.now) + rest ≤ left) }
 {
@@ -81,7 +84,7 @@ fn left_by_values(ports: &[Port], left: usize) -> Option<usize>
     Some(rest)
 }
 
-/// The same for a node: a SubTree node names its ports as well.
+/// Counts down by what a node names: a SubTree node names its ports as well.
 fn left_by_node(node: &Term, left: usize) -> Option<usize>
     ensures { IfSome result (λ rest. own_name_count (out-Term node.now) + rest ≤ left) }
 {
@@ -93,7 +96,7 @@ fn left_by_node(node: &Term, left: usize) -> Option<usize>
     }
 }
 
-/// The same for the nodes of a term.
+/// Counts down by what the nodes of a term name.
 fn left_by_term(term: &Term, left: usize) -> Option<usize>
     ensures { IfSome result (λ rest. name_count term.now + rest ≤ left) }
 {
@@ -104,7 +107,7 @@ fn left_by_term(term: &Term, left: usize) -> Option<usize>
     Some(rest)
 }
 
-/// Whether a tree has at most so many slots. It takes no memory where the tree names no more keys.
+/// Whether a tree has at most so many slots. Where it names no more keys than that, nothing is allocated.
 pub fn is_within_slots(alloc: Global, tree: &Tree, most: u32) -> Result<bool, NoMemory>
     ensures { IfOk result (λ within. within ≡ nat_le (length (slots tree.now)) most) }
 {

@@ -11,7 +11,7 @@ use bt_model::{Guards, Kind, Naming, Port, PortValue, Term, Tree};
 use bt_script::{Expr, Name, NoMemory, Script, Stmt};
 use std::alloc::Global;
 
-/// Adds a key that is named in a scope.
+/// Adds a key that is named in a scope, with its cell.
 fn name_key(
     alloc: Global,
     key: &Name,
@@ -155,7 +155,7 @@ fn name_node(
     name_values(alloc, node.ports.list(), scope, namings)
 }
 
-/// The uid behind one. There are not so many nodes in memory that there is none.
+/// The uid after one. A tree with 2^32 nodes does not fit into memory, so `NoMemory` stands for there being none.
 pub(crate) fn uid_after(uid: u32) -> Result<u32, NoMemory>
     ensures { IfOk result (λ next. next ≡ uid + 1) }
 {
@@ -165,7 +165,7 @@ pub(crate) fn uid_after(uid: u32) -> Result<u32, NoMemory>
     }
 }
 
-/// Adds what the nodes of a term name, from this uid on, and answers the uid behind them.
+/// Adds what the nodes of a term name, from this uid on. Answers the uid after the last.
 #[cycle(terms)]
 fn name_term(
     alloc: Global,
@@ -190,7 +190,8 @@ fn name_term(
     }
 }
 
-/// The same for some terms, one after the other.
+/// Adds what the nodes of some terms name, one term after the other, from this uid on. Answers the uid after
+/// the last.
 #[cycle(terms)]
 fn name_terms(
     alloc: Global,

@@ -23,7 +23,7 @@ pub(crate) enum Scope<'a> {
 #[derive(Drop)]
 pub(crate) struct Mappings {
     pub(crate) uid: u32,
-    /// The cell of each key that a port names, the mappings above followed to their end.
+    /// The cell of each key that a port names, as the scopes further out resolve it.
     pub(crate) cells: IndexMap<Name, Cell>,
     pub(crate) autoremap: bool,
 }
@@ -53,7 +53,7 @@ pub(crate) fn scope_number(scope: &Scope) -> u32
     }
 }
 
-/// The cell of a key.
+/// The cell of a key in a scope.
 pub(crate) fn cell_in(alloc: Global, scope: &Scope, key: &Name) -> Result<Cell, NoMemory>
     ensures { IfOk result (λ cell. cell ≡ cells_of scope.now key.now) }
 {

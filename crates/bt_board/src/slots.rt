@@ -12,8 +12,8 @@ use std::alloc::Global;
 use std::cmp::Ordering;
 use std::marker::Model;
 
-/// A key that a tree names in a scope, as its scope owned it, with the slot of its cell. Entries
-/// are ordered by the scope and the key alone.
+/// A key that a tree names in a scope, written as the cell that it would have if the scope owned it, with the
+/// slot of its true cell. Entries are ordered by the scope and the key alone.
 #[derive(Drop)]
 struct Entry {
     named: Cell,
@@ -100,14 +100,14 @@ impl Model for Slots {
     } };
 }
 
-/// How a cell lies to the key of a scope.
+/// How a cell compares to the one that the scope would have for the key.
 fn order_of(cell: &Cell, scope: u32, key: &Name) -> Ordering
     ensures { result ≡ cell_order cell.now (owner scope key.now) }
 {
     cell.scope.cmp(&scope).then_with(|| cell.key.cmp(key))
 }
 
-/// The slot of the cell that a scope owns, and the number of cells where it is none of them.
+/// The slot of the cell that the scope has for the key; the number of cells where there is none.
 fn slot_among(cells: &[Cell], scope: u32, key: &Name) -> u32
     requires ascend { IsStrictlySortedBy cell_order cells.now }
     requires few { length cells.now < 2 ^ 32 }
@@ -119,7 +119,7 @@ fn slot_among(cells: &[Cell], scope: u32, key: &Name) -> u32
     }
 }
 
-/// The slot of the cell that a scope owns, and the number of slots where it has none.
+/// The slot of the cell that the scope owns for the key; the number of slots where there is none.
 pub(crate) fn own_slot(slots: &Slots, scope: u32, key: &Name) -> u32
     ensures { result ≡ slot_in slots.now.cells (owner scope key.now) }
 {
@@ -155,8 +155,8 @@ fn entries_of(alloc: Global, namings: Vec<Naming>, cells: &[Cell]) -> Result<Vec
     Ok(entries)
 }
 
-/// Resolves each key that a tree names, in its scope, to the slot of its cell. There is no memory
-/// for 2^32 nodes or names, so such a tree is answered by `NoMemory`.
+/// Resolves each key that a tree names, in its scope, to the slot of its cell. A tree with 2^32 nodes or names
+/// does not fit into memory, and is answered by `NoMemory`.
 pub fn slots_of(alloc: Global, tree: &Tree) -> Result<Slots, NoMemory>
     ensures { IfOk result (λ slots. slots ≡ slot_table tree.now) }
 {
@@ -169,8 +169,8 @@ pub fn slots_of(alloc: Global, tree: &Tree) -> Result<Slots, NoMemory>
     Ok(Slots { cells, entries })
 }
 
-/// The slot of a key in the scope of a number: None exactly where the tree does not name it there.
-/// It takes no memory.
+/// The slot of a key in the scope of this number: None exactly where the tree does not name it there.
+/// It allocates nothing.
 pub fn slot(slots: &Slots, scope: u32, key: &Name) -> Option<u32>
     ensures { (tree : Tree) → slots.now ≡ slot_table tree → result ≡ slot_of tree scope key.now }
 {
@@ -183,7 +183,7 @@ pub fn slot(slots: &Slots, scope: u32, key: &Name) -> Option<u32>
     }
 }
 
-/// The number of slots. It takes no memory.
+/// The number of slots. It allocates nothing.
 pub fn slot_count(slots: &Slots) -> u32
     ensures { result ≡ length slots.now.cells }
 {
