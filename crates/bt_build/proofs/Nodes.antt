@@ -11,7 +11,7 @@ use Rattle.bt_build.specs.Reads.{Reader, nodes_by, with_first}
 abbrev Read : Type 0
 Read = Result (List Term × Numbers) BuildFault
 
--- some nodes behind these
+-- a reading with some nodes before its own
 abbrev pub behind : List Term → Read → Read
 behind terms rest = go_on (λ r. Ok (terms ++ r.0, r.1)) rest
 

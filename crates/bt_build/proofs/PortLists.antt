@@ -87,7 +87,7 @@ written_there uid with_code rules ports new (a ∷ more) name h p s =
 abbrev pub Own : List PortRule → PortRule → Type 0
 Own rules rule = (v : PortValue) → value_fits rule.range v ≡ true → is_one_of rules (port_of rule.name v) ≡ true
 
--- a port is there behind a rule, where it is there when it is written
+-- after a rule was followed its port is there, if those that are written are
 pub record Filled (rules : List PortRule) (attributes : Attributes) (ports new : List Port) (name : List ℕ) : Type 0 where
   pub grows : Grows (is_one_of rules) ports new
   pub there : (is_some (value_of name attributes) ≡ true → is_among name (names_of ports) ≡ true) → is_among name (names_of new) ≡ true

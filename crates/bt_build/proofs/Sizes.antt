@@ -46,7 +46,7 @@ pub record Sized (left : ℕ) (n m : Numbers) (t : Term) : Type 0 where
   pub few_scopes : n.scopes ≤ 256 → m.scopes ≤ 256
   pub depth : depth_of t ≤ left
 
--- the same of some nodes
+-- some nodes that were read after these numbers, where so many levels were left for each
 pub record AllSized (left : ℕ) (n m : Numbers) (ts : List Term) : Type 0 where
   pub nodes : m.nodes ≡ n.nodes + sum (map node_count ts)
   pub few : n.nodes ≤ 4096 → m.nodes ≤ 4096

@@ -69,7 +69,7 @@ abbrev pub name_fits : Rules → List ℕ → Bool
 name_fits AnyKey name = is_identifier name
 name_fits _ name = true
 
--- whether the attribute of this name is a port: the code of a node that has one is none
+-- whether the attribute of this name is a port; `code` is none of a node that has a code
 abbrev pub is_port : Bool → List ℕ → Bool
 is_port with_code name = is_port_name name && not (with_code && bytes_eq name (codes "code"))
 

@@ -10,7 +10,7 @@ GivesList (Ok v) said = said ≡ Ok v.items
 GivesList (Err stop.NoMemory) said = Unit {0}
 GivesList (Err (stop.Fault f)) said = said ≡ Err f
 
--- the same of any value, as it is seen
+-- the value that is said, as it is seen, or exactly the fault that is said; want of memory may come anywhere
 abbrev pub GivesSeen : {X Y F : Type 0} → (X → Y) → Result X (Stop F) → Result Y F → Type 0
 GivesSeen seen (Ok x) said = said ≡ Ok (seen x)
 GivesSeen seen (Err stop.NoMemory) said = Unit {0}

@@ -1,4 +1,4 @@
--- The code's rules of ports as the definitions have them.
+-- What the code holds, as the definitions have it.
 use Rattle.std.specs.Prelude.{ℕ, List, map, Option, Result, Ok, Err}
 use Rattle.std.specs.Borrow.{Bor}
 use Rattle.std.specs.Option.{option_copied}
@@ -16,7 +16,7 @@ rules_seen kept.AnyKey = AnyKey
 rules_seen (kept.Modelled ports) = Modelled ports.now
 rules_seen (kept.BuiltIn rules) = BuiltIn (map rule_seen rules.now)
 
--- a text that is lent, as it stands
+-- a text that is lent, as a text
 abbrev pub text_seen : {F : Type 0} → Result (Option (Bor (List ℕ))) F → Result (Option (List ℕ)) F
 text_seen (Ok text) = Ok (option_copied text)
 text_seen (Err stop) = Err stop

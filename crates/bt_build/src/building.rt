@@ -19,7 +19,7 @@ use bt_model::{MOST_DEPTH, MOST_KEYS, MOST_WORK, Term, Tree};
 use bt_script::{Name, NoMemory, Stop};
 use std::alloc::Global;
 
-/// The ID of the only tree.
+/// The ID of the only tree. None where the file has none or several.
 fn only_id<'t>(trees: &'t Trees<'_>) -> Option<&'t Name>
     ensures { option_copied result ≡ only_id (trees_seen trees.now.entries) }
 {
@@ -33,7 +33,7 @@ fn only_id<'t>(trees: &'t Trees<'_>) -> Option<&'t Name>
 }
 
 /// The ID of the main tree: the one that is asked for, else the one that the file names, else that
-/// of its only tree.
+/// of its only tree. None where there is none of these.
 fn main_of<'t>(
     asked: Option<&'t Name>,
     attributes: &'t [(Name, Name)],
@@ -50,7 +50,7 @@ fn main_of<'t>(
     }
 }
 
-/// The levels that are left for a root node.
+/// How many levels a tree may have: the root node and what is below it.
 #[tactic(auto, unfolding(crate::specs::Reads::most_levels))]
 fn most_levels() -> u32
     ensures { result ≡ most_levels }
@@ -58,7 +58,7 @@ fn most_levels() -> u32
     MOST_DEPTH
 }
 
-/// The term of a root node, the tree of which has this ID.
+/// The term of a root node, whose tree has this ID, and the numbers after it.
 fn read_root(
     alloc: Global,
     file: &File<'_>,
@@ -75,7 +75,7 @@ fn read_root(
     read_node(alloc, file, most_levels(), root, opened.as_slice(), numbers)
 }
 
-/// The tree, where its slots and then its work are within their limits.
+/// The tree, if it is within the limits of slots and of work. Else the fault `TooManyKeys` or `TooMuchWork`.
 fn within_limits(alloc: Global, tree: Tree) -> Result<Tree, Stop<BuildFault>>
     ensures { Gives result (within_limits tree) }
 {
@@ -89,7 +89,7 @@ fn within_limits(alloc: Global, tree: Tree) -> Result<Tree, Stop<BuildFault>>
     Err(stop)
 }
 
-/// The tree of this ID and root node.
+/// The tree of this ID and root node, or its first fault.
 fn root_read(
     alloc: Global,
     file: &File<'_>,
@@ -103,7 +103,8 @@ fn root_read(
     within_limits(alloc, Tree { main, term })
 }
 
-/// The tree of this ID.
+/// The tree of this ID, or its first fault: `NoTree` where the file has none of this ID, `ChildCount` where it has
+/// not exactly one root node.
 fn main_read(alloc: Global, file: &File<'_>, id: &Name) -> Result<Tree, Stop<BuildFault>>
     ensures { Gives result (main_read (file_seen file.now) id.now (tree_of id.now (file_seen file.now).trees)) }
 {
@@ -119,7 +120,7 @@ fn main_read(alloc: Global, file: &File<'_>, id: &Name) -> Result<Tree, Stop<Bui
     }
 }
 
-/// The tree of a file with these trees.
+/// The tree of a file with these trees, or its first fault: `NoMain` where no tree is the main one.
 fn trees_read(
     alloc: Global,
     models: &Manifest,
@@ -162,7 +163,8 @@ fn file_read(
 }
 
 /// The tree that the elements of a file read as, with the main tree that is asked for, or the first
-/// fault. The models are those of the file.
+/// fault. The models are those of the file. `NoMemory` (want of memory, that is, out of memory) where an allocation
+/// fails, here and below.
 pub fn build(
     alloc: Global,
     elements: &Elements,

@@ -29,7 +29,7 @@ pub struct Content {
     pub autoremap: bool,
 }
 
-/// The script of the text, if there is one.
+/// The script of the text, if there is one. The fault `BadScript` where it reads as none.
 fn script_of(
     alloc: Global,
     uid: u32,
@@ -47,7 +47,7 @@ fn script_of(
     }
 }
 
-/// The guard in the attribute of this name.
+/// The guard in the attribute of this name, if there is one. The fault `BadScript` where it reads as none.
 fn guard_in(
     alloc: Global,
     uid: u32,
@@ -66,6 +66,7 @@ fn begins_private(name: &Name) -> bool
     name.list().first() == Some(&b'_')
 }
 
+/// Whether the name of some attribute begins with `_`.
 fn any_private(attributes: &[(Name, Name)]) -> bool
     ensures { result ≡ list_any (λ a. is_private a.0) attributes.now }
 {
@@ -88,14 +89,14 @@ fn no_guards() -> Guards
     }
 }
 
-/// Puts a guard in its place. What was there is let go by a call, which is proved once.
+/// Puts a guard in its place. The one that was there is dropped here, so that this is proved once.
 fn put(place: &mut Option<Script>, guard: Option<Script>)
     ensures { place.new ≡ guard }
 {
     drop(replace(place, guard));
 }
 
-/// Puts the guards of a node in their places, each looked for by its name.
+/// Puts the guards of a node in their places, each looked for by its name. The fault is the first one's.
 fn put_guards(
     alloc: Global,
     uid: u32,
@@ -139,7 +140,7 @@ fn put_guards(
     Ok(())
 }
 
-/// The guards of a node. Most nodes have none, and then no name is looked for.
+/// The guards of a node, or the first fault. Most nodes have none, and then no name is looked for.
 #[tactic(auto, using(crate::proofs::NoGuards::no_guards))]
 fn guards_in(
     alloc: Global,
@@ -161,7 +162,7 @@ fn guards_in(
     }
 }
 
-/// The text of the code of a node, where it has one.
+/// The text of the code of a node whose kind has one. The fault `BadLiteral` where it is not written.
 fn code_text(
     uid: u32,
     with_code: bool,
@@ -191,6 +192,7 @@ fn truth_in(text: &[u8]) -> Option<bool>
     }
 }
 
+/// The truth value that the text says, false where there is no text. The fault `BadLiteral` where it says none.
 fn said_or_false(uid: u32, text: Option<&Name>) -> Result<bool, Stop<BuildFault>>
     ensures { Gives result (said_or_false uid (option_copied text.entry)) }
 {
@@ -203,7 +205,7 @@ fn said_or_false(uid: u32, text: Option<&Name>) -> Result<bool, Stop<BuildFault>
     }
 }
 
-/// What a SubTreePlus says by the older name.
+/// What a SubTreePlus says by the older name, `__autoremap`; false of any other node.
 fn older_autoremap(
     uid: u32,
     form: Form,
@@ -217,7 +219,7 @@ fn older_autoremap(
     }
 }
 
-/// Whether all keys of a SubTree node are mapped.
+/// Whether all keys of a SubTree node are mapped. The fault `BadLiteral` where a text says no truth value.
 fn autoremap_in(
     uid: u32,
     kind: Kind,
@@ -234,7 +236,8 @@ fn autoremap_in(
     Ok(now || older)
 }
 
-/// The content of a node with these ports and this code.
+/// The content of a node with these ports and this text of its code. The fault `BadScript` where a script can't be
+/// read.
 fn scripts_in(
     alloc: Global,
     uid: u32,
@@ -255,7 +258,7 @@ fn scripts_in(
     })
 }
 
-/// The content of a node with these ports.
+/// The content of a node with these ports, or the first fault of the rest.
 fn rest_in(
     alloc: Global,
     uid: u32,
@@ -289,7 +292,8 @@ fn form_fits(form: Form, attributes: &[(Name, Name)]) -> bool
     }
 }
 
-/// What the attributes of a node say, which may have these ports.
+/// What the attributes of a node say that may have these ports, or the first fault: `UnknownPort`, `OldSubTree`,
+/// then those of values and of scripts.
 fn ruled_in(
     alloc: Global,
     uid: u32,
@@ -310,7 +314,7 @@ fn ruled_in(
     rest_in(alloc, uid, kind, form, attributes, ports)
 }
 
-/// What the attributes of a node say.
+/// What the attributes of a node say, or the first fault.
 pub fn content_in(
     alloc: Global,
     uid: u32,

@@ -1,7 +1,7 @@
 use bt_script::{Name, ScriptFault};
 
-/// Why a tree file's elements are no tree. A uid is the number of a node in pre-order, and a place
-/// that of the mark with which an element begins.
+/// Why a tree file's elements are no tree. A uid is the number of a node in pre-order. A place is that of the mark
+/// with which an element begins, a number of bytes before it.
 #[derive(Debug, Drop)]
 pub enum BuildFault {
     /// The document element is no `root`, or a child of it is neither `BehaviorTree` nor
@@ -15,7 +15,7 @@ pub enum BuildFault {
     NoMain,
     /// The file has no tree of this ID.
     NoTree { id: Name },
-    /// A node above the number of 4,096.
+    /// The tree has more than 4,096 nodes.
     TooManyNodes,
     /// A node deeper than 256.
     TooDeep { uid: u32 },
@@ -23,7 +23,7 @@ pub enum BuildFault {
     UnknownNode { uid: u32 },
     /// The tree of this ID stands in itself.
     Recursive { id: Name },
-    /// A scope above the number of 256.
+    /// The tree has more than 256 scopes, the main one included.
     TooManyScopes,
     /// The node may not have so many children, or the tree that it opens has not exactly one. The uid
     /// is 0 for the main tree.
@@ -37,7 +37,7 @@ pub enum BuildFault {
     BadLiteral { uid: u32 },
     /// A script of the node can't be read.
     BadScript { uid: u32, fault: ScriptFault },
-    /// More than 4,096 slots.
+    /// The tree has more than 4,096 slots.
     TooManyKeys,
     /// A visit of the tree might make more than 100,000 visits of nodes.
     TooMuchWork,

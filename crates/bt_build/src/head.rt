@@ -17,6 +17,7 @@ pub struct Head {
     pub form: Form,
 }
 
+/// Whether an element of this name may be a leaf of any ID: `Action` or `Condition`.
 fn is_leaf_name(name: &[u8]) -> bool
     ensures { result ≡ is_leaf_name name.now }
 {
@@ -54,7 +55,7 @@ fn plain_head(alloc: Global, kind: Kind, id: &[u8]) -> Result<Option<Head>, NoMe
     }))
 }
 
-/// The node of this ID that an element of this name writes, if it may.
+/// The node of this ID that an element of this name writes. None where it may not.
 fn explicit_head(
     alloc: Global,
     name: &[u8],
@@ -71,7 +72,7 @@ fn explicit_head(
     }
 }
 
-/// The node that an element is by its own name, if it is one.
+/// The node that an element is by its own name. None where it is none.
 fn compact_head(alloc: Global, childless: bool, name: &[u8]) -> Result<Option<Head>, NoMemory>
     requires { IsUtf8 name.now }
     ensures { IfOk result (λ head. head ≡ compact_head childless name.now) }
@@ -83,7 +84,7 @@ fn compact_head(alloc: Global, childless: bool, name: &[u8]) -> Result<Option<He
     }
 }
 
-/// The attribute `ID`, an absent one being the empty text.
+/// The attribute `ID`; the empty text where it is not written.
 pub fn id_or_empty(alloc: Global, attributes: &[(Name, Name)]) -> Result<Name, NoMemory>
     ensures { IfOk result (λ id. id ≡ id_or_empty attributes.now) }
 {
@@ -93,7 +94,7 @@ pub fn id_or_empty(alloc: Global, attributes: &[(Name, Name)]) -> Result<Name, N
     }
 }
 
-/// The node that an element is, if it is one, in a file of this version.
+/// The node that an element is in a file of this version. None where it is none.
 pub fn head_of(alloc: Global, version: Version, element: &Element) -> Result<Option<Head>, NoMemory>
     ensures { IfOk result (λ head. head ≡ head_of version (name_of element.now) (attributes_of element.now) (length (children_of element.now))) }
 {

@@ -14,7 +14,7 @@ use bt_model::{Port, PortRule, Range};
 use bt_script::{Name, Stop};
 use std::alloc::Global;
 
-/// The ports with one of this name and text, if the text may stand there.
+/// The ports with one of this name and text. The fault `BadLiteral` where the text may not stand there.
 fn with_port(
     alloc: Global,
     uid: u32,
@@ -37,7 +37,7 @@ fn with_port(
     }
 }
 
-/// The ports with that of this attribute, where it is one.
+/// The ports with that of this attribute, where it is one. The fault `BadLiteral` where it may not stand there.
 fn with_attribute(
     alloc: Global,
     uid: u32,
@@ -61,7 +61,7 @@ fn with_attribute(
     }
 }
 
-/// The ports that the attributes write.
+/// The ports that the attributes write, in their order, or the first fault.
 fn written(
     alloc: Global,
     uid: u32,
@@ -78,7 +78,8 @@ fn written(
     Ok(ports)
 }
 
-/// The ports with a built-in node's one of this rule, where it is not written.
+/// The ports with the default of this rule of a built-in node, where the port is not written. The fault
+/// `BadLiteral` where it has no default.
 fn with_rule(
     alloc: Global,
     uid: u32,
@@ -98,6 +99,7 @@ fn with_rule(
     }
 }
 
+/// The ports with the defaults of these rules of a built-in node, or the first fault.
 fn with_rules(
     alloc: Global,
     uid: u32,
@@ -113,7 +115,7 @@ fn with_rules(
     Ok(ports)
 }
 
-/// The ports with a leaf's one of this port of its model, where it is not written.
+/// The ports with the fallback of this port of a leaf's model, where the port is not written and there is a fallback.
 fn with_modelled(
     alloc: Global,
     uid: u32,
@@ -133,6 +135,7 @@ fn with_modelled(
     }
 }
 
+/// The ports with the fallbacks of a leaf's model, or the first fault.
 fn with_model(
     alloc: Global,
     uid: u32,
@@ -148,7 +151,8 @@ fn with_model(
     Ok(ports)
 }
 
-/// The ports of a node: those that are written, and then those that have a default.
+/// The ports of a node: those that are written, and then those that have a default. The fault `BadLiteral` where one
+/// may not stand there or is missing.
 pub fn ports_in(
     alloc: Global,
     uid: u32,

@@ -36,7 +36,7 @@ pub fn rules_of<'a>(models: &'a Manifest, head: &Head) -> Rules<'a>
     }
 }
 
-/// The range of the port of this name, if the node may have one.
+/// The range of the port of this name. None where the node may not have it.
 pub fn range_of(rules: Rules<'_>, name: &[u8]) -> Option<Range>
     ensures { result ≡ range_of (rules_seen rules.entry) name.now }
 {
@@ -48,12 +48,14 @@ pub fn range_of(rules: Rules<'_>, name: &[u8]) -> Option<Range>
     }
 }
 
+/// Whether the model has a port of this name.
 fn is_modelled(ports: &[ModelPort], name: &[u8]) -> bool
     ensures { result ≡ is_modelled ports.now name.now }
 {
     ports.iter().any(|port| name == port.name.list())
 }
 
+/// The range of the port of this name among those of a built-in node.
 fn range_among(rules: &[PortRule], name: &[u8]) -> Option<Range>
     ensures { result ≡ range_among (map rule_seen rules.now) name.now }
 {
@@ -65,7 +67,7 @@ fn range_among(rules: &[PortRule], name: &[u8]) -> Option<Range>
     None
 }
 
-/// Whether a port of this name may be a key, where the rules ask for one.
+/// Whether a port may have this name: those of a SubTree node are keys, that is, identifiers.
 pub fn name_fits(rules: Rules<'_>, name: &[u8]) -> bool
     ensures { result ≡ name_fits (rules_seen rules.entry) name.now }
 {
@@ -75,14 +77,14 @@ pub fn name_fits(rules: Rules<'_>, name: &[u8]) -> bool
     }
 }
 
-/// Whether the attribute of this name is a port of a node with or without a code.
+/// Whether the attribute of this name is a port. `code` is none of a node that has a code.
 pub fn is_port(with_code: bool, name: &[u8]) -> bool
     ensures { result ≡ is_port with_code name.now }
 {
     is_port_name(name) && !(with_code && name == b"code".as_slice())
 }
 
-/// Whether the node may have all ports that are written.
+/// Whether the node may have each port that is written.
 pub fn all_known(with_code: bool, rules: Rules<'_>, attributes: &[(Name, Name)]) -> bool
     ensures { result ≡ all_known with_code (rules_seen rules.entry) attributes.now }
 {

@@ -15,15 +15,15 @@ use bt_model::{Kind, MOST_NODES, MOST_SCOPES, Term, takes};
 use bt_script::{Items, Name, NoMemory, Stop};
 use std::alloc::Global;
 
-/// The nodes and the scopes so far, the main scope counted.
+/// How many nodes and scopes there are so far, the main scope included.
 #[derive(Clone, Copy, Debug, PartialEq, Eq)]
 pub struct Numbers {
     pub nodes: u32,
     pub scopes: u32,
 }
 
-/// What a file defines: its trees, and the models of its leaves; and the version that its nodes are
-/// read in.
+/// What a file defines: its trees, the models of its leaves, and the version in which its nodes are
+/// read.
 #[derive(Drop)]
 pub struct File<'a> {
     pub trees: Trees<'a>,
@@ -56,6 +56,7 @@ fn with_opened<'a>(
     Ok(all)
 }
 
+/// Whether the kind is a SubTree.
 fn is_subtree(kind: Kind) -> bool
     ensures { result ≡ is_subtree kind }
 {
@@ -75,7 +76,7 @@ fn name_in(alloc: Global, attributes: &[(Name, Name)], id: &Name) -> Result<Name
     }
 }
 
-/// The node of all that was read.
+/// The node of what was read of it.
 fn term_of(
     alloc: Global,
     head: Head,
@@ -98,7 +99,8 @@ fn term_of(
     })
 }
 
-/// Some nodes, one after another, where so many levels are left.
+/// Some nodes, one after another, where so many levels are left for each, and the numbers after them; or the first
+/// fault.
 #[cycle(walk)]
 fn nodes_by(
     alloc: Global,
@@ -120,7 +122,7 @@ fn nodes_by(
     Ok((Items::of(terms), so_far))
 }
 
-/// A node of this kind and ID, with these elements as its children.
+/// A node of this kind and ID, with these elements as its children, and the numbers after it; or the first fault.
 #[cycle(walk)]
 fn node_of(
     alloc: Global,
@@ -141,7 +143,8 @@ fn node_of(
     Ok((term, numbers))
 }
 
-/// A SubTree node, which has the root of its tree as its one child.
+/// A SubTree node, which has the root of its tree as its one child, and the numbers after it. Its own faults are
+/// `NoTree`, `Recursive`, `TooManyScopes` and `ChildCount`, in this order.
 #[cycle(walk)]
 fn opened_by(
     alloc: Global,
@@ -191,7 +194,7 @@ fn opened_by(
     )
 }
 
-/// A node by its kind.
+/// A node by its kind, and the numbers after it, or the first fault.
 #[cycle(walk)]
 fn node_by(
     alloc: Global,
@@ -223,7 +226,7 @@ fn node_by(
     )
 }
 
-/// A node, where so many levels are left for it and for all below it.
+/// A node, where so many levels are left for it and for all below it, and the numbers after it; or the first fault.
 #[cycle(walk)]
 pub fn read_node(
     alloc: Global,

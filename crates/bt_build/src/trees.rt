@@ -16,19 +16,21 @@ use std::alloc::Global;
 /// The trees of a file by their IDs.
 pub type Trees<'a> = IndexMap<Name, &'a Element>;
 
+/// Whether an element of this name is a tree: `BehaviorTree`.
 fn is_tree(name: &[u8]) -> bool
     ensures { result ≡ is_tree name.now }
 {
     name == b"BehaviorTree".as_slice()
 }
 
+/// Whether an element of this name may stand in the document element.
 fn may_stand(name: &[u8]) -> bool
     ensures { result ≡ may_stand name.now }
 {
     is_tree(name) || name == b"TreeNodesModel".as_slice()
 }
 
-/// The place of the first of these elements that may not stand in a file.
+/// The place of the first of these elements that may not stand in the document element. None where all may.
 fn stray_place(elements: &[Element]) -> Option<u32>
     ensures { result ≡ stray_place elements.now }
 {
@@ -40,7 +42,8 @@ fn stray_place(elements: &[Element]) -> Option<u32>
     None
 }
 
-/// The place of what is no root, if anything is none.
+/// The place of the document element, where it is no `root`, or of the first child that may not stand in it. None
+/// where there is neither.
 pub fn not_root(root: &Element) -> Option<u32>
     ensures { result ≡ not_root root.now }
 {
@@ -51,7 +54,7 @@ pub fn not_root(root: &Element) -> Option<u32>
     }
 }
 
-/// The tree of this ID.
+/// The tree of this ID. None where there is none.
 pub fn tree_of<'a>(trees: &Trees<'a>, id: &Name) -> Option<&'a Element>
     ensures { option_copied result ≡ tree_of id.now (trees_seen trees.now.entries) }
 {
@@ -67,7 +70,7 @@ fn with_new<'a>(mut trees: Trees<'a>, id: Name, tree: &'a Element) -> Result<Tre
     Ok(trees)
 }
 
-/// The trees with that of this element, where it is one.
+/// The trees with that of this element, where it is one. The fault `DoubleTree` where an earlier one has its ID.
 fn with_tree<'a>(
     alloc: Global,
     trees: Trees<'a>,
@@ -85,7 +88,7 @@ fn with_tree<'a>(
     }
 }
 
-/// The trees of these elements.
+/// The trees of these elements, or the first fault.
 pub fn trees_of<'a>(alloc: Global, elements: &'a [Element]) -> Result<Trees<'a>, Stop<BuildFault>>
     ensures { GivesSeen (λ t. trees_seen t.entries) result (with_trees [] elements.now) }
 {

@@ -5,13 +5,14 @@ use bt_model::{PortValue, Range, int, int_fits, text_fits};
 use bt_script::{Name, NoMemory, Txt, Value, is_identifier};
 use std::alloc::Global;
 
+/// Whether the text begins with `{` and ends with `}`.
 fn in_braces(text: &[u8]) -> bool
     ensures { result ≡ in_braces text.now }
 {
     text.first() == Some(&b'{') && text.last() == Some(&b'}')
 }
 
-/// The key that a text in braces names at a port of this name.
+/// The key that a text in braces names at a port of this name: `{=}` names that of the port's own name.
 fn key_said<'a>(port: &'a [u8], text: &'a [u8]) -> &'a [u8]
     requires { in_braces text.now ≡ true }
     ensures { result.now ≡ key_said port.now text.now }
@@ -23,6 +24,7 @@ fn key_said<'a>(port: &'a [u8], text: &'a [u8]) -> &'a [u8]
     }
 }
 
+/// The key as a value. None where it is no identifier.
 fn key_value(alloc: Global, key: &[u8]) -> Result<Option<PortValue>, NoMemory>
     ensures { IfOk result (λ value. value ≡ key_value key.now) }
 {
@@ -32,6 +34,7 @@ fn key_value(alloc: Global, key: &[u8]) -> Result<Option<PortValue>, NoMemory>
     Ok(Some(PortValue::Key(Name::of(Vec::from_slice(alloc, key)?))))
 }
 
+/// What a text that is not in braces says at a port of this range. None where it may not stand there.
 fn literal(alloc: Global, range: Range, text: &[u8]) -> Result<Option<PortValue>, NoMemory>
     requires { IsUtf8 text.now }
     ensures { IfOk result (λ value. value ≡ literal_value range (literal text.now)) }
@@ -46,7 +49,7 @@ fn literal(alloc: Global, range: Range, text: &[u8]) -> Result<Option<PortValue>
     }
 }
 
-/// What the text says at a port of this range and name, if it may stand there.
+/// What the text says at a port of this range and name. None where it may not stand there.
 pub fn value(
     alloc: Global,
     range: Range,

@@ -11,7 +11,7 @@ pub enum Version {
     Four,
 }
 
-/// How the element of a node is written, as far as its attributes go by that.
+/// How the element of a node is written: this decides how its attributes are read.
 #[derive(Clone, Copy, Debug, PartialEq, Eq)]
 pub enum Form {
     /// As in version 4, and any node but a SubTree in version 3.
@@ -22,7 +22,7 @@ pub enum Form {
     SubTreePlus,
 }
 
-/// The version of a file of this format, if it is read.
+/// The version of a file of this format: 3 where none is written. None where the format is neither `3` nor `4`.
 pub fn version_in(format: Option<&Name>) -> Option<Version>
     ensures { result ≡ version_in (option_copied format.entry) }
 {
@@ -38,7 +38,7 @@ pub fn version_in(format: Option<&Name>) -> Option<Version>
     }
 }
 
-/// The form of an element of this name, if it is a SubTree node's.
+/// The form of an element of this name. None where it is no SubTree node's.
 pub fn subtree_form(version: Version, name: &[u8]) -> Option<Form>
     ensures { result ≡ subtree_form version name.now }
 {
@@ -51,7 +51,7 @@ pub fn subtree_form(version: Version, name: &[u8]) -> Option<Form>
     }
 }
 
-/// What the ID is read as: version 3 has another name for SequenceWithMemory.
+/// The ID as it is read: version 3 has another name for SequenceWithMemory.
 pub fn id_read<'a>(version: Version, id: &'a [u8]) -> &'a [u8]
     requires { IsUtf8 id.now }
     ensures is { result.now ≡ id_read version id.now }

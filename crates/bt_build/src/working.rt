@@ -4,7 +4,7 @@ ghost use Rattle.bt_model.specs.Terms.{times_of, turns_given, turns_of, work_of}
 use bt_model::{Kind, Port, PortValue, Term, Tree};
 use bt_script::Value;
 
-/// How often a Retry or a Repeat with this port visits its child at most in one visit.
+/// How often a Retry or a Repeat whose limit this is visits its child at most in one visit.
 fn turns_given(value: &PortValue) -> u64
     ensures { result ≡ turns_given value.now }
 {
@@ -15,6 +15,7 @@ fn turns_given(value: &PortValue) -> u64
     }
 }
 
+/// How often a Retry or a Repeat with these ports does; its limit is the first.
 fn turns_of(ports: &[Port]) -> u64
     ensures { result ≡ turns_of ports.now }
 {
@@ -34,7 +35,7 @@ fn times_of(kind: Kind, ports: &[Port]) -> u64
     }
 }
 
-/// One visit and so many times that below, up to the limit.
+/// One visit, and so many times the visits below, up to `most`.
 fn with_own(times: u64, below: u64, most: u64) -> u64
     requires { most < 2 ^ 33 }
     ensures { result ≡ min most (1 + times * below) }
@@ -42,7 +43,7 @@ fn with_own(times: u64, below: u64, most: u64) -> u64
     most.min(times.saturating_mul(below).saturating_add(1))
 }
 
-/// The work of the term, up to this limit.
+/// The work of the term, up to `most`.
 fn work_up_to(term: &Term, most: u64) -> u64
     requires { most < 2 ^ 33 }
     ensures { result ≡ min most (work_of term.now) }
@@ -62,7 +63,7 @@ pub fn is_within_work(term: &Term, most: u32) -> bool
     work_up_to(term, most + 1) <= most
 }
 
-/// How many visits one visit of the tree's root makes at most. It takes no memory.
+/// How many visits one visit of the tree's root makes at most. It allocates nothing.
 pub fn work(tree: &Tree) -> u32
     requires { work_of tree.now.term < 2 ^ 32 }
     ensures { result ≡ work_of tree.now.term }
