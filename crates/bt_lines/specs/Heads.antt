@@ -2,6 +2,6 @@
 use Rattle.bt_model.specs.WorldFile as file
 use Rattle.bt_lines.specs.declared.head.Head.{Head}
 
--- the head that is meant
+-- a head of the code as the definition has it
 abbrev pub seen_head : Head → file.Head
 seen_head head = record { id = head.id; ports = head.ports.items }

@@ -23,7 +23,8 @@ fn is_textless(e: &Expr) -> bool
     }
 }
 
-/// The expression without text literals that the text reads as, if it is one.
+/// The expression without text literals that the text reads as. None where it is none. `NoMemory` (want of memory,
+/// that is, out of memory), here and below, where an allocation fails.
 pub fn numeric(alloc: Global, text: &[u8]) -> Result<Option<Expr>, NoMemory>
     requires { list_all is_line_byte text.now ≡ true }
     ensures { IfOk result (ReadsNumeric text.now) }

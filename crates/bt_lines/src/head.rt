@@ -15,7 +15,7 @@ pub struct Head {
     pub ports: Vec<Name>,
 }
 
-/// `ID`, or `ID(p,q)`.
+/// The head that the word is, `ID` or `ID(p,q)`. None where it is none.
 pub fn head_in(alloc: Global, word: &[u8]) -> Result<Option<Head>, NoMemory>
     ensures { IfOk result (λ head. option_map seen_head head ≡ file.head_in word.now) }
 {
@@ -27,7 +27,7 @@ pub fn head_in(alloc: Global, word: &[u8]) -> Result<Option<Head>, NoMemory>
     }
 }
 
-/// An ID, with what stands behind its `(`.
+/// The head of an ID and what follows its `(`: ports between commas, and the `)`. None where it is none.
 fn before_ports(alloc: Global, id: &[u8], rest: &[u8]) -> Result<Option<Head>, NoMemory>
     ensures { IfOk result (λ head. option_map seen_head head ≡ head_before id.now rest.now) }
 {
@@ -40,7 +40,7 @@ fn before_ports(alloc: Global, id: &[u8], rest: &[u8]) -> Result<Option<Head>, N
     }
 }
 
-/// An ID with these ports, where all are names.
+/// The head of an ID with these ports. None where one of them all is no name.
 fn with_ports(alloc: Global, id: &[u8], ports: &[&[u8]]) -> Result<Option<Head>, NoMemory>
     ensures { IfOk result (λ head. option_map seen_head head ≡ head_with id.now (map (λ port. port.now) ports.now)) }
 {

@@ -12,19 +12,21 @@ pub fn is(word: &[u8], text: &str) -> bool
     word == text.as_bytes()
 }
 
+/// Whether the byte stands between words: a blank or a tab.
 fn is_blank(byte: u8) -> bool
     ensures { result ≡ is_gap byte }
 {
     byte == b' ' || byte == b'\t'
 }
 
+/// Whether a line may hold the byte: a tab, or a printable one of ASCII.
 fn is_readable(byte: u8) -> bool
     ensures { result ≡ is_line_byte byte }
 {
     byte == b'\t' || byte >= b' ' && byte <= b'~'
 }
 
-/// What stands between the separators.
+/// What stands between the separators. `AllocError` where an allocation fails.
 pub fn parts(alloc: Global, bytes: &[u8], separator: u8) -> Result<Vec<&[u8]>, AllocError>
     ensures { IfOk result (λ v. map (λ part. part.now) v.items ≡ slice_split (λ b. b == separator) bytes.now) }
 {
@@ -48,19 +50,21 @@ pub fn trimmed(text: &[u8]) -> &[u8]
     text.strip_suffix(b"\r".as_slice()).unwrap_or(text)
 }
 
-/// Whether a line may hold these bytes.
+/// Whether a line may hold each of the bytes.
 pub fn is_line(text: &[u8]) -> bool
     ensures { result ≡ list_all is_line_byte text.now }
 {
     text.iter().all(|b| is_readable(*b))
 }
 
+/// How many bytes of the gap stand at the front.
 fn gap_len(text: &[u8]) -> usize
     ensures { result ≡ prefix_len is_gap text.now }
 {
     text.iter().take_while(|b| is_blank(**b)).count()
 }
 
+/// How many bytes the word at the front has.
 fn word_len(text: &[u8]) -> usize
     ensures { result ≡ position_or_len is_gap text.now }
 {
@@ -93,14 +97,14 @@ pub fn content(text: &[u8]) -> &[u8]
     until_gap(after_gap(trimmed(text)))
 }
 
-/// Whether a line with this content is read over.
+/// Whether a line with this content is ignored: it is blank, or begins with `#`.
 pub fn is_read_over(content: &[u8]) -> bool
     ensures { result ≡ file.is_read_over content.now }
 {
     content.is_empty() || content.starts_with(b"#".as_slice())
 }
 
-/// The word at the front, and what stands behind it.
+/// The word at the front, and what follows it and the gap after it.
 pub fn cut(text: &[u8]) -> (&[u8], &[u8])
     ensures front { result.0.now ≡ front_word text.now }
     ensures rest { result.1.now ≡ behind_word text.now }

@@ -6,14 +6,14 @@ use bt_model::MOST_NAME_BYTES;
 use bt_script::{Name, NoMemory, is_identifier};
 use std::alloc::Global;
 
-/// Whether the word may be a name, an ID or a port.
+/// Whether the word may be the name of a fact, an ID or a port.
 pub fn is_name(word: &[u8]) -> bool
     ensures { result ≡ worlds.is_name word.now }
 {
     is_identifier(word) && word.len() <= MOST_NAME_BYTES
 }
 
-/// The name that the word is.
+/// The word as a name.
 pub fn name_of(alloc: Global, word: &[u8]) -> Result<Name, NoMemory>
     requires { IsTrue (worlds.is_name word.now) }
     ensures { IfOk result (λ name. name ≡ word.now) }
@@ -22,7 +22,7 @@ pub fn name_of(alloc: Global, word: &[u8]) -> Result<Name, NoMemory>
     Ok(Name::of(bytes))
 }
 
-/// The names that the words are, where each may be one.
+/// The words as names. None where one of them is no name.
 pub fn names_of(alloc: Global, words: &[&[u8]]) -> Result<Option<Vec<Name>>, NoMemory>
     ensures { IfOk result (λ names. MatchOption names (list_all worlds.is_name (map (λ word. word.now) words.now) ≡ false) (λ v. (list_all worlds.is_name (map (λ word. word.now) words.now) ≡ true) × (v.items ≡ map (λ word. word.now) words.now))) }
 {

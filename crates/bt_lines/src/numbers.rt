@@ -7,7 +7,7 @@ ghost use Rattle.bt_lines.specs.Ranges.{Passes};
 
 use bt_model::LAST_MOMENT;
 
-/// The number that the word writes, within 64 bits.
+/// The number that the word writes. None where it would not fit 64 bits.
 pub fn int(word: &[u8]) -> Option<i64>
     requires { numbers.is_canonical word.now ≡ true }
     ensures { Passes is_int (λ z. z) (signed_digits_value 10 word.now) result }
@@ -15,7 +15,7 @@ pub fn int(word: &[u8]) -> Option<i64>
     bt_model::int(word)
 }
 
-/// The moment or duration that the word writes, in milliseconds.
+/// The moment or duration that the word writes, in milliseconds. None where it is below 0 or above the last moment.
 pub fn ms(word: &[u8]) -> Option<u64>
     requires { numbers.is_canonical word.now ≡ true }
     ensures { Passes is_ms nat_abs (signed_digits_value 10 word.now) result }
@@ -28,7 +28,7 @@ pub fn ms(word: &[u8]) -> Option<u64>
     }
 }
 
-/// The number that the word writes, from 1 to this one.
+/// The number that the word writes. None where it is not in 1 to `most`.
 pub fn one_of(word: &[u8], most: u8) -> Option<u8>
     requires { numbers.is_canonical word.now ≡ true }
     ensures { Passes (in_range (pos 1) (pos most)) nat_abs (signed_digits_value 10 word.now) result }
