@@ -32,7 +32,7 @@ Allowed (Err (stop.Fault kind)) id ports sort r = ⊥
 abbrev pub is_double : Reading → List ℕ → List (List ℕ) → Bool
 is_double r id ports = is_taken r.rows id || repeats [] ports
 
--- the same where the ID and the ports are looked at too
+-- the ID and the ports of a row that may be added, or else the fault: one that stands twice comes first
 abbrev pub HeadChecked : Result (List ℕ × List (List ℕ)) (Stop WorldKind) → List ℕ → List (List ℕ) → RowSort → Reading → Type 0
 HeadChecked (Err (stop.Fault DoubleName)) id ports sort r = is_double r id ports ≡ true
 HeadChecked (Err stop.NoMemory) id ports sort r = Unit {0}

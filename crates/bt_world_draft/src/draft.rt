@@ -38,7 +38,7 @@ impl Draft {
         }
     }
 
-    /// The row. It takes no memory.
+    /// The row. It allocates nothing.
     pub fn into_row(self) -> Row
         ensures { result ≡ row_of self }
     {
@@ -60,7 +60,8 @@ impl Draft {
         }
     }
 
-    /// Adds when the action fails.
+    /// Adds when the action fails. The fault `BadLine` where it is not timed, `DoubleName` where it has such a line,
+    /// `NoName` where a name is neither a port nor a fact.
     pub fn add_fails(&mut self, facts: &Facts, expr: Expr) -> Result<(), Stop<WorldKind>>
         ensures added { Leaves result (row_of self.new) (λ said. said ≡ row_with_fails facts.now expr (row_of self.old)) }
         ensures id { self.new.id ≡ self.old.id }
@@ -93,13 +94,14 @@ impl Draft {
         }
     }
 
+    /// Whether the row needs the condition of this number.
     fn has_need(&self, number: u32) -> bool
         ensures { result ≡ list_any (nat_eq number) (row_of self.now).needs }
     {
         self.needs.iter().any(|need| number == *need)
     }
 
-    /// Adds the need of a condition.
+    /// Adds the need of the condition of this number. The fault `DoubleName` where the row has it, `TooMany` above 16.
     pub fn add_need(&mut self, number: u32) -> Result<(), Stop<WorldKind>>
         ensures added { Leaves result (row_of self.new) (λ said. said ≡ row_with_need number (row_of self.old)) }
         ensures id { self.new.id ≡ self.old.id }
@@ -114,13 +116,14 @@ impl Draft {
         Ok(())
     }
 
+    /// Whether an effect is on the fact of this number.
     fn has_set(&self, fact: u32) -> bool
         ensures { result ≡ list_any (λ set. nat_eq fact set.fact) (row_of self.now).sets }
     {
         self.sets.iter().any(|set| fact == set.fact)
     }
 
-    /// Adds an effect.
+    /// Adds an effect. The fault `DoubleName` where one is on its fact, `TooMany` above 16.
     pub fn add_set(&mut self, set: Set) -> Result<(), Stop<WorldKind>>
         ensures added { Leaves result (row_of self.new) (λ said. said ≡ row_with_effect set (row_of self.old)) }
         ensures id { self.new.id ≡ self.old.id }
@@ -142,7 +145,8 @@ impl Draft {
         self.outs.iter().any(|out| port == out.port.list())
     }
 
-    /// Adds an output.
+    /// Adds an output. The fault `DoubleName` where one writes its port, `NoName` where a name is neither a port nor a
+    /// fact, `TooMany` above 8.
     pub fn add_out(&mut self, facts: &Facts, out: Out) -> Result<(), Stop<WorldKind>>
         ensures added { Leaves result (row_of self.new) (λ said. said ≡ row_with_out facts.now out.port out.expr (row_of self.old)) }
         ensures id { self.new.id ≡ self.old.id }

@@ -53,7 +53,7 @@ impl Facts {
         has_name(&self.map, name)
     }
 
-    /// The number of the fact of this name.
+    /// The number of the fact of this name. None where there is none.
     pub fn number_of(&self, name: &[u8]) -> Option<u32>
         ensures { result ≡ fact_number self.now name.now }
     {
@@ -61,7 +61,8 @@ impl Facts {
         Some(number as u32)
     }
 
-    /// Adds a fact of a new name.
+    /// Adds a fact of a new name. `NoMemory` (want of memory, that is, out of memory), here and below, where an
+    /// allocation fails.
     pub fn add(&mut self, alloc: Global, fact: Fact) -> Result<(), NoMemory>
         requires free { list_any (bytes_eq fact.name) (names_of_facts self.old) ≡ false }
         requires room { length self.old < 1024 }

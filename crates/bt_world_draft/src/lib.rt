@@ -1,8 +1,8 @@
 //! What the lines of a world script have made so far: the facts, the rows, the row to which lines may
 //! still add, and the events.
 //!
-//! What a refusal does not take is let go by `drop`, a call that is proved once: what the end of a scope
-//! lets go is proved part by part, and in each way that an enum in it can be, at each return.
+//! Where a call refuses a value, it is dropped by `drop`, a call that is proved once: a value that the end of a
+//! scope drops is proved part by part, for each case of an enum in it, at each return.
 #![tactic(auto)]
 
 mod draft;

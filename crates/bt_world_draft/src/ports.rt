@@ -26,7 +26,7 @@ impl Model for Ports {
 }
 
 impl Ports {
-    /// These ports, or none where one of them stands twice.
+    /// These ports. None where one of them stands twice.
     pub fn of(alloc: Global, names: Vec<Name>) -> Result<Option<Ports>, NoMemory>
         ensures { IfOk result (λ ports. MatchOption ports (repeats [] names.items ≡ true) (λ p. (repeats [] names.items ≡ false) × (p ≡ names.items))) }
     {
@@ -55,7 +55,7 @@ impl Ports {
         self.names.len()
     }
 
-    /// The names of the ports. It takes no memory.
+    /// The names of the ports. It allocates nothing.
     pub fn into_names(self) -> Items<Name>
         ensures { result ≡ self }
     {

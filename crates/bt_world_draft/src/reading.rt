@@ -97,7 +97,7 @@ impl Reading {
         })
     }
 
-    /// Takes an open action among the rows: no line can add to it any more.
+    /// Takes an open action among the rows. No line can add to it any more.
     pub fn close(&mut self, alloc: Global) -> Result<(), NoMemory>
         ensures { OnOk result (self.new ≡ closed self.old) }
     {
@@ -121,14 +121,14 @@ impl Reading {
         !self.events.is_empty()
     }
 
-    /// The number of the fact of this name.
+    /// The number of the fact of this name. None where there is none.
     pub fn fact_number(&self, name: &[u8]) -> Option<u32>
         ensures { result ≡ file.fact_number self.now.facts name.now }
     {
         self.facts.number_of(name)
     }
 
-    /// The number of the condition of this ID that compares a fact.
+    /// The number of the condition of this ID that compares a fact. None where there is none.
     pub fn comparison_number(&self, id: &[u8]) -> Option<u32>
         ensures { result ≡ file.comparison_number self.now.rows id.now }
     {
@@ -142,7 +142,7 @@ impl Reading {
         is_reserved(id) || self.rows.has(id)
     }
 
-    /// Whether the names of the expression by which a row answers are its ports or facts.
+    /// Whether each name in the expression by which a row answers is one of its ports or a fact.
     fn knows_sort(&self, ports: &Ports, sort: &RowSort) -> bool
         ensures { result ≡ file.knows_sort ports.now self.now.facts sort.now }
     {
@@ -153,7 +153,8 @@ impl Reading {
         }
     }
 
-    /// The ID and the ports of a new row, where its names are known and its ports are not too many.
+    /// The ID and the ports of a new row, by what they are themselves. The fault `NoName` where a name in its expression
+    /// is neither a port nor a fact, `TooMany` above 8 ports.
     fn allowed(
         &self,
         id: Name,
@@ -173,7 +174,8 @@ impl Reading {
         Ok((id, ports))
     }
 
-    /// The ID and the ports of a row that may be added.
+    /// The ID and the ports of a new row. The fault `DoubleName` where the ID is taken or a port stands twice, and as for
+    /// `allowed`.
     fn checked_head(
         &self,
         alloc: Global,
@@ -192,7 +194,7 @@ impl Reading {
         }
     }
 
-    /// The row of this ID and these ports, which may be added.
+    /// The new row of this ID and these ports. Its faults are those of `checked_head`.
     pub fn draft_of(
         &self,
         alloc: Global,
@@ -211,7 +213,7 @@ impl Reading {
         }
     }
 
-    /// Adds a fact.
+    /// Adds a fact. The fault `DoubleName` where one has its name, `TooMany` above 1,024.
     pub fn add_fact(&mut self, alloc: Global, fact: Fact) -> Result<(), Stop<WorldKind>>
         ensures { Leaves result self.new (λ said. said ≡ with_fact fact.name fact.opening self.old) }
     {
@@ -225,7 +227,7 @@ impl Reading {
         Ok(())
     }
 
-    /// Adds a condition, of which nothing more is said.
+    /// Adds a condition, of which nothing more is said. The fault `TooMany` above 1,024 rows.
     pub fn add_condition(&mut self, alloc: Global, row: Row) -> Result<(), Stop<WorldKind>>
         requires open { self.old.open_row ≡ None }
         requires free { list_any (bytes_eq row.id) (ids_of_rows self.old.rows) ≡ false }
@@ -239,7 +241,7 @@ impl Reading {
         Ok(())
     }
 
-    /// Opens an action.
+    /// Opens an action. The fault `TooMany` above 1,024 rows.
     pub fn open_action(&mut self, draft: Draft) -> Result<(), Stop<WorldKind>>
         requires open { self.old.open_row ≡ None }
         requires free { list_any (bytes_eq draft.id) (ids_of_rows self.old.rows) ≡ false }
@@ -260,7 +262,7 @@ impl Reading {
         self.draft.is_some()
     }
 
-    /// Adds to the open action when it fails.
+    /// Adds to the open action when it fails. The fault `BadLine` where none is open, and as for `Draft::add_fails`.
     pub fn add_fails(&mut self, expr: Expr) -> Result<(), Stop<WorldKind>>
         ensures { Leaves result self.new (λ said. said ≡ with_open self.old.open_row self.old (row_with_fails self.old.facts expr)) }
     {
@@ -273,7 +275,8 @@ impl Reading {
         }
     }
 
-    /// Adds to the open action the need of the condition of this number.
+    /// Adds to the open action the need of the condition of this number. The fault `BadLine` where none is open, and as
+    /// for `Draft::add_need`.
     pub fn add_need(&mut self, number: u32) -> Result<(), Stop<WorldKind>>
         ensures { Leaves result self.new (λ said. said ≡ with_open self.old.open_row self.old (row_with_need number)) }
     {
@@ -283,7 +286,7 @@ impl Reading {
         }
     }
 
-    /// Adds an effect to the open action.
+    /// Adds an effect to the open action. The fault `BadLine` where none is open, and as for `Draft::add_set`.
     pub fn add_set(&mut self, set: Set) -> Result<(), Stop<WorldKind>>
         ensures { Leaves result self.new (λ said. said ≡ with_open self.old.open_row self.old (row_with_effect set)) }
     {
@@ -293,7 +296,7 @@ impl Reading {
         }
     }
 
-    /// Adds an output to the open action.
+    /// Adds an output to the open action. The fault `BadLine` where none is open, and as for `Draft::add_out`.
     pub fn add_out(&mut self, out: Out) -> Result<(), Stop<WorldKind>>
         ensures { Leaves result self.new (λ said. said ≡ with_open self.old.open_row self.old (row_with_out self.old.facts out.port out.expr)) }
     {
@@ -306,13 +309,14 @@ impl Reading {
         }
     }
 
+    /// Whether the condition of this number is a goal.
     fn has_goal(&self, number: u32) -> bool
         ensures { result ≡ list_any (nat_eq number) self.now.goals }
     {
         self.goals.iter().any(|goal| number == *goal)
     }
 
-    /// Adds the goal of the condition of this number.
+    /// Adds the condition of this number as a goal. The fault `DoubleName` where it is one, `TooMany` above 64.
     pub fn add_goal(&mut self, number: u32) -> Result<(), Stop<WorldKind>>
         ensures { Leaves result self.new (λ said. said ≡ with_goal number self.old) }
     {
@@ -326,7 +330,7 @@ impl Reading {
         Ok(())
     }
 
-    /// Says how many runners there are.
+    /// Says how many runners there are. The fault `DoubleName` where an earlier line says it.
     pub fn set_runners(&mut self, count: u8) -> Result<(), Stop<WorldKind>>
         ensures { Leaves result self.new (λ said. said ≡ with_runners count self.old) }
     {
@@ -337,7 +341,7 @@ impl Reading {
         Ok(())
     }
 
-    /// Goes to a moment, in milliseconds.
+    /// Goes to a moment, in milliseconds. The fault `MomentBack` where it lies before the last one.
     pub fn move_to(&mut self, ms: u64) -> Result<(), Stop<WorldKind>>
         ensures { Leaves result self.new (λ said. said ≡ with_moment ms self.old) }
     {
@@ -348,7 +352,7 @@ impl Reading {
         Ok(())
     }
 
-    /// Adds an event at the last moment.
+    /// Adds an event at the last moment. The fault `TooMany` above 100,000.
     pub fn add_event(&mut self, what: What) -> Result<(), Stop<WorldKind>>
         ensures { Leaves result self.new (λ said. said ≡ with_event what self.old) }
     {

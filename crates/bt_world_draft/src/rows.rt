@@ -58,7 +58,7 @@ impl Rows {
         has_name(&self.map, id)
     }
 
-    /// The number of the condition of this ID that compares a fact.
+    /// The number of the condition of this ID that compares a fact. None where there is none.
     pub fn comparison_number(&self, id: &[u8]) -> Option<u32>
         ensures { result ≡ file.comparison_number self.now id.now }
     {

@@ -7,7 +7,7 @@ use bt_script::NoMemory;
 use indexmap::IndexMap;
 use std::alloc::Global;
 
-/// The number of the value of this name.
+/// The number of the value of this name. None where none has it.
 pub fn number_of<V>(table: &IndexMap<Vec<u8>, V>, name: &[u8]) -> Option<usize>
     ensures { result ≡ position (bytes_eq name.now) (names_in table.now) }
 {
@@ -21,7 +21,7 @@ pub fn has_name<V>(table: &IndexMap<Vec<u8>, V>, name: &[u8]) -> bool
     table.contains_key(name)
 }
 
-/// Adds a value behind the others, under a name that none of them has.
+/// Adds a value after the others, under a name that none of them has.
 pub fn add<V: Drop>(
     alloc: Global,
     table: &mut IndexMap<Vec<u8>, V>,
