@@ -17,7 +17,7 @@ module _ {X : Type 0} (f : X → List ℕ) (d : X) (xs : List X) (i : ℕ) (r : 
   next_line : (n : ℕ) (said : Result Reading WorldFault) (next : Result Reading WorldKind) → AfterText r (f (get_or xs i d)) next → GoesOn n (λ left. AfterLines (n + 1) (map f (drop (i + 1) xs)) left said) said next → AfterLines n (map f (drop i xs)) r said
   next_line n said next text on = subst (λ (ts : List X). AfterLines n (map f ts) r said) (sym (drop_more xs i d within)) (next, text, on)
 
-  -- what is said of the rest is said of it behind this line
+  -- what is said of the rest is said of it after this line
   pub goes_on : (left : Reading) (said : Result Reading WorldFault) → AfterText r (f (get_or xs i d)) (Ok left) → AfterLines (i + 1 + 2) (map f (drop (i + 1) xs)) left said → AfterLines (i + 2) (map f (drop i xs)) r said
   goes_on left said text rest =
       let number : i + 1 + 2 ≡ i + 2 + 1 = omega arith in

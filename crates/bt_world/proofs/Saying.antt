@@ -30,7 +30,7 @@ says_some text e rule said reads is = record { expr = Some e; reads = reads; is 
 pub of_head : {A : Type 0} (r left : Reading) (line : file.Head → Option Line) (head : file.Head) (word : List ℕ) (result : Result A (Stop WorldKind)) → Some head ≡ file.head_in word → Leaves result left (AfterForm r (line head)) → Leaves result left (AfterForm r (option_and_then line (file.head_in word)))
 of_head r left line head word result is h = subst (λ (o : Option file.Head). Leaves result left (AfterForm r (option_and_then line o))) is h
 
--- the same of a line that a head alone makes
+-- what is said of a head that was read, in a line that the head alone makes
 pub of_mapped : {A : Type 0} (r left : Reading) (line : file.Head → Line) (head : file.Head) (word : List ℕ) (result : Result A (Stop WorldKind)) → Some head ≡ file.head_in word → Leaves result left (AfterForm r (Some (line head))) → Leaves result left (AfterForm r (option_map line (file.head_in word)))
 of_mapped r left line head word result is h = subst (λ (o : Option file.Head). Leaves result left (AfterForm r (option_map line o))) is h
 

@@ -14,7 +14,7 @@ use bt_script::{Cmp, Items, Stop};
 use bt_world_draft::Reading;
 use std::alloc::{AllocError, Global};
 
-/// The comparison that the word names.
+/// The comparison that the word names. None where it names none.
 fn comparison(word: &[u8]) -> Option<Cmp>
     ensures { result ≡ comparison_in word.now }
 {
@@ -35,38 +35,42 @@ fn comparison(word: &[u8]) -> Option<Cmp>
     }
 }
 
+/// Whether the letter names a success: `S`.
 fn is_success(letter: u8) -> bool
     ensures { result ≡ (letter == 83) }
 {
     letter == b'S'
 }
 
+/// Whether the letter names an outcome: `S` or `F`.
 fn is_outcome(letter: u8) -> bool
     ensures { result ≡ (letter == 83 || letter == 70) }
 {
     is_success(letter) || letter == b'F'
 }
 
+/// Whether each letter names an outcome.
 fn all_outcomes(word: &[u8]) -> bool
     ensures { result ≡ list_all (λ b. b == 83 || b == 70) word.now }
 {
     word.iter().all(|letter| is_outcome(*letter))
 }
 
+/// Whether the word is 1 to 64 outcomes.
 fn are_outcomes(word: &[u8]) -> bool
     ensures { result ≡ (nat_lt 0 (length word.now) && nat_le (length word.now) 64 && list_all (λ b. b == 83 || b == 70) word.now) }
 {
     !word.is_empty() && word.len() <= MOST_OUTCOMES && all_outcomes(word)
 }
 
-/// The outcomes that the letters name: true for success.
+/// The outcomes that the letters name: true is a success.
 fn outcomes(alloc: Global, word: &[u8]) -> Result<Vec<bool>, AllocError>
     ensures { IfOk result (λ v. v.items ≡ map (λ b. b == 83) word.now) }
 {
     word.iter().map(|letter| is_success(*letter)).collect(alloc)
 }
 
-/// `condition ROW is NAME OP INT`, or `condition ROW when EXPR`
+/// Reads `condition ROW is NAME OP INT` or `condition ROW when EXPR`, from after `condition`.
 pub fn read_condition(
     alloc: Global,
     reading: &mut Reading,
@@ -86,7 +90,7 @@ pub fn read_condition(
     }
 }
 
-/// `action ROW timed MS`, `action ROW replay MS OUTCOMES` or `action ROW gate EXPR`
+/// Reads `action ROW timed MS`, `action ROW replay MS OUTCOMES` or `action ROW gate EXPR`, from after `action`.
 pub fn read_action(alloc: Global, reading: &mut Reading, text: &[u8]) -> Result<(), Stop<WorldKind>>
     requires { list_all is_line_byte text.now ≡ true }
     ensures { Leaves result reading.new (AfterForm reading.old (action_line text.now)) }
@@ -104,7 +108,7 @@ pub fn read_action(alloc: Global, reading: &mut Reading, text: &[u8]) -> Result<
     }
 }
 
-/// `NAME OP INT` of the condition of this ID
+/// Reads `NAME OP INT`, of the condition of this ID.
 fn read_comparison(
     alloc: Global,
     reading: &mut Reading,
@@ -128,7 +132,7 @@ fn read_comparison(
     }
 }
 
-/// Adds a condition that compares the fact with a number.
+/// Adds the condition of this ID that compares the fact with the number.
 fn compare(
     alloc: Global,
     reading: &mut Reading,
@@ -165,7 +169,7 @@ fn compare(
     )
 }
 
-/// `EXPR` of the condition of this head
+/// Reads `EXPR`, of the condition with this head.
 fn read_when(
     alloc: Global,
     reading: &mut Reading,
@@ -188,7 +192,7 @@ fn read_when(
     }
 }
 
-/// `EXPR` of the gate of this head
+/// Reads `EXPR`, of the gate with this head.
 fn read_gate(
     alloc: Global,
     reading: &mut Reading,
@@ -211,7 +215,7 @@ fn read_gate(
     }
 }
 
-/// `MS` of the action of this head
+/// Reads `MS`, of the action with this head.
 fn read_timed(
     alloc: Global,
     reading: &mut Reading,
@@ -242,7 +246,7 @@ fn read_timed(
     }
 }
 
-/// `MS OUTCOMES` of the action of this head
+/// Reads `MS OUTCOMES`, of the action with this head.
 fn read_replay(
     alloc: Global,
     reading: &mut Reading,

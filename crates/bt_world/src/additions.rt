@@ -9,7 +9,7 @@ use bt_script::Stop;
 use bt_world_draft::Reading;
 use std::alloc::Global;
 
-/// `fails EXPR`
+/// Reads `fails EXPR`, from after `fails`; so below.
 pub fn read_fails(alloc: Global, reading: &mut Reading, text: &[u8]) -> Result<(), Stop<WorldKind>>
     requires { list_all is_line_byte text.now ≡ true }
     ensures { Leaves result reading.new (AfterForm reading.old (Some (FailsLine text.now))) }
@@ -20,7 +20,7 @@ pub fn read_fails(alloc: Global, reading: &mut Reading, text: &[u8]) -> Result<(
     }
 }
 
-/// `needs ID`
+/// Reads `needs ID`.
 pub fn read_need(reading: &mut Reading, text: &[u8]) -> Result<(), Stop<WorldKind>>
     ensures { Leaves result reading.new (AfterForm reading.old (name_line NeedsLine text.now)) }
 {
@@ -34,7 +34,7 @@ pub fn read_need(reading: &mut Reading, text: &[u8]) -> Result<(), Stop<WorldKin
     }
 }
 
-/// How an effect changes its fact, by the sign of its line.
+/// How an effect changes its fact, by the sign of its line. None where it is no such sign.
 fn how_of(sign: &[u8]) -> Option<How>
     ensures { result ≡ how_in sign.now }
 {
@@ -47,7 +47,7 @@ fn how_of(sign: &[u8]) -> Option<How>
     }
 }
 
-/// `sets NAME = INT`, or `sets NAME += INT`
+/// Reads `sets NAME = INT` or `sets NAME += INT`.
 pub fn read_effect(reading: &mut Reading, text: &[u8]) -> Result<(), Stop<WorldKind>>
     ensures { Leaves result reading.new (AfterForm reading.old (sets_line text.now)) }
 {
@@ -72,7 +72,7 @@ pub fn read_effect(reading: &mut Reading, text: &[u8]) -> Result<(), Stop<WorldK
     }
 }
 
-/// `out PORT = EXPR`
+/// Reads `out PORT = EXPR`.
 pub fn read_out(alloc: Global, reading: &mut Reading, text: &[u8]) -> Result<(), Stop<WorldKind>>
     requires { list_all is_line_byte text.now ≡ true }
     ensures { Leaves result reading.new (AfterForm reading.old (out_line text.now)) }

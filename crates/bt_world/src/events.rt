@@ -8,7 +8,7 @@ use bt_script::Stop;
 use bt_world_draft::Reading;
 use std::alloc::Global;
 
-/// `fact NAME INT`
+/// Reads `fact NAME INT`, from after `fact`; so below.
 pub fn read_fact(alloc: Global, reading: &mut Reading, text: &[u8]) -> Result<(), Stop<WorldKind>>
     ensures { Leaves result reading.new (AfterForm reading.old (named_number FactLine text.now)) }
 {
@@ -27,7 +27,7 @@ pub fn read_fact(alloc: Global, reading: &mut Reading, text: &[u8]) -> Result<()
     }
 }
 
-/// `set NAME INT`
+/// Reads `set NAME INT`.
 pub fn read_change(alloc: Global, reading: &mut Reading, text: &[u8]) -> Result<(), Stop<WorldKind>>
     ensures { Leaves result reading.new (AfterForm reading.old (named_number SetLine text.now)) }
 {
@@ -46,7 +46,7 @@ pub fn read_change(alloc: Global, reading: &mut Reading, text: &[u8]) -> Result<
     }
 }
 
-/// `goal ID`
+/// Reads `goal ID`.
 pub fn read_goal(alloc: Global, reading: &mut Reading, text: &[u8]) -> Result<(), Stop<WorldKind>>
     ensures { Leaves result reading.new (AfterForm reading.old (name_line GoalLine text.now)) }
 {
@@ -61,7 +61,7 @@ pub fn read_goal(alloc: Global, reading: &mut Reading, text: &[u8]) -> Result<()
     }
 }
 
-/// `runners N`
+/// Reads `runners N`.
 pub fn read_runners(
     alloc: Global,
     reading: &mut Reading,
@@ -80,7 +80,7 @@ pub fn read_runners(
     }
 }
 
-/// `at MS`
+/// Reads `at MS`.
 pub fn read_moment(alloc: Global, reading: &mut Reading, text: &[u8]) -> Result<(), Stop<WorldKind>>
     ensures { Leaves result reading.new (AfterForm reading.old (number_line AtLine text.now)) }
 {
@@ -95,7 +95,7 @@ pub fn read_moment(alloc: Global, reading: &mut Reading, text: &[u8]) -> Result<
     }
 }
 
-/// `tick R`
+/// Reads `tick R`.
 pub fn read_tick(alloc: Global, reading: &mut Reading, text: &[u8]) -> Result<(), Stop<WorldKind>>
     ensures { Leaves result reading.new (AfterForm reading.old (number_line TickLine text.now)) }
 {
@@ -110,7 +110,7 @@ pub fn read_tick(alloc: Global, reading: &mut Reading, text: &[u8]) -> Result<()
     }
 }
 
-/// `halt R`
+/// Reads `halt R`.
 pub fn read_halt(alloc: Global, reading: &mut Reading, text: &[u8]) -> Result<(), Stop<WorldKind>>
     ensures { Leaves result reading.new (AfterForm reading.old (number_line HaltLine text.now)) }
 {

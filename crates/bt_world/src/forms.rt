@@ -14,7 +14,8 @@ use bt_script::Stop;
 use bt_world_draft::Reading;
 use std::alloc::Global;
 
-/// Reads the text of a line.
+/// Reads the text of a line: adds what it says, or answers what is wrong with it. `NoMemory` (want of memory, that is,
+/// out of memory), here and in all readers of lines, where an allocation fails.
 pub fn read_text(alloc: Global, reading: &mut Reading, text: &[u8]) -> Result<(), Stop<WorldKind>>
     ensures { Leaves result reading.new (AfterText reading.old text.now) }
 {
@@ -29,7 +30,7 @@ pub fn read_text(alloc: Global, reading: &mut Reading, text: &[u8]) -> Result<()
     read_line(alloc, reading, kind, rest)
 }
 
-/// Reads a line that begins with this word.
+/// Reads a line that begins with this word, from after it.
 fn read_line(
     alloc: Global,
     reading: &mut Reading,
@@ -58,7 +59,7 @@ fn read_line(
     }
 }
 
-/// Reads a line of the run that begins with this word.
+/// Reads a line about goals, runners and events that begins with this word, from after it.
 fn read_event(
     alloc: Global,
     reading: &mut Reading,

@@ -24,6 +24,8 @@ pub fn read_world(alloc: Global, bytes: &[u8]) -> Result<World, Stop<WorldFault>
     world_of(alloc, without_rest(parts.as_slice()))
 }
 
+/// The world of the lines of a file, or its first faulty line. The fault `Header` where the first line is not
+/// `bt-world 1`.
 fn world_of(alloc: Global, lines: &[&[u8]]) -> Result<World, Stop<WorldFault>>
     requires { length lines.now ≤ 1048577 }
     ensures { Gives result (LinesRead (map (λ text. text.now) lines.now)) }
@@ -37,7 +39,7 @@ fn world_of(alloc: Global, lines: &[&[u8]]) -> Result<World, Stop<WorldFault>>
     }
 }
 
-/// The world of the lines behind the header.
+/// The world of the lines after the header, or the first faulty line.
 fn world_behind(alloc: Global, lines: &[&[u8]]) -> Result<World, Stop<WorldFault>>
     requires { length lines.now ≤ 1048577 }
     ensures { Gives result (LinesMake (map (λ text. text.now) lines.now)) }
@@ -58,6 +60,7 @@ fn world_behind(alloc: Global, lines: &[&[u8]]) -> Result<World, Stop<WorldFault
     }
 }
 
+/// What is wrong with a line, with its number.
 fn located(stop: Stop<WorldKind>, line: u32) -> Stop<WorldFault>
     ensures { result ≡ readings.located stop line }
 {
@@ -67,6 +70,7 @@ fn located(stop: Stop<WorldKind>, line: u32) -> Stop<WorldFault>
     }
 }
 
+/// Reads the lines, of which the first has the number 2, up to the first faulty one.
 fn read_lines(alloc: Global, reading: &mut Reading, lines: &[&[u8]]) -> Result<(), Stop<WorldFault>>
     requires { length lines.now ≤ 1048577 }
     ensures { Leaves result reading.new (AfterLines 2 (map (λ text. text.now) lines.now) reading.old) }
