@@ -29,7 +29,7 @@ le-digits_value base n (d ∷ ds) h = omega (arith, le-digits_value base (n * ba
 pub large : (n : ℕ) → 0x10FFFF < n → is_character n ≡ false
 large n h = grind (arith, nat_tests)
 
--- what is part of a reference is passed over
+-- what is part of a reference is skipped
 pub decoded_past : (n : ℕ) (cs : List ℕ) → decoded_from n cs ≡ decoded (drop n cs)
 decoded_past zero cs = refl
 decoded_past (suc n) [] = refl

@@ -144,7 +144,7 @@ impl<W: Write + Drop> Sink for OutSink<W> {
 
     ghost faults = { λ s. s.faults };
 
-    // Most pieces have room beside what is gathered, and are taken at once.
+    /// Writes the piece. Most pieces have room beside what is gathered, and are taken at once.
     #[inline]
     fn write(&mut self, piece: &[u8]) -> Result<(), SinkFault>
         ensures whole { OnOk result (Appended (written_so_far self.old) (written_so_far self.new) piece.now) }

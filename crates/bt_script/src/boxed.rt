@@ -26,7 +26,7 @@ impl<T> Boxed<T> {
         &self.inner
     }
 
-    /// Gives the value back. It takes no memory.
+    /// Gives the value back. It allocates nothing.
     pub fn into_inner(self) -> T
         ensures { result ≡ self }
     {

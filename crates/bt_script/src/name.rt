@@ -23,7 +23,7 @@ impl Model for Name {
 }
 
 impl Name {
-    /// The name with these bytes. It takes no memory.
+    /// The name with these bytes. It allocates nothing.
     pub fn of(bytes: Vec<u8>) -> Name
         requires { IsUtf8 bytes.items }
         ensures { result ≡ bytes.items }
@@ -39,7 +39,7 @@ impl Name {
         self.bytes.as_slice()
     }
 
-    /// Gives the bytes back. It takes no memory.
+    /// Gives the bytes back. It allocates nothing.
     pub fn into_vec(self) -> Vec<u8>
         ensures { result.items ≡ self }
     {

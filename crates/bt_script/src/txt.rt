@@ -21,7 +21,7 @@ impl Model for Txt {
 }
 
 impl Txt {
-    /// The text with these bytes. It takes no memory.
+    /// The text with these bytes. It allocates nothing.
     pub fn of(bytes: Vec<u8>) -> Txt
         requires utf8 { IsUtf8 bytes.items }
         requires short { length bytes.items ≤ 4096 }
@@ -39,7 +39,7 @@ impl Txt {
         self.bytes.as_slice()
     }
 
-    /// Gives the bytes back. It takes no memory.
+    /// Gives the bytes back. It allocates nothing.
     pub fn into_vec(self) -> Vec<u8>
         ensures { result.items ≡ self }
     {
