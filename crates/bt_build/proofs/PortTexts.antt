@@ -283,7 +283,7 @@ RulesStand _ = Unit {0}
 abbrev Absent : Attributes → List ℕ → Type 0
 Absent attributes name = value_of name attributes ≡ None
 
--- none of these names is a port's, but for those that are written
+-- each of these names that no attribute writes is that of no port
 abbrev Free : Attributes → List Port → List (List ℕ) → Type 0
 Free attributes ports names = AllByRecursion (λ name. Absent attributes name → is_among name (names_of ports) ≡ false) names
 

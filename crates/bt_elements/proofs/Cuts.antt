@@ -27,7 +27,7 @@ stops_before p bs ascii h = ascii (get_or bs (prefix_len p bs) 0) (prefix_len_st
 boundary : (p : ℕ → Bool) (bs : List ℕ) → StopsAtAscii p → IsCharBoundary bs (prefix_len p bs)
 boundary p bs ascii = (prefix_len-le-length p bs, λ h big. absurd (let k = stops_before p bs ascii h in omega arith))
 
--- a text may be cut where bytes stop to pass, if all bytes that are not ASCII pass
+-- a text may be cut before the first byte that does not pass a test, if each byte that is not ASCII passes it
 pub cut_front : (p : ℕ → Bool) (bs : List ℕ) → StopsAtAscii p → IsUtf8 bs → IsUtf8 (take (prefix_len p bs) bs)
 cut_front p bs ascii u = IsUtf8-take bs (prefix_len p bs) u (boundary p bs ascii)
 

@@ -10,7 +10,7 @@ use Rattle.bt_board.proofs.Openings.{with_literals_append, literals_out, literal
 use Rattle.bt_board.proofs.Standings.{counts_here}
 use Rattle.bt_board.proofs.board.+terms.Goals as goal
 
--- src/board.rt:79:1
+-- the literals of a term: those of its node, and then those of its children
 pub open_term-returns-clause-put : goal.open_term-returns-clause-put
 open_term-returns-clause-put t c =
     let term = out-Term c.args.term.now in
@@ -28,7 +28,7 @@ open_term-returns-clause-put t c =
     ∙ ap (λ (ls : List (Cell × Value)). with_literals cells ls c.args.entries.now.items) (sym (literals_out c.args.term.now c.args.uid number scope)))
     c.open_terms.ensures.put
 
--- src/board.rt:111:5
+-- the literals of one more of the terms
 pub open_terms-loop-term-preserved : goal.open_terms-loop-term-preserved
 open_terms-loop-term-preserved t c =
     let terms = c.args.terms.now in

@@ -6,7 +6,7 @@ use Rattle.bt_model.specs.Boards.{literals_at, main_scope, standing_from}
 use Rattle.bt_board.proofs.Openings.{length_with_literals}
 use Rattle.bt_board.proofs.board.board_of.Goals as goal
 
--- src/board.rt:145:1
+-- a board has as many entries as there are slots
 pub returns-clause-size : goal.returns-clause-size
 returns-clause-size c =
     ap (λ (es : List (Option Value)). length es) (c.in_ok-open_term.ensures.put 0 main_scope)

@@ -10,7 +10,7 @@ use Rattle.bt_board.proofs.Named.{added_twice, added_thrice, added_before}
 use Rattle.bt_board.proofs.Standings.{counts_here, namings_here, subtree_namings, other_namings}
 use Rattle.bt_board.proofs.naming.+terms.Goals as goal
 
--- src/naming.rt:159:1
+-- what the nodes of a term name, of which the first is a SubTree node
 pub name_term-returns-in_ok-name_ports-clause-named :
     goal.name_term-returns-in_ok-name_ports-clause-named
 name_term-returns-in_ok-name_ports-clause-named t c =
@@ -26,7 +26,7 @@ name_term-returns-in_ok-name_ports-clause-named t c =
     (λ last. added_thrice c.args.namings.now.items _ _ _ _ _ _ _ c.in_ok-name_node.ensures (c.in_ok-name_ports.ensures ∙ ports) (last ∙ children) named)
     c.name_terms.ensures.named
 
--- src/naming.rt:159:1
+-- what the nodes of a term name, of which the first is another node
 pub name_term-returns-in_default-clause-named :
     goal.name_term-returns-in_default-clause-named
 name_term-returns-in_default-clause-named t c =
@@ -39,7 +39,7 @@ name_term-returns-in_default-clause-named t c =
     (λ last. added_twice c.args.namings.now.items _ _ _ _ _ c.in_ok-name_node.ensures (last ∙ children) named)
     c.name_terms-in_default.ensures.named
 
--- src/naming.rt:197:5
+-- what one more of the terms names
 pub name_terms-loop-term-preserved : goal.name_terms-loop-term-preserved
 name_terms-loop-term-preserved t c =
     let counted = counts_here c.args.terms.now c.loop-term.term-index c.term-item.result c.loop-term-test.true c.term-item.is in

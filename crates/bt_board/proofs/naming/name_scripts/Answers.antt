@@ -3,7 +3,7 @@ use Rattle.bt_model.specs.Boards.{given}
 use Rattle.bt_board.proofs.Named.{AreAdded, AreAdded-more}
 use Rattle.bt_board.proofs.naming.name_scripts.Goals as goal
 
--- src/naming.rt:93:1
+-- the names of the code, and then those of each guard
 pub returns : goal.returns
 returns c =
     let guards = c.args.guards.now in
