@@ -60,7 +60,8 @@ fn numbered(digits: &[u8], base: u32) -> Option<char>
     char::from_u32(n)
 }
 
-/// The character of a numeric reference, and how many bytes it has. Its digits come after `before` bytes.
+/// The character of the numeric reference whose digits stand at the front, and how many bytes it has with the
+/// `before` bytes before them. None where it is no reference.
 fn numeric(bytes: &[u8], base: u32, before: usize) -> Option<(char, usize)>
     requires base { (2 ≤ base) × (base ≤ 16) }
     requires few { before ≤ 2 }

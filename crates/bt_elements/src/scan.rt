@@ -116,7 +116,7 @@ fn white_at(bytes: &[u8]) -> &[u8]
     rest
 }
 
-/// What follows this byte at the front. `NoMark`, here and below, where the bytes have not the form.
+/// What follows this byte at the front. `NoMark`, here and below, where what is asked for does not stand there.
 fn byte_at(bytes: &[u8], c: u8) -> Result<&[u8], Stop<NoMark>>
     requires utf8 { IsUtf8 bytes.now }
     requires ascii { c < 128 }
@@ -335,14 +335,14 @@ fn end_at(alloc: Global, bytes: &[u8]) -> Result<(Mark, &[u8]), Stop<NoMark>>
     Ok((Mark::End(name), rest))
 }
 
-/// Whether the byte is neither 0 nor the first of the ending.
+/// Whether the byte is neither 0 nor this one, with which the ending begins.
 fn passed_byte(first: u8, c: u8) -> bool
     ensures { result ≡ not (c == first || c == 0) }
 {
     !(c == first || c == 0)
 }
 
-/// How many of a few bytes come before a 0 or the first of the ending.
+/// How many bytes come before the first 0 or first byte of the ending, where they are few.
 #[tactic(auto, using(crate::proofs::Fronts::fronts))]
 fn passed_near(first: u8, bytes: &[u8]) -> usize
     ensures value { result ≡ prefix_len (λ c. not (c == first || c == 0)) bytes.now }
@@ -351,7 +351,7 @@ fn passed_near(first: u8, bytes: &[u8]) -> usize
     bytes.iter().take_while(|c| passed_byte(first, **c)).count()
 }
 
-/// How many of many bytes come before a 0 or the first of the ending.
+/// How many bytes come before the first 0 or first byte of the ending, where they are many.
 #[inline(never)]
 fn passed_far(first: u8, bytes: &[u8]) -> usize
     ensures value { result ≡ prefix_len (λ c. not (c == first || c == 0)) bytes.now }
@@ -363,7 +363,7 @@ fn passed_far(first: u8, bytes: &[u8]) -> usize
 /// Up to so many bytes it costs least to look at each.
 const FEW_BYTES: usize = 8;
 
-/// How many bytes come before a 0 or the first of the ending.
+/// How many bytes come before the first 0 or byte with which the ending begins.
 fn passed_len(first: u8, bytes: &[u8]) -> usize
     ensures value { result ≡ prefix_len (λ c. not (c == first || c == 0)) bytes.now }
     ensures within { result ≤ length bytes.now }
