@@ -65,6 +65,7 @@ abbrev pub children_scope : Kind → ℕ → List Port → Bool → Scope → Sc
 children_scope SubTree uid ports autoremap outer = scope_below uid ports autoremap outer
 children_scope _ uid ports autoremap outer = outer
 
+-- the number of that scope: the SubTree node's uid, or the number of the scope in which the node stands
 abbrev pub children_scope_number : Kind → ℕ → ℕ → ℕ
 children_scope_number SubTree uid number = uid
 children_scope_number _ uid number = number
@@ -74,6 +75,7 @@ abbrev pub given : Option Script → List Script
 given (Some script) = script ∷ []
 given None = []
 
+-- the scripts of a node: its code and its guards
 abbrev pub scripts_of : Option Script → Guards → List Script
 scripts_of code guards =
     given code ++ given guards.failure_if ++ given guards.success_if ++ given guards.skip_if ++ given guards.while_true
@@ -96,6 +98,7 @@ standing_all [] uid number scope = []
 standing_all (child ∷ children) uid number scope =
     child uid number scope ++ standing_all children (uid + length (child uid number scope)) number scope
 
+-- the nodes of a term in pre-order, where those of its children are known
 abbrev pub standing_step : Term-F (ℕ → ℕ → Scope → List Standing) → ℕ → ℕ → Scope → List Standing
 standing_step node uid number scope =
     record { uid = uid; number = number; scope = scope; kind = node.kind; ports = node.ports; autoremap = node.autoremap; scripts = scripts_of node.code node.guards }
@@ -119,6 +122,7 @@ abbrev pub scope_made : Option Standing → Scope
 scope_made (Some node) = scope_below node.uid node.ports node.autoremap node.scope
 scope_made None = main_scope
 
+-- the scope of a number in a tree
 abbrev pub scope_of : Tree → ℕ → Scope
 scope_of tree number = scope_made (find (λ (node : Standing). makes_scope node.kind && nat_eq node.uid number) (standing tree))
 
@@ -154,6 +158,7 @@ is_named tree number key = list_any (λ (n : Naming). nat_eq n.number number && 
 abbrev pub cell_order : Cell → Cell → Ordering
 cell_order a b = ordering_then (nat_cmp a.scope b.scope) (slice_cmp nat_cmp a.key b.key)
 
+-- whether two cells are the same
 abbrev pub same_cell : Cell → Cell → Bool
 same_cell a b = nat_eq a.scope b.scope && bytes_eq a.key b.key
 
@@ -163,6 +168,7 @@ placed_by Less cell first rest placed = cell ∷ first ∷ rest
 placed_by Equal cell first rest placed = first ∷ rest
 placed_by Greater cell first rest placed = first ∷ placed
 
+-- a cell put among others that are in their order
 abbrev pub placed : Cell → List Cell → List Cell
 placed cell [] = cell ∷ []
 placed cell (first ∷ rest) = placed_by (cell_order cell first) cell first rest (placed cell rest)
@@ -198,6 +204,7 @@ pub record SlotTable : Type 0 where
   pub cells : List Cell
   pub named : List (Cell × ℕ)
 
+-- the slots of a tree as such a table
 abbrev pub slot_table : Tree → SlotTable
 slot_table tree = record {
   cells = slots tree;
@@ -213,6 +220,7 @@ value_literals (Key key) name uid = []
 abbrev pub literals_at : Standing → List (Cell × Value)
 literals_at node = if makes_scope node.kind then flat_map (λ (port : Port). value_literals port.value port.name node.uid) node.ports else []
 
+-- the literals of all SubTree nodes of a tree
 abbrev pub literals : Tree → List (Cell × Value)
 literals tree = flat_map literals_at (standing tree)
 

@@ -61,9 +61,11 @@ pub record PortRule : Type 0 where
   pub range : Range
   pub default : Option (List ℕ)
 
+-- a port that must be written
 abbrev pub required : List ℕ → Range → PortRule
 required name range = record { name = name; range = range; default = None }
 
+-- a port with a default
 abbrev pub with_default : List ℕ → Range → List ℕ → PortRule
 with_default name range text = record { name = name; range = range; default = Some text }
 
@@ -117,18 +119,21 @@ class_of ScriptNode = class.Leaf
 class_of ScriptCondition = class.Leaf
 class_of Leaf = class.Leaf
 
+-- the class of control nodes
 abbrev pub of_control : Class → Bool
 of_control class.Control = true
 of_control class.Decorator = false
 of_control class.SubTree = false
 of_control class.Leaf = false
 
+-- the classes with one child
 abbrev pub of_decorator : Class → Bool
 of_decorator class.Control = false
 of_decorator class.Decorator = true
 of_decorator class.SubTree = true
 of_decorator class.Leaf = false
 
+-- the classes with children
 abbrev pub of_parent : Class → Bool
 of_parent class.Control = true
 of_parent class.Decorator = true
@@ -147,6 +152,7 @@ is_decorator kind = of_decorator (class_of kind)
 abbrev pub has_rule : Kind → Bool
 has_rule kind = of_parent (class_of kind)
 
+-- how many children a node of each class may have
 abbrev pub takes_by : Class → ℕ → Bool
 takes_by class.Control children = nat_le 1 children
 takes_by class.Decorator children = nat_eq children 1
@@ -191,5 +197,6 @@ fits Truth (Text text) = bytes_eq text (codes "true") || bytes_eq text (codes "f
 abbrev pub rule_seen : Row → PortRule
 rule_seen row = record { name = row.name.now; range = row.range; default = option_map (λ text. text.now) row.default }
 
+-- a row of the table of names, as the definition has it
 abbrev pub row_seen : Bor (List ℕ) × Kind → List ℕ × Kind
 row_seen row = (row.0.now, row.1)

@@ -34,6 +34,7 @@ pub record Done (A M : Type 0) : Type 0 where
 abbrev pub ends : {A M : Type 0} → Result A NodeFault → M → State → Done A M
 ends answer memory state = record { answer = answer; memory = memory; state = state; notes = []; calls = [] }
 
+-- an answer, with no note and no call
 abbrev pub done : {A M : Type 0} → A → M → State → Done A M
 done a memory state = ends (Ok a) memory state
 

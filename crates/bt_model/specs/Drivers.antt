@@ -14,6 +14,7 @@ use Rattle.bt_model.specs.Leaf.{Way, Tests, Lasts, Replays, Waits, Rule, Answere
 
 -- ---- Kinds
 
+-- the kind of driver that serves the rows of this sort
 abbrev pub kind_of_sort : RowSort → DriverKind
 kind_of_sort (Is fact op value) = driver.Condition
 kind_of_sort (When test) = driver.Condition
@@ -32,6 +33,7 @@ kind_of_way (Lasts ms fails) = driver.Timed
 kind_of_way (Replays ms outcomes) = driver.Replay
 kind_of_way (Waits test) = driver.Gate
 
+-- whether two kinds of drivers are the same
 abbrev pub same_kind : DriverKind → DriverKind → Bool
 same_kind driver.Condition driver.Condition = true
 same_kind driver.Timed driver.Timed = true
@@ -82,6 +84,7 @@ new_driver kind = record { kind = kind; mark = 0; table = []; totals = no_calls 
 abbrev pub instance_of : DriverState → ℕ → Instance
 instance_of d instance = slice_index_or d.table instance fresh
 
+-- whether an instance is held
 abbrev pub is_held : Instance → Bool
 is_held instance = is_some instance.since
 

@@ -96,6 +96,7 @@ pub data Way : Type 0 where
   -- an action waits until this is true
   Waits : (test : Test) → Way
 
+-- what a row says of a leaf: how it answers, and what a completion does
 pub record Rule : Type 0 where
   pub way : Way
   -- the effects of a completion
@@ -149,6 +150,7 @@ fresh = record { since = None; completions = 0 }
 abbrev pub held : ℕ → Instance → Instance
 held since instance = record { since = Some since; completions = instance.completions }
 
+-- an instance that is no longer held; its completions stay
 abbrev pub let_go : Instance → Instance
 let_go instance = record { since = None; completions = instance.completions }
 
@@ -167,6 +169,7 @@ outcome_at outcomes n = slice_index_or outcomes (min n (length outcomes - 1)) fa
 
 -- ---- What a call leaves
 
+-- what a call leaves: the reply, the instance, the facts' values and the outputs
 pub record Answered : Type 0 where
   pub reply : Reply
   pub instance : Instance
@@ -179,6 +182,7 @@ abbrev pub outputs_left : Reply → List ℤ → List ℤ → List ℤ
 outputs_left Success given before = given
 outputs_left _ given before = before
 
+-- the outputs that stand after this call, from those that stood before it
 abbrev pub outputs_after : Answered → List ℤ → List ℤ
 outputs_after a before = outputs_left a.reply a.outputs before
 

@@ -41,6 +41,7 @@ gives answer ms s = done (record { answer = answer; memo = Nothing }) ms s
 abbrev pub row_of : List Row → List ℕ → Option Row
 row_of rows id = find (λ (row : Row). bytes_eq row.id id) rows
 
+-- the instance of a leaf by its uid
 abbrev pub instance_at : State → ℕ → Instance
 instance_at s uid = slice_index_or s.instances uid fresh
 
@@ -81,6 +82,7 @@ abbrev pub called : Phase → ℕ → Answer → Note
 called phase.Start uid answer = Started uid answer
 called _ uid answer = Ran uid answer
 
+-- the note of a call, by its reply
 abbrev pub reply_notes : Phase → ℕ → Reply → List Note
 reply_notes phase uid reply.Running = called phase uid Running ∷ []
 reply_notes phase uid reply.Success = called phase uid Success ∷ []

@@ -88,6 +88,7 @@ line_names tree world = record { facts = fact_names world; cells = slots tree; i
 abbrev pub cell_at : LineNames → ℕ → Cell
 cell_at names slot = slice_index_or names.cells slot (owner 0 [])
 
+-- the words for a cell: the number of its scope, and its key
 abbrev pub cell_words : Cell → List ℕ
 cell_words cell = decimal cell.scope ++ codes " " ++ cell.key
 

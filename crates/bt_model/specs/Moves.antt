@@ -53,10 +53,12 @@ abbrev pub child_on : (Answer → Answer) → Memo → Heard → Rule
 child_on other memo (Answered place a) = pass_on memo (other a)
 child_on other memo _ = over Skipped
 
+-- a KeepRunningUntilFailure that has heard of its child
 abbrev pub keep_running_on : Memo → Heard → Rule
 keep_running_on memo (Answered place a) = keep_running_after memo a
 keep_running_on memo _ = over Skipped
 
+-- a RunOnce that has heard of its child
 abbrev pub run_once_on : Heard → Rule
 run_once_on (Answered place a) = run_once_after a
 run_once_on _ = over Skipped
@@ -103,6 +105,7 @@ hears_answer place go = visit place (λ a. go (Answered place a))
 abbrev pub hears_or_passes : ℕ → (Heard → Rule) → Rule
 hears_or_passes place go = visit_or_pass place (go (Passed place)) (λ a. go (Answered place a))
 
+-- what a node of this kind hears of the child at a place
 abbrev pub hears : Kind → ℕ → (Heard → Rule) → Rule
 hears Parallel = λ place go. hears_or_passes place go
 hears _ = λ place go. hears_answer place go
@@ -112,6 +115,7 @@ abbrev pub going : (ℕ → (Heard → Rule) → Rule) → (Memo → Heard → R
 going hear next memo (Give a) = keep a memo
 going hear next memo (Visit place) = hear place (next memo)
 
+-- the children of a span are reset, if it has any, before what follows
 abbrev pub behind_resets : Span → Rule → Rule
 behind_resets span.None rule = rule
 behind_resets span rule = reset span rule

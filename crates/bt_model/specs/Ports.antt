@@ -32,6 +32,7 @@ abbrev pub given_by : Option Port → Option PortValue
 given_by (Some port) = Some port.value
 given_by None = None
 
+-- what the port of this name is given at a node
 abbrev pub given_at : Site → List ℕ → Option PortValue
 given_at site name = given_by (port_of site.node.ports name)
 
@@ -41,6 +42,7 @@ value_by site s (Some (Lit value)) = Some value
 value_by site s (Some (Key key)) = slice_index_or s.board (slot_at site key) None
 value_by site s None = None
 
+-- its value
 abbrev pub value_at : Site → State → List ℕ → Option Value
 value_at site s name = value_by site s (given_at site name)
 
@@ -49,6 +51,7 @@ abbrev pub number_by : Option Value → Option ℤ
 number_by (Some (Int n)) = Some n
 number_by _ = None
 
+-- its number
 abbrev pub number_at : Site → State → List ℕ → Option ℤ
 number_at site s name = number_by (value_at site s name)
 
@@ -58,6 +61,7 @@ text_by (Some (Int n)) = Some (signed_decimal n)
 text_by (Some (Text t)) = Some t
 text_by None = None
 
+-- its text
 abbrev pub text_at : Site → State → List ℕ → Option (List ℕ)
 text_at site s name = text_by (value_at site s name)
 
@@ -72,13 +76,16 @@ within r None = None
 abbrev pub threshold_of : ℕ → ℤ → ℤ
 threshold_of n c = if int_lt c (pos 0) then pos (n + 1) +ℤ c else c
 
+-- a count that lies in 1 to n
 abbrev pub threshold_within : ℕ → ℤ → Option ℕ
 threshold_within n c = if int_le (pos 1) c && int_le c (pos n) then Some (nat_abs c) else None
 
+-- the threshold that a count of n children gives, if there is one
 abbrev pub threshold : ℕ → Option ℤ → Option ℕ
 threshold n (Some c) = threshold_within n (threshold_of n c)
 threshold n None = None
 
+-- whether a count is negative
 abbrev pub is_negative : Option ℤ → Bool
 is_negative (Some c) = int_lt c (pos 0)
 is_negative None = false
@@ -142,10 +149,12 @@ truth_given (Lit (Text t)) value = Some (bytes_eq t (codes "true"))
 truth_given _ (Some (Int n)) = Some (not (int_eq n (pos 0)))
 truth_given _ _ = None
 
+-- `then_skip` as a node has it, where it is a truth
 abbrev pub then_skip : Site → State → Option PortValue → Option Bool
 then_skip site s (Some given) = truth_given given (value_by site s (Some given))
 then_skip site s None = None
 
+-- what is picked for it: 1 for true and 0 for false, or the port is bad
 abbrev pub skip_picked : Option Bool → Result ℕ PortId
 skip_picked (Some true) = Ok 1
 skip_picked (Some false) = Ok 0

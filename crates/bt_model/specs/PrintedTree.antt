@@ -45,6 +45,7 @@ port_text (Lit (Int n)) = signed_decimal n
 port_text (Lit (Text text)) = text
 port_text (Key key) = codes "{" ++ key ++ codes "}"
 
+-- a port as an attribute
 abbrev pub port_attribute : Port → Attribute
 port_attribute port = (port.name, port_text port.value)
 
@@ -134,12 +135,14 @@ abbrev pub opened_by : Kind → List ℕ → List Lines → List WrittenTree
 opened_by SubTree id below = (id, below) ∷ []
 opened_by kind id below = []
 
+-- what is printed of a node, where that of its children is known
 abbrev pub printed_node : Term-F Printed → Printed
 printed_node node = record {
   lines = element_lines (element_name node.kind node.id) (node_attributes node) (written_below node.kind (map (λ (c : Printed). c.lines) node.children));
   opened = opened_by node.kind node.id (map (λ (c : Printed). c.lines) node.children) ++ flat_map (λ (c : Printed). c.opened) node.children;
 }
 
+-- what is printed of a term
 abbrev pub printed : Term → Printed
 printed = fold-Term Printed printed_node
 
@@ -149,6 +152,7 @@ printed = fold-Term Printed printed_node
 abbrev pub with_tree : List WrittenTree → WrittenTree → List WrittenTree
 with_tree trees t = if list_any (λ (known : WrittenTree). bytes_eq t.0 known.0) trees then trees else trees ++ t ∷ []
 
+-- the trees joined by these, one after the other
 abbrev pub with_trees : List WrittenTree → List WrittenTree → List WrittenTree
 with_trees trees [] = trees
 with_trees trees (t ∷ ts) = with_trees (with_tree trees t) ts
@@ -161,6 +165,7 @@ trees_of tree = with_trees ((tree.main, (printed tree.term).lines ∷ []) ∷ []
 abbrev pub tree_element : WrittenTree → Lines
 tree_element t = element_lines (codes "BehaviorTree") ((codes "ID", t.0) ∷ []) t.1
 
+-- the attributes of the document element
 abbrev pub root_attributes : Tree → List Attribute
 root_attributes tree = (codes "BTCPP_format", codes "4") ∷ (codes "main_tree_to_execute", tree.main) ∷ []
 

@@ -109,12 +109,13 @@ quenched_notes runner calls = map (λ (c : Call). Quenched runner c.uid) calls
 abbrev pub runner_calls : ℕ → List Call → List RunnerCall
 runner_calls runner calls = map (λ (c : Call). let call : RunnerCall = record { runner = runner; call = c } in call) calls
 
--- each held leaf of each runner is called `halted`, by runner and uid, of runners of which the first has this
--- number
+-- the notes of a quench: each held leaf of each runner is called `halted`, by runner and uid, of runners of which
+-- the first has this number
 abbrev pub quench_notes : ℕ → List Runner → List Note
 quench_notes runner [] = []
 quench_notes runner (r ∷ runners) = quenched_notes runner (letting_go 0 r.instances) ++ quench_notes (runner + 1) runners
 
+-- the calls of a quench, in the same order
 abbrev pub quench_calls : ℕ → List Runner → List RunnerCall
 quench_calls runner [] = []
 quench_calls runner (r ∷ runners) = runner_calls runner (letting_go 0 r.instances) ++ quench_calls (runner + 1) runners
@@ -123,6 +124,7 @@ quench_calls runner (r ∷ runners) = runner_calls runner (letting_go 0 r.instan
 abbrev pub quenched_runner : Tree → Runner → Runner
 quenched_runner tree r = record { memory = idle tree.term; board = r.board; instances = map let_go r.instances }
 
+-- the state after a quench
 abbrev pub quenched : Tree → RunState → RunState
 quenched tree s = record { runners = map (quenched_runner tree) s.runners; facts = s.facts; last = s.last }
 
@@ -166,6 +168,7 @@ block_of header notes s after = record {
 
 -- ---- Steps
 
+-- what an event leaves that leads from one state to another
 abbrev pub stepped : Header → List Note → List RunnerCall → Option RunFault → RunState → RunState → Stepped
 stepped header notes calls fault s after = record { state = after; block = block_of header notes s after; calls = calls; fault = fault }
 
@@ -188,6 +191,7 @@ with_runner s runner at d = record {
   last = at;
 }
 
+-- an event of one runner, of which its part has left this
 abbrev pub runner_step : {A : Type 0} → Header → Tree → ℕ → ℕ → RunState → Done A Memory → Stepped
 runner_step header tree runner at s d = told d.answer header tree runner d.notes d.calls s (with_runner s runner at d)
 
@@ -216,6 +220,7 @@ abbrev pub change_step : ℕ → ℤ → ℕ → RunState → Stepped
 change_step fact value at s =
     stepped (header.Change fact value at) [] [] None s (record { runners = s.runners; facts = slice_set s.facts fact value; last = at })
 
+-- the runner of a number, where there is one
 abbrev pub runner_at : RunState → ℕ → Option Runner
 runner_at s runner = slice_get s.runners (runner - 1)
 
@@ -225,6 +230,7 @@ step_by (Tick runner) tree world at s = tick_step (runner_at s runner) tree worl
 step_by (Halt runner) tree world at s = reset_step (runner_at s runner) (header.Halt runner at) tree world runner at s
 step_by (Change fact value) tree world at s = change_step fact value at s
 
+-- one event of a world at its moment
 abbrev pub step : Tree → World → Event → RunState → Stepped
 step tree world event s = step_by event.what tree world event.at s
 
@@ -251,6 +257,7 @@ before_rest None first rest = record {
   fault = (rest first.state).fault;
 }
 
+-- a step before the rest of a run, by its own fault
 abbrev pub then_rest : Stepped → (RunState → Trace) → Trace
 then_rest first rest = before_rest first.fault first rest
 

@@ -29,6 +29,7 @@ script_cause exec.TextTooLong = cause.TextTooLong
 abbrev pub fault_of_node : ℕ → Cause → NodeFault
 fault_of_node uid cause = record { uid = uid; cause = cause }
 
+-- the value of a script, or its fault as one of its node
 abbrev pub script_answer : ℕ → Result Value ExecFault → Result Value NodeFault
 script_answer uid (Ok value) = Ok value
 script_answer uid (Err fault) = Err (fault_of_node uid (script_cause fault))
@@ -55,12 +56,13 @@ abbrev pub script_if_there : Site → Option Script → State → Done (Unit {0}
 script_if_there site (Some script) s = follow (script_run site script s) (λ _. tt) (λ value _ s1. done tt tt s1)
 script_if_there site None s = done tt tt s
 
--- a guard answers where it is there and its truth is this one; else what comes after it
+-- a guard whose truth is known: it answers where this is the truth that it asks for; else what comes after it
 abbrev pub answers_where : Bool → Answer → (State → Done (Option Answer) (Unit {0})) → Bool → State → Done (Option Answer) (Unit {0})
 answers_where true answer next true s = done (Some answer) tt s
 answers_where false answer next false s = done (Some answer) tt s
 answers_where _ answer next _ s = next s
 
+-- a guard that answers where it is there and its truth is this one; else what comes after it
 abbrev pub guard : Site → Option Script → Bool → Answer → (State → Done (Option Answer) (Unit {0})) → State → Done (Option Answer) (Unit {0})
 guard site (Some script) truth answer next s =
     follow (script_holds site script s) (λ _. tt) (λ b _ s1. answers_where truth answer next b s1)
@@ -76,6 +78,7 @@ guarded_by g site s =
     (guard site g.skip_if true Skipped
     (guard site g.while_true false Skipped (λ s1. done None tt s1)))) s
 
+-- the answer of the guards of a node
 abbrev pub guards_answer : Site → State → Done (Option Answer) (Unit {0})
 guards_answer site s = guarded_by site.node.guards site s
 
@@ -84,6 +87,7 @@ abbrev pub goes_on_by : Site → Option Script → State → Done Bool (Unit {0}
 goes_on_by site (Some script) s = script_holds site script s
 goes_on_by site None s = done true tt s
 
+-- whether a RUNNING node goes on, by its own `_while`
 abbrev pub goes_on : Site → State → Done Bool (Unit {0})
 goes_on site s = goes_on_by site site.node.guards.while_true s
 

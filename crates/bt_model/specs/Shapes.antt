@@ -26,14 +26,17 @@ use Rattle.bt_model.specs.Ports.{given_by}
 use Rattle.bt_model.specs.Rules.Parallels.{failure_holds, success_holds}
 use Rattle.bt_model.specs.Steps.{is_completed}
 
+-- whether a status is RUNNING
 abbrev pub is_running : Status → Bool
 is_running Running = true
 is_running _ = false
 
+-- whether a status is SUCCESS
 abbrev pub is_success : Status → Bool
 is_success Success = true
 is_success _ = false
 
+-- whether a status is FAILURE
 abbrev pub is_failure : Status → Bool
 is_failure Failure = true
 is_failure _ = false
@@ -48,6 +51,7 @@ status_at ss place = slice_index_or ss place Idle
 abbrev pub IdleFrom : ℕ → List Status → Type 0
 IdleFrom first ss = (k : ℕ) → first ≤ k → status_at ss k ≡ Idle
 
+-- all children are IDLE
 abbrev pub AllIdle : List Status → Type 0
 AllIdle ss = IdleFrom 0 ss
 
@@ -95,6 +99,7 @@ IsGiven r (Some (Lit value)) n = value ≡ Int n
 IsGiven r (Some (Key key)) n = IsTrue (fits r (Int n))
 IsGiven r None n = ⊥
 
+-- a number that the port of this name is given
 abbrev pub IsGivenAt : Range → List Port → List ℕ → ℤ → Type 0
 IsGivenAt r ports name n = IsGiven r (given_by (port_of ports name)) n
 
@@ -120,6 +125,7 @@ Lasts (Replay ms outcomes) = Unit {0}
 Lasts (Gate test) = Unit {0}
 Lasts _ = ⊥
 
+-- there is such a row
 abbrev pub RowLasts : Option Row → Type 0
 RowLasts (Some row) = Lasts row.sort
 RowLasts None = ⊥
@@ -165,6 +171,7 @@ RestingShape (Index at false) SequenceWithMemory ss = (at < length ss) × NoneRu
 RestingShape (Finished (Some a)) RunOnce ss = IsMark a × AllIdle ss
 RestingShape _ kind ss = ⊥
 
+-- what may be together at a node with this status
 abbrev pub Shape : Status → Kind → List Port → Option Row → ℕ → Memo → List Status → Type 0
 Shape Running kind ports row moment memo ss = RunningShape kind ports row moment memo ss
 Shape _ kind ports row moment memo ss = RestingShape memo kind ss

@@ -72,5 +72,6 @@ children_from view (c ∷ cs) uid place = child_of view c uid place ∷ children
 abbrev pub view_below : Site → View
 view_below site = record site.view { scope = children_scope site.node.kind site.uid site.node.ports site.node.autoremap site.view.scope }
 
+-- the children of a node, as it sees them
 abbrev pub children_of : Site → List Child
 children_of site = children_from (view_below site) site.node.children (site.uid + 1) 0

@@ -32,6 +32,7 @@ abbrev pub is_held : Status → Kind → Bool
 is_held Running Leaf = true
 is_held _ kind = false
 
+-- the statuses that some memories have
 abbrev pub statuses : List Memory → List Status
 statuses ms = map (λ (m : Memory). (out-Memory m).status) ms
 
@@ -101,6 +102,7 @@ pub record Left {A M : Type 0} (rules : Option ℕ → M → State → Type 0) (
   pub within : Within uid size s s1
   pub ends : EndsWith fits uid size answer m1 s1
 
+-- what a part of an event leaves, by all that it leaves
 abbrev pub Leaves : {A M : Type 0} → (Option ℕ → M → State → Type 0) → (A → M → State → Type 0) → ℕ → ℕ → State → Done A M → Type 0
 Leaves rules fits uid size s d = Left rules fits uid size s d.answer d.memory d.state
 

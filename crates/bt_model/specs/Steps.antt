@@ -22,6 +22,7 @@ pub record Child : Type 0 where
 abbrev pub nobody : Child
 nobody = record { status = λ ms. status.Idle; reset = λ ms s. done tt ms s; visit = λ ms s. done Skipped ms s }
 
+-- the child at a place
 abbrev pub child_at : List Child → ℕ → Child
 child_at children place = slice_index_or children place nobody
 

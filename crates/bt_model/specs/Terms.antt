@@ -35,6 +35,7 @@ turns_given (Key key) = 1000
 turns_given (Lit (Int n)) = if int_eq n (negsuc 0) then 1 else unsigned_abs n
 turns_given (Lit (Text text)) = 1
 
+-- how often it visits its child by its ports, of which the limit is the first
 abbrev pub turns_of : List Port → ℕ
 turns_of [] = 1
 turns_of (port ∷ ports) = turns_given port.value

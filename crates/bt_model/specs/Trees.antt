@@ -56,6 +56,7 @@ CodeFits true code = ScriptFits code
 CodeFits false None = Unit {0}
 CodeFits false code = ⊥
 
+-- each guard is a script that its own text reads as
 pub record GuardsFit (guards : Guards) : Type 0 where
   pub failure_if : ScriptFits guards.failure_if
   pub success_if : ScriptFits guards.success_if
@@ -82,6 +83,7 @@ pub record Node : Type 0 where
   pub autoremap : Bool
   pub children : ℕ
 
+-- the nodes of a term in pre-order, where those of its children are known
 abbrev pub nodes_step : Term-F (List Node) → List Node
 nodes_step node = (record {
   kind = node.kind;
@@ -107,10 +109,12 @@ all_differ (name ∷ names) = not (is_among name names) && all_differ names
 abbrev pub port_stands : Port → Bool
 port_stands port = is_port_name port.name && (name_stands port.name && value_stands (port_text port.value))
 
+-- whether a script, where there is one, can be written as an attribute
 abbrev pub script_stands : Option Script → Bool
 script_stands None = true
 script_stands (Some script) = value_stands script.text
 
+-- whether each guard can be written
 abbrev pub guards_stand : Guards → Bool
 guards_stand g =
     script_stands g.failure_if

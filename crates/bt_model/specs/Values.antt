@@ -31,6 +31,7 @@ key_value key = if is_identifier key then Some (Key key) else None
 abbrev pub literal : List ℕ → Value
 literal text = option_map_or Int (int_in text) (Text text)
 
+-- a literal, if it is of the range
 abbrev pub literal_value : Range → Value → Option PortValue
 literal_value range value = if fits range value then Some (Lit value) else None
 

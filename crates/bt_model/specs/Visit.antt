@@ -54,10 +54,12 @@ abbrev pub halt_state : Kind → ℕ → State → State
 halt_state Leaf uid s = record s { instances = slice_set s.instances uid (let_go (instance_at s uid)) }
 halt_state _ uid s = s
 
+-- the note of that call
 abbrev pub halt_notes : Kind → ℕ → List Note
 halt_notes Leaf uid = Halted uid ∷ []
 halt_notes _ uid = []
 
+-- that call
 abbrev pub halt_calls : Kind → ℕ → State → List Call
 halt_calls Leaf uid s = record { uid = uid; phase = phase.Halted; left = let_go (instance_at s uid) } ∷ []
 halt_calls _ uid s = []
@@ -153,6 +155,7 @@ visit_by _ site m s = follow (guards_answer site s) (λ _. m) (λ a _ s1. guarde
 
 -- ---- Terms
 
+-- a node in its place
 abbrev pub site_of : Term-F Meaning → View → ℕ → Site
 site_of node view uid = record { node = node; uid = uid; view = view }
 

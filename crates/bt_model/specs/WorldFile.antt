@@ -101,12 +101,13 @@ abbrev pub head_before : List ℕ → List ℕ → Option Head
 head_before id rest =
     if ends_with nat_eq rest (codes ")") then head_with id (slice_split (λ b. b == 44) (take (length rest - 1) rest)) else None
 
--- `ID`, or `ID(p,q)`
+-- the head that a word is, of which these are the parts between its `(`
 abbrev pub head_of : List (List ℕ) → Option Head
 head_of (id ∷ []) = head_with id []
 head_of (id ∷ rest ∷ []) = head_before id rest
 head_of _ = None
 
+-- the head that a word is, if it is one: `ID`, or `ID(p,q)`
 abbrev pub head_in : List ℕ → Option Head
 head_in word = head_of (slice_split (λ b. b == 40) word)
 
@@ -314,6 +315,7 @@ plain_row id ports sort = record { id = id; ports = ports; sort = sort; needs = 
 
 -- ---- The world after a line: its faults in their order, or what it adds
 
+-- one more fact, of a name that no other has
 abbrev pub with_fact : List ℕ → ℤ → Reading → Result Reading WorldKind
 with_fact name opening r =
     if list_any (bytes_eq name) (names_of_facts r.facts) then Err DoubleName
@@ -364,6 +366,7 @@ fails_by (Timed ms None) row known e = if known then Ok (record row { sort = Tim
 fails_by (Timed ms (Some other)) row known e = Err DoubleName
 fails_by _ row known e = Err BadLine
 
+-- a row that fails where this expression is not 0
 abbrev pub row_with_fails : List Fact → Expr → Row → Result Row WorldKind
 row_with_fails facts e row = fails_by row.sort row (knows_all row.ports facts e) e
 
@@ -389,6 +392,7 @@ with_output out known row =
     else if nat_le most_outputs (length row.outs) then Err TooMany
     else Ok (record row { outs = row.outs ++ out ∷ [] })
 
+-- a row with one more output, the expression for the port of this name
 abbrev pub row_with_out : List Fact → List ℕ → Expr → Row → Result Row WorldKind
 row_with_out facts port e row = with_output (record { port = port; expr = e }) (knows_all row.ports facts e) row
 
@@ -403,9 +407,11 @@ with_goal n r =
 abbrev pub with_runners : ℕ → Reading → Result Reading WorldKind
 with_runners count r = if is_some r.runners then Err DoubleName else Ok (record r { runners = Some count })
 
+-- a moment that is not before the last one
 abbrev pub with_moment : ℕ → Reading → Result Reading WorldKind
 with_moment ms r = if nat_lt ms r.moment then Err MomentBack else Ok (record r { moment = ms })
 
+-- one more event, at the last moment
 abbrev pub with_event : What → Reading → Result Reading WorldKind
 with_event what r =
     if nat_le most_events (length r.events) then Err TooMany
@@ -494,6 +500,7 @@ AfterLines number (text ∷ texts) r said =
 abbrev pub world_of : Reading → World
 world_of r = record { facts = r.facts; rows = (closed r).rows; goals = r.goals; runners = runners_of r; events = r.events }
 
+-- the world of what was read, or the fault
 abbrev pub world_after : Result Reading WorldFault → Result World WorldFault
 world_after (Ok r) = Ok (world_of r)
 world_after (Err fault) = Err fault

@@ -34,6 +34,7 @@ abbrev pub keep_running_after : Memo → Answer → Rule
 keep_running_after memo Success = reset All (keep Running memo)
 keep_running_after memo a = pass_on memo a
 
+-- KeepRunningUntilFailure: its child is visited
 abbrev pub keep_running : Memo → Rule
 keep_running memo = visit 0 (λ a. keep_running_after memo a)
 

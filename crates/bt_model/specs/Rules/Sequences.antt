@@ -48,11 +48,12 @@ abbrev pub reactive_end : Answer → RoundEnd → Rule
 reactive_end goes (AtChild place Running) = reset (AllBut place) (keep Running (Index place true))
 reactive_end goes end = sequence_end goes end
 
--- the child that comes next, and whether one was seen
+-- the child that comes next, by the memo
 abbrev pub index_of : Memo → ℕ
 index_of (Index at seen) = at
 index_of _ = 0
 
+-- whether a child has answered other than SKIPPED, by the memo
 abbrev pub seen_of : Memo → Bool
 seen_of (Index at seen) = seen
 seen_of _ = false

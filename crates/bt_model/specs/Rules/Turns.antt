@@ -40,5 +40,6 @@ abbrev pub turns_on : Answer → Option ℕ → Turns → Rule
 turns_on again (Some limit) t = turn_again again (limit - (t.done + 1)) t
 turns_on again None t = reset All (keep Running (Turned t))
 
+-- a Retry or Repeat: its child is visited
 abbrev pub turns : Answer → Turns → Rule
 turns again t = visit 0 (λ a. turn_after again t (turns_on again (limit_of t.limit) t) a)
