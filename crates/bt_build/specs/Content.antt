@@ -40,10 +40,12 @@ pub data Rules : Type 0 where
   Modelled : List ModelPort → Rules
   BuiltIn : List PortRule → Rules
 
+-- the rules of a leaf, by its model
 abbrev pub model_rules : Option NodeModel → Rules
 model_rules None = AnyPort
 model_rules (Some model) = Modelled model.ports
 
+-- which ports a node of this kind and ID may have
 abbrev pub rules_of : Models → Kind → List ℕ → Rules
 rules_of models SubTree id = AnyKey
 rules_of models Leaf id = model_rules (model_of id models)
@@ -54,6 +56,7 @@ abbrev pub range_among : List PortRule → List ℕ → Option Range
 range_among [] name = None
 range_among (rule ∷ rules) name = if bytes_eq name rule.name then Some rule.range else range_among rules name
 
+-- whether a model has a port of this name
 abbrev pub is_modelled : List ModelPort → List ℕ → Bool
 is_modelled ports name = list_any (λ port. bytes_eq name port.name) ports
 
@@ -88,10 +91,12 @@ form_fits form attributes = true
 
 -- ---- The values of the ports
 
+-- what is there, or else a bad literal of the node with this uid
 abbrev pub or_bad : {A : Type 0} → ℕ → Option A → Result A BuildFault
 or_bad uid (Some x) = Ok x
 or_bad uid None = Err (BadLiteral uid)
 
+-- a port of this name and value
 abbrev pub port_of : List ℕ → PortValue → Port
 port_of name value = record { name = name; value = value }
 
@@ -99,6 +104,7 @@ port_of name value = record { name = name; value = value }
 abbrev pub with_port : ℕ → List Port → Range → List ℕ → List ℕ → Result (List Port) BuildFault
 with_port uid ports range name text = or_bad uid (option_map (λ value. ports ++ port_of name value ∷ []) (value_in range name text))
 
+-- the ports with one of this name and text, if the name fits and the node may have it
 abbrev pub with_ranged : ℕ → List Port → Bool → Option Range → List ℕ → List ℕ → Result (List Port) BuildFault
 with_ranged uid ports true (Some range) name text = with_port uid ports range name text
 with_ranged uid ports fits range name text = Err (BadLiteral uid)
@@ -119,9 +125,11 @@ abbrev pub with_default : ℕ → List Port → PortRule → Option (List ℕ) �
 with_default uid ports rule (Some text) = with_port uid ports rule.range rule.name text
 with_default uid ports rule None = Err (BadLiteral uid)
 
+-- a built-in node's port is added where it is not written
 abbrev pub with_rule : ℕ → Attributes → List Port → PortRule → Result (List Port) BuildFault
 with_rule uid attributes ports rule = if is_some (value_of rule.name attributes) then Ok ports else with_default uid ports rule rule.default
 
+-- those of all its rules, in order
 abbrev pub with_rules : ℕ → Attributes → List Port → List PortRule → Result (List Port) BuildFault
 with_rules uid attributes ports [] = Ok ports
 with_rules uid attributes ports (rule ∷ more) = go_on (λ next. with_rules uid attributes next more) (with_rule uid attributes ports rule)
@@ -131,10 +139,12 @@ abbrev pub with_fallback : ℕ → List Port → List ℕ → Option (List ℕ) 
 with_fallback uid ports name (Some text) = with_port uid ports AnyValue name text
 with_fallback uid ports name None = Ok ports
 
+-- a leaf's port is added where it is not written
 abbrev pub with_modelled : ℕ → Attributes → List Port → ModelPort → Result (List Port) BuildFault
 with_modelled uid attributes ports port =
     if is_some (value_of port.name attributes) then Ok ports else with_fallback uid ports port.name port.fallback
 
+-- those of all ports of its model, in order
 abbrev pub with_model : ℕ → Attributes → List Port → List ModelPort → Result (List Port) BuildFault
 with_model uid attributes ports [] = Ok ports
 with_model uid attributes ports (port ∷ more) = go_on (λ next. with_model uid attributes next more) (with_modelled uid attributes ports port)
@@ -151,6 +161,7 @@ ports_in uid with_code rules attributes = go_on (with_absent uid attributes rule
 
 -- ---- The scripts
 
+-- a script, or else a bad script of the node with this uid
 abbrev pub or_bad_script : ℕ → Result Script ScriptFault → Result (Option Script) BuildFault
 or_bad_script uid (Ok script) = Ok (Some script)
 or_bad_script uid (Err fault) = Err (BadScript uid fault)
@@ -207,6 +218,7 @@ truth_in text =
     else if bytes_eq text (codes "false") || bytes_eq text (codes "0") then Some false
     else None
 
+-- the truth value that a text says, and false where there is no text
 abbrev pub said_or_false : ℕ → Option (List ℕ) → Result Bool BuildFault
 said_or_false uid None = Ok false
 said_or_false uid (Some text) = or_bad uid (truth_in text)

@@ -19,6 +19,7 @@ use Rattle.bt_script.proofs.Readings.{script-clean, script-read, script-refused}
 abbrev pub Reading : List ℕ → Type 0
 Reading text = ((s : Script) × ReadsScript text s) ⊎ ((f : ScriptFault) × StmtsFault text f)
 
+-- where some tokens lead
 abbrev Found : Spot → List Placed → Type 0
 Found s ts = (v : Verdict) × Checked s ts v
 

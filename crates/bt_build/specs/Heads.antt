@@ -29,6 +29,7 @@ is_kept name = bytes_eq name (codes "BehaviorTree") || bytes_eq name (codes "Tre
 abbrev pub plain_head : Kind → List ℕ → Head
 plain_head kind id = record { kind = kind; id = id; form = Plain }
 
+-- a leaf of this ID
 abbrev pub leaf_head : List ℕ → Option Head
 leaf_head id = Some (plain_head Leaf id)
 
@@ -37,6 +38,7 @@ abbrev pub explicit_by : List ℕ → Bool → List ℕ → Option Kind → Opti
 explicit_by name childless id (Some kind) = if writes name (class_of kind) then Some (plain_head kind id) else None
 explicit_by name childless id None = if is_leaf_name name && childless then leaf_head id else None
 
+-- the node that an element of this name writes by this ID, which may be that of a built-in node
 abbrev pub explicit_head : List ℕ → Bool → List ℕ → Option Head
 explicit_head name childless id = explicit_by name childless id (kind_named id)
 
@@ -45,6 +47,7 @@ abbrev pub compact_by : Bool → List ℕ → Option Kind → Option Head
 compact_by childless name (Some kind) = Some (plain_head kind name)
 compact_by childless name None = if not (is_kept name) && childless then leaf_head name else None
 
+-- the node that an element is by its own name, which may be that of a built-in node
 abbrev pub compact_head : Bool → List ℕ → Option Head
 compact_head childless name = compact_by childless name (kind_named name)
 

@@ -28,6 +28,7 @@ use Rattle.bt_build.specs.Versions.{version_in}
 abbrev pub Trees : Type 0
 Trees = List (List ℕ × Element)
 
+-- the tree of this ID
 abbrev pub tree_of : List ℕ → Trees → Option Element
 tree_of id trees = lookup (bytes_eq id) trees
 
@@ -42,6 +43,7 @@ pub record File : Type 0 where
 abbrev pub Reader : Type 0
 Reader = Element → List (List ℕ) → Numbers → Result (Term × Numbers) BuildFault
 
+-- one node before the others
 abbrev pub with_first : Term → Result (List Term × Numbers) BuildFault → Result (List Term × Numbers) BuildFault
 with_first term rest = go_on (λ r. Ok (term ∷ r.0, r.1)) rest
 
@@ -50,10 +52,11 @@ abbrev pub nodes_by : Reader → List (List ℕ) → List Element → Numbers �
 nodes_by reader opened [] numbers = Ok ([], numbers)
 nodes_by reader opened (e ∷ es) numbers = go_on (λ r. with_first r.0 (nodes_by reader opened es r.1)) (reader e opened numbers)
 
--- the numbers with a node more, and with a scope more
+-- the numbers with a node more
 abbrev pub one_node_more : Numbers → Numbers
 one_node_more numbers = record { nodes = numbers.nodes + 1; scopes = numbers.scopes }
 
+-- the numbers with a scope more
 abbrev pub one_scope_more : Numbers → Numbers
 one_scope_more numbers = record { nodes = numbers.nodes; scopes = numbers.scopes + 1 }
 
@@ -74,9 +77,11 @@ node_in head attributes content children = record {
   children = children;
 }
 
+-- a node of all that was read, as a term
 abbrev pub term_of : Head → Attributes → Content → List Term → Term
 term_of head attributes content children = roll-Term (node_in head attributes content children)
 
+-- a node of all that was read, with the numbers after it
 abbrev pub node_with : Head → Attributes → Content → List Term × Numbers → Result (Term × Numbers) BuildFault
 node_with head attributes content below = Ok (term_of head attributes content below.0, below.1)
 
@@ -95,6 +100,7 @@ opened_by file below head e opened numbers (Some tree) =
     (refused_if (not (nat_eq (length (children_of e)) 0 && nat_eq (length (children_of tree)) 1)) (ChildCount (numbers.nodes + 1))
     (node_of file.models below head (attributes_of e) (opened ++ head.id ∷ []) (children_of tree) (one_scope_more (one_node_more numbers)) (numbers.nodes + 1))))
 
+-- whether a kind is a SubTree
 abbrev pub is_subtree : Kind → Bool
 is_subtree SubTree = true
 is_subtree _ = false
@@ -111,6 +117,7 @@ node_by file below head e opened numbers =
     if is_subtree head.kind then opened_by file below head e opened numbers (tree_of head.id file.trees)
     else plain_by file below head e opened numbers
 
+-- an element as the node that it is, if it is one
 abbrev pub known : File → Reader → Element → List (List ℕ) → Numbers → Option Head → Result (Term × Numbers) BuildFault
 known file below e opened numbers None = Err (UnknownNode (numbers.nodes + 1))
 known file below e opened numbers (Some head) = node_by file below head e opened numbers
@@ -124,9 +131,11 @@ read_node file (suc left) e opened numbers =
 
 -- ---- The file
 
+-- whether an element of this name is a tree
 abbrev pub is_tree : List ℕ → Bool
 is_tree name = bytes_eq name (codes "BehaviorTree")
 
+-- whether an element of this name may stand in the document element
 abbrev pub may_stand : List ℕ → Bool
 may_stand name = is_tree name || bytes_eq name (codes "TreeNodesModel")
 
@@ -143,6 +152,7 @@ not_root root = if bytes_eq (name_of root) (codes "root") then stray_place (chil
 abbrev pub with_id : Trees → Element → List ℕ → Result Trees BuildFault
 with_id trees e id = if is_some (tree_of id trees) then Err (DoubleTree id) else Ok (trees ++ (id, e) ∷ [])
 
+-- the trees with that of this element, where it is one
 abbrev pub with_tree : Trees → Element → Result Trees BuildFault
 with_tree trees e = if is_tree (name_of e) then with_id trees e (id_or_empty (attributes_of e)) else Ok trees
 
@@ -197,10 +207,12 @@ abbrev pub main_read : File → List ℕ → Option Element → Result Tree Buil
 main_read file id None = Err (NoTree id)
 main_read file id (Some tree) = roots_read file id (children_of tree)
 
+-- the main tree, if there is one
 abbrev pub named_read : File → Option (List ℕ) → Result Tree BuildFault
 named_read file None = Err NoMain
 named_read file (Some id) = main_read file id (tree_of id file.trees)
 
+-- the main tree of a file with these trees
 abbrev pub trees_read : Models → Option (List ℕ) → Attributes → Version → Trees → Result Tree BuildFault
 trees_read models asked attributes version trees = named_read (record { trees = trees; models = models; version = version }) (main_of asked attributes trees)
 
@@ -209,6 +221,7 @@ abbrev pub read_in : Option Version → (Version → Result Tree BuildFault) →
 read_in None read = Err Format
 read_in (Some version) read = read version
 
+-- the fault of what is no root comes before all that is read
 abbrev pub root_faults : Option ℕ → Result Tree BuildFault → Result Tree BuildFault
 root_faults (Some place) read = Err (NotRoot place)
 root_faults None read = read

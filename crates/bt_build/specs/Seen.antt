@@ -10,6 +10,7 @@ use Rattle.bt_build.specs.declared.tree.File.{File as Defined}
 use Rattle.bt_build.specs.Content.{Rules, AnyPort, AnyKey, Modelled, BuiltIn}
 use Rattle.bt_build.specs.Reads.{File, Trees}
 
+-- the rules of ports
 abbrev pub rules_seen : Kept → Rules
 rules_seen kept.AnyPort = AnyPort
 rules_seen kept.AnyKey = AnyKey
