@@ -22,16 +22,19 @@ Models = List (List ℕ × NodeModel)
 abbrev pub model_of : List ℕ → Models → Option NodeModel
 model_of id models = lookup (bytes_eq id) models
 
--- the name, the attributes, the children and the place of an element
+-- the name of an element
 abbrev pub name_of : Element → List ℕ
 name_of e = (out-Element e).name
 
+-- its attributes
 abbrev pub attributes_of : Element → Attributes
 attributes_of e = (out-Element e).attributes
 
+-- its children
 abbrev pub children_of : Element → List Element
 children_of e = (out-Element e).children
 
+-- its place
 abbrev pub place_of : Element → ℕ
 place_of e = (out-Element e).place
 
@@ -64,6 +67,7 @@ with_port_named p e None = Err (BadModel (place_of e))
 with_port_named p e (Some name) =
     if is_among name p.names then Err (BadModel (place_of e)) else Ok (with_port p name (value_of (codes "default") (attributes_of e)))
 
+-- the ports with that of this child of the model, where it is one
 abbrev pub with_child : Ports → Element → Result Ports ManifestFault
 with_child p e = if is_port (name_of e) then with_port_named p e (value_of (codes "name") (attributes_of e)) else Ok p
 
@@ -82,6 +86,7 @@ is_model name = bytes_eq name (codes "Action") || bytes_eq name (codes "Conditio
 abbrev pub has_model : Models → List ℕ → Bool
 has_model models id = is_some (model_of id models)
 
+-- the models with one of this ID and these ports
 abbrev pub with_ports : Models → List ℕ → Ports → Models
 with_ports models id p = models ++ (id, record { id = id; ports = p.ports }) ∷ []
 
@@ -97,6 +102,7 @@ with_model_of models e (Some id) =
     else if has_model models id then Err (DoubleModel (place_of e))
     else go_on (λ p. Ok (with_ports models id p)) (with_children no_ports (children_of e))
 
+-- the models with that of this element, where it is one
 abbrev pub with_model : Models → Element → Result Models ManifestFault
 with_model models e = if is_model (name_of e) then with_model_of models e (value_of (codes "ID") (attributes_of e)) else Ok models
 
