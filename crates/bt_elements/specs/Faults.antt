@@ -28,6 +28,7 @@ behind_mark (In names) (Empty o) = ended_in names
 behind_mark (In names) (End name gap) = ended_in (drop 1 names)
 behind_mark s _ = s
 
+-- the standing after these pieces
 abbrev pub behind_pieces : Standing → List Piece → Standing
 behind_pieces s [] = s
 behind_pieces s (p ∷ ps) = behind_pieces (behind_mark s p.mark) ps
@@ -65,6 +66,7 @@ pub data Next : Type 0 where
   Unmarked : Next
   Over : Next
 
+-- the rest of a file begins with this
 abbrev pub IsNext : List ℕ → Next → Type 0
 IsNext rest (Marked m) = IsMark m × ((more : List ℕ) × (rest ≡ mark_written m ++ more))
 IsNext rest Unmarked = ((inner : List ℕ) × (rest ≡ 60 ∷ inner)) × ((m : Mark) (more : List ℕ) → IsMark m → rest ≡ mark_written m ++ more → ⊥)

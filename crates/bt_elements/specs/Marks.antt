@@ -38,6 +38,7 @@ pub record Opening : Type 0 where
   pub attributes : List Attribute
   pub gap : List ℕ
 
+-- the bytes of such a mark
 abbrev pub opening_written : Opening → List ℕ
 opening_written o = o.name ++ (flat_map attribute_written o.attributes ++ o.gap)
 
@@ -49,10 +50,11 @@ pub data Mark : Type 0 where
   Instruction : (body : List ℕ) → Mark
   Comment : (body : List ℕ) → Mark
 
--- the end of an instruction and of a comment
+-- the end of an instruction
 abbrev pub instruction_end : List ℕ
 instruction_end = codes "?>"
 
+-- the end of a comment
 abbrev pub comment_end : List ℕ
 comment_end = codes "-->"
 

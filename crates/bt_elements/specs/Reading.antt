@@ -34,6 +34,7 @@ GivesAs view (Ok x) said = said ≡ Ok (view x)
 GivesAs view (Err stop.NoMemory) said = Unit {0}
 GivesAs view (Err (stop.Fault fault)) said = said ≡ Err fault
 
+-- the bytes after the white space at the front
 abbrev pub after_white : List ℕ → List ℕ
 after_white bytes = drop (prefix_len is_white bytes) bytes
 
@@ -47,6 +48,7 @@ abbrev pub behind : ℕ → List ℕ → Option (List ℕ)
 behind c [] = None
 behind c (b ∷ bs) = if b == c then Some bs else None
 
+-- the name at the front, and what follows it
 abbrev pub name_of : List ℕ → Option (List ℕ × List ℕ)
 name_of bytes =
     let n = prefix_len is_name_rest bytes in
@@ -58,10 +60,12 @@ value_behind quote bytes =
     let n = prefix_len (is_value_byte quote) bytes in
     option_map (λ rest. (decoded (take n bytes), rest)) (behind quote (drop n bytes))
 
+-- what the quoted value at the front says, and what follows it
 abbrev pub value_of : List ℕ → Option (List ℕ × List ℕ)
 value_of [] = None
 value_of (c ∷ cs) = if is_quote c then value_behind c cs else None
 
+-- the attribute at the front, and what follows it
 abbrev pub attribute_of : List ℕ → Option ((List ℕ × List ℕ) × List ℕ)
 attribute_of bytes =
     name_of bytes >>= λ name.
@@ -69,6 +73,7 @@ attribute_of bytes =
     value_of (after_white equal) >>= λ value.
     Some ((name.0, value.0), value.1)
 
+-- whether an attribute begins at the front, with its white space
 abbrev pub attribute_begins : List ℕ → Bool
 attribute_begins bytes = begins is_white bytes && begins is_name_first (after_white bytes)
 
@@ -80,6 +85,7 @@ attributes_of (suc k) bytes =
     (attribute_of (after_white bytes) >>= λ a. option_map (λ more. (a.0 ∷ more.0, more.1)) (attributes_of k a.1))
     else Some ([], bytes)
 
+-- a start mark or an empty mark up to its end, and what follows
 abbrev pub front_of : List ℕ → Option (Front × List ℕ)
 front_of bytes =
     name_of bytes >>= λ name.
@@ -93,9 +99,11 @@ closing o (c ∷ cs) =
     if c == 62 then Some (Start o, cs)
     else if c == 47 then option_map (λ rest. (Empty o, rest)) (behind 62 cs) else None
 
+-- a start mark or an empty mark, and what follows it
 abbrev pub opening_of : List ℕ → Option (Mark × List ℕ)
 opening_of bytes = front_of bytes >>= λ o. closing o.0 o.1
 
+-- an end mark, and what follows it
 abbrev pub end_of : List ℕ → Option (Mark × List ℕ)
 end_of bytes =
     name_of bytes >>= λ name.
@@ -108,6 +116,7 @@ behind_first word (c ∷ cs) =
     if begins_with word (c ∷ cs) then Some (drop (length word) (c ∷ cs))
     else if c == 0 then None else behind_first word cs
 
+-- an instruction or a comment with this ending, and what follows it
 abbrev pub aside_of : List ℕ → List ℕ → Option (Mark × List ℕ)
 aside_of ending bytes = option_map (λ rest. (Aside, rest)) (behind_first ending bytes)
 
@@ -132,22 +141,28 @@ pub record State : Type 0 where
   pub stack : List Open
   pub done : Option Element
 
+-- the code's nest as a state: the code keeps the innermost element last
 abbrev pub seen : Nest → State
 seen n = record { stack = reverse n.stack.items; done = n.done }
 
+-- before the first mark
 abbrev pub start : State
 start = record { stack = []; done = None }
 
+-- whether what stands here is inside of models, by the open elements
 abbrev pub inside_of : List Open → Bool
 inside_of [] = false
 inside_of (o ∷ os) = o.inside
 
+-- whether a text may stand here
 abbrev pub may_stand : State → List ℕ → Bool
 may_stand st text = is_none st.done && inside_of st.stack || list_all is_white text
 
+-- the element that an open one becomes when it ends
 abbrev pub element_of : Open → Element
 element_of o = roll-Element (record { name = o.name; attributes = o.attributes; children = o.children; place = o.place })
 
+-- an open element with one more child, its last
 abbrev pub with_child : Open → Element → Open
 with_child o e = record { name = o.name; attributes = o.attributes; children = o.children ++ e ∷ []; place = o.place; inside = o.inside }
 
@@ -156,6 +171,7 @@ abbrev pub attach : Element → List Open → State
 attach e [] = record { stack = []; done = Some e }
 attach e (o ∷ os) = record { stack = with_child o e ∷ os; done = None }
 
+-- an element that begins at this place within these
 abbrev pub opened : List Open → ℕ → Front → Open
 opened stack place o =
     record { name = o.name; attributes = o.attributes; children = []; place = place; inside = inside_of stack || is_models o.name }
@@ -168,10 +184,12 @@ begun st place o =
     (if nat_lt (length st.stack) 258 then Ok (opened st.stack place o) else Err (TooDeep place)) else Err (Unmatched place))
     else Err (DoubleAttribute place)
 
+-- the end mark of this name at this place
 abbrev pub close : ℕ → List ℕ → List Open → Result State ElementFault
 close place name [] = Err (Unmatched place)
 close place name (o ∷ os) = if bytes_eq o.name name then Ok (attach (element_of o) os) else Err (Unmatched place)
 
+-- the state after a mark at this place, or the fault of the mark
 abbrev pub step : State → ℕ → Mark → Result State ElementFault
 step st place (Start o) = begun st place o >=> λ x. Ok (record { stack = x ∷ st.stack; done = None })
 step st place (Empty o) = begun st place o >=> λ x. Ok (attach (element_of x) st.stack)
@@ -183,6 +201,7 @@ abbrev pub ended_by : Option Element → ℕ → Result Element ElementFault
 ended_by None total = Err (Unmatched total)
 ended_by (Some e) total = Ok e
 
+-- the document element at the end of a file of this length
 abbrev pub finished : State → ℕ → Result Element ElementFault
 finished st total = ended_by st.done total
 
@@ -202,6 +221,7 @@ read_from (suc k) total st bytes =
     else (mark_at place (drop 1 rest) >=> λ m. step st place m.0 >=> λ next. read_from k total next m.1))
     else Err (StrayText (total - length bytes + prefix_len is_white text))
 
+-- the document element of the rest of a file of this length
 abbrev pub read_rest : ℕ → State → List ℕ → Result Element ElementFault
 read_rest total st bytes = read_from (suc (length bytes)) total st bytes
 

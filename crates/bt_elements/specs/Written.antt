@@ -9,6 +9,7 @@ use Rattle.bt_elements.specs.Marks.{no_name_twice}
 abbrev pub can_stand : List ℕ × List ℕ → Bool
 can_stand a = name_stands a.0 && value_stands a.1
 
+-- whether an element can be written, where this is known of its children
 abbrev pub writes_step : Element-F Bool → Bool
 writes_step f = name_stands f.name && (list_all can_stand f.attributes && (no_name_twice f.attributes && list_all (λ (child : Bool). child) f.children))
 
