@@ -152,7 +152,7 @@ is_decorator kind = of_decorator (class_of kind)
 abbrev pub has_rule : Kind → Bool
 has_rule kind = of_parent (class_of kind)
 
--- how many children a node of each class may have
+-- whether a node of this class may have so many children
 abbrev pub takes_by : Class → ℕ → Bool
 takes_by class.Control children = nat_le 1 children
 takes_by class.Decorator children = nat_eq children 1

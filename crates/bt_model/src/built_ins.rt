@@ -287,7 +287,7 @@ pub fn has_rule(kind: Kind) -> bool
     }
 }
 
-/// How many children the nodes of a class may have, but for the kinds that ask for a number of their own.
+/// Whether a node of this class may have so many children, but for the kinds that ask for a number of their own.
 fn takes_by(class: Class, children: usize) -> bool
     ensures { result ≡ takes_by class children }
 {
