@@ -21,7 +21,7 @@ mod value;
 pub use boxed::Boxed;
 pub use cells::{Cells, Looks, Seen};
 pub use fault::{ExecFault, ScriptFault};
-pub use identifier::{is_identifier, is_identifier_continue, is_identifier_start, is_white};
+pub use identifier::{is_identifier, is_identifier_start, is_white};
 pub use items::Items;
 pub use name::Name;
 pub use reader::{parse_expr, parse_script};
