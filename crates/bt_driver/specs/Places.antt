@@ -13,12 +13,12 @@ use Rattle.bt_model.specs.Worlds.{IsExprOver, names_of_facts}
 use Rattle.bt_model.specs.declared.world.RowSort.{RowSort}
 use Rattle.bt_model.specs.declared.world.RowSort.TheVariants as sort
 
--- names with their places, of which the first has this one
+-- names with their places, counted from this one
 abbrev pub placed : ℕ → List (List ℕ) → List (List ℕ × ℕ)
 placed place [] = []
 placed place (name ∷ names) = (name, place) ∷ placed (place + 1) names
 
--- the input ports, and behind the eight inputs the facts
+-- the input ports, then (from place 8 on) the facts
 abbrev pub row_places : List (List ℕ) → List Fact → List (List ℕ × ℕ)
 row_places ports facts = placed 0 ports ++ placed 8 (names_of_facts facts)
 
