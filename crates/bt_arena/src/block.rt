@@ -17,7 +17,7 @@ pub struct Block {
     pub entries: Vec<(u8, u32, Value)>,
 }
 
-/// A block of no event yet, with reserved room for the notes of a run whose runners have so many
+/// A block of no event yet, with reserved room for the notes of a run whose runners have this many
 /// leaves together. Each event sets its own header. The error is want of memory (out of memory).
 pub fn block_for(alloc: Global, leaves: u32) -> Result<Block, NoMemory>
     ensures { IfOk result (λ block. block.notes ≡ record { list = []; reserve = leaves + 1; full = leaves + 1 }) }

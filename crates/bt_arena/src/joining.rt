@@ -100,7 +100,8 @@ fn counts_of<D: Drivers>(
     Ok(counts)
 }
 
-/// The first instances of a runner at each driver: they follow those of the runners before it. The
+/// The first instance of a runner at each driver, after those of the runners before it: each of
+/// these has `counts` of them. The error is want of memory, also where there would be 2^32.
 /// error is want of memory.
 fn firsts_of(alloc: Global, counts: &[u32], runner: u8) -> Result<Vec<u32>, NoMemory>
     requires { 1 ≤ runner }
@@ -117,7 +118,7 @@ fn firsts_of(alloc: Global, counts: &[u32], runner: u8) -> Result<Vec<u32>, NoMe
     Ok(firsts)
 }
 
-/// What so many nodes keep before their first visit, or want of memory.
+/// What this many nodes keep before their first visit, or want of memory.
 fn at_rest(alloc: Global, count: usize) -> Result<Vec<Kept>, NoMemory>
     ensures { IfOk result (λ kept. kept.items ≡ replicate count rested) }
 {
@@ -147,7 +148,8 @@ fn totals_of<D: Drivers>(
     counts_of(alloc, ids.as_slice(), world, rows, drivers)
 }
 
-/// The arena of a runner, where each driver serves so many leaves of the tree.
+/// The arena of a runner, where `counts` says how many leaves of the tree each driver serves. The
+/// error is want of memory.
 fn arena_with<D: Drivers>(
     alloc: Global,
     setting: &Setting,

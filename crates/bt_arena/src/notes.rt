@@ -34,8 +34,8 @@ impl Model for Notes {
     } };
 }
 
-/// No notes, with a reserved place for each of so many leaves, and one for the note of a fault. The
-/// notes of a run have a place for each leaf of all its runners. The error is want of memory.
+/// No notes, with a reserved place for each of this many leaves, and one for the note of a fault.
+/// The notes of a run have a place for each leaf of all its runners. The error is want of memory.
 pub fn notes_of(alloc: Global, leaves: u32) -> Result<Notes, NoMemory>
     ensures { IfOk result (λ notes. notes ≡ record { list = []; reserve = leaves + 1; full = leaves + 1 }) }
 {

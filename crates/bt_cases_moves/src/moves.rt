@@ -976,7 +976,7 @@ fn decorators_of_one_visit(rt: HostRuntime) -> Result<(), Fail> {
     Ok(())
 }
 
-/// A memo with so many turns done, of this limit.
+/// A memo with this many turns done, of this limit.
 fn turns(done: u32, limit: i64) -> Memo {
     Memo::Turns(Turns { done, limit })
 }

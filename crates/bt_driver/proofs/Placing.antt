@@ -45,7 +45,7 @@ row_names ports facts =
     map-append (λ (pair : List ℕ × ℕ). pair.0) (placed 0 ports) (placed 8 (names_of_facts facts))
     ∙ (λ i. placed_names 0 ports i ++ placed_names 8 (names_of_facts facts) i)
 
--- an expression over the ports and the facts can be read over their places
+-- an expression over the ports and the facts can be compiled over their places
 pub readable : (ports : List (List ℕ)) (facts : List Fact) (e : Expr) → IsExprOver ports (names_of_facts facts) e → IsReadable (row_places ports facts) e
 readable ports facts e over = record {
   named = subst (λ ns. All (Contains ns) (names_of e)) (sym (row_names ports facts)) over.named;

@@ -9,7 +9,7 @@ use bt_model::{Instance, Phase};
 use bt_script::NoMemory;
 use std::alloc::Global;
 
-/// The outcome after so many completions, or the last one where there are no more.
+/// The outcome after this many completions; after the last outcome it stays the last.
 fn outcome_at(outcomes: &[bool], completions: u8) -> bool
     ensures { result ≡ leaf.outcome_at outcomes.now completions }
 {

@@ -236,7 +236,7 @@ fn tell(
 /// Calls the driver of the leaf with this uid, with its inputs: `running` where it is RUNNING, else
 /// `start`. On SUCCESS its outputs are written. The place of the note is reserved before the call,
 /// so that each call that was made has its note. The error is the leaf's fault, or want of memory,
-/// and then there was no call. `now` is in milliseconds.
+/// which comes before the call. `now` is in milliseconds.
 #[inline(always)]
 pub fn leaf_call<D: Drivers>(
     leaf: &ReadyLeaf,

@@ -50,8 +50,8 @@ fn threshold(children: u32, count: Option<i64>) -> Option<u32>
     }
 }
 
-/// The first memo of a Parallel of so many children with these counts. The error is the port whose
-/// count is out of range.
+/// The first memo of a Parallel of this many children with these counts. The error is the port
+/// whose count is out of range.
 fn parallel_start(children: u32, success: Option<i64>, failure: Option<i64>) -> Result<Memo, PortId>
     ensures { result ≡ parallel_start (threshold children success) (is_negative success) (threshold children failure) }
 {
