@@ -21,7 +21,7 @@ use Rattle.bt_arena.specs.Rows.{counted_at}
 use Rattle.bt_arena.specs.Sources.{IsSourceOf, source_at}
 use Rattle.bt_arena.specs.Stands.{StandAll}
 
--- ---- What is asked of a term
+-- ---- What must hold of a term
 
 -- a node where it stands in a tree: its number leads to its scope, and its uid to the scope that it makes; the tree
 -- has a slot for each name in it

@@ -102,7 +102,6 @@ fn counts_of<D: Drivers>(
 
 /// The first instance of a runner at each driver, after those of the runners before it: each of
 /// these has `counts` of them. The error is want of memory, also where there would be 2^32.
-/// error is want of memory.
 fn firsts_of(alloc: Global, counts: &[u32], runner: u8) -> Result<Vec<u32>, NoMemory>
     requires { 1 ≤ runner }
     ensures { IfOk result (λ firsts. firsts.items ≡ map (λ count. (runner - 1) * count) counts.now) }

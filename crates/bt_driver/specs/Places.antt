@@ -1,4 +1,4 @@
--- The names that a row's expressions look at, with their places, and what is asked of the row.
+-- The names that a row's expressions look at, with their places, and what must hold of the row.
 use Rattle.std.specs.Prelude.{◌≡◌, ℕ, ◌+◌, ◌<◌, ◌≤◌, List, [], ◌∷◌, ◌++◌, length, IfSome}
 use Rattle.std.specs.List.{All}
 use Rattle.bt_script.specs.declared.syntax.Expr.{Expr}
