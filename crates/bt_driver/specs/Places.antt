@@ -51,7 +51,7 @@ IsSortOver ports facts (sort.Timed ms fails) = IfSome fails (IsExprOver ports (n
 IsSortOver ports facts (sort.Replay ms outcomes) = Unit {0}
 IsSortOver ports facts (sort.Gate test) = IsExprOver ports (names_of_facts facts) test
 
--- what is asked of a row that is made ready; each valid row of a world with these facts is so
+-- what must hold of a row that is made ready; it holds of each valid row of a world with these facts
 pub record CanBeReady (facts : List Fact) (row : Row) : Type 0 where
   pub few_facts : length facts ≤ 1024
   pub few_ports : length row.ports ≤ 8

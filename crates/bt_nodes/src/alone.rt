@@ -85,7 +85,8 @@ fn answer_where(holds: bool) -> Answer
 
 /// Visits the node with this uid, which has no children, up to its answer: a leaf's driver is
 /// called, a script node runs its code, and AlwaysSuccess and AlwaysFailure answer as their names
-/// say. The memo stays as it was. The error is a fault of the node, or want of memory.
+/// say. The memo stays as it was. The error is a fault of the node, or want of memory. `now` is in
+/// milliseconds.
 #[inline(always)]
 pub fn lone_rule<D: Drivers>(
     alloc: Global,
@@ -126,7 +127,8 @@ pub fn lone_rule<D: Drivers>(
 }
 
 /// Visits the node with this uid, which has no children and is not kept from its visit by a guard,
-/// and ends the visit. The error is a fault of the node, or want of memory.
+/// and ends the visit. The error is a fault of the node, or want of memory. `now` is in
+/// milliseconds.
 #[inline(always)]
 pub fn visit_alone<D: Drivers>(
     alloc: Global,

@@ -225,7 +225,8 @@ fn try_each(
 }
 
 /// Tries the guards of the node with this uid, which is not RUNNING. It is inlined where a node has
-/// guards, so that only there the stack has room for their results.
+/// guards, so that only there the stack has room for their results. The error is a fault of a
+/// guard, or want of memory.
 #[inline(always)]
 fn try_guards(
     alloc: Global,
@@ -284,7 +285,7 @@ pub fn goes_on(
 }
 
 /// Runs two scripts of the node with this uid in order, each where there is one. It is not inlined,
-/// since most nodes have none.
+/// since most nodes have none. The error is a fault of a script, or want of memory.
 #[inline(never)]
 fn both_if_there(
     alloc: Global,
@@ -304,7 +305,8 @@ fn both_if_there(
 }
 
 /// Runs the scripts of the node with this uid after its answer. It is inlined where a node has such
-/// scripts, so that only there the stack has room for their results.
+/// scripts, so that only there the stack has room for their results. The error is a fault of a
+/// script, or want of memory.
 #[inline(always)]
 fn run_posts(
     alloc: Global,

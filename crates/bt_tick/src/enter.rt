@@ -62,7 +62,7 @@ fn begin_rule(
 
 /// Applies the rule of the node with this uid, from its status and its memo on: a node with
 /// children goes on by moves, and any other has its whole visit. The error is a fault, or want of
-/// memory (out of memory).
+/// memory (out of memory). `now` is in milliseconds.
 #[inline(always)]
 fn follow_rule<D: Drivers>(
     alloc: Global,
@@ -127,7 +127,7 @@ fn start(
 }
 
 /// Begins a visit of the node with this uid, which is not RUNNING: its guards answer, or it starts.
-/// The error is a fault, or want of memory.
+/// The error is a fault, or want of memory. `now` is in milliseconds.
 #[inline(always)]
 fn begin<D: Drivers>(
     alloc: Global,
@@ -164,7 +164,7 @@ fn begin<D: Drivers>(
 }
 
 /// Goes on with the node with this uid, which is RUNNING, or halts it where its `_while` is false,
-/// and answers SKIPPED. The error is a fault, or want of memory.
+/// and answers SKIPPED. The error is a fault, or want of memory. `now` is in milliseconds.
 #[inline(always)]
 fn resume<D: Drivers>(
     alloc: Global,

@@ -58,7 +58,7 @@ fn heard_on(stack: &SmallVec<Frame, 32>, answer: Answer) -> Option<Heard>
 
 /// The node on top of the stack goes on with what it hears, and so does each below it when its
 /// child has answered, up to the visit of a child or to the answer of the root. The error is a
-/// fault, or want of memory.
+/// fault, or want of memory. `now` is in milliseconds.
 #[inline(always)]
 fn reach_child<D: Drivers>(
     alloc: Global,
@@ -100,7 +100,8 @@ fn reach_child<D: Drivers>(
 /// Visits the root: one round of the loop for each node that is entered. The nodes with children
 /// whose visits are under way have their frames on a stack, the one that goes on topmost; nodes
 /// that answer at once, as leaves, have none. It allocates memory for frames only where the stack
-/// has no room for all visits that can be under way at once.
+/// has no room for all visits that can be under way at once. The error is a fault, or want of
+/// memory. `now` is in milliseconds.
 fn visit<D: Drivers>(
     alloc: Global,
     nodes: &[Node],
