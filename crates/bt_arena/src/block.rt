@@ -5,7 +5,8 @@ use bt_model::Header;
 use bt_script::{NoMemory, Value};
 use std::alloc::Global;
 
-/// What one event gives to the trace, with reserved room for notes. Each event uses it again.
+/// What one event gives to the trace, with reserved room for notes. The same block is used for all
+/// events of a run.
 #[derive(Debug, Drop)]
 pub struct Block {
     pub header: Header,

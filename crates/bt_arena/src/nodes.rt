@@ -7,10 +7,10 @@ use bt_script_code::Code;
 /// The pre- and postconditions of a node, compiled for the scope in which it stands.
 #[derive(Debug, Drop)]
 pub struct ReadyGuards {
-    /// Whether one of the four is there that may answer before a visit. Most nodes have none, and
-    /// this is the one test for them.
+    /// Whether the node has one of the four guards that may answer before a visit. Most nodes have
+    /// none, and this is the one test for them.
     pub before: bool,
-    /// Whether one of the three is there that run after an answer.
+    /// Whether the node has one of the three that run after an answer.
     pub after: bool,
     pub failure_if: Option<Code>,
     pub success_if: Option<Code>,

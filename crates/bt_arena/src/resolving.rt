@@ -26,7 +26,7 @@ pub(crate) struct Setting<'a> {
     pub(crate) ghost table: { slots.now ≡ slot_table tree.now },
 }
 
-/// The slot of a key in the scope of this number, and 0 where the tree does not name it there.
+/// The slot of a key in the scope of this number; 0 where the tree has none for it there.
 fn slot_of(setting: &Setting, scope: u32, key: &Name) -> u32
     ensures { result ≡ named_slot setting.now.tree.now scope key.now }
 {
