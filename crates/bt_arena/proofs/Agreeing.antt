@@ -35,7 +35,7 @@ module _ (f g : List ℕ → ℕ) where
     abbrev SameValue : Expr → Type 0
     SameValue e = Agree (names_of e) → value_f e ≡ value_g e
 
-    -- a layer, where it holds of the parts
+    -- a node of an expression, where it holds of its parts
     value_at : (y : Expr-F ((e : Expr) × SameValue e)) →
         Agree (names_step (map-Expr Expr (List (List ℕ)) names_of (map-Expr ((e : Expr) × SameValue e) Expr (λ e. e.0) y))) →
         eval_step (λ name. look (f name)) (map-Expr Expr (Result Value ExecFault) value_f (map-Expr ((e : Expr) × SameValue e) Expr (λ e. e.0) y))

@@ -118,7 +118,7 @@ module _ (nodes : List Node) (drivers : List DriverState) (uid : ℕ) (leaf : Re
       ])
       ∙ sym (get_or_default (set (map g nodes) uid left) k d fresh set_inside))
 
-  -- and marks that were right are right again where the leaf's mark is set
+  -- and marks that were right are still right where the leaf's mark is set
   pub marks_called : (kept : List Kept) (now : Kept) → marks_of kept ≡ map is_held (instances_of nodes drivers) → now.held ≡ is_held left
       → marks_of (set kept uid now) ≡ map is_held (instances_of nodes after)
   marks_called kept now right mark =
@@ -127,18 +127,18 @@ module _ (nodes : List Node) (drivers : List DriverState) (uid : ℕ) (leaf : Re
       ∙ sym (map-set is_held (instances_of nodes drivers) uid left)
       ∙ ap (map is_held) (sym instances_called)
 
-  -- one call of a list of calls
+  -- one call at the beginning of a list of calls
   pub roster_after_call : (call : Call) (calls : List Call) → call.uid ≡ uid → call.phase ≡ phase → call.left ≡ left → roster_after nodes (call ∷ calls) drivers ≡ roster_after nodes calls after
   roster_after_call call calls of_uid of_phase leaves =
       ap (λ (ds : List DriverState). roster_after nodes calls ds)
       (ap (λ (found : Option ReadyLeaf). leaf_called found call drivers) (ap (leaf_at nodes) of_uid ∙ is)
       ∙ (λ i. roster_called drivers leaf.driver (of_phase i) leaf.instance (leaves i)))
 
--- where a mark does not change, marks stay right
+-- where a mark is set to what it was, marks stay right
 pub marks_same : (kept : List Kept) (uid : ℕ) (now : Kept) → now.held ≡ (kept_at kept uid).held → marks_of (set kept uid now) ≡ marks_of kept
 marks_same kept uid now same = map-set_same (λ (k : Kept). k.held) kept uid now at_rest same
 
--- some calls, and then others
+-- calls, followed by others
 pub roster_after_both : (nodes : List Node) (xs ys : List Call) (drivers : List DriverState) → roster_after nodes (xs ++ ys) drivers ≡ roster_after nodes ys (roster_after nodes xs drivers)
 roster_after_both nodes [] ys drivers = refl
 roster_after_both nodes (x ∷ xs) ys drivers = roster_after_both nodes xs ys (leaf_called (leaf_at nodes x.uid) x drivers)

@@ -1,4 +1,4 @@
--- A script that its text reads as can be compiled.
+-- A script that is read from its text can be compiled.
 use Rattle.std.proofs.Common.{◌≡◌, ℕ, ◌+◌, ◌<◌, ◌≤◌, List, [], ◌∷◌, ◌++◌, Bool, true, false, cond, nat_le, Option, Some, None, map, length, drop, refl, sym, ap, subst, ◌∙◌, length-append, arith}
 use Rattle.std.specs.List.{All, AllByRecursion, flat_map, list_all}
 use Rattle.std.proofs.Math.Seq.{drop-append-add}
@@ -20,7 +20,7 @@ use Rattle.bt_script_code.specs.Sources.{IsCompilable, IsListed}
 use Rattle.bt_arena.specs.Resolving.{names_in_script}
 use Rattle.bt_arena.proofs.Parts.{All-left, All-right, and_left, and_right}
 
--- ---- expressions are spelled by some token
+-- ---- each expression has a token in the text
 
 some_token : (x : Expr-F (List Token)) → 0 < length (spelled_step x)
 some_token (Num n) = omega arith
@@ -40,7 +40,7 @@ stmt_spelled (Assign name e) = omega arith
 stmt_spelled (Change op name e) = omega arith
 stmt_spelled (Plain e) = expr_spelled e
 
--- ---- none is too high
+-- ---- no expression is too high
 
 abbrev IsLow : Stmt → Type 0
 IsLow s = height (expr_of s) ≤ 64

@@ -25,7 +25,7 @@ use Rattle.std.specs.List.{Contains}
 use Rattle.std.proofs.lemmas.List.Elements.{All-head}
 
 module _ (tree : Tree) (world : World) (number : ℕ) where
-  -- a name that is named has the view's slot, which is one of the board's
+  -- a name that the tree has a slot for has the view's slot, which is one of the board's
   slot_below : (key : List ℕ) → is_named tree number key ≡ true → named_slot tree number key < length (slots tree)
   slot_below key named = subst (λ n. n < length (slots tree)) (sym (named_slot_is tree number key named)) (named_within tree number key named)
 

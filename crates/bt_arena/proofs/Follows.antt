@@ -1,4 +1,4 @@
--- A part of an event that was made or stopped, and what follows it.
+-- A part of an event that was made or stopped, and the part after it.
 use Rattle.std.proofs.Common.{◌≡◌, ℕ, ◌+◌, List, [], ◌∷◌, ◌++◌, length, refl, sym, ap, ◌∙◌, subst, append_assoc, append-nil, cond, length-append, Result, Ok, Err, arith}
 use Rattle.std.proofs.lemmas.List.Sums.{sum_by-append}
 use Rattle.bt_script.specs.declared.stop.Stop.{Stop}
@@ -15,12 +15,12 @@ use Rattle.bt_arena.specs.Rosters.{leaf_called, roster_after}
 use Rattle.bt_arena.specs.Scenes.{Scene, state_in}
 use Rattle.bt_arena.specs.Ends.{IsCut, IsMade, Meets}
 
--- calls behind calls
+-- the drivers after calls, followed by others
 pub after_both : (nodes : List Node) (cs ds : List Call) (drivers : List DriverState) → roster_after nodes (cs ++ ds) drivers ≡ roster_after nodes ds (roster_after nodes cs drivers)
 after_both nodes [] ds drivers = refl
 after_both nodes (c ∷ cs) ds drivers = after_both nodes cs ds (leaf_called (leaf_at nodes c.uid) c drivers)
 
--- the calls that notes name, and those that more notes name
+-- how many calls these notes name, and further notes
 pub named_both : (ns ms : List Note) → calls_named (ns ++ ms) ≡ calls_named ns + calls_named ms
 named_both ns ms = sum_by-append (λ (n : Note). cond (is_of_call n) 1 0) ns ms
 
@@ -42,7 +42,7 @@ module _ (nodes : List Node) (moment : ℕ) where
     named_behind : length cs ≡ calls_named ns → (ms : List Note) (es : List Call) → length es ≡ calls_named ms → length (cs ++ es) ≡ calls_named (ns ++ ms)
     named_behind here ms es e = omega (arith, here, e, length-append cs es, named_both ns ms)
 
-    -- what is met behind notes and calls that were made
+    -- what meets its definition does so too with the notes and calls of an earlier part
     pub behind_met : length cs ≡ calls_named ns → (r : Result A (Stop NodeFault)) → Meets nodes moment memory r s1 s2 n1 n2 d → Meets nodes moment memory r s0 s2 n0 n2 (behind ns cs d)
     behind_met named (Ok a) m = (made_behind (Ok a) m.0, named_behind named d.notes d.calls m.1)
     behind_met named (Err (stop.Fault f)) m = made_behind (Err f) m
@@ -65,7 +65,7 @@ module _ (nodes : List Node) (moment : ℕ) where
         ∙ ap (λ (k : M). behind d.notes d.calls (go a k d.state)) m.memory
         ∙ ap (λ (s : State). behind d.notes d.calls (go a (memory s1.kept) s)) m.state
 
-    -- a part was made, and what follows it goes on from what the part has left
+    -- a part was made, and the next one goes on from what it has left
     pub followed : (a : A) (r : Result B (Stop NodeFault)) (s2 : Scene) (n2 : List Note) → Meets nodes moment memory (Ok a) s0 s1 n0 n1 d →
         Meets nodes moment memory2 r s1 s2 n1 n2 (go a (memory s1.kept) (state_in nodes s1 moment)) → Meets nodes moment memory2 r s0 s2 n0 n2 (follow d place go)
     followed a r s2 n2 m rest =
@@ -86,7 +86,7 @@ module _ (nodes : List Node) (moment : ℕ) where
     }
     cut_within (Err f) m = record { told = m.told; untold = m.untold; made = m.made; unmade = m.unmade; all_notes = m.all_notes; all_calls = m.all_calls; named = m.named; notes = m.notes; drivers = m.drivers }
 
-    -- a part stopped, and nothing follows it
+    -- a part stopped, and no other comes after it
     pub stopped : (e : Stop NodeFault) → place (memory s1.kept) ≡ memory2 s1.kept → Meets {A = A} nodes moment memory (Err e) s0 s1 n0 n1 d → Meets {A = B} nodes moment memory2 (Err e) s0 s1 n0 n1 (follow d place go)
     stopped (stop.Fault f) kept m =
         let left : Done B N = record { answer = Err f; memory = place d.memory; state = d.state; notes = d.notes; calls = d.calls } in

@@ -27,7 +27,7 @@ all_sized [] = refl
 all_sized (e ∷ ts) =
     omega (arith, e.1, all_sized ts, sum_by-cons (λ (c : Reading). c.size) (reading e.0) (map reading (map (λ x. x.0) ts)), sizes_cons e.0 (map (λ x. x.0) ts))
 
--- a memory is read over as many nodes as the term has
+-- a memory is read from as many nodes as the term has
 pub sized : (t : Term) → (reading t).size ≡ (meaning t).size
 sized = ind-Term IsSized (λ x y is.
     ap (λ (r : Reading). r.size) (fold-roll-Term Reading reading_of_node x)
@@ -61,7 +61,7 @@ framed = ind-Term IsFramed (λ x y is uid a b alike.
     ∙ (λ i. remembered (here i).status (here i).memo (children i))
     ∙ sym (ap (λ (r : Reading). r.memory uid b) (fold-roll-Term Reading reading_of_node x)))
 
--- the same of some terms, one behind the other
+-- the memory of several terms in order is that of their own nodes
 pub framed_all : (ts : List Term) (uid : ℕ) (a b : List Kept) → IsKeptAlike uid (all_sizes ts) a b → memories_of ts uid a ≡ memories_of ts uid b
 framed_all [] uid a b alike = refl
 framed_all (t ∷ ts) uid a b alike =
@@ -80,7 +80,7 @@ memory_at_place (c ∷ cs) (suc place) uid t kept within =
     let same : uid + (reading c).size + all_sizes (take place cs) ≡ uid + all_sizes (c ∷ take place cs) = omega (arith, sized c, sizes_cons c (take place cs)) in
     memory_at_place cs place (uid + (reading c).size) t kept (omega (arith, within)) ∙ ap (λ u. memory_of (get_or cs place t) u kept) same
 
--- where nothing changed beside the child at a place, only its memory has
+-- where only the nodes of the child at a place have changed, only its memory has
 pub memory_set : (ts : List Term) (place uid : ℕ) (t : Term) (a b : List Kept) → place < length ts → Beside (uid_of ts uid place) (meaning (get_or ts place t)).size a b
     → set (memories_of ts uid a) place (memory_of (get_or ts place t) (uid_of ts uid place) b) ≡ memories_of ts uid b
 memory_set [] place uid t a b within beside = absurd (omega (arith, within))
@@ -94,7 +94,7 @@ memory_set (c ∷ cs) (suc place) uid t a b within beside =
     let rest = memory_set cs place (uid + (reading c).size) t a b (omega (arith, within)) (subst (λ u. Beside u (meaning (get_or cs place t)).size a b) same beside) in
     (λ i. first i ∷ set (memories_of cs (uid + (reading c).size) a) place (memory_of (get_or cs place t) (same i) b)) ∙ ap (λ (ms : List Memory). memory_of c uid b ∷ ms) rest
 
--- ---- rest
+-- ---- nodes at rest
 
 abbrev IsRested : Term → Type 0
 IsRested t = (uid : ℕ) (kept : List Kept) → ((p : ℕ) → uid ≤ p → p < uid + (meaning t).size → kept_at kept p ≡ at_rest) → memory_of t uid kept ≡ idle t

@@ -8,7 +8,7 @@ use Rattle.std.specs.Prelude.{slice_get}
 use Rattle.bt_model.specs.declared.world.Row.{Row}
 use Rattle.bt_model.specs.Leaves.{row_of}
 
--- the row that is found for an ID, or else that of the rows that are left
+-- the row that is found for an ID, or else that of the rows still to come
 abbrev pub found_or : Option ℕ → List Row → List Row → List ℕ → Option Row
 found_or (Some number) rows left id = slice_get rows number
 found_or None rows left id = row_of left id

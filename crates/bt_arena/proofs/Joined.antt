@@ -1,4 +1,4 @@
--- What a leaf that lacks nothing has: a row of the world, which can be made ready, and a place of a driver.
+-- A leaf for which nothing is missing has a row of the world, which can be made ready, and a place of a driver.
 use Rattle.std.proofs.Common.{◌≡◌, ℕ, ◌+◌, ◌<◌, List, [], ◌∷◌, Bool, true, false, cond, if◌then◌else◌, Option, Some, None, length, subst, arith}
 use Rattle.std.specs.Prelude.{IfSome, find}
 use Rattle.std.specs.List.{All}
@@ -34,11 +34,11 @@ place_below [] kind = tt
 place_below (d ∷ ds) kind = let e : 1 + length ds ≡ length (d ∷ ds) = omega arith in
     subst (λ n. IsBelow n (place_of_kind (d ∷ ds) kind)) e (first_or (same_kind d.kind kind) (length ds) _ (below_more (length ds) (place_of_kind ds kind) (place_below ds kind)))
 
--- the place of a driver is one of the roster
+-- the place of a driver is less than the number of drivers
 pub place_within : (ds : List DriverState) (kind : DriverKind) (place : ℕ) → place_of_kind ds kind ≡ Some place → place < length ds
 place_within ds kind place is = subst (IsBelow (length ds)) is (place_below ds kind)
 
--- what is found is one of those of which something holds
+-- what is found among items of which something holds has it too
 found_holds : {X : Type 0} (P : X → Type 0) (p : X → Bool) (xs : List X) (x : X) → All P xs → find p xs ≡ Some x → P x
 found_holds P p [] x all is = absurd (cc)
 found_holds P p (y ∷ ys) x all is =
@@ -53,7 +53,7 @@ row_ready world id row valid is =
     can_be_ready world.facts world.rows row (omega (arith, valid.facts.few, length-map world.facts (λ (f : Fact). f.name)))
     (found_holds (IsValidRow world.facts world.rows) (λ (row : Row). bytes_eq row.id id) world.rows row valid.rows is)
 
--- the place of the driver that serves a row is one of the roster
+-- the place of the driver that serves a row is less than the number of drivers
 pub place_by_within : (found : Option Row) (ds : List DriverState) (place : ℕ) → place_by found ds ≡ Some place → place < length ds
 place_by_within None ds place is = absurd (cc)
 place_by_within (Some row) ds place is = place_within ds (kind_of_row row) place is

@@ -1,4 +1,4 @@
--- Laying terms into an arena, one behind the other: what is asked of each part, and what the whole leaves.
+-- Adding terms to an arena, one after the other: what must hold of each part, and what the whole leaves.
 use Rattle.std.proofs.Common.{◌≡◌, ℕ, zero, suc, ◌+◌, ◌<◌, ◌≤◌, List, [], ◌∷◌, ◌++◌, Bool, true, false, Option, Some, None, map, length, get_or, sum, drop, refl, sym, ap, subst, ◌∙◌, append-nil, append_assoc, arith}
 use Rattle.std.specs.List.{AllByRecursion, flat_map}
 use Rattle.std.specs.Option.{option_or}
@@ -49,7 +49,7 @@ module _ (tree : Tree) (number : ℕ) where
         subst (AreNamed tree number) (names_given script) (All-right (λ key. is_named tree number key ≡ true) (Names xs) (Names (given script)) both),
       )
 
-  -- the names of a node's scripts are named
+  -- the tree has a slot for each name in a node's scripts
   pub code_named : (code : Option Script) (g : Guards) → AreNamed tree number (Names (scripts_of code g)) → AreNamed tree number (names_if_there code)
   code_named code g named =
       let h = last_named (given code ++ given g.failure_if ++ given g.success_if ++ given g.skip_if ++ given g.while_true ++ given g.on_success ++ given g.on_failure ++ given g.post) g.on_halted named in
@@ -88,7 +88,7 @@ pub fit_closed : (node : TreeNode) → NodeFits node → IsFit node
 unfolding IsFit
 fit_closed node fits = fits
 
--- ---- what is asked of the parts
+-- ---- what must hold of the parts
 
 or_none : {X : Type 0} (x y : Option X) → option_or x y ≡ None → (x ≡ None) × (y ≡ None)
 or_none None y is = (refl, is)
@@ -108,7 +108,7 @@ module _ (tree : Tree) (world : World) (drivers : List DriverState) where
   lack_right [] ys is = is
   lack_right (x ∷ xs) ys is = lack_right xs ys (or_none (leaf_lacks world.rows drivers x) (Lack (xs ++ ys)) is).1
 
-  -- the first of some terms
+  -- what must hold of the first of some terms
   pub can_first : (t : Term) (ts : List Term) (uid number : ℕ) → CanBeLaid tree world drivers (t ∷ ts) uid number → CanBeLaid tree world drivers (t ∷ []) uid number
   can_first t ts uid number can =
       let first = standing_from t uid number (scope_of tree number) in
@@ -118,7 +118,7 @@ module _ (tree : Tree) (world : World) (drivers : List DriverState) where
         joined = ap Lack (append-nil (leaf_ids t)) ∙ lack_left (leaf_ids t) _ can.joined;
       }
 
-  -- and the others
+  -- and of the others
   pub can_rest : (t : Term) (ts : List Term) (uid number : ℕ) → CanBeLaid tree world drivers (t ∷ ts) uid number → CanBeLaid tree world drivers ts (uid + node_count t) number
   can_rest t ts uid number can =
       let first = standing_from t uid number (scope_of tree number) in
@@ -133,7 +133,7 @@ module _ (tree : Tree) (world : World) (drivers : List DriverState) where
   can_as ts us uid other number inner terms uids numbers can =
       subst (λ (xs : List Term). CanBeLaid tree world drivers xs other inner) (sym terms) (subst (λ u. CanBeLaid tree world drivers ts u inner) (sym uids) (subst (λ n. CanBeLaid tree world drivers ts uid n) (sym numbers) can))
 
-  -- the number of the scope of a node's children leads to it
+  -- the number of the scope of a node's children gives that scope
   pub inner_scope : (kind : Kind) (uid number : ℕ) (ports : List Port) (autoremap : Bool) →
       (makes_scope kind ≡ true → scope_of tree uid ≡ scope_below uid ports autoremap (scope_of tree number)) →
       children_scope kind uid ports autoremap (scope_of tree number) ≡ scope_of tree (children_scope_number kind uid number)
@@ -146,7 +146,7 @@ module _ (tree : Tree) (world : World) (drivers : List DriverState) where
   nodes_out : (t : Term) → nodes_of t ≡ record (written (out-Term t)) { children = length (map nodes_of (out-Term t).children) } ∷ flat_map (λ nodes. nodes) (map nodes_of (out-Term t).children)
   nodes_out t = fold_out-Term (List TreeNode) nodes_step t
 
-  -- a term, opened
+  -- one term, with its node and its children
   module _ (t : Term) (uid number : ℕ) (can : CanBeLaid tree world drivers (t ∷ []) uid number) where
     abbrev scope : Scope
     scope = scope_of tree number
@@ -200,7 +200,7 @@ terms_here ts i t within is_t = drop_more ts i t within ∙ ap (λ (x : Term). x
 pub counts_below : (t : Term) → node_count t ≡ 1 + sum (map node_count (out-Term t).children)
 counts_below t = fold_out-Term ℕ (λ node. 1 + sum node.children) t
 
--- one of some terms has no more nodes than all
+-- one of some terms has no more nodes than they have together
 pub counts_within : (ts : List Term) (i : ℕ) (t : Term) → i < length ts → t ≡ get_or ts i t → node_count t ≤ sum (map node_count ts)
 counts_within [] i t within is_t = absurd (omega (arith, within))
 counts_within (x ∷ ts) zero t within is_t = omega (arith, ap node_count is_t, sum_by-cons (λ (k : ℕ). k) (node_count x) (map node_count ts))

@@ -1,4 +1,4 @@
--- Names that a tree names have slots, and those are the slots of their cells.
+-- The names that a tree has slots for have the slots of their cells.
 use Rattle.std.proofs.Common.{◌≡◌, ℕ, ◌+◌, ◌<◌, List, [], ◌∷◌, true, false, cond, ◌||◌, ◌&&◌, nat_eq, Option, Some, None, inl, inr, map, length, if◌then◌else◌, unwrap_or, refl, sym, ap, subst, ◌∙◌, arith}
 use Rattle.std.specs.List.{All, AllByRecursion, Contains, list_any}
 use Rattle.std.specs.Prelude.{IfSome}
@@ -18,11 +18,11 @@ use Rattle.bt_board.proofs.Sound.{IsTrue_cell, namings_sound}
 use Rattle.bt_arena.specs.Resolving.{AreNamed, named_slot, port_keys, with_slots}
 use Rattle.bt_arena.proofs.Parts.{All-left, All-right, and_left, and_right, or_left, or_right}
 
--- the slot of a name that is named
+-- the slot of a name that the tree has one for
 pub named_slot_is : (tree : Tree) (number : ℕ) (key : List ℕ) → is_named tree number key ≡ true → named_slot tree number key ≡ slot_in (slots tree) (scope_of tree number key)
 named_slot_is tree number key named = ap (λ b. unwrap_or (if b then Some (slot_in (slots tree) (scope_of tree number key)) else None) 0) named
 
--- ---- slots are below their number
+-- ---- slots are less than the number of slots
 
 found_within : (cell : Cell) (cells : List Cell) → list_any (λ c. same_cell c cell) cells ≡ true → slot_in cells cell < length cells
 found_within cell [] found = absurd (cc)
@@ -35,7 +35,7 @@ found_within cell (c ∷ cells) found =
 cell_same : (cell : Cell) → same_cell cell cell ≡ true
 cell_same cell = grind (arith, nat_tests, bytes_eq-Decides)
 
--- a key that is named has its cell among those of all names
+-- a key that the tree has a slot for has its cell among those of all names
 cell_named : (tree : Tree) (number : ℕ) (key : List ℕ) (ns : List Naming) → AllByRecursion (IsTrue_cell tree) ns → list_any (λ (n : Naming). nat_eq n.number number && bytes_eq n.key key) ns ≡ true
     → list_any (λ c. same_cell c (scope_of tree number key)) (map (λ (n : Naming). n.cell) ns) ≡ true
 cell_named tree number key [] sound named = absurd (cc)
@@ -83,7 +83,7 @@ slots_found tree number keys = All-weaker (Contains keys) (λ name. slot_among (
 
 -- ---- ports
 
--- the key that a port of a node is given is named
+-- the tree has a slot for the key that a port of a node is given
 pub port_named : (tree : Tree) (number : ℕ) (ports : List Port) (name : List ℕ) (port : Port) → AreNamed tree number (port_keys ports) → port_of ports name ≡ Some port → AreNamed tree number (value_keys port.value)
 port_named tree number [] name port named found = absurd (cc)
 port_named tree number (p ∷ ports) name port named found =

@@ -1,4 +1,4 @@
--- Instances that were given one after the other are numbered by runner, and then by uid.
+-- Instances that were given in order are numbered by runner, and then by uid.
 use Rattle.std.proofs.Common.{◌≡◌, ℕ, zero, suc, ◌+◌, ◌-◌, ◌*◌, ◌<◌, nat_eq, List, [], ◌∷◌, true, false, cond, inl, inr, Option, Some, None, map, length, get_or, set, take, replicate, refl, sym, ap, subst, ◌∙◌, arith}
 use Rattle.std.specs.Prelude.{IfSome}
 use Rattle.std.proofs.lemmas.Bool.{cases_eq}
@@ -19,7 +19,7 @@ use Rattle.bt_arena.specs.Rows.{counted_at}
 use Rattle.bt_arena.proofs.Joined.{place_within}
 use Rattle.bt_arena.proofs.Whole.{next_length}
 
--- one more is counted at its place alone
+-- one leaf more is counted at its place alone
 counted_there : (o : Option ℕ) (counts : List ℕ) (p : ℕ) → p < length counts → get_or (counted_at o counts) p 0 ≡ get_or counts p 0 + cond (is_place p o) 1 0
 counted_there None counts p within = omega arith
 counted_there (Some k) counts p within = elim (cases_eq p k) [
@@ -41,7 +41,7 @@ served_cons : (p : ℕ) (node : Node) (nodes : List Node) → served p (node ∷
 served_cons p node nodes =
     sum_by-cons (λ (n : Node). cond (is_served_at p n.leaf) 1 0) node nodes ∙ ap (λ b. cond b 1 0 + served p nodes) (served_is p node.leaf)
 
--- behind some nodes, so many more instances are taken as leaves are served
+-- after some nodes, as many more instances are taken as leaves are served
 pub taken : (nodes : List Node) (next : List ℕ) (p : ℕ) → p < length next → get_or (next_behind nodes next) p 0 ≡ get_or next p 0 + served p nodes
 taken [] next p within = omega arith
 taken (node ∷ nodes) next p within =
@@ -52,7 +52,7 @@ module _ (world : World) (drivers : List DriverState) where
   abbrev place_for : List ℕ → Option ℕ
   place_for id = place_by (row_of world.rows id) drivers
 
-  -- and so many leaves of these IDs are counted
+  -- as many of the leaves of these IDs are counted
   pub counted : (ids : List (List ℕ)) (counts : List ℕ) (p : ℕ) → p < length counts → get_or (counted_all world drivers ids counts) p 0 ≡ get_or counts p 0 + leaves_served world.rows drivers p ids
   counted [] counts p within = omega arith
   counted (id ∷ ids) counts p within =
@@ -64,7 +64,7 @@ module _ (world : World) (drivers : List DriverState) where
         sum_by-cons (λ (i : List ℕ). cond (is_place p (place_for i)) 1 0) id ids,
       )
 
-  -- the leaf at a place has its driver, and its number there
+  -- the leaf at a place has its driver, and its number among that driver's instances
   pub record HasNumber (next : List ℕ) (nodes : List Node) (k : ℕ) (leaf : ReadyLeaf) : Type 0 where
     pub driver : place_of_kind drivers (kind_of_way (rule leaf.row).way) ≡ Some leaf.driver
     pub number : leaf.instance ≡ get_or next leaf.driver 0 + served leaf.driver (take k nodes)

@@ -1,4 +1,4 @@
--- A term in an arena, opened: its node, and its children behind it.
+-- A term in an arena, opened: its node, and its children after it.
 use Rattle.std.proofs.Common.{◌≡◌, ℕ, ◌+◌, ◌<◌, List, [], ◌∷◌, map, length, refl, sym, ap, subst, ◌∙◌}
 use Rattle.std.proofs.lemmas.List.{length-map}
 use Rattle.bt_model.specs.declared.term.Term.{Term, Term-F, fold_out-Term, out-Term, roll-Term, roll-out-Term}
@@ -36,7 +36,7 @@ module _ {X : Type 0} (term : X → Term) where
 pub stands_roll : (x : Term-F Term) → Stands (roll-Term x) ≡ node_stands Term (λ t. t) Stands x
 stands_roll x = rec-roll-Term Standing node_stands (λ Y v k x. node_stands_as_terms v k x) x
 
--- A term that stands: its node is there, and its children stand behind it.
+-- A term that stands: its node is there, and its children come after it.
 pub stands_out : (t : Term) → Stands t ≡ node_stands Term (λ t. t) Stands (out-Term t)
 stands_out t = ap Stands (sym (roll-out-Term t)) ∙ stands_roll (out-Term t)
 

@@ -1,4 +1,4 @@
--- The parts of a list of which something holds of each item, and of a test of two.
+-- The parts of a list whose items all have a property, and of a test made of two.
 use Rattle.std.proofs.Common.{◌≡◌, List, [], ◌∷◌, ◌++◌, Bool, true, false, ◌&&◌, ◌||◌, refl, ap}
 use Rattle.std.specs.List.{All, AllByRecursion}
 use Rattle.std.proofs.lemmas.List.Elements.{All-nil, All-cons, All-head, All-tail}

@@ -1,4 +1,5 @@
--- Leaves that are numbered have instances of their own, where each driver was prepared for as many as it serves.
+-- Leaves that are numbered have instances of their own, where each driver was prepared for as many leaves as it
+-- serves.
 use Rattle.std.proofs.Common.{◌≡◌, ℕ, zero, suc, ◌+◌, ◌-◌, ◌*◌, ◌<◌, ◌≤◌, List, [], ◌∷◌, true, false, cond, if◌then◌else◌, inl, inr, Option, Some, None, length, get_or, take, refl, sym, ap, subst, ◌∙◌, arith}
 use Rattle.std.specs.Option.{option_map}
 use Rattle.std.proofs.Math.Nat.{add-mul, mul-le-mul_right}
@@ -64,7 +65,7 @@ served_cons p node nodes = sum_by-cons (λ (n : Node). cond (is_served_at p n.le
 serves_own : (leaf : ReadyLeaf) → is_served_at leaf.driver (Some leaf) ≡ true
 serves_own leaf = grind (arith, nat_tests)
 
--- a leaf is counted behind itself
+-- a leaf is counted among the nodes up to any later one
 served_behind : (nodes : List Node) (uid : ℕ) (leaf : ReadyLeaf) (more : ℕ) → leaf_at nodes uid ≡ Some leaf → uid < more → served leaf.driver (take uid nodes) + 1 ≤ served leaf.driver (take more nodes)
 served_behind [] uid leaf more at before = absurd (cc)
 served_behind (n ∷ nodes) uid leaf zero at before = absurd (omega (arith, before))

@@ -1,4 +1,4 @@
--- A valid tree that lacks nothing can be laid into an arena.
+-- A valid tree for whose leaves nothing is missing can be added to an arena.
 use Rattle.std.proofs.Common.{◌≡◌, ℕ, List, [], ◌∷◌, ◌++◌, Bool, true, false, ◌||◌, ◌&&◌, nat_eq, inl, inr, None, map, refl, sym, ap, subst, ◌∙◌, append-nil, arith}
 use Rattle.std.specs.List.{All, AllByRecursion, Contains, flat_map, list_any}
 use Rattle.std.specs.Str.{bytes_eq}
@@ -36,7 +36,7 @@ module _ (tree : Tree) where
   has_behind [] ys number key has = has
   has_behind (x ∷ xs) ys number key has = or_right (nat_eq x.number number && bytes_eq x.key key) _ (has_behind xs ys number key has)
 
-  -- a key that is named is among what is named
+  -- each of these keys is among the namings made of them
   key_has : (number : ℕ) (scope : Scope) (keys : List (List ℕ)) (key : List ℕ) → Contains keys key → Has (map (named_in number scope) keys) number key ≡ true
   key_has number scope [] key has = absurd (omega (arith, has.1))
   key_has number scope (k ∷ keys) key has = elim (Contains-append_cases (k ∷ []) keys key has) [
@@ -46,7 +46,7 @@ module _ (tree : Tree) where
     | inr there ↦ or_right (nat_eq number number && bytes_eq k key) _ (key_has number scope keys key there)
   ]
 
-  -- what some nodes name is among what is named, where all they name is
+  -- each key of some nodes is among all namings, where the namings of these nodes are
   nodes_have : (nodes : List Standing) (all : List Naming) → ((number : ℕ) (key : List ℕ) → Has (flat_map namings_at nodes) number key ≡ true → Has all number key ≡ true)
       → AllByRecursion (λ node. All (λ key. Has all node.number key ≡ true) (keys_named node)) nodes
   nodes_have [] all among = tt

@@ -1,4 +1,4 @@
--- That a term stands in an arena depends on its own nodes alone.
+-- Whether a term stands in an arena depends on its own nodes alone.
 use Rattle.std.proofs.Common.{◌≡◌, ℕ, ◌+◌, ◌<◌, ◌≤◌, List, [], ◌∷◌, map, length, sum, refl, sym, ap, subst, ◌∙◌, arith}
 use Rattle.std.proofs.lemmas.List.Sums.{sum_by-cons}
 use Rattle.bt_model.specs.declared.term.Term.{Term, Term-F, ind-Term, fold-roll-Term, roll-Term}
@@ -27,7 +27,7 @@ all_static (e ∷ ts) a b view uid same stand =
       all_static ts a b view (uid + (meaning e.0).size) (λ p low high. same p (omega (arith, low)) (omega (arith, high, whole))) stand.1,
     )
 
--- a term stands where its nodes are the same
+-- a term stands wherever its nodes are the same
 pub static : (t : Term) (a b : List Node) (view : View) (uid : ℕ) → AreSame uid (meaning t).size a b → Stands t a view uid → Stands t b view uid
 static = ind-Term IsStatic (λ x y is a b view uid same stands.
     let whole : (meaning (roll-Term x)).size ≡ 1 + all_sizes x.children = ap (λ (m : Meaning). m.size) (fold-roll-Term Meaning meaning_of_node x) in
@@ -40,7 +40,7 @@ static = ind-Term IsStatic (λ x y is a b view uid same stands.
     subst (λ (p : Standing). p b view uid) (sym (stands_roll x))
     (there.0, subst (λ (n : Node). IsNode view (written x) (1 + sizes (map (λ c. meaning c) x.children)) n) (sym there.1) here.1, children, ap (λ (n : Node). n.child_uids) there.1 ∙ here.3))
 
--- the same of some terms
+-- several terms stand wherever their nodes are the same
 pub static_all : (ts : List Term) (a b : List Node) (view : View) (uid : ℕ) → AreSame uid (all_sizes ts) a b → StandAll ts a view uid → StandAll ts b view uid
 static_all [] a b view uid same stand = tt
 static_all (t ∷ ts) a b view uid same stand =

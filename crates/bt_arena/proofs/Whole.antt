@@ -1,4 +1,4 @@
--- What was laid into an arena, part by part.
+-- What was added to an arena, part by part.
 use Rattle.std.proofs.Common.{◌≡◌, ℕ, zero, suc, ◌+◌, ◌-◌, ◌<◌, List, [], ◌∷◌, ◌++◌, false, Option, Some, None, map, length, get_or, set, sum, refl, sym, ap, subst, ◌∙◌, append-nil, append_assoc, length-append, arith}
 use Rattle.std.specs.List.{flat_map}
 use Rattle.std.specs.Prelude.{MatchOption}
@@ -72,7 +72,7 @@ module _ (tree : Tree) (world : World) (drivers : List DriverState) where
   counted_both [] ys next = refl
   counted_both (x ∷ xs) ys next = counted_both xs ys (counted_at (place_by (row_of world.rows x) drivers) next)
 
-  -- a node is counted as its ID is
+  -- a node is counted where its ID is
   no_leaf : (kind : Kind) (id : List ℕ) → is_leaf kind ≡ false → own_leaf_id kind id ≡ []
   no_leaf Leaf id other = absurd (cc)
   no_leaf _ id other = refl
@@ -188,7 +188,7 @@ module _ (tree : Tree) (world : World) (drivers : List DriverState) where
           ∙ sym (ap (λ (ids : List (List ℕ)). counted_all world drivers ids next) ids_here);
     }
 
-  -- the same, as it is found in the code
+  -- a term was added, in the steps of the code
   pub term_laid : (t : Term) (number : ℕ) (old pushed mid new : List Node) (node : Node) (next further left : List ℕ) (place uid : ℕ) (ts : List Term) (inner : ℕ) (uids : List ℕ) →
       place ≡ length old → uid ≡ place → pushed ≡ old ++ node ∷ [] → ts ≡ (out-Term t).children → inner ≡ children_scope_number (out-Term t).kind uid number →
       CanBeLaid tree world drivers (t ∷ []) (length old) number → IsNode (view_in tree world number) (written (out-Term t)) 0 node → IsNext drivers next node.leaf → further ≡ counted_at (driver_of node.leaf) next →

@@ -1,4 +1,5 @@
--- The join of a tree with a world and a roster: what its leaves lack, and how many of them each driver serves.
+-- How a tree, a world and a roster fit together: what is missing for the leaves, and how many leaves each driver
+-- serves.
 use Rattle.std.specs.Prelude.{◌≡◌, ℕ, nat_eq, Bool, false, List, [], ◌∷◌, count_by, Option, Some, None, Result, Ok, Err}
 use Rattle.std.specs.Option.{option_or}
 use Rattle.bt_script.specs.declared.stop.Stop.{Stop}
@@ -20,16 +21,16 @@ abbrev pub lacks_by : Option Row → List DriverState → List ℕ → Option Jo
 lacks_by (Some row) drivers id = lacks_driver (place_of_kind drivers (kind_of_row row)) (kind_of_row row)
 lacks_by None drivers id = Some (NoRow id)
 
--- what a leaf of this ID lacks: a row, or a driver of its row's kind
+-- what is missing for a leaf of this ID: a row, or a driver of its row's kind
 abbrev pub leaf_lacks : List Row → List DriverState → List ℕ → Option JoinFault
 leaf_lacks rows drivers id = lacks_by (row_of rows id) drivers id
 
--- what the first of some leaves lacks that lacks anything
+-- what is missing for the first leaf for which something is missing
 abbrev pub first_lack : List Row → List DriverState → List (List ℕ) → Option JoinFault
 first_lack rows drivers [] = None
 first_lack rows drivers (id ∷ ids) = option_or (leaf_lacks rows drivers id) (first_lack rows drivers ids)
 
--- the fault is given exactly where something is lacking; want of memory may come anywhere
+-- the fault comes exactly where something is missing; want of memory (out of memory) may come anywhere
 abbrev pub Joins : {A : Type 0} → Result A (Stop JoinFault) → Option JoinFault → Type 0
 Joins (Ok a) lack = lack ≡ None
 Joins (Err stop.NoMemory) lack = Unit {0}

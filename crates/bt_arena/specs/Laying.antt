@@ -1,4 +1,4 @@
--- The nodes of a term while they are laid into an arena.
+-- The nodes of a term while they are added to an arena.
 use Rattle.std.specs.Prelude.{◌≡◌, ℕ, List, [], ◌∷◌, ◌++◌, length, map, sum, true, Option, Some, None, slice_index_or}
 use Rattle.std.specs.List.{All, AllByRecursion, flat_map}
 use Rattle.bt_model.specs.declared.term.Term.{Term, Term-F}
@@ -21,23 +21,23 @@ use Rattle.bt_arena.specs.Rows.{counted_at}
 use Rattle.bt_arena.specs.Sources.{IsSourceOf, source_at}
 use Rattle.bt_arena.specs.Stands.{StandAll}
 
--- ---- What is asked of a term
+-- ---- What must hold of a term
 
--- a node where it stands in a tree: its number leads to its scope, its uid to the scope that it makes, and the tree names
--- what it names
+-- a node where it stands in a tree: its number leads to its scope, and its uid to the scope that it makes; the tree
+-- has a slot for each name in it
 pub record StandsIn (tree : Tree) (node : Standing) : Type 0 where
   pub scope : scope_of tree node.number ≡ node.scope
   pub made : makes_scope node.kind ≡ true → scope_of tree node.uid ≡ scope_below node.uid node.ports node.autoremap node.scope
   pub named : AreNamed tree node.number (keys_named node)
 
--- a tree names what a node of it names, in the scope of a number
+-- a tree has a slot for each name in a node, in the scope of a number
 pub record NodeIsNamed {X : Type 0} (tree : Tree) (number : ℕ) (node : Term-F X) : Type 0 where
   pub code : AreNamed tree number (names_if_there node.code)
   pub guards : GuardsAreNamed tree number node.guards
   pub ports : AreNamed tree number (port_keys node.ports)
 
--- some terms of a tree, of which the first has this uid, in the scope of a number: each node stands in the tree, is a
--- valid one, and lacks nothing
+-- some terms of a tree, from this uid on, in the scope of a number: each node stands in the tree, is a valid one, and
+-- nothing is missing for it
 pub record CanBeLaid (tree : Tree) (world : World) (drivers : List DriverState) (ts : List Term) (uid number : ℕ) : Type 0 where
   pub stand : AllByRecursion (StandsIn tree) (standing_all (map standing_from ts) uid number (scope_of tree number))
   pub fit : AllByRecursion NodeFits (flat_map (λ nodes. nodes) (map nodes_of ts))
@@ -45,7 +45,7 @@ pub record CanBeLaid (tree : Tree) (world : World) (drivers : List DriverState) 
 
 -- ---- Nodes
 
--- a node of an arena is this node of a term, but for its size and its leaf
+-- a node of an arena is this node of a term, apart from its size and its leaf
 pub record IsBareNode (view : View) (written : TreeNode) (node : Node) : Type 0 where
   pub kind : node.kind ≡ written.kind
   pub size : node.size ≡ 0
@@ -55,7 +55,7 @@ pub record IsBareNode (view : View) (written : TreeNode) (node : Node) : Type 0 
   pub ports : node.ports ≡ map (λ (port : PortRule). source_at view written.ports port.name) (ports_of written.kind)
   pub slots : All (IsSourceOf (length view.slots)) node.ports
 
--- what is asked of a node's leaf
+-- what must hold of a node's leaf
 unfoldable pub LeafIs : View → TreeNode → Option ReadyLeaf → Type 0
 LeafIs view node leaf = LeafStands view node leaf
 
@@ -70,22 +70,22 @@ unfoldable pub IsNext : List DriverState → List ℕ → Option ReadyLeaf → T
 IsNext drivers next None = Unit {0}
 IsNext drivers next (Some leaf) = (place_of_kind drivers (kind_of_way (rule leaf.row).way) ≡ Some leaf.driver) × (leaf.instance ≡ slice_index_or next leaf.driver 0)
 
--- each leaf of some nodes has
+-- each leaf of some nodes has the first driver of its row's kind, and the next instance there
 abbrev pub AreNext : List DriverState → List ℕ → List Node → Type 0
 AreNext drivers next [] = Unit {0}
 AreNext drivers next (node ∷ nodes) = IsNext drivers next node.leaf × AreNext drivers (counted_at (driver_of node.leaf) next) nodes
 
--- the next instances behind some nodes
+-- the next instances after those of some nodes
 abbrev pub next_behind : List Node → List ℕ → List ℕ
 next_behind [] next = next
 next_behind (node ∷ nodes) next = next_behind nodes (counted_at (driver_of node.leaf) next)
 
--- the next instances behind the leaves of these IDs
+-- the next instances after those of the leaves of these IDs
 abbrev pub counted_all : World → List DriverState → List (List ℕ) → List ℕ → List ℕ
 counted_all world drivers [] counts = counts
 counted_all world drivers (id ∷ ids) counts = counted_all world drivers ids (counted_at (place_by (row_of world.rows id) drivers) counts)
 
--- ---- What was laid
+-- ---- What was added
 
 -- the nodes of some terms were added to an arena: they stand there, and their leaves have the next instances
 pub record AreLaid (tree : Tree) (world : World) (drivers : List DriverState) (ts : List Term) (number : ℕ) (old new : List Node) (next left : List ℕ) : Type 0 where

@@ -1,4 +1,4 @@
--- What an arena is that was made for a runner.
+-- What holds of an arena that was made for a runner.
 use Rattle.std.specs.Prelude.{◌≡◌, ℕ, ◌+◌, ◌<◌, ◌≤◌, List, length, replicate}
 use Rattle.bt_model.specs.declared.term.Tree.{Tree}
 use Rattle.bt_model.specs.declared.world.World.{World}
@@ -11,8 +11,8 @@ use Rattle.bt_arena.specs.Nodes.{at_rest}
 use Rattle.bt_arena.specs.Rosters.{AreNumbered, served}
 use Rattle.bt_arena.specs.Stands.{Stands}
 
--- The tree stands there in the view of its root, with nothing beside it but place 0; all is at rest; its leaves have
--- their drivers and their instances; each driver serves so many of them as the tree has leaves for it; and there is room
+-- The tree stands there in the view of its root, with nothing else but place 0; all is at rest; its leaves have their
+-- drivers and their instances; each driver serves as many of them as the tree has leaves for it; and there is room
 -- for the visits that can be under way at once, one below the other.
 pub record IsArenaOf (tree : Tree) (world : World) (drivers : List DriverState) (number : ℕ) (arena : Arena) : Type 0 where
   pub runner : arena.runner ≡ number

@@ -1,4 +1,4 @@
--- A node of an arena, as one of a term.
+-- The nodes of an arena as nodes of a term.
 use Rattle.std.specs.Prelude.{◌≡◌, ℕ, ◌≤◌, List, [], length, map, slice_index_or, Bool, true, false, ◌||◌, is_some, Option, Some, None, MatchOption}
 use Rattle.std.specs.List.{All}
 use Rattle.bt_script.specs.declared.syntax.Script.{Script}
@@ -41,7 +41,7 @@ no_guards = record {
   on_halted = None;
 }
 
--- what stands at place 0, which is no node's
+-- the node at place 0, which belongs to no term
 abbrev pub nobody : Node
 nobody = record { kind = AlwaysSuccess; size = 0; children = 0; child_uids = []; code = None; guards = no_guards; ports = []; leaf = None }
 
@@ -62,7 +62,7 @@ kept_at kept uid = slice_index_or kept uid at_rest
 
 -- ---- Scripts
 
--- a code does what its script does in the scope of a view, and needs no slot but the view's
+-- a code does what its script does in the scope of a view, and needs no more slots than the view has
 pub record IsCodeOf (view : View) (script : Script) (code : Code) : Type 0 where
   pub meaning : program code ≡ program_of (slot_in_view view) script.stmts
   pub reach : (program code).reach ≤ length view.slots
@@ -73,7 +73,7 @@ IsCompiled view None None = Unit {0}
 IsCompiled view (Some script) (Some code) = IsCodeOf view script code
 IsCompiled view _ _ = ⊥
 
--- whether a guard is there that may answer before a visit, and one that runs after an answer
+-- whether a guard is there that may answer before a visit, and whether one is there that runs after an answer
 abbrev pub has_before : Guards → Bool
 has_before guards = is_some guards.failure_if || (is_some guards.success_if || (is_some guards.skip_if || is_some guards.while_true))
 
@@ -120,7 +120,7 @@ LeafStands view node (Some leaf) = (node.kind ≡ Leaf) × MatchOption (row_of v
 unfoldable pub IsFit : TreeNode → Type 0
 IsFit written = NodeFits written
 
--- a node of an arena is this node of a term, which is of this size with all below it, in a view, and fits its kind
+-- a node of an arena is this node of a term in a view, has this size with all below it, and fits its kind
 pub record IsNode (view : View) (written : TreeNode) (whole : ℕ) (node : Node) : Type 0 where
   pub kind : node.kind ≡ written.kind
   pub size : node.size ≡ whole

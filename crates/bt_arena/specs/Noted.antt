@@ -3,7 +3,7 @@ use Rattle.std.specs.Prelude.{ℕ, List, Bool, true, false, count_by}
 use Rattle.bt_model.specs.declared.note.Note.{Note}
 use Rattle.bt_model.specs.declared.note.Note.TheVariants.{Started, Ran, Halted}
 
--- some notes, how many more there is room for without memory, and to how many a clear brings this
+-- some notes, how many more can be added without new memory, and how many can after a clear
 pub record Noted : Type 0 where
   pub list : List Note
   pub reserve : ℕ

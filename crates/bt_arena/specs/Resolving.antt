@@ -10,7 +10,7 @@ use Rattle.bt_model.specs.declared.world.World.{World}
 use Rattle.bt_model.specs.Boards.{is_named, scope_of, slot_of, slots, value_keys}
 use Rattle.bt_model.specs.Sites.{View}
 
--- what a node sees that stands in the scope of a number
+-- what a node in the scope of a number sees
 abbrev pub view_in : Tree → World → ℕ → View
 view_in tree world number = record { rows = world.rows; facts = world.facts; slots = slots tree; scope = scope_of tree number }
 
@@ -22,7 +22,7 @@ named_slot tree number key = unwrap_or (slot_of tree number key) 0
 abbrev pub with_slots : Tree → ℕ → List (List ℕ) → List (List ℕ × ℕ)
 with_slots tree number keys = map {B = List ℕ × ℕ} (λ (key : List ℕ). (key, named_slot tree number key)) keys
 
--- a tree names each of these keys in the scope of a number
+-- a tree has a slot for each of these keys in the scope of a number
 abbrev pub AreNamed : Tree → ℕ → List (List ℕ) → Type 0
 AreNamed tree number keys = All (λ key. is_named tree number key ≡ true) keys
 
@@ -38,7 +38,7 @@ names_if_there None = []
 abbrev pub port_keys : List Port → List (List ℕ)
 port_keys ports = flat_map (λ (port : Port). value_keys port.value) ports
 
--- the names of each guard of a node are named
+-- a tree has a slot for each name in a node's guards
 pub record GuardsAreNamed (tree : Tree) (number : ℕ) (guards : Guards) : Type 0 where
   pub failure_if : AreNamed tree number (names_if_there guards.failure_if)
   pub success_if : AreNamed tree number (names_if_there guards.success_if)

@@ -1,4 +1,4 @@
--- The drivers of an arena's leaves: which instance is whose, and what calls leave of them.
+-- The drivers of an arena's leaves: which leaf has which instance, and what calls leave of the instances.
 use Rattle.std.specs.Prelude.{◌≡◌, ℕ, ◌+◌, ◌-◌, ◌*◌, nat_eq, Bool, true, false, List, [], ◌∷◌, map, take, count_by, Option, Some, None}
 use Rattle.bt_model.specs.declared.leaf.Instance.{Instance}
 use Rattle.bt_model.specs.Done.{Call}
@@ -15,7 +15,7 @@ abbrev pub leaf_instance : List DriverState → Option ReadyLeaf → Instance
 leaf_instance drivers (Some leaf) = instance_at drivers leaf.driver leaf.instance
 leaf_instance drivers None = fresh
 
--- the instances of an arena's leaves by uid, as its drivers have them
+-- the instances of an arena's leaves by uid, as its drivers keep them
 abbrev pub instances_of : List Node → List DriverState → List Instance
 instances_of nodes drivers = map (λ (node : Node). leaf_instance drivers node.leaf) nodes
 

@@ -1,4 +1,4 @@
--- What an event finds and leaves round an arena.
+-- What an event finds around an arena, and what it leaves.
 use Rattle.std.specs.Prelude.{◌≡◌, ◌<◌, ◌^◌, ℕ, ℤ, List, length, map, Bool, Option}
 use Rattle.bt_script.specs.declared.value.Value.{Value}
 use Rattle.bt_model.specs.declared.term.Term.{Term}
@@ -28,7 +28,7 @@ state_in nodes s moment = record { board = s.board; facts = s.facts; instances =
 abbrev pub marks_of : List Kept → List Bool
 marks_of kept = map (λ (k : Kept). k.held) kept
 
--- A node and all below it stand in an arena of less than 2^30 nodes; the marks say which instances the drivers hold;
+-- A term fits an arena: it stands there, among less than 2^30 nodes; the marks say which instances the drivers hold;
 -- each leaf is served; and there are as many slots and facts as the view has.
 pub record Fits (term : Term) (view : View) (uid : ℕ) (nodes : List Node) (s : Scene) : Type 0 where
   pub stands : Stands term nodes view uid

@@ -14,7 +14,7 @@ use Rattle.bt_arena.specs.declared.source.Source.TheVariants.{Absent, Lit, Slot}
 abbrev pub slot_in_view : View → List ℕ → ℕ
 slot_in_view view key = names_in view.slots view.scope key
 
--- what is given, its key resolved
+-- what a port is given, its key resolved
 abbrev pub source_of : View → Option PortValue → Source
 source_of view (Some (Literal value)) = Lit value
 source_of view (Some (Key key)) = Slot (slot_in_view view key)
@@ -24,13 +24,13 @@ source_of view None = Absent
 abbrev pub source_at : View → List Port → List ℕ → Source
 source_at view ports name = source_of view (given_by (port_of ports name))
 
--- the value that stands there
+-- the value that a port has
 abbrev pub source_value : List (Option Value) → Source → Option Value
 source_value board Absent = None
 source_value board (Lit value) = Some value
 source_value board (Slot slot) = slice_index_or board slot None
 
--- a slot is one of so many
+-- a slot is less than this number
 abbrev pub IsSourceOf : ℕ → Source → Type 0
 IsSourceOf slots Absent = Unit {0}
 IsSourceOf slots (Lit value) = Unit {0}

@@ -11,14 +11,14 @@ use smallvec::SmallVec;
 #[derive(Debug, Drop)]
 pub struct Arena {
     pub runner: u8,
-    /// What never changes.
+    /// The nodes, which never change.
     pub nodes: Vec<Node>,
     pub kept: Vec<Kept>,
     /// The visits of a tick that wait for a child, the topmost last.
     pub frames: SmallVec<Frame, 32>,
 }
 
-/// The status of the node with this uid. It takes no memory.
+/// The status of the node with this uid. It allocates no memory.
 pub fn status(arena: &Arena, uid: u32) -> Status
     requires { uid < length arena.now.kept.items }
     ensures { result ≡ (kept_at arena.now.kept.items uid).status }
@@ -26,7 +26,7 @@ pub fn status(arena: &Arena, uid: u32) -> Status
     arena.kept[uid as usize].status
 }
 
-/// The memo of the node with this uid. It takes no memory.
+/// The memo of the node with this uid. It allocates no memory.
 pub fn memo(arena: &Arena, uid: u32) -> Memo
     requires { uid < length arena.now.kept.items }
     ensures { result ≡ (kept_at arena.now.kept.items uid).memo }
@@ -50,7 +50,7 @@ pub fn kept_by(kept: &[Kept], uid: u32) -> Kept
     kept[uid as usize]
 }
 
-/// The node with this uid keeps this from now on.
+/// Stores what the node with this uid keeps from now on.
 pub fn keep(kept: &mut [Kept], uid: u32, now: Kept)
     requires { uid < length kept.old }
     ensures { kept.new ≡ slice_set kept.old uid now }

@@ -5,7 +5,8 @@ use bt_model::Header;
 use bt_script::{NoMemory, Value};
 use std::alloc::Global;
 
-/// What one event gives to the trace, with room for notes in reserve. It is kept from event to event.
+/// What one event gives to the trace, with reserved room for notes. The same block is used for all
+/// events of a run.
 #[derive(Debug, Drop)]
 pub struct Block {
     pub header: Header,
@@ -17,8 +18,8 @@ pub struct Block {
     pub entries: Vec<(u8, u32, Value)>,
 }
 
-/// A block of no event yet, with room for the notes of a run whose runners have so many leaves
-/// together. Each event gives it its own header.
+/// A block of no event yet, with reserved room for the notes of a run whose runners have this many
+/// leaves together. Each event sets its own header. The error is want of memory (out of memory).
 pub fn block_for(alloc: Global, leaves: u32) -> Result<Block, NoMemory>
     ensures { IfOk result (λ block. block.notes ≡ record { list = []; reserve = leaves + 1; full = leaves + 1 }) }
 {

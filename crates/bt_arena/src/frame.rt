@@ -11,7 +11,7 @@ use std::alloc::Global;
 pub struct Frame {
     /// The node that is visited.
     pub uid: u32,
-    /// The memo behind its last move.
+    /// The memo after its last move.
     pub memo: Memo,
     /// The place of the child among the node's children, and its uid.
     pub place: u32,
@@ -19,7 +19,7 @@ pub struct Frame {
 }
 
 impl Default for Frame {
-    /// A frame of no node, for a place of a stack that holds none yet.
+    /// A frame of no node, for the unused places of a stack.
     fn default() -> Frame {
         Frame {
             uid: 0,
@@ -30,7 +30,7 @@ impl Default for Frame {
     }
 }
 
-/// How many nodes of a term stand one below the other at most.
+/// The height of a term: how many nodes stand one below the other at most.
 fn depth(term: &Term) -> usize
     requires { depth_of term.now ≤ 256 }
     ensures { result ≡ depth_of term.now }
@@ -42,7 +42,8 @@ fn depth(term: &Term) -> usize
     below + 1
 }
 
-/// An empty stack with room for the visits of this term that can be under way at once.
+/// An empty stack with room for the visits of this term that can be under way at once. The error is
+/// want of memory.
 pub(crate) fn frames_for(alloc: Global, term: &Term) -> Result<SmallVec<Frame, 32>, NoMemory>
     requires { depth_of term.now ≤ 256 }
     ensures { IfOk result (λ frames. depth_of term.now ≤ frames.capacity) }

@@ -1,8 +1,8 @@
 use bt_model::DriverKind;
 use bt_script::Name;
 
-/// Why a tree, a world and a roster do not go together: what the first leaf in pre-order lacks that
-/// lacks anything.
+/// Why a tree, a world and a roster do not fit together: what is missing for the first leaf in
+/// pre-order for which something is missing.
 #[derive(Debug, Drop)]
 pub enum JoinFault {
     /// The world has no row of this ID.

@@ -28,7 +28,7 @@ use bt_script::{Name, NoMemory, Stop};
 use indexmap::IndexMap;
 use std::alloc::Global;
 
-/// Adds the ID of a node that is a leaf.
+/// Adds the ID of a node that is a leaf. The error is want of memory.
 fn add_own_id(alloc: Global, node: &Term, ids: &mut Vec<Name>) -> Result<(), NoMemory>
     ensures { OnOk result (ids.new.items ≡ ids.old.items ++ own_leaf_id (out-Term node.now).kind (out-Term node.now).id) }
 {
@@ -41,7 +41,7 @@ fn add_own_id(alloc: Global, node: &Term, ids: &mut Vec<Name>) -> Result<(), NoM
     }
 }
 
-/// Adds the IDs of the leaves of a term, in pre-order.
+/// Adds the IDs of the leaves of a term, in pre-order. The error is want of memory.
 fn add_ids(alloc: Global, term: &Term, ids: &mut Vec<Name>) -> Result<(), NoMemory>
     ensures { OnOk result (ids.new.items ≡ ids.old.items ++ leaf_ids term.now) }
 {
@@ -52,7 +52,7 @@ fn add_ids(alloc: Global, term: &Term, ids: &mut Vec<Name>) -> Result<(), NoMemo
     Ok(())
 }
 
-/// The place of the driver that serves the leaves of an ID, or what they lack.
+/// The place of the driver that serves the leaves of an ID. The fault is what is missing for them.
 fn place_of<D: Drivers>(
     alloc: Global,
     id: &Name,
@@ -79,8 +79,8 @@ fn place_of<D: Drivers>(
     }
 }
 
-/// How many of the leaves of these IDs each driver serves, or what the first of them lacks that lacks
-/// anything.
+/// How many of the leaves of these IDs each driver serves. The fault is what is missing for the
+/// first leaf for which something is missing.
 fn counts_of<D: Drivers>(
     alloc: Global,
     ids: &[Name],
@@ -100,7 +100,8 @@ fn counts_of<D: Drivers>(
     Ok(counts)
 }
 
-/// The first instances of a runner at each driver, behind those of the runners before it.
+/// The first instance of a runner at each driver, after those of the runners before it: each of
+/// these has `counts` of them. The error is want of memory, also where there would be 2^32.
 fn firsts_of(alloc: Global, counts: &[u32], runner: u8) -> Result<Vec<u32>, NoMemory>
     requires { 1 ≤ runner }
     ensures { IfOk result (λ firsts. firsts.items ≡ map (λ count. (runner - 1) * count) counts.now) }
@@ -116,7 +117,7 @@ fn firsts_of(alloc: Global, counts: &[u32], runner: u8) -> Result<Vec<u32>, NoMe
     Ok(firsts)
 }
 
-/// What so many nodes keep before their first visit.
+/// What this many nodes keep before their first visit, or want of memory.
 fn at_rest(alloc: Global, count: usize) -> Result<Vec<Kept>, NoMemory>
     ensures { IfOk result (λ kept. kept.items ≡ replicate count rested) }
 {
@@ -128,7 +129,8 @@ fn at_rest(alloc: Global, count: usize) -> Result<Vec<Kept>, NoMemory>
     Ok(vec![in alloc; rest; count]?)
 }
 
-/// The same for the leaves of a term.
+/// How many leaves of a term each driver serves. The fault is what is missing for the first leaf in
+/// pre-order for which something is missing.
 fn totals_of<D: Drivers>(
     alloc: Global,
     term: &Term,
@@ -145,7 +147,8 @@ fn totals_of<D: Drivers>(
     counts_of(alloc, ids.as_slice(), world, rows, drivers)
 }
 
-/// The arena of a runner, where each driver serves so many leaves of the tree.
+/// The arena of a runner, where `counts` says how many leaves of the tree each driver serves. The
+/// error is want of memory.
 fn arena_with<D: Drivers>(
     alloc: Global,
     setting: &Setting,
@@ -173,10 +176,11 @@ fn arena_with<D: Drivers>(
     })
 }
 
-/// Makes the arena of a runner of a world for a tree with its slots: each node stands with what its
-/// visits need, and keeps nothing yet, and there is room for the visits that can be under way at once. A leaf has the first driver of its row's kind; its instance is
-/// numbered by runner, then by uid, among the leaves that this driver serves. The fault is that of the
-/// first leaf in pre-order that has no row, or whose row has no driver.
+/// Makes the arena of a runner of a world, for a tree with its slots: each node has what its visits
+/// need and is at rest, and there is room for the visits that can be under way at once.
+/// A leaf has the first driver of its row's kind. Its instance is numbered by runner, then by uid,
+/// among the leaves that this driver serves. The fault is that of the first leaf in pre-order that
+/// has no row, or whose row has no driver.
 pub fn arena_of<D: Drivers>(
     alloc: Global,
     tree: &Tree,

@@ -14,15 +14,16 @@ ghost use Rattle.bt_arena.specs.Rosters.{AreNumbered, AreServed, instances_of, r
 ghost use Rattle.bt_arena.specs.Scenes.{marks_of};
 ghost use Rattle.bt_arena.specs.Stands.{Beside, IsKeptAlike, Stands, memories_of, memory_of, node_stands, uid_of};
 
-/// A term that stands in an arena, opened: its node is there, and its children stand behind it.
+/// A term that stands in an arena, opened: its node is there, and its children come after it.
 pub fn terms_stand_in_pre_order()
     ensures stands { (t : Term) (nodes : List Node) (view : View) (uid : ℕ) → Stands t nodes view uid ↔ node_stands Term (λ c. c) Stands (out-Term t) nodes view uid }
     ensures memory { (t : Term) (uid : ℕ) (kept : List Kept) →
         memory_of t uid kept ≡ remembered (kept_at kept uid).status (kept_at kept uid).memo (memories_of (out-Term t).children (uid + 1) kept) }
 {}
 
-/// The memory of a term is that of its own nodes. Where nothing changed beside one of some terms that
-/// stand one behind the other, its memory alone has changed. Where all is at rest, it is the idle one.
+/// The memory of a term is that of its own nodes. Where only the nodes of one of several terms in
+/// order have changed, its memory alone has changed. Where all nodes are at rest, the memory is
+/// idle.
 pub fn memories_are_of_their_nodes()
     ensures own { (t : Term) (uid : ℕ) (a b : List Kept) → IsKeptAlike uid (meaning t).size a b → memory_of t uid a ≡ memory_of t uid b }
     ensures place { (ts : List Term) (place uid : ℕ) (t : Term) (kept : List Kept) → place < length ts →
@@ -33,8 +34,8 @@ pub fn memories_are_of_their_nodes()
     ensures rest { (t : Term) (uid : ℕ) (kept : List Kept) → ((p : ℕ) → uid ≤ p → p < uid + (meaning t).size → kept_at kept p ≡ at_rest) → memory_of t uid kept ≡ idle t }
 {}
 
-/// A call for a leaf of an arena changes its instance and no other one, serves each leaf as before, and
-/// leaves the marks right where the leaf's mark is set.
+/// A call for a leaf of an arena changes its instance alone, each leaf is served as before, and the
+/// marks stay right where the leaf's mark is set.
 pub fn calls_change_one_instance()
     ensures instances { (nodes : List Node) (drivers : List DriverState) (uid : ℕ) (leaf : ReadyLeaf) (phase : Phase) (left : Instance) →
         AreServed drivers nodes → leaf_at nodes uid ≡ Some leaf →

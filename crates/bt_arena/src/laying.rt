@@ -23,7 +23,7 @@ use bt_script::{Items, NoMemory};
 use std::alloc::Global;
 use std::mem::replace;
 
-/// A count as a number of 32 bits. There is no memory for 2^32 nodes.
+/// A count as a number of 32 bits. From 2^32 on it is want of memory.
 fn narrow(count: usize) -> Result<u32, NoMemory>
     ensures { IfOk result (λ n. n ≡ count) }
 {
@@ -33,7 +33,7 @@ fn narrow(count: usize) -> Result<u32, NoMemory>
     Ok(count as u32)
 }
 
-/// The number of the scope of a node's children: a SubTree node makes one, with its uid.
+/// The number of the scope of a node's children: a SubTree node makes one, whose number is its uid.
 fn scope_under(kind: Kind, uid: u32, scope: u32) -> u32
     ensures { result ≡ children_scope_number kind uid scope }
 {
@@ -43,7 +43,8 @@ fn scope_under(kind: Kind, uid: u32, scope: u32) -> u32
     }
 }
 
-/// The node of a term, all but its size, the uids of its children and its leaf.
+/// The node of a term, but without its size, the uids of its children and its leaf, which are set
+/// later. The error is want of memory.
 fn bare_node(alloc: Global, term: &Term, setting: &Setting, scope: u32) -> Result<Node, NoMemory>
     requires code_fits { ScriptFits (out-Term term.now).code }
     requires guards_fit { GuardsFit (out-Term term.now).guards }
@@ -68,7 +69,8 @@ fn bare_node(alloc: Global, term: &Term, setting: &Setting, scope: u32) -> Resul
     })
 }
 
-/// The node of a term, all but its size and the uids of its children.
+/// The node of a term, but without its size and the uids of its children, which are set later. The
+/// error is want of memory.
 fn node_of<D: Drivers>(
     alloc: Global,
     term: &Term,
@@ -112,8 +114,8 @@ fn complete(node: &mut Node, size: u32, child_uids: Items<u32>)
     drop(replace(&mut node.child_uids, child_uids));
 }
 
-/// Gives the node at this place its size, which is it and all that stands behind it, and the uids of
-/// its children.
+/// Gives the node at this place the uids of its children, and its size: it and all nodes after it.
+/// The error is want of memory.
 fn close(nodes: &mut Vec<Node>, place: usize, child_uids: Items<u32>) -> Result<(), NoMemory>
     requires { place < length nodes.old.items }
     ensures { OnOk result (nodes.new.items ≡ slice_set nodes.old.items place (record (node_at nodes.old.items place) { size = length nodes.old.items - place; child_uids = child_uids })) }
@@ -123,7 +125,7 @@ fn close(nodes: &mut Vec<Node>, place: usize, child_uids: Items<u32>) -> Result<
     Ok(())
 }
 
-/// Lays a term of a tree behind the nodes that are there.
+/// Adds a term of a tree after the nodes that are there. The error is want of memory.
 #[cycle(laying)]
 fn lay_term<D: Drivers>(
     alloc: Global,
@@ -156,7 +158,7 @@ fn lay_term<D: Drivers>(
     close(nodes, place, Items::of(child_uids))
 }
 
-/// Lays some terms of a tree, one behind the other, and tells their uids.
+/// Adds some terms of a tree in order, and gives their uids. The error is want of memory.
 #[cycle(laying)]
 fn lay_terms<D: Drivers>(
     alloc: Global,
@@ -182,7 +184,7 @@ fn lay_terms<D: Drivers>(
     Ok(uids)
 }
 
-/// What stands at place 0.
+/// The node at place 0, which belongs to no term.
 fn nobody(alloc: Global) -> Node
     ensures { result ≡ no_node }
 {
@@ -209,7 +211,7 @@ fn nobody(alloc: Global) -> Node
     }
 }
 
-/// The nodes of a tree by uid.
+/// The nodes of a tree by uid, or want of memory.
 pub(crate) fn nodes_of<D: Drivers>(
     alloc: Global,
     setting: &Setting,

@@ -23,7 +23,7 @@ use bt_model::{Kind, Port, Row, Term};
 use bt_script::{Items, NoMemory};
 use std::alloc::Global;
 
-/// Takes the next instance of the driver at this place. There is no memory for 2^32 leaves.
+/// Takes the next instance of the driver at this place. From 2^32 leaves on it is want of memory.
 pub(crate) fn next_instance(next: &mut [u32], place: usize) -> Result<u32, NoMemory>
     requires { place < length next.old }
     ensures instance { IfOk result (λ instance. instance ≡ slice_index_or next.old place 0) }
@@ -39,7 +39,7 @@ pub(crate) fn next_instance(next: &mut [u32], place: usize) -> Result<u32, NoMem
     }
 }
 
-/// A leaf with these ports that follows a row, with its driver and its instance.
+/// A leaf with these ports that follows a row, with its driver and its instance, or want of memory.
 fn leaf_with(
     alloc: Global,
     ports: &[Port],
@@ -67,8 +67,8 @@ fn leaf_with(
     })
 }
 
-/// What a node has that is a leaf: its driver is the first of its row's kind, and its instance the next
-/// one there.
+/// The leaf of a node, where it is one: its driver is the first of its row's kind, and its instance
+/// the next one there. The error is want of memory.
 #[tactic(auto, unfolding(crate::specs::Laying::LeafIs, crate::specs::Laying::IsNext))]
 pub(crate) fn leaf_of<D: Drivers>(
     alloc: Global,

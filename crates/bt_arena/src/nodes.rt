@@ -7,10 +7,10 @@ use bt_script_code::Code;
 /// The pre- and postconditions of a node, compiled for the scope in which it stands.
 #[derive(Debug, Drop)]
 pub struct ReadyGuards {
-    /// Whether one of the four that may answer before a visit is there. Most nodes have none, and are
-    /// asked once.
+    /// Whether the node has one of the four guards that may answer before a visit. Most nodes have
+    /// none, and this is the one test for them.
     pub before: bool,
-    /// Whether one of the three that run after an answer is there.
+    /// Whether the node has one of the three that run after an answer.
     pub after: bool,
     pub failure_if: Option<Code>,
     pub success_if: Option<Code>,
@@ -22,7 +22,7 @@ pub struct ReadyGuards {
     pub on_halted: Option<Code>,
 }
 
-/// What a leaf with a driver has beside its node.
+/// What a leaf with a driver has in addition to its node.
 #[derive(Debug, Drop)]
 pub struct ReadyLeaf {
     pub row: ReadyRow,
@@ -40,12 +40,12 @@ pub struct ReadyLeaf {
 #[derive(Debug, Drop)]
 pub struct Node {
     pub kind: Kind,
-    /// How many nodes it and all below it are. Its children stand behind it, each behind all that
-    /// stands below the one before.
+    /// How many nodes there are in all: this one and those below it. Its children come after it,
+    /// each after all that is below the child before.
     pub size: u32,
     /// How many children it has.
     pub children: u32,
-    /// The uid of each child, so that one is found by its place.
+    /// The uids of the children, by their place.
     pub child_uids: Items<u32>,
     pub code: Option<Code>,
     pub guards: ReadyGuards,

@@ -5,14 +5,14 @@ use bt_script::NoMemory;
 use std::alloc::Global;
 use std::marker::Model;
 
-/// What stands in a place that has no note yet.
+/// What fills a place that has no note yet.
 const BLANK: Note = Note::Halted { uid: 0 };
 
-/// The notes of an event, with reserved room: so many notes can be added without memory. Contracts
-/// see the notes, the reserve that is left, and the whole reserve.
+/// The notes of an event, with reserved room: this many notes can be added without new memory.
+/// Contracts see the notes, the reserve that is left, and the whole reserve.
 #[derive(Debug, Drop)]
 pub struct Notes {
-    /// The notes, and behind them the places that are free.
+    /// The notes, then the free places.
     places: Vec<Note>,
     /// How many notes there are.
     len: usize,
@@ -34,8 +34,8 @@ impl Model for Notes {
     } };
 }
 
-/// No notes, with a place in reserve for each of so many leaves, and one for the note of a fault. The
-/// notes of a run have a place for each leaf of all its runners.
+/// No notes, with a reserved place for each of this many leaves, and one for the note of a fault.
+/// The notes of a run have a place for each leaf of all its runners. The error is want of memory.
 pub fn notes_of(alloc: Global, leaves: u32) -> Result<Notes, NoMemory>
     ensures { IfOk result (λ notes. notes ≡ record { list = []; reserve = leaves + 1; full = leaves + 1 }) }
 {
@@ -48,7 +48,8 @@ pub fn notes_of(alloc: Global, leaves: u32) -> Result<Notes, NoMemory>
     })
 }
 
-/// Adds free places, one at least. It is not inlined as few notes ask for more.
+/// Adds free places, at least one, or there is want of memory. It is not inlined, since few notes
+/// need it.
 #[inline(never)]
 fn add_places(places: &mut Vec<Note>) -> Result<(), NoMemory>
     ensures same { (n : ℕ) → n ≤ length places.old.items → take n places.new.items ≡ take n places.old.items }
@@ -69,7 +70,7 @@ impl Notes {
         &self.places[..self.len]
     }
 
-    /// Adds a note and keeps the reserve. Refused, it changes nothing.
+    /// Adds a note and keeps the reserve. Where there is want of memory, nothing changes.
     #[inline(always)]
     pub fn push(&mut self, note: Note) -> Result<(), NoMemory>
         ensures ok { OnOk result (self.new ≡ record self.old { list = self.old.list ++ note ∷ [] }) }
@@ -83,7 +84,7 @@ impl Notes {
         Ok(())
     }
 
-    /// Adds one place to the reserve. Refused, it changes nothing.
+    /// Adds one place to the reserve. Where there is want of memory, nothing changes.
     #[inline(always)]
     pub fn room(&mut self) -> Result<(), NoMemory>
         ensures ok { OnOk result (self.new ≡ record self.old { reserve = self.old.reserve + 1 }) }
@@ -96,7 +97,7 @@ impl Notes {
         Ok(())
     }
 
-    /// Adds a note in a place of the reserve. It takes no memory.
+    /// Adds a note in a place of the reserve. It allocates no memory.
     #[inline(always)]
     pub fn push_reserved(&mut self, note: Note)
         requires { 0 < self.old.reserve }
@@ -107,7 +108,7 @@ impl Notes {
         self.len += 1;
     }
 
-    /// Removes all notes and restores the reserve. It takes no memory.
+    /// Removes all notes and restores the reserve. It allocates no memory.
     pub fn clear(&mut self)
         ensures { self.new ≡ record { list = []; reserve = self.old.full; full = self.old.full } }
     {

@@ -11,7 +11,7 @@ use bt_model::{Kind, Out, Port, PortRule, ports_of};
 use bt_script::{Name, NoMemory};
 use std::alloc::Global;
 
-/// What the ports of these rules are given, in order.
+/// What the ports of these rules are given, in order, or want of memory.
 fn rule_sources(
     alloc: Global,
     rules: &[PortRule],
@@ -30,7 +30,8 @@ fn rule_sources(
     Ok(sources)
 }
 
-/// What the ports of a built-in node are given, in the order of its kind's ports.
+/// What the ports of a built-in node are given, in the order of its kind's ports, or want of
+/// memory.
 pub(crate) fn kind_sources(
     alloc: Global,
     kind: Kind,
@@ -45,7 +46,7 @@ pub(crate) fn kind_sources(
     rule_sources(alloc, ports_of(kind), ports, setting, scope)
 }
 
-/// What the ports of these names are given, in order.
+/// What the ports of these names are given, in order, or want of memory.
 pub(crate) fn input_sources(
     alloc: Global,
     names: &[Name],
@@ -64,7 +65,7 @@ pub(crate) fn input_sources(
     Ok(sources)
 }
 
-/// What the ports of these outputs are given, in order.
+/// What the ports of these outputs are given, in order, or want of memory.
 pub(crate) fn output_sources(
     alloc: Global,
     outs: &[Out],

@@ -26,14 +26,14 @@ pub(crate) struct Setting<'a> {
     pub(crate) ghost table: { slots.now ≡ slot_table tree.now },
 }
 
-/// The slot of a key in the scope of this number, and 0 where the tree does not name it there.
+/// The slot of a key in the scope of this number; 0 where the tree has none for it there.
 fn slot_of(setting: &Setting, scope: u32, key: &Name) -> u32
     ensures { result ≡ named_slot setting.now.tree.now scope key.now }
 {
     slot(setting.slots, scope, key).unwrap_or(0)
 }
 
-/// Adds a key with its slot.
+/// Adds a key with its slot. The error is want of memory.
 fn add_key(
     alloc: Global,
     key: &Name,
@@ -47,7 +47,7 @@ fn add_key(
     Ok(())
 }
 
-/// Adds the names of an expression.
+/// Adds the names of an expression with their slots. The error is want of memory.
 fn add_expr(
     alloc: Global,
     e: &Expr,
@@ -73,7 +73,7 @@ fn add_expr(
     }
 }
 
-/// Adds the names of a statement.
+/// Adds the names of a statement with their slots. The error is want of memory.
 fn add_stmt(
     alloc: Global,
     stmt: &Stmt,
@@ -92,7 +92,7 @@ fn add_stmt(
     }
 }
 
-/// The names of a script with their slots.
+/// The names of a script with their slots, or want of memory.
 fn keys_of(
     alloc: Global,
     script: &Script,
@@ -108,7 +108,7 @@ fn keys_of(
     Ok(keys)
 }
 
-/// A script compiled for the scope of this number, where there is one.
+/// A script compiled for the scope of this number, where there is one, or want of memory.
 pub(crate) fn ready_script(
     alloc: Global,
     script: &Option<Script>,
@@ -128,7 +128,7 @@ pub(crate) fn ready_script(
     }
 }
 
-/// The guards of a node compiled for the scope of this number.
+/// The guards of a node compiled for the scope of this number, or want of memory.
 pub(crate) fn ready_guards(
     alloc: Global,
     guards: &Guards,
@@ -170,7 +170,7 @@ fn is_after(guards: &Guards) -> bool
     guards.on_success.is_some() || guards.on_failure.is_some() || guards.post.is_some()
 }
 
-/// The port of this name.
+/// The port of this name; none where it is not given.
 fn port_named<'a>(ports: &'a [Port], name: &[u8]) -> Option<&'a Port>
     ensures { option_copied result ≡ port_of ports.now name.now }
 {
@@ -182,7 +182,8 @@ fn port_named<'a>(ports: &'a [Port], name: &[u8]) -> Option<&'a Port>
     None
 }
 
-/// What the port of this name is given, its key resolved in the scope of this number.
+/// What the port of this name is given, its key resolved in the scope of this number. The error is
+/// want of memory.
 pub(crate) fn source_at(
     alloc: Global,
     ports: &[Port],

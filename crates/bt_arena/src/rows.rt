@@ -10,7 +10,8 @@ use bt_script::{Name, NoMemory};
 use indexmap::IndexMap;
 use std::alloc::Global;
 
-/// Adds the number of a row at its ID. An earlier row of the ID counts.
+/// Adds the number of a row at its ID, where no earlier row has that ID. The error is want of
+/// memory.
 fn add_row(
     alloc: Global,
     row: &Row,
@@ -25,7 +26,7 @@ fn add_row(
     Ok(())
 }
 
-/// The numbers of rows by their IDs. The first row of an ID counts.
+/// The numbers of rows by their IDs, or want of memory. Of several rows of one ID the first counts.
 pub(crate) fn index_of(alloc: Global, rows: &[Row]) -> Result<IndexMap<Name, u32>, NoMemory>
     requires { length rows.now ≤ 1024 }
     ensures { IfOk result (λ index. Finds rows.now (get bytes_eq index)) }
@@ -39,7 +40,7 @@ pub(crate) fn index_of(alloc: Global, rows: &[Row]) -> Result<IndexMap<Name, u32
     Ok(index)
 }
 
-/// The row of an ID.
+/// The row of an ID; none where there is no such row.
 pub(crate) fn row_named<'a>(
     rows: &'a [Row],
     index: &IndexMap<Name, u32>,

@@ -1,4 +1,4 @@
-//! The calls of a run, as the drivers that were handed in count them, and the drivers that it needs.
+//! The calls of a run, as its drivers count them, and the drivers that a run needs.
 
 ghost use Rattle.std.specs.Prelude.{map};
 ghost use Rattle.bt_model.specs.Drivers.{NothingHeld};
@@ -20,6 +20,7 @@ fn counted(alloc: Global, nodes: &str, lines: &str) -> Result<String, NoMemory> 
     Ok(format!(in alloc; "{:?}{}", ending.exit, ending.counts)?)
 }
 
+/// Runs, with the counts of each driver that was called.
 #[test]
 fn drivers_count_their_calls(rt: HostRuntime) -> Result<(), Fail> {
     for (nodes, lines, want) in [
@@ -68,7 +69,7 @@ fn drivers_count_their_calls(rt: HostRuntime) -> Result<(), Fail> {
     Ok(())
 }
 
-/// What a run without drivers writes, with its exit behind it.
+/// What a run without drivers writes, and its exit after it.
 fn without_drivers(alloc: Global, nodes: &str, lines: &str) -> Result<String, NoMemory> {
     let mut sink = MemSink::new(alloc, Vec::new(alloc));
     let mut roster: Vec<Box<dyn Driver>> = Vec::new(alloc);
@@ -77,7 +78,7 @@ fn without_drivers(alloc: Global, nodes: &str, lines: &str) -> Result<String, No
     Ok(format!(in alloc; "{text}{exit:?}")?)
 }
 
-/// The same of a run with a driver of conditions alone.
+/// What a run writes with a driver of conditions alone, and its exit after it.
 fn with_conditions(alloc: Global, nodes: &str, lines: &str) -> Result<String, NoMemory> {
     let mut sink = MemSink::new(alloc, Vec::new(alloc));
     let mut roster: Vec<Box<dyn Driver>> = Vec::new(alloc);
@@ -94,6 +95,7 @@ fn lacking(alloc: Global, nodes: &str, lines: &str) -> Result<String, NoMemory> 
     Ok(format!(in alloc; "{without}, {with}")?)
 }
 
+/// Trees whose leaves have no driver: the first one is named.
 #[test]
 fn kinds_need_their_drivers(rt: HostRuntime) -> Result<(), Fail> {
     let lines =
@@ -115,7 +117,7 @@ fn kinds_need_their_drivers(rt: HostRuntime) -> Result<(), Fail> {
             "<Sequence><A/><G/></Sequence>",
             "refused world NoDriver Condition\nWorld, refused world NoDriver Gate\nWorld",
         ),
-        // The first leaf that lacks a row or a driver counts.
+        // The first leaf without a row or a driver counts.
         (
             "<Sequence><A/><Q/><T/></Sequence>",
             "refused world NoDriver Condition\nWorld, refused world NoRow 'Q'\nWorld",
@@ -142,7 +144,7 @@ fn load_with(
     answer_with(alloc, &["load", "1"], &mut shelf, sink, roster)
 }
 
-/// What a load of one leaf writes without drivers, with its exit behind it.
+/// What a load of one leaf writes without drivers, and its exit after it.
 fn load_without_drivers(alloc: Global) -> Result<String, NoMemory> {
     let mut sink = MemSink::new(alloc, Vec::new(alloc));
     let mut roster: Vec<Box<dyn Driver>> = Vec::new(alloc);
@@ -151,6 +153,7 @@ fn load_without_drivers(alloc: Global) -> Result<String, NoMemory> {
     Ok(format!(in alloc; "{text}{exit:?}")?)
 }
 
+/// A load without drivers is refused.
 #[test]
 fn a_load_needs_its_drivers(rt: HostRuntime) -> Result<(), Fail> {
     let text = load_without_drivers(rt.alloc())?;

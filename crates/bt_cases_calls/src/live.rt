@@ -1,4 +1,4 @@
-//! Runs at the moments of a clock.
+//! Runs at the times of a clock.
 
 use bt_command_line::Exit;
 use bt_outside::{Clock, MemClock, MemSink};
@@ -7,7 +7,7 @@ use bt_stage::{answer, shelf_of_rows};
 use std::alloc::Global;
 use std::test::Fail;
 
-/// Runs so many rounds of these nodes in this world by this clock.
+/// Runs this many rounds of these nodes in this world, at the times of this clock.
 fn live(
     alloc: Global,
     nodes: &str,
@@ -21,8 +21,8 @@ fn live(
     Ok(answer(alloc, &words, &mut shelf, sink, clock)?.exit)
 }
 
-/// What `live` writes over these nodes, this world and a clock of these moments, with its exit and
-/// the moment that the clock gives next.
+/// What `live` writes for these nodes, this world and a clock of these times, with its exit and the
+/// time that the clock gives next.
 fn lived(
     alloc: Global,
     nodes: &str,
@@ -109,10 +109,12 @@ fault 1 1 ZeroDivisor
 quench 1 1
 Fault, next 7";
 
+/// Rounds, with the traces that they have at these times.
 #[test]
 fn rounds_have_the_moments_of_the_clock(rt: HostRuntime) -> Result<(), Fail> {
     let table: [(&str, &str, &str, &[u64], &str); 4] = [
-        // The events of the script are not used, and a moment that falls counts as the one before.
+        // The events of the script are not used, and a time before the last one counts as the last
+        // one.
         (
             "<Sequence><A/><B/></Sequence>",
             "fact x 1 / condition A is x == 1 / action B timed 300 / tick 1 / at 299 / tick 1 / at 300 / tick 1",
@@ -128,7 +130,7 @@ fn rounds_have_the_moments_of_the_clock(rt: HostRuntime) -> Result<(), Fail> {
             ROUNDS_OF_TWO,
         ),
         ("<A/>", "action A timed 0", "1", &[], NO_MOMENTS),
-        // The clock has lost the moments of the rounds that were begun.
+        // The clock no longer has the times of the rounds that were begun.
         (
             "<A/>",
             "fact x 0 / action A timed 5 / fails 1/x",

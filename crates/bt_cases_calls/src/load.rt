@@ -13,8 +13,8 @@ fn load(alloc: Global, words: &[&str], sink: &mut MemSink) -> Result<Ending, NoM
     answer(alloc, words, &mut shelf, sink, &mut clock)
 }
 
-/// What words write to a sink of which these writes fail after some bytes, with the exit, the counts
-/// of each driver that was called, and `held` where one holds anything.
+/// What is written for these words to a sink of which these writes fail after some bytes, with the
+/// exit, the counts of each driver that was called, and `held` where one holds anything.
 fn loaded(alloc: Global, words: &[&str], fails: &[(u64, u64)]) -> Result<String, NoMemory> {
     let mut sink = MemSink::new(alloc, Vec::from_slice(alloc, fails)?);
     let ending = load(alloc, words, &mut sink)?;
@@ -38,6 +38,7 @@ const THOUSAND: &str = "\
 load 1000 nodes 2001 events 10000 start 7663 running 9993 halted 1 success 6
 Done; Timed 3332 9993 1 trail 13181239788873133299; Replay 4331 0 0 trail 9366271619127460444";
 
+/// Words of `load`, with the line that sums up the run, or the refusal.
 #[test]
 fn loads_are_summed_up(rt: HostRuntime) -> Result<(), Fail> {
     let table: [(&[&str], &str); 18] = [
@@ -67,7 +68,7 @@ fn loads_are_summed_up(rt: HostRuntime) -> Result<(), Fail> {
     Ok(())
 }
 
-// The one line is one write, and it comes behind the run.
+/// The line is written by one write, after the run.
 #[test]
 fn the_line_of_a_load_may_be_refused(rt: HostRuntime) -> Result<(), Fail> {
     let table: [(u64, &str); 2] = [

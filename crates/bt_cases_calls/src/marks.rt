@@ -12,7 +12,7 @@ use std::cell::Cell;
 use std::rc::Rc;
 use std::test::Fail;
 
-/// A row of cells that drivers and a sink share, in which each marks what it does.
+/// Cells that drivers and a sink share: each marks there what it does.
 #[derive(Drop)]
 struct Marks {
     count: Cell<usize>,
@@ -20,7 +20,7 @@ struct Marks {
 }
 
 impl Marks {
-    /// An empty row.
+    /// Cells without marks.
     fn new() -> Marks {
         Marks {
             count: Cell::new(0),
@@ -28,7 +28,7 @@ impl Marks {
         }
     }
 
-    /// Marks the next cell. What is past the last one is not marked.
+    /// Marks the next cell. After the last cell there are no further marks.
     fn mark(&self, mark: char) {
         let count = self.count.get();
         let mut cells = self.cells.get();
@@ -49,7 +49,7 @@ impl Marks {
     }
 }
 
-/// A driver that marks each of its calls, and else does what the driver in it does.
+/// A driver that marks each of its calls, and otherwise does what the driver in it does.
 #[derive(Drop)]
 struct Marked<D> {
     driver: D,
@@ -113,7 +113,7 @@ impl<D: Driver> Driver for Marked<D> {
 /// The first words of blocks.
 const HEADERS: [&[u8]; 4] = [b"tick ", b"halt ", b"set ", b"finish "];
 
-/// A sink that marks each first line of a block, and else does what the sink in it does.
+/// A sink that marks the first line of each block, and otherwise does what the sink in it does.
 #[derive(Drop)]
 struct MarkedSink<K> {
     sink: K,
@@ -135,8 +135,8 @@ impl<K: Sink> Sink for MarkedSink<K> {
     }
 }
 
-/// Marks what a run does: `C` a start of a condition, `T`, `t` and `h` a start, a call of `running` and
-/// one of `halted` of a timed action, and `|` the first line of a block.
+/// Marks what a run does: `C` for a start of a condition, `T`, `t` and `h` for a start, a `running`
+/// and a `halted` of a timed action, and `|` for the first line of a block.
 fn run_marked(
     alloc: Global,
     nodes: &str,
@@ -174,7 +174,7 @@ fn marks_of(alloc: Global, nodes: &str, lines: &str) -> Result<String, NoMemory>
     Ok(format!(in alloc; "{} {exit:?}", marks.text(alloc)?)?)
 }
 
-/// An event's calls come behind the block before it, and before its own block is written.
+/// The calls of an event come after the block before it, and before its own block is written.
 #[test]
 fn calls_in_time(rt: HostRuntime) -> Result<(), Fail> {
     for (nodes, lines, want) in [

@@ -1,4 +1,4 @@
-//! What tree files are understood as, and the first fault of each.
+//! What tree files are read as, and the first fault of each.
 
 ghost use Rattle.std.specs.Prelude.{◌≡◌, Ok};
 ghost use Rattle.bt_elements.specs.Elements.{IsValid};
@@ -12,11 +12,12 @@ use bt_script::{Name, NoMemory, Script, Stop, Value};
 use std::alloc::{AllocError, Global};
 use std::test::Fail;
 
+/// The text of a name.
 fn text(name: &Name) -> &str {
     str::from_utf8(name.list()).unwrap_or("?")
 }
 
-/// A port as it is understood: numbers bare, texts in quotes, keys in braces.
+/// A port as it is read: numbers bare, texts in quotes, keys in braces.
 fn port_text(alloc: Global, port: &Port) -> Result<String, AllocError> {
     let name = text(&port.name);
     match &port.value {
@@ -28,7 +29,7 @@ fn port_text(alloc: Global, port: &Port) -> Result<String, AllocError> {
     }
 }
 
-/// The number of statements of a script, if it is there.
+/// The number of statements of a script, where it is there.
 fn script_text(alloc: Global, name: &str, script: &Option<Script>) -> Result<String, AllocError> {
     match script {
         Some(script) => format!(in alloc; " {name}:{}", script.stmts.list().len()),
@@ -36,6 +37,7 @@ fn script_text(alloc: Global, name: &str, script: &Option<Script>) -> Result<Str
     }
 }
 
+/// The guards of a node that are there, with their numbers of statements.
 fn guards_text(alloc: Global, guards: &Guards) -> Result<String, AllocError> {
     let mut all = String::new(alloc);
     for (name, script) in [
@@ -79,6 +81,7 @@ fn put_term(alloc: Global, term: &Term, out: &mut String) -> Result<(), AllocErr
     Ok(())
 }
 
+/// A fault in words.
 fn fault_text(alloc: Global, fault: &BuildFault) -> Result<String, AllocError> {
     match fault {
         BuildFault::NotRoot { place } => format!(in alloc; "NotRoot {place}"),
@@ -101,13 +104,14 @@ fn fault_text(alloc: Global, fault: &BuildFault) -> Result<String, AllocError> {
     }
 }
 
+/// A tree as text: the ID of its main tree, and its nodes.
 fn tree_text(alloc: Global, tree: &Tree) -> Result<String, AllocError> {
     let mut all = format!(in alloc; "{}: ", text(&tree.main))?;
     put_term(alloc, &tree.term, &mut all)?;
     Ok(all)
 }
 
-/// What the elements of a file are understood as, with its models and a main tree that is asked for.
+/// What the elements of a file are read as, with its models and the main tree that is asked for.
 fn built_text(
     alloc: Global,
     elements: &Elements,
@@ -124,7 +128,7 @@ fn built_text(
     }
 }
 
-/// The same with the name of the main tree as a text.
+/// What the elements of a file are read as, where the main tree is asked for by its name as a text.
 fn asked_text(
     alloc: Global,
     elements: &Elements,
@@ -143,7 +147,7 @@ fn asked_text(
     }
 }
 
-/// The same with the models of these elements.
+/// What the elements of a file are read as, with the models among them.
 fn elements_text(
     alloc: Global,
     elements: &Elements,
@@ -157,7 +161,7 @@ fn elements_text(
     }
 }
 
-/// What a file is understood as.
+/// What a file is read as.
 fn file_text(alloc: Global, file: &[u8], main: Option<&str>) -> Result<String, AllocError> {
     if file.len() > 1_048_576 {
         return String::from_str(alloc, "too long");
@@ -168,13 +172,14 @@ fn file_text(alloc: Global, file: &[u8], main: Option<&str>) -> Result<String, A
     }
 }
 
-/// The root of a file of version 4, and the one of version 3.
+/// The beginning of a file of version 4.
 const FOUR: &str = "<root BTCPP_format=\"4\">";
 
+/// The beginning of a file of version 3.
 const THREE: &str = "<root>";
 
-/// What a node is understood as that is the main tree of a file with this root. Another tree `S` is
-/// there.
+/// What a node is read as that is the main tree of a file with this beginning. The file has another
+/// tree, `S`.
 fn node_text(alloc: Global, root: &str, node: &str) -> Result<String, AllocError> {
     let file = format!(in alloc;
         "{root}<BehaviorTree ID=\"M\">{node}</BehaviorTree><BehaviorTree ID=\"S\"><A/></BehaviorTree></root>"
@@ -182,7 +187,7 @@ fn node_text(alloc: Global, root: &str, node: &str) -> Result<String, AllocError
     file_text(alloc, file.as_bytes(), Some("M"))
 }
 
-/// Files with the main tree that is asked for, and what each is understood as.
+/// Files with the main tree that is asked for, and what each is read as.
 static FILES: [(&str, Option<&str>, &str); 28] = [
     ("<tree/>", None, "NotRoot 0"),
     ("<root BTCPP_format=\"5\"><a/></root>", None, "NotRoot 23"),
@@ -290,6 +295,7 @@ static FILES: [(&str, Option<&str>, &str); 28] = [
     ),
 ];
 
+/// Each of `FILES` is read as wanted.
 #[test]
 fn files(rt: HostRuntime) -> Result<(), Fail> {
     let alloc = rt.alloc();
@@ -303,7 +309,7 @@ fn files(rt: HostRuntime) -> Result<(), Fail> {
     Ok(())
 }
 
-/// Nodes, and what the tree of each is understood as, in either version.
+/// Nodes, and what the tree of each is read as, in either version.
 static NODES: [(&str, &str); 41] = [
     ("<Sequence/>", "ChildCount 1"),
     (
@@ -411,6 +417,7 @@ static NODES: [(&str, &str); 41] = [
     ),
 ];
 
+/// Each of `NODES` is read as wanted, in either version.
 #[test]
 fn nodes(rt: HostRuntime) -> Result<(), Fail> {
     let alloc = rt.alloc();
@@ -421,8 +428,8 @@ fn nodes(rt: HostRuntime) -> Result<(), Fail> {
     Ok(())
 }
 
-/// Nodes that the versions read otherwise, and what the tree of each is understood as in version 3 and
-/// in version 4.
+/// Nodes that the versions read in different ways, and what the tree of each is read as in version
+/// 3 and in version 4.
 static VERSIONS: [(&str, &str, &str); 27] = [
     (
         "<SequenceStar/>",
@@ -561,6 +568,7 @@ static VERSIONS: [(&str, &str, &str); 27] = [
     ),
 ];
 
+/// Each of `VERSIONS` is read as wanted, in version 3 and in version 4.
 #[test]
 fn versions(rt: HostRuntime) -> Result<(), Fail> {
     let alloc = rt.alloc();

@@ -40,7 +40,7 @@ fn outcome(alloc: Global, bytes: &[u8]) -> Result<Vec<u8>, Fail> {
     Ok(out)
 }
 
-/// The last mark within so many elements, each in the one before it.
+/// The last mark inside this many elements, each in the one before it.
 fn nested(alloc: Global, depth: usize, last: &[u8]) -> Result<Vec<u8>, Fail> {
     let mut out = Vec::new(alloc);
     for _ in 0..depth {
@@ -53,12 +53,12 @@ fn nested(alloc: Global, depth: usize, last: &[u8]) -> Result<Vec<u8>, Fail> {
     Ok(out)
 }
 
-/// The same of the last mark within so many elements.
+/// The outline or the fault of the last mark inside this many elements.
 fn nested_outcome(alloc: Global, depth: usize, last: &[u8]) -> Result<Vec<u8>, Fail> {
     outcome(alloc, nested(alloc, depth, last)?.as_slice())
 }
 
-/// Whether the last mark within so many elements can be read.
+/// Whether the last mark inside this many elements can be read.
 fn nested_is_read(alloc: Global, depth: usize, last: &[u8]) -> Result<bool, Fail> {
     let bytes = nested(alloc, depth, last)?;
     Ok(bytes.len() <= 1_048_576 && read_elements(alloc, bytes.as_slice()).is_ok())
@@ -119,7 +119,7 @@ static SPELLED: [(&[u8], &[u8]); 69] = [
     (b"\xFF", b"NotUtf8 { place: 0 }"),
     (b"x<a>\xC3</a>", b"NotUtf8 { place: 4 }"),
     (b"<a/>\xF0\x9F\x98", b"NotUtf8 { place: 4 }"),
-    // marks that are none
+    // bad marks
     (b"<!-- x", b"BadMark { place: 0 }"),
     (b"<!-- x --", b"BadMark { place: 0 }"),
     (b"<!-->", b"BadMark { place: 0 }"),
@@ -181,6 +181,7 @@ static SPELLED: [(&[u8], &[u8]); 69] = [
     (b"</b x></a>", b"BadMark { place: 0 }"),
 ];
 
+/// Each of `SPELLED` has its outline or its fault.
 #[test]
 fn elements_and_faults(rt: HostRuntime) -> Result<(), Fail> {
     let alloc = rt.alloc();
@@ -199,6 +200,7 @@ static DEEP: [(usize, &[u8], &[u8]); 5] = [
     (258, b"<a k='1' k='1'/>", b"DoubleAttribute { place: 774 }"),
 ];
 
+/// Each of `DEEP` has its fault, and the deepest files are read.
 #[test]
 fn depths(rt: HostRuntime) -> Result<(), Fail> {
     let alloc = rt.alloc();

@@ -6,15 +6,18 @@ use bt_script::{Name, Stop};
 use std::alloc::{AllocError, Global};
 use std::test::Fail;
 
+/// A name of this text.
 fn name(alloc: Global, text: &str) -> Result<Name, AllocError> {
     let bytes = Vec::from_slice(alloc, text.as_bytes())?;
     Ok(Name::of(bytes))
 }
 
+/// The text of a name.
 fn text(name: &Name) -> &str {
     str::from_utf8(name.list()).unwrap_or("?")
 }
 
+/// Adds a model: its ID, and its ports with their defaults.
 fn put_model(alloc: Global, model: &NodeModel, out: &mut String) -> Result<(), AllocError> {
     out.push_str(text(&model.id))?;
     for port in model.ports.list() {
@@ -27,6 +30,7 @@ fn put_model(alloc: Global, model: &NodeModel, out: &mut String) -> Result<(), A
     Ok(())
 }
 
+/// A model as text, or `none`.
 fn model_text(alloc: Global, model: Option<&NodeModel>) -> Result<String, AllocError> {
     let Some(model) = model else {
         return String::from_str(alloc, "none");
@@ -115,6 +119,7 @@ static FILES: [(&str, &str); 13] = [
     ),
 ];
 
+/// Each of `FILES` has the model or the fault that is wanted.
 #[test]
 fn files(rt: HostRuntime) -> Result<(), Fail> {
     let alloc = rt.alloc();

@@ -6,6 +6,7 @@ use bt_world::read_world;
 use std::alloc::{AllocError, Global};
 use std::test::Fail;
 
+/// The text of a name.
 fn shown(name: &Name) -> &str {
     str::from_utf8(name.list()).unwrap_or("?")
 }
@@ -23,13 +24,13 @@ fn sort_text(alloc: Global, sort: &RowSort) -> Result<String, AllocError> {
     }
 }
 
-/// The kind of a row and what it needs.
+/// Adds the kind of a row, and what it needs.
 fn put_sort(alloc: Global, row: &Row, out: &mut String) -> Result<(), AllocError> {
     let sort = sort_text(alloc, &row.sort)?;
     out.push_str(format!(in alloc; " {sort} {:?}", row.needs.list())?.as_str())
 }
 
-/// What a row sets and puts out.
+/// Adds what a row sets and puts out.
 fn put_effects(alloc: Global, row: &Row, out: &mut String) -> Result<(), AllocError> {
     for set in row.sets.list() {
         let sign = match set.how {
@@ -44,6 +45,7 @@ fn put_effects(alloc: Global, row: &Row, out: &mut String) -> Result<(), AllocEr
     Ok(())
 }
 
+/// Adds a row: its ID, its ports, its kind and its effects.
 fn put_row(alloc: Global, row: &Row, out: &mut String) -> Result<(), AllocError> {
     out.push_str(shown(&row.id))?;
     for port in row.ports.list() {
@@ -54,7 +56,7 @@ fn put_row(alloc: Global, row: &Row, out: &mut String) -> Result<(), AllocError>
     put_effects(alloc, row, out)
 }
 
-/// The facts and rows of a world.
+/// Adds the facts and rows of a world.
 fn put_rows(alloc: Global, world: &World, out: &mut String) -> Result<(), AllocError> {
     for fact in world.facts.list() {
         out.push_str(format!(in alloc; "{} {}; ", shown(&fact.name), fact.opening)?.as_str())?;
@@ -66,7 +68,7 @@ fn put_rows(alloc: Global, world: &World, out: &mut String) -> Result<(), AllocE
     Ok(())
 }
 
-/// The goals, runners and events of a world.
+/// Adds the goals, runners and events of a world.
 fn put_events(alloc: Global, world: &World, out: &mut String) -> Result<(), AllocError> {
     let goals = world.goals.list();
     out.push_str(format!(in alloc; "{goals:?} {}", world.runners)?.as_str())?;
@@ -119,7 +121,7 @@ fn counted(alloc: Global, bytes: &[u8]) -> Result<String, AllocError> {
     }
 }
 
-/// A script of these lines, which stand between slashes, behind the header.
+/// A script of these lines, which stand between slashes, after the header.
 fn script(alloc: Global, lines: &str) -> Result<String, AllocError> {
     let mut text = String::from_str(alloc, "bt-world 1")?;
     for line in lines.split(" / ") {
@@ -134,7 +136,7 @@ fn lines_told(alloc: Global, lines: &str) -> Result<String, AllocError> {
     told(alloc, script(alloc, lines)?.as_bytes())
 }
 
-/// This many lines of a pattern, in which `#` stands for the number of the line.
+/// Adds this many lines of a pattern, in which `#` stands for the number of the line.
 fn add_lines(
     alloc: Global,
     text: &mut String,
@@ -151,7 +153,8 @@ fn add_lines(
     Ok(())
 }
 
-/// The same of two patterns with their numbers of lines, each behind a text.
+/// The first faulty line, or the numbers of facts, rows, goals and events, of a script of two
+/// patterns, each this many times after a text.
 fn many_counted(
     alloc: Global,
     one: (&str, &str, usize),
@@ -198,6 +201,7 @@ static WHOLE: [(&[u8], &str); 14] = [
     ),
 ];
 
+/// Each of `WHOLE` is read as wanted.
 #[test]
 fn whole_files(rt: HostRuntime) -> Result<(), Fail> {
     let alloc = rt.alloc();
@@ -252,6 +256,7 @@ static ACCEPTED: [(&str, &str); 11] = [
     ),
 ];
 
+/// Each of `ACCEPTED` is read as the world that is wanted.
 #[test]
 fn accepted(rt: HostRuntime) -> Result<(), Fail> {
     let alloc = rt.alloc();
@@ -362,6 +367,7 @@ action A timed 1 / condition A is x == 1 => DoubleName 3
 action A timed 1 / out p = 1 / out p = x => DoubleName 4
 condition A(a,b,c,d,e,f,g,h,i) when x => NoName 2";
 
+/// Each of `FAULTS` has its first faulty line.
 #[test]
 fn first_faulty_lines(rt: HostRuntime) -> Result<(), Fail> {
     let alloc = rt.alloc();
@@ -374,7 +380,7 @@ fn first_faulty_lines(rt: HostRuntime) -> Result<(), Fail> {
     Ok(())
 }
 
-/// A pattern and its number of lines behind a text, twice, and the numbers or the fault.
+/// Twice a pattern and its number of lines after a text, and the numbers or the fault.
 static LIMITS: [((&str, &str, usize), (&str, &str, usize), &str); 15] = [
     (("", "fact f# 1", 1024), ("", "", 0), "1024 0 0 0"),
     (("", "fact f# 1", 1025), ("", "", 0), "TooMany 1026"),
@@ -429,6 +435,7 @@ static LIMITS: [((&str, &str, usize), (&str, &str, usize), &str); 15] = [
     (("", "tick 1", 100_001), ("", "", 0), "TooMany 100002"),
 ];
 
+/// Each of `LIMITS` has the numbers or the fault that is wanted.
 #[test]
 fn limits(rt: HostRuntime) -> Result<(), Fail> {
     let alloc = rt.alloc();

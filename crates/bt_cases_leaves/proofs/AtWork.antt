@@ -1,4 +1,4 @@
--- A roster at work on a row, before and after each call.
+-- A roster while a row is tried, before and after each call.
 use Rattle.std.proofs.Common.{◌≡◌, ℕ, ℤ, zero, suc, ◌+◌, ◌<◌, Bool, true, false, if◌then◌else◌, List, [], ◌∷◌, length, map, set, get_or, replicate, Option, Some, None, refl, sym, ap, subst, ◌∙◌, add-one, arith}
 use Rattle.std.specs.Prelude.{IfSome, option_map, unwrap_or}
 use Rattle.std.proofs.lemmas.Bool.{false≢true}
@@ -17,7 +17,7 @@ use Rattle.bt_driver.proofs.Preparing.{length_prepared}
 use Rattle.bt_cases_leaves.specs.Stages.{IsAtWork}
 
 module _ (ds : List DriverState) (place : ℕ) (kind : DriverKind) (since : List (Option ℕ)) (work : IsAtWork ds place kind since) (instance : ℕ) where
-  -- a call leaves this of an instance
+  -- after a call the instance is held since this time
   pub after : (phase : Phase) (left : Instance) (moment : Option ℕ) → left.since ≡ moment →
       IsAtWork (roster_called ds place phase instance left) place kind (set since instance moment)
   after phase left moment same =
@@ -37,13 +37,13 @@ module _ (ds : List DriverState) (place : ℕ) (kind : DriverKind) (since : List
     pub there : IsThere ds place instance
     there = (work.there, omega (arith, within, ap length work.held, length-map (driver_at ds place).table (λ (i : Instance). i.since)))
 
-    -- it is held since the moment that is known
+    -- the instance is held since the time that is known
     pub moment_of : (instance_at ds place instance).since ≡ get_or since instance None
     moment_of =
         sym (get_or-map (λ (i : Instance). i.since) (driver_at ds place).table instance fresh None there.1)
         ∙ ap (λ (xs : List (Option ℕ)). get_or xs instance None) work.held
 
-    -- what a call of `start` or `running` of a leaf that began at this moment leaves
+    -- what is left after a call of `start` or `running` for a leaf that began at this time
     module _ (rule : Rule) (inputs : List Seen) (facts : List ℤ) (now : ℕ) (reply : Reply) (new : List DriverState) (moment : Option ℕ) where
       abbrev pub left_by : Phase → Answered
       left_by phase = roster_answer ds place instance rule phase inputs facts now
@@ -79,7 +79,7 @@ same driver.Replay driver.Replay is = refl
 same driver.Gate driver.Gate is = refl
 same _ _ is = absurd (false≢true is)
 
--- the driver at the place that was found, if any, is of this kind
+-- if a driver was found, the one at its place is of this kind
 abbrev IsOfKind : List DriverState → DriverKind → Option ℕ → Type 0
 IsOfKind ds kind found = IfSome found (λ place. (place < length ds) × ((driver_at ds place).kind ≡ kind))
 

@@ -3,7 +3,7 @@ use Rattle.std.specs.Prelude.{◌≡◌, ℕ, ◌<◌, List, length, map, Option
 use Rattle.bt_model.specs.declared.leaf.DriverKind.{DriverKind}
 use Rattle.bt_model.specs.Drivers.{DriverState, driver_at}
 
--- the driver at this place is of this kind, and its instances are held since these moments
+-- the driver at this place is of this kind, and its instances are held since these times
 pub record IsAtWork (drivers : List DriverState) (place : ℕ) (wanted : DriverKind) (since : List (Option ℕ)) : Type 0 where
   pub there : place < length drivers
   pub kind : (driver_at drivers place).kind ≡ wanted

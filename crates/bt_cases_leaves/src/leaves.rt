@@ -17,7 +17,7 @@ use bt_world::read_world;
 use std::alloc::{AllocError, Global};
 use std::process::Abort;
 
-/// A row that is tried, with what its calls are made with and have left.
+/// A row that is tried, with what its calls get and what they have left.
 #[derive(Drop)]
 struct Stage {
     /// The place of its driver.
@@ -26,11 +26,11 @@ struct Stage {
     inputs: Inputs,
     facts: FactTable,
     outs: Outs,
-    /// The moment since which each instance is held, or none.
+    /// Since when each instance is held, in milliseconds; none where it is not.
     since: Vec<Option<u64>>,
 }
 
-/// A script of these lines, which stand between slashes, behind the header.
+/// A script of these lines, which stand between slashes, after the header.
 fn script(alloc: Global, lines: &str) -> Result<String, AllocError> {
     let mut text = String::from_str(alloc, "bt-world 1")?;
     for line in lines.split(" / ") {
@@ -55,7 +55,7 @@ fn world_of(alloc: Global, lines: &str) -> Result<World, NoMemory>
     }
 }
 
-/// Inputs as `7 - text`: a number, nothing and a text. Those behind the last are absent.
+/// Inputs as `7 - text`: a number, an absent one and a text. Those after the last word are absent.
 fn inputs_of(words: &str) -> Inputs {
     let mut inputs = [Seen::Absent; 8];
     for (input, word) in inputs.iter_mut().zip(words.split_whitespace()) {
@@ -100,7 +100,8 @@ fn stage_of<D: Drivers>(
     })
 }
 
-/// The same of the world of these lines, with a roster that holds nothing.
+/// The last row of the world of these lines, made ready, and a roster prepared for it that holds
+/// nothing.
 fn stage_in<D: Drivers>(
     rt: &impl Abort,
     alloc: Global,
@@ -118,7 +119,8 @@ fn stage_in<D: Drivers>(
     stage
 }
 
-/// The moment since which an instance is held after a reply to a leaf that began at this moment.
+/// Since when an instance is held after a reply to a leaf that began at `start`; none where it is
+/// not held.
 fn since_after(reply: Reply, start: u64, before: Option<u64>) -> Option<u64>
     ensures { result ≡ leaf.since_after reply start before }
 {
@@ -130,7 +132,7 @@ fn since_after(reply: Reply, start: u64, before: Option<u64>) -> Option<u64>
     }
 }
 
-/// Calls `start`.
+/// Calls `start` for an instance, at the time `now` in milliseconds.
 fn begin<D: Drivers>(drivers: &mut D, stage: &mut Stage, instance: u32, now: u64) -> Reply
     requires work { IsAtWork (D.states drivers.old) stage.old.place (kind_of_way (rule stage.old.row).way) stage.old.since.items }
     requires table { length stage.old.facts ≡ stage.old.row.facts }
@@ -152,7 +154,8 @@ fn begin<D: Drivers>(drivers: &mut D, stage: &mut Stage, instance: u32, now: u64
     reply
 }
 
-/// Calls `running` of an instance that is held since this moment.
+/// Calls `running` for an instance that is held since `start`, at the time `now`, both in
+/// milliseconds.
 fn go_on<D: Drivers>(
     drivers: &mut D,
     stage: &mut Stage,
@@ -181,7 +184,7 @@ fn go_on<D: Drivers>(
     reply
 }
 
-/// Calls `halted` of an instance that is held since this moment.
+/// Calls `halted` for an instance that is held since `start`.
 fn let_go<D: Drivers>(drivers: &mut D, stage: &mut Stage, instance: u32, start: u64)
     requires work { IsAtWork (D.states drivers.old) stage.old.place (kind_of_way (rule stage.old.row).way) stage.old.since.items }
     requires table { length stage.old.facts ≡ stage.old.row.facts }
@@ -194,8 +197,8 @@ fn let_go<D: Drivers>(drivers: &mut D, stage: &mut Stage, instance: u32, start: 
     stage.since[instance as usize] = None;
 }
 
-/// Visits the leaf of an instance: `start` where it is not held, else `running`. None where there is
-/// no such instance, or the moment lies before its start.
+/// Visits the leaf of an instance at the time `now`: `start` where it is not held, else `running`.
+/// None where there is no such instance, or where it is held since a later time.
 fn visit<D: Drivers>(drivers: &mut D, stage: &mut Stage, instance: u32, now: u64) -> Option<Reply>
     requires work { IsAtWork (D.states drivers.old) stage.old.place (kind_of_way (rule stage.old.row).way) stage.old.since.items }
     requires table { length stage.old.facts ≡ stage.old.row.facts }
@@ -231,7 +234,8 @@ fn halt<D: Drivers>(drivers: &mut D, stage: &mut Stage, instance: u32) -> bool
     }
 }
 
-/// The answer to a call as `1 at 5`, a visit of the second instance at this moment, or `halt 1`.
+/// The answer to a call, which is written `1 at 5`, a visit of the second instance at the time 5,
+/// or `halt 1`.
 fn answer_text<D: Drivers>(
     alloc: Global,
     drivers: &mut D,
@@ -276,7 +280,7 @@ fn answers_text<D: Drivers>(
     Ok(text)
 }
 
-/// The facts and the outputs that stand.
+/// The facts, and the outputs that were made last.
 fn left_text(alloc: Global, stage: &Stage) -> Result<String, AllocError>
     requires { length stage.now.facts ≡ stage.now.row.facts }
 {
@@ -288,7 +292,7 @@ fn left_text(alloc: Global, stage: &Stage) -> Result<String, AllocError>
     Ok(text)
 }
 
-/// What calls of a row answer and leave.
+/// What calls of a row answer, and what they leave.
 fn calls_text<D: Drivers>(
     alloc: Global,
     drivers: &mut D,
@@ -309,7 +313,7 @@ fn calls_text<D: Drivers>(
     format!(in alloc; "{answers}{left}{held}")
 }
 
-/// What calls of the last row of a world answer and leave, and how often they have called its driver.
+/// What calls of the last row of a world answer and leave, and how often they called its driver.
 fn told<D: Drivers>(
     rt: &impl Abort,
     alloc: Global,
@@ -325,7 +329,7 @@ fn told<D: Drivers>(
     Ok((text?, totals))
 }
 
-/// The same with the four drivers of the modelled world.
+/// What such calls answer and leave, and their counts, with the four drivers of the modelled world.
 fn row_told(
     rt: &impl Abort,
     alloc: Global,
@@ -356,6 +360,7 @@ fn compare_rows(
     Ok(())
 }
 
+/// Conditions, with what their calls answer and leave.
 #[test]
 fn conditions_answer_at_once(rt: HostRuntime) -> Result<(), NoMemory> {
     compare_rows(
@@ -426,6 +431,7 @@ fn conditions_answer_at_once(rt: HostRuntime) -> Result<(), NoMemory> {
     )
 }
 
+/// Actions, with what their calls answer and leave.
 #[test]
 fn actions_answer_by_their_rows(rt: HostRuntime) -> Result<(), NoMemory> {
     compare_rows(
@@ -438,7 +444,7 @@ fn actions_answer_by_their_rows(rt: HostRuntime) -> Result<(), NoMemory> {
                 "0 at 100, 0 at 399, 0 at 400, 0 at 400",
                 "Running; Running; Success; Running; facts; outputs []; held",
             ),
-            // `fails` with a fault, looked at when the time is over: still held
+            // `fails` with a fault, found when the time is over: the instance is still held
             (
                 "fact x 0 / action A timed 10 / fails 1/x / sets x = 5",
                 "",
@@ -451,7 +457,7 @@ fn actions_answer_by_their_rows(rt: HostRuntime) -> Result<(), NoMemory> {
                 "0 at 0",
                 "Broken(ZeroDivisor); facts 0; outputs []",
             ),
-            // `fails` is 0, and is not
+            // `fails` is 0, then is not
             (
                 "fact x 0 / action A timed 10 / fails x / sets x = 5",
                 "",
@@ -470,7 +476,7 @@ fn actions_answer_by_their_rows(rt: HostRuntime) -> Result<(), NoMemory> {
                 "0 at 0",
                 "Broken(Mixed); facts; outputs []",
             ),
-            // letters past their end, and a letter that a halt leaves
+            // letters after the last one, and the letter that a halt does not use up
             (
                 "action A replay 0 SF",
                 "",
@@ -527,6 +533,7 @@ fn actions_answer_by_their_rows(rt: HostRuntime) -> Result<(), NoMemory> {
     )
 }
 
+/// Rows with effects that add to a fact.
 #[test]
 fn effects_add(rt: HostRuntime) -> Result<(), NoMemory> {
     compare_rows(
@@ -539,7 +546,7 @@ fn effects_add(rt: HostRuntime) -> Result<(), NoMemory> {
                 "0 at 0, 0 at 0, 1 at 0",
                 "Success; Success; Success; facts 4 0; outputs [5]",
             ),
-            // up to either end of 64 bits
+            // up to the least and the greatest number of 64 bits
             (
                 "fact x -1 / fact y -9223372036854775808 / action A gate 1 / sets x += -9223372036854775807 / sets y += 9223372036854775807",
                 "",
@@ -565,7 +572,7 @@ fn effects_add(rt: HostRuntime) -> Result<(), NoMemory> {
                 "0 at 0",
                 "Broken(Overflow); facts 1 9223372036854775807; outputs []",
             ),
-            // an overflow is no completion, and what is held stays held
+            // an overflow is no completion, and a held instance stays held
             (
                 "fact x -9223372036854775808 / action A replay 5 SF / sets x += -1",
                 "",
@@ -596,6 +603,7 @@ fn effects_add(rt: HostRuntime) -> Result<(), NoMemory> {
     )
 }
 
+/// After 64 completions the last outcome stays.
 #[test]
 fn last_outcomes_stay(rt: HostRuntime) -> Result<(), NoMemory> {
     let alloc = rt.alloc();
@@ -612,6 +620,7 @@ fn last_outcomes_stay(rt: HostRuntime) -> Result<(), NoMemory> {
     )
 }
 
+/// Calls, with the counts of the driver and their trail.
 #[test]
 fn calls_are_counted(rt: HostRuntime) -> Result<(), NoMemory> {
     let alloc = rt.alloc();
@@ -630,14 +639,14 @@ fn calls_are_counted(rt: HostRuntime) -> Result<(), NoMemory> {
             (2, 1, 1),
             1_000_013_000_053_000_075,
         ),
-        // past 2^64
+        // a trail past 2^64
         (
             "action A timed 9",
             "0 at 0, 1 at 0, 0 at 5, halt 1, 0 at 9",
             (2, 2, 1),
             18_003_856_205_440_896_867,
         ),
-        // a fault counts too
+        // a call with a fault counts too
         (
             "fact x 0 / action A timed 0 / fails 1/x",
             "1 at 0",

@@ -29,8 +29,8 @@ fn memo_text(alloc: Global, memo: Memo) -> Result<String, AllocError> {
     }
 }
 
-/// A move in words: the span that is reset, if any, and the child that is visited or the answer
-/// with the memo behind it.
+/// A move in words: the span that is reset, if any, and the child that is visited, or the answer
+/// with the memo after it.
 fn move_text(alloc: Global, memo: Memo, step: Move) -> Result<String, AllocError> {
     let reset = match step.reset {
         Span::None => format!(in alloc; "")?,
@@ -63,6 +63,7 @@ fn heard(kind: Kind, place: u32, letter: u8) -> Heard
     }
 }
 
+/// Whether the counts of a Parallel are small enough for a visit.
 fn has_room(n: u32, memo: Memo) -> bool
     ensures { IsTrue result → FitsStart Kind.Parallel n memo 0 }
 {
@@ -72,6 +73,7 @@ fn has_room(n: u32, memo: Memo) -> bool
     }
 }
 
+/// Whether the chosen child of a memo is one of `n` children.
 fn is_there(n: u32, memo: Memo) -> bool
     ensures { IsTrue result → IsThere n (chosen_of memo) }
 {
@@ -81,7 +83,7 @@ fn is_there(n: u32, memo: Memo) -> bool
     }
 }
 
-/// Whether a visit of a control node can begin so.
+/// Whether a visit of a control node can begin with this memo and this pick.
 fn may_start(kind: Kind, memo: Memo, n: u32, picked: u32) -> bool
     ensures control { IsTrue result → IsTrue (is_control kind) }
     ensures fits { IsTrue result → FitsStart kind n memo picked }
@@ -100,7 +102,7 @@ fn may_start(kind: Kind, memo: Memo, n: u32, picked: u32) -> bool
     }
 }
 
-/// The moves of a visit of a control node with `n` children that answer so.
+/// The moves of a visit of a control node with `n` children, which give these answers.
 fn control_text(
     alloc: Global,
     kind: Kind,
@@ -128,7 +130,8 @@ fn control_text(
     Ok(text)
 }
 
-/// The number of children, their answers (`.` for none) and what is wanted, of a line.
+/// The parts of a line: the number of children, their answers (`.` for none) and the moves that are
+/// wanted.
 fn row(line: &str) -> (u32, &str, &str) {
     let (n, rest) = line.trim_start().split_once(' ').unwrap_or((line, ""));
     let (answers, want) = rest.split_once(' ').unwrap_or((rest, ""));
@@ -140,7 +143,7 @@ fn row(line: &str) -> (u32, &str, &str) {
     }
 }
 
-/// Tries the visits of a control node that begin with this memo, one a line.
+/// Compares the visits of a control node that begin with this memo, one for each line.
 fn controls(
     rt: &impl Abort,
     alloc: Global,
@@ -158,6 +161,7 @@ fn controls(
     Ok(())
 }
 
+/// Visits of the Sequence and Fallback kinds from the first child.
 #[test]
 fn rounds(rt: HostRuntime) -> Result<(), Fail> {
     let alloc = rt.alloc();
@@ -313,6 +317,7 @@ fn rounds(rt: HostRuntime) -> Result<(), Fail> {
     Ok(())
 }
 
+/// Visits of these kinds from a kept index.
 #[test]
 fn rounds_from_a_kept_index(rt: HostRuntime) -> Result<(), Fail> {
     let alloc = rt.alloc();
@@ -405,7 +410,7 @@ fn rounds_from_a_kept_index(rt: HostRuntime) -> Result<(), Fail> {
     Ok(())
 }
 
-/// Whether a kind visits its children in order, so that it keeps the place of one.
+/// Whether a kind visits its children in order and keeps the place of one.
 fn keeps_a_place(kind: Kind) -> bool
     ensures { IsTrue result → (n place : ℕ) → FitsChild kind n (Memo.Index place false) place }
 {
@@ -419,7 +424,7 @@ fn keeps_a_place(kind: Kind) -> bool
     }
 }
 
-/// The child of three to which a node goes on at once behind the answer of the one at this place.
+/// The child of three to which a node goes on at once after the answer of the child at this place.
 fn next_of_three(kind: Kind, place: u32, letter: u8) -> Option<u32> {
     let mut memo = Memo::Index {
         at: place,
@@ -432,6 +437,7 @@ fn next_of_three(kind: Kind, place: u32, letter: u8) -> Option<u32> {
     }
 }
 
+/// Answers of children, and the child to which a node goes on at once.
 #[test]
 fn next_children(rt: HostRuntime) -> Result<(), Fail> {
     for (kind, place, letter, want) in [
@@ -458,7 +464,7 @@ fn next_children(rt: HostRuntime) -> Result<(), Fail> {
     Ok(())
 }
 
-/// A Parallel's memo at its start.
+/// A Parallel's memo when it starts.
 fn thresholds(need: u32, most: u32, skips: bool) -> Memo {
     Memo::Counts(Counts {
         need,
@@ -470,6 +476,7 @@ fn thresholds(need: u32, most: u32, skips: bool) -> Memo {
     })
 }
 
+/// Visits of a Parallel that starts.
 #[test]
 fn parallel(rt: HostRuntime) -> Result<(), Fail> {
     let alloc = rt.alloc();
@@ -664,6 +671,7 @@ fn completed(won: bool, need: u32, skips: bool) -> Memo {
     })
 }
 
+/// Visits of a Parallel that passes over children that have completed.
 #[test]
 fn parallel_passes_over(rt: HostRuntime) -> Result<(), Fail> {
     let alloc = rt.alloc();
@@ -702,6 +710,7 @@ fn parallel_passes_over(rt: HostRuntime) -> Result<(), Fail> {
     Ok(())
 }
 
+/// Visits of a Switch.
 #[test]
 fn switch(rt: HostRuntime) -> Result<(), Fail> {
     let alloc = rt.alloc();
@@ -746,6 +755,7 @@ fn switch(rt: HostRuntime) -> Result<(), Fail> {
     Ok(())
 }
 
+/// Visits of an IfThenElse.
 #[test]
 fn if_then_else(rt: HostRuntime) -> Result<(), Fail> {
     let alloc = rt.alloc();
@@ -794,6 +804,7 @@ fn if_then_else(rt: HostRuntime) -> Result<(), Fail> {
     Ok(())
 }
 
+/// Visits of a WhileDoElse.
 #[test]
 fn while_do_else(rt: HostRuntime) -> Result<(), Fail> {
     let alloc = rt.alloc();
@@ -821,6 +832,7 @@ fn while_do_else(rt: HostRuntime) -> Result<(), Fail> {
     Ok(())
 }
 
+/// Whether a turn is left to a Retry or Repeat with this memo.
 fn turn_is_left(memo: Memo) -> bool
     ensures { IsTrue result → TurnIsLeft (turns_of memo).done (limit_of (turns_of memo).limit) }
 {
@@ -830,7 +842,7 @@ fn turn_is_left(memo: Memo) -> bool
     }
 }
 
-/// Whether a visit of a decorator can begin so.
+/// Whether a visit of a decorator can begin with this memo and this pick.
 fn may_decorate(kind: Kind, memo: Memo, picked: u32) -> bool
     ensures decorator { IsTrue result → IsTrue (is_decorator kind) }
     ensures fits { IsTrue result → FitsStart kind 1 memo picked }
@@ -850,7 +862,7 @@ fn may_decorate(kind: Kind, memo: Memo, picked: u32) -> bool
     }
 }
 
-/// The moves of a visit of a decorator whose child answers so.
+/// The moves of a visit of a decorator whose child gives these answers. `now` is in milliseconds.
 fn decorator_text(
     alloc: Global,
     kind: Kind,
@@ -883,7 +895,8 @@ fn decorator_text(
     Ok(text)
 }
 
-/// Tries the visits of a decorator that begin with this memo at this moment, one a line.
+/// Compares the visits of a decorator that begin with this memo at the time `now` in milliseconds,
+/// one for each line.
 fn decorators(
     rt: &impl Abort,
     alloc: Global,
@@ -902,6 +915,7 @@ fn decorators(
     Ok(())
 }
 
+/// Visits of the decorators that visit their child once.
 #[test]
 fn decorators_of_one_visit(rt: HostRuntime) -> Result<(), Fail> {
     let alloc = rt.alloc();
@@ -962,10 +976,12 @@ fn decorators_of_one_visit(rt: HostRuntime) -> Result<(), Fail> {
     Ok(())
 }
 
+/// A memo with this many turns done, of this limit.
 fn turns(done: u32, limit: i64) -> Memo {
     Memo::Turns(Turns { done, limit })
 }
 
+/// Visits of a Retry and a Repeat.
 #[test]
 fn retry_and_repeat(rt: HostRuntime) -> Result<(), Fail> {
     let alloc = rt.alloc();
@@ -1044,10 +1060,12 @@ fn retry_and_repeat(rt: HostRuntime) -> Result<(), Fail> {
     Ok(())
 }
 
+/// A memo of a Timeout or Delay that began at `first`, of this length, in milliseconds.
 fn since(first: u64, length: u64) -> Memo {
     Memo::Since(Since { first, length })
 }
 
+/// Visits of a Timeout and a Delay.
 #[test]
 fn timeout_and_delay(rt: HostRuntime) -> Result<(), Fail> {
     let alloc = rt.alloc();
@@ -1089,6 +1107,7 @@ fn timeout_and_delay(rt: HostRuntime) -> Result<(), Fail> {
     Ok(())
 }
 
+/// Visits of a RunOnce.
 #[test]
 fn run_once(rt: HostRuntime) -> Result<(), Fail> {
     let alloc = rt.alloc();

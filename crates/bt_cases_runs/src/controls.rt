@@ -39,6 +39,7 @@ node 1 FAILURE IDLE
 finish 1 at 0
 Done";
 
+/// Sequences and Fallbacks, with the traces of their runs.
 #[test]
 fn sequences_and_fallbacks_go_on(rt: HostRuntime) -> Result<(), Fail> {
     compare_rows(
@@ -134,6 +135,7 @@ fact closed 0
 finish 1 at 0
 Done";
 
+/// A file whose main tree has to be named: once it is, once it is not.
 #[test]
 fn a_locked_door_is_crossed(rt: HostRuntime) -> Result<(), Fail> {
     let alloc = rt.alloc();
@@ -195,6 +197,7 @@ node 1 SUCCESS IDLE
 finish 1 at 0
 Done";
 
+/// Reactive nodes, with the traces of their runs.
 #[test]
 fn reactive_nodes_ask_again(rt: HostRuntime) -> Result<(), Fail> {
     compare_rows(
@@ -279,6 +282,7 @@ node 1 SUCCESS IDLE
 finish 1 at 0
 Done";
 
+/// SequencesWithMemory, with the traces of their runs.
 #[test]
 fn a_sequence_with_memory_goes_on_where_it_failed(rt: HostRuntime) -> Result<(), Fail> {
     compare_rows(
@@ -359,6 +363,7 @@ node 1 FAILURE IDLE
 finish 1 at 0
 Done";
 
+/// Parallels, with the traces of their runs.
 #[test]
 fn parallels_count(rt: HostRuntime) -> Result<(), Fail> {
     compare_rows(
@@ -438,6 +443,7 @@ node 1 SUCCESS IDLE
 finish 1 at 0
 Done";
 
+/// Switches, with the traces of their runs.
 #[test]
 fn switches_select(rt: HostRuntime) -> Result<(), Fail> {
     compare_rows(
@@ -532,6 +538,7 @@ node 1 SUCCESS IDLE
 finish 1 at 10
 Done";
 
+/// IfThenElse and WhileDoElse nodes, with the traces of their runs.
 #[test]
 fn conditions_choose_a_branch(rt: HostRuntime) -> Result<(), Fail> {
     compare_rows(

@@ -70,6 +70,7 @@ node 1 FAILURE IDLE
 finish 1 at 20
 Done";
 
+/// Retry and Repeat nodes, with the traces of their runs.
 #[test]
 fn turns_are_counted(rt: HostRuntime) -> Result<(), Fail> {
     compare_rows(
@@ -143,6 +144,7 @@ node 1 SUCCESS IDLE
 finish 1 at 10
 Done";
 
+/// Timeouts and Delays, with the traces of their runs.
 #[test]
 fn moments_are_compared(rt: HostRuntime) -> Result<(), Fail> {
     compare_rows(
@@ -225,6 +227,7 @@ node 1 SUCCESS IDLE
 finish 1 at 100
 Done";
 
+/// RunOnce nodes, with the traces of their runs.
 #[test]
 fn run_once_keeps_its_mark(rt: HostRuntime) -> Result<(), Fail> {
     compare_rows(
@@ -284,6 +287,7 @@ node 1 FAILURE IDLE
 finish 1 at 0
 Done";
 
+/// Decorators that change their child's answer, with the traces of their runs.
 #[test]
 fn answers_are_turned(rt: HostRuntime) -> Result<(), Fail> {
     compare_rows(
@@ -306,7 +310,7 @@ fn answers_are_turned(rt: HostRuntime) -> Result<(), Fail> {
     Ok(())
 }
 
-/// A text so many times, one behind another.
+/// A text this many times.
 fn repeated(alloc: Global, text: &str, times: u32) -> Result<String, AllocError> {
     let mut all = String::new(alloc);
     for _ in 0..times {
@@ -315,13 +319,14 @@ fn repeated(alloc: Global, text: &str, times: u32) -> Result<String, AllocError>
     Ok(all)
 }
 
-/// So many Inverters in one another, over these nodes.
+/// This many Inverters inside one another, with these nodes in the last.
 fn inverted(alloc: Global, times: u32, nodes: &str) -> Result<String, AllocError> {
     let before = repeated(alloc, "<Inverter>", times)?;
     let behind = repeated(alloc, "</Inverter>", times)?;
     format!(in alloc; "{before}{nodes}{behind}")
 }
 
+/// A tree at the limit of depth, ticked once.
 #[test]
 fn the_deepest_tree_is_ticked(rt: HostRuntime) -> Result<(), Fail> {
     let alloc = rt.alloc();

@@ -1,4 +1,4 @@
-//! Runs whose sink fails: what stands written is a front of the trace, and no driver holds anything.
+//! Runs whose sink fails: a prefix of the trace is written, and no driver holds anything.
 
 use crate::controls::{HALTED_BY_A_CHECK, TWO_CHECKS};
 use crate::halts::FAULT_AT_THE_END;
@@ -10,8 +10,8 @@ use bt_stage::run;
 use std::alloc::Global;
 use std::test::Fail;
 
-/// What a run writes whose write of this number fails after some bytes, with its exit and what its
-/// drivers hold behind it.
+/// What a run writes, where the write of this number fails after `taken` bytes, with its exit and
+/// whether its drivers hold anything after it.
 fn cut(
     alloc: Global,
     nodes: &str,
@@ -25,8 +25,8 @@ fn cut(
     Ok(format!(in alloc; "{text}{:?} {}", ending.exit, ending.holds)?)
 }
 
-/// Whether the failure of this write after some bytes leaves something else than what stood before it
-/// and these bytes of its line.
+/// Whether a run leaves anything else than the lines before, `taken` bytes of this line, and the
+/// exit for a failed write, where the write of this number fails after these bytes.
 fn is_wrong(
     alloc: Global,
     nodes: &str,
@@ -41,8 +41,8 @@ fn is_wrong(
     Ok(cut(alloc, nodes, lines, write, taken as u64)? != want)
 }
 
-/// The first write whose failure after some bytes leaves something else than the lines before it and
-/// these bytes, if there is one.
+/// The first write whose failure after `taken` bytes leaves anything else than the lines before it
+/// and these bytes of its own line; none where there is no such write.
 fn first_wrong(
     alloc: Global,
     nodes: &str,
@@ -66,6 +66,7 @@ fn first_wrong(
     Ok(None)
 }
 
+/// Runs of which each write fails in turn.
 #[test]
 fn each_write_may_fail(rt: HostRuntime) -> Result<(), Fail> {
     let alloc = rt.alloc();
@@ -99,6 +100,7 @@ fn each_write_may_fail(rt: HostRuntime) -> Result<(), Fail> {
     Ok(())
 }
 
+/// The run of sixteen runners, of which each write fails in turn.
 #[test]
 fn each_write_of_sixteen_runners_may_fail(rt: HostRuntime) -> Result<(), Fail> {
     let alloc = rt.alloc();
@@ -111,6 +113,7 @@ fn each_write_of_sixteen_runners_may_fail(rt: HostRuntime) -> Result<(), Fail> {
     Ok(())
 }
 
+/// A write that fails after more than one byte.
 #[test]
 fn a_write_that_fails_takes_what_it_takes(rt: HostRuntime) -> Result<(), Fail> {
     let alloc = rt.alloc();

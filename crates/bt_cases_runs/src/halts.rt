@@ -1,4 +1,4 @@
-//! Halts, and faults within them: what stops, in which order, and what a quench lets go.
+//! Halts, and faults within them: what stops, in which order, and what a quench halts.
 
 use crate::compare::compare_rows;
 use bt_stage::{joined, ran};
@@ -105,6 +105,7 @@ halt 1 at 0
 finish 1 at 0
 Done";
 
+/// Halts of running trees, with the traces of their runs.
 #[test]
 fn halts_stop_what_runs(rt: HostRuntime) -> Result<(), Fail> {
     compare_rows(
@@ -166,6 +167,7 @@ fault 1 2 ZeroDivisor
 quench 1 2
 Fault";
 
+/// The scripts of a halt run from the lowest node up.
 #[test]
 fn scripts_of_halts_run_from_below(rt: HostRuntime) -> Result<(), Fail> {
     compare_rows(
@@ -180,6 +182,7 @@ fn scripts_of_halts_run_from_below(rt: HostRuntime) -> Result<(), Fail> {
     Ok(())
 }
 
+/// A leaf with a fault, whose instance is halted by the quench.
 #[test]
 fn a_leaf_that_faults_is_let_go(rt: HostRuntime) -> Result<(), Fail> {
     compare_rows(
@@ -194,7 +197,7 @@ fn a_leaf_that_faults_is_let_go(rt: HostRuntime) -> Result<(), Fail> {
     Ok(())
 }
 
-/// A robot that holds two arms while it is safe, and then is not.
+/// A robot that holds two arms while it is safe, and then it is not safe.
 const OK_TURNS_FALSE: &str = "\
 fact ok 1 / condition Ok is ok == 1 / action A timed 100 / action B timed 100 / \
 tick 1 / set ok 0 / tick 1";
@@ -221,7 +224,7 @@ call 4 halted
 node 4 RUNNING IDLE
 ";
 
-/// Where no node that faults is halted, all end.
+/// What follows where none of the halted nodes has a fault: all end.
 const BOTH_HALTED: &str = "\
 call 5 halted
 node 5 RUNNING IDLE
@@ -250,6 +253,7 @@ node 5 RUNNING IDLE
 fault 1 5 ZeroDivisor
 Fault";
 
+/// One tree, with a fault in the halt of each node in turn.
 #[test]
 fn a_fault_in_a_halt_at_each_node(rt: HostRuntime) -> Result<(), Fail> {
     let alloc = rt.alloc();
@@ -329,6 +333,7 @@ node 3 RUNNING IDLE
 fault 1 3 ZeroDivisor
 Fault";
 
+/// Halts with faults, which end the run.
 #[test]
 fn a_fault_in_a_halt_ends_the_run(rt: HostRuntime) -> Result<(), Fail> {
     compare_rows(

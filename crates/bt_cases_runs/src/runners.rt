@@ -108,6 +108,7 @@ finish 1 at 0
 finish 2 at 0
 Done";
 
+/// Runners that share the facts and nothing else.
 #[test]
 fn runners_keep_what_is_theirs(rt: HostRuntime) -> Result<(), Fail> {
     compare_rows(
@@ -149,7 +150,7 @@ pub fn of_each(alloc: Global, pattern: &str) -> Result<String, AllocError> {
 /// A robot that waits at a gate while it holds its arm.
 pub const WAITS: &str = "<Parallel><G/><A/></Parallel>";
 
-/// Sixteen of them begin, and then the gate faults for the seventh.
+/// The world in which sixteen of them begin, and then the gate has a fault for the seventh.
 pub fn sixteen(alloc: Global) -> Result<String, AllocError> {
     let ticks = of_each(alloc, " / tick #")?;
     format!(in alloc;
@@ -174,13 +175,14 @@ tick 7 at 0
 fault 7 2 ZeroDivisor
 ";
 
-/// The trace of the sixteen, with the exit behind it.
+/// The trace of the sixteen, and the exit after it.
 pub fn sixteen_trace(alloc: Global) -> Result<String, AllocError> {
     let begun = of_each(alloc, BEGINS)?;
     let quenched = of_each(alloc, "quench # 2\nquench # 3\n")?;
     format!(in alloc; "{begun}{SEVENTH_FAULTS}{quenched}Fault")
 }
 
+/// The run of the sixteen runners has its trace.
 #[test]
 fn a_fault_quenches_every_runner(rt: HostRuntime) -> Result<(), Fail> {
     let alloc = rt.alloc();

@@ -22,6 +22,7 @@ board 1 0 x 0
 finish 1 at 0
 Done";
 
+/// Script nodes, with the traces of their runs.
 #[test]
 fn scripts_write_or_fault(rt: HostRuntime) -> Result<(), Fail> {
     compare_rows(
@@ -100,6 +101,7 @@ board 1 0 s 2
 finish 1 at 0
 Done";
 
+/// Guards that run after an answer, and those before a visit, with the traces of their runs.
 #[test]
 fn scripts_run_round_a_node(rt: HostRuntime) -> Result<(), Fail> {
     compare_rows(
@@ -162,6 +164,7 @@ root 1 SKIPPED
 finish 1 at 0
 Done";
 
+/// Nodes with a `_while`, with the traces of their runs.
 #[test]
 fn while_is_asked_at_each_visit(rt: HostRuntime) -> Result<(), Fail> {
     compare_rows(
@@ -184,7 +187,8 @@ fn while_is_asked_at_each_visit(rt: HostRuntime) -> Result<(), Fail> {
     Ok(())
 }
 
-/// A subtree that sees four keys of the tree above it: by ports, by a literal, and by its own name.
+/// A subtree that sees four keys of the tree around it: through ports, by a literal, and under its
+/// own name.
 const MAPPED: &str = "\
 <root BTCPP_format=\"4\" main_tree_to_execute=\"M\">
   <BehaviorTree ID=\"M\">
@@ -220,7 +224,7 @@ board 1 3 _p 3
 finish 1 at 0
 Done";
 
-/// A subtree of a subtree: what it writes is read by the tree at the top.
+/// A subtree of a subtree: the main tree reads what it writes.
 const TWICE_MAPPED: &str = "\
 <root BTCPP_format=\"4\" main_tree_to_execute=\"M\">
   <BehaviorTree ID=\"M\">
@@ -259,6 +263,7 @@ board 1 3 own 2
 finish 1 at 0
 Done";
 
+/// Trees with mapped keys, and their traces.
 #[test]
 fn keys_are_mapped(rt: HostRuntime) -> Result<(), Fail> {
     let alloc = rt.alloc();
@@ -297,6 +302,7 @@ tick 1 at 0
 fault 1 1 Mixed
 Fault";
 
+/// Leaves with ports, with the traces of their runs.
 #[test]
 fn leaves_read_and_write_ports(rt: HostRuntime) -> Result<(), Fail> {
     compare_rows(

@@ -158,6 +158,7 @@ fact y -3
 finish 1 at 0
 Done";
 
+/// Trees and worlds with their whole traces.
 #[test]
 fn runs_have_their_traces(rt: HostRuntime) -> Result<(), Fail> {
     let alloc = rt.alloc();
@@ -233,6 +234,7 @@ fault 1 1 Overflow
 quench 1 1
 Fault";
 
+/// Rows with effects that add to a fact, with the traces of their runs.
 #[test]
 fn effects_add(rt: HostRuntime) -> Result<(), Fail> {
     compare_rows(
@@ -260,6 +262,7 @@ fn effects_add(rt: HostRuntime) -> Result<(), Fail> {
     Ok(())
 }
 
+/// Worlds without a tick: nothing is called.
 #[test]
 fn runs_without_ticks_have_no_calls(rt: HostRuntime) -> Result<(), Fail> {
     compare_rows(

@@ -1,4 +1,4 @@
-//! What shelves and clocks give and what sinks take, in memory and of the host.
+//! What shelves and clocks give, and what sinks take, in memory and on the host.
 
 use bt_outside::{
     Clock, DirShelf, HostClock, MemClock, MemShelf, MemSink, OutSink, Shelf, Sink, SureShelf,
@@ -21,20 +21,22 @@ fn answers<K: Sink>(alloc: Global, sink: &mut K, pieces: &[&str]) -> Result<Stri
     Ok(text)
 }
 
-/// What a sink in memory of which these calls fail answers, and what it then holds.
+/// What a sink in memory answers, and what it then holds. Each pair of `fails` is a call that
+/// fails, and how many bytes it takes before.
 fn mem_text(alloc: Global, fails: &[(u64, u64)], pieces: &[&str]) -> Result<String, AllocError> {
     let mut sink = MemSink::new(alloc, Vec::from_slice(alloc, fails)?);
     let text = answers(alloc, &mut sink, pieces)?;
     format!(in alloc; "{text}{}", str::from_utf8(sink.list()).unwrap_or("?"))
 }
 
-/// The same of a sink in memory that never fails.
+/// What a sink in memory that never fails answers, and what it then holds.
 fn sure_text(alloc: Global, pieces: &[&str]) -> Result<String, AllocError> {
     let mut sink = SureSink::new(alloc);
     let text = answers(alloc, &mut sink, pieces)?;
     format!(in alloc; "{text}{}", str::from_utf8(sink.list()).unwrap_or("?"))
 }
 
+/// Sinks in memory take each piece, or a prefix of it where the call fails.
 #[test]
 fn sinks_in_memory(rt: HostRuntime) -> Result<(), Fail> {
     let alloc = rt.alloc();
@@ -54,6 +56,7 @@ fn sinks_in_memory(rt: HostRuntime) -> Result<(), Fail> {
     Ok(())
 }
 
+/// A sink that never fails takes all pieces.
 #[test]
 fn sinks_that_never_fail(rt: HostRuntime) -> Result<(), Fail> {
     assert_eq!(rt;
@@ -63,7 +66,7 @@ fn sinks_that_never_fail(rt: HostRuntime) -> Result<(), Fail> {
     Ok(())
 }
 
-/// What a sink over a writer with room for four bytes answers, and then its flush.
+/// What a sink answers over a writer with room for four bytes, and then its flush.
 fn full_text(alloc: Global, pieces: &[&str]) -> Result<String, NoMemory> {
     let mut room = [0u8; 4];
     let mut sink = OutSink::new(alloc, room.as_mut_slice())?;
@@ -72,14 +75,15 @@ fn full_text(alloc: Global, pieces: &[&str]) -> Result<String, NoMemory> {
     Ok(format!(in alloc; "{text}{flushed:?}")?)
 }
 
-/// The same of two pieces that are longer than what is gathered. They go to the writer itself, as far
-/// as it takes them.
+/// What a sink answers over such a writer where two pieces are longer than its buffer. They go to
+/// the writer itself, as far as it takes them.
 fn long_text(alloc: Global) -> Result<String, NoMemory> {
     let bytes = vec![in alloc; b'x'; 65_536]?;
     let long = str::from_utf8(bytes.as_slice()).unwrap_or("?");
     full_text(alloc, &[long, long])
 }
 
+/// Sinks over writers of the host, and over one that is soon full.
 #[test]
 fn sinks_over_writers(rt: HostRuntime) -> Result<(), Fail> {
     let alloc = rt.alloc();
@@ -101,11 +105,12 @@ fn sinks_over_writers(rt: HostRuntime) -> Result<(), Fail> {
     Ok(())
 }
 
+/// A name of these bytes.
 fn name(alloc: Global, text: &str) -> Result<Name, AllocError> {
     Ok(Name::of(Vec::from_slice(alloc, text.as_bytes())?))
 }
 
-/// The files of these names and texts.
+/// The files with these names and texts.
 fn files(alloc: Global, pairs: &[(&str, &str)]) -> Result<Vec<(Name, Vec<u8>)>, NoMemory> {
     let mut files = Vec::new(alloc);
     for (key, text) in pairs {
@@ -114,7 +119,7 @@ fn files(alloc: Global, pairs: &[(&str, &str)]) -> Result<Vec<(Name, Vec<u8>)>, 
     Ok(files)
 }
 
-/// What a shelf answers to each read of a name up to a limit, and how much it gave.
+/// What a shelf answers to each read of a name with a limit, and how many bytes it gave.
 fn read_text<S: Shelf>(
     alloc: Global,
     shelf: &mut S,
@@ -130,6 +135,8 @@ fn read_text<S: Shelf>(
     Ok(text)
 }
 
+/// A shelf in memory, whose third read fails: the first file of a name counts, and none is an empty
+/// one.
 #[test]
 fn shelves_in_memory(rt: HostRuntime) -> Result<(), Fail> {
     let alloc = rt.alloc();
@@ -143,6 +150,7 @@ fn shelves_in_memory(rt: HostRuntime) -> Result<(), Fail> {
     Ok(())
 }
 
+/// A shelf that never fails: files up to the limit, or a prefix of one that is too long.
 #[test]
 fn shelves_that_never_fail(rt: HostRuntime) -> Result<(), Fail> {
     let alloc = rt.alloc();
@@ -154,6 +162,7 @@ fn shelves_that_never_fail(rt: HostRuntime) -> Result<(), Fail> {
     Ok(())
 }
 
+/// Paths of the host that are a file, an endless one, a folder, and nothing.
 #[test]
 fn files_of_the_host(rt: HostRuntime) -> Result<(), Fail> {
     let alloc = rt.alloc();
@@ -170,7 +179,7 @@ fn files_of_the_host(rt: HostRuntime) -> Result<(), Fail> {
     Ok(())
 }
 
-/// What a clock gives at so many calls.
+/// What a clock gives at this many calls.
 fn moments<C: Clock>(alloc: Global, clock: &mut C, calls: u32) -> Result<String, AllocError> {
     let mut text = String::new(alloc);
     for _ in 0..calls {
@@ -179,6 +188,7 @@ fn moments<C: Clock>(alloc: Global, clock: &mut C, calls: u32) -> Result<String,
     Ok(text)
 }
 
+/// A clock in memory gives its moments, and the last one again.
 #[test]
 fn clocks_in_memory(rt: HostRuntime) -> Result<(), Fail> {
     let alloc = rt.alloc();
@@ -190,7 +200,7 @@ fn clocks_in_memory(rt: HostRuntime) -> Result<(), Fail> {
     Ok(())
 }
 
-/// A clock that reads these microseconds one after another, and a fault where there are none.
+/// A clock that reads these microseconds one after the other, and a fault where there are none.
 #[derive(Drop)]
 struct Readings<'a> {
     times: &'a [Option<u64>],
@@ -212,6 +222,7 @@ impl rt::Clock for Readings<'_> {
     }
 }
 
+/// A clock over readings: in milliseconds since the first reading, never falling.
 #[test]
 fn clocks_over_readings(rt: HostRuntime) -> Result<(), Fail> {
     let table: [(&[Option<u64>], &str); 3] = [
@@ -230,6 +241,7 @@ fn clocks_over_readings(rt: HostRuntime) -> Result<(), Fail> {
     Ok(())
 }
 
+/// The clock of the host goes on while the thread sleeps.
 #[test]
 fn the_clock_of_the_host(rt: HostRuntime) -> Result<(), Fail> {
     let mut clock = HostClock::new(&rt);

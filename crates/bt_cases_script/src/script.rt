@@ -12,6 +12,7 @@ fn script_text(alloc: Global, text: &str) -> Result<String, AllocError> {
     }
 }
 
+/// The operator of an expression, where it has two operands.
 fn operator(expr: &Expr) -> Option<BinOp> {
     match expr {
         Expr::Binary(op, _, _) => Some(*op),
@@ -30,7 +31,7 @@ fn expr_text(alloc: Global, text: &str) -> Result<String, AllocError> {
     }
 }
 
-/// The middle between as many fronts and backs.
+/// The middle between this many fronts and backs.
 fn between(
     alloc: Global,
     times: usize,
@@ -45,6 +46,7 @@ fn between(
     )
 }
 
+/// Texts that are identifiers, and texts that are not.
 #[test]
 fn identifiers(rt: HostRuntime) {
     for (text, is) in [
@@ -60,6 +62,7 @@ fn identifiers(rt: HostRuntime) {
     }
 }
 
+/// Scripts with the number of their statements, or their faults.
 #[test]
 fn scripts_and_their_faults(rt: HostRuntime) -> Result<(), Fail> {
     let alloc = rt.alloc();
@@ -93,6 +96,7 @@ fn scripts_and_their_faults(rt: HostRuntime) -> Result<(), Fail> {
     Ok(())
 }
 
+/// Scripts at the limits of length and nesting.
 #[test]
 fn lengths_and_heights(rt: HostRuntime) -> Result<(), Fail> {
     let alloc = rt.alloc();
@@ -113,6 +117,7 @@ fn lengths_and_heights(rt: HostRuntime) -> Result<(), Fail> {
     Ok(())
 }
 
+/// Expressions with the operators that they are read as, by their levels.
 #[test]
 fn operators_by_level(rt: HostRuntime) -> Result<(), Fail> {
     let alloc = rt.alloc();

@@ -54,7 +54,7 @@ fn run(
     }
 }
 
-/// A number, a text by its length and its front, or a fault.
+/// A number, a text by its length and its first bytes, or a fault.
 fn outcome_text(
     alloc: Global,
     outcome: &Result<Value, Stop<ExecFault>>,
@@ -71,13 +71,14 @@ fn outcome_text(
     }
 }
 
-/// What a script gives over no entries.
+/// What a script gives over entries of which none is set.
 fn script_text(rt: &impl Abort, alloc: Global, text: &str) -> Result<String, AllocError> {
     let mut board = Board::empty(alloc)?;
     let outcome = run(rt, alloc, text, &mut board);
     outcome_text(alloc, &outcome)
 }
 
+/// Scripts with the values that they give, or their faults.
 #[test]
 fn scripts_give_values_and_faults(rt: HostRuntime) -> Result<(), Fail> {
     let alloc = rt.alloc();
@@ -123,8 +124,8 @@ fn scripts_give_values_and_faults(rt: HostRuntime) -> Result<(), Fail> {
     Ok(())
 }
 
-/// An expression of 64 levels behind `x := 1` and a front: a text so many times, another one, and a
-/// third so many times.
+/// An expression of 64 levels after `x := 1` and a beginning: a first part this many times, a
+/// middle one, and a last part this many times.
 fn nested(
     alloc: Global,
     front: &str,
@@ -137,6 +138,7 @@ fn nested(
     format!(in alloc; "x := 1; {front}{open}{inner}{close}")
 }
 
+/// Expressions at the limit of levels, evaluated.
 #[test]
 fn expressions_have_64_levels(rt: HostRuntime) -> Result<(), Fail> {
     let alloc = rt.alloc();
@@ -164,6 +166,7 @@ fn expressions_have_64_levels(rt: HostRuntime) -> Result<(), Fail> {
     Ok(())
 }
 
+/// Texts of 4,096 bytes, and longer ones.
 #[test]
 fn texts_have_at_most_4096_bytes(rt: HostRuntime) -> Result<(), Fail> {
     let alloc = rt.alloc();
@@ -181,13 +184,14 @@ fn texts_have_at_most_4096_bytes(rt: HostRuntime) -> Result<(), Fail> {
     Ok(())
 }
 
-/// The entries of `y` and `x` that a script leaves of none.
+/// The entries of `y` and `x` after a script, where none is set before.
 fn entries_text(rt: &impl Abort, alloc: Global, text: &str) -> Result<String, AllocError> {
     let mut board = Board::empty(alloc)?;
     let _ = run(rt, alloc, text, &mut board);
     format!(in alloc; "{:?}", board.entries.as_slice())
 }
 
+/// Entries after scripts that end with a fault: what was written before it stays.
 #[test]
 fn writes_before_a_fault_stand(rt: HostRuntime) -> Result<(), Fail> {
     let alloc = rt.alloc();
@@ -239,6 +243,7 @@ fn number_text(rt: &impl Abort, alloc: Global, text: &str) -> Result<String, NoM
     }
 }
 
+/// Expressions over a number, a missing entry and a text.
 #[test]
 fn looks_give_numbers(rt: HostRuntime) -> Result<(), Fail> {
     let alloc = rt.alloc();

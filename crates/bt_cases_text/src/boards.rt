@@ -32,6 +32,7 @@ fn cells_text(alloc: Global, nodes: &str) -> Result<String, NoMemory> {
     )
 }
 
+/// Trees with their cells, by slot.
 #[test]
 fn cells_are_in_order(rt: HostRuntime) -> Result<(), NoMemory> {
     compare(
@@ -47,17 +48,17 @@ fn cells_are_in_order(rt: HostRuntime) -> Result<(), NoMemory> {
                 r#"<SubTree ID="S" d="{b}"/></BehaviorTree><BehaviorTree ID="S"><SubTree ID="R" c="{d}"/></BehaviorTree><BehaviorTree ID="R"><SubTree ID="Q" a="{c}"/></BehaviorTree><BehaviorTree ID="Q"><Script code="a := 1"/>"#,
                 "0 b, ",
             ),
-            // a port that names the key of its own name
+            // a port that names the key with the port's own name
             (
                 r#"<SubTree ID="S" a="{a}"/></BehaviorTree><BehaviorTree ID="S"><Script code="a := 1"/>"#,
                 "0 a, ",
             ),
-            // a literal, written in the subtree and not seen by the parent
+            // a literal, written in the subtree, which the tree around it does not see
             (
                 r#"<Sequence><Script code="a := 1"/><SubTree ID="S" a="7"/></Sequence></BehaviorTree><BehaviorTree ID="S"><Script code="a := 2"/>"#,
                 "0 a, 3 a, ",
             ),
-            // all other keys, but for those that begin with `_`
+            // all other keys, except those that begin with `_`
             (
                 r#"<Sequence><SubTree ID="S" _autoremap="true"/></Sequence></BehaviorTree><BehaviorTree ID="S"><Script code="a := 1; _a := 2"/>"#,
                 "0 a, 2 _a, ",
@@ -66,12 +67,12 @@ fn cells_are_in_order(rt: HostRuntime) -> Result<(), NoMemory> {
                 r#"<Sequence><SubTree ID="S" _autoremap="true"/></Sequence></BehaviorTree><BehaviorTree ID="S"><SubTree ID="R" _autoremap="true"/></BehaviorTree><BehaviorTree ID="R"><Script code="a := 1; _a := 2"/>"#,
                 "0 a, 3 _a, ",
             ),
-            // a mapping beside them
+            // a mapping, and all other keys
             (
                 r#"<Sequence><SubTree ID="S" a="{b}" _autoremap="true"/></Sequence></BehaviorTree><BehaviorTree ID="S"><Script code="a := 1; c := 2; _p := 3"/>"#,
                 "0 b, 0 c, 2 _p, ",
             ),
-            // a key without a mapping, and one that nobody but the port names
+            // a key without a mapping, and one that only the port names
             (
                 r#"<Sequence><SubTree ID="S" a="{b}"/></Sequence></BehaviorTree><BehaviorTree ID="S"><Script code="c := 1"/>"#,
                 "0 b, 2 c, ",
@@ -85,13 +86,13 @@ fn cells_are_in_order(rt: HostRuntime) -> Result<(), NoMemory> {
                 r#"<Sequence><SubTree ID="S" a="{x}"/><SubTree ID="R" a="1"/></Sequence></BehaviorTree><BehaviorTree ID="S"><Script code="b := 1"/></BehaviorTree><BehaviorTree ID="R"><Script code="a := b"/>"#,
                 "0 x, 2 b, 4 a, 4 b, ",
             ),
-            // a literal, a key of its parent, and all others
+            // a literal, a key of the tree around it, and all other keys
             (MIXED, "0 _p, 0 b, 0 c, 0 m, 3 _p, 3 lit, "),
         ],
     )
 }
 
-/// The slot of the name that stands behind its scope.
+/// The slot of a name that stands after its scope, as `3 a`.
 fn found_slot(alloc: Global, slots: &Slots, text: &str) -> Result<String, NoMemory> {
     let (scope, key) = text.split_once(' ').unwrap_or(("", ""));
     let name = Name::of(Vec::from_slice(alloc, key.as_bytes())?);
@@ -99,13 +100,14 @@ fn found_slot(alloc: Global, slots: &Slots, text: &str) -> Result<String, NoMemo
     Ok(format!(in alloc; "{found:?}")?)
 }
 
-/// The same of the slots of a tree that has several scopes.
+/// The slot of such a name in a tree with several scopes.
 fn slot_text(alloc: Global, text: &str) -> Result<String, NoMemory> {
     nodes_told(alloc, MIXED, |alloc, tree| {
         found_slot(alloc, &slots_of(alloc, tree)?, text)
     })
 }
 
+/// Names in scopes, with their slots.
 #[test]
 fn names_have_the_slots_of_their_cells(rt: HostRuntime) -> Result<(), NoMemory> {
     compare(
@@ -122,11 +124,11 @@ fn names_have_the_slots_of_their_cells(rt: HostRuntime) -> Result<(), NoMemory> 
             ("3 m", "Some(3)"),
             ("3 _p", "Some(4)"),
             ("3 lit", "Some(5)"),
-            // the main tree does not name them
+            // names that the main tree does not have
             ("0 m", "None"),
             ("0 a", "None"),
             ("0 lit", "None"),
-            // no scope of the tree
+            // scopes that the tree does not have
             ("2 b", "None"),
             ("0 ", "None"),
         ],
@@ -140,11 +142,12 @@ fn board_told(alloc: Global, tree: &Tree) -> Result<String, NoMemory> {
     Ok(format!(in alloc; "{:?}", board.list())?)
 }
 
-/// The same of a tree of these nodes.
+/// What the board of a tree of these nodes holds at the beginning.
 fn board_text(alloc: Global, nodes: &str) -> Result<String, NoMemory> {
     nodes_told(alloc, nodes, board_told)
 }
 
+/// Trees with the entries that their boards begin with: literals of SubTree nodes.
 #[test]
 fn boards_begin_with_literals(rt: HostRuntime) -> Result<(), NoMemory> {
     compare(
@@ -165,7 +168,7 @@ fn boards_begin_with_literals(rt: HostRuntime) -> Result<(), NoMemory> {
     )
 }
 
-/// What a board of six slots holds after a number and a text are put, one slot after another.
+/// What a board of six slots holds after a number and a text are put, each in its slot.
 fn put_both(alloc: Global, board: &mut Board) -> Result<String, NoMemory>
     requires { length board.old ≡ 6 }
 {
@@ -178,7 +181,7 @@ fn put_both(alloc: Global, board: &mut Board) -> Result<String, NoMemory>
     Ok(told)
 }
 
-/// The same of the board of a tree, or none where it has not six slots.
+/// What the board of a tree holds after these puts; an error where it does not have six slots.
 fn put_told(alloc: Global, tree: &Tree) -> Result<String, NoMemory> {
     let slots = slots_of(alloc, tree)?;
     let mut board = board_of(alloc, tree, &slots)?;
@@ -189,11 +192,12 @@ fn put_told(alloc: Global, tree: &Tree) -> Result<String, NoMemory> {
     }
 }
 
-/// The same of a tree of these nodes.
+/// What the board of a tree of these nodes holds after these puts.
 fn put_text(alloc: Global, nodes: &str) -> Result<String, NoMemory> {
     nodes_told(alloc, nodes, put_told)
 }
 
+/// A number and a text are put in two slots, and the others stay.
 #[test]
 fn puts_change_one_slot(rt: HostRuntime) -> Result<(), NoMemory> {
     compare(
@@ -207,7 +211,7 @@ fn puts_change_one_slot(rt: HostRuntime) -> Result<(), NoMemory> {
     )
 }
 
-/// A leaf with so many ports, each of which names a key of its own.
+/// A leaf with this many ports, each of which names a key of its own.
 fn leaf_of_keys(alloc: Global, count: u32) -> Result<String, AllocError> {
     let mut text = String::from_str(alloc, "<A")?;
     for n in 0..count {
@@ -222,12 +226,13 @@ fn count_told(alloc: Global, tree: &Tree) -> Result<String, NoMemory> {
     Ok(format!(in alloc; "{}", slot_count(&slots_of(alloc, tree)?))?)
 }
 
-/// The number of slots of a leaf with so many keys.
+/// The number of slots of a leaf with this many keys.
 fn count_text(alloc: Global, text: &str) -> Result<String, NoMemory> {
     let leaf = leaf_of_keys(alloc, text.parse::<u32>().unwrap_or(0))?;
     nodes_told(alloc, leaf.as_str(), count_told)
 }
 
+/// Leaves with many keys, and the numbers of slots.
 #[test]
 fn slots_are_counted(rt: HostRuntime) -> Result<(), NoMemory> {
     let rows = [("0", "0"), ("1", "1"), ("4096", "4096")];

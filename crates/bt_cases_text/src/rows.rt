@@ -1,4 +1,4 @@
-//! Rows of texts: what is given to a call, and what is wanted of it.
+//! Rows of texts: what a call gets, and what it has to give.
 
 ghost use Rattle.std.specs.Prelude.{◌≡◌, Ok};
 ghost use Rattle.bt_elements.specs.Elements.{IsValid};
@@ -76,7 +76,7 @@ pub fn file_told<F: FnOnce(Global, &Tree) -> Result<String, NoMemory>>(
     }
 }
 
-/// What a call tells of the tree of these nodes. Behind them other trees may stand.
+/// What a call tells of the tree of these nodes. Other trees may stand after them.
 pub fn nodes_told<F: FnOnce(Global, &Tree) -> Result<String, NoMemory>>(
     alloc: Global,
     nodes: &str,

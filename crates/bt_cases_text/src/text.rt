@@ -13,7 +13,7 @@ use bt_world::read_world;
 use std::alloc::Global;
 use std::process::Abort;
 
-/// The block as lines to a sink of which these calls fail, and the answer to it.
+/// The lines of a block, written to a sink of which these calls fail, and the answer of the write.
 fn written(
     alloc: Global,
     names: &Names,
@@ -26,7 +26,7 @@ fn written(
     Ok(format!(in alloc; "{answer:?} {text}")?)
 }
 
-/// The same with the names of a tree and a world.
+/// The lines of a block with the names of a tree and a world, and the answer of the write.
 fn named(
     alloc: Global,
     tree: &Tree,
@@ -39,8 +39,8 @@ fn named(
     written(alloc, &names, block, fails)
 }
 
-/// The same with the names of a tree and of a world of the facts `charge` and `door` and a row for
-/// `A`.
+/// The lines of a block with the names of a tree and of a world with the facts `charge` and `door`
+/// and a row for `A`, and the answer of the write.
 fn tree_named(
     alloc: Global,
     tree: &Tree,
@@ -56,21 +56,22 @@ fn tree_named(
     }
 }
 
-/// The same with the names of that world, and of a leaf `A` of which a port names the key `load`.
+/// The lines of a block with the names of that world, and of a leaf `A` of which a port names the
+/// key `load`, and the answer of the write.
 fn text_of(alloc: Global, block: &Block, fails: &[(u64, u64)]) -> Result<String, NoMemory> {
     nodes_told(alloc, "<A p=\"{load}\"/>", |alloc, tree| {
         tree_named(alloc, tree, block, fails)
     })
 }
 
-/// The lines of a block without notes, and the answer to them.
+/// The lines of a block without notes, and the answer of the write.
 fn header_text(alloc: Global, header: Header) -> Result<String, NoMemory> {
     let mut block = block_for(alloc, 0)?;
     block.header = header;
     text_of(alloc, &block, &[])
 }
 
-/// Compares the lines of events.
+/// Compares the lines of events with those that are wanted.
 fn compare_headers(
     rt: &impl Abort,
     alloc: Global,
@@ -82,6 +83,7 @@ fn compare_headers(
     Ok(())
 }
 
+/// Events with their lines.
 #[test]
 fn events_have_their_lines(rt: HostRuntime) -> Result<(), NoMemory> {
     compare_headers(
@@ -115,7 +117,7 @@ fn events_have_their_lines(rt: HostRuntime) -> Result<(), NoMemory> {
     )
 }
 
-/// The lines of a tick with this note, and the answer to them.
+/// The lines of a tick with this note, and the answer of the write.
 fn note_text(alloc: Global, note: Note) -> Result<String, NoMemory> {
     let mut block = block_for(alloc, 0)?;
     block.header = Header::Tick { runner: 1, at: 0 };
@@ -123,7 +125,7 @@ fn note_text(alloc: Global, note: Note) -> Result<String, NoMemory> {
     text_of(alloc, &block, &[])
 }
 
-/// Compares the lines of notes, each behind that of its tick.
+/// Compares the lines of notes, each after that of its tick.
 fn compare_notes(rt: &impl Abort, alloc: Global, rows: &[(Note, &str)]) -> Result<(), NoMemory> {
     for (note, want) in rows {
         let text = note_text(alloc, *note)?;
@@ -133,6 +135,7 @@ fn compare_notes(rt: &impl Abort, alloc: Global, rows: &[(Note, &str)]) -> Resul
     Ok(())
 }
 
+/// Notes with their lines.
 #[test]
 fn notes_have_their_lines(rt: HostRuntime) -> Result<(), NoMemory> {
     compare_notes(
@@ -195,7 +198,7 @@ fn notes_have_their_lines(rt: HostRuntime) -> Result<(), NoMemory> {
     )
 }
 
-/// Compares the lines of faults: the runner, the node, the cause and the line.
+/// Compares the lines of faults: the runner, the node, the cause and the line that is wanted.
 fn compare_faults(
     rt: &impl Abort,
     alloc: Global,
@@ -209,6 +212,7 @@ fn compare_faults(
     Ok(())
 }
 
+/// Faults with their lines.
 #[test]
 fn faults_have_their_lines(rt: HostRuntime) -> Result<(), NoMemory> {
     compare_faults(
@@ -239,7 +243,7 @@ fn faults_have_their_lines(rt: HostRuntime) -> Result<(), NoMemory> {
     )
 }
 
-/// The value of a number, or of a text that is none. A text has at most 4,096 bytes.
+/// The value of a text: a number, or else the text. A text has at most 4,096 bytes.
 fn value_of(alloc: Global, text: &str) -> Result<Value, NoMemory> {
     if text.len() > 4096 {
         return Err(NoMemory);
@@ -250,7 +254,7 @@ fn value_of(alloc: Global, text: &str) -> Result<Value, NoMemory> {
     }
 }
 
-/// The lines of a tick after which the entry of slot 0 has the value that stands behind its runner.
+/// The lines of a tick with one new entry, in slot 0: its runner and its value.
 fn entry_text(alloc: Global, text: &str) -> Result<String, NoMemory> {
     let (number, value) = text.split_once(' ').unwrap_or(("", ""));
     let runner = number.parse::<u8>().unwrap_or(0);
@@ -260,6 +264,7 @@ fn entry_text(alloc: Global, text: &str) -> Result<String, NoMemory> {
     text_of(alloc, &block, &[])
 }
 
+/// Entries with their lines.
 #[test]
 fn entries_have_their_lines(rt: HostRuntime) -> Result<(), NoMemory> {
     compare(
@@ -273,7 +278,7 @@ fn entries_have_their_lines(rt: HostRuntime) -> Result<(), NoMemory> {
     )
 }
 
-/// A tick of which a leaf is halted and two facts change.
+/// The block of a tick in which a leaf is halted and two facts change.
 fn a_tick(alloc: Global) -> Result<Block, NoMemory> {
     let mut block = block_for(alloc, 0)?;
     block.header = Header::Tick { runner: 1, at: 0 };
@@ -282,12 +287,13 @@ fn a_tick(alloc: Global) -> Result<Block, NoMemory> {
     Ok(block)
 }
 
-/// The lines of that tick where the write of this number fails after three bytes.
+/// The lines of that tick, where the write of this number fails after three bytes.
 fn tick_text(alloc: Global, write: &str) -> Result<String, NoMemory> {
     let fails = [(write.parse::<u64>().unwrap_or(0), 3)];
     text_of(alloc, &a_tick(alloc)?, &fails)
 }
 
+/// A tick of which one write fails: the lines before it, and the bytes of its own that were taken.
 #[test]
 fn a_failing_write_leaves_the_lines_before_it(rt: HostRuntime) -> Result<(), NoMemory> {
     compare(
@@ -310,7 +316,7 @@ fn a_failing_write_leaves_the_lines_before_it(rt: HostRuntime) -> Result<(), NoM
     )
 }
 
-/// A line of a number, a signed one and a text in quotes.
+/// A line of a number, a signed number and a text in quotes.
 fn put_line(alloc: Global, number: u64, signed: i64, quoted: &[u8]) -> Result<SureSink, TextStop> {
     let mut line = Vec::new(alloc);
     put_number(&mut line, number)?;
@@ -321,6 +327,7 @@ fn put_line(alloc: Global, number: u64, signed: i64, quoted: &[u8]) -> Result<Su
     Ok(sink)
 }
 
+/// Numbers and quoted texts, at the limits of each.
 #[test]
 fn numbers_and_quotes(rt: HostRuntime) -> Result<(), TextStop> {
     let rows: [(u64, i64, &[u8], &[u8]); 2] = [

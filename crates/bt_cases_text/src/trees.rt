@@ -50,7 +50,7 @@ const SAVED: (&str, &str) = (
 "#,
 );
 
-/// Trees that are opened twice, one in another, and one that is not opened.
+/// Trees that are opened twice, one inside another, and one that is not opened.
 const TREES: (&str, &str) = (
     r#"<root BTCPP_format="4" main_tree_to_execute="Main">
   <BehaviorTree ID="Low"><Leaf/></BehaviorTree>
@@ -113,11 +113,13 @@ const NODES: (&str, &str) = (
 "#,
 );
 
+/// Files with their printed trees.
 #[test]
 fn printed_trees(rt: HostRuntime) -> Result<(), NoMemory> {
     compare(&rt, rt.alloc(), printed, &[SAVED, TREES, NODES])
 }
 
+/// A printed tree is printed as itself.
 #[test]
 fn printed_trees_are_printed_as_themselves(rt: HostRuntime) -> Result<(), NoMemory> {
     let rows = [(SAVED.1, SAVED.1), (TREES.1, TREES.1), (NODES.1, NODES.1)];

@@ -5,9 +5,10 @@ use bt_stage::given;
 use std::alloc::{AllocError, Global};
 use std::test::Fail;
 
-/// The root of a file of version 4, and one of version 3 of the same length.
+/// The beginning of a file of version 4.
 const FOUR: &str = "<root BTCPP_format=\"4\">";
 
+/// The beginning of a file of version 3, of the same length.
 const THREE: &str = "<root BTCPP_format=\"3\">";
 
 /// What is printed of a file with this root whose main tree has these nodes.
@@ -22,7 +23,7 @@ fn checked(alloc: Global, root: &str, nodes: &str) -> Result<String, NoMemory> {
     )
 }
 
-/// A text so many times, one behind another.
+/// A text this many times.
 fn repeated(alloc: Global, text: &str, times: u32) -> Result<String, AllocError> {
     let mut all = String::new(alloc);
     for _ in 0..times {
@@ -31,13 +32,14 @@ fn repeated(alloc: Global, text: &str, times: u32) -> Result<String, AllocError>
     Ok(all)
 }
 
-/// So many Inverters in one another, over these nodes.
+/// This many Inverters inside one another, with these nodes in the last.
 fn inverted(alloc: Global, times: u32, nodes: &str) -> Result<String, AllocError> {
     let before = repeated(alloc, "<Inverter>", times)?;
     let behind = repeated(alloc, "</Inverter>", times)?;
     format!(in alloc; "{before}{nodes}{behind}")
 }
 
+/// Trees of one file at the limit of depth.
 #[test]
 fn depth_is_limited(rt: HostRuntime) -> Result<(), Fail> {
     let alloc = rt.alloc();
@@ -53,6 +55,7 @@ fn depth_is_limited(rt: HostRuntime) -> Result<(), Fail> {
     Ok(())
 }
 
+/// Trees that open a tree, at the limit of depth.
 #[test]
 fn depth_is_limited_across_trees(rt: HostRuntime) -> Result<(), Fail> {
     let alloc = rt.alloc();
@@ -70,6 +73,7 @@ fn depth_is_limited_across_trees(rt: HostRuntime) -> Result<(), Fail> {
     Ok(())
 }
 
+/// Trees at the limit of nodes.
 #[test]
 fn nodes_are_counted(rt: HostRuntime) -> Result<(), Fail> {
     let alloc = rt.alloc();
@@ -103,6 +107,7 @@ fn doubling(alloc: Global, root: &str, last: u32) -> Result<String, AllocError> 
     )
 }
 
+/// Trees at the limit of scopes.
 #[test]
 fn scopes_are_counted(rt: HostRuntime) -> Result<(), Fail> {
     let alloc = rt.alloc();
@@ -120,7 +125,7 @@ fn scopes_are_counted(rt: HostRuntime) -> Result<(), Fail> {
     Ok(())
 }
 
-/// A leaf with so many ports, each of which names a key of its own.
+/// A leaf with this many ports, each of which names a key of its own.
 fn leaf_of_keys(alloc: Global, count: u32) -> Result<String, AllocError> {
     let mut text = String::new(alloc);
     text.push_str("<A")?;
@@ -131,6 +136,7 @@ fn leaf_of_keys(alloc: Global, count: u32) -> Result<String, AllocError> {
     Ok(text)
 }
 
+/// Trees past two limits: that of slots is told before that of work.
 #[test]
 fn slots_are_counted_before_work(rt: HostRuntime) -> Result<(), Fail> {
     let alloc = rt.alloc();

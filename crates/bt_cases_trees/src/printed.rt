@@ -127,6 +127,7 @@ const OLD_PRINTED: &str = "\
 <!-- nodes 3 work 3 -->
 Done";
 
+/// Files with their printed trees, each of which is printed as itself.
 #[test]
 fn printed_trees_check_to_themselves(rt: HostRuntime) -> Result<(), Fail> {
     let alloc = rt.alloc();

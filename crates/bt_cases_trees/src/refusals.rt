@@ -12,6 +12,7 @@ const TWO_CONDITIONS: &str = "fact x 1\ncondition A is x == 1\ncondition B is x 
 const CHECK_THEN_ACT: &str =
     "fact x 1\ncondition A is x == 1\naction B timed 300\ntick 1\nat 299\ntick 1";
 
+/// Trees and worlds with the first refusal of each pair.
 #[test]
 fn trees_and_worlds_are_refused(rt: HostRuntime) -> Result<(), Fail> {
     for (nodes, lines, want) in [
@@ -56,6 +57,7 @@ fn trees_and_worlds_are_refused(rt: HostRuntime) -> Result<(), Fail> {
     Ok(())
 }
 
+/// Files whose bytes are refused, and the first refusal of each pair.
 #[test]
 fn files_are_refused(rt: HostRuntime) -> Result<(), Fail> {
     let alloc = rt.alloc();
@@ -73,6 +75,7 @@ fn files_are_refused(rt: HostRuntime) -> Result<(), Fail> {
     Ok(())
 }
 
+/// Reads that fail: the file that is named.
 #[test]
 fn a_read_that_fails_has_its_line(rt: HostRuntime) -> Result<(), Fail> {
     for (call, lines, want) in [
@@ -87,6 +90,7 @@ fn a_read_that_fails_has_its_line(rt: HostRuntime) -> Result<(), Fail> {
     Ok(())
 }
 
+/// Whole tree files with their refusals.
 #[test]
 fn whole_files_are_refused(rt: HostRuntime) -> Result<(), Fail> {
     let table: [(&[u8], &str); 26] = [
@@ -163,6 +167,7 @@ fn whole_files_are_refused(rt: HostRuntime) -> Result<(), Fail> {
     Ok(())
 }
 
+/// Trees of one node with their refusals.
 #[test]
 fn trees_are_refused(rt: HostRuntime) -> Result<(), Fail> {
     for (nodes, want) in [

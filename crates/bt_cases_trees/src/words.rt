@@ -34,6 +34,7 @@ const TWO_CHECKS_PRINTED: &str = "\
 <!-- nodes 3 work 3 -->
 Done";
 
+/// Words with what they are answered.
 #[test]
 fn words_are_commands_or_refused(rt: HostRuntime) -> Result<(), Fail> {
     let table: [(&[&str], &str); 17] = [
@@ -77,6 +78,7 @@ node 1 SUCCESS IDLE
 finish 1 at 0
 Done";
 
+/// Words of `live` with the numbers of rounds that are accepted and refused.
 #[test]
 fn rounds_are_numbers(rt: HostRuntime) -> Result<(), Fail> {
     let alloc = rt.alloc();

@@ -1,4 +1,4 @@
--- The children of a round and of a Parallel that are left.
+-- The children still to come of a round, and of a Parallel.
 use Rattle.std.proofs.Common.{◌≡◌, ℕ, suc, ◌+◌, ◌-◌, ◌<◌, Bool, false, ap, ◌∙◌, arith}
 use Rattle.bt_model.specs.declared.memory.Counts.{Counts}
 use Rattle.bt_model.specs.declared.status.Answer.{Answer}

@@ -16,7 +16,7 @@ use Rattle.bt_model.specs.Steps.{Rule}
 use Rattle.bt_controls.specs.declared.rounds.Manner.{Manner}
 use Rattle.bt_controls.specs.declared.rounds.Manner.TheVariants.{Keeps, Restarts, Remembers}
 
--- what follows a round
+-- what comes after a round
 abbrev pub ends_of : Manner → Answer → RoundEnd → Rule
 ends_of Keeps goes = λ end. sequence_end goes end
 ends_of Restarts goes = λ end. reactive_end goes end
@@ -27,12 +27,12 @@ abbrev pub VisitsFrom : ℕ → ℕ → Memo → Then → Type 0
 VisitsFrom first n kept (Give a) = Unit {0}
 VisitsFrom first n kept (Visit place) = (first ≤ place) × (place < n) × (kept ≡ Index place (seen_of kept))
 
--- the child behind the one at this place, where a round of so many children goes on behind this answer
--- and one is left
+-- the child after the one at this place, where a round of this many children goes on after this answer and there is
+-- one
 abbrev pub next_passed : Answer → ℕ → ℕ → Answer → Option ℕ
 next_passed goes n place a = if passes goes a then (if nat_lt (place + 1) n then Some (place + 1) else None) else None
 
--- the child that a Sequence or Fallback kind goes on to behind what it has heard
+-- the child that a Sequence or Fallback kind goes on to after what it has heard
 abbrev pub next_child : Kind → ℕ → Heard → Option ℕ
 next_child Sequence n (Answered place a) = next_passed Success n place a
 next_child SequenceWithMemory n (Answered place a) = next_passed Success n place a

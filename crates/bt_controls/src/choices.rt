@@ -16,7 +16,8 @@ pub(crate) fn chosen_kept(memo: Memo) -> Option<u32>
     }
 }
 
-/// A Switch resets the child that it kept where another one is picked, and visits the picked one.
+/// Begins a visit of a Switch: it visits the picked child. Where it has kept another one, that is
+/// reset before.
 pub(crate) fn switch_to(memo: &mut Memo, kept: Option<u32>, picked: u32) -> Move
     ensures next { switch kept picked ≡ makes hears_answer (λ m heard. child_on as_it_is m heard) memo.new result }
     ensures memo { memo.new ≡ Memo.Chosen (Some picked) }
@@ -29,7 +30,7 @@ pub(crate) fn switch_to(memo: &mut Memo, kept: Option<u32>, picked: u32) -> Move
     }
 }
 
-/// An IfThenElse visits the branch that it has chosen, or its condition.
+/// Begins a visit of an IfThenElse: it visits the branch that it has chosen, or else its condition.
 pub(crate) fn if_then_else_begun(memo: &mut Memo, chosen: Option<u32>, n: u32) -> Move
     ensures next { if_then_else n chosen ≡ makes hears_answer (λ m heard. if_then_else_on n (chosen_of m) heard) memo.new result }
     ensures memo { memo.new ≡ Memo.Chosen chosen }
@@ -39,7 +40,7 @@ pub(crate) fn if_then_else_begun(memo: &mut Memo, chosen: Option<u32>, n: u32) -
     visit(chosen.unwrap_or(0))
 }
 
-/// An IfThenElse behind the answer of its chosen branch, or of its condition.
+/// The move of an IfThenElse after the answer of its chosen branch, or of its condition.
 pub(crate) fn if_then_else_answered(memo: &mut Memo, n: u32, place: u32, answer: Answer) -> Move
     requires { FitsChild Kind.IfThenElse n memo.old place }
     ensures next { if_then_else_on n (chosen_of memo.old) (Heard.Answered place answer) ≡ makes hears_answer (λ m heard. if_then_else_on n (chosen_of m) heard) memo.new result }
@@ -51,7 +52,8 @@ pub(crate) fn if_then_else_answered(memo: &mut Memo, n: u32, place: u32, answer:
     }
 }
 
-/// An IfThenElse behind the answer of its condition.
+/// The move of an IfThenElse after the answer of its condition: SUCCESS chooses the second child,
+/// and FAILURE the third, where there is one.
 fn condition_answered(memo: &mut Memo, n: u32, place: u32, answer: Answer) -> Move
     requires condition { place ≡ 0 }
     requires branch { 2 ≤ n }
@@ -74,7 +76,7 @@ fn condition_answered(memo: &mut Memo, n: u32, place: u32, answer: Answer) -> Mo
     }
 }
 
-/// A WhileDoElse behind the answer of its condition, or of a branch.
+/// The move of a WhileDoElse after the answer of its condition, or of a branch.
 pub(crate) fn while_do_else_answered(memo: &mut Memo, n: u32, place: u32, answer: Answer) -> Move
     requires { 2 ≤ n }
     ensures next { while_do_else_on n memo.old (Heard.Answered place answer) ≡ makes hears_answer (λ m heard. while_do_else_on n m heard) memo.new result }
@@ -90,7 +92,7 @@ pub(crate) fn while_do_else_answered(memo: &mut Memo, n: u32, place: u32, answer
     }
 }
 
-/// A visit of the branch at this place, behind the resets of all other children.
+/// A visit of the branch at this place, after the resets of all other children.
 fn only_branch(place: u32) -> Move
     ensures { result ≡ record { reset = Span.AllBut place; then = Then.Visit place } }
 {

@@ -12,13 +12,13 @@ use crate::rounds::{Manner, go_on, go_to, index_kept, next_in_round, seen_kept};
 use crate::steps::{pass, visit};
 use bt_model::{Answer, Heard, Kind, Memo, Move, Span, Then};
 
-/// The next move of a control node with `n` children: where a visit begins, and behind each answer of
-/// a child. The memo is the one with which the visit begins, or that of the move before, and becomes
-/// the one behind this move.
+/// The next move of a control node with `n` children: at the beginning of a visit, and after each
+/// answer of a child. The memo is the one with which the visit begins, or that of the move before,
+/// and becomes the one after this move.
 pub fn control_next(kind: Kind, memo: &mut Memo, n: u32, heard: Heard) -> Move
     requires control { IsTrue (is_control kind) }
     requires fits { Fits kind n memo.old heard }
-    // What is still to come of the node's rule is this move, and then what is still to come of it.
+    // What is still to come of the node's rule is this move, followed by what is to come after it.
     ensures next { (now : ℕ) → rest kind n now memo.old heard ≡ makes (hears kind) (after kind n) memo.new result }
     ensures onward { GoesOn kind n memo.old (next_place heard) memo.new result.then }
 {
@@ -29,7 +29,7 @@ pub fn control_next(kind: Kind, memo: &mut Memo, n: u32, heard: Heard) -> Move
     }
 }
 
-/// The first move of a visit.
+/// The first move of a visit. `picked` is the place of the child that a Switch selects.
 fn begin(kind: Kind, memo: &mut Memo, n: u32, picked: u32) -> Move
     requires control { IsTrue (is_control kind) }
     requires fits { FitsStart kind n memo.old picked }
@@ -52,7 +52,7 @@ fn begin(kind: Kind, memo: &mut Memo, n: u32, picked: u32) -> Move
     }
 }
 
-/// The move behind the answer of the child at this place.
+/// The move after the answer of the child at this place.
 fn answered(kind: Kind, memo: &mut Memo, n: u32, place: u32, answer: Answer) -> Move
     requires control { IsTrue (is_control kind) }
     requires there { place < n }
@@ -76,17 +76,18 @@ fn answered(kind: Kind, memo: &mut Memo, n: u32, place: u32, answer: Answer) -> 
     }
 }
 
-/// The place of the child that comes next where a Sequence or Fallback kind with `n` children goes on to
-/// it behind the answer of the one before, as most nodes do behind most answers. The memo becomes the
-/// one behind that move. It is what `control_next` says of such a move, and costs less. There is none,
-/// and the memo stays, behind the last child, behind an answer at which the round ends, and of other kinds.
+/// The place of the child that comes next, where a Sequence or Fallback kind with `n` children goes
+/// on to it after the answer of the child before, as most nodes do after most answers. The memo
+/// becomes the one after that move. It says what `control_next` says of such a move, and costs
+/// less. After the last child, after an answer at which the round ends, and for other kinds there
+/// is none, and the memo stays.
 #[inline(always)]
 pub fn goes_to_next(kind: Kind, memo: &mut Memo, n: u32, heard: Heard) -> Option<u32>
     requires fits { Fits kind n memo.old heard }
     ensures child { result ≡ next_child kind n heard }
     ensures next { (place now : ℕ) → result ≡ Some place → rest kind n now memo.old heard ≡ makes (hears kind) (after kind n) memo.new (record { reset = Span.None; then = Then.Visit place }) }
     ensures onward { (place : ℕ) → result ≡ Some place → GoesOn kind n memo.old (next_place heard) memo.new (Then.Visit place) }
-    // No child is passed over.
+    // No child is left out, as a Parallel does.
     ensures visited { (place : ℕ) → result ≡ Some place → kind ≢ Kind.Parallel }
     ensures same { result ≡ None → memo.new ≡ memo.old }
 {
@@ -96,7 +97,8 @@ pub fn goes_to_next(kind: Kind, memo: &mut Memo, n: u32, heard: Heard) -> Option
     }
 }
 
-/// The same behind the answer of the child at this place.
+/// The place of the child that comes next after the answer of the child at this place, where a
+/// Sequence or Fallback kind goes on to it.
 #[inline(always)]
 fn next_behind(kind: Kind, memo: &mut Memo, n: u32, place: u32, answer: Answer) -> Option<u32>
     requires there { place < n }

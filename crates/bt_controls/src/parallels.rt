@@ -23,7 +23,7 @@ pub(crate) fn counts_kept(memo: Memo) -> Counts
     }
 }
 
-/// The counts, once one more child has answered.
+/// The counts after one more child has answered.
 pub(crate) fn count(counts: Counts, answer: Answer) -> Counts
     requires { counts.successes + counts.failures + counts.skipped + 1 < 2 ^ 32 }
     ensures { result ≡ counted answer counts }
@@ -45,6 +45,8 @@ pub(crate) fn count(counts: Counts, answer: Answer) -> Counts
     }
 }
 
+/// Whether a Parallel with these counts has succeeded: there are enough successes, where it is set
+/// so with the skipped children counted.
 fn has_succeeded(counts: Counts) -> bool
     requires { counts.successes + counts.skipped < 2 ^ 32 }
     ensures { result ≡ success_holds counts }
@@ -53,14 +55,16 @@ fn has_succeeded(counts: Counts) -> bool
         || counts.skips && counts.need <= counts.successes + counts.skipped
 }
 
+/// Whether a Parallel of `n` children with these counts has failed: there are too many failures for
+/// success, or as many as its threshold.
 fn has_failed(counts: Counts, n: u32) -> bool
     ensures { result ≡ failure_holds n counts }
 {
     n.saturating_sub(counts.failures) < counts.need || counts.most <= counts.failures
 }
 
-/// A Parallel behind the answer of the child at this place. Where it only goes on to the next child, as
-/// behind most answers, one count of its memo changes in its place.
+/// The move of a Parallel after the answer of the child at this place. Where it just goes on to the
+/// next child, as after most answers, one count of its memo changes in place.
 pub(crate) fn parallel_answered(memo: &mut Memo, n: u32, place: u32, answer: Answer) -> Move
     requires there { place < n }
     requires fits { HasRoom n (counts_of memo.old) place }
@@ -77,8 +81,8 @@ pub(crate) fn parallel_answered(memo: &mut Memo, n: u32, place: u32, answer: Ans
     parallel_ended(memo, counts, n, place + 1)
 }
 
-/// A Parallel that does not only go on. It stands apart, so that most moves leave the other counts of the
-/// memo as they are.
+/// The move of a Parallel that does not just go on. It is a function of its own, so that most moves
+/// leave the other counts of the memo as they are.
 #[cold]
 #[inline(never)]
 fn parallel_ended(memo: &mut Memo, counts: Counts, n: u32, place: u32) -> Move
@@ -89,7 +93,8 @@ fn parallel_ended(memo: &mut Memo, counts: Counts, n: u32, place: u32) -> Move
     parallel_on(memo, counts, n, place)
 }
 
-/// A Parallel tries its thresholds, and goes on at this place.
+/// The move of a Parallel that compares its counts with its thresholds, and else goes on at this
+/// place.
 pub(crate) fn parallel_on(memo: &mut Memo, counts: Counts, n: u32, place: u32) -> Move
     requires { HasRoom n counts place }
     ensures next { parallel_after n counts (parallel n (n - place) place counts) ≡ makes hears_or_passes (λ m heard. parallel_heard n (counts_of m) heard) memo.new result }
@@ -104,7 +109,7 @@ pub(crate) fn parallel_on(memo: &mut Memo, counts: Counts, n: u32, place: u32) -
     }
 }
 
-/// A Parallel goes on at this place, or ends behind its last child.
+/// The move of a Parallel that goes on at this place, or ends after its last child.
 pub(crate) fn parallel_to(memo: &mut Memo, counts: Counts, n: u32, place: u32) -> Move
     requires { HasRoom n counts place }
     ensures next { parallel n (n - place) place counts ≡ makes hears_or_passes (λ m heard. parallel_heard n (counts_of m) heard) memo.new result }
@@ -118,7 +123,7 @@ pub(crate) fn parallel_to(memo: &mut Memo, counts: Counts, n: u32, place: u32) -
     }
 }
 
-/// Behind the last child of a Parallel: SKIPPED where all were skipped, else RUNNING.
+/// The move of a Parallel after its last child: SKIPPED where all were skipped, else RUNNING.
 fn end(memo: &mut Memo, counts: Counts, n: u32) -> Move
     ensures next { (hear : ℕ → (Heard → Rule) → Rule) (go : Memo → Heard → Rule) → parallel_end n counts ≡ makes hear go memo.new result }
     ensures onward { (old : Memo) (place : ℕ) → GoesOn Kind.Parallel n old place memo.new result.then }

@@ -8,18 +8,19 @@ ghost use Rattle.bt_controls.specs.Rounds.{VisitsFrom, ends_of, next_passed};
 use crate::steps::{over, reset_and_give, visit};
 use bt_model::{Answer, Heard, Memo, Move, RoundEnd, Span, Then};
 
-/// How a round ends.
+/// How a round of the Sequence and Fallback kinds ends.
 #[derive(Clone, Copy, Debug, PartialEq, Eq)]
 pub(crate) enum Manner {
     /// As a Sequence or Fallback: the place of a RUNNING child is kept.
     Keeps,
-    /// As a reactive kind: all children but a RUNNING one are reset.
+    /// As a reactive kind: all children except a RUNNING one are reset.
     Restarts,
     /// As a SequenceWithMemory: the place of a child that answers FAILURE is kept, too.
     Remembers,
 }
 
-/// The round goes on behind the answer of the child at this place, or ends there.
+/// The move after the answer of the child at this place: the round goes on, or ends there. `goes`
+/// is the answer after which it goes on.
 pub(crate) fn go_on(
     goes: Answer,
     manner: Manner,
@@ -40,8 +41,8 @@ pub(crate) fn go_on(
     }
 }
 
-/// The place of the child that follows where the round goes on to it behind the answer of the one at
-/// this place. The memo becomes the one behind that move.
+/// The place of the next child, where the round goes on to it after the answer of the child at this
+/// place. The memo becomes the one after that move.
 #[inline(always)]
 pub(crate) fn next_in_round(
     goes: Answer,
@@ -67,7 +68,7 @@ pub(crate) fn next_in_round(
     }
 }
 
-/// The round goes on at this place, or ends behind the last child.
+/// The move of a round that goes on at this place, or ends after the last child.
 pub(crate) fn go_to(
     memo: &mut Memo,
     goes: Answer,
@@ -87,7 +88,7 @@ pub(crate) fn go_to(
     }
 }
 
-/// The round has ended.
+/// The move at the end of a round.
 fn end(memo: &mut Memo, goes: Answer, manner: Manner, end: RoundEnd) -> Move
     ensures next { (hear : ℕ → (Heard → Rule) → Rule) (go : Memo → Heard → Rule) → ends_of manner goes end ≡ makes hear go memo.new result }
     ensures onward { (first n : ℕ) → VisitsFrom first n memo.new result.then }
@@ -117,7 +118,7 @@ fn end(memo: &mut Memo, goes: Answer, manner: Manner, end: RoundEnd) -> Move
     }
 }
 
-/// The round of a Sequence or Fallback has ended.
+/// The move at the end of a round of a Sequence or Fallback.
 fn end_kept(memo: &mut Memo, goes: Answer, end: RoundEnd) -> Move
     ensures next { (hear : ℕ → (Heard → Rule) → Rule) (go : Memo → Heard → Rule) → sequence_end goes end ≡ makes hear go memo.new result }
     ensures onward { (first n : ℕ) → VisitsFrom first n memo.new result.then }
@@ -153,7 +154,7 @@ pub(crate) fn index_kept(memo: Memo) -> u32
     }
 }
 
-/// Whether a child has answered other than SKIPPED.
+/// Whether a child of this round has answered other than SKIPPED.
 pub(crate) fn seen_kept(memo: Memo) -> bool
     ensures { result ≡ seen_of memo }
 {
@@ -163,13 +164,14 @@ pub(crate) fn seen_kept(memo: Memo) -> bool
     }
 }
 
+/// Whether a child has answered other than SKIPPED, after this answer.
 fn seen_after(seen: bool, answer: Answer) -> bool
     ensures { result ≡ (seen || is_seen answer) }
 {
     seen || answer != Answer::Skipped
 }
 
-/// Whether a round goes on behind this answer.
+/// Whether a round goes on after this answer: after SKIPPED, and after `goes`.
 fn is_passed(goes: Answer, answer: Answer) -> bool
     ensures { result ≡ passes goes answer }
 {

@@ -12,7 +12,7 @@ pub fn visit(place: u32) -> Move
     reset_and_visit(Span::None, place)
 }
 
-/// A visit of the child at this place, behind the resets of a span.
+/// A visit of the child at this place, after the resets of a span.
 pub fn reset_and_visit(reset: Span, place: u32) -> Move
     ensures { result ≡ record { reset = reset; then = Then.Visit place } }
 {
@@ -22,7 +22,7 @@ pub fn reset_and_visit(reset: Span, place: u32) -> Move
     }
 }
 
-/// The node's answer, behind the resets of a span.
+/// The node's answer, after the resets of a span.
 pub fn reset_and_give(reset: Span, answer: Answer) -> Move
     ensures { result ≡ record { reset = reset; then = Then.Give answer } }
 {
@@ -32,7 +32,7 @@ pub fn reset_and_give(reset: Span, answer: Answer) -> Move
     }
 }
 
-/// The node is over: all children are reset, the memo is cleared and the answer is given.
+/// The node has ended: all children are reset, the memo is cleared, and this is the answer.
 #[inline(always)]
 pub fn over(memo: &mut Memo, answer: Answer) -> Move
     ensures memo { memo.new ≡ Memo.Nothing }
@@ -42,7 +42,8 @@ pub fn over(memo: &mut Memo, answer: Answer) -> Move
     reset_and_give(Span::All, answer)
 }
 
-/// The answer is passed on: RUNNING keeps the memo, and at any other answer the node is over.
+/// The node passes this answer on: RUNNING keeps the memo, and with any other answer the node has
+/// ended.
 #[inline(always)]
 pub fn pass(memo: &mut Memo, answer: Answer) -> Move
     ensures next { (hear : ℕ → (Heard → Rule) → Rule) (go : Memo → Heard → Rule) → pass_on memo.old answer ≡ makes hear go memo.new result }

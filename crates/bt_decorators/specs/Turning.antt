@@ -8,7 +8,7 @@ use Rattle.bt_model.specs.declared.moves.Then.TheVariants.{Visit, Give}
 use Rattle.bt_model.specs.Moves.{TurnIsLeft, turns_to_do}
 use Rattle.bt_model.specs.Rules.Turns.{limit_of, turns_of}
 
--- the child is visited again only where fewer turns are to be done, and one is left
+-- the child is visited again only where fewer turns are left than before, and at least one
 abbrev pub TurnsOn : Turns → Memo → Then → Type 0
 TurnsOn t kept (Give a) = Unit {0}
 TurnsOn t kept (Visit place) =

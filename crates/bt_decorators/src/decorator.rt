@@ -10,13 +10,13 @@ use crate::waits::{delay_begun, timeout_begun};
 use bt_controls::{pass, reset_and_give, visit};
 use bt_model::{Answer, Heard, Kind, Memo, Move, Span};
 
-/// The next move of a decorator or a SubTree node: where a visit begins at the moment `now`, in
-/// milliseconds, and behind each answer of the child. The memo is the one with which the visit
-/// begins, or that of the move before, and becomes the one behind this move.
+/// The next move of a decorator or a SubTree node: at the beginning of a visit at the time `now`,
+/// in milliseconds, and after each answer of the child. The memo is the one with which the visit
+/// begins, or that of the move before, and becomes the one after this move.
 pub fn decorator_next(kind: Kind, memo: &mut Memo, now: u64, heard: Heard) -> Move
     requires decorator { IsTrue (is_decorator kind) }
     requires fits { Fits kind 1 memo.old heard }
-    // What is still to come of the node's rule is this move, and then what is still to come of it.
+    // What is still to come of the node's rule is this move, followed by what is to come after it.
     ensures next { rest kind 1 now memo.old heard ≡ makes (hears kind) (after kind 1) memo.new result }
     ensures onward { GoesOn kind 1 memo.old (next_place heard) memo.new result.then }
 {
@@ -27,7 +27,8 @@ pub fn decorator_next(kind: Kind, memo: &mut Memo, now: u64, heard: Heard) -> Mo
     }
 }
 
-/// The first move of a visit.
+/// The first move of a visit, at the time `now` in milliseconds. `picked` is 1 where a RunOnce
+/// skips.
 fn begin(kind: Kind, memo: &mut Memo, now: u64, picked: u32) -> Move
     requires decorator { IsTrue (is_decorator kind) }
     requires fits { FitsStart kind 1 memo.old picked }
@@ -55,7 +56,7 @@ fn begin(kind: Kind, memo: &mut Memo, now: u64, picked: u32) -> Move
     }
 }
 
-/// The move behind the answer of the child.
+/// The move after the answer of the child.
 fn answered(kind: Kind, memo: &mut Memo, place: u32, answer: Answer) -> Move
     requires decorator { IsTrue (is_decorator kind) }
     requires there { place < 1 }
@@ -100,7 +101,7 @@ fn force(to: Answer, answer: Answer) -> Answer
     }
 }
 
-/// A KeepRunningUntilFailure behind its child's answer.
+/// The move of a KeepRunningUntilFailure after its child's answer.
 fn keep_running(memo: &mut Memo, answer: Answer) -> Move
     ensures next { keep_running_after memo.old answer ≡ makes hears_answer (λ m heard. keep_running_on m heard) memo.new result }
     ensures onward { (old : Memo) (first : ℕ) → GoesOn Kind.KeepRunningUntilFailure 1 old first memo.new result.then }

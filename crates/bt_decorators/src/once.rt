@@ -5,7 +5,7 @@ ghost use Rattle.bt_model.specs.Rules.Decorators.{mark_of, run_once, run_once_af
 use bt_controls::{over, reset_and_give, visit};
 use bt_model::{Answer, Kind, Memo, Move, Span};
 
-/// The mark of a RunOnce: the answer that it has given.
+/// The mark of a RunOnce: the answer of its one run, where it has ended.
 pub(crate) fn mark_kept(memo: Memo) -> Option<Answer>
     ensures { result ≡ mark_of memo }
 {
@@ -15,7 +15,8 @@ pub(crate) fn mark_kept(memo: Memo) -> Option<Answer>
     }
 }
 
-/// A RunOnce visits its child, or gives its mark, or SKIPPED in its place where 1 is picked.
+/// Begins a visit of a RunOnce: without a mark it visits its child; with one it answers it, or
+/// SKIPPED where 1 is picked.
 pub(crate) fn run_once_begun(memo: &mut Memo, mark: Option<Answer>, picked: u32) -> Move
     ensures next { run_once mark picked ≡ makes hears_answer (λ m heard. run_once_on heard) memo.new result }
     ensures onward { (old : Memo) → GoesOn Kind.RunOnce 1 old 0 memo.new result.then }
@@ -29,7 +30,7 @@ pub(crate) fn run_once_begun(memo: &mut Memo, mark: Option<Answer>, picked: u32)
     begun
 }
 
-/// A RunOnce behind its child's answer.
+/// The move of a RunOnce after its child's answer.
 pub(crate) fn run_once_answered(memo: &mut Memo, answer: Answer) -> Move
     ensures next { run_once_after answer ≡ makes hears_answer (λ m heard. run_once_on heard) memo.new result }
     ensures onward { (old : Memo) (first : ℕ) → GoesOn Kind.RunOnce 1 old first memo.new result.then }

@@ -7,7 +7,7 @@ ghost use Rattle.bt_decorators.specs.Turning.{TurnsOn};
 use bt_controls::{over, pass, reset_and_give, reset_and_visit};
 use bt_model::{Answer, Heard, Memo, Move, Span, Turns};
 
-/// The turns of a memo.
+/// The turns of a memo: how many are done, and their limit.
 pub(crate) fn turns_kept(memo: Memo) -> Turns
     ensures { result ≡ turns_of memo }
 {
@@ -17,15 +17,15 @@ pub(crate) fn turns_kept(memo: Memo) -> Turns
     }
 }
 
-/// A limit of turns; a negative one is none.
+/// The limit of turns; none where it is negative.
 fn limit(turns: Turns) -> Option<u64>
     ensures { result ≡ limit_of turns.limit }
 {
     u64::try_from(turns.limit).ok()
 }
 
-/// A Retry or Repeat behind its child's answer. `again` is the answer after which the child is
-/// visited again.
+/// The move of a Retry or Repeat after its child's answer. `again` is the answer after which the
+/// child is visited again.
 pub(crate) fn turn_answered(memo: &mut Memo, again: Answer, turns: Turns, answer: Answer) -> Move
     requires { TurnIsLeft turns.done (limit_of turns.limit) }
     ensures next { turns_heard again turns (Heard.Answered 0 answer) ≡ makes hears_answer (λ m heard. turns_heard again (turns_of m) heard) memo.new result }
@@ -39,7 +39,8 @@ pub(crate) fn turn_answered(memo: &mut Memo, again: Answer, turns: Turns, answer
     }
 }
 
-/// A Retry or Repeat whose child has given the answer after which it is visited again.
+/// The move of a Retry or Repeat after the answer with which its child is visited again. Without a
+/// limit this is in the next tick.
 fn turn_again(memo: &mut Memo, again: Answer, turns: Turns) -> Move
     requires { TurnIsLeft turns.done (limit_of turns.limit) }
     ensures next { turns_on again (limit_of turns.limit) turns ≡ makes hears_answer (λ m heard. turns_heard again (turns_of m) heard) memo.new result }
@@ -54,7 +55,8 @@ fn turn_again(memo: &mut Memo, again: Answer, turns: Turns) -> Move
     }
 }
 
-/// The same below a limit of turns.
+/// The move of a Retry or Repeat with a limit, after the answer with which its child is visited
+/// again: it is, where turns are left.
 fn turn_within(memo: &mut Memo, again: Answer, turns: Turns, limit: u64) -> Move
     requires limit { limit_of turns.limit ≡ Some limit }
     requires left { TurnIsLeft turns.done (Some limit) }
@@ -73,6 +75,7 @@ fn turn_within(memo: &mut Memo, again: Answer, turns: Turns, limit: u64) -> Move
     }
 }
 
+/// Whether two answers are equal.
 fn is_same(a: Answer, b: Answer) -> bool
     ensures { result ≡ same_answer a b }
 {

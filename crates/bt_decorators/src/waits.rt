@@ -5,7 +5,7 @@ ghost use Rattle.bt_model.specs.Rules.Decorators.{as_it_is, delay, is_late, sinc
 use bt_controls::{over, reset_and_give, visit};
 use bt_model::{Answer, Kind, Memo, Move, Since, Span};
 
-/// The start and the length of a memo.
+/// The start and the length of a memo, in milliseconds.
 fn since_kept(memo: Memo) -> Since
     ensures { result ≡ since_of memo }
 {
@@ -18,14 +18,16 @@ fn since_kept(memo: Memo) -> Since
     }
 }
 
-/// Whether the length of a Timeout, which is not 0, has passed since its start.
+/// Whether the length of a Timeout, which is not 0, has passed since its start. `now` is in
+/// milliseconds.
 fn has_passed(since: Since, now: u64) -> bool
     ensures { result ≡ is_late since now }
 {
     since.length != 0 && since.length <= now.saturating_sub(since.first)
 }
 
-/// A Timeout gives FAILURE once its length has passed, and else visits its child.
+/// Begins a visit of a Timeout at the time `now` in milliseconds: it answers FAILURE if its length
+/// has passed, else it visits its child.
 pub(crate) fn timeout_begun(memo: &mut Memo, now: u64) -> Move
     ensures next { timeout memo.old now ≡ makes hears_answer (λ m heard. child_on as_it_is m heard) memo.new result }
     ensures onward { (old : Memo) → GoesOn Kind.Timeout 1 old 0 memo.new result.then }
@@ -37,7 +39,8 @@ pub(crate) fn timeout_begun(memo: &mut Memo, now: u64) -> Move
     }
 }
 
-/// A Delay gives RUNNING until its length has passed, and then visits its child.
+/// Begins a visit of a Delay at the time `now` in milliseconds: it answers RUNNING until its length
+/// has passed, then it visits its child.
 pub(crate) fn delay_begun(memo: &mut Memo, now: u64) -> Move
     ensures next { delay memo.old now ≡ makes hears_answer (λ m heard. child_on as_it_is m heard) memo.new result }
     ensures onward { (old : Memo) → GoesOn Kind.Delay 1 old 0 memo.new result.then }

@@ -1,4 +1,4 @@
--- What effects leave, by the first of them and those behind it.
+-- What effects leave, by the first effect and those after it.
 use Rattle.std.proofs.Common.{◌≡◌, ◌-◌, ◌≤◌, ℤ, List, [], ◌∷◌, length, take, drop, get_or, Result, Ok, Err, ap, sym, ◌∙◌, arith}
 use Rattle.std.specs.Prelude.{slice_set}
 use Rattle.std.proofs.Math.Seq.{take-length}
@@ -11,7 +11,7 @@ use Rattle.bt_model.specs.Leaf.{effects_of, fact_at, made_by}
 abbrev pub made : Set → List ℤ → Result ℤ Cause
 made s facts = made_by s.how s.value (fact_at facts s.fact)
 
--- those behind the first
+-- the effects after the first
 abbrev pub others : List Set → List Set
 others sets = take (length sets - 1) (drop 1 sets)
 

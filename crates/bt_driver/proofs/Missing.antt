@@ -25,7 +25,7 @@ use Rattle.bt_script_code.specs.Sources.{reach_step, reach_of}
 use Rattle.bt_model.specs.Leaf.{sights}
 use Rattle.bt_driver.proofs.Sights.{fact_seen}
 
--- a fault that says of a place that nothing is there says it of one of the first eight
+-- a fault by which a place has no entry says it of one of the first eight
 abbrev IsLowFault : ExecFault → Type 0
 IsLowFault (exec.NoEntry place) = place < 8
 IsLowFault exec.Overflow = Unit {0}
@@ -143,7 +143,7 @@ module _ (names : List ℕ → ℕ) (look : ℕ → Result Value ExecFault) (bou
   abbrev GivesLow : Expr → Type 0
   GivesLow e = reach_of names e ≤ bound → IsLow (eval_of (λ name. look (names name)) e)
 
-  -- a layer, where it holds of the parts
+  -- a node of an expression, where its parts give low faults alone
   low_at : (y : Expr-F ((e : Expr) × GivesLow e)) →
       reach_step names (map-Expr Expr ℕ (reach_of names) (map-Expr ((e : Expr) × GivesLow e) Expr (λ e. e.0) y)) ≤ bound →
       IsLow (eval_step (λ name. look (names name)) (map-Expr Expr (Result Value ExecFault) (eval_of (λ name. look (names name))) (map-Expr ((e : Expr) × GivesLow e) Expr (λ e. e.0) y)))
@@ -163,7 +163,7 @@ module _ (names : List ℕ → ℕ) (look : ℕ → Result Value ExecFault) (bou
       (subst (λ (z : Expr-F Expr). reach_step names (map-Expr Expr ℕ (reach_of names) z) ≤ bound → IsLow (eval_step (λ name. look (names name)) (map-Expr Expr (Result Value ExecFault) (eval_of (λ name. look (names name))) z)))
       is (low_at y) (subst (λ k. k ≤ bound) (fold-roll-Expr ℕ (reach_step names) x) within)))
 
--- a place below 8 that is looked at
+-- what is seen at a place below 8
 seen_low : (k : ℕ) (s : Seen) → k < 8 → IsLow (seen_number k s)
 seen_low k (seen.Int n) low = tt
 seen_low k seen.Text low = tt
@@ -176,7 +176,7 @@ look_low inputs facts eight k within =
       | inr behind ↦ subst (λ s. IsLow (seen_number k s)) (sym (fact_seen inputs facts k seen.Absent eight behind within)) tt
     ]
 
--- a code of an expression says of no place but an input's that nothing is there
+-- a compiled expression says of no place but an input's that it has no entry
 pub only_inputs_missing : (names : List ℕ → ℕ) (e : Expr) (code : ExprCode) → formula code ≡ formula_of names e →
     (inputs : List Seen) (facts : List ℤ) (place : ℕ) → length inputs ≡ 8 → (formula code).reach ≤ 8 + length facts →
     (formula code).value (look_of (sights inputs facts)) ≡ Err (exec.NoEntry place) → place < 8

@@ -1,4 +1,4 @@
--- Inputs behind the last port may be left out.
+-- Inputs after the last port may be left out.
 use Rattle.std.proofs.Common.{◌≡◌, ℕ, ◌-◌, ℤ, List, [], ◌∷◌, ◌++◌, length, map, replicate, not, if◌then◌else◌, Bool, true, false, Option, Some, None, Ok, refl, ap, ◌∙◌, arith, length-append}
 use Rattle.std.specs.Prelude.{option_map}
 use Rattle.std.proofs.lemmas.List.{append-nil, length-replicate}

@@ -15,13 +15,13 @@ use Rattle.bt_model.specs.declared.world.RowSort.{RowSort}
 use Rattle.bt_model.specs.declared.world.RowSort.TheVariants as sort
 use Rattle.bt_driver.specs.Places.{IsReadable, IsReadableSort, IsSortOver, comparison_reach, placed, row_places}
 
--- among names in front of others
+-- the slot of a name where these names come first, and others after them
 slot_in_front : (place : ℕ) (names : List (List ℕ)) (others : List (List ℕ × ℕ)) (name : List ℕ) →
     slot_of (placed place names ++ others) name ≡ place_from place names name (slot_of others name)
 slot_in_front place [] others name = refl
 slot_in_front place (n ∷ ns) others name = ap (λ (k : ℕ). if bytes_eq n name then place else k) (slot_in_front (place + 1) ns others name)
 
--- among names with nothing behind them
+-- the slot of a name where nothing comes after these names
 slot_at_end : (place : ℕ) (names : List (List ℕ)) (name : List ℕ) → slot_of (placed place names) name ≡ place_from place names name 0
 slot_at_end place [] name = refl
 slot_at_end place (n ∷ ns) name = ap (λ (k : ℕ). if bytes_eq n name then place else k) (slot_at_end (place + 1) ns name)
@@ -35,7 +35,7 @@ slot_is ports facts name =
 pub slots_are_places : (ports : List (List ℕ)) (facts : List Fact) → slot_of (row_places ports facts) ≡ place_of ports facts
 slots_are_places ports facts = λ i name. slot_is ports facts name i
 
--- the names that have places
+-- the names, without their places
 placed_names : (place : ℕ) (names : List (List ℕ)) → map (λ (pair : List ℕ × ℕ). pair.0) (placed place names) ≡ names
 placed_names place [] = refl
 placed_names place (n ∷ ns) = ap (λ ns. n ∷ ns) (placed_names (place + 1) ns)
@@ -45,7 +45,7 @@ row_names ports facts =
     map-append (λ (pair : List ℕ × ℕ). pair.0) (placed 0 ports) (placed 8 (names_of_facts facts))
     ∙ (λ i. placed_names 0 ports i ++ placed_names 8 (names_of_facts facts) i)
 
--- an expression over the ports and the facts can be read over their places
+-- an expression over the ports and the facts can be compiled over their places
 pub readable : (ports : List (List ℕ)) (facts : List Fact) (e : Expr) → IsExprOver ports (names_of_facts facts) e → IsReadable (row_places ports facts) e
 readable ports facts e over = record {
   named = subst (λ ns. All (Contains ns) (names_of e)) (sym (row_names ports facts)) over.named;
@@ -72,7 +72,7 @@ comparison_within ports facts (sort.Timed ms fails) valid = omega arith
 comparison_within ports facts (sort.Replay ms outcomes) valid = omega arith
 comparison_within ports facts (sort.Gate test) valid = omega arith
 
--- a row made ready has the row's kind
+-- a row made ready has the kind of the row
 pub same_kind_of_row : (places : List ℕ → ℕ) (s : RowSort) → kind_of_way (way_of places s) ≡ kind_of_sort s
 same_kind_of_row places (sort.Is fact op value) = refl
 same_kind_of_row places (sort.When test) = refl
@@ -80,7 +80,7 @@ same_kind_of_row places (sort.Timed ms fails) = refl
 same_kind_of_row places (sort.Replay ms outcomes) = refl
 same_kind_of_row places (sort.Gate test) = refl
 
--- the places are below their number
+-- each place is less than how many there are
 placed_below : (n place : ℕ) (names : List (List ℕ)) → place + length names ≤ n → All (λ (pair : List ℕ × ℕ). pair.1 < n) (placed place names)
 placed_below n place [] few = All-nil (λ (pair : List ℕ × ℕ). pair.1 < n)
 placed_below n place (name ∷ names) few =

@@ -38,7 +38,7 @@ length_prepared ds [] = refl
 length_prepared [] (c ∷ cs) = refl
 length_prepared (d ∷ ds) (c ∷ cs) = ap suc (length_prepared ds cs)
 
--- ---- Values that show as these drivers, of which the first are prepared
+-- ---- Values that show as these drivers, of which a prefix is prepared
 
 module _ {B : Type 0} (state : B → DriverState) (items : List B) (ds : List DriverState) (counts : List ℕ) (k : ℕ) (b : B)
     (same : map state items ≡ roster_prepared ds (take k counts)) (is : b ≡ get_or items k b) (counted : k < length counts) (enough : length counts ≤ length ds) where
@@ -50,11 +50,11 @@ module _ {B : Type 0} (state : B → DriverState) (items : List B) (ds : List Dr
       ap state is ∙ sym (get_or-map state items k b (new_driver Condition) next_there)
       ∙ ap (λ (xs : List DriverState). driver_at xs k) same ∙ untouched ds counts k
 
-  -- the next one holds nothing
+  -- the next driver holds nothing
   pub next_quiet : NothingHeld ds → HoldsNothing (state b)
   next_quiet none = subst (λ (d : DriverState). HoldsNothing d) (sym next_is) (none k)
 
-  -- it is prepared
+  -- where it is prepared, one more is
   pub next_prepared : (new : B) → state new ≡ prepared (state b) (get_or counts k 0) → map state (set items k new) ≡ roster_prepared ds (take (k + 1) counts)
   next_prepared new made =
       map-set state items k new
@@ -62,7 +62,7 @@ module _ {B : Type 0} (state : B → DriverState) (items : List B) (ds : List Dr
       ∙ one_more ds counts k 0 (omega arith) counted
       ∙ ap (λ n. roster_prepared ds (take n counts)) (sym (add-one k))
 
-  -- it is refused, and as it was
+  -- where there is want of memory, it is as before
   pub next_refused : (new : B) → state new ≡ state b → map state (set items k new) ≡ roster_prepared ds (take k counts)
   next_refused new kept = map-set_same state items k new b (kept ∙ ap state is) ∙ same
 

@@ -1,4 +1,4 @@
--- Counts of held instances that are 0 say that none is held.
+-- Where the counts of held instances are 0, none is held.
 use Rattle.std.proofs.Common.{◌≡◌, ℕ, zero, suc, ◌+◌, Bool, true, false, cond, List, [], ◌∷◌, get_or, refl, sym, ap, ◌∙◌, arith}
 use Rattle.std.proofs.lemmas.List.Sums.{sum_by-cons}
 use Rattle.std.specs.Prelude.{count_by}
@@ -13,7 +13,7 @@ first_not false n none = (refl, omega arith)
 counted : (x : Instance) (xs : List Instance) → count_by is_held (x ∷ xs) ≡ cond (is_held x) 1 0 + count_by is_held xs
 counted x xs = sum_by-cons (λ y. cond (is_held y) 1 0) x xs
 
--- of one table
+-- in one table
 count_none : (table : List Instance) → count_by is_held table ≡ 0 → (i : ℕ) → is_held (get_or table i fresh) ≡ false
 count_none [] none i = refl
 count_none (x ∷ xs) none zero = (first_not (is_held x) (count_by is_held xs) (sym (counted x xs) ∙ none)).0
@@ -25,7 +25,7 @@ none_counted (x ∷ xs) none =
     let first : is_held x ≡ false = none 0 in
     counted x xs ∙ ap (λ b. cond b 1 0 + count_by is_held xs) first ∙ omega (arith, none_counted xs (λ i. none (suc i)))
 
--- of all drivers
+-- in all drivers
 pub total_none : (ds : List DriverState) → total_held ds ≡ 0 → NothingHeld ds
 total_none [] none place = λ i. refl
 total_none (d ∷ ds) none zero = count_none d.table (omega arith)

@@ -14,7 +14,7 @@ pub input_seen : (inputs : List Seen) (facts : List ℤ) (k : ℕ) (d : Seen) �
 input_seen inputs facts k d eight low =
     rw (all_given inputs facts eight) (get_or_append_left inputs (map (λ n. seen.Int n) facts) d k (omega arith))
 
--- a fact, behind the inputs
+-- a fact, in a place after the inputs
 pub fact_seen : (inputs : List Seen) (facts : List ℤ) (k : ℕ) (d : Seen) → length inputs ≡ 8 → 8 ≤ k → k < 8 + length facts → get_or (sights inputs facts) k d ≡ seen.Int (fact_at facts (k - 8))
 fact_seen inputs facts k d eight behind within =
     rw (all_given inputs facts eight)

@@ -1,4 +1,4 @@
--- What is true of a number is true of an equal one.
+-- Equal numbers give equal tests.
 use Rattle.std.proofs.Common.{◌≡◌, ℕ, ◌+◌, ◌<◌, List, [], ◌∷◌, ◌++◌, length, get_or, map, take, ap, sym, ◌∙◌}
 use Rattle.std.proofs.lemmas.List.{map-append, take_more}
 use Rattle.bt_script.specs.declared.syntax.Expr.{Expr}
@@ -10,7 +10,7 @@ use Rattle.bt_driver.specs.Ready.{ready_number, ready_test}
 pub same_test : (places : List ℕ → ℕ) (r : ReadyExpr) (e : Expr) → ready_number r ≡ number_of places e → ready_test r ≡ test_of places e
 same_test places r e same = ap (λ (f : Number). λ inputs facts. truth_of (f inputs facts)) same
 
--- one more output has the number of its row's
+-- outputs made ready so far, and one more with the number of its row's output
 pub numbers_more : (places : List ℕ → ℕ) (es : List ReadyExpr) (e : ReadyExpr) (outs : List Out) (i : ℕ) (out : Out) →
     i < length outs → out ≡ get_or outs i out → ready_number e ≡ number_of places out.expr →
     map ready_number es ≡ map (λ (out : Out). number_of places out.expr) (take i outs) →

@@ -1,4 +1,4 @@
--- The names that a row's expressions look at, with their places, and what is asked of the row.
+-- The names that a row's expressions look at, with their places, and what must hold of the row.
 use Rattle.std.specs.Prelude.{◌≡◌, ℕ, ◌+◌, ◌<◌, ◌≤◌, List, [], ◌∷◌, ◌++◌, length, IfSome}
 use Rattle.std.specs.List.{All}
 use Rattle.bt_script.specs.declared.syntax.Expr.{Expr}
@@ -13,12 +13,12 @@ use Rattle.bt_model.specs.Worlds.{IsExprOver, names_of_facts}
 use Rattle.bt_model.specs.declared.world.RowSort.{RowSort}
 use Rattle.bt_model.specs.declared.world.RowSort.TheVariants as sort
 
--- names with their places, of which the first has this one
+-- names with their places, counted from this one
 abbrev pub placed : ℕ → List (List ℕ) → List (List ℕ × ℕ)
 placed place [] = []
 placed place (name ∷ names) = (name, place) ∷ placed (place + 1) names
 
--- the input ports, and behind the eight inputs the facts
+-- the input ports, then (from place 8 on) the facts
 abbrev pub row_places : List (List ℕ) → List Fact → List (List ℕ × ℕ)
 row_places ports facts = placed 0 ports ++ placed 8 (names_of_facts facts)
 
@@ -51,7 +51,7 @@ IsSortOver ports facts (sort.Timed ms fails) = IfSome fails (IsExprOver ports (n
 IsSortOver ports facts (sort.Replay ms outcomes) = Unit {0}
 IsSortOver ports facts (sort.Gate test) = IsExprOver ports (names_of_facts facts) test
 
--- what is asked of a row that is made ready; each valid row of a world with these facts is so
+-- what must hold of a row that is made ready; it holds of each valid row of a world with these facts
 pub record CanBeReady (facts : List Fact) (row : Row) : Type 0 where
   pub few_facts : length facts ≤ 1024
   pub few_ports : length row.ports ≤ 8

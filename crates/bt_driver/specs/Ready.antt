@@ -23,7 +23,7 @@ ready_way (sort.Timed ms fails) = Lasts ms (option_map ready_test fails)
 ready_way (sort.Replay ms outcomes) = Replays ms outcomes
 ready_way (sort.Gate test) = Waits (ready_test test)
 
--- how many places an expression looks at: each of its places is below
+-- how many places an expression looks at: each of its places is less than this
 abbrev pub expr_reach : ReadyExpr → ℕ
 expr_reach e = (formula e.code).reach
 

@@ -11,8 +11,8 @@ use crate::row::ReadyRow;
 use bt_model::{DriverKind, Reply, Totals};
 use bt_script::NoMemory;
 
-/// What stands behind the leaves of one kind of rows: it keeps an instance for each leaf that it
-/// serves. No call but `prepare` takes memory.
+/// What answers for the leaves of one kind of row: it keeps an instance for each leaf that it
+/// serves. No call but `prepare` allocates memory.
 pub trait Driver: Drop {
     /// All that it keeps: its kind, its mark, its instances and its totals.
     ghost state: { Self → DriverState };
@@ -21,7 +21,7 @@ pub trait Driver: Drop {
     fn kind(&self) -> DriverKind
         ensures { result ≡ (state self.now).kind };
 
-    /// How often it was called.
+    /// Its counts of the calls of `start`, `running` and `halted`, and its trail.
     fn totals(&self) -> Totals
         ensures { result ≡ (state self.now).totals };
 
@@ -29,14 +29,15 @@ pub trait Driver: Drop {
     fn held(&self) -> u32
         ensures { result ≡ held_count (state self.now) };
 
-    /// Makes this many instances in place of those that it had, none of them held and without a
-    /// completion. Refused, it changes nothing.
+    /// Replaces its instances by this many new ones, none of them held or completed. Where there is
+    /// want of memory (it is out of memory), nothing changes.
     fn prepare(&mut self, count: u32) -> Result<(), NoMemory>
         requires { HoldsNothing (state self.old) }
         ensures ok { OnOk result (state self.new ≡ prepared (state self.old) count) }
         ensures err { OnErr result (state self.new ≡ state self.old) };
 
-    /// Begins: the leaf of this instance is visited and is not running. `now` is in milliseconds.
+    /// Begins: the leaf of this instance is visited and is not running. `now` is the time of the
+    /// tick in milliseconds.
     fn start(
         &mut self,
         instance: u32,
@@ -55,7 +56,8 @@ pub trait Driver: Drop {
         ensures facts { facts.new ≡ (driver_answer (state self.old) instance (rule row.now) phase.Start inputs.now facts.old now).facts }
         ensures outs { outs.new ≡ outputs_after (driver_answer (state self.old) instance (rule row.now) phase.Start inputs.now facts.old now) outs.old };
 
-    /// Goes on: the leaf of this instance is visited and is running.
+    /// Goes on: the leaf of this instance is visited and is running. `now` is the time of the tick
+    /// in milliseconds.
     fn running(
         &mut self,
         instance: u32,
@@ -74,7 +76,7 @@ pub trait Driver: Drop {
         ensures facts { facts.new ≡ (driver_answer (state self.old) instance (rule row.now) phase.Running inputs.now facts.old now).facts }
         ensures outs { outs.new ≡ outputs_after (driver_answer (state self.old) instance (rule row.now) phase.Running inputs.now facts.old now) outs.old };
 
-    /// Lets go: the leaf of this instance is halted. Its completions stay.
+    /// Halts the leaf of this instance: it is held no longer. The count of its completions stays.
     fn halted(&mut self, instance: u32)
         requires there { instance < length (state self.old).table }
         requires held { IsSome (instance_of (state self.old) instance).since }

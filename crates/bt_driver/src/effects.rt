@@ -5,7 +5,7 @@ ghost use Rattle.bt_model.specs.Leaf.{effects_of, fact_at, made_by};
 use crate::facts::FactTable;
 use bt_model::{Cause, How, Set};
 
-/// What an effect makes of its fact, or the overflow of the sum.
+/// The value that an effect gives to its fact. The error is `Overflow`: the sum is no `i64`.
 fn made(set: &Set, facts: &FactTable) -> Result<i64, Cause>
     requires { set.now.fact < length facts.now }
     ensures { result ≡ made_by set.now.how set.now.value (fact_at facts.now set.now.fact) }
@@ -19,8 +19,8 @@ fn made(set: &Set, facts: &FactTable) -> Result<i64, Cause>
     }
 }
 
-/// Applies the effects. Each is worked out before the first fact is changed; the first fault is the
-/// answer, and then no fact is.
+/// Applies the effects. All values are computed before the first fact is changed. The error is the
+/// first fault, and then no fact is changed.
 pub fn apply(sets: &[Set], facts: &mut FactTable) -> Result<(), Cause>
     requires { All (λ set. set.fact < length facts.old) sets.now }
     ensures applied { OnOk result (effects_of sets.now facts.old ≡ Ok facts.new) }

@@ -11,25 +11,24 @@ use bt_model::Cause;
 use bt_script::{ExecFault, Seen};
 use bt_script_code::{ExprCode, number};
 
-/// The values of a row's input ports at a node, by their place in the row; absent behind the last
-/// port.
+/// The values of a row's input ports at a node, by their place in the row. Places after the last
+/// port are absent.
 pub type Inputs = [Seen; 8];
 
-/// An expression of a row, compiled over the places of its names: the eight inputs, and the facts
-/// behind them.
+/// An expression of a row, compiled over the places of its names: the eight inputs, then the facts.
 #[derive(Debug, Drop)]
 pub struct ReadyExpr {
     pub code: ExprCode,
-    /// It gives numbers alone.
+    /// Its value is always a number.
     pub ghost textless: { (formula code).texts ≡ 0 },
-    /// Only an input can be missing.
+    /// A name that has no entry is an input's: facts are always there.
     pub ghost missing: { (inputs : List Seen) (facts : List ℤ) (place : ℕ) → length inputs ≡ 8 → (formula code).reach ≤ 8 + length facts → (formula code).value (look_of (sights inputs facts)) ≡ Err (NoEntry place) → place < 8 },
 }
 
 impl ReadyExpr {
     ghost use Rattle.bt_driver.specs.Ready.{expr_reach, ready_number, ready_test};
 
-    /// Its number over these inputs and facts, or the cause of its fault. It takes no memory.
+    /// Its number over these inputs and facts, or the cause of its fault. It allocates no memory.
     pub fn value(&self, inputs: &Inputs, facts: &FactTable) -> Result<i64, Cause>
         requires { expr_reach self.now ≤ 8 + length facts.now }
         ensures { result ≡ ready_number self.now inputs.now facts.now }
@@ -45,7 +44,7 @@ impl ReadyExpr {
         }
     }
 
-    /// Whether its number is not 0, or the cause of its fault. It takes no memory.
+    /// Whether its number is not 0, or the cause of its fault. It allocates no memory.
     pub fn is_true(&self, inputs: &Inputs, facts: &FactTable) -> Result<bool, Cause>
         requires { expr_reach self.now ≤ 8 + length facts.now }
         ensures { result ≡ ready_test self.now inputs.now facts.now }

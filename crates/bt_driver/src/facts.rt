@@ -36,7 +36,7 @@ impl FactTable {
         self.values[fact as usize]
     }
 
-    /// Gives the fact of this number a value, and changes no other fact. It takes no memory.
+    /// Gives the fact of this number a value, and changes no other fact. It allocates no memory.
     pub fn put(&mut self, fact: u32, n: i64)
         requires { fact < length self.old }
         ensures { self.new ≡ slice_set self.old fact n }
@@ -45,7 +45,7 @@ impl FactTable {
     }
 }
 
-/// The table of a world's facts with their opening values.
+/// The table of a world's facts with their opening values. The error is want of memory.
 pub fn facts_of(alloc: Global, world: &World) -> Result<FactTable, NoMemory>
     ensures { IfOk result (λ table. table ≡ map (λ fact. fact.opening) world.now.facts) }
 {

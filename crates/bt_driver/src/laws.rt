@@ -8,8 +8,8 @@ ghost use Rattle.bt_model.specs.Leaf.{Rule, leaf_rule, padded, rule_answer, sinc
 ghost use Rattle.bt_model.specs.Worlds.{IsValidRow};
 ghost use Rattle.bt_driver.specs.Places.{CanBeReady};
 
-/// After each call an instance is held exactly while its leaf runs, since its start, and there are as
-/// many facts as before.
+/// After each call an instance is held exactly where its leaf is running, since the time of its
+/// start, and there are as many facts as before.
 pub fn calls_keep()
     ensures held { (rule : Rule) (phase : Phase) (instance : Instance) (inputs : List Seen) (facts : List ℤ) (now : ℕ) →
         (rule_answer rule phase instance inputs facts now).instance.since ≡ since_after (rule_answer rule phase instance inputs facts now).reply (start_of phase instance now) instance.since }
@@ -17,7 +17,7 @@ pub fn calls_keep()
         length (rule_answer rule phase instance inputs facts now).facts ≡ length facts }
 {}
 
-/// Inputs behind the last port may be left out: they are absent.
+/// Inputs after the last port may be left out: they are absent.
 pub fn inputs_may_be_left_out()
     ensures { (names : List Fact) (row : Row) (phase : Phase) (instance : Instance) (inputs : List Seen) (facts : List ℤ) (now : ℕ) →
         leaf_rule names row phase instance (padded inputs) facts now ≡ leaf_rule names row phase instance inputs facts now }

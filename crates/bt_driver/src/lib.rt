@@ -1,4 +1,4 @@
-//! What stands behind the leaves of a tree: the trait of drivers, the roster of a run, the table of
+//! What answers for the leaves of a tree: the trait of drivers, the roster of a run, the table of
 //! facts, and rows made ready for the calls.
 #![tactic(auto)]
 

@@ -4,7 +4,7 @@ use crate::expression::Inputs;
 use crate::facts::FactTable;
 use bt_script::{Looks, Seen};
 
-/// What the expressions of a row see.
+/// What the expressions of a row see: the inputs in the places 0 to 7, then the facts.
 #[derive(Drop)]
 pub struct Sights<'a> {
     pub inputs: &'a Inputs,

@@ -45,7 +45,7 @@ impl Outs {
         self.len = 0;
     }
 
-    /// Adds an output behind the others.
+    /// Adds an output after the others.
     pub fn push(&mut self, n: i64)
         requires { length self.old < 8 }
         ensures { self.new ≡ self.old ++ n ∷ [] }

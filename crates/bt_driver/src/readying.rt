@@ -16,7 +16,7 @@ use bt_script::{Expr, Items, Name, NoMemory};
 use bt_script_code::compile_expr;
 use std::alloc::Global;
 
-/// Adds the input ports at the places from 0 on.
+/// Adds the input ports with the places from 0 on. The error is want of memory.
 fn add_ports(alloc: Global, ports: &[Name], places: &mut Vec<(Name, u32)>) -> Result<(), NoMemory>
     requires { length ports.now ≤ 8 }
     ensures { OnOk result (places.new.items ≡ places.old.items ++ placed 0 ports.now) }
@@ -29,7 +29,7 @@ fn add_ports(alloc: Global, ports: &[Name], places: &mut Vec<(Name, u32)>) -> Re
     Ok(())
 }
 
-/// Adds the facts at the places behind the eight inputs.
+/// Adds the facts with the places from 8 on, after the eight inputs. The error is want of memory.
 fn add_facts(alloc: Global, facts: &[Fact], places: &mut Vec<(Name, u32)>) -> Result<(), NoMemory>
     requires { length facts.now ≤ 1024 }
     ensures { OnOk result (places.new.items ≡ places.old.items ++ placed 8 (names_of_facts facts.now)) }
@@ -42,7 +42,7 @@ fn add_facts(alloc: Global, facts: &[Fact], places: &mut Vec<(Name, u32)>) -> Re
     Ok(())
 }
 
-/// The names that a row's expressions look at, with their places.
+/// The names that a row's expressions look at, with their places, or want of memory.
 fn places_of(alloc: Global, ports: &[Name], facts: &[Fact]) -> Result<Vec<(Name, u32)>, NoMemory>
     requires ports { length ports.now ≤ 8 }
     requires facts { length facts.now ≤ 1024 }
@@ -54,7 +54,7 @@ fn places_of(alloc: Global, ports: &[Name], facts: &[Fact]) -> Result<Vec<(Name,
     Ok(places)
 }
 
-/// An expression made ready over names with these places.
+/// An expression, compiled over names with these places, or want of memory.
 fn ready_expr(alloc: Global, e: &Expr, places: &[(Name, u32)]) -> Result<ReadyExpr, NoMemory>
     requires { IsReadable places.now e.now }
     ensures number { IfOk result (λ r. ready_number r ≡ number_of (slot_of places.now) e.now) }
@@ -64,7 +64,7 @@ fn ready_expr(alloc: Global, e: &Expr, places: &[(Name, u32)]) -> Result<ReadyEx
     Ok(ReadyExpr { code })
 }
 
-/// What a timed row may fail by, made ready.
+/// The expression by which a timed row fails, made ready, or want of memory.
 fn ready_fails(
     alloc: Global,
     fails: &Option<Expr>,
@@ -80,7 +80,7 @@ fn ready_fails(
     }
 }
 
-/// How a row answers, made ready.
+/// How a row answers, its expressions made ready, or want of memory.
 fn ready_sort(alloc: Global, sort: &RowSort, places: &[(Name, u32)]) -> Result<ReadySort, NoMemory>
     requires { IsReadableSort places.now sort.now }
     ensures way { IfOk result (λ s. ready_way s ≡ way_of (slot_of places.now) sort.now) }
@@ -108,7 +108,7 @@ fn ready_sort(alloc: Global, sort: &RowSort, places: &[(Name, u32)]) -> Result<R
     }
 }
 
-/// The outputs of a row, made ready.
+/// The outputs of a row, made ready, or want of memory.
 fn ready_outs(
     alloc: Global,
     outs: &[Out],
@@ -138,7 +138,8 @@ pub fn kind_of(row: &Row) -> DriverKind
     }
 }
 
-/// A row of a world with these facts, made ready: its rule is the row's.
+/// A row of a world with these facts, made ready: its rule is the row's. The error is want of
+/// memory.
 pub fn ready(alloc: Global, row: &Row, facts: &[Fact]) -> Result<ReadyRow, NoMemory>
     requires { CanBeReady facts.now row.now }
     ensures rule { IfOk result (λ r. rule r ≡ rule_of facts.now row.now) }

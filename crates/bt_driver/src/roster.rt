@@ -12,21 +12,21 @@ use crate::row::ReadyRow;
 use bt_model::{DriverKind, Reply, Totals};
 use bt_script::NoMemory;
 
-/// The drivers of a run, each at its place. No call but `prepare` takes memory, and none changes how
-/// many they are or their order.
+/// The drivers of a run, each at its place. No call but `prepare` allocates memory, and none
+/// changes how many drivers there are or their order.
 pub trait Drivers {
-    /// All that they keep, by their place.
+    /// All that the drivers keep, by their place.
     ghost states: { Self → List DriverState };
 
     /// How many drivers there are.
     fn count(&self) -> usize
         ensures { result ≡ length (states self.now) };
 
-    /// The place of the first driver of a kind, which serves that kind.
+    /// The place of the first driver of a kind, which serves the rows of that kind.
     fn place_of(&self, kind: DriverKind) -> Option<usize>
         ensures { result ≡ place_of_kind (states self.now) kind };
 
-    /// How often the driver at a place was called.
+    /// How often the driver at a place was called, and its trail.
     fn totals(&self, place: usize) -> Totals
         requires { place < length (states self.now) }
         ensures { result ≡ (driver_at (states self.now) place).totals };
@@ -35,8 +35,9 @@ pub trait Drivers {
     fn holds_nothing(&self) -> bool
         ensures { IsTrue result ↔ NothingHeld (states self.now) };
 
-    /// Prepares the drivers in order, the first for the first of these numbers of instances. Refused,
-    /// those before the one that wanted memory are prepared, and the others are as before.
+    /// Prepares the drivers in order, the first for the first of these numbers of instances. Where
+    /// there is want of memory at one of them, those before it are prepared, and the others are as
+    /// before.
     fn prepare(&mut self, counts: &[u32]) -> Result<(), NoMemory>
         requires counts { length counts.now ≤ length (states self.old) }
         requires quiet { NothingHeld (states self.old) }
@@ -44,7 +45,7 @@ pub trait Drivers {
         ensures err { OnErr result ((done : ℕ) × (states self.new ≡ roster_prepared (states self.old) (take done counts.now))) }
         ensures quiet { NothingHeld (states self.new) };
 
-    /// Begins at an instance of the driver at a place.
+    /// Calls `start` of the driver at a place for one of its instances. `now` is in milliseconds.
     fn start(
         &mut self,
         place: usize,
@@ -64,7 +65,7 @@ pub trait Drivers {
         ensures facts { facts.new ≡ (roster_answer (states self.old) place instance (rule row.now) phase.Start inputs.now facts.old now).facts }
         ensures outs { outs.new ≡ outputs_after (roster_answer (states self.old) place instance (rule row.now) phase.Start inputs.now facts.old now) outs.old };
 
-    /// Goes on at an instance of the driver at a place.
+    /// Calls `running` of the driver at a place for one of its instances. `now` is in milliseconds.
     fn running(
         &mut self,
         place: usize,
@@ -84,7 +85,7 @@ pub trait Drivers {
         ensures facts { facts.new ≡ (roster_answer (states self.old) place instance (rule row.now) phase.Running inputs.now facts.old now).facts }
         ensures outs { outs.new ≡ outputs_after (roster_answer (states self.old) place instance (rule row.now) phase.Running inputs.now facts.old now) outs.old };
 
-    /// Lets go of an instance of the driver at a place.
+    /// Calls `halted` of the driver at a place for one of its instances.
     fn halted(&mut self, place: usize, instance: u32)
         requires there { IsThere (states self.old) place instance }
         requires held { IsSome (instance_at (states self.old) place instance).since }
@@ -98,7 +99,7 @@ fn kind_of(driver: &Box<dyn Driver>) -> DriverKind
     driver.kind()
 }
 
-/// How often one driver was called.
+/// How often one driver was called, and its trail.
 pub fn totals_of(driver: &Box<dyn Driver>) -> Totals
     ensures { result ≡ (state driver.now).totals }
 {
@@ -112,7 +113,7 @@ fn held_of(driver: &Box<dyn Driver>) -> u32
     driver.held()
 }
 
-/// Prepares one driver.
+/// Prepares one driver for this many instances. Where there is want of memory, it is as before.
 fn prepare_one(driver: &mut Box<dyn Driver>, count: u32) -> Result<(), NoMemory>
     requires { HoldsNothing (state driver.old) }
     ensures ok { OnOk result (state driver.new ≡ prepared (state driver.old) count) }
@@ -121,7 +122,7 @@ fn prepare_one(driver: &mut Box<dyn Driver>, count: u32) -> Result<(), NoMemory>
     driver.prepare(count)
 }
 
-/// Calls `start` of one driver.
+/// Calls `start` of one driver. `now` is in milliseconds.
 fn start_one(
     driver: &mut Box<dyn Driver>,
     instance: u32,
@@ -143,7 +144,7 @@ fn start_one(
     driver.start(instance, row, inputs, facts, outs, now)
 }
 
-/// Calls `running` of one driver.
+/// Calls `running` of one driver. `now` is in milliseconds.
 fn run_one(
     driver: &mut Box<dyn Driver>,
     instance: u32,
@@ -174,7 +175,7 @@ fn halt_one(driver: &mut Box<dyn Driver>, instance: u32)
     driver.halted(instance)
 }
 
-/// The place of the first of these drivers of a kind.
+/// The place of the first of these drivers of a kind; none where there is no such driver.
 pub fn find_kind(roster: &[Box<dyn Driver>], kind: DriverKind) -> Option<usize>
     ensures { result ≡ place_of_kind (map (λ b. state b) roster.now) kind }
 {
@@ -198,7 +199,8 @@ pub fn hold_nothing(roster: &[Box<dyn Driver>]) -> bool
     true
 }
 
-/// Prepares these drivers in order.
+/// Prepares these drivers in order, each for its number of instances. Where there is want of
+/// memory, those before that driver are prepared, and the others are as before.
 pub fn prepare_all(roster: &mut Vec<Box<dyn Driver>>, counts: &[u32]) -> Result<(), NoMemory>
     requires counts { length counts.now ≤ length (map (λ b. state b) roster.old.items) }
     requires quiet { NothingHeld (map (λ b. state b) roster.old.items) }
@@ -212,7 +214,7 @@ pub fn prepare_all(roster: &mut Vec<Box<dyn Driver>>, counts: &[u32]) -> Result<
     Ok(())
 }
 
-/// Calls `start` of the driver at a place.
+/// Calls `start` of the driver at a place. `now` is in milliseconds.
 pub fn start_at(
     roster: &mut Vec<Box<dyn Driver>>,
     place: usize,
@@ -235,7 +237,7 @@ pub fn start_at(
     start_one(&mut roster[place], instance, row, inputs, facts, outs, now)
 }
 
-/// Calls `running` of the driver at a place.
+/// Calls `running` of the driver at a place. `now` is in milliseconds.
 pub fn run_at(
     roster: &mut Vec<Box<dyn Driver>>,
     place: usize,

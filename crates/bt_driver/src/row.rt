@@ -31,8 +31,8 @@ impl ReadyRow {
     ghost use Rattle.bt_model.specs.Leaf.{completion, worked_out, outputs_after, outputs_of};
     ghost use Rattle.bt_driver.specs.Rules.{rule};
 
-    /// The outputs over these inputs and facts, in order, or the first fault. It is not inlined as most
-    /// rows have none.
+    /// The outputs over these inputs and facts, in order, or the first fault. It is not inlined,
+    /// since most rows have no outputs.
     #[inline(never)]
     fn outputs(&self, inputs: &Inputs, facts: &FactTable) -> Result<Outs, Cause>
         requires { length facts.now ≡ self.now.facts }
@@ -45,8 +45,8 @@ impl ReadyRow {
         Ok(outs)
     }
 
-    /// Makes the facts and `outs` those that a completion leaves, or answers its first fault and leaves
-    /// both. Where the row has no outputs, no place is copied.
+    /// Makes the facts and `outs` those that a completion leaves. The error is its first fault, and
+    /// then neither is changed. Where the row has no outputs, none are copied.
     #[inline(always)]
     fn work_out(&self, inputs: &Inputs, facts: &mut FactTable, outs: &mut Outs) -> Result<(), Cause>
         requires { length facts.old ≡ self.now.facts }
@@ -69,9 +69,9 @@ impl ReadyRow {
         Ok(())
     }
 
-    /// Completes: the outputs over the facts before the effects, and then the effects. It gives the
-    /// reply, and the instance that it leaves: `after`, or `before` where an output or an effect has a
-    /// fault, which changes nothing.
+    /// Completes: the outputs over the facts before the effects, then the effects. It gives the
+    /// reply, and the instance that is left: `after`, or `before` where an output or an effect has
+    /// a fault, and then nothing is changed.
     pub fn complete(
         &self,
         before: Instance,

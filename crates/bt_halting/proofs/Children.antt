@@ -23,7 +23,7 @@ use Rattle.bt_halting.specs.Halts.{reset_if}
 use Rattle.bt_arena.proofs.Follows.{done_met, followed, stopped}
 use Rattle.bt_halting.proofs.Memories.{IsChild, child_memory, child_placed}
 
--- a child that is reset or passed over is so among the others
+-- a child that is reset, or left alone, is so among the others
 within_is : (wanted : Bool) (c : Term) (view : View) (uid place : ℕ) (ms : List Memory) (s : State) →
     (if wanted then (child_of view (meaning c) uid place).reset ms s else done tt ms s) ≡ placed place ms (reset_if wanted c view uid (memory_at ms place) s)
 within_is true c view uid place ms s = refl
@@ -42,7 +42,7 @@ sizes_more [] c = omega (arith, sum_by-cons (λ (d : Meaning). d.size) (meaning 
 sizes_more (t ∷ front) c = omega (arith, sizes_more front c, sum_by-cons (λ (d : Meaning). d.size) (meaning t) (map meaning front), sum_by-cons (λ (d : Meaning). d.size) (meaning t) (map meaning (front ++ c ∷ [])))
 
 module _ (nodes : List Node) (moment : ℕ) (which : Span) (view : View) (ts : List Term) (first : ℕ) where
-  -- what is met of one child is met of it among the others
+  -- a reset of one child that meets its definition does so among the others
   module _ {A : Type 0} (place : ℕ) (c : Term) (uid : ℕ) (k : IsChild ts first place c uid) (s0 s1 : Scene) (n0 n1 : List Note) (beside : Beside uid (meaning c).size s0.kept s1.kept) (d : Done A Memory) where
     abbrev among : Done A (List Memory)
     among = placed place (memories_of ts first s0.kept) d
@@ -61,15 +61,15 @@ module _ (nodes : List Node) (moment : ℕ) (which : Span) (view : View) (ts : L
     met_among (Err (stop.Fault f)) m = made_among (Err f) m
     met_among (Err stop.NoMemory) m = record { told = m.told; untold = m.untold; made = m.made; unmade = m.unmade; all_notes = m.all_notes; all_calls = m.all_calls; named = m.named; notes = m.notes; drivers = m.drivers }
 
-  -- what the resets of all children do
+  -- the resets of all children, from this scene on
   abbrev pub all_resets : Scene → Done (Unit {0}) (List Memory)
   all_resets s = resets which (children_from view (map meaning ts) first 0) 0 (memories_of ts first s.kept) (state_in nodes s moment)
 
-  -- what those do that are left, of which the first has this uid and this place
+  -- the resets of the children still to come, from this uid and this place on
   abbrev pub resets_left : List Term → ℕ → ℕ → Scene → Done (Unit {0}) (List Memory)
   resets_left rest place uid s = resets which (children_from view (map meaning rest) uid place) place (memories_of ts first s.kept) (state_in nodes s moment)
 
-  -- The children in front of this place are reset: what is met of the resets that are left is met of the whole.
+  -- The children before this place are reset: if the resets still to come meet their definition, the whole does.
   pub record StillResets (before : Scene) (old : List Note) (place uid : ℕ) (s : Scene) (n : List Note) : Type 0 where
     pub front : List Term
     pub rest : List Term
@@ -113,7 +113,7 @@ module _ (nodes : List Node) (moment : ℕ) (which : Span) (view : View) (ts : L
       abbrev goes_on : Unit {0} → List Memory → State → Done (Unit {0}) (List Memory)
       goes_on _ ms1 s2 = resets which (children_from view (map meaning next.others) (uid + (meaning next.child).size) (place + 1)) (place + 1) ms1 s2
 
-      -- the resets that are left are that of this child, and then those of the others
+      -- the resets still to come are that of this child, and then those of the others
       left_is : resets_left k.rest place uid s ≡ follow (placed place (memories_of ts first s.kept) reset_of_child) (λ ms1. ms1) goes_on
       left_is =
           ap (λ (l : List Term). resets_left l place uid s) next.is_next

@@ -1,4 +1,4 @@
--- The end of a halt: a leaf is let go, the node comes to rest, and its script runs.
+-- The end of a halt: a leaf is halted, the node comes to rest, and its script runs.
 use Rattle.std.proofs.Common.{◌≡◌, ℕ, ◌+◌, ◌<◌, List, [], ◌∷◌, ◌++◌, map, length, slice_set, false, Option, Some, None, refl, sym, ap, subst, ◌∙◌, append-nil, arith, Result, Ok, Err}
 use Rattle.std.proofs.lemmas.List.{get_or-set_other, get_or-set_same}
 use Rattle.bt_script.specs.declared.stop.Stop.{Stop}
@@ -41,7 +41,7 @@ module _ (site : Site) (idle : Memory) where
   abbrev rested : State → Done (Unit {0}) Memory
   rested s = follow (rests site.uid s) (λ _. idle) (λ _ _ s1. scripted s1)
 
-  -- the end in its parts
+  -- the end of a halt, made of its parts
   abbrev pub end_in_parts : Option ReadyLeaf → State → Done (Unit {0}) Memory
   end_in_parts leaf s = follow (leaf_let_go leaf site.uid s) (λ _. idle) (λ _ _ s1. rested s1)
 
@@ -60,7 +60,7 @@ module _ (site : Site) (idle : Memory) where
 
 -- ---- A term that stands
 
--- nothing was done of a part
+-- a part was cut off before anything of it was done
 pub nothing_cut : {A M : Type 0} (nodes : List Node) (s s1 : Scene) (n n1 : List Note) (d : Done A M) → s1.drivers ≡ s.drivers → n1 ≡ n → IsCut nodes s s1 n n1 d
 nothing_cut nodes s s1 n n1 d called noted = record { told = []; untold = d.notes; made = []; unmade = d.calls; all_notes = refl; all_calls = refl; named = refl; notes = noted ∙ sym (append-nil n); drivers = called }
 
@@ -72,7 +72,7 @@ module _ (nodes : List Node) (moment : ℕ) (t : Term) (view : View) (uid : ℕ)
   abbrev site : Site
   site = site_at view uid t
 
-  -- the end is that of its parts
+  -- the end of a halt is that of its parts
   in_parts : (s : State) → halted site idle s ≡ end_in_parts site idle (leaf_at nodes uid) s
   in_parts s = is_in_parts site idle site.node.kind (leaf_at nodes uid) s view (written (out-Term t)) refl (node_of t nodes view uid stands).leaf
 
@@ -85,7 +85,7 @@ module _ (nodes : List Node) (moment : ℕ) (t : Term) (view : View) (uid : ℕ)
         subst (λ (d : Done (Unit {0}) Memory). Meets nodes moment (memory_of t uid) r s0 s n0 n d) (sym (in_parts (state_in nodes s0 moment)))
         (followed nodes moment (λ (k : List Kept). tt) (memory_of t uid) s0 s1 n0 n1 (leaf_let_go (leaf_at nodes uid) uid (state_in nodes s0 moment)) (λ _. idle) (λ _ _ s2. rested site idle s2) tt r s n let_go m)
 
-    -- no memory for the note of the status
+    -- there is want of memory for the note of the status
     pub not_rested : (s2 : Scene) (n2 : List Note) → s2.drivers ≡ s1.drivers → n2 ≡ n1 → Whole (Err stop.NoMemory) s2 n2
     not_rested s2 n2 called noted = behind_let_go (Err stop.NoMemory) s2 n2 (nothing_cut nodes s1 s2 n1 n2 (rested site idle (state_in nodes s1 moment)) called noted)
 
@@ -99,7 +99,7 @@ module _ (nodes : List Node) (moment : ℕ) (t : Term) (view : View) (uid : ℕ)
       behind_rest : (r : Result (Unit {0}) (Stop NodeFault)) (s : Scene) (n : List Note) → Meets nodes moment (memory_of t uid) r s2 s n2 n (scripted site idle (state_in nodes s2 moment)) → Whole r s n
       behind_rest r s n m = behind_let_go r s n (followed nodes moment (λ (k : List Kept). tt) (memory_of t uid) s1 s2 n1 n2 (rests uid (state_in nodes s1 moment)) (λ _. idle) (λ _ _ s3. scripted site idle s3) tt r s n rests_met m)
 
-      -- the script ran, or stopped
+      -- the script ran, or ended with a fault or for want of memory
       pub end_met : (r : Result (Unit {0}) (Stop NodeFault)) (s3 : Scene) (n3 : List Note) → idle ≡ memory_of t uid s3.kept →
           Meets nodes moment (λ (k : List Kept). tt) r s2 s3 n2 n3 (script_if_there site site.node.guards.on_halted (state_in nodes s2 moment)) → Whole r s3 n3
       end_met (Ok a) s3 n3 is m =
@@ -124,7 +124,7 @@ idle_is t uid kept0 kept1 kept2 beside memo within is =
 
 -- ---- What stays
 
--- what fitted fits still, where the marks are right and each leaf is served
+-- what fitted the arena still fits it, where the marks are right and each leaf is served
 pub fits_still : (nodes : List Node) (s0 s1 : Scene) → marks_of s1.kept ≡ map is_held (instances_of nodes s1.drivers) → AreServed s1.drivers nodes → length s1.board ≡ length s0.board → length s1.facts ≡ length s0.facts → StaysFit nodes s0 s1
 fits_still nodes s0 s1 marks served slots facts = λ t view uid fits. record {
   stands = fits.stands;

@@ -32,7 +32,7 @@ module _ (t : Term) (view : View) (uid : ℕ) (kept : List Kept) (s : State) whe
   abbrev ms : List Memory
   ms = memories_of ts (uid + 1) kept
 
-  -- a reset, by what the node keeps
+  -- a reset, according to what the node keeps
   reset_is : (meaning t).reset view uid (memory_of t uid kept) s ≡ reset_by (kept_at kept uid).status (site_at view uid t) (remembered (kept_at kept uid).status (kept_at kept uid).memo ms) s
   reset_is =
       ap (λ (x : Meaning). x.reset view uid (memory_of t uid kept) s) (fold_out-Term Meaning meaning_of_node t)
@@ -58,7 +58,7 @@ module _ (t : Term) (view : View) (uid : ℕ) (kept : List Kept) (s : State) whe
   resting status.Success other = simp out-roll-Memory
   resting status.Failure other = simp out-roll-Memory
 
-  -- that of any other node: it becomes IDLE
+  -- the reset of any other node: it becomes IDLE
   pub reset_of_resting : (kept_at kept uid).status ≢ status.Running → (meaning t).reset view uid (memory_of t uid kept) s ≡
       behind (change uid (kept_at kept uid).status status.Idle) [] (done tt (remembered status.Idle (kept_at kept uid).memo ms) s)
   reset_of_resting other = reset_is ∙ resting (kept_at kept uid).status other
@@ -91,7 +91,7 @@ module _ (nodes : List Node) (moment : ℕ) (t : Term) (view : View) (uid : ℕ)
         ∙ ap (λ (k : Kept). remembered k.status k.memo ms1) (sym here)
         ∙ sym (memory_out t uid s1.kept)
 
-    -- a halt that stopped among the children
+    -- a halt that stopped at one of the children
     pub halt_stopped : (e : Stop NodeFault) → Meets {A = Unit {0}} nodes moment (memories_of (out-Term t).children (uid + 1)) (Err e) s0 s1 n0 n1 children → Meets {A = Unit {0}} nodes moment (memory_of t uid) (Err e) s0 s1 n0 n1 halt_whole
     halt_stopped e m =
         subst (λ (d : Done (Unit {0}) Memory). Meets {A = Unit {0}} nodes moment (memory_of t uid) (Err e) s0 s1 n0 n1 d) (sym (halt_is t view uid s0.kept (state_in nodes s0 moment)))

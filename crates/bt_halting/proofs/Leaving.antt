@@ -1,4 +1,4 @@
--- The calls of a quench: of one leaf, and those that are left.
+-- The calls of a quench: that of one leaf, and those still to come.
 use Rattle.std.proofs.Common.{◌≡◌, inl, inr, ℕ, zero, suc, ◌+◌, ◌<◌, ◌≤◌, List, [], ◌∷◌, ◌++◌, map, length, drop, get_or, slice_set, Bool, true, false, is_some, cond, if◌then◌else◌, Option, Some, None, refl, sym, ap, ◌∙◌, append-nil, append_assoc, arith}
 use Rattle.std.proofs.lemmas.Bool.{cases_eq, cases_lt}
 use Rattle.std.proofs.lemmas.List.{drop-set-lt, drop_more, get_or-set_other, get_or-set_same, length-append, length-map, map-set, set-get_or}
@@ -22,11 +22,11 @@ use Rattle.bt_arena.proofs.Called.{instance_at_uid, instances_called, roster_aft
 use Rattle.bt_halting.specs.Quenches.{letting_one}
 use Rattle.bt_halting.proofs.Marks.{mark_is}
 
--- those that let go of the leaves from this uid on
+-- the calls of `halted` for the leaves from this uid on
 abbrev pub calls_left : List Node → ℕ → List DriverState → List Call
 calls_left nodes uid drivers = letting_go uid (drop uid (instances_of nodes drivers))
 
--- the call that lets go of an instance
+-- the call of `halted` for an instance
 abbrev call_of : ℕ → Instance → Call
 call_of uid i = record { uid = uid; phase = phase.Halted; left = let_go i }
 
@@ -46,7 +46,7 @@ since_free (Some n) free = cc
 pub let_go_free : (i : Instance) → is_held i ≡ false → let_go i ≡ i
 let_go_free i free = ap (λ (since : Option ℕ). let x : Instance = record { since = since; completions = i.completions } in x) (since_free i.since free)
 
--- the calls of some instances are that of the first, and those of the others
+-- the calls for some instances are that for the first, and those for the others
 letting_by : (uid : ℕ) (i : Instance) (is : List Instance) (b : Bool) → (if b then call_of uid i ∷ letting_go (uid + 1) is else letting_go (uid + 1) is) ≡ (if b then call_of uid i ∷ [] else []) ++ letting_go (uid + 1) is
 letting_by uid i is true = refl
 letting_by uid i is false = refl
@@ -99,7 +99,7 @@ module _ (nodes : List Node) (drivers : List DriverState) (uid : ℕ) where
     pub held_length : length (letting_one uid instance_here) ≡ 1
     held_length = ap length (one_held uid instance_here held)
 
--- ---- One turn of a quench
+-- ---- One round of the loop of a quench
 
 notes_both : (runner : ℕ) (xs ys : List Call) → quenched_notes runner (xs ++ ys) ≡ quenched_notes runner xs ++ quenched_notes runner ys
 notes_both runner [] ys = refl
@@ -120,7 +120,7 @@ module _ (runner : ℕ) (nodes : List Node) (kept : List Kept) (drivers drivers1
   inside : uid < length now
   inside = omega (arith, within, length-map nodes (λ (node : Node). leaf_instance drivers node.leaf))
 
-  -- the calls that are left are that of this leaf, and those behind it
+  -- the calls still to come are that of this leaf, and those of the leaves after it
   pub left_more : calls_left nodes uid drivers ≡ letting_one uid (instance_here nodes drivers uid) ++ calls_left nodes (uid + 1) drivers1
   left_more =
       ap (letting_go uid) (drop_more now uid fresh inside)
@@ -146,13 +146,13 @@ module _ (runner : ℕ) (nodes : List Node) (kept : List Kept) (drivers drivers1
   pub length_more : length (calls_left nodes uid drivers) ≡ length (letting_one uid (instance_here nodes drivers uid)) + length (calls_left nodes (uid + 1) drivers1)
   length_more = ap length left_more ∙ length-append (letting_one uid (instance_here nodes drivers uid)) (calls_left nodes (uid + 1) drivers1)
 
-  -- each instance is let go once
+  -- each instance is halted once
   pub lets_same : map let_go (instances_of nodes drivers1) ≡ map let_go now
   lets_same =
       ap (map let_go) lets
       ∙ map-set_same let_go now uid (let_go (instance_here nodes drivers uid)) fresh (ap let_go (sym (instance_at_uid nodes drivers uid)))
 
-  -- and its mark is taken away
+  -- and its mark is removed
   pub marks_more : marks_of (slice_set kept uid at_rest) ≡ map is_held (instances_of nodes drivers1)
   marks_more =
       map-set (λ (k : Kept). k.held) kept uid at_rest

@@ -1,4 +1,4 @@
--- A held leaf is let go.
+-- A held leaf is halted.
 use Rattle.std.proofs.Common.{◌≡◌, ℕ, ℤ, List, [], ◌∷◌, ◌++◌, map, get_or, slice_set, true, false, IsSome, is_some, Option, Some, None, refl, sym, ap, subst, ◌∙◌, Ok}
 use Rattle.bt_script.specs.declared.value.Value.{Value}
 use Rattle.bt_model.specs.declared.leaf.Instance.{Instance}
@@ -55,7 +55,7 @@ module _ (nodes : List Node) (kept : List Kept) (drivers : List DriverState) (ui
           refl,
         )
 
-    -- and the marks are right again once the leaf's mark is taken away
+    -- and the marks are right again after the leaf's mark is removed
     pub let_go_marks : (kept1 : List Kept) → kept1 ≡ slice_set kept uid (record (kept_at kept uid) { held = false }) → marks_of kept ≡ map is_held (instances_of nodes drivers) → marks_of kept1 ≡ map is_held (instances_of nodes drivers1)
     let_go_marks kept1 unmarked marks =
         ap marks_of unmarked

@@ -12,7 +12,7 @@ use Rattle.bt_arena.specs.Stands.{Beside, IsKeptAlike, StandAll, Stands, memorie
 use Rattle.bt_arena.proofs.Framed.{framed_all, memory_at_place, memory_set}
 use Rattle.bt_arena.proofs.Opened.{memory_out}
 
--- a node that keeps this, above nodes that keep the same
+-- the memory of a node that keeps this now, above nodes that keep what they kept
 pub memory_above : (t : Term) (uid : ℕ) (before after : List Kept) → IsKeptAlike (uid + 1) (sizes (map meaning (out-Term t).children)) before after →
     memory_of t uid after ≡ remembered (kept_at after uid).status (kept_at after uid).memo (memories_of (out-Term t).children (uid + 1) before)
 memory_above t uid before after same =
@@ -20,7 +20,7 @@ memory_above t uid before after same =
 
 -- ---- Children
 
--- a term among others that stand behind one another: its place, and its uid where the first has this uid
+-- a term among several in order: its place, and its uid where the first has this uid
 pub record IsChild (ts : List Term) (first : ℕ) (place : ℕ) (c : Term) (uid : ℕ) : Type 0 where
   pub front : List Term
   pub rest : List Term
@@ -68,13 +68,13 @@ module _ {ts : List Term} {first place : ℕ} {c : Term} {uid : ℕ} (k : IsChil
       ap (slice_set (memories_of ts first before) place) (sym (same after))
       ∙ memory_set ts place first c before after within (subst (λ (t : Term). Beside (uid_of ts first place) (meaning t).size before after) (sym item) (subst (λ (u : ℕ). Beside u (meaning c).size before after) (sym at_uid) beside))
 
-  -- it lies within all of them
+  -- its nodes are among those of all
   pub child_within : (first ≤ uid) × (uid + (meaning c).size ≤ first + sizes (map meaning ts))
   child_within =
       let all : sizes (map meaning ts) ≡ sizes (map meaning (k.front ++ c ∷ k.rest)) = ap (λ (l : List Term). sizes (map meaning l)) k.all in
       (omega (arith, k.uid_is), omega (arith, k.uid_is, all, sizes_split k.front c k.rest))
 
--- those that stand one behind the other, and one of them
+-- several terms in order that stand in an arena, and one of them
 child_stands_in : (nodes : List Node) (view : View) (front : List Term) (c : Term) (rest : List Term) (first uid : ℕ) → uid ≡ first + sizes (map meaning front) → StandAll (front ++ c ∷ rest) nodes view first → Stands c nodes view uid
 child_stands_in nodes view [] c rest first uid is stand = subst (λ (u : ℕ). Stands c nodes view u) (let e : first ≡ uid = omega (arith, is) in e) stand.0
 child_stands_in nodes view (t ∷ front) c rest first uid is stand =

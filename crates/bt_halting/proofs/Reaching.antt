@@ -44,7 +44,7 @@ module _ (nodes : List Node) (slots facts : ℕ) where
         | inr other ↦ children here.2 p (omega (arith, low, other)) (omega (arith, high, size))
       ])
 
--- whatever fits an arena, a term fits at each of its uids
+-- for whatever fits an arena, a term fits at each of its uids
 pub fits_at : (t : Term) (view : View) (uid : ℕ) (nodes : List Node) (s : Scene) → Fits t view uid nodes s → (p : ℕ) → uid ≤ p → p < uid + (node_at nodes uid).size → (c : Term) × (below : View) × Fits c below p nodes s
 fits_at t view uid nodes s fits p low high =
     let there : StandsThere nodes (length view.slots) (length view.facts) p = reached nodes (length view.slots) (length view.facts) t view uid fits.stands refl refl p low (omega (arith, high, size_of_term t view uid nodes s fits)) in

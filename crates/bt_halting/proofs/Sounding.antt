@@ -1,4 +1,4 @@
--- Where the rules of states hold of a term in an arena, each RUNNING leaf has its mark.
+-- Where the rules of states hold for a term in an arena, each RUNNING leaf has its mark.
 use Rattle.std.proofs.Common.{◌≡◌, inl, inr, ℕ, zero, suc, ◌+◌, ◌<◌, ◌≤◌, List, [], ◌∷◌, map, get_or, slice_get, true, is_some, option_map, Option, Some, None, refl, sym, ap, subst, ◌∙◌, arith}
 use Rattle.std.proofs.lemmas.Bool.{cases_eq, cases_lt}
 use Rattle.std.proofs.lemmas.List.Sums.{sum_by-cons}
@@ -115,7 +115,7 @@ module _ (nodes : List Node) (s : Scene) (moment : ℕ) (marks : marks_of s.kept
           | inr other ↦ children here.2 open_rules.1 p leaf (omega (arith, low, other)) (omega (arith, high, size)) at_leaf running
         ])
 
--- where the rules hold of a term, each RUNNING leaf of it has its mark
+-- where the rules hold for a term, each RUNNING leaf of it has its mark
 pub sound_marks : (t : Term) (view : View) (uid : ℕ) (nodes : List Node) (s : Scene) (moment : ℕ) (rows : List Row) → Fits t view uid nodes s → Sound t rows None uid (memory_of t uid s.kept) (state_in nodes s moment) → RunningAreHeld nodes s.kept uid
 sound_marks t view uid nodes s moment rows fits sound = λ p leaf low high is running.
     held_by_rules nodes s moment fits.marks rows t view uid fits.stands sound p leaf low (omega (arith, high, size_of_term t view uid nodes s fits)) is running

@@ -1,4 +1,4 @@
--- One turn of the loop over the children of a node.
+-- One round of the loop over the children of a node.
 use Rattle.std.proofs.Common.{◌≡◌, ℕ, ◌+◌, ◌<◌, ◌≤◌, List, Bool, sym, subst, ◌∙◌, arith, Result, Ok, Err}
 use Rattle.bt_script.specs.declared.stop.Stop.{Stop}
 use Rattle.bt_model.specs.declared.fault.NodeFault.{NodeFault}
@@ -17,7 +17,7 @@ use Rattle.bt_halting.specs.Halts.{reset_if}
 use Rattle.bt_halting.proofs.Children.{NextChild, StillResets, all_reset, all_resets, child_reset, child_stopped, next_child}
 use Rattle.bt_halting.proofs.Within.{child_fits, child_lies, children_is, size_of_term}
 
--- the child whose turn it is, where it stands
+-- the child that comes next, at its place
 pub record Turn (t : Term) (view : View) (uid : ℕ) (nodes : List Node) (s : Scene) (place child : ℕ) (rest : List Term) : Type 0 where
   pub next : NextChild (out-Term t).children rest (uid + 1) place child
   pub fits : Fits next.child (view_under view uid (written (out-Term t))) child nodes s
@@ -40,7 +40,7 @@ module _ (nodes : List Node) (moment : ℕ) (which : Span) (t : Term) (view : Vi
       let size : (node_at nodes child).size ≡ (meaning next.child).size = size_of_term next.child below child nodes s fit in
       record { next = next; fits = fit; low = lies.0; high = omega (arith, lies.1, size); size = size }
 
-  -- no child is left
+  -- no child is left, and all is done
   pub no_turn : (node_at nodes uid).children ≤ place → Meets nodes moment (memories_of ts (uid + 1)) (Ok tt) before s old n (all_resets nodes moment which below ts (uid + 1) before)
   no_turn over = all_reset nodes moment which below ts (uid + 1) before old place child s n k (omega (arith, over, children_is t view uid nodes s fits))
 
@@ -51,12 +51,12 @@ module _ (nodes : List Node) (moment : ℕ) (which : Span) (t : Term) (view : Vi
     abbrev pub Of : Result (Unit {0}) (Stop NodeFault) → Bool → Type 0
     Of r b = Meets nodes moment (memory_of w.next.child child) r s s1 n n1 (reset_if b w.next.child below child (memory_of w.next.child child s.kept) (state_in nodes s moment))
 
-    -- the child's turn is over
+    -- the child is done, and the next one comes
     pub turned : Of (Ok tt) wanted → (size : ℕ) → size ≡ (node_at nodes child).size → StillResets nodes moment which below ts (uid + 1) before old (place + 1) (child + size) s1 n1
     turned m size same =
         subst (λ (by : ℕ). StillResets nodes moment which below ts (uid + 1) before old (place + 1) (child + by) s1 n1) (sym (same ∙ w.size))
         (child_reset nodes moment which below ts (uid + 1) before old place child s n k w.next s1 n1 beside_child (subst (Of (Ok tt)) is_wanted m))
 
-    -- or it stopped
+    -- the child stopped with a fault or for want of memory
     pub not_turned : (e : Stop NodeFault) → Of (Err e) wanted → Meets {A = Unit {0}} nodes moment (memories_of ts (uid + 1)) (Err e) before s1 old n1 (all_resets nodes moment which below ts (uid + 1) before)
     not_turned e m = child_stopped nodes moment which below ts (uid + 1) before old place child s n k w.next s1 n1 beside_child e (subst (Of (Err e)) is_wanted m)

@@ -1,4 +1,4 @@
--- Where the nodes of a term stand in an arena, and what of them stays as it was.
+-- Where the nodes of a term stand in an arena, and which of them stay as they were.
 use Rattle.std.proofs.Common.{◌-◌, ◌≡◌, inl, inr, ℕ, ◌+◌, ◌<◌, ◌≤◌, List, [], ◌∷◌, map, length, slice_set, true, refl, sym, ap, subst, ◌∙◌, arith}
 use Rattle.std.proofs.lemmas.Bool.{cases_eq, cases_lt}
 use Rattle.std.proofs.lemmas.List.{get_or-set_other, get_or-set_same, length-set}
@@ -28,7 +28,7 @@ all_within (e ∷ ts) nodes view uid low stand =
     let first : uid + (meaning e.0).size ≤ length nodes = e.1 nodes view uid stand.0 in
     omega (arith, sum_by-cons (λ (c : Meaning). c.size) (meaning e.0) (map meaning (map (λ x. x.0) ts)), all_within ts nodes view (uid + (meaning e.0).size) first stand.1)
 
--- the nodes of a term that stands are there
+-- the nodes of a term that stands are nodes of the arena
 pub stands_within : (t : Term) (nodes : List Node) (view : View) (uid : ℕ) → Stands t nodes view uid → uid + (meaning t).size ≤ length nodes
 stands_within = ind-Term IsWithin (λ x y is nodes view uid stands.
     let here : node_stands Term (λ c. c) Stands x nodes view uid = subst (λ (z : Term-F Term). node_stands Term (λ c. c) Stands z nodes view uid) (out-roll-Term x) (opened (roll-Term x) nodes view uid stands) in
@@ -57,7 +57,7 @@ module _ (t : Term) (view : View) (uid : ℕ) (nodes : List Node) (s : Scene) (f
   pub kept_there : uid < length s.kept
   kept_there = omega (arith, node_there, as_many_marks nodes s.kept s.drivers fits.marks)
 
-  -- a child fits where its parent does
+  -- a child fits the arena where its parent does
   module _ (place : ℕ) (c : Term) (child : ℕ) (k : IsChild (out-Term t).children (uid + 1) place c child) where
     pub child_fits : Fits c (view_under view uid (written (out-Term t))) child nodes s
     child_fits = record {
@@ -74,11 +74,11 @@ module _ (t : Term) (view : View) (uid : ℕ) (nodes : List Node) (s : Scene) (f
 
 -- ---- What stays
 
--- what is asked of a node is asked of those below it
+-- what must hold of a node must hold of those below it
 pub running_below : (nodes : List Node) (kept : List Kept) (uid child : ℕ) → uid ≤ child → child + (node_at nodes child).size ≤ uid + (node_at nodes uid).size → RunningAreHeld nodes kept uid → RunningAreHeld nodes kept child
 running_below nodes kept uid child low high held = λ p leaf from to is running. held p leaf (omega (arith, low, from)) (omega (arith, high, to)) is running
 
--- RUNNING leaves are held where they are in one part, and nothing changed beside it
+-- RUNNING leaves are held where they are in one part, and no other node has changed
 pub running_above : (nodes : List Node) (before after : List Kept) (uid child : ℕ) → Beside child (node_at nodes child).size before after → RunningAreHeld nodes after child → RunningAreHeld nodes before uid → RunningAreHeld nodes after uid
 running_above nodes before after uid child beside below held = λ p leaf from to is running.
     let same : kept_at after p ≡ kept_at before p → (kept_at after p).held ≡ true = λ e. ap (λ (k : Kept). k.held) e ∙ held p leaf from to is (ap (λ (k : Kept). k.status) (sym e) ∙ running) in

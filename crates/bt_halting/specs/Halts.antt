@@ -1,4 +1,4 @@
--- The parts of a halt, and what is asked of the nodes that are halted.
+-- The parts of a halt, and what must hold of the nodes that are halted.
 use Rattle.std.specs.Prelude.{◌≡◌, ◌+◌, ◌<◌, ◌≤◌, ℕ, List, [], ◌∷◌, Bool, true, false, Option, Some, None, slice_set}
 use Rattle.bt_model.specs.declared.leaf.Phase.TheVariants as phase
 use Rattle.bt_model.specs.declared.memory.Memory.{Memory}
@@ -15,19 +15,19 @@ use Rattle.bt_arena.specs.declared.nodes.Node.{Node}
 use Rattle.bt_arena.specs.declared.nodes.ReadyLeaf.{ReadyLeaf}
 use Rattle.bt_arena.specs.Nodes.{kept_at, leaf_at, node_at}
 
--- each RUNNING leaf among a node and all below it has the mark of one that is held
+-- each RUNNING leaf among a node and all below it has the mark of a held one
 abbrev pub RunningAreHeld : List Node → List Kept → ℕ → Type 0
 RunningAreHeld nodes kept uid =
     (p : ℕ) (leaf : ReadyLeaf) → uid ≤ p → p < uid + (node_at nodes uid).size → leaf_at nodes p ≡ Some leaf → (kept_at kept p).status ≡ Running → (kept_at kept p).held ≡ true
 
--- a leaf's driver is called `halted`, which is noted
+-- a leaf's driver is called `halted`, with a note
 abbrev pub leaf_let_go : Option ReadyLeaf → ℕ → State → Done (Unit {0}) (Unit {0})
 leaf_let_go (Some leaf) uid s =
     behind (Halted uid ∷ []) (record { uid = uid; phase = phase.Halted; left = let_go (instance_at s uid) } ∷ [])
     (done tt tt (record s { instances = slice_set s.instances uid (let_go (instance_at s uid)) }))
 leaf_let_go None uid s = done tt tt s
 
--- a RUNNING node comes to rest, which is noted
+-- a RUNNING node comes to rest, with a note
 abbrev pub rests : ℕ → State → Done (Unit {0}) (Unit {0})
 rests uid s = behind (Changed uid Running Idle ∷ []) [] (done tt tt s)
 

@@ -11,7 +11,7 @@ use Rattle.bt_arena.specs.Rosters.{instances_of}
 use Rattle.bt_arena.specs.Scenes.{Scene}
 use Rattle.bt_arena.specs.Stands.{memory_of}
 
--- the call that lets go of an instance that is held
+-- the call of `halted` for an instance that is held
 abbrev pub letting_one : ℕ → Instance → List Call
 letting_one uid i = if is_some i.since then record { uid = uid; phase = phase.Halted; left = let_go i } ∷ [] else []
 

@@ -25,9 +25,10 @@ use bt_model::NodeFault;
 use bt_script::Stop;
 use std::alloc::Global;
 
-/// Halts the RUNNING node with this uid: its children are reset in order; its memo is cleared, but the
-/// mark of a RunOnce stays; a leaf's driver is called `halted`; the status becomes IDLE; and then
-/// `_onHalted` runs, which may fault. After a `Stop` the caller quenches.
+/// Halts the RUNNING node with this uid: its children are reset in order; its memo is cleared, but
+/// the mark of a RunOnce stays; a leaf's driver is called `halted`; the status becomes IDLE; and
+/// then `_onHalted` runs. The error is a fault of such a script, or want of memory (out of memory);
+/// after either the caller quenches.
 pub fn halt<D: Drivers>(
     alloc: Global,
     arena: &mut Arena,
@@ -62,8 +63,8 @@ pub fn halt<D: Drivers>(
     )
 }
 
-/// Resets the node with this uid: one that is RUNNING is halted, and any other becomes IDLE. After a
-/// `Stop` the caller quenches.
+/// Resets the node with this uid: one that is RUNNING is halted, and any other becomes IDLE. The
+/// error is a fault of an `_onHalted`, or want of memory; after either the caller quenches.
 pub fn reset<D: Drivers>(
     alloc: Global,
     arena: &mut Arena,
@@ -97,8 +98,9 @@ pub fn reset<D: Drivers>(
     )
 }
 
-/// Lets go of each leaf of a runner that is held, by uid, with the note `Quenched`, and brings all its
-/// nodes to rest. No script runs. It always succeeds and takes no memory: the notes go into the reserve.
+/// Halts each leaf of a runner that is held, by uid, with the note `Quenched`, and brings all its
+/// nodes to rest. No script runs. It always succeeds and allocates no memory: the notes have
+/// reserved room.
 pub fn quench<D: Drivers>(arena: &mut Arena, drivers: &mut D, notes: &mut Notes)
     requires fits { (term : Term) × (view : View) × (board : List (Option Value)) × (facts : List ℤ) × Fits term view 1 arena.old.nodes.items (scene arena.old.kept.items board facts (D.states drivers.old)) }
     requires room { leaves_in arena.old.nodes.items ≤ notes.old.reserve }

@@ -22,7 +22,7 @@ use bt_nodes::script_if_there;
 use bt_script::{NoMemory, Stop};
 use std::alloc::Global;
 
-/// A memo that is cleared: but the mark of a RunOnce stays.
+/// The memo that is left when a node is halted: none, but the mark of a RunOnce stays.
 fn cleared_memo(memo: Memo) -> Memo
     ensures { result ≡ cleared memo }
 {
@@ -32,8 +32,9 @@ fn cleared_memo(memo: Memo) -> Memo
     }
 }
 
-/// Lets a leaf go: calls its driver `halted`, and notes it. There is room for the note before the call
-/// is made. Of any other node nothing is done.
+/// Halts a leaf: calls its driver `halted`, and adds the note. The place of the note is reserved
+/// before the call. For any other node nothing is done. The error is want of memory, and then there
+/// was no call.
 fn let_go<D: Drivers>(
     nodes: &[Node],
     kept: &mut [Kept],
@@ -70,8 +71,8 @@ fn let_go<D: Drivers>(
     }
 }
 
-/// A node that was RUNNING comes to rest: its memo is cleared, and its status becomes IDLE, which is
-/// noted.
+/// Brings a node to rest that was RUNNING: its memo is cleared, and its status becomes IDLE, with a
+/// note. The error is want of memory.
 fn come_to_rest(kept: &mut [Kept], uid: u32, notes: &mut Notes) -> Result<(), NoMemory>
     requires { uid < length kept.old }
     ensures kept { OnOk result (kept.new ≡ slice_set kept.old uid (record { status = Idle; memo = cleared (kept_at kept.old uid).memo; held = (kept_at kept.old uid).held })) }
@@ -99,7 +100,8 @@ fn come_to_rest(kept: &mut [Kept], uid: u32, notes: &mut Notes) -> Result<(), No
     Ok(())
 }
 
-/// The end of a halt, behind the resets of the children.
+/// The end of a halt, after the resets of the children. The error is a fault of `_onHalted`, or
+/// want of memory.
 pub(crate) fn end_halt<D: Drivers>(
     alloc: Global,
     nodes: &[Node],

@@ -9,8 +9,9 @@ ghost use Rattle.bt_arena.specs.Scenes.{Fits, Scene, state_in};
 ghost use Rattle.bt_arena.specs.Stands.{memory_of};
 ghost use Rattle.bt_halting.specs.Halts.{RunningAreHeld};
 
-/// What `halt` and `reset` ask is there: each uid of an arena has a term that fits there, and where the
-/// rules of states hold of a node and all below it, each RUNNING leaf among them has its mark.
+/// What `halt` and `reset` require holds: each uid of an arena has a term that fits there, and
+/// where the rules of states hold of a node and all below it, each RUNNING leaf among them has its
+/// mark.
 pub fn nodes_can_be_halted()
     ensures fits { (term : Term) (view : View) (uid : ℕ) (nodes : List Node) (s : Scene) → Fits term view uid nodes s →
         (p : ℕ) → uid ≤ p → p < uid + (node_at nodes uid).size → (c : Term) × (below : View) × Fits c below p nodes s }

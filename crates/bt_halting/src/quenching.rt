@@ -11,7 +11,7 @@ use bt_arena::{Kept, Node, Notes, keep, kept_by, node};
 use bt_driver::Drivers;
 use bt_model::{Memo, Note, Status};
 
-/// Lets the leaf with this uid go where it is marked as held, and notes it in the reserve.
+/// Halts the leaf with this uid where it is marked as held, and adds the note in the reserve.
 fn quench_leaf<D: Drivers>(
     runner: u8,
     nodes: &[Node],
@@ -42,8 +42,8 @@ fn quench_leaf<D: Drivers>(
     }
 }
 
-/// Lets go of each leaf that is held, by uid, and brings all nodes to rest. It takes no memory and runs
-/// no script.
+/// Halts each leaf that is held, by uid, and brings all nodes to rest. It allocates no memory and
+/// runs no script.
 pub fn quench_nodes<D: Drivers>(
     runner: u8,
     nodes: &[Node],

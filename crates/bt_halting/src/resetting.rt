@@ -33,7 +33,8 @@ fn has(span: Span, place: u32) -> bool
     }
 }
 
-/// A node becomes IDLE, which is noted where it was not.
+/// Makes a node IDLE, with a note where it was not. The error is want of memory, and then nothing
+/// changes.
 #[inline(always)]
 fn become_idle(kept: &mut [Kept], uid: u32, notes: &mut Notes) -> Result<(), NoMemory>
     requires { uid < length kept.old }
@@ -49,8 +50,8 @@ fn become_idle(kept: &mut [Kept], uid: u32, notes: &mut Notes) -> Result<(), NoM
     Ok(())
 }
 
-/// Resets the node with this uid, among nodes of which what they keep is `kept`: one that is RUNNING is
-/// halted, and any other becomes IDLE.
+/// Resets the node with this uid, where `kept` is what the nodes keep: one that is RUNNING is
+/// halted, and any other becomes IDLE. The error is a fault of an `_onHalted`, or want of memory.
 #[inline(always)]
 #[cycle(resetting)]
 pub fn reset_node<D: Drivers>(
@@ -82,7 +83,7 @@ pub fn reset_node<D: Drivers>(
     }
 }
 
-/// Halts the RUNNING node with this uid.
+/// Halts the RUNNING node with this uid. The error is a fault of an `_onHalted`, or want of memory.
 #[inline(never)]
 #[cycle(resetting)]
 pub fn halt_node<D: Drivers>(
@@ -110,8 +111,9 @@ pub fn halt_node<D: Drivers>(
     end_halt(alloc, nodes, kept, board, drivers, uid, notes)
 }
 
-/// Resets those children of the node with this uid that a span has, in order. It is inlined, as most
-/// resets are of all children, one or two, and cost less than a call.
+/// Resets the children of the node with this uid that a span has, in order. It is inlined, since
+/// most resets are of all children, one or two, and cost less than a call. The error is a fault of
+/// an `_onHalted`, or want of memory.
 #[inline(always)]
 #[cycle(resetting)]
 pub fn reset_children<D: Drivers>(
@@ -152,7 +154,8 @@ pub fn reset_children<D: Drivers>(
     Ok(())
 }
 
-/// Resets the node with this uid where this is wanted.
+/// Resets the node with this uid where this is wanted, and does nothing else. The error is a fault
+/// of an `_onHalted`, or want of memory.
 #[inline(always)]
 #[cycle(resetting)]
 fn reset_wanted<D: Drivers>(

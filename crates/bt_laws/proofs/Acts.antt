@@ -29,7 +29,7 @@ module _ {place : ℕ} {st : Status} {ss ss1 : List Status} (changed : Changed p
   pub same_number : length ss1 ≡ length ss
   same_number = ap length changed.is_set ∙ length-set ss place st
 
-  -- how many pass a test has changed by this child alone
+  -- how many children pass a test has changed by this child alone
   pub counts : (p : Status → Bool) → count_by p ss1 + cond (p (status_at ss place)) 1 0 ≡ count_by p ss + cond (p st) 1 0
   counts p =
       let one : Status → ℕ = λ x. cond (p x) 1 0 in
@@ -40,7 +40,7 @@ module _ {place : ℕ} {st : Status} {ss ss1 : List Status} (changed : Changed p
       ap (λ (x : List Status). sum_by one x + one (status_at ss place)) (changed.is_set ∙ set_past ss place st past) ∙ ap (λ x. sum_by one ss + one x) (none ∙ sym idle))
       (cases_lt place (length ss))
 
--- nobody stands behind the last child, and nothing changes there
+-- after the last child there is none, and nothing changes
 unchanged : (ss : List Status) (place : ℕ) → length ss ≤ place → Changed place Idle ss ss
 unchanged ss place past = record { here = get_or_past ss place Idle past; is_set = sym (set_past ss place Idle past) }
 
@@ -69,7 +69,7 @@ module _ (F : Family) (view : View) (cs : List F.Child) (uid : ℕ) where
   abbrev pub All : Option ℕ → List Memory → State → Type 0
   All f ms s = SoundAll F view.rows cs f uid ms s
 
-  -- what a part of the children leaves, with a fact of its answer and of the statuses before and after it
+  -- what a part leaves of the children, with a property of its answer and of the statuses before and after
   abbrev pub AllLeft : {A : Type 0} → (A → List Status → List Status → Type 0) → List Memory → State → Done A (List Memory) → Type 0
   AllLeft fits ms s d = Leaves All (λ a ms1 s1. fits a (statuses ms) (statuses ms1)) uid (size_all F cs) s d
 

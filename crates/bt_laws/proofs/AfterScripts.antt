@@ -1,4 +1,4 @@
--- What a node does where scripts of it have run.
+-- What a node does after scripts of it have run.
 use Rattle.std.proofs.Common.{◌≡◌, ℕ, ◌+◌, ◌<◌, ◌≤◌, List, Option, Some, None, slice_get, ap, arith}
 use Rattle.bt_model.specs.declared.leaf.Instance.{Instance}
 use Rattle.bt_model.specs.declared.memory.Memo.{Memo}
@@ -33,7 +33,7 @@ module _ {s s1 : State} (still : Still s s1) where
     pub fields_still : (fault : Option ℕ) (st : Status) (memo : Memo) (ms : List Memory) → Fields F node view uid None st memo ms s → Fields F node view uid fault st memo ms s1
     fields_still fault st memo ms fields = fields_move F node view uid fault st memo ms s s1 fields (λ p a b. still_there p) (omega (arith, still.moment))
 
--- scripts of a node, and what the node does then; a fault leaves what was there
+-- scripts of a node, then what the node does; a fault leaves what was there before
 pub after_scripts : {A B M : Type 0} (F : Family) (node : Term-F F.Child) (view : View) (uid : ℕ) (rules : Option ℕ → M → State → Type 0) (fits : B → M → State → Type 0) (script_fits : A → Type 0)
     (m : M) (s : State) (d : Done A (Unit {0})) (go : A → State → Done B M) → Runs (site_here F node view uid) script_fits s d →
     ((a : A) → script_fits a → Still s d.state → Leaves rules fits uid (size_here F node view uid) d.state (go a d.state)) →

@@ -1,5 +1,5 @@
--- With which memo and children the rule of a node with children can begin: those of its shape while it is RUNNING, and
--- those of its start.
+-- The memos and the children with which the rule of a node with children can begin: those of its shape while it is
+-- RUNNING, and those of its start.
 use Rattle.std.specs.Prelude.{ℕ, ◌+◌, ◌≡◌, List, codes, slice_get, Bool, true, false, Option, Some, None}
 use Rattle.bt_model.specs.declared.memory.Memo.{Memo}
 use Rattle.bt_model.specs.declared.memory.Memo.TheVariants.{Nothing, Index, Chosen, Finished, Counts as Counted, Turns as Turned, Since as Begun}
@@ -50,8 +50,8 @@ module _ (F : Family) (node : Term-F F.Child) (view : View) (uid : ℕ) where
   abbrev pub site_here : Site
   site_here = site_of (map-Term F.Child Meaning F.meaning node) view uid
 
-  -- what the rule of a node leaves: the rules of its children, a shape for its next status, whatever its row is, and its
-  -- instance as it was
+  -- what the rule of a node leaves: the rules of its children, a shape for its next status whatever its row is, and
+  -- its instance as it was
   abbrev pub Ruled : Option Row → State → Done Given (List Memory) → Type 0
   Ruled row s d =
       Leaves (λ f ms s1. SoundAll F view.rows node.children f (uid + 1) ms s1)

@@ -17,11 +17,11 @@ use Rattle.bt_laws.proofs.Acts.{Changed, others}
 use Rattle.bt_laws.proofs.Resting.{Rested}
 use Rattle.bt_laws.proofs.Nodes.{Goes, Node, is_over, keeps, passes_on, resets_first, visits}
 
--- all but the child at this place are IDLE
+-- all children are IDLE, except the one at this place
 abbrev pub OthersIdle : ℕ → List Status → Type 0
 OthersIdle place ss = (k : ℕ) → (k ≡ place → ⊥) → status_at ss k ≡ status.Idle
 
--- the child that is visited runs alone where it answers RUNNING
+-- the visited child is the only RUNNING one where it answers RUNNING
 runs_alone : (place : ℕ) (a : Answer) (ss ss1 : List Status) → OthersIdle place ss → Changed place (status_of a) ss ss1 → a ≡ answer.Running → OneRuns place ss1
 runs_alone place a ss ss1 idle changed is = record { runs = changed.here ∙ ap status_of is; others = λ k other. others changed k other ∙ idle k other }
 
@@ -97,7 +97,7 @@ module _ (n : Node) where
 
 -- ---- WhileDoElse
 
--- no child has completed where the one that is visited answers RUNNING and no other had
+-- where the visited child answers RUNNING and no other child had completed, none has
 pub none_completed : (place : ℕ) (a : Answer) (ss ss1 : List Status) → ((k : ℕ) → (k ≡ place → ⊥) → is_completed (status_at ss k) ≡ false) → Changed place (status_of a) ss ss1 → a ≡ answer.Running → NoneCompleted ss1
 none_completed place a ss ss1 none changed is = λ k. ⊎_elim
     (λ same. ap is_completed (ap (status_at ss1) same ∙ changed.here ∙ ap status_of is))

@@ -20,7 +20,7 @@ use Rattle.bt_laws.proofs.Acts.{Changed}
 use Rattle.bt_laws.proofs.Nodes.{Fits, Goes, Node, is_over, keeps, passes_on, resets_first, visits}
 use Rattle.bt_laws.proofs.Choices.{none_completed}
 
--- an answer is taken for RUNNING only where it is
+-- an answer is turned into RUNNING only where it is RUNNING
 abbrev pub RunsAsItIs : (Answer → Answer) → Type 0
 RunsAsItIs other = (a : Answer) → other a ≡ answer.Running → a ≡ answer.Running
 
@@ -46,7 +46,7 @@ failure_runs answer.Skipped is = cc
 pub idle_none_completed : (ss : List Status) → AllIdle ss → NoneCompleted ss
 idle_none_completed ss idle = λ k. ap is_completed (idle k (omega arith))
 
--- of a kind whose memo fits wherever no child has completed
+-- a kind whose memo fits wherever no child has completed
 module _ (n : Node) (kind : Kind) (memo : Memo) (fits : (ss : List Status) → NoneCompleted ss → Fits n kind (record { answer = answer.Running; memo = memo }) ss) where
   pub child_goes : (other : Answer → Answer) (ss : List Status) → RunsAsItIs other → NoneCompleted ss → Goes n kind ss (child_as other memo)
   child_goes other ss runs none =
@@ -103,7 +103,7 @@ module _ (n : Node) where
   pub run_once_starts : (picked : ℕ) (ss : List Status) → NoneCompleted ss → Goes n RunOnce ss (run_once None picked)
   run_once_starts picked ss none = visits n RunOnce 0 (λ a. run_once_after a) ss (λ a ss1 changed. run_once_after_goes a ss ss1 none changed)
 
-  -- with a mark nothing is visited and the mark stays
+  -- with a mark nothing is visited, and the mark stays
   mark_or_skipped : (mark : Answer) (gives : Bool) (ss : List Status) → IsMark mark → AllIdle ss → Fits n RunOnce (record { answer = cond gives mark answer.Skipped; memo = Finished (Some mark) }) ss
   mark_or_skipped answer.Success true ss is idle = (tt, idle)
   mark_or_skipped answer.Success false ss is idle = (tt, idle)

@@ -1,4 +1,4 @@
--- What holds of each entry of a list still does where one is set or all are mapped.
+-- What holds of each entry of a list still holds after one is set, or after all are mapped.
 use Rattle.std.proofs.Common.{◌≡◌, ℕ, zero, suc, List, [], ◌∷◌, map, Some, refl, subst, slice_get, slice_set, replicate}
 
 module _ {A : Type 0} (P : A → Type 0) where
@@ -19,7 +19,7 @@ module _ {A : Type 0} (P : A → Type 0) where
   equal_entry (suc n) zero x y holds e = found x y e holds
   equal_entry (suc n) (suc k) x y holds e = equal_entry n k x y holds e
 
--- an entry of a list of which all are mapped
+-- an entry of a list whose entries are mapped
 pub mapped_entry : {A B : Type 0} (P : B → Type 0) (f : A → B) (xs : List A) (k : ℕ) (y : B) → ((x : A) → slice_get xs k ≡ Some x → P (f x)) → slice_get (map f xs) k ≡ Some y → P y
 mapped_entry P f [] k y holds e = cc
 mapped_entry P f (x ∷ xs) zero y holds e = found P (f x) y e (holds x refl)

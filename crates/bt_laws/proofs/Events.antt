@@ -1,4 +1,4 @@
--- Each event keeps what holds between events, also where a fault strikes in it.
+-- Each event keeps what holds between events, even with a fault.
 use Rattle.std.proofs.Common.{◌≡◌, ℕ, ℤ, ◌+◌, ◌-◌, ◌≤◌, List, length, Option, Some, None, option_map, slice_get, slice_set, Result, Ok, Err, refl, sym, ap, subst, ◌∙◌, arith}
 use Rattle.bt_model.specs.declared.block.Header.{Header}
 use Rattle.bt_model.specs.declared.block.Header.TheVariants as header
@@ -38,7 +38,7 @@ settled_fits status.Failure = refl
 
 -- ---- The root
 
--- the root's own end
+-- the end of a tick at the root
 told_sound : (t : Term) (rows : List Row) (st : Status) (m : Memory) (s : State) → st ≡ status_in m → Sound t rows None 1 m s → Sound t rows None 1 (remembered (settled st) (out-Memory m).memo (out-Memory m).children) s
 told_sound t rows status.Running m s is sound =
     subst (λ (st : Status). Sound t rows None 1 (remembered st (out-Memory m).memo (out-Memory m).children) s) (sym is) (subst (λ (k : Memory). Sound t rows None 1 k s) (sym (roll-out-Memory m)) sound)

@@ -37,7 +37,7 @@ no_mark : (a : Answer) (ports : List Port) (row : Option Row) (moment : ℕ) (ss
 no_mark a ports row moment ss Sequence shape = absurd shape
 no_mark a ports row moment ss _ shape = absurd shape
 
--- above IDLE children a memo that is cleared is that of a node that is not RUNNING
+-- above IDLE children, a memo after a halt is one of a node that is not RUNNING
 cleared_rests : (ports : List Port) (row : Option Row) (moment : ℕ) (kind : Kind) (memo : Memo) (before ss : List Status) → RunningShape kind ports row moment memo before → AllIdle ss → RestingShape (cleared memo) kind ss
 cleared_rests ports row moment kind (Finished (Some a)) before ss shape idle = absurd (no_mark a ports row moment before kind shape)
 cleared_rests ports row moment kind _ before ss shape idle = idle
@@ -70,7 +70,7 @@ module _ (F : Family) (node : Term-F F.Child) (view : View) (uid : ℕ) where
   abbrev All : Option ℕ → List Memory → State → Type 0
   All f ms s = SoundAll F view.rows node.children f (uid + 1) ms s
 
-  -- the children stay as they are where only the node's own instance is touched
+  -- the children stay as they are where only the node's own instance has changed
   beside : (fault : Option ℕ) (ms : List Memory) (s s1 : State) → All None ms s → Within uid 1 s s1 → All fault ms s1
   beside fault ms s s1 all w = all_move F view.rows node.children fault (uid + 1) ms s s1 all (λ p a b. w.above p a) (omega (arith, w.moment))
 
@@ -118,7 +118,7 @@ module _ (F : Family) (node : Term-F F.Child) (view : View) (uid : ℕ) where
       (ap (λ x. option_map (λ (i : Instance). is_some i.since) x) (w.below uid (omega arith)) ∙ own.held) all1)
       (λ f low high all1 w. on_path F node view uid f status.Running memo d.memory d.state (omega (arith, low)) (omega (arith, high)) all1)
 
-  -- .. of one of which the memory says so
+  -- a halt of a node whose memory says that it is RUNNING
   pub halts : (m : Memory) (s : State) → status_in m ≡ status.Running → Holds None m s → Leaves Holds (λ _ m1 s1. status_in m1 ≡ status.Idle) uid size s (halt here m s)
   halts m s is sound =
       let d : Done (Unit {0}) Memory = halt here m s in

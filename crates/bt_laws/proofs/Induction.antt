@@ -1,4 +1,4 @@
--- What holds of a node above children of which it holds, holds of every term.
+-- What holds of each node whenever it holds of its children, holds of every term.
 use Rattle.std.proofs.Common.{◌≡◌, ℕ, ◌+◌, List, [], ◌∷◌, map, Option, refl, sym, ap, subst, ◌∙◌}
 use Rattle.bt_model.specs.declared.memory.Memo.TheVariants.{Nothing}
 use Rattle.bt_model.specs.declared.memory.Memory.{Memory, out-Memory}
@@ -17,7 +17,7 @@ map_twice f g [] = refl
 map_twice f g (x ∷ xs) = ap (λ ys. g (f x) ∷ ys) (map_twice f g xs)
 
 module _ {X : Type 0} (term : X → Term) where
-  -- the rules of some terms, and those of the values that stand for them
+  -- the rules of some terms are those of the values in their place
   sounds_of_terms : (rules : Term → States) (cs : List X) (rows : List Row) (fault : Option ℕ) (uid : ℕ) (ms : List Memory) (s : State) →
       Sounds (λ c. (meaning (term c)).size) (λ c. rules (term c)) cs rows fault uid ms s ≡ Sounds (λ t. (meaning t).size) rules (map term cs) rows fault uid ms s
   sounds_of_terms rules [] rows fault uid [] s = refl
@@ -50,8 +50,8 @@ claim_of_terms {X} term Claim node holds =
     subst (λ (r : States). Claim (above term node) (meaning (above term node)) r) (rules_of_terms term Sound node ∙ sym (rec-roll-Term States states_of_node (λ Y v k x. rules_of_terms v k x) (map-Term X Term term node)))
     (subst (λ (c : Meaning). Claim (above term node) c (states_of_node X term (λ c. Sound (term c)) node)) (meaning_of_terms term node) holds)
 
--- a claim on a term, its meaning and its rules holds of every term where it holds of each node above children of
--- which it holds
+-- a statement on a term, its meaning and its rules holds of every term if it holds of each node whenever it holds of
+-- its children
 pub every_term :
     (Claim : Term → Meaning → States → Type 0) →
     ((X : Type 0) (term : X → Term) → ((c : X) → Claim (term c) (meaning (term c)) (Sound (term c))) → (node : Term-F X) → Claim (above term node) (node_means term node) (states_of_node X term (λ c. Sound (term c)) node)) →

@@ -1,4 +1,4 @@
--- An instance that is set, and the others.
+-- One instance is set, and the others stay.
 use Rattle.std.proofs.Common.{◌≡◌, ◌≢◌, ℕ, zero, suc, ◌≤◌, List, [], ◌∷◌, Bool, Option, Some, refl, sym, ap, ◌∙◌, arith, option_map, is_some, length, slice_get, slice_index_or, slice_set}
 use Rattle.std.proofs.lemmas.List.{length-set}
 use Rattle.bt_model.specs.declared.leaf.Instance.{Instance}
@@ -38,7 +38,7 @@ since_of [] uid t e = cc
 since_of (x ∷ xs) zero t e = ap Some e
 since_of (x ∷ xs) (suc uid) t e = since_of xs uid t e
 
--- the instance of a node is held since no later moment
+-- the instance of a node is held since a time that is not later than now
 pub instance_dated : (s : State) (uid t : ℕ) → Dated s → (instance_at s uid).since ≡ Some t → t ≤ s.moment
 instance_dated s uid t dated e = dated uid t (since_of s.instances uid t e)
 
@@ -50,7 +50,7 @@ module _ (s s1 : State) (uid : ℕ) (w : Instance) (is_set : s1.instances ≡ sl
   set_elsewhere : (p : ℕ) → p ≢ uid → slice_get s1.instances p ≡ slice_get s.instances p
   set_elsewhere p other = ap (λ (xs : List Instance). slice_get xs p) is_set ∙ other_place s.instances uid p w other
 
-  -- only this node is touched, and where its instance is held since no later moment, all are
+  -- only this node's instance changes; if it is held since a time not later than now, all still are
   pub set_within :
       length s1.board ≡ length s.board → length s1.facts ≡ length s.facts → s1.moment ≡ s.moment →
       (Dated s → (t : ℕ) → w.since ≡ Some t → t ≤ s.moment) → Within uid 1 s s1

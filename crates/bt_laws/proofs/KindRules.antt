@@ -69,7 +69,7 @@ running_begins _ ports row moment _ ss e shape = absurd shape
 
 -- ---- From a start
 
--- the children of a node that rests are IDLE, but for those of a SequenceWithMemory
+-- the children of a node that is not RUNNING are IDLE, except those of a SequenceWithMemory
 abbrev pub rests_whole : Kind → Bool
 rests_whole SequenceWithMemory = false
 rests_whole kind = true
@@ -161,14 +161,14 @@ module _ (F : Family) (node : Term-F F.Child) (view : View) (uid : ℕ) (row : O
   abbrev here : Site
   here = site_here F node view uid
 
-  -- the node above its children, as it stands at this moment
+  -- the node with its children, at this time
   abbrev above : Node
   above = record { family = F; view = view_below here; children = node.children; first = uid + 1; ports = node.ports; row = row; moment = s.moment }
 
   many : length here.node.children ≡ length (statuses ms)
   many = length-map node.children F.meaning ∙ sym (as_many_statuses F (view_below here) node.children (uid + 1) ms s sound)
 
-  -- with what is picked the rule of the kind is followed
+  -- after the pick the rule of the kind is applied
   followed : (place : ℕ) → Begins node.kind node.ports s.moment memo (statuses ms) → Ruled F node view uid row s (rule node.kind (length here.node.children) memo place s.moment (children_of here) ms s)
   followed place begins =
       let d : Done Given (List Memory) = rule node.kind (length here.node.children) memo place s.moment (children_of here) ms s in

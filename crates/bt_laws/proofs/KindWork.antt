@@ -36,11 +36,11 @@ module _ (F : Family) (cs : List F.Child) (L : Labour F cs) (view : View) (uid :
   abbrev Costs : ℕ → Kind → Memo → Type 0
   Costs most kind memo = Makes F cs L view uid most (rule kind n memo picked moment)
 
-  -- of a kind that visits no child twice
+  -- a kind that visits no child twice
   once : (kind : Kind) (memo : Memo) → Costs total kind memo → Costs (1 * total) kind memo
   once kind memo costs = λ ms s all. omega (arith, costs ms s all)
 
-  -- .. and that begins at a place
+  -- a kind that visits no child twice, and begins at a place
   once_from : (kind : Kind) (memo : Memo) (place : ℕ) → Costs (left_from L.work cs place) kind memo → Costs (1 * total) kind memo
   once_from kind memo place costs = λ ms s all. omega (arith, costs ms s all, left_most L.work cs place)
 

@@ -21,12 +21,12 @@ module _ (F : Family) (view : View) (cs : List F.Child) (uid : ℕ) (fits : Give
   abbrev Holds : Option ℕ → List Memory → State → Type 0
   Holds f ms s = All F view cs uid f ms s
 
-  -- from children with these statuses a rule leaves the rules of the children, and what it gives fits their statuses
+  -- from children with these statuses, a rule leaves the rules of the children, and what it gives fits their statuses
   abbrev pub Leads : List Status → Rule → Type 0
   Leads ss rule = (ms : List Memory) (s : State) → statuses ms ≡ ss → Holds None ms s →
       Leaves Holds (λ g ms1 s1. fits g (statuses ms1)) uid (size_all F cs) s (rule (children_here F view cs uid) ms s)
 
-  -- a part of the children, and the rule that follows it
+  -- a part of the rule, and then the rule after it
   then_leads : {A : Type 0} (made : A → List Status → List Status → Type 0) (go : A → Rule) (ms : List Memory) (s : State) (d : Done A (List Memory)) →
       Leaves Holds (λ a ms1 s1. made a (statuses ms) (statuses ms1)) uid (size_all F cs) s d →
       ((a : A) (ss1 : List Status) → made a (statuses ms) ss1 → Leads ss1 (go a)) →

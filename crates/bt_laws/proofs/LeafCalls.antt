@@ -59,7 +59,7 @@ reply_board_many site row a board (reply.Broken cause) = refl
 
 -- ---- The moment since which an instance is held
 
--- a moment, where there is one, is not after this one
+-- a time, where there is one, is not later than now
 abbrev NotAfter : ℕ → Option ℕ → Type 0
 NotAfter now since = (t : ℕ) → since ≡ Some t → t ≤ now
 
@@ -109,7 +109,7 @@ module _ (F : Family) (node : Term-F F.Child) (view : View) (uid : ℕ) (ms : Li
       Left (λ f ms1 s2. SoundAll F view.rows node.children f (uid + 1) ms1 s2) (λ g ms1 s2. NodeRule Leaf node.ports row uid (status_of g.answer) g.memo ms1 s2)
       uid (size_here F node view uid) s answer ms s1
 
-  -- the rules of the children stay where the leaf alone is touched
+  -- the rules of the children stay where only the leaf's instance has changed
   children_stay : (fault : Option ℕ) (s1 : State) → Within uid 1 s s1 → SoundAll F view.rows node.children fault (uid + 1) ms s1
   children_stay fault s1 within = all_move F view.rows node.children fault (uid + 1) ms s s1 sound (λ p a b. within.above p a) (omega (arith, within.moment))
 
@@ -144,7 +144,7 @@ module _ (F : Family) (node : Term-F F.Child) (view : View) (uid : ℕ) (ms : Li
       ends = (omega arith, omega arith);
     }
 
--- one call of the driver of a leaf, which keeps the rules where its status does
+-- one call of the driver of a leaf; it keeps the rules where the leaf's status becomes that of the answer
 pub leaf_call_leaves : (F : Family) (node : Term-F F.Child) (view : View) (uid : ℕ) (row : Option Row) (st : Status) (memo : Memo) (ms : List Memory) (s : State) →
     SoundAll F view.rows node.children None (uid + 1) ms s → NodeRule Leaf node.ports row uid st memo ms s →
     Leaves (λ f ms1 s2. SoundAll F view.rows node.children f (uid + 1) ms1 s2) (λ g ms1 s2. NodeRule Leaf node.ports row uid (status_of g.answer) g.memo ms1 s2)
@@ -164,7 +164,7 @@ leaf_call_leaves F node view uid None st memo ms s sound own = record {
   ends = record { shape = idle_of st node.ports None s.moment memo (statuses ms) own.shape; held = own.held ∙ ap Some (rests_without_row st node.ports s.moment memo (statuses ms) own.shape) };
 }
 
--- a call that breaks changes nothing
+-- a call that ends with a fault changes nothing
 pub broken_changes_nothing : (site : Site) (row : Row) (st : Status) (ms : List Memory) (s : State) (cause : Cause) →
     (leaf_rule site.view.facts row (phase_of st) (instance_at s site.uid) (inputs_of site s row) s.facts s.moment).reply ≡ reply.Broken cause →
     (leaf_call (Some row) site st ms s).state ≡ s

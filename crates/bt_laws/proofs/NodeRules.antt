@@ -37,7 +37,7 @@ rests_free status.Idle kind rests = refl
 rests_free status.Success kind rests = refl
 rests_free status.Failure kind rests = refl
 
--- .. and none of a node with children
+-- no instance of a node with children is held
 pub rule_free : (st : Status) (kind : Kind) → has_rule kind ≡ true → is_held st kind ≡ false
 rule_free status.Running Leaf ruled = cc
 rule_free status.Running _ ruled = refl
@@ -58,7 +58,7 @@ module _ (F : Family) (node : Term-F F.Child) (view : View) (uid : ℕ) where
   abbrev NodeIs : Kind → Status → Memo → List Memory → State → Type 0
   NodeIs kind st memo ms s = NodeRule kind node.ports row uid st memo ms s
 
-  -- that with which the rule of a node of this kind can begin, at this status
+  -- what is needed for the rule of a node of this kind to begin at this status
   pub record Ready (kind : Kind) (st : Status) (memo : Memo) (ms : List Memory) (s : State) : Type 0 where
     pub begins : has_rule kind ≡ true → Begins kind node.ports s.moment memo (statuses ms)
     pub shape : has_rule kind ≡ false → Shape st kind node.ports row s.moment memo (statuses ms)
@@ -86,7 +86,7 @@ module _ (F : Family) (node : Term-F F.Child) (view : View) (uid : ℕ) where
     if_rests false = refl
 
     module _ (s : State) (plain : Plain ms s) (sound : All None ms s) where
-      -- scripts, and then an answer
+      -- scripts, and then an answer that is not RUNNING
       gives_after : {A : Type 0} (d : Done A (Unit {0})) (a : A → Answer) → ((x : A) → is_running (status_of (a x)) ≡ false) → Runs here (λ (x : A). Unit {0}) s d →
           RuledAs F node view uid kind s (follow d (λ _. ms) (λ x _ s1. gives (a x) ms s1))
       gives_after d a rests runs =
@@ -105,7 +105,7 @@ module _ (F : Family) (node : Term-F F.Child) (view : View) (uid : ℕ) where
   -- ---- All kinds
 
   module _ (st : Status) (memo : Memo) (ms : List Memory) (s : State) (sound : All None ms s) where
-    -- a node of a kind that is never RUNNING when its rule begins, and that keeps nothing
+    -- a node of a kind that is never RUNNING when its rule begins, and that has no memo
     module _ (kind : Kind) (never : RunningShape kind node.ports row s.moment memo (statuses ms) → ⊥) (whole : rests_whole kind ≡ true) where
       plain_by : (old : Status) → Shape old kind node.ports row s.moment memo (statuses ms) → held_at s uid ≡ Some (is_held old kind) → Plain ms s
       plain_by status.Running shape held = absurd (never shape)

@@ -20,7 +20,8 @@ use Rattle.bt_laws.proofs.Acts.{Changed}
 use Rattle.bt_laws.proofs.Resting.{Rested}
 use Rattle.bt_laws.proofs.Leading.{Leads, keep_leads, pass_leads, reset_leads, visit_leads}
 
--- a node but for its kind: its children, of which the first has this uid, what they see, and what its shape asks for
+-- a node apart from its kind: its children, of which the first has this uid, what they see, and what its shape
+-- depends on
 pub record Node : Type 1 where
   pub family : Family
   pub view : View
@@ -52,7 +53,7 @@ module _ (n : Node) (kind : Kind) where
   pub resets_first : (span : Span) (rule : Rule) (ss : List Status) → ((ss1 : List Status) → Rested span ss ss1 → Goes n kind ss1 rule) → Goes n kind ss (reset span rule)
   resets_first span rule ss goes = reset_leads n.family n.view n.children n.first (Fits n kind) span rule ss goes
 
-  -- a node that is over has IDLE children and a clear memo
+  -- where a node has ended, its children are IDLE and its memo is cleared
   over_fits : (a : Answer) (ss : List Status) → is_running (status_of a) ≡ false → AllIdle ss → Fits n kind (record { answer = a; memo = Nothing }) ss
   over_fits answer.Running ss rests idle = cc
   over_fits answer.Success ss rests idle = idle

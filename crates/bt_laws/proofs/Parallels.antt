@@ -22,7 +22,7 @@ record Tallied (c : Counts) (ss : List Status) : Type 0 where
   successes : c.successes ≡ count_by is_success ss
   failures : c.failures ≡ count_by is_failure ss
 
--- no threshold is reached, with so many children
+-- with this many children, no threshold is reached
 abbrev GoesOn : ℕ → Counts → Type 0
 GoesOn children c = (success_holds c ≡ false) × (failure_holds children c ≡ false)
 
@@ -38,7 +38,7 @@ not_failure status.Running e = refl
 not_failure status.Success e = refl
 not_failure status.Failure e = cc
 
--- without the skipped ones success holds no sooner
+-- if success does not hold with the skipped children, it does not hold without them
 unskipped : (c : Counts) → success_holds c ≡ false → success_holds (record c { skipped = 0 }) ≡ false
 unskipped c none =
     let short : nat_le c.need c.successes ≡ false = (or_parts (nat_le c.need c.successes) (c.skips && nat_le c.need (c.successes + c.skipped)) none).0 in
@@ -86,7 +86,7 @@ module _ (place : ℕ) (c : Counts) (ss ss1 : List Status) (tallied : Tallied c 
   }
 
 module _ (n : Node) (children : ℕ) where
-  -- after a child the node is over, or the others go on
+  -- after a child the node has ended, or the next children are visited
   after_goes : (c : Counts) (others : Rule) (ss : List Status) → (GoesOn children c → Goes n Parallel ss others) → Goes n Parallel ss (parallel_after children c others)
   after_goes c others ss goes =
       cond_both (success_holds c) (over answer.Success) (cond (failure_holds children c) (over answer.Failure) others) (λ rule. Goes n Parallel ss rule)

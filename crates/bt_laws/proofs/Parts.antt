@@ -1,4 +1,4 @@
--- What follows a part of an event that keeps the rules keeps them too.
+-- Where a part of an event keeps the rules, and the next part does, both together do.
 use Rattle.std.proofs.Common.{◌≡◌, ℕ, ◌+◌, ◌<◌, ◌≤◌, Option, Some, None, Result, Ok, Err, slice_get, refl, ◌∙◌, arith}
 use Rattle.bt_model.specs.declared.fault.NodeFault.{NodeFault}
 use Rattle.bt_model.specs.Done.{Done, State, carried, follow}
@@ -11,7 +11,7 @@ Same uid size s s1 = (p : ℕ) → uid ≤ p → p < uid + size → slice_get s1
 pub within_same : (uid size : ℕ) (s : State) → Within uid size s s
 within_same uid size s = record { below = λ p e. refl; above = λ p e. refl; slots = refl; facts = refl; instances = refl; moment = refl; dated = λ d. d }
 
--- two parts, each of some of the nodes
+-- two parts in order, each of which changes some of the nodes
 pub within_both :
     {uid size uid1 size1 uid2 size2 : ℕ} {s s1 s2 : State} → Within uid1 size1 s s1 → Within uid2 size2 s1 s2 →
     uid ≤ uid1 → uid1 + size1 ≤ uid + size → uid ≤ uid2 → uid2 + size2 ≤ uid + size → Within uid size s s2
@@ -25,12 +25,12 @@ within_both w v a b c d = record {
   dated = λ d. v.dated (w.dated d);
 }
 
--- a part of some of these nodes is a part of them
+-- a part that changes some of the nodes, seen among more nodes
 pub within_more : {uid size uid1 size1 : ℕ} {s s1 : State} → Within uid1 size1 s s1 → uid ≤ uid1 → uid1 + size1 ≤ uid + size → Within uid size s s1
 within_more {uid} {size} {s1 = s1} w low high = within_both w (within_same uid size s1) low high (omega arith) (omega arith)
 
 module _ {A M N : Type 0} {rules : Option ℕ → M → State → Type 0} {fits : A → M → State → Type 0} {rules2 : Option ℕ → N → State → Type 0} {fits2 : A → N → State → Type 0} where
-  -- what a part of some of these nodes leaves, as what it leaves of them
+  -- what a part leaves of some of these nodes, as what it leaves of all
   pub left_into :
       (uid size uid1 size1 : ℕ) (s : State) (r : Result A NodeFault) (m : M) (n : N) (s1 : State) → uid ≤ uid1 → uid1 + size1 ≤ uid + size →
       Left rules fits uid1 size1 s r m s1 →
@@ -42,7 +42,7 @@ module _ {A M N : Type 0} {rules : Option ℕ → M → State → Type 0} {fits 
       record { sound = keeps (Some f.uid) left.sound left.within; within = within_more left.within low high; ends = (omega (arith, low, left.ends.0), omega (arith, high, left.ends.1)) }
 
 module _ {A M B N : Type 0} {rules : Option ℕ → M → State → Type 0} {fits : A → M → State → Type 0} {rules2 : Option ℕ → N → State → Type 0} {fits2 : B → N → State → Type 0} where
-  -- a part and what follows it; a fault of the first ends both
+  -- a part and the next one; a fault of the first ends both
   carried_leaves :
       (r : Result A NodeFault) (d : Done A M) (place : M → N) (go : A → M → State → Done B N) (uid size uid1 size1 : ℕ) (s : State) →
       uid ≤ uid1 → uid1 + size1 ≤ uid + size →

@@ -1,4 +1,4 @@
--- A term that is IDLE with nothing held keeps its rules, and a quench makes it so.
+-- An IDLE term of which nothing is held keeps its rules, and a quench makes every term so.
 use Rattle.std.proofs.Common.{◌≡◌, ℕ, ℤ, zero, suc, ◌+◌, ◌<◌, ◌≤◌, List, [], ◌∷◌, map, length, sum, Some, None, false, option_map, is_some, slice_get, refl, sym, ap, subst, ◌∙◌, arith}
 use Rattle.std.proofs.lemmas.List.{length-map}
 use Rattle.std.proofs.lemmas.List.Sums.{sum_by-cons}
@@ -36,7 +36,7 @@ module _ {X : Type 0} (term : X → Term) (counted : (c : X) → (meaning (term 
   node_counted : (node : Term-F X) → (node_means term node).size ≡ node_count (above term node)
   node_counted node = ap (λ (n : ℕ). 1 + n) (all_counted node.children) ∙ sym (fold-roll-Term ℕ (λ n. 1 + sum n.children) (map-Term X Term term node))
 
--- a term means as many nodes as it has
+-- the meaning of a term has the size that is its number of nodes
 pub size_is_count : (t : Term) → (meaning t).size ≡ node_count t
 size_is_count = every_term (λ t c rules. c.size ≡ node_count t) (λ X term counted node. node_counted term counted node)
 
@@ -94,7 +94,7 @@ module _ {X : Type 0} (term : X → Term) (rest : (c : X) → RestsSound (term c
 term_rests : (t : Term) → RestsSound t (meaning t) (Sound t)
 term_rests = every_term RestsSound (λ X term rest node. node_rests term rest node)
 
--- an IDLE term with nothing held keeps its rules
+-- an IDLE term of which nothing is held keeps its rules
 pub idle_sound : (t : Term) (rows : List Row) (uid : ℕ) (s : State) → NoneHeld uid (meaning t).size s → Sound t rows None uid (idle t) s
 idle_sound t rows uid s free = (term_rests t).sound rows uid s free
 

@@ -22,7 +22,7 @@ pub record Rested (span : Span) (ss ss1 : List Status) : Type 0 where
   pub stays : (k : ℕ) → spans span k ≡ false → status_at ss1 k ≡ status_at ss k
   pub as_many : length ss1 ≡ length ss
 
--- .. of one place, and of the places from one on
+-- the child at this place is IDLE if the span has it, and all others have the statuses that they had
 record RestedAt (span : Span) (place : ℕ) (ss ss1 : List Status) : Type 0 where
   away : spans span place ≡ true → status_at ss1 place ≡ Idle
   stays : spans span place ≡ false → status_at ss1 place ≡ status_at ss place

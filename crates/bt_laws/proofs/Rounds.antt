@@ -23,7 +23,7 @@ use Rattle.bt_laws.proofs.Nodes.{Fits, Goes, Node, is_over, keeps, resets_first,
 
 -- ---- A round
 
--- a round goes on behind no child that is RUNNING
+-- a round goes on after a child only if the child is not RUNNING
 pub passed_rests : (goes a : Answer) → is_running (status_of goes) ≡ false → passes goes a ≡ true → is_running (status_of a) ≡ false
 passed_rests goes answer.Success rests e = refl
 passed_rests goes answer.Failure rests e = refl
@@ -33,7 +33,7 @@ passed_rests answer.Success answer.Running rests e = cc
 passed_rests answer.Failure answer.Running rests e = cc
 passed_rests answer.Skipped answer.Running rests e = cc
 
--- with what holds of the statuses before the child at a place is visited, and what follows the round
+-- where each child begins with statuses of which `Starts` holds, and `ends` comes after the round
 module _ (n : Node) (kind : Kind) (goes : Answer) (rests : is_running (status_of goes) ≡ false) (ends : RoundEnd → Rule) (Starts : ℕ → List Status → Type 0)
     (onward : (place : ℕ) (st : Status) (ss ss1 : List Status) → Starts place ss → Changed place st ss ss1 → is_running st ≡ false → Starts (place + 1) ss1)
     (stops : (place : ℕ) (a : Answer) (ss ss1 : List Status) → Starts place ss → Changed place (status_of a) ss ss1 → Goes n kind ss1 (ends (AtChild place a)))
@@ -48,7 +48,7 @@ module _ (n : Node) (kind : Kind) (goes : Answer) (rests : is_running (status_of
 
 -- ---- Where a round begins at an index
 
--- the children before a place have been visited, and those behind it are IDLE
+-- the children before a place have been visited, and those after it are IDLE
 pub record StartsAt (place : ℕ) (ss : List Status) : Type 0 where
   pub before : NoneRunsBefore place ss
   pub behind : IdleFrom (place + 1) ss

@@ -1,4 +1,4 @@
--- What holds between events holds wherever a run comes to.
+-- What holds between events holds in each state that a run reaches.
 use Rattle.std.proofs.Common.{◌≡◌, ℕ, ℤ, zero, suc, ◌+◌, ◌<◌, ◌≤◌, List, [], ◌∷◌, length, Option, Some, None, false, option_map, is_some, slice_get, slice_index_or, replicate, Result, Ok, Err, refl, subst, sym, arith}
 use Rattle.std.proofs.lemmas.List.{length-replicate}
 use Rattle.std.specs.List.Sorted.{IsNonDecreasingBy}

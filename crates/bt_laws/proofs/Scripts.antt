@@ -45,11 +45,11 @@ stmts_many names last (s ∷ rest) entries =
 -- ---- One script
 
 module _ (site : Site) where
-  -- some scripts leave all but the values of the board, and their answer is one of these; a fault is of the node
+  -- some scripts leave all but the values of the board, and their answer is one of these; a fault is one of the node
   abbrev pub Runs : {A : Type 0} → (A → Type 0) → State → Done A (Unit {0}) → Type 0
   Runs fits s d = Leaves (λ f _ s1. s1.instances ≡ s.instances) (λ a _ s1. fits a) site.uid 1 s d
 
-  -- one script and what runs then
+  -- one script, and then what comes after it
   then_runs : {A B : Type 0} (fits : A → Type 0) (fits2 : B → Type 0) (s : State) (d : Done A (Unit {0})) (go : A → State → Done B (Unit {0})) →
       Runs fits s d → ((a : A) → fits a → Runs fits2 d.state (go a d.state)) → Runs fits2 s (follow d (λ _. tt) (λ a _ s1. go a s1))
   then_runs {A} {B} fits fits2 s d go first goes =

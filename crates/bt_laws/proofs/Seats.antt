@@ -8,7 +8,8 @@ use Rattle.bt_model.specs.Sound.{Within}
 use Rattle.bt_model.specs.Steps.{Child, child_at, nobody}
 use Rattle.bt_laws.proofs.Children.{Family, SoundAll, all_move, size_all, size_cons}
 
--- the child of this place has this uid: its rules are among those of all, and a part of it leaves those of all
+-- the child at this place has this uid: its rules are among those of all, and what a part leaves of it is among what
+-- it leaves of all
 pub record Seat (F : Family) (rows : List Row) (cs : List F.Child) (uid place : ℕ) (c : F.Child) (at : ℕ) : Type 0 where
   pub low : uid ≤ at
   pub high : at + (F.meaning c).size ≤ uid + size_all F cs
@@ -66,7 +67,7 @@ pub record Sits (F : Family) (view : View) (cs : List F.Child) (uid place index 
   pub seat : Seat F view.rows cs uid place who at
   pub is_child : child ≡ child_of view (F.meaning who) at index
 
--- there is a child at a place, or it lies behind the last one
+-- there is a child at a place, or the place is after the last one
 pub sits : (F : Family) (view : View) (cs : List F.Child) (uid first place : ℕ) →
     Sits F view cs uid place (first + place) (child_at (children_from view (map F.meaning cs) uid first) place)
     ⊎ ((length cs ≤ place) × (child_at (children_from view (map F.meaning cs) uid first) place ≡ nobody))
@@ -88,7 +89,7 @@ sits F view (c ∷ cs) uid first (suc place) =
     (λ none. inr (omega (arith, none.0), none.1))
     (sits F view cs (uid + (F.meaning c).size) (first + 1) place)
 
--- of children of which the first has the place 0
+-- the child at a place, where the places count from 0
 pub seated : (F : Family) (view : View) (cs : List F.Child) (uid place : ℕ) →
     Sits F view cs uid place place (child_at (children_from view (map F.meaning cs) uid 0) place)
     ⊎ ((length cs ≤ place) × (child_at (children_from view (map F.meaning cs) uid 0) place ≡ nobody))

@@ -4,17 +4,17 @@ use Rattle.std.proofs.lemmas.List.Sums.{sum_by-cons}
 use Rattle.std.proofs.lemmas.Option.{same_Some}
 
 module _ {X : Type 0} (work : X → ℕ) where
-  -- the work of all of them
+  -- the work of all items together
   abbrev pub whole : List X → ℕ
   whole cs = sum_by work cs
 
-  -- of the one at a place; behind the last one there is none
+  -- the work of the item at a place; after the last one it is 0
   abbrev pub share : List X → ℕ → ℕ
   share [] place = 0
   share (c ∷ cs) zero = work c
   share (c ∷ cs) (suc place) = share cs place
 
-  -- of those from a place on
+  -- the work of the items from a place on
   abbrev pub left_from : List X → ℕ → ℕ
   left_from [] place = 0
   left_from (c ∷ cs) zero = work c + left_from cs zero
@@ -45,7 +45,7 @@ module _ {X : Type 0} (work : X → ℕ) where
   pub share_most : (cs : List X) (place : ℕ) → share cs place ≤ whole cs
   share_most cs place = omega (arith, one_and_rest cs place, left_most cs place)
 
-  -- of the first one and a later one
+  -- the first item and a later one
   pub first_and_later : (cs : List X) (place : ℕ) → share cs 0 + share cs (place + 1) ≤ whole cs
   first_and_later [] place = omega arith
   first_and_later (c ∷ cs) place =

@@ -1,4 +1,4 @@
--- How many calls of start and running the words of rules make.
+-- How many calls of start and running the parts of rules make.
 use Rattle.std.proofs.Common.{◌≡◌, ℕ, suc, ◌+◌, ◌≤◌, List, [], ◌∷◌, ◌++◌, Option, Some, None, slice_get, Result, Ok, Err, sym, ap, subst, ◌∙◌, arith, ⊎_elim}
 use Rattle.std.proofs.lemmas.Bool.{cond_both}
 use Rattle.bt_model.specs.declared.fault.NodeFault.{NodeFault}
@@ -24,7 +24,7 @@ pub begun_both : (xs ys : List Call) → begun_calls (xs ++ ys) ≡ begun_calls 
 begun_both [] ys = omega arith
 begun_both (x ∷ xs) ys = omega (arith, begun_both xs ys)
 
--- this part of an event makes at most so many calls of start and running
+-- this part of an event makes at most this many calls of start and running
 abbrev pub Spends : {A M : Type 0} → ℕ → Done A M → Type 0
 Spends most d = begun_calls d.calls ≤ most
 
@@ -35,7 +35,7 @@ module _ {A M B N : Type 0} {rules : Option ℕ → M → State → Type 0} {fit
   carried_spends first rest most uid size s (Ok a) d place go sum left here goes = omega (arith, sum, here, goes a left.sound, begun_both d.calls (go a d.memory d.state).calls)
   carried_spends first rest most uid size s (Err f) d place go sum left here goes = omega (arith, sum, here)
 
-  -- a part that leaves the rules, and what follows it
+  -- a part that keeps the rules, and the part after it
   pub follow_spends :
       (first rest most uid size : ℕ) (s : State) (d : Done A M) (place : M → N) (go : A → M → State → Done B N) → first + rest ≤ most →
       Left rules fits uid size s d.answer d.memory d.state → Spends first d → ((a : A) → rules None d.memory d.state → Spends rest (go a d.memory d.state)) → Spends most (follow d place go)
@@ -46,19 +46,19 @@ module _ {A M B N : Type 0} (first rest most : ℕ) where
   carried_with (Ok a) d place go sum here goes = omega (arith, sum, here, goes a, begun_both d.calls (go a d.memory d.state).calls)
   carried_with (Err f) d place go sum here goes = omega (arith, sum, here)
 
-  -- a part and what follows it, whatever it leaves
+  -- a part, whatever it leaves, and the part after it
   pub follow_with : (d : Done A M) (place : M → N) (go : A → M → State → Done B N) → first + rest ≤ most → Spends first d → ((a : A) → Spends rest (go a d.memory d.state)) → Spends most (follow d place go)
   follow_with d = carried_with d.answer d
 
--- a part that makes none, and what follows it
+-- a part that makes no such call, and the part after it
 pub follow_free : {A M B N : Type 0} (d : Done A M) (place : M → N) (go : A → M → State → Done B N) → Spends 0 d → ((a : A) → Spends 0 (go a d.memory d.state)) → Spends 0 (follow d place go)
 follow_free d place go here goes = follow_with 0 0 0 d place go (omega arith) here goes
 
--- a reset of a child makes none
+-- a reset of a child makes no such call
 abbrev pub ResetsAreFree : Family → Type 0
 ResetsAreFree F = (c : F.Child) (view : View) (uid : ℕ) (m : Memory) (s : State) → Spends 0 ((F.meaning c).reset view uid m s)
 
--- a bound for each of some children: a visit makes at most so many calls, and a reset none
+-- a bound for each of some children: a visit makes at most this many such calls, and a reset none
 pub record Labour (F : Family) (cs : List F.Child) : Type 0 where
   pub work : F.Child → ℕ
   pub visit : (place : ℕ) (c : F.Child) → slice_get cs place ≡ Some c → (view : View) (uid : ℕ) (m : Memory) (s : State) → F.rules c view.rows None uid m s →
@@ -86,7 +86,7 @@ module _ (F : Family) (free : ResetsAreFree F) (view : View) (cs : List F.Child)
       (λ _. omega arith))
       (λ _. resets_spend span ks (first + 1) (reset_within span first k ms s).memory (reset_within span first k ms s).state (λ i. same (suc i) ∙ ap (child_at here) (let e : first + suc i ≡ first + 1 + i = omega arith in e)))
 
-  -- the resets of the children of a span make none
+  -- the resets of the children of a span make no such call
   pub span_spends : (span : Span) (ms : List Memory) (s : State) → Spends 0 (resets span here 0 ms s)
   span_spends span ms s = resets_spend span here 0 ms s (λ i. ap (child_at here) (let e : i ≡ 0 + i = omega arith in e))
 
@@ -97,7 +97,7 @@ module _ (F : Family) (cs : List F.Child) (L : Labour F cs) (view : View) (uid :
   abbrev Holds : Option ℕ → List Memory → State → Type 0
   Holds f ms s = All F view cs uid f ms s
 
-  -- from children that keep their rules this rule makes at most so many calls
+  -- from children that keep their rules, this rule makes at most this many such calls
   abbrev pub Makes : ℕ → Rule → Type 0
   Makes most rule = (ms : List Memory) (s : State) → Holds None ms s → Spends most (rule all_here ms s)
 

@@ -1,4 +1,4 @@
--- What the start of a node makes is a memo with which its rule can begin.
+-- The memo with which a node starts is one with which its rule can begin.
 use Rattle.std.proofs.Common.{◌≡◌, ℕ, suc, ◌+◌, ◌≤◌, List, [], ◌∷◌, length, Bool, true, false, ◌&&◌, cond, count_by, pos, negsuc, nat_abs, int_le, Option, Some, None, IfOk, IfSome, refl, sym, ap, ◌∙◌, arith, ⊎_elim, leb, ltb, ◌-◌}
 use Rattle.std.proofs.lemmas.Bool.{and_parts, and_right, cond_both, leb-true, le-ltb, lt-leb, or_cases, or_from}
 use Rattle.std.proofs.lemmas.List.Sums.{sum_by-cons}
@@ -25,11 +25,11 @@ use Rattle.bt_model.specs.Sites.{Site}
 
 -- ---- Numbers of ports
 
--- a number within a range, of which something holds where it is
+-- a number within a range has a property that each number of the range has
 in_range : (r : Range) (k : ℤ) (P : ℤ → Type 0) → (fits r (Int k) ≡ true → P k) → IfSome (within r (Some k)) P
 in_range r k P holds = cond_both (fits r (Int k)) (Some k) None (λ o. IfSome o P) holds (λ _. tt)
 
--- what is read of a port within a range
+-- what is read from a port within a range
 abbrev Read : Range → Option PortValue → ℤ → Type 0
 Read r given k = IsGiven r given k × (fits r (Int k) ≡ true)
 
@@ -99,7 +99,7 @@ threshold_read : (n : ℕ) (o : Option ℤ) → IfSome (threshold n o) (λ k. In
 threshold_read n None = tt
 threshold_read n (Some c) = threshold_in n (threshold_of n c)
 
--- nothing is counted of children that are IDLE
+-- none of the children is counted where all are IDLE
 idle_counts : (p : Status → Bool) → p status.Idle ≡ false → (ss : List Status) → AllIdle ss → count_by p ss ≡ 0
 idle_counts p none [] idle = refl
 idle_counts p none (st ∷ ss) idle =

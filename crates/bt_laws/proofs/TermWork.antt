@@ -50,7 +50,7 @@ module _ {X : Type 0} (term : X → Term) where
       child_fits cs place c is
       (back_fits NodeFits (nodes_of (term d)) (nodes_below cs) (subst (λ ns. AllByRecursion NodeFits ns) (flat_map-cons (λ (nodes : List Node). nodes) (nodes_of (term d)) (map nodes_of (map term cs))) all))
 
-  -- the node and its children fit where the term does
+  -- the node and its children fit where the whole term does
   node_fits : (node : Term-F X) → AllFit (above term node) → AllByRecursion NodeFits (nodes_step (map-Term Term (List Node) nodes_of (map-Term X Term term node)))
   node_fits node all = subst (λ ns. AllByRecursion NodeFits ns) (fold-roll-Term (List Node) nodes_step (map-Term X Term term node)) all
 
@@ -99,7 +99,7 @@ term_bounded = every_term IsBounded (λ X term bounded node. node_bounded term b
 
 -- ---- A tick
 
--- the root's own end makes none
+-- a tick makes no more calls than the work of its tree
 pub tick_bounded : (tree : Tree) → IsValid tree → (view : View) (runner : ℕ) (m : Memory) (s : State) → Sound tree.term view.rows None 1 m s → Spends (work_of tree.term) (ticked tree view runner m s)
 tick_bounded tree valid view runner m s sound =
     let d : Done Answer Memory = (meaning tree.term).visit view 1 m s in

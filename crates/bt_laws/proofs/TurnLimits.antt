@@ -1,4 +1,4 @@
--- A Retry or Repeat keeps no limit above what its work counts.
+-- The limit that a Retry or Repeat keeps is not above what its work counts.
 use Rattle.std.proofs.Common.{◌≡◌, ℕ, ◌≤◌, List, [], ◌∷◌, Bool, true, false, ◌&&◌, cond, pos, negsuc, int_le, unsigned_abs, find, Some, refl, sym, subst, arith, ⊎_elim}
 use Rattle.std.proofs.lemmas.Bool.{and_parts, cond_both, leb-true, or_cases}
 use Rattle.std.specs.Prelude.{ℤ, codes, IsTrue}
@@ -19,7 +19,7 @@ use Rattle.bt_model.specs.Terms.{turns_given, turns_of}
 use Rattle.bt_model.specs.Trees.{is_one_of, ports_fit}
 use Rattle.bt_model.specs.Values.{value_fits}
 
--- the visits of a child that a limit allows: without one, a single visit
+-- a limit lets a child be visited at most this often; no limit counts as one visit
 abbrev pub Allows : ℤ → ℕ → Type 0
 Allows (pos limit) most = limit ≤ most
 Allows (negsuc n) most = 1 ≤ most
@@ -42,12 +42,12 @@ given_allows : (given : PortValue) (k : ℤ) → IsGiven range.Turns (Some given
 given_allows (Key key) k is = key_allows k is
 given_allows (Lit value) k is = subst (λ (v : Value). Allows k (turns_given (Lit v))) (sym is) (literal_allows k)
 
--- of ports of which the first has the name
+-- a port is found where the first of them has the name
 first_allows : (name : List ℕ) (first : Port) (ports : List Port) (k : ℤ) → bytes_eq first.name name ≡ true → IsGivenAt range.Turns (first ∷ ports) name k → Allows k (turns_of (first ∷ ports))
 first_allows name first ports k named is =
     given_allows first.value k (subst (λ (b : Bool). IsGiven range.Turns (given_by (cond b (Some first) (find (λ (port : Port). bytes_eq port.name name) ports))) k) named is)
 
--- a port that fits the only one of its kind has its name
+-- a port that fits a kind with a single port has the name of that port
 named_so : (name : List ℕ) (port : Port) → is_one_of (required name range.Turns ∷ []) port ≡ true → bytes_eq port.name name ≡ true
 named_so name port = by (bytes_eq port.name name)
   where
@@ -55,7 +55,7 @@ named_so name port = by (bytes_eq port.name name)
     by true e = refl
     by false e = cc
 
--- the ports of a kind with one port, of this name
+-- the ports of a kind with a single port, which has this name
 ports_allow : (name : List ℕ) (ports : List Port) (k : ℤ) → list_all (is_one_of (required name range.Turns ∷ [])) ports ≡ true → IsGivenAt range.Turns ports name k → Allows k (turns_of ports)
 ports_allow name [] k fit is = absurd is
 ports_allow name (first ∷ ports) k fit is =

@@ -19,10 +19,10 @@ use Rattle.bt_laws.proofs.Choices.{none_completed}
 use Rattle.bt_laws.proofs.Decorators.{idle_none_completed, reset_goes}
 use Rattle.bt_laws.proofs.Nodes.{Fits, Goes, Node, is_over, passes_on, resets_first, visits}
 
--- of a kind that keeps its turns under a port of this name, and whose child is visited again after this answer
+-- a kind with its limit in the port of this name, whose child is visited again after this answer
 module _ (n : Node) (kind : Kind) (name : List ℕ) (again : Answer) (rests : is_running (status_of again) ≡ false)
     (fits : (t : Turns) (ss : List Status) → IsTurned t n.ports name → NoneCompleted ss → Fits n kind (record { answer = answer.Running; memo = Turned t }) ss) where
-  -- after an answer of the child, with what follows where it is visited again
+  -- after an answer of the child, with what is done where the child is visited again
   after_goes : (t : Turns) (next : Rule) (a : Answer) (ss ss1 : List Status) → IsTurned t n.ports name → NoneCompleted ss → Changed 0 (status_of a) ss ss1 →
       Goes n kind ss1 next → Goes n kind ss1 (turn_after again t next a)
   after_goes t next a ss ss1 turned none changed goes =
@@ -30,7 +30,7 @@ module _ (n : Node) (kind : Kind) (name : List ℕ) (again : Answer) (rests : is
       (λ _. goes)
       (λ _. passes_on n kind (Turned t) a ss1 (λ is. fits t ss1 turned (none_completed 0 a ss ss1 (λ k apart. none k) changed is)))
 
-  -- one more turn is done, of which some are left
+  -- one more turn is done, and some are left
   turned_more : (t : Turns) (limit left : ℕ) → t.limit ≡ pos limit → t.done + 1 + suc left ≡ limit → IsTurned t n.ports name → IsTurned (one_more t) n.ports name
   turned_more t limit left is sums turned = record {
     limit = turned.limit;
@@ -47,7 +47,7 @@ module _ (n : Node) (kind : Kind) (name : List ℕ) (again : Answer) (rests : is
       (λ a ss2 changed. after_goes (one_more t) (turn_again again left (one_more t)) a ss1 ss2 more (idle_none_completed ss1 (λ k from. rested.away k refl)) changed
       (again_goes left limit (one_more t) ss2 is (omega (arith, sums)) more)))
 
-  -- the child is visited again, with the limit that is kept
+  -- the child is visited again, up to the limit
   on_goes : (limit : ℤ) (t : Turns) (ss : List Status) → t.limit ≡ limit → IsTurned t n.ports name → Goes n kind ss (turns_on again (limit_of limit) t)
   on_goes (pos limit) t ss is turned =
       let below : t.done < limit = subst (λ (l : ℤ). TurnsGoOn t l) is turned.goes_on in

@@ -81,7 +81,7 @@ module _ (site : Site) where
   posts_free answer.Success s = two_free site.node.guards.on_success site.node.guards.post s
   posts_free answer.Failure s = two_free site.node.guards.on_failure site.node.guards.post s
 
-  -- .. and so does the end of a visit
+  -- the end of a visit makes no such call either
   ended_free : (old : Status) (g : Given) (ms : List Memory) (s : State) → Spends 0 (ended site old g ms s)
   ended_free old g ms s = follow_free (posts site g.answer s) (λ _. remembered old g.memo ms) _ (posts_free g.answer s) (λ _. omega arith)
 
@@ -128,7 +128,7 @@ module _ (F : Family) (node : Term-F F.Child) (free : ResetsAreFree F) (view : V
       follow_free d (λ ms. remembered status.Running (out-Memory m).memo ms) (λ _ ms s1. halted here (remembered status.Idle (cleared (out-Memory m).memo) ms) s1)
       (span_spends F free (view_below here) node.children (uid + 1) span.All (out-Memory m).children s) (λ _. halted_free (remembered status.Idle (cleared (out-Memory m).memo) d.memory) d.state)
 
-  -- a reset makes none
+  -- a reset makes no such call
   pub reset_free : (st : Status) (m : Memory) (s : State) → Spends 0 (reset_by st here m s)
   reset_free status.Running m s = halt_free m s
   reset_free status.Idle m s = omega arith
@@ -165,7 +165,7 @@ module _ (F : Family) (node : Term-F F.Child) (L : Labour F node.children) (view
       follow_with (1 + rounds) 0 (1 + rounds) d (λ ms1. remembered st memo ms1) (λ g ms1 s1. ended site st g ms1 s1) (omega arith)
       (node_rule_spends st memo ms s node.kind refl ready all) (λ g. ended_free site st g d.memory d.state)
 
-  -- a memo that is new, or a bad port
+  -- the memo of a start is new, or a port is bad
   started_by_spends : (m : Memory) (s : State) (r : Result Memo PortId) → has_rule node.kind ≡ true → IfOk r (λ memo. Begins node.kind node.ports s.moment memo (statuses (out-Memory m).children)) →
       NodeKeeps F node view uid status.Idle (out-Memory m).memo (out-Memory m).children s → All None (out-Memory m).children s →
       Spends (1 + rounds) (follow (ends (or_bad_port uid r) (out-Memory m).children s) (λ ms. remembered status.Running (out-Memory m).memo ms) (λ memo ms s1. ruled site status.Running memo ms s1))
@@ -188,7 +188,7 @@ module _ (F : Family) (node : Term-F F.Child) (L : Labour F node.children) (view
       omega (arith, ended_free site (status_in m) g (out-Memory m).children s)
   guarded_spends None m s rests sound = begun_spends (starts node.kind (out-Memory m).memo) m s refl rests sound
 
-  -- where scripts have run the node is as it was
+  -- where only scripts have run, the node is as it was
   as_it_was : {s s1 : State} (m : Memory) → Still s s1 → Holds None m s → Holds None m s1
   as_it_was m still sound = fields_still still F node view uid None (status_in m) (out-Memory m).memo (out-Memory m).children sound
 
@@ -216,6 +216,6 @@ module _ (F : Family) (node : Term-F F.Child) (L : Labour F node.children) (view
   visit_by_spends status.Success m s is sound = rests_spend m s (ap is_running is) sound
   visit_by_spends status.Failure m s is sound = rests_spend m s (ap is_running is) sound
 
-  -- a visit makes one at most beside those of the visits of the children
+  -- a visit makes one call at most in addition to those of the visits of the children
   pub visit_spends : (m : Memory) (s : State) → Holds None m s → Spends (1 + rounds) (visit_by (out-Memory m).status site m s)
   visit_spends m s sound = visit_by_spends (status_in m) m s refl sound

@@ -74,11 +74,11 @@ module _ (F : Family) (node : Term-F F.Child) (view : View) (uid : ℕ) where
   abbrev Holds : Option ℕ → Memory → State → Type 0
   Holds f m s = Own F node view uid f m s
 
-  -- a visit leaves the rules of the node and of all below it, with an answer that fits its status
+  -- a visit keeps the rules of the node and of all below it, and its answer is the node's status
   abbrev pub Visited : State → Done Answer Memory → Type 0
   Visited s d = Leaves Holds (Answers F node view uid) uid size s d
 
-  -- another status that is not RUNNING does as well
+  -- what holds at one status that is not RUNNING holds at another
   pub rests_as_well : (st st1 : Status) (memo : Memo) (ms : List Memory) (s : State) → is_running st ≡ false → is_running st1 ≡ false → Keeps st memo ms s → Keeps st1 memo ms s
   rests_as_well st st1 memo ms s rests rests1 own = record {
     shape = shape_rests st1 node.kind node.ports row s.moment memo (statuses ms) rests1 (resting_shape st node.kind node.ports row s.moment memo (statuses ms) rests own.shape);
@@ -87,7 +87,7 @@ module _ (F : Family) (node : Term-F F.Child) (view : View) (uid : ℕ) where
 
   -- ---- The rule and the end
 
-  -- the scripts after the answer, and then the status
+  -- the end of a visit: the scripts after the answer run, and then the status changes
   ended_leaves : (old : Status) (g : Given) (ms : List Memory) (s : State) → Keeps (status_of g.answer) g.memo ms s → All None ms s → Visited s (ended here old g ms s)
   ended_leaves old g ms s own all =
       let d : Done (Unit {0}) (Unit {0}) = posts here g.answer s in
@@ -111,13 +111,13 @@ module _ (F : Family) (node : Term-F F.Child) (view : View) (uid : ℕ) where
 
   -- ---- From a node that is not RUNNING
 
-  -- the rule can begin with a new memo, ..
+  -- the rule can begin with the memo of a start,
   pub ready_new : (memo : Memo) (m : Memory) (s : State) → has_rule node.kind ≡ true → Begins node.kind node.ports s.moment memo (statuses (out-Memory m).children) →
       Keeps status.Idle (out-Memory m).memo (out-Memory m).children s → Ready F node view uid node.kind status.Running memo (out-Memory m).children s
   ready_new memo m s has begins own =
       record { begins = λ e. begins; shape = λ e. absurd (not_both has e); held = own.held ∙ ap Some (sym (rule_free status.Running node.kind has)) }
 
-  -- .. with the memo of a node that does not start, ..
+  -- with the memo of a node that does not start,
   pub ready_kept : (m : Memory) (s : State) → starts node.kind (out-Memory m).memo ≡ false → is_running (status_in m) ≡ false → Holds None m s →
       Ready F node view uid node.kind (status_in m) (out-Memory m).memo (out-Memory m).children s
   ready_kept m s is rests sound = record {
@@ -127,7 +127,7 @@ module _ (F : Family) (node : Term-F F.Child) (view : View) (uid : ℕ) where
     held = sound.0.held;
   }
 
-  -- .. and with that of a RUNNING one
+  -- and with that of a RUNNING one
   pub ready_running : (m : Memory) (s : State) → status_in m ≡ status.Running → Holds None m s → Ready F node view uid node.kind status.Running (out-Memory m).memo (out-Memory m).children s
   ready_running m s is sound =
       let own : Keeps status.Running (out-Memory m).memo (out-Memory m).children s = subst (λ (st : Status). Keeps st (out-Memory m).memo (out-Memory m).children s) is sound.0 in
@@ -137,7 +137,7 @@ module _ (F : Family) (node : Term-F F.Child) (view : View) (uid : ℕ) where
         held = own.held;
       }
 
-  -- a memo that is new, or a bad port
+  -- the memo of a start is new, or a port is bad
   started_by : (m : Memory) (s : State) (r : Result Memo PortId) → has_rule node.kind ≡ true → IfOk r (λ memo. Begins node.kind node.ports s.moment memo (statuses (out-Memory m).children)) →
       Keeps status.Idle (out-Memory m).memo (out-Memory m).children s → All None (out-Memory m).children s →
       Visited s (follow (ends (or_bad_port uid r) (out-Memory m).children s) (λ ms. remembered status.Running (out-Memory m).memo ms) (λ memo ms s1. ruled here status.Running memo ms s1))
@@ -153,7 +153,7 @@ module _ (F : Family) (node : Term-F F.Child) (view : View) (uid : ℕ) where
   as_many_children : (ms : List Memory) (s : State) → All None ms s → length here.node.children ≡ length (statuses ms)
   as_many_children ms s all = length-map node.children F.meaning ∙ sym (as_many_statuses F view node.children (uid + 1) ms s all)
 
-  -- a new memo is one with which the rule can begin
+  -- the memo of a start is one with which the rule can begin
   pub new_begins : (m : Memory) (s : State) → has_rule node.kind ≡ true → Keeps status.Idle (out-Memory m).memo (out-Memory m).children s → All None (out-Memory m).children s →
       IfOk (new_memo node.kind here (out-Memory m).memo s) (λ memo. Begins node.kind node.ports s.moment memo (statuses (out-Memory m).children))
   new_begins m s has own all = starts_begin here (out-Memory m).memo s (statuses (out-Memory m).children) (as_many_children (out-Memory m).children s all) node.kind has own.shape

@@ -1,4 +1,4 @@
--- A node above children that keep their rules, whole: the rule of the node itself, and those of its children.
+-- A node with children that keep their rules: the rule of the node itself, and those of its children.
 use Rattle.std.proofs.Common.{◌≡◌, ℕ, ◌+◌, ◌<◌, ◌≤◌, List, Option, Some, None, sym, ap, subst, ◌∙◌, arith, slice_get, option_map, is_some}
 use Rattle.bt_model.specs.declared.leaf.Instance.{Instance}
 use Rattle.bt_model.specs.declared.memory.Memo.{Memo}
@@ -54,7 +54,7 @@ module _ (F : Family) (node : Term-F F.Child) (view : View) (uid : ℕ) where
   abbrev pub NodeKeeps : Status → Memo → List Memory → State → Type 0
   NodeKeeps st memo ms s = NodeRule node.kind node.ports (row_of view.rows node.id) uid st memo ms s
 
-  -- .. off the path to a fault, and the rules of the children
+  -- the rule of the node itself, unless it is on the path to a fault, and the rules of the children
   abbrev pub Fields : Option ℕ → Status → Memo → List Memory → State → Type 0
   Fields fault st memo ms s = OffPath fault uid size_here (NodeKeeps st memo ms s) × SoundAll F view.rows node.children fault (uid + 1) ms s
 
@@ -69,7 +69,7 @@ module _ (F : Family) (node : Term-F F.Child) (view : View) (uid : ℕ) where
   as_kept fault st memo ms s fields =
       subst (λ (x : Memory-F Memory). Fields fault x.status x.memo x.children s) (sym (out-roll-Memory (record { status = st; memo = memo; children = ms }))) fields
 
-  -- on the path to a fault the node's own rule is not asked
+  -- on the path to a fault the node's own rule need not hold
   pub on_path : (fault : ℕ) (st : Status) (memo : Memo) (ms : List Memory) (s : State) → uid ≤ fault → fault < uid + size_here → SoundAll F view.rows node.children (Some fault) (uid + 1) ms s →
       Own (Some fault) (remembered st memo ms) s
   on_path fault st memo ms s low high all = as_kept (Some fault) st memo ms s ((λ off. absurd (off low high)), all)
@@ -81,7 +81,7 @@ module _ (F : Family) (node : Term-F F.Child) (view : View) (uid : ℕ) where
     held = held_same s s1 uid (same uid (omega arith) (omega arith)) ∙ own.held;
   }
 
-  -- .. and so do all of them
+  -- and so do the rules of the children
   pub fields_move : (fault : Option ℕ) (st : Status) (memo : Memo) (ms : List Memory) (s s1 : State) → Fields None st memo ms s → Same uid size_here s s1 → s.moment ≤ s1.moment → Fields fault st memo ms s1
   fields_move None st memo ms s s1 sound same later = (
     node_moves st memo ms s s1 sound.0 (λ p a b. same p a (omega (arith, b))) later,
@@ -92,7 +92,7 @@ module _ (F : Family) (node : Term-F F.Child) (view : View) (uid : ℕ) where
     all_move F view.rows node.children (Some f) (uid + 1) ms s s1 sound.1 (λ p a b. same p (omega (arith, a)) (omega (arith, b))) later,
   )
 
-  -- what the rule of the node leaves, as one of this kind: the rules of its children, and its own at the status that is next
+  -- what the rule of the node leaves, as one of this kind: the rules of its children, and its own at its next status
   abbrev pub RuledAs : Kind → State → Done Given (List Memory) → Type 0
   RuledAs kind s d =
       Leaves (λ f ms s1. SoundAll F view.rows node.children f (uid + 1) ms s1)

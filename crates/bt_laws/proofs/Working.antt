@@ -1,4 +1,4 @@
--- How many calls of start and running the rule of each kind makes: one visit of each child, or as many as turns.
+-- How many calls of start and running the rule of each kind makes: one visit of each child, or one for each turn.
 use Rattle.std.proofs.Common.{ℕ, zero, suc, ◌+◌, ◌*◌, ◌-◌, ◌≤◌, Bool, true, false, ◌||◌, cond, List, pos, negsuc, nat_eq, nat_lt, Option, Some, None, arith, mul-le-mul_right}
 use Rattle.std.proofs.lemmas.Bool.{cond_both}
 use Rattle.std.specs.Prelude.{ℤ}
@@ -100,7 +100,7 @@ module _ (F : Family) (cs : List F.Child) (L : Labour F cs) (view : View) (uid :
       either total (nat_eq kept picked) (chosen_branch picked) (reset (span.One kept) (chosen_branch picked)) (chosen_costs total picked (share_most L.work cs picked))
       (reset_makes F cs L view uid total (span.One kept) (chosen_branch picked) (chosen_costs total picked (share_most L.work cs picked)))
 
-  -- what is left for a branch behind the condition
+  -- the work that is left for a branch after the condition
   abbrev behind_first : ℕ
   behind_first = total - share L.work cs 0
 
@@ -136,7 +136,7 @@ module _ (F : Family) (cs : List F.Child) (L : Labour F cs) (view : View) (uid :
 
   -- ---- Decorators
 
-  -- a child that is visited first, before what makes no call
+  -- a child is visited first, and what comes after makes no call
   child_first : (go : Answer → Rule) → ((a : Answer) → Costs 0 (go a)) → Costs total (visit 0 go)
   child_first go free = visit_makes F cs L view uid 0 total 0 go (omega (arith, share_most L.work cs 0)) free
 
@@ -193,7 +193,7 @@ module _ (F : Family) (cs : List F.Child) (L : Labour F cs) (view : View) (uid :
     none_allowed (pos limit) t goes_on allows = omega (arith, goes_on, allows)
     none_allowed (negsuc k) t goes_on allows = omega (arith, allows)
 
-    -- the child is visited so often as the limit allows
+    -- the child is visited as often as the limit allows
     pub turns_cost : (t : Turns) (most : ℕ) → TurnsGoOn t t.limit → Allows t.limit most → Costs (most * total) (turns again t)
     turns_cost t zero goes_on allows = absurd (none_allowed t.limit t goes_on allows)
     turns_cost t (suc left) goes_on allows =

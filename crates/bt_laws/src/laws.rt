@@ -19,8 +19,8 @@ ghost use Rattle.bt_model.specs.Visit.{idle, meaning, status_of};
 
 use bt_model::Status;
 
-/// A visit keeps the rules of states, but for the path to its fault, touches no instance of another
-/// node, and leaves its answer as the node's status.
+/// A visit keeps the rules of states, except on the path to its fault. It changes no instance of
+/// another node, and leaves its answer as the node's status.
 pub fn a_visit_keeps_the_rules()
     ensures { (t : Term) (view : View) (uid : ℕ) (m : Memory) (s : State) → Sound t view.rows None uid m s →
         Leaves (λ fault m1 s1. Sound t view.rows fault uid m1 s1)
@@ -28,7 +28,8 @@ pub fn a_visit_keeps_the_rules()
         uid (meaning t).size s ((meaning t).visit view uid m s) }
 {}
 
-/// A reset keeps them in the same way, and leaves the node IDLE.
+/// A reset keeps the rules of states, except on the path to its fault. It changes no instance of
+/// another node, and leaves the node IDLE.
 pub fn a_reset_keeps_the_rules()
     ensures { (t : Term) (view : View) (uid : ℕ) (m : Memory) (s : State) → Sound t view.rows None uid m s →
         Leaves (λ fault m1 s1. Sound t view.rows fault uid m1 s1)
@@ -45,8 +46,8 @@ pub fn a_halt_keeps_the_rules()
         uid (meaning t).size s ((meaning t).reset view uid m s) }
 {}
 
-/// A tick's visit of the root, with the root's own end, keeps them as well, and leaves the root IDLE or
-/// RUNNING. A halt and a finish of a runner reset the root.
+/// A tick's visit of the root, with the end of the tick at the root, keeps the rules too, and
+/// leaves the root IDLE or RUNNING. A halt and a finish of a runner reset the root.
 pub fn a_tick_keeps_the_rules()
     ensures { (tree : Tree) (view : View) (runner : ℕ) (m : Memory) (s : State) →
         Sound tree.term view.rows None 1 m s →
@@ -55,8 +56,8 @@ pub fn a_tick_keeps_the_rules()
         1 (meaning tree.term).size s (ticked tree view runner m s) }
 {}
 
-/// A term that is IDLE, with none of its instances held, keeps the rules. So does each runner after a
-/// quench, whatever was before it.
+/// A term that is IDLE, with none of its instances held, keeps the rules. So does each runner after
+/// a quench, whatever was before.
 pub fn a_quench_makes_the_rules()
     ensures idle { (t : Term) (rows : List Row) (uid : ℕ) (s : State) →
         ((p : ℕ) → uid ≤ p → p < uid + (meaning t).size → held_at s p ≡ Some false) →
@@ -66,8 +67,8 @@ pub fn a_quench_makes_the_rules()
         RunSteady tree.term rows (quenched tree run) }
 {}
 
-/// What holds between events holds before the first one. Each event and each finish keeps it, also
-/// where a fault strikes in it, and so does time that passes.
+/// What holds between events holds before the first one. Each event and each finish keeps it, even
+/// with a fault, and so does time that passes.
 pub fn an_event_keeps_the_rules()
     ensures opening { (tree : Tree) (world : World) → RunSteady tree.term world.rows (opening tree world) }
     ensures step { (tree : Tree) (world : World) (event : Event) (run : RunState) →
@@ -80,21 +81,22 @@ pub fn an_event_keeps_the_rules()
         RunSteady tree.term rows run → run.last ≤ at → RunSteady tree.term rows (later run at) }
 {}
 
-/// So it holds in the end of every run over events in order.
+/// What holds between events holds at the end of every run over events in order.
 pub fn a_run_keeps_the_rules()
     ensures { (tree : Tree) (world : World) (events : List Event) → IsNonDecreasingBy (λ event. event.at) events →
         RunSteady tree.term world.rows (run_over tree world events).state }
 {}
 
-/// Where the rules hold, no instance is held of a node that is not RUNNING, nor of any below it.
+/// Where the rules hold and a node is not RUNNING, no instance of it or of a node below it is held.
 pub fn what_rests_holds_nothing()
     ensures { (t : Term) (rows : List Row) (uid : ℕ) (m : Memory) (s : State) →
         Sound t rows None uid m s → is_running (out-Memory m).status ≡ false →
         (p : ℕ) → uid ≤ p → p < uid + (meaning t).size → held_at s p ≡ Some false }
 {}
 
-/// A visit of a term whose nodes fit, from a state that keeps the rules, makes at most as many calls of
-/// start and running as its work says. A tick makes as many, and a reset makes none.
+/// A visit of a term whose nodes fit, from a state that keeps the rules, makes at most as many
+/// calls of `start` and `running` as its work counts. A tick makes at most as many, and a reset
+/// makes none.
 pub fn a_visit_is_within_its_work()
     ensures visit { (t : Term) → AllByRecursion NodeFits (nodes_of t) →
         (view : View) (uid : ℕ) (m : Memory) (s : State) → Sound t view.rows None uid m s →

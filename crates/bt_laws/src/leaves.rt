@@ -9,7 +9,8 @@ ghost use Rattle.bt_model.specs.Leaf.{leaf_rule};
 ghost use Rattle.bt_model.specs.Leaves.{inputs_of, instance_at, leaf_call, phase_of};
 ghost use Rattle.bt_model.specs.Sites.{Site};
 
-/// A call of a leaf's driver that breaks changes no entry of the board, no fact and no instance.
+/// A call of a leaf's driver that ends with a fault changes no entry of the board, no fact and no
+/// instance.
 pub fn a_broken_call_changes_nothing()
     ensures { (site : Site) (row : Row) (status : Status) (ms : List Memory) (s : State) (cause : Cause) →
         (leaf_rule site.view.facts row (phase_of status) (instance_at s site.uid) (inputs_of site s row) s.facts s.moment).reply ≡ Broken cause →

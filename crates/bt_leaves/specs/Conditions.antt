@@ -6,13 +6,13 @@ use Rattle.bt_model.specs.declared.leaf.Reply.{Reply}
 use Rattle.bt_model.specs.declared.leaf.Reply.TheVariants.{Success, Failure, Broken}
 use Rattle.bt_model.specs.Leaf.{let_go}
 
--- what a condition answers that is so true, or that has a fault
+-- what a condition answers that is true or not, or that has a fault
 abbrev pub reply_by : Result Bool Cause → Reply
 reply_by (Ok true) = Success
 reply_by (Ok false) = Failure
 reply_by (Err cause) = Broken cause
 
--- a condition is not held behind a call, and a fault changes nothing
+-- a condition is not held after a call, and a fault changes nothing
 abbrev pub left_by : Reply → Instance → Instance
 left_by (Broken cause) instance = instance
 left_by _ instance = let_go instance

@@ -31,7 +31,8 @@ fn holds(op: Cmp, first: i64, second: i64) -> bool
     }
 }
 
-/// What a condition leaves of its instance after this reply.
+/// The instance that a condition leaves after this reply: not held, or unchanged where there is a
+/// fault.
 fn left_by(reply: Reply, instance: Instance) -> Instance
     ensures { result ≡ left_by reply instance }
 {
@@ -41,7 +42,7 @@ fn left_by(reply: Reply, instance: Instance) -> Instance
     }
 }
 
-/// The reply where a condition is as true as this. It has no outputs.
+/// The reply of a condition that is true or not. It has no outputs.
 #[inline(always)]
 fn replied(truth: bool, outs: &mut Outs) -> Reply
     ensures reply { result ≡ reply_by (Ok truth) }
@@ -56,8 +57,8 @@ fn replied(truth: bool, outs: &mut Outs) -> Reply
     Reply::Success
 }
 
-/// The reply where a condition is as true as this expression. It is not inlined, since the comparison
-/// of a fact is then done without room for its calls.
+/// The reply of a condition by this expression. It is not inlined, so that the comparison of a fact
+/// does without the stack room for its calls.
 #[inline(never)]
 fn tested(test: &ReadyExpr, inputs: &Inputs, facts: &FactTable, outs: &mut Outs) -> Reply
     requires { expr_reach test.now ≤ 8 + length facts.now }
@@ -82,7 +83,7 @@ impl Conditions {
     ghost use Rattle.bt_model.specs.Leaf.{answer_by, outputs_after};
     ghost use Rattle.bt_driver.specs.Rules.{rule};
 
-    /// A driver without instances and without calls, whose mark is 0. It takes no memory.
+    /// A driver without instances that was not called yet; its mark is 0. It allocates no memory.
     pub fn new(alloc: Global) -> Conditions
         ensures { result.ledger ≡ new_driver driver.Condition }
     {

@@ -20,7 +20,7 @@ impl Gate {
     ghost use Rattle.bt_model.specs.Leaf.{answer_by, outputs_after};
     ghost use Rattle.bt_driver.specs.Rules.{rule};
 
-    /// A driver without instances and without calls, whose mark is 0. It takes no memory.
+    /// A driver without instances that was not called yet; its mark is 0. It allocates no memory.
     pub fn new(alloc: Global) -> Gate
         ensures { result.ledger ≡ new_driver driver.Gate }
     {
@@ -29,7 +29,8 @@ impl Gate {
         }
     }
 
-    /// The reply of a leaf that began at `since`, and the instance that it leaves.
+    /// The reply of a leaf that began at `since`, and the instance that is left. Times are in
+    /// milliseconds.
     #[inline(always)]
     fn answer(
         row: &ReadyRow,

@@ -13,7 +13,7 @@ pub fn fresh() -> Instance
     }
 }
 
-/// The instance, held since this moment.
+/// The instance, held since this time in milliseconds.
 pub fn held(since: u64, instance: Instance) -> Instance
     ensures { result ≡ leaf.held since instance }
 {
@@ -33,7 +33,7 @@ pub fn let_go(instance: Instance) -> Instance
     }
 }
 
-/// The instance, not held and completed once more; completions are counted up to 64.
+/// The instance, not held, with one more completion. Completions are counted up to 64.
 pub fn completed(instance: Instance) -> Instance
     ensures { result ≡ leaf.completed instance }
 {

@@ -28,7 +28,7 @@ impl Model for Ledger {
     ghost invariant = { λ ledger. length ledger.table.items < 2 ^ 32 };
 }
 
-/// How many of these instances are held.
+/// How many instances of this table are held.
 fn held_among(table: &[Instance]) -> u32
     requires { length table.now < 2 ^ 32 }
     ensures { result ≡ count_by is_held table.now }
@@ -39,7 +39,8 @@ fn held_among(table: &[Instance]) -> u32
         .count() as u32
 }
 
-/// This many instances that were never held.
+/// A table of this many instances that were never held. The error is want of memory (out of
+/// memory).
 fn fresh_table(alloc: Global, count: u32) -> Result<Vec<Instance>, NoMemory>
     ensures { IfOk result (λ table. table.items ≡ replicate count leaf.fresh) }
 {
@@ -48,7 +49,7 @@ fn fresh_table(alloc: Global, count: u32) -> Result<Vec<Instance>, NoMemory>
 }
 
 impl Ledger {
-    /// Of a driver of this kind that was just made. It takes no memory.
+    /// The ledger of a new driver of this kind. It allocates no memory.
     pub fn new(alloc: Global, kind: DriverKind) -> Ledger
         ensures { result ≡ new_driver kind }
     {
@@ -72,7 +73,7 @@ impl Ledger {
         self.kind
     }
 
-    /// What its calls have come to so far.
+    /// The counts of its calls so far, and their trail.
     pub fn totals(&self) -> Totals
         ensures { result ≡ self.now.totals }
     {
@@ -86,7 +87,8 @@ impl Ledger {
         held_among(self.table.as_slice())
     }
 
-    /// Makes this many instances in place of those that were there.
+    /// Makes this many new instances in place of those that were there. Where there is want of
+    /// memory, nothing changes.
     pub fn prepare(&mut self, count: u32) -> Result<(), NoMemory>
         ensures ok { OnOk result (self.new ≡ prepared self.old count) }
         ensures err { OnErr result (self.new ≡ self.old) }
@@ -105,7 +107,7 @@ impl Ledger {
         self.table[instance as usize]
     }
 
-    /// Takes a call for an instance into the totals, where they stand.
+    /// Counts a call for an instance, in place.
     #[inline(always)]
     pub fn count(&mut self, phase: Phase, instance: u32)
         ensures { self.new ≡ record self.old { totals = counted self.old.totals phase instance } }
@@ -129,7 +131,7 @@ impl Ledger {
         }
     }
 
-    /// Takes a call of an instance into the totals, with what it leaves of the instance.
+    /// Counts a call for an instance, which leaves the instance so.
     #[inline(always)]
     pub fn record_call(&mut self, phase: Phase, instance: u32, left: Instance)
         requires { instance < length self.old.table }
@@ -139,7 +141,7 @@ impl Ledger {
         self.table[instance as usize] = left;
     }
 
-    /// Takes a call of `halted`, after which the instance is not held.
+    /// Counts a call of `halted`, after which the instance is not held.
     pub fn halted(&mut self, instance: u32)
         requires { instance < length self.old.table }
         ensures { self.new ≡ after_halted self.old instance }

@@ -9,7 +9,7 @@ use bt_model::{Instance, Phase};
 use bt_script::NoMemory;
 use std::alloc::Global;
 
-/// The outcome at the number of completions, or the last one.
+/// The outcome after this many completions; after the last outcome it stays the last.
 fn outcome_at(outcomes: &[bool], completions: u8) -> bool
     ensures { result ≡ leaf.outcome_at outcomes.now completions }
 {
@@ -32,7 +32,7 @@ impl Replay {
     ghost use Rattle.bt_model.specs.Leaf.{answer_by, outputs_after};
     ghost use Rattle.bt_driver.specs.Rules.{rule};
 
-    /// A driver without instances and without calls, whose mark is 0. It takes no memory.
+    /// A driver without instances that was not called yet; its mark is 0. It allocates no memory.
     pub fn new(alloc: Global) -> Replay
         ensures { result.ledger ≡ new_driver driver.Replay }
     {
@@ -41,7 +41,8 @@ impl Replay {
         }
     }
 
-    /// The reply of a leaf that began at `since`, and the instance that it leaves.
+    /// The reply of a leaf that began at `since`, and the instance that is left. Times are in
+    /// milliseconds.
     #[inline(always)]
     fn answer(
         row: &ReadyRow,

@@ -8,7 +8,7 @@ use bt_model::{Instance, Phase};
 use bt_script::NoMemory;
 use std::alloc::Global;
 
-/// Answers the `timed` rows: actions that last, and may then fail.
+/// Answers the `timed` rows: actions that last a time, and may then fail.
 #[derive(Debug, Drop)]
 pub struct Timed {
     ledger: Ledger,
@@ -20,7 +20,7 @@ impl Timed {
     ghost use Rattle.bt_model.specs.Leaf.{answer_by, outputs_after};
     ghost use Rattle.bt_driver.specs.Rules.{rule};
 
-    /// A driver without instances and without calls, whose mark is 0. It takes no memory.
+    /// A driver without instances that was not called yet; its mark is 0. It allocates no memory.
     pub fn new(alloc: Global) -> Timed
         ensures { result.ledger ≡ new_driver driver.Timed }
     {
@@ -29,7 +29,8 @@ impl Timed {
         }
     }
 
-    /// The reply of a leaf that began at `since`, and the instance that it leaves.
+    /// The reply of a leaf that began at `since`, and the instance that is left. Times are in
+    /// milliseconds.
     #[inline(always)]
     fn answer(
         row: &ReadyRow,

@@ -30,7 +30,7 @@ module _ (tree : Tree) (world : World) (drivers : List DriverState) where
   pub wanted_at : (place : ℕ) → place < length drivers → get_or (instances_wanted tree world drivers) place 0 ≡ needed place
   wanted_at place low = let same : 0 + place ≡ place = omega arith in from_at 0 drivers place low ∙ ap needed same
 
-  -- counts for each driver are those wanted, where they are as many for each runner as the tree has leaves for it
+  -- counts are those wanted, where each is the number of runners times the leaves that the tree has for the driver
   pub counts_are_wanted : (counts : List ℕ) → length counts ≡ length drivers → ((place : ℕ) → place < length drivers → get_or counts place 0 ≡ needed place) → counts ≡ instances_wanted tree world drivers
   counts_are_wanted counts places are =
       same_lists counts (instances_wanted tree world drivers) (omega (arith, places, wanted_length))
@@ -41,13 +41,13 @@ module _ (tree : Tree) (world : World) (drivers : List DriverState) where
       ∙ sym (wanted_at place there)
       ∙ sym (get_or_default (instances_wanted tree world drivers) place d 0 (omega (arith, there, wanted_length))))
 
-  -- .. and as an arena has
+  -- counts are those wanted, where each is the number of runners times the leaves that an arena has for the driver
   pub arena_counts_are_wanted : (number : ℕ) (arena : Arena) → IsArenaOf tree world drivers number arena → (counts : List ℕ) → length counts ≡ length drivers →
       ((place : ℕ) → place < length drivers → get_or counts place 0 ≡ world.runners * served place arena.nodes.items) → counts ≡ instances_wanted tree world drivers
   arena_counts_are_wanted number arena is counts places are =
       counts_are_wanted counts places (λ place low. are place low ∙ ap (λ n. world.runners * n) (is.serves place low))
 
-  -- what is wanted, as an arena has it
+  -- what is wanted of a driver, by the leaves of an arena
   pub wanted_of_arena : (number : ℕ) (arena : Arena) → IsArenaOf tree world drivers number arena → (place : ℕ) → place < length drivers →
       get_or (instances_wanted tree world drivers) place 0 ≡ world.runners * served place arena.nodes.items
   wanted_of_arena number arena is place low = wanted_at place low ∙ ap (λ n. world.runners * n) (sym (is.serves place low))

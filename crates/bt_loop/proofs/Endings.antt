@@ -14,7 +14,7 @@ use Rattle.bt_loop.specs.Ending.{IsQuenched, IsTelling}
 use Rattle.bt_loop.specs.Runs.{RunnersFit}
 use Rattle.bt_loop.specs.Telling.{entries_told}
 
--- runs that fit do so whatever was told
+-- runs that fit still do, whatever was told
 pub still_fit : (tree : Tree) (world : World) (drivers : List DriverState) (old new : Runs) → new ≡ record old { told = new.told } → RunnersFit tree world old.facts drivers old.runners.items → RunnersFit tree world new.facts drivers new.runners.items
 still_fit tree world drivers old new same fit = subst (λ (r : Runs). RunnersFit tree world r.facts drivers r.runners.items) (sym same) fit
 
@@ -28,17 +28,17 @@ module _ (tree : Tree) (before after : List DriverState) (old new other : Runs) 
   told_after : IsQuenched tree before after old new n0 n1 → IsQuenched tree before after old (record new { told = other.told }) n0 n1
   told_after q = record { state = q.state; notes = q.notes; drivers = q.drivers; facts = q.facts; last = q.last; arenas = q.arenas; boards = q.boards }
 
-  -- a quench behind a telling
+  -- a quench after what changed was told
   pub quenched_behind : other ≡ record old { told = other.told } → IsQuenched tree before after other new m0 m1 → IsQuenched tree before after old new n0 n1
   quenched_behind same q =
       told_before (subst (λ (r : Runs). IsQuenched tree before after r new n0 n1) same
       (subst (λ xs. IsQuenched tree before after other new xs n1) same0 (subst (λ xs. IsQuenched tree before after other new m0 xs) same1 q)))
 
-  -- a telling behind a quench
+  -- what changed is told after a quench
   pub quenched_told : other ≡ record new { told = other.told } → IsQuenched tree before after old new m0 m1 → IsQuenched tree before after old other n0 n1
   quenched_told same q = subst (λ (r : Runs). IsQuenched tree before after old r n0 n1) (sym same) (told_after (noted q))
 
--- what is told of the same facts and blackboards, and was told before, in a block with other notes
+-- what is told depends on the facts, the blackboards and what was told before, and not on the notes of the block
 pub telling_of : (number : ℕ) (f0 f1 : List ℤ) (b0 b1 : List (List (Option Value))) (t0 t1 told : Told) (begun other block : Block) → f0 ≡ f1 → b0 ≡ b1 → t0 ≡ t1 → begun.header ≡ other.header → begun.facts ≡ other.facts → begun.entries ≡ other.entries →
     IsTelling number f0 b0 t0 told begun block → IsTelling number f1 b1 t1 told other block
 telling_of number f0 f1 b0 b1 t0 t1 told begun other block same_facts same_boards same_told header facts entries t =

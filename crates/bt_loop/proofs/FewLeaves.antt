@@ -22,7 +22,7 @@ leaves_within (r ∷ runners) most each =
     let spread : (1 + length runners) * most ≡ 1 * most + length runners * most = add-mul 1 (length runners) most in
     omega (arith, here, whole, spread, each 0 r refl, leaves_within runners most (λ k x at. each (suc k) x at))
 
--- 16 runners of 4097 places at most
+-- there are at most 16 runners, each with 4097 places
 pub leaves_are_few : (tree : Tree) (world : World) (facts : List ℤ) (drivers : List DriverState) (runners : List ReadyRunner) → IsValid tree → IsValidWorld world → RunnersFit tree world facts drivers runners →
     leaves_of (arenas_in runners) ≤ 65552
 leaves_are_few tree world facts drivers runners valid valid_world fit =

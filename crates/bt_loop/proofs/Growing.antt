@@ -7,7 +7,7 @@ use Rattle.bt_model.specs.Drivers.{DriverState}
 use Rattle.bt_loop.specs.declared.runs.ReadyRunner.{ReadyRunner}
 use Rattle.bt_loop.specs.Opening.{AreOpening, IsOpening}
 
--- an entry of a list with one more is the last one, or was there
+-- an entry of a list to which one was added is that one, or was there before
 last_or_there : {A : Type 0} (xs : List A) (y : A) (k : ℕ) (z : A) → slice_get (xs ++ y ∷ []) k ≡ Some z → ((k ≡ length xs) × (y ≡ z)) ⊎ (slice_get xs k ≡ Some z)
 last_or_there [] y zero z is = inl (refl, cc)
 last_or_there [] y (suc k) z is = absurd cc
@@ -28,6 +28,6 @@ opening_more tree world drivers runners after before r are many is more k x at =
       | inr there ↦ are k x there
     ]
 
--- the entry of a list at a place, as an index gives it
+-- the entry at a place of a list, as an index gives it
 pub indexed : {A : Type 0} (xs ys : List A) (k : ℕ) (x : A) → ys ≡ xs → k < length xs → x ≡ get_or ys k x → slice_get xs k ≡ Some x
 indexed xs ys k x same low is = slice_get-get_or xs k x low ∙ ap Some (ap (λ (zs : List _). get_or zs k x) (sym same) ∙ sym is)

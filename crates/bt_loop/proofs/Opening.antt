@@ -105,7 +105,7 @@ module _ (tree : Tree) (world : World) (drivers : List DriverState) where
     are_served first last =
         numbered_are_served drivers nodes counts number world.runners is.arena.numbered first last (wanted_length tree world drivers) (λ place low. wanted_of_arena tree world drivers number r.arena is.arena place low)
 
-    -- it fits
+    -- the runner fits
     runner_fits : IsValid tree → 1 ≤ number → number ≤ world.runners → (facts : List ℤ) → length facts ≡ length world.facts → RunnerFits tree world facts now number r
     runner_fits valid first last facts as_many = record {
       numbered = is.arena.runner;
@@ -158,7 +158,7 @@ module _ (tree : Tree) (world : World) (drivers : List DriverState) where
       steady = subst (RunSteady tree.term world.rows) (sym opening_state) (opening_steady tree world);
     }
 
-    -- and calls of their runners are those that the tree and the world give
+    -- the calls of their runners are those that the tree and the world give
     pub opening_calls : IsValidWorld world → (calls : List RunnerCall) (ds : List DriverState) → roster_over (arenas_of runs) calls ds ≡ calls_made world.runners (serving_places tree world drivers) calls ds
     opening_calls valid_world calls ds =
         calls_are tree world drivers runners are.runners (omega (arith, are.many, valid_world.some_runner)) calls ds

@@ -1,4 +1,4 @@
--- Calls for the leaves of one runner, and what they leave of the others.
+-- Calls for the leaves of one runner, and what they do not change of the others.
 use Rattle.std.proofs.Common.{◌≡◌, inl, inr, ℕ, ℤ, List, [], ◌∷◌, ◌++◌, Option, Some, None, map, length, slice_get, refl, sym, ap, ◌∙◌, arith}
 use Rattle.std.proofs.lemmas.Bool.{cases_eq}
 use Rattle.std.proofs.lemmas.List.{get_or_default, length-map, same_lists}
@@ -61,14 +61,14 @@ module _ (a b : List Node) (apart : Apart a b) where
   one_other call None is drivers are = refl
   one_other call (Some x) is drivers are = all_same call x is drivers are
 
-  -- it has the same instances
+  -- the other runner has the same instances
   pub other_instances : (calls : List Call) (drivers : List DriverState) → AreServed drivers a → instances_of b (roster_after a calls drivers) ≡ instances_of b drivers
   other_instances [] drivers are = refl
   other_instances (c ∷ calls) drivers are =
       other_instances calls (leaf_called (leaf_at a c.uid) c drivers) (served_called a (leaf_at a c.uid) c drivers are)
       ∙ one_other c (leaf_at a c.uid) refl drivers are
 
-  -- and fits as before
+  -- the other runner fits as before
   pub other_fits : (t : Term) (v : View) (kept : List Kept) (board : List (Option Value)) (facts facts1 : List ℤ) (calls : List Call) (drivers : List DriverState) → AreServed drivers a →
       length facts1 ≡ length v.facts → Fits t v 1 b (scene kept board facts drivers) → Fits t v 1 b (scene kept board facts1 (roster_after a calls drivers))
   other_fits t v kept board facts facts1 calls drivers are many fits = record {
@@ -110,7 +110,7 @@ pub over_runner : (arenas : List (List Node)) (runner : ℕ) (calls : List Call)
 over_runner arenas runner [] drivers = refl
 over_runner arenas runner (c ∷ calls) drivers = over_runner arenas runner calls (leaf_called (leaf_at (nodes_of_runner arenas runner) c.uid) c drivers)
 
--- calls behind calls
+-- calls, followed by others
 pub over_both : (arenas : List (List Node)) (cs ds : List RunnerCall) (drivers : List DriverState) → roster_over arenas (cs ++ ds) drivers ≡ roster_over arenas ds (roster_over arenas cs drivers)
 over_both arenas [] ds drivers = refl
 over_both arenas (c ∷ cs) ds drivers = over_both arenas cs ds (leaf_called (leaf_at (nodes_of_runner arenas c.runner) c.call.uid) c.call drivers)

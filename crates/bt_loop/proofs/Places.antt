@@ -29,13 +29,13 @@ use Rattle.bt_loop.specs.Served.{place_serving, served_among}
 
 -- ---- The nodes of an arena
 
--- the places of the drivers of so many nodes, from a uid on
+-- the places of the drivers of this many nodes, from a uid on
 abbrev pub places_from : List Node → ℕ → ℕ → List (Option ℕ)
 places_from nodes uid zero = []
 places_from nodes uid (suc count) = driver_of (leaf_at nodes uid) ∷ places_from nodes (uid + 1) count
 
 module _ (nodes : List Node) where
-  -- some nodes, and those behind them
+  -- some nodes, and those after them
   from_both : (m n uid : ℕ) → places_from nodes uid (m + n) ≡ places_from nodes uid m ++ places_from nodes (uid + m) n
   from_both zero n uid =
       let none : 0 + n ≡ n = omega arith in

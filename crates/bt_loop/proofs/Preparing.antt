@@ -1,4 +1,4 @@
--- Drivers that were prepared are the same ones, and no instance of theirs is held.
+-- After drivers are prepared they are the same drivers, and none of their instances is held.
 use Rattle.std.proofs.Common.{◌≡◌, inl, inr, ℕ, zero, suc, List, [], ◌∷◌, length, get_or, replicate, refl, sym, ap, subst, arith}
 use Rattle.std.proofs.lemmas.Bool.{cases_lt}
 use Rattle.std.proofs.lemmas.List.{get_or-replicate, get_or_past, length-replicate}
@@ -9,7 +9,7 @@ use Rattle.bt_model.specs.Leaf.{fresh}
 use Rattle.bt_loop.specs.Steps.{HasRisen, IsSameRoster}
 use Rattle.bt_loop.proofs.Rising.{same_roster}
 
--- ---- Whatever was prepared of them
+-- ---- However many were prepared
 
 pub prepared_length : (ds : List DriverState) (counts : List ℕ) → length (roster_prepared ds counts) ≡ length ds
 prepared_length ds [] = refl
@@ -38,7 +38,7 @@ prepared_same ds counts = record {
   totals = λ place. subst (λ (t : Totals). HasRisen (driver_at ds place).totals t) (sym (prepared_totals ds counts place)) ((same_roster ds).totals place);
 }
 
--- an instance of those that were never held, or past them
+-- in a table of instances that were never held, and past its end, each instance is fresh
 fresh_at : (count instance : ℕ) → get_or (replicate count fresh) instance fresh ≡ fresh
 fresh_at count instance = elim (cases_lt instance count) [
   | inl there ↦ get_or-replicate {A = Instance} count instance fresh fresh there
@@ -52,9 +52,9 @@ prepared_hold_nothing [] (n ∷ ns) none place instance = none place instance
 prepared_hold_nothing (d ∷ ds) (n ∷ ns) none zero instance = ap is_held (fresh_at n instance)
 prepared_hold_nothing (d ∷ ds) (n ∷ ns) none (suc place) instance = prepared_hold_nothing ds ns (λ p. none (suc p)) place instance
 
--- ---- All of them
+-- ---- Where all were prepared
 
--- each instance is as one that was never held, where each driver was prepared
+-- where each driver was prepared, each instance is one that was never held
 pub prepared_fresh : (ds : List DriverState) (counts : List ℕ) → length counts ≡ length ds → (place instance : ℕ) → instance_at (roster_prepared ds counts) place instance ≡ fresh
 prepared_fresh [] [] all place instance = refl
 prepared_fresh [] (n ∷ ns) all place instance = refl

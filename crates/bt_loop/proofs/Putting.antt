@@ -30,14 +30,14 @@ use Rattle.bt_loop.specs.Runs.{AreApart, HeldAreTheirs, RunnerFits, RunnersFit, 
 use Rattle.bt_loop.proofs.Lists.{set_alike, set_is}
 use Rattle.bt_loop.proofs.Others.{Apart, held_after, other_fits, other_instances, over_runner}
 
--- the calls that were made, however a part ended
+-- the calls that were made, whether a part was made or stopped
 pub calls_of : {A M : Type 0} (nodes : List Node) (moment : ℕ) (memory : List _ → M) (r : Result A (Stop NodeFault)) (before after : Scene) (old new : List Note) (d : Done A M) →
     Meets nodes moment memory r before after old new d → (calls : List Call) × (after.drivers ≡ roster_after nodes calls before.drivers)
 calls_of nodes moment memory (Ok a) before after old new d m = (d.calls, m.0.drivers)
 calls_of nodes moment memory (Err (stop.Fault f)) before after old new d m = (d.calls, m.drivers)
 calls_of nodes moment memory (Err stop.NoMemory) before after old new d m = (m.made, m.drivers)
 
--- what holds of runs lets each runner make its part
+-- between events each runner can make its part
 pub can_act : (tree : Tree) (world : World) (last at : ℕ) (facts : List ℤ) (drivers : List DriverState) (runners : List ReadyRunner) → AreReady tree world last at facts drivers runners →
     (k : ℕ) (r : ReadyRunner) → slice_get runners k ≡ Some r → CanAct tree world at facts drivers r
 can_act tree world last at facts drivers runners ready k r is =
@@ -79,7 +79,7 @@ module _ (tree : Tree) (world : World) (runners : List ReadyRunner) (facts : Lis
     others_same : (k : ℕ) (x : ReadyRunner) → slice_get runners k ≡ Some x → (k ≡ i → ⊥) → instances_of x.arena.nodes.items drivers1 ≡ instances_of x.arena.nodes.items drivers
     others_same k x at other = ap (instances_of x.arena.nodes.items) called ∙ other_instances a x.arena.nodes.items (apart_from k x at other) calls drivers are
 
-    -- the runner alone has changed
+    -- only this runner has changed
     pub runners_put : runners_in t drivers1 (set runners i new) ≡ set (runners_in t drivers runners) i (runner_in t drivers1 new)
     runners_put =
         map-set (runner_in t drivers1) runners i new
@@ -133,7 +133,7 @@ module _ (tree : Tree) (world : World) (runners : List ReadyRunner) (facts : Lis
       drivers = called_over d.calls m.drivers;
     }
 
-    -- a part ends among all runners as it ends for its runner
+    -- a part ends among all runners as it does for its runner
     pub ends : (result : Result (Unit {0}) (Stop NodeFault)) → Meets a at (memory_of t 1) result (scene_of r facts drivers) (scene_of new facts1 drivers1) old told d →
         PartEnds result t number at s (arenas_in runners) drivers drivers1 (set runners i new) facts1 old told d
     ends (Ok done) m = (made (Ok tt) m.0, m.1)

@@ -1,4 +1,4 @@
--- The quench of all runners, one after another.
+-- The quench of all runners, one after the other.
 use Rattle.std.proofs.Common.{◌≡◌, inl, inr, ℕ, ℤ, zero, suc, ◌+◌, ◌<◌, ◌≤◌, Bool, true, false, List, [], ◌∷◌, ◌++◌, Option, Some, None, map, length, drop, get_or, slice_get, set, option_map, cond, is_some, refl, sym, ap, subst, ◌∙◌, append_assoc, append-nil, add-one, arith}
 use Rattle.std.proofs.lemmas.List.{drop_more, length-map}
 use Rattle.std.proofs.lemmas.List.Sums.{sum_by-cons}
@@ -33,7 +33,7 @@ let_go_twice : (is : List Instance) → map let_go (map let_go is) ≡ map let_g
 let_go_twice [] = refl
 let_go_twice (i ∷ is) = ap (λ xs. let_go i ∷ xs) (let_go_twice is)
 
--- a runner that is quenched stays so in a quench
+-- a second quench of a runner changes nothing
 pub twice : (tree : Tree) (r : Runner) → quenched_runner tree (quenched_runner tree r) ≡ quenched_runner tree r
 twice tree r = ap (λ (is : List Instance). let one : Runner = record { memory = idle tree.term; board = r.board; instances = is } in one) (let_go_twice r.instances)
 
@@ -56,7 +56,7 @@ map_none (x ∷ xs) = ap (λ ys. x ∷ ys) (map_none xs)
 abbrev pub runner_by : Term → List Node → ReadyRunner → List DriverState → Runner
 runner_by term nodes r drivers = record { memory = memory_of term 1 r.arena.kept.items; board = r.board; instances = instances_of nodes drivers }
 
--- the runners below a place have been quenched, and the others will be
+-- the runners before a place are quenched, and the others are still to come
 pub record Quenching (tree : Tree) (world : World) (facts : List ℤ) (place : ℕ) (before now : List DriverState) (old new : List ReadyRunner) (told noted : List Note) : Type 0 where
   pub fit : RunnersFit tree world facts now new
   pub notes : noted ++ quench_notes (place + 1) (drop place (runners_in tree.term now new)) ≡ told ++ quench_notes 1 (runners_in tree.term before old)
@@ -64,7 +64,7 @@ pub record Quenching (tree : Tree) (world : World) (facts : List ℤ) (place : �
   pub state : map (quenched_runner tree) (runners_in tree.term now new) ≡ map (quenched_runner tree) (runners_in tree.term before old)
   pub made : (k : ℕ) (r : Runner) → k < place → slice_get (runners_in tree.term now new) k ≡ Some r → quenched_runner tree r ≡ r
 
--- at the beginning
+-- no runner is quenched yet
 pub quenching_none : (tree : Tree) (world : World) (facts : List ℤ) (before : List DriverState) (old : List ReadyRunner) (told : List Note) → RunnersFit tree world facts before old → Quenching tree world facts 0 before before old old told told
 quenching_none tree world facts before old told fit = record { fit = fit; notes = refl; drivers = refl; state = refl; made = λ k r low e. absurd (omega (arith, low)) }
 
@@ -111,7 +111,7 @@ module _ (tree : Tree) (world : World) (facts : List ℤ) (i : ℕ) (before now 
   number_is : r.arena.runner ≡ i + 1
   number_is = (so_far.fit.each i r is).numbered
 
-  -- and one more has been
+  -- and one more is
   pub quenching_more : Quenching tree world facts (i + 1) before now1 old (set rs i new) told noted1
   quenching_more = record {
     fit = fit_put tree world rs facts now so_far.fit i r is new facts now1 nodes calls called number (stays t (root_view tree world) 1 (so_far.fit.each i r is).fits);
@@ -212,7 +212,7 @@ room_more arenas i nodes is =
     ∙ sum_by-cons (λ (k : ℕ). k) (leaves_in (get_or arenas i nodes)) (map leaves_in (drop (i + 1) arenas))
     ∙ ap (λ (ns : List Node). leaves_in ns + leaves_of (drop (i + 1) arenas)) (get_or_from_slice_get arenas i nodes nodes is)
 
--- the room that the runner at a place needs, and those behind it
+-- the room that is needed for the runner at a place, and for those after it
 pub room_at : (rs old : List ReadyRunner) (i : ℕ) (r : ReadyRunner) → slice_get rs i ≡ Some r → arenas_in rs ≡ arenas_in old →
     leaves_of (drop i (arenas_in old)) ≡ leaves_in r.arena.nodes.items + leaves_of (drop (i + 1) (arenas_in old))
 room_at rs old i r is same =

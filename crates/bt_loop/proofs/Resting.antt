@@ -1,4 +1,4 @@
--- Nothing is held by runners whose roots rest.
+-- Where no runner's root is RUNNING, no instance is held.
 use Rattle.std.proofs.Common.{◌≡◌, inl, inr, ℕ, zero, suc, ◌+◌, ◌<◌, ◌≤◌, Bool, true, false, List, [], ◌∷◌, Some, length, get_or, slice_get, option_map, is_some, refl, sym, ap, ◌∙◌, arith}
 use Rattle.std.proofs.lemmas.Bool.{cases_lt}
 use Rattle.std.proofs.lemmas.List.{length-map}
@@ -29,13 +29,13 @@ free_there [] uid e = refl
 free_there (i ∷ is) zero e = cc
 free_there (i ∷ is) (suc uid) e = free_there is uid e
 
--- one that is not there
+-- an instance that is not there is not held
 free_past : (is : List Instance) (uid : ℕ) → length is ≤ uid → is_held (get_or is uid fresh) ≡ false
 free_past [] uid past = refl
 free_past (i ∷ is) zero past = absurd (omega (arith, past))
 free_past (i ∷ is) (suc uid) past = free_past is uid (omega (arith, past))
 
--- the roots of all runners rest
+-- no root is RUNNING
 abbrev pub RootsRest : Tree → List DriverState → Runs → Type 0
 RootsRest tree drivers runs = (k : ℕ) (r : Runner) → slice_get (state_of_runs tree.term drivers runs).runners k ≡ Some r → is_running (out-Memory r.memory).status ≡ false
 
@@ -96,6 +96,6 @@ module _ (tree : Tree) (world : World) (drivers : List DriverState) (runs : Runs
   free_by false place instance e = refl
   free_by true place instance e = sym e ∙ free_leaf place instance (are.fit.theirs place instance e)
 
-  -- runs whose roots all rest hold nothing
+  -- where no root is RUNNING, nothing is held
   pub resting_hold_nothing : NothingHeld drivers
   resting_hold_nothing place instance = free_by (is_held (instance_at drivers place instance)) place instance refl

@@ -1,4 +1,4 @@
--- Calls leave a roster the same: as many drivers, of the same kinds and marks, and no total falls.
+-- After calls the roster is the same: as many drivers, of the same kinds and marks, and no total has fallen.
 use Rattle.std.proofs.Common.{◌≡◌, ◌⊎◌, inl, inr, ℕ, List, [], ◌∷◌, Option, Some, None, length, refl, sym, ap, subst, ◌∙◌, arith}
 use Rattle.std.proofs.lemmas.Bool.{cases_eq, cases_lt}
 use Rattle.std.proofs.lemmas.List.{get_or-set_same, get_or-set_other, length-set}
@@ -53,7 +53,7 @@ module _ (ds : List DriverState) (place : ℕ) (p : Phase) (instance : ℕ) (lef
   abbrev called : List DriverState
   called = roster_called ds place p instance left
 
-  -- a driver is as it was, or was called
+  -- each driver is as it was, or is the one that was called
   one_driver : (other : ℕ) → (driver_at called other ≡ driver_at ds other) ⊎ (driver_at called other ≡ after_call (driver_at ds other) p instance left)
   one_driver other = elim (cases_eq other place) [
     | inl same ↦ elim (cases_lt place (length ds)) [
@@ -78,7 +78,7 @@ leaf_same : (found : Option ReadyLeaf) (call : Call) (ds : List DriverState) →
 leaf_same None call ds = same_roster ds
 leaf_same (Some leaf) call ds = called_same ds leaf.driver call.phase leaf.instance call.left
 
--- after calls for leaves of runners
+-- calls for leaves of runners
 pub over_same : (arenas : List (List Node)) (calls : List RunnerCall) (ds : List DriverState) → IsSameRoster ds (roster_over arenas calls ds)
 over_same arenas [] ds = same_roster ds
 over_same arenas (c ∷ calls) ds =

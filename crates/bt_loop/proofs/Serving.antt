@@ -49,7 +49,7 @@ served_by_places place (n ∷ nodes) =
     ∙ (λ i. cond {A = ℕ} (served_is place n.leaf i) 1 0 + served_by_places place nodes i)
     ∙ sym (among_cons place (driver_of n.leaf) places)
 
--- a node that is served is counted behind those before it
+-- a node that is served is counted after those before it
 counted_behind : (places : List (Option ℕ)) (uid place : ℕ) → get_or places uid None ≡ Some place → served_among place (take uid places) + 1 ≤ served_among place places
 counted_behind [] uid place at = absurd (cc)
 counted_behind (p ∷ ps) zero place at =
@@ -65,7 +65,7 @@ module _ (tree : Tree) (world : World) (drivers : List DriverState) where
   abbrev places : List (Option ℕ)
   places = serving_places tree world drivers
 
-  -- the places of a tree's nodes, without nobody's
+  -- the places of the nodes of a tree, without place 0
   abbrev below : List (Option ℕ)
   below = map (place_serving world drivers) (nodes_of tree.term)
 

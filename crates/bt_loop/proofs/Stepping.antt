@@ -1,4 +1,4 @@
--- An event of one runner, against the definition's step.
+-- An event of one runner, compared with the definition's step.
 use Rattle.std.proofs.Common.{OnOk, OnErr, ◌≡◌, inl, inr, ℕ, ℤ, zero, suc, ◌+◌, ◌-◌, ◌<◌, ◌≤◌, true, cond, List, [], ◌∷◌, ◌++◌, Option, Some, None, Result, Ok, Err, map, length, get_or, slice_get, set, option_map, refl, sym, ap, subst, ◌∙◌, append_assoc, append-nil, arith}
 use Rattle.std.proofs.lemmas.List.{length-map, map-set, get_or-set_same}
 use Rattle.std.proofs.lemmas.Bool.Decides.{Decides-int_eq}
@@ -78,7 +78,7 @@ one_board runner (r ∷ rs) (suc i) new low =
     ∙ one_board (runner + 1) rs i new (omega (arith, low))
     ∙ ap (λ n. changed_entries n 0 (get_or (map board_of rs) i []) new.board) (let e : runner + 1 + i ≡ runner + suc i = omega arith in e)
 
--- a quench changes no blackboard
+-- a quench does not change a blackboard
 quench_boards : (tree : Tree) (runner : ℕ) (rs ss : List Runner) → changed_boards runner rs (map (quenched_runner tree) ss) ≡ changed_boards runner rs ss
 quench_boards tree runner [] ss = refl
 quench_boards tree runner (r ∷ rs) [] = refl
@@ -165,7 +165,7 @@ module _ (tree : Tree) (header : Header) (number at : ℕ) (runs0 runs1 runs2 : 
         ∙ ap (λ n. changed_entries n 0 (get_or (map board_of s.runners) (number - 1) []) d.state.board) (let e : number ≡ 1 + (number - 1) = omega (arith, first) in e)
         ∙ sym (one_board 1 s.runners (number - 1) _ (omega (arith, first, last, length-map runs0.runners.items (runner_in t before))))
 
-  -- all was made and told
+  -- the part was made, and what changed was told
   made_told : PartMade t number at s (arenas_of runs0) before mid runs1.runners.items runs1.facts [] block1.notes.list (Ok tt) d →
       IsTelling number runs1.facts (boards_in runs1.runners.items) runs1.told runs2.told block1 block2 → runs2 ≡ record runs1 { told = runs2.told } → block2.notes ≡ block1.notes → after ≡ mid →
       EventEnds (Ok tt) t before after runs2 block2 whole
@@ -186,7 +186,7 @@ module _ (tree : Tree) (header : Header) (number at : ℕ) (runs0 runs1 runs2 : 
         },
       )
 
-  -- it was cut off behind some notes and calls
+  -- the event was cut off after some notes and calls
   cut_off : (r : Result (Unit {0}) NodeFault) (said unsaid : List Note) (made unmade : List Call) → said ++ unsaid ≡ d.notes → made ++ unmade ≡ d.calls → length made ≡ calls_named said →
       block1.notes.list ≡ said → mid ≡ roster_over (arenas_of runs0) (runner_calls number made) before → IsQuenched tree mid after runs1 runs2 block1.notes.list block2.notes.list → IsCutOff (arenas_of runs2) before after block2.notes.list (step_by r)
   cut_off r said unsaid made unmade all_notes all_calls named noted called q =
@@ -222,7 +222,7 @@ module _ (tree : Tree) (header : Header) (number at : ℕ) (runs0 runs1 runs2 : 
         ∙ sym (over_both (arenas_of runs0) (runner_calls number d.calls) (quench_calls 1 left.runners) before)
         ∙ ap (λ ns. roster_over ns (runner_calls number d.calls ++ quench_calls 1 left.runners) before) (sym (q.arenas ∙ arenas))
 
-    -- a fault struck, and all was told
+    -- there was a fault, and all was told
     fault_told : (g : RunFault) → g ≡ record { runner = number; uid = f.uid; cause = f.cause } → IsTelling number runs1.facts (boards_in runs1.runners.items) runs1.told runs2.told block1 block2 →
         EventEnds (Err (stop.Fault g)) t before after runs2 block2 whole
     fault_told g is telling =
@@ -240,7 +240,7 @@ module _ (tree : Tree) (header : Header) (number at : ℕ) (runs0 runs1 runs2 : 
           },
         )
 
-    -- and not all was told
+    -- there was a fault, and not all was told
     fault_untold : EventEnds (Err stop.NoMemory) t before after runs2 block2 whole
     fault_untold =
         subst (λ (r : Result (Unit {0}) NodeFault). EventEnds (Err stop.NoMemory) t before after runs2 block2 (step_by r)) (sym m.answer)
@@ -271,7 +271,7 @@ module _ (tree : Tree) (header : Header) (number at : ℕ) (runs0 runs1 runs2 : 
   stay_runs world usable fit (Err stop.NoMemory) (Ok b) m closing = absurd closing
   stay_runs world usable fit (Err e) (Err x) m closing = tt
 
-  -- however the part and the event have ended
+  -- whether the part and the event were made or stopped, the event ends as the definition says
   pub steps : (ended : Result (Unit {0}) (Stop NodeFault)) (result : Result (Unit {0}) (Stop RunFault)) →
       PartEnds ended t number at s (arenas_of runs0) before mid runs1.runners.items runs1.facts [] block1.notes.list d → Closing ended result tree number mid after runs1 runs2 block1 block2 →
       EventEnds result t before after runs2 block2 whole
@@ -285,7 +285,7 @@ module _ (tree : Tree) (header : Header) (number at : ℕ) (runs0 runs1 runs2 : 
   steps (Err stop.NoMemory) (Err (stop.Fault g)) m closing = absurd closing
   steps (Err stop.NoMemory) (Err stop.NoMemory) m closing = inl (cut_off d.answer m.told m.untold m.made m.unmade m.all_notes m.all_calls m.named m.notes m.drivers closing)
 
--- ---- Behind an event
+-- ---- After an event
 
 all_twice : (tree : Tree) (rs : List Runner) → map (quenched_runner tree) (map (quenched_runner tree) rs) ≡ map (quenched_runner tree) rs
 all_twice tree [] = refl
@@ -297,7 +297,7 @@ quenched_stays tree before after old new n0 n1 q =
     ap (map (quenched_runner tree)) q.state ∙ all_twice tree (runners_in tree.term before old.runners.items) ∙ sym q.state in
     λ i. record { runners = sym again i; facts = new.facts; last = new.last }
 
--- a stop leaves all quenched
+-- after a stop all runners are quenched
 pub stop_quenched : (ended : Result (Unit {0}) (Stop NodeFault)) (result : Result (Unit {0}) (Stop RunFault)) (tree : Tree) (number : ℕ) (before after : List DriverState) (old new : Runs) (begun block : Block) →
     Closing ended result tree number before after old new begun block → OnErr result (state_of_runs tree.term after new ≡ quenched tree (state_of_runs tree.term after new))
 stop_quenched (Ok a) (Ok b) tree number before after old new begun block c = tt
@@ -309,7 +309,7 @@ stop_quenched (Err (stop.Fault f)) (Err stop.NoMemory) tree number before after 
 stop_quenched (Err stop.NoMemory) (Err (stop.Fault g)) tree number before after old new begun block c = absurd c
 stop_quenched (Err stop.NoMemory) (Err stop.NoMemory) tree number before after old new begun block c = quenched_stays tree before after old new _ _ c
 
--- no arena changes, and the drivers have had some calls
+-- no arena changes, and the drivers took some calls
 abbrev pub Called : List (List Node) → List DriverState → List DriverState → Type 0
 Called arenas before after = (calls : List RunnerCall) × (after ≡ roster_over arenas calls before)
 

@@ -1,4 +1,4 @@
--- The end of a tick, behind the visit of the root.
+-- The end of a tick, after the visit of the root.
 use Rattle.std.proofs.Common.{◌≡◌, ℕ, ◌<◌, List, [], ◌∷◌, ◌++◌, length, set, Result, Ok, Err, refl, sym, ap, subst, ◌∙◌, append-nil, arith}
 use Rattle.std.proofs.lemmas.List.{get_or-set_same, get_or-set_other}
 use Rattle.bt_script.specs.declared.stop.Stop.{Stop}
@@ -29,13 +29,13 @@ use Rattle.bt_halting.proofs.Marks.{as_many_marks}
 use Rattle.bt_halting.proofs.Memories.{memory_above}
 use Rattle.bt_loop.specs.Parts.{unanswered}
 
--- ---- No answer is wanted
+-- ---- Without an answer
 
 unanswered_by : {A B M N : Type 0} (r : Result A NodeFault) (d : Done A M) (place : M → N) (go : A → M → State → Done B N) → unanswered (carried r d place go) ≡ carried r d place (λ a m s. unanswered (go a m s))
 unanswered_by (Ok a) d place go = refl
 unanswered_by (Err f) d place go = refl
 
--- .. of two parts, one behind the other
+-- two parts without an answer, one after the other
 pub unanswered_follow : {A B M N : Type 0} (d : Done A M) (place : M → N) (go : A → M → State → Done B N) → unanswered (follow d place go) ≡ follow d place (λ a m s. unanswered (go a m s))
 unanswered_follow d place go = unanswered_by d.answer d place go
 
@@ -73,7 +73,7 @@ module _ (t : Term) (nodes : List Node) (at runner : ℕ) (answer : Answer) (s1 
   told_is : told ≡ told_by opened_to
   told_is = ap told_by out_is
 
-  -- it was told as a whole
+  -- the end was made, and both its notes were added
   pub end_told : 1 < length s1.kept → s2.kept ≡ set s1.kept 1 (record (kept_at s1.kept 1) { status = settled st }) → s2.board ≡ s1.board → s2.facts ≡ s1.facts → s2.drivers ≡ s1.drivers → n2 ≡ n1 ++ root_notes runner answer st →
       Meets nodes at (memory_of t 1) (Ok tt) s1 s2 n1 n2 (unanswered told)
   end_told there kept board facts drivers noted =
@@ -93,7 +93,7 @@ module _ (t : Term) (nodes : List Node) (at runner : ℕ) (answer : Answer) (s1 
         sym (ap calls_named (append-nil (root_notes runner answer st)) ∙ no_call runner answer st),
       )
 
-  -- it was cut off
+  -- there was want of memory in the end
   pub end_cut : (said unsaid : List Note) → said ++ unsaid ≡ root_notes runner answer st → calls_named said ≡ 0 → n2 ≡ n1 ++ said → s2.drivers ≡ s1.drivers → Meets {A = Unit {0}} nodes at (memory_of t 1) (Err stop.NoMemory) s1 s2 n1 n2 (unanswered told)
   end_cut said unsaid all none noted drivers =
       subst (λ (d : Done Answer Memory). IsCut nodes s1 s2 n1 n2 (unanswered d)) (sym told_is)
@@ -103,14 +103,14 @@ module _ (t : Term) (view : View) (nodes : List Node) (at runner : ℕ) (s0 s1 :
   abbrev go : Answer → Memory → State → Done Answer Memory
   go a m s = root_told runner a m s
 
-  -- the visit stopped
+  -- the visit ended with a fault or for want of memory
   pub tick_stopped : (e : Stop NodeFault) (r : Result (Unit {0}) (Stop NodeFault)) → r ≡ Err e → Meets {A = Answer} nodes at (memory_of t 1) (Err e) s0 s1 n0 n1 d → Meets nodes at (memory_of t 1) r s0 s1 n0 n1 (unanswered (follow d (λ m. m) go))
   tick_stopped e r is m =
       subst (λ (x : Result (Unit {0}) (Stop NodeFault)). Meets nodes at (memory_of t 1) x s0 s1 n0 n1 (unanswered (follow d (λ m1. m1) go))) (sym is)
       (subst (λ (x : Done (Unit {0}) Memory). Meets {A = Unit {0}} nodes at (memory_of t 1) (Err e) s0 s1 n0 n1 x) (sym (unanswered_follow d (λ m1. m1) go))
       (stopped nodes at (memory_of t 1) (memory_of t 1) s0 s1 n0 n1 d (λ m1. m1) (λ a m1 s. unanswered (go a m1 s)) e refl m))
 
-  -- the visit was made, and its end followed
+  -- the visit was made, and the end after it
   pub tick_followed : (a : Answer) (r : Result (Unit {0}) (Stop NodeFault)) (s2 : Scene) (n2 : List Note) → Meets nodes at (memory_of t 1) (Ok a) s0 s1 n0 n1 d →
       Meets nodes at (memory_of t 1) r s1 s2 n1 n2 (unanswered (go a (memory_of t 1 s1.kept) (state_in nodes s1 at))) → Meets nodes at (memory_of t 1) r s0 s2 n0 n2 (unanswered (follow d (λ m. m) go))
   tick_followed a r s2 n2 m rest =

@@ -1,4 +1,4 @@
--- What differs between two lists, one entry after another, and the first entries made alike.
+-- What differs between two lists, entry by entry, where a prefix of one is made equal to that of the other.
 use Rattle.std.proofs.Common.{◌≡◌, ℕ, zero, suc, ◌+◌, ◌-◌, ◌<◌, ◌≤◌, List, [], ◌∷◌, ◌++◌, length, take, drop, get_or, set, refl, sym, ap, ◌∙◌, add-one, arith}
 use Rattle.std.specs.Prelude.{Option}
 use Rattle.std.specs.Global.{Vec}
@@ -12,7 +12,7 @@ module _ {A : Type 0} where
   joined_at_end (n ∷ news) zero d within = refl
   joined_at_end (n ∷ news) (suc k) d within = joined_at_end news k d (omega (arith, within))
 
-  -- the first entries of one list, and the others of another one
+  -- a prefix of one list, followed by the other entries of another
   pub joined_at : (news olds : List A) (k : ℕ) (d : A) → k < length news → get_or (take k news ++ drop k olds) k d ≡ get_or olds k d
   joined_at [] olds k d within = absurd (omega (arith, within))
   joined_at (n ∷ news) olds zero d within = refl
@@ -44,7 +44,7 @@ module _ {A C : Type 0} (differ : ℕ → List A → List A → List C) (adds : 
       ∙ ap (λ xs. before ++ xs) (sym (first k o (drop (k + 1) olds) n (drop (k + 1) news)) ∙ (λ i. differ k (sym olds_are i) (sym news_are i)))
       ∙ all
 
-  -- one more entry is made alike
+  -- one more entry is made equal
   pub alike_next : (new : A) → new ≡ n → set now k new ≡ take (k + 1) news ++ drop (k + 1) olds
   alike_next new told =
       (λ i. set (so_far i) k ((told ∙ is_new) i)) ∙ joined_set news olds k e within same ∙ ap (λ m. take m news ++ drop m olds) (sym (add-one k))

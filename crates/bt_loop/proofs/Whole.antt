@@ -66,7 +66,7 @@ steady_after (Err e) tree world before after runs block d ends steady stay = tt
 
 -- ---- A change of a fact
 
--- other facts, as many
+-- with other facts, as many as before, the runners still fit
 pub fit_facts : (tree : Tree) (world : World) (facts facts1 : List ℤ) (drivers : List DriverState) (rs : List ReadyRunner) → length facts1 ≡ length facts → RunnersFit tree world facts drivers rs → RunnersFit tree world facts1 drivers rs
 fit_facts tree world facts facts1 drivers rs same fit = record {
   many = fit.many;
@@ -133,7 +133,7 @@ module _ (tree : Tree) (world : World) (fact : ℕ) (value : ℤ) (at : ℕ) (dr
   pub change_fits : RunnersFit tree world facts1 drivers runs0.runners.items
   change_fits = fit_facts tree world runs0.facts facts1 drivers runs0.runners.items many_same are.fit
 
-  -- it was told
+  -- the change was told
   pub change_told : (told : Told) (block : Block) → block ≡ record begun { facts = block.facts } → block.facts.items ≡ begun.facts.items ++ changed_from 0 runs0.told.facts.items facts1 →
       EventEnds (Ok tt) tree.term drivers drivers (runs1 told) block (change_step fact value at s0)
   change_told told block rest changed = (
@@ -153,7 +153,7 @@ module _ (tree : Tree) (world : World) (fact : ℕ) (value : ℤ) (at : ℕ) (dr
   pub change_stays : (told : Told) → told.facts.items ≡ facts1 → told.boards ≡ runs0.told.boards → StayRuns tree world drivers (runs1 told)
   change_stays told facts boards = record { usable = are.usable; fit = change_fits; told = facts; told_entries = ap (λ v. boards_told v.items) boards ∙ are.told_entries }
 
-  -- it was cut off
+  -- there was want of memory
   pub change_cut : (told : Told) (runs2 : Runs) (after : List DriverState) (n1 n2 : List Note) → n1 ≡ begun.notes.list → IsQuenched tree drivers after (runs1 told) runs2 n1 n2 → IsCutOff (arenas_of runs2) drivers after n2 (change_step fact value at s0)
   change_cut told runs2 after n1 n2 same q = record {
     told = [];

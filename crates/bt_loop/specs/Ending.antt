@@ -1,4 +1,4 @@
--- How an event ends, behind the part of its runner.
+-- How an event ends, after the part of its runner.
 use Rattle.std.specs.Prelude.{◌≡◌, ◌-◌, ◌≤◌, ◌<◌, ◌^◌, ℕ, ℤ, List, [], ◌++◌, ◌∷◌, length, map, slice_set, slice_index_or, Option, true, Result, Ok, Err}
 use Rattle.bt_script.specs.declared.stop.Stop.{Stop}
 use Rattle.bt_script.specs.declared.stop.Stop.TheVariants as stop
@@ -24,7 +24,7 @@ use Rattle.bt_loop.specs.Telling.{boards_told, entries_told}
 abbrev pub part_step : Part → Header → Tree → World → ℕ → ℕ → RunState → Runner → Stepped
 part_step part header tree world number at s r = runner_step header tree number at s (part_of part tree world number r.memory (state_of r s.facts at))
 
--- all runners were quenched, behind these notes
+-- all runners were quenched, and the notes of this come after these notes
 pub record IsQuenched (tree : Tree) (before after : List DriverState) (old new : Runs) (told noted : List Note) : Type 0 where
   pub state : runners_in tree.term after new.runners.items ≡ map (quenched_runner tree) (runners_in tree.term before old.runners.items)
   pub notes : noted ≡ told ++ quench_notes 1 (runners_in tree.term before old.runners.items)
@@ -34,7 +34,7 @@ pub record IsQuenched (tree : Tree) (before after : List DriverState) (old new :
   pub arenas : arenas_of new ≡ arenas_of old
   pub boards : boards_in new.runners.items ≡ boards_in old.runners.items
 
--- what was told fits, so that the part of a runner can be told
+-- what was told has the right lengths, so that the part of a runner can be told
 pub record CanTell (number : ℕ) (runs : Runs) : Type 0 where
   pub first : 1 ≤ number
   pub last : number ≤ length runs.runners.items
@@ -52,8 +52,8 @@ pub record IsTelling (number : ℕ) (facts : List ℤ) (boards : List (List (Opt
   pub told : new.facts.items ≡ facts
   pub told_entries : boards_told new.boards.items ≡ slice_set (boards_told old.boards.items) (number - 1) (slice_index_or boards (number - 1) [])
 
--- how an event ends whose runner's part has ended: it is told; a fault is noted, and all runners are quenched; and want
--- of memory quenches them, whenever it comes
+-- How an event ends after its runner's part: what changed is told; a fault has a note, and all runners are quenched;
+-- and want of memory (out of memory), whenever it comes, quenches them.
 abbrev pub Closing : Result (Unit {0}) (Stop NodeFault) → Result (Unit {0}) (Stop RunFault) → Tree → ℕ → List DriverState → List DriverState → Runs → Runs → Block → Block → Type 0
 Closing (Ok a) (Ok b) tree number before after old new begun block =
     IsTelling number old.facts (boards_in old.runners.items) old.told new.told begun block × (new ≡ record old { told = new.told }) × (block.notes ≡ begun.notes) × (after ≡ before)
@@ -66,12 +66,12 @@ Closing (Err (stop.Fault f)) (Err stop.NoMemory) tree number before after old ne
 Closing (Err stop.NoMemory) (Err stop.NoMemory) tree number before after old new begun block = IsQuenched tree before after old new begun.notes.list block.notes.list
 Closing _ _ tree number before after old new begun block = ⊥
 
--- .. and so for each tree in each world that the runs fit
+-- an event ends so for each tree in each world that the runs fit
 abbrev pub Closes : Result (Unit {0}) (Stop NodeFault) → Result (Unit {0}) (Stop RunFault) → ℕ → List DriverState → List DriverState → Runs → Runs → Block → Block → Type 0
 Closes ended result number before after old new begun block =
     (tree : Tree) (world : World) → RunnersFit tree world old.facts before old.runners.items → Closing ended result tree number before after old new begun block
 
--- what holds of runs behind an event that was made, but for the rules of states
+-- what holds of runs after an event that was made, apart from the rules of states
 pub record StayRuns (tree : Tree) (world : World) (drivers : List DriverState) (runs : Runs) : Type 0 where
   pub usable : runs.usable ≡ true
   pub fit : RunnersFit tree world runs.facts drivers runs.runners.items

@@ -16,11 +16,12 @@ pub record IsOpening (tree : Tree) (world : World) (drivers : List DriverState) 
   pub arena : IsArenaOf tree world drivers number r.arena
   pub board : r.board ≡ opening_board tree
 
--- each of some runners is so, numbered from 1
+-- each of these runners, numbered from 1, is one made for a roster of these drivers
 abbrev pub AreOpening : Tree → World → List DriverState → List ReadyRunner → Type 0
 AreOpening tree world drivers runners = (k : ℕ) (r : ReadyRunner) → slice_get runners k ≡ Some r → IsOpening tree world drivers (k + 1) r
 
--- the runners of a world are so, the facts have their opening values, and all of this is told
+-- the runners of a world were made for a roster of these drivers, the facts have their opening values, and all is
+-- told
 pub record AreOpeningRuns (tree : Tree) (world : World) (drivers : List DriverState) (runs : Runs) : Type 0 where
   pub many : length runs.runners.items ≡ world.runners
   pub runners : AreOpening tree world drivers runs.runners.items

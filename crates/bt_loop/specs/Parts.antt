@@ -23,7 +23,7 @@ use Rattle.bt_loop.specs.Runs.{RunnersFit, roster_over, runners_in}
 
 -- ---- What a part does
 
--- a part, of which no answer is wanted
+-- the end of a part, without its answer
 abbrev pub ending_of : {A : Type 0} → Result A NodeFault → Result (Unit {0}) NodeFault
 ending_of (Ok a) = Ok tt
 ending_of (Err f) = Err f
@@ -43,13 +43,13 @@ scene_of r facts drivers = scene r.arena.kept.items r.board facts drivers
 abbrev pub state_of_runner : ReadyRunner → List ℤ → List DriverState → ℕ → State
 state_of_runner r facts drivers at = state_in r.arena.nodes.items (scene_of r facts drivers) at
 
--- a runner can make its part at this moment
+-- a runner can make its part at this time
 pub record CanAct (tree : Tree) (world : World) (at : ℕ) (facts : List ℤ) (drivers : List DriverState) (r : ReadyRunner) : Type 0 where
   pub fits : Fits tree.term (root_view tree world) 1 r.arena.nodes.items (scene_of r facts drivers)
   pub sound : Sound tree.term world.rows None 1 (memory_of tree.term 1 r.arena.kept.items) (state_of_runner r facts drivers at)
   pub dated : Dated (state_of_runner r facts drivers at)
 
--- what stays of a runner
+-- what no event changes of a runner
 pub record StaysRunner (old new : ReadyRunner) : Type 0 where
   pub nodes : new.arena.nodes.items ≡ old.arena.nodes.items
   pub number : new.arena.runner ≡ old.arena.runner
@@ -59,20 +59,20 @@ pub record StaysRunner (old new : ReadyRunner) : Type 0 where
 abbrev pub state_of_all : Term → List DriverState → List ReadyRunner → List ℤ → ℕ → RunState
 state_of_all term drivers runners facts last = record { runners = runners_in term drivers runners; facts = facts; last = last }
 
--- what holds of runners before a part at this moment, the last event having been at that one
+-- what holds of runners before a part at the time `at`, where the last event was at the time `last`
 pub record AreReady (tree : Tree) (world : World) (last at : ℕ) (facts : List ℤ) (drivers : List DriverState) (runners : List ReadyRunner) : Type 0 where
   pub fit : RunnersFit tree world facts drivers runners
   pub steady : RunSteady tree.term world.rows (state_of_all tree.term drivers runners facts last)
   pub ahead : last ≤ at
 
--- a part was made as a whole, and ended so
+-- a part was made to its end, with no fault or with this one
 pub record PartMade (term : Term) (number at : ℕ) (s : RunState) (arenas : List (List Node)) (before after : List DriverState) (runners : List ReadyRunner) (facts : List ℤ) (old new : List Note) (ending : Result (Unit {0}) NodeFault) (d : Done (Unit {0}) Memory) : Type 0 where
   pub answer : d.answer ≡ ending
   pub state : state_of_all term after runners facts at ≡ with_runner s number at d
   pub notes : new ≡ old ++ d.notes
   pub drivers : after ≡ roster_over arenas (runner_calls number d.calls) before
 
--- a part was cut off
+-- a part was cut off: a prefix of its notes was added, and the drivers took the calls that these notes name
 pub record PartCut (number : ℕ) (arenas : List (List Node)) (before after : List DriverState) (old new : List Note) (d : Done (Unit {0}) Memory) : Type 0 where
   pub told : List Note
   pub untold : List Note

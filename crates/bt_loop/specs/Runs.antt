@@ -75,20 +75,20 @@ pub record IsTheirs (arenas : List (List Node)) (place instance : ℕ) : Type 0 
   pub is_driver : leaf.driver ≡ place
   pub is_instance : leaf.instance ≡ instance
 
--- no instance is held but those of leaves of these runners
+-- only instances of leaves of these runners are held
 abbrev pub HeldAreTheirs : List (List Node) → List DriverState → Type 0
 HeldAreTheirs arenas drivers = (place instance : ℕ) → is_held (instance_at drivers place instance) ≡ true → IsTheirs arenas place instance
 
 -- ---- What holds of runs
 
--- a runner's tree stands in its arena, whose marks say what is held, and nothing else does: place 0 is no leaf's
+-- a runner's tree stands in its arena, with nothing else but place 0; the marks of the arena say what is held
 pub record RunnerFits (tree : Tree) (world : World) (facts : List ℤ) (drivers : List DriverState) (number : ℕ) (r : ReadyRunner) : Type 0 where
   pub numbered : r.arena.runner ≡ number
   pub fits : Fits tree.term (root_view tree world) 1 r.arena.nodes.items (scene r.arena.kept.items r.board facts drivers)
   pub nodes : length r.arena.nodes.items ≡ 1 + node_count tree.term
   pub nobody : leaf_at r.arena.nodes.items 0 ≡ None
 
--- what holds of the runners of a world also in the middle of an event
+-- what holds of the runners of a world, even during an event
 pub record RunnersFit (tree : Tree) (world : World) (facts : List ℤ) (drivers : List DriverState) (runners : List ReadyRunner) : Type 0 where
   pub many : length runners ≡ world.runners
   pub each : (k : ℕ) (r : ReadyRunner) → slice_get runners k ≡ Some r → RunnerFits tree world facts drivers (k + 1) r
@@ -98,7 +98,8 @@ pub record RunnersFit (tree : Tree) (world : World) (facts : List ℤ) (drivers 
   pub few_facts : length world.facts < 2 ^ 32
   pub few_slots : length (slots tree) < 2 ^ 32
 
--- what holds of the runs of a tree in a world between events, before any has stopped
+-- what holds of the runs of a tree in a world between events, as long as none has ended with a fault or for want of
+-- memory
 pub record AreRuns (tree : Tree) (world : World) (drivers : List DriverState) (runs : Runs) : Type 0 where
   pub usable : runs.usable ≡ true
   pub fit : RunnersFit tree world runs.facts drivers runs.runners.items
@@ -108,8 +109,8 @@ pub record AreRuns (tree : Tree) (world : World) (drivers : List DriverState) (r
 
 -- ---- Instances
 
--- how many instances each of some drivers needs, of which the first has this place: one for each runner's leaves that it
--- serves
+-- how many instances each of these drivers needs, counted from this place on: one for each leaf of each runner that
+-- it serves
 abbrev pub wanted_from : Tree → World → List DriverState → ℕ → List DriverState → List ℕ
 wanted_from tree world drivers place [] = []
 wanted_from tree world drivers place (d ∷ ds) = world.runners * leaves_served world.rows drivers place (leaf_ids tree.term) ∷ wanted_from tree world drivers (place + 1) ds

@@ -12,27 +12,29 @@ use Rattle.bt_loop.specs.Runs.{instances_wanted}
 
 -- ---- Drivers
 
--- the place of the driver that serves a node: a leaf is served by the first driver of its row's kind, and no other node is
+-- the place of the driver that serves a node: a leaf is served by the first driver of its row's kind, any other node
+-- by none
 abbrev pub place_serving : World → List DriverState → Node → Option ℕ
 place_serving world drivers node = if is_leaf node.kind then place_by (row_of world.rows node.id) drivers else None
 
--- these places by uid, of a tree's nodes in pre-order; the uid 0 is nobody's
+-- these places by uid, for the nodes of a tree in pre-order; the uid 0 is no node's
 abbrev pub serving_places : Tree → World → List DriverState → List (Option ℕ)
 serving_places tree world drivers = None ∷ map (place_serving world drivers) (nodes_of tree.term)
 
 -- ---- Instances
 
--- how many nodes the driver at a place serves, of nodes with these places
+-- how many of the nodes with these places the driver at this place serves
 abbrev pub served_among : ℕ → List (Option ℕ) → ℕ
 served_among place places = count_by (is_place place) places
 
--- the instances of a driver are numbered by runner, and then by uid, among the leaves that it serves
+-- the number of an instance: they are numbered by runner, and then by uid, among the leaves that the driver serves
 abbrev pub instance_number : List (Option ℕ) → ℕ → ℕ → ℕ → ℕ
 instance_number places runner place uid = (runner - 1) * served_among place places + served_among place (take uid places)
 
 -- ---- Calls
 
--- the place of the driver for a call, where there are so many runners; a node of no runner is served by nobody
+-- the place of the driver that serves a call's node, where there are this many runners; a runner that is not there
+-- has none
 abbrev pub place_called : ℕ → List (Option ℕ) → RunnerCall → Option ℕ
 place_called runners places c = if nat_le c.runner runners then slice_index_or places c.call.uid None else None
 
@@ -41,7 +43,7 @@ abbrev pub call_made : Option ℕ → List (Option ℕ) → RunnerCall → List 
 call_made (Some place) places c drivers = roster_called drivers place c.call.phase (instance_number places c.runner place c.call.uid) c.call.left
 call_made None places c drivers = drivers
 
--- the drivers after these calls for leaves of so many runners, in order
+-- the drivers after these calls for leaves of this many runners, in order
 abbrev pub calls_made : ℕ → List (Option ℕ) → List RunnerCall → List DriverState → List DriverState
 calls_made runners places [] drivers = drivers
 calls_made runners places (c ∷ calls) drivers = calls_made runners places calls (call_made (place_called runners places c) places c drivers)

@@ -1,4 +1,4 @@
--- What an event leaves of runs, against the definition's step.
+-- What an event leaves of runs, compared with the definition's step.
 use Rattle.std.specs.Prelude.{◌≡◌, ◌≤◌, ◌+◌, ◌<◌, ◌^◌, ◌⊎◌, ℕ, List, ◌++◌, length, map, Some, None, Result, Ok, Err}
 use Rattle.bt_script.specs.declared.stop.Stop.{Stop}
 use Rattle.bt_script.specs.declared.stop.Stop.TheVariants as stop
@@ -21,11 +21,11 @@ use Rattle.bt_loop.specs.Runs.{arenas_of, leaves_of, roster_over, state_of_runs}
 
 -- ---- Premises
 
--- an event names a runner or a fact that is there, at no moment before the last one
+-- an event names a runner or a fact that is there, and is not before the last one
 abbrev pub CanCome : World → ℕ → Event → Type 0
 CanCome world last event = IsValidWhat world.facts world.runners event.what × (last ≤ event.at)
 
--- notes were made for the leaves of all runners
+-- the notes were made with room for the leaves of all runners
 abbrev pub HaveRoom : List (List Node) → Noted → Type 0
 HaveRoom arenas notes = leaves_of arenas + 1 ≤ notes.full
 
@@ -37,8 +37,8 @@ pub record IsStep (term : Term) (before after : List DriverState) (runs : Runs) 
   pub shown : seen block ≡ d.block
   pub drivers : after ≡ roster_over (arenas_of runs) d.calls before
 
--- the event was cut off: its first notes are told, and then those of the quench of all runners, which held what the
--- drivers' calls that the first notes name had left them
+-- The event was cut off: a prefix of its notes is told, then the notes of the quench of all runners. Held at the
+-- quench is what the calls named by that prefix have left held.
 pub record IsCutOff (arenas : List (List Node)) (before after : List DriverState) (notes : List Note) (d : Stepped) : Type 0 where
   pub told : List Note
   pub untold : List Note
@@ -52,14 +52,15 @@ pub record IsCutOff (arenas : List (List Node)) (before after : List DriverState
   pub noted : notes ≡ told ++ quench_notes 1 held
   pub drivers : after ≡ roster_over arenas (quench_calls 1 held) (roster_over arenas made before)
 
--- a fault was told, and only what has changed is not told as a whole
+-- the fault of the event was told with all notes; only the facts and entries that changed may be missing
 pub record IsTold (arenas : List (List Node)) (before after : List DriverState) (notes : List Note) (d : Stepped) : Type 0 where
   pub fault : RunFault
   pub faulted : d.fault ≡ Some fault
   pub noted : notes ≡ d.block.notes
   pub drivers : after ≡ roster_over arenas d.calls before
 
--- The answer and the fault are the definition's, with all that it leaves. Want of memory cuts the event off.
+-- An answer or a fault is the definition's, with all that it leaves. Want of memory (out of memory) cuts the event
+-- off.
 abbrev pub EventEnds : Result (Unit {0}) (Stop RunFault) → Term → List DriverState → List DriverState → Runs → Block → Stepped → Type 0
 EventEnds (Ok done) term before after runs block d = (d.fault ≡ None) × IsStep term before after runs block d
 EventEnds (Err (stop.Fault fault)) term before after runs block d = (d.fault ≡ Some fault) × IsStep term before after runs block d
@@ -68,7 +69,7 @@ EventEnds (Err stop.NoMemory) term before after runs block d =
 
 -- ---- Rosters
 
--- a count of 64 bits has not fallen, and still is one
+-- a count of 64 bits has not fallen, and is still one of 64 bits
 abbrev pub HasNotFallen : ℕ → ℕ → Type 0
 HasNotFallen old new = old < 2 ^ 64 → (old ≤ new) × (new < 2 ^ 64)
 
@@ -77,7 +78,7 @@ pub record HasRisen (old new : Totals) : Type 0 where
   pub runnings : HasNotFallen old.runnings new.runnings
   pub haltings : HasNotFallen old.haltings new.haltings
 
--- as many drivers, each of the same kind and mark in its place, and no total has fallen
+-- there are as many drivers, each of the same kind and mark at its place, and no total has fallen
 pub record IsSameRoster (old new : List DriverState) : Type 0 where
   pub as_many : length new ≡ length old
   pub kind : (place : ℕ) → (driver_at new place).kind ≡ (driver_at old place).kind

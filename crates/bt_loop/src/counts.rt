@@ -26,7 +26,8 @@ pub fn leaves(runs: &Runs) -> usize
     count
 }
 
-/// For each driver, how many instances so many runners need of it, each with these nodes.
+/// For each driver, how many instances this many runners need of it, each with these nodes. The
+/// error is want of memory (out of memory).
 fn counts_of<D: Drivers>(
     alloc: Global,
     nodes: &[Node],
@@ -45,7 +46,7 @@ fn counts_of<D: Drivers>(
     Ok(counts)
 }
 
-/// For each driver, how many instances these runs need of it.
+/// For each driver, how many instances the runners of these runs need of it, or want of memory.
 pub fn wanted<D: Drivers>(alloc: Global, runs: &Runs, drivers: &D) -> Result<Vec<u32>, NoMemory>
     requires { (tree : Tree) × (world : World) × IsValid tree × IsValidWorld world × AreOpeningRuns tree world (D.states drivers.now) runs.now }
     ensures { (tree : Tree) (world : World) → AreOpeningRuns tree world (D.states drivers.now) runs.now →

@@ -22,7 +22,7 @@ use bt_script::{NoMemory, Stop};
 use std::alloc::Global;
 use std::mem;
 
-/// Begins a block.
+/// Begins a block: it has this header and nothing else, and its reserve is restored.
 fn begin(block: &mut Block, header: Header)
     ensures header { block.new.header ≡ header }
     ensures notes { block.new.notes ≡ record { list = []; reserve = block.old.notes.full; full = block.old.notes.full } }
@@ -35,7 +35,7 @@ fn begin(block: &mut Block, header: Header)
     block.entries.clear();
 }
 
-/// Ends runs: quenches all runners. It takes no memory.
+/// Ends runs: quenches all runners, and no further event may come. It allocates no memory.
 fn stop<D: Drivers>(runs: &mut Runs, drivers: &mut D, notes: &mut Notes)
     requires fit { (tree : Tree) × (world : World) × RunnersFit tree world runs.old.facts (D.states drivers.old) runs.old.runners.items }
     requires room { leaves_of (arenas_of runs.old) ≤ notes.old.reserve }
@@ -52,7 +52,8 @@ fn stop<D: Drivers>(runs: &mut Runs, drivers: &mut D, notes: &mut Notes)
     runs.usable = false;
 }
 
-/// Tells what changed in the part of the runner of this number.
+/// Adds to the block what changed in the part of the runner of this number. The error is want of
+/// memory.
 fn tell(alloc: Global, number: u8, runs: &mut Runs, block: &mut Block) -> Result<(), NoMemory>
     requires can { CanTell number runs.old }
     ensures told { OnOk result (IsTelling number runs.old.facts (boards_in runs.old.runners.items) runs.old.told runs.new.told block.old block.new) }
@@ -63,7 +64,8 @@ fn tell(alloc: Global, number: u8, runs: &mut Runs, block: &mut Block) -> Result
     tell_part(alloc, number, &mut runs.told, &runs.facts, board, block)
 }
 
-/// Ends an event whose runner's part was made: tells what changed.
+/// Ends an event after its runner's part was made: adds what changed. Where there is want of
+/// memory, all runners are quenched.
 fn end_part<D: Drivers>(
     alloc: Global,
     number: u8,
@@ -88,8 +90,8 @@ fn end_part<D: Drivers>(
     }
 }
 
-/// Ends an event in whose runner's part a node faulted: notes the fault, quenches all runners, and
-/// tells what changed.
+/// Ends an event after a node faulted in its runner's part: adds the note of the fault, quenches
+/// all runners, and adds what changed. The error is the fault, or want of memory.
 fn end_at_fault<D: Drivers>(
     alloc: Global,
     number: u8,
@@ -121,7 +123,8 @@ fn end_at_fault<D: Drivers>(
     }))
 }
 
-/// Ends an event, however its runner's part has ended.
+/// Ends an event after its runner's part, whether that was made or stopped. The error is the fault
+/// of a node, or want of memory.
 fn end_event<D: Drivers>(
     alloc: Global,
     number: u8,
@@ -148,7 +151,9 @@ fn end_event<D: Drivers>(
     }
 }
 
-/// Makes an event of one runner: its part, and what ends the event.
+/// Makes an event of one runner at the time `at` in milliseconds: its part, and the end of the
+/// event. The error is the fault of a node, or want of memory; after either all runners are
+/// quenched.
 fn run_part<D: Drivers>(
     alloc: Global,
     part: Part,
@@ -188,7 +193,8 @@ fn run_part<D: Drivers>(
     end_event(alloc, number, ended, runs, drivers, block)
 }
 
-/// Gives a fact a value, and tells it where it has changed.
+/// Gives a fact a value at the time `at` in milliseconds, and adds it to the block where it has
+/// changed. Where there is want of memory, all runners are quenched.
 fn change_fact<D: Drivers>(
     fact: u32,
     value: i64,
@@ -222,7 +228,8 @@ fn change_fact<D: Drivers>(
     }
 }
 
-/// Makes an event of runs over any drivers.
+/// Makes an event of runs over any drivers. The error is the fault of a node, or want of memory;
+/// after either all runners are quenched, and no further event may come.
 pub fn run_event<D: Drivers>(
     alloc: Global,
     runs: &mut Runs,
@@ -268,7 +275,9 @@ pub fn run_event<D: Drivers>(
     }
 }
 
-/// Finishes a runner of runs over any drivers.
+/// Finishes a runner of runs over any drivers, at the time of the last event: its root is reset.
+/// The error is the fault of a node, or want of memory; after either all runners are quenched, and
+/// no further event may come.
 pub fn run_finish<D: Drivers>(
     alloc: Global,
     runs: &mut Runs,

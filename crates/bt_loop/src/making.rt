@@ -24,7 +24,9 @@ use bt_script::Stop;
 use std::alloc::Global;
 use std::mem;
 
-/// Makes the runs of a tree in a world over any drivers, and prepares the drivers.
+/// Makes the runs of a tree in a world over any drivers, and prepares the drivers. The fault is
+/// what is missing for the first leaf for which something is missing. Where there is want of
+/// memory, a prefix of the drivers may be prepared.
 pub fn make_runs<D: Drivers>(
     alloc: Global,
     tree: &Tree,

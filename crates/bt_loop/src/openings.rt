@@ -16,7 +16,7 @@ use bt_model::{Tree, World};
 use bt_script::{NoMemory, Stop, Value};
 use std::alloc::Global;
 
-/// An equal entry of a blackboard.
+/// A copy of an entry of a blackboard, or want of memory.
 fn copy_entry(alloc: Global, entry: &Option<Value>) -> Result<Option<Value>, NoMemory>
     ensures { IfOk result (λ copied. copied ≡ entry.now) }
 {
@@ -26,7 +26,7 @@ fn copy_entry(alloc: Global, entry: &Option<Value>) -> Result<Option<Value>, NoM
     }
 }
 
-/// Equal entries, by slot.
+/// Copies of these entries, by slot, or want of memory.
 fn copy_entries(alloc: Global, entries: &[Option<Value>]) -> Result<Vec<Option<Value>>, NoMemory>
     ensures { IfOk result (λ copied. copied.items ≡ entries.now) }
 {
@@ -37,7 +37,7 @@ fn copy_entries(alloc: Global, entries: &[Option<Value>]) -> Result<Vec<Option<V
     Ok(copied)
 }
 
-/// The entries of each runner's blackboard.
+/// Copies of the entries of each runner's blackboard, or want of memory.
 fn entries_of(alloc: Global, runners: &[ReadyRunner]) -> Result<Vec<Vec<Option<Value>>>, NoMemory>
     ensures { IfOk result (λ boards. boards_told boards.items ≡ boards_in runners.now) }
 {
@@ -48,7 +48,8 @@ fn entries_of(alloc: Global, runners: &[ReadyRunner]) -> Result<Vec<Vec<Option<V
     Ok(boards)
 }
 
-/// Before the first block, all facts and entries are told: a block tells what changed.
+/// What counts as told before the first block: all facts and entries, since a block tells what has
+/// changed. The error is want of memory.
 fn told_of(alloc: Global, facts: &FactTable, runners: &[ReadyRunner]) -> Result<Told, NoMemory>
     ensures facts { IfOk result (λ told. told.facts.items ≡ facts.now) }
     ensures boards { IfOk result (λ told. boards_told told.boards.items ≡ boards_in runners.now) }
@@ -59,7 +60,8 @@ fn told_of(alloc: Global, facts: &FactTable, runners: &[ReadyRunner]) -> Result<
     })
 }
 
-/// The runner of this number before the first event.
+/// The runner of this number before the first event. The fault is what is missing for the first
+/// leaf for which something is missing.
 fn runner_of<D: Drivers>(
     alloc: Global,
     tree: &Tree,
@@ -81,7 +83,8 @@ fn runner_of<D: Drivers>(
     Ok(ReadyRunner { arena, board })
 }
 
-/// The runners of a world before the first event.
+/// The runners of a world before the first event. The fault is what is missing for the first leaf
+/// for which something is missing.
 fn runners_of<D: Drivers>(
     alloc: Global,
     tree: &Tree,
@@ -105,6 +108,7 @@ fn runners_of<D: Drivers>(
 }
 
 /// The runs of a tree in a world before the first event, for drivers that are still to be prepared.
+/// The fault is what is missing for the first leaf for which something is missing.
 pub fn opening_runs<D: Drivers>(
     alloc: Global,
     tree: &Tree,

@@ -30,7 +30,7 @@ pub enum Part {
     Reset,
 }
 
-/// The end of a root when its tick ends.
+/// The status of a root after its tick: IDLE where it has succeeded or failed.
 fn at_end(status: Status) -> Status
     ensures { result ≡ settled status }
 {
@@ -40,7 +40,8 @@ fn at_end(status: Status) -> Status
     }
 }
 
-/// A root that has succeeded or failed becomes IDLE, which is noted.
+/// Makes a root IDLE that has succeeded or failed, with a note. The error is want of memory, and
+/// then the root is unchanged.
 fn settle_root(kept: &mut Vec<Kept>, notes: &mut Notes) -> Result<(), NoMemory>
     requires { 1 < length kept.old.items }
     ensures kept { OnOk result (kept.new.items ≡ slice_set kept.old.items 1 (record (kept_at kept.old.items 1) { status = settled (kept_at kept.old.items 1).status })) }
@@ -59,7 +60,8 @@ fn settle_root(kept: &mut Vec<Kept>, notes: &mut Notes) -> Result<(), NoMemory>
     Ok(())
 }
 
-/// Ends a tick: notes the root's answer, and then the root's own end.
+/// Ends a tick: adds the note of the root's answer, and makes a root IDLE that has succeeded or
+/// failed. The error is want of memory, and then the root is unchanged.
 fn end_tick(
     runner: u8,
     answer: Answer,
@@ -78,7 +80,9 @@ fn end_tick(
     settle_root(kept, notes)
 }
 
-/// Ticks a runner: visits its root, and notes its answer and the root's own end.
+/// Ticks a runner at the time `at` in milliseconds: visits its root, adds the note of its answer,
+/// and makes a root IDLE that has succeeded or failed. The error is the fault of a node, or want of
+/// memory.
 #[inline(never)]
 fn tick_root<D: Drivers>(
     alloc: Global,
@@ -111,7 +115,7 @@ fn tick_root<D: Drivers>(
     Ok(())
 }
 
-/// Resets a runner's root.
+/// Resets a runner's root. The error is the fault of a node, or want of memory.
 fn reset_root<D: Drivers>(
     alloc: Global,
     runner: &mut ReadyRunner,
@@ -137,7 +141,8 @@ fn reset_root<D: Drivers>(
     )
 }
 
-/// Makes a runner's part of an event.
+/// Makes a runner's part of an event at the time `at` in milliseconds. The error is the fault of a
+/// node, or want of memory.
 fn make_part<D: Drivers>(
     alloc: Global,
     part: Part,
@@ -162,7 +167,8 @@ fn make_part<D: Drivers>(
     }
 }
 
-/// Makes the part of the runner of this number, among all runners.
+/// Makes the part of the runner of this number, among all runners, at the time `at` in
+/// milliseconds. The error is the fault of a node, or want of memory.
 pub fn make_part_of<D: Drivers>(
     alloc: Global,
     part: Part,

@@ -10,7 +10,7 @@ use bt_arena::Notes;
 use bt_driver::Drivers;
 use bt_halting::quench;
 
-/// Quenches all runners, in order. It takes no memory.
+/// Quenches all runners, in order. It allocates no memory.
 pub fn quench_all<D: Drivers>(runners: &mut Vec<ReadyRunner>, drivers: &mut D, notes: &mut Notes)
     requires fit { (tree : Tree) × (world : World) × (facts : List ℤ) × RunnersFit tree world facts (D.states drivers.old) runners.old.items }
     requires room { leaves_of (arenas_in runners.old.items) ≤ notes.old.reserve }

@@ -27,13 +27,13 @@ pub struct Runs {
     pub runners: Vec<ReadyRunner>,
     pub facts: FactTable,
     pub told: Told,
-    /// The moment of the last event, in milliseconds.
+    /// The time of the last event, in milliseconds.
     pub last: u64,
-    /// Whether no event has stopped.
+    /// Whether another event may come: none has ended with a fault or for want of memory.
     pub usable: bool,
 }
 
-/// Whether another event may come: none has stopped.
+/// Whether another event may come: none has ended with a fault or for want of memory.
 pub fn usable(runs: &Runs) -> bool
     ensures { result ≡ runs.now.usable }
 {

@@ -10,7 +10,8 @@ use bt_driver::FactTable;
 use bt_script::{NoMemory, Value};
 use std::alloc::Global;
 
-/// Adds a fact that differs from what was told, and tells it.
+/// Adds a fact to the changes where it differs from what was told, and records it as told. The
+/// error is want of memory.
 fn tell_fact(
     fact: u32,
     told: &mut i64,
@@ -27,7 +28,8 @@ fn tell_fact(
     Ok(())
 }
 
-/// Adds the facts that differ from those that were told, and tells them.
+/// Adds the facts that differ from what was told to the changes, and records them as told. The
+/// error is want of memory.
 pub fn tell_facts(
     told: &mut [i64],
     facts: &[i64],
@@ -44,7 +46,7 @@ pub fn tell_facts(
     Ok(())
 }
 
-/// Whether an entry already had this value.
+/// Whether an entry had this value before.
 fn already(old: &Option<Value>, new: &Value) -> bool
     ensures { result ≡ had old.now new.now }
 {
@@ -55,7 +57,8 @@ fn already(old: &Option<Value>, new: &Value) -> bool
     }
 }
 
-/// Adds an entry that changed or is new, and tells it.
+/// Adds an entry to the changes where it is new or differs from what was told, and records it as
+/// told. The error is want of memory.
 fn tell_entry(
     alloc: Global,
     runner: u8,
@@ -79,7 +82,8 @@ fn tell_entry(
     Ok(())
 }
 
-/// Adds the entries of a runner's blackboard that differ from those that were told, and tells them.
+/// Adds the entries of a runner's blackboard that are new or differ from what was told to the
+/// changes, and records them as told. The error is want of memory.
 fn tell_entries(
     alloc: Global,
     runner: u8,
@@ -98,7 +102,8 @@ fn tell_entries(
     Ok(())
 }
 
-/// The same for the blackboard of the runner of this number.
+/// Adds the entries that are new or differ from what was told, of the blackboard of the runner of
+/// this number, and records them as told. The error is want of memory.
 fn tell_board(
     alloc: Global,
     number: u8,
@@ -122,7 +127,8 @@ fn tell_board(
     )
 }
 
-/// Adds to a block the facts that differ from those that were told, and tells them.
+/// Adds to a block the facts that differ from what was told, and records them as told. The error is
+/// want of memory.
 pub fn tell_facts_in(told: &mut Told, facts: &FactTable, block: &mut Block) -> Result<(), NoMemory>
     requires same { length told.old.facts.items ≡ length facts.now }
     requires few { length facts.now < 2 ^ 32 }
@@ -135,7 +141,7 @@ pub fn tell_facts_in(told: &mut Told, facts: &FactTable, block: &mut Block) -> R
 }
 
 /// Adds to a block the facts, and the entries of the blackboard of the runner of this number, that
-/// differ from those that were told, and tells them.
+/// are new or differ from what was told, and records them as told. The error is want of memory.
 pub fn tell_part(
     alloc: Global,
     number: u8,

@@ -68,7 +68,7 @@ module _ (term : Term-F Meaning) (view : View) (uid : ℕ) (s : State) where
   inputs_mean [] = refl
   inputs_mean (name ∷ names) = λ i. sight (given_means (site_of term view uid) s (given_at (site_of term view uid) name) i) ∷ inputs_mean names i
 
-  -- and its outputs are written as those of its row
+  -- and its outputs are written as the row says
   outputs_mean : (outs : List Out) (ns : List ℤ) (board : List (Option Value)) →
       outputs_written (map (λ (out : Out). source_at view term.ports out.port) outs) ns board ≡ with_outputs (site_of term view uid) outs ns board
   outputs_mean [] ns board = refl

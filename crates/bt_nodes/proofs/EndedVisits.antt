@@ -1,4 +1,4 @@
--- The end of a visit against its definition.
+-- The end of a visit, compared with its definition.
 use Rattle.std.proofs.Common.{◌≡◌, ℕ, ◌<◌, ℤ, List, [], ◌++◌, length, set, Option, Result, Ok, Err, refl, sym, ap, subst, ◌∙◌, append-nil}
 use Rattle.std.proofs.lemmas.List.{get_or-set_same, set-set}
 use Rattle.bt_script.specs.declared.stop.Stop.{Stop}
@@ -44,11 +44,11 @@ no_call uid Failure Running = refl
 no_call uid Failure Success = refl
 no_call uid Failure Failure = refl
 
--- what a node keeps that was given a memo
+-- what a node keeps after it was given a memo
 pub memo_set : (kept kept1 : List Kept) (uid : ℕ) (memo : Memo) → uid < length kept → kept1 ≡ set kept uid (record (kept_at kept uid) { memo = memo }) → kept_at kept1 uid ≡ record (kept_at kept uid) { memo = memo }
 memo_set kept kept1 uid memo there is = ap (λ ks. kept_at ks uid) is ∙ get_or-set_same kept uid (record (kept_at kept uid) { memo = memo }) at_rest there
 
--- .. and then a status
+-- and after it was given a memo, then a status
 pub status_set : (kept kept1 kept2 : List Kept) (uid : ℕ) (memo : Memo) (status : Status) → uid < length kept → kept1 ≡ set kept uid (record (kept_at kept uid) { memo = memo }) →
     kept2 ≡ set kept1 uid (record (kept_at kept1 uid) { status = status }) → kept2 ≡ set kept uid (record { status = status; memo = memo; held = (kept_at kept uid).held })
 status_set kept kept1 kept2 uid memo status there is is2 =
@@ -105,7 +105,7 @@ module _ (nodes : List Node) (term : Term-F Meaning) (view : View) (uid : ℕ) (
   stopped_by stop.NoMemory ran status kept_memo told =
       record { told = []; untold = end.notes; made = []; unmade = end.calls; all_notes = refl; all_calls = refl; named = refl; notes = told ∙ sym (append-nil old); drivers = refl }
 
-  -- a script stopped: the memo is kept already
+  -- a script stopped with a fault or for want of memory, after the memo was kept
   pub end_stopped : (r : Result Answer (Stop NodeFault)) (cause : Stop NodeFault) → r ≡ Err cause → Settles {A = Unit {0}} (Err cause) (on_board board1 before) (posts (site_of term view uid) answer before) →
       (kept_at kept1 uid).status ≡ (kept_at kept uid).status → (kept_at kept1 uid).memo ≡ memo → new ≡ old →
       Meets nodes now read r (scene kept board facts drivers) (scene kept1 board1 facts drivers) old new end

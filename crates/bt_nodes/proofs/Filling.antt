@@ -1,4 +1,4 @@
--- A list that is filled from the front.
+-- A list that is filled from its beginning on.
 use Rattle.std.proofs.Common.{◌≡◌, ℕ, suc, ◌+◌, ◌-◌, ◌<◌, List, [], ◌∷◌, ◌++◌, length, map, take, set, get_or, replicate, sym, ap, ◌∙◌, append_assoc, length-take, arith}
 use Rattle.std.proofs.lemmas.List.{length-map, map_more}
 use Rattle.std.proofs.Math.Seq.{set-append_seam}

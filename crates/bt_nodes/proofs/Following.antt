@@ -1,4 +1,4 @@
--- One part that can change the blackboard alone, and then the next.
+-- A part that can change the blackboard alone, and then the next.
 use Rattle.std.proofs.Common.{◌≡◌, ℕ, List, Option, Some, None, Result, Ok, Err, refl, sym, ap, subst, ◌∙◌}
 use Rattle.std.specs.Prelude.{IsErrAnd}
 use Rattle.bt_script.specs.declared.fault.ExecFault.{ExecFault}
@@ -58,19 +58,19 @@ module _ {A B : Type 0} (go : A → Unit {0} → State → Done B (Unit {0})) wh
   stopped_by (stop.Fault f) d s1 e = ap (λ (d1 : Done A (Unit {0})). follow d1 (λ _. tt) go) e
   stopped_by stop.NoMemory d s1 e = tt
 
-  -- a part stopped, and so all stops
+  -- a part stopped, so the next one is not made
   pub stopped : (stop : Stop NodeFault) (d : Done A (Unit {0})) (s1 : State) (r : Result B (Stop NodeFault)) →
       IsErrAnd r (λ x. x ≡ stop) → Settles {A = A} (Err stop) s1 d → Settles r s1 (follow d (λ _. tt) go)
   stopped stop d s1 r is e =
       subst (λ (r1 : Result B (Stop NodeFault)). Settles r1 s1 (follow d (λ _. tt) go)) (sym (stops_with r stop is)) (stopped_by stop d s1 e)
 
--- a part stopped before one with a memory, and so all stops with this memory
+-- a part stopped before one with a memory, so the next one is not made and the memory is this one
 pub stopped_with : {A B M : Type 0} (m : M) (go : A → Unit {0} → State → Done B M) (stop : Stop NodeFault) (d : Done A (Unit {0})) (s1 : State) (r : Result B (Stop NodeFault)) →
     r ≡ Err stop → Settles {A = A} (Err stop) s1 d → SettlesWith m r s1 (follow d (λ _. m) go)
 stopped_with {A} {B} {M} m go (stop.Fault f) d s1 r is e = subst (λ (r1 : Result B (Stop NodeFault)). SettlesWith m r1 s1 (follow d (λ _. m) go)) (sym is) (ap (λ (d1 : Done A (Unit {0})). follow d1 (λ _. m) go) e)
 stopped_with {A} {B} {M} m go stop.NoMemory d s1 r is e = subst (λ (r1 : Result B (Stop NodeFault)). SettlesWith m r1 s1 (follow d (λ _. m) go)) (sym is) tt
 
--- a part whose value is dropped before the next one, as if it were handed on
+-- a part whose value is dropped before the next one, as if it were passed on
 pub dropped : {A B M : Type 0} (m : M) (go : State → Done B M) (r : Result A NodeFault) (s : State) →
     follow {A = Unit {0}} {M = Unit {0}} (follow {N = Unit {0}} (ends {M = Unit {0}} r tt s) (λ _. tt) (λ value _ s1. done tt tt s1)) (λ _. m) (λ value _ s1. go s1)
     ≡ follow {M = Unit {0}} (ends r tt s) (λ _. m) (λ value _ s1. go s1)

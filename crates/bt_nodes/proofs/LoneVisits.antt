@@ -1,4 +1,4 @@
--- The rule of a node without children, and then the end of its visit.
+-- The answer of a node without children, and then the end of its visit.
 use Rattle.std.proofs.Common.{◌≡◌, ℕ, ◌+◌, ◌<◌, List, length, set, Result, Ok, Err, sym, ap, subst, ◌∙◌}
 use Rattle.bt_script.specs.declared.stop.Stop.{Stop}
 use Rattle.bt_model.specs.declared.fault.NodeFault.{NodeFault}
@@ -49,7 +49,7 @@ module _ (nodes : List Node) (uid now : ℕ) (t : Term) (view : View) (before mi
   memo_kept : (kept_at mid.kept uid).memo ≡ memo
   memo_kept = ap (λ (x : Kept). x.memo) (now_kept before.kept mid.kept uid k there is) ∙ same_memo
 
-  -- the rule was made, and the visit ends
+  -- there is an answer, and the visit ends
   pub lone_ended : (answer : Answer) (r : Result Answer (Stop NodeFault)) (after : Scene) (n2 : List Note) →
       Meets nodes now (λ _. ms) (Ok (record { answer = answer; memo = Nothing })) before mid n0 n1 rule_done →
       Meets nodes now (memory_of t uid) r mid after n1 n2 (ended site (kept_at mid.kept uid).status (record { answer = answer; memo = Nothing }) (memories_of (out-Term t).children (uid + 1) mid.kept) (state_in nodes mid now)) →
@@ -61,7 +61,7 @@ module _ (nodes : List Node) (uid now : ℕ) (t : Term) (view : View) (before mi
       followed nodes now (λ _. ms) (memory_of t uid) before mid n0 n1 rule_done (λ ms1. remembered status memo ms1) (λ g ms1 s1. ended site status g ms1 s1) _ r after n2 made
       (subst P (λ i. end (status_kept i) (same i)) rest)
 
-  -- the rule stopped, and so does the visit
+  -- there is a fault or want of memory, which ends the visit
   pub lone_stopped : (r : Result Answer (Stop NodeFault)) (cause : Stop NodeFault) → r ≡ Err cause → Meets {A = Given} nodes now (λ _. ms) (Err cause) before mid n0 n1 rule_done →
       Meets nodes now (memory_of t uid) r before mid n0 n1 visit_done
   lone_stopped r cause is_cause stops =

@@ -1,4 +1,4 @@
--- A call of a leaf's driver against its definition, and what it keeps.
+-- A call of a leaf's driver, compared with its definition, and what it leaves as it was.
 use Rattle.std.proofs.Common.{◌≡◌, ℕ, List, [], ◌++◌, length, map, get_or, set, Bool, false, Option, Some, Result, Err, refl, sym, ap, subst, ◌∙◌, append-nil, arith}
 use Rattle.std.specs.List.{All}
 use Rattle.std.proofs.lemmas.List.{length-map}
@@ -40,7 +40,7 @@ use Rattle.bt_nodes.specs.Calls.{CanBeCalled, IsInPhase, as_given, board_left, l
 use Rattle.bt_nodes.specs.Here.{FitsHere, in_stop}
 use Rattle.bt_nodes.proofs.Answering.{HasRow, answer_means, board_means, has_row, named_once}
 
--- nothing was done before memory was wanting
+-- nothing was done before there was want of memory
 pub cut_before : {A M : Type 0} (nodes : List Node) (now : ℕ) (read : List Kept → M) (r : Result A (Stop NodeFault)) (s : Scene) (old new : List Note) (d : Done A M) →
     r ≡ Err stop.NoMemory → new ≡ old → Meets nodes now read r s s old new d
 cut_before {A} {M} nodes now read r s old new d is same =
@@ -55,7 +55,7 @@ mark_is nodes kept drivers uid marks =
     ∙ get_or-map is_held (instances_of nodes drivers) uid fresh
     ∙ ap is_held (instance_at_uid nodes drivers uid)
 
--- a mark after a reply says whether the instance is held that the reply leaves
+-- a mark after a reply says whether the instance is held after it
 mark_by : (r : Reply) (mark : Bool) (start : ℕ) (before : Option ℕ) → mark ≡ is_some before → mark_left r mark ≡ is_some (since_after r start before)
 mark_by reply.Running mark start before right = refl
 mark_by reply.Success mark start before right = refl
@@ -77,7 +77,7 @@ module _ (nodes : List Node) (uid : ℕ) (leaf : ReadyLeaf) (now : ℕ) (status 
   abbrev instance : Instance
   instance = leaf_instance before.drivers (Some leaf)
 
-  -- ---- What it keeps
+  -- ---- What stays
 
   mark_right : AreServed before.drivers nodes → marks_of before.kept ≡ map is_held (instances_of nodes before.drivers) → mark_left a.reply (kept_at before.kept uid).held ≡ is_held a.instance
   mark_right are marks =
@@ -106,7 +106,7 @@ module _ (nodes : List Node) (uid : ℕ) (leaf : ReadyLeaf) (now : ℕ) (status 
         ∙ fits.facts;
   }
 
-  -- ---- What it is
+  -- ---- What it does
 
   module _ (term : Term-F Meaning) (view : View) (ms : List Memory) (fits : FitsHere term view uid nodes before) (old new : List Note) (told : new ≡ old ++ reply_notes (phase_of status) uid a.reply) where
     abbrev state : State
@@ -141,7 +141,7 @@ module _ (nodes : List Node) (uid : ℕ) (leaf : ReadyLeaf) (now : ℕ) (status 
     met_by has reply.Failure is = (made has _ (ap (reply_answer uid) is), named_once (phase_of status) uid answer.Failure ∙ ap (λ q. calls_named (reply_notes (phase_of status) uid q)) (sym is))
     met_by has (reply.Broken cause) is = made has _ (ap (reply_answer uid) is)
 
-    -- the call is the one of the definition
+    -- the call is that of the definition
     pub call_met : (r : Result Answer (Stop NodeFault)) → as_given r ≡ in_stop (reply_answer uid a.reply) →
         Meets nodes now (λ _. ms) (as_given r) before after old new (leaf_call (row_of view.rows term.id) (site_of term view uid) (kept_at before.kept uid).status ms state)
     call_met r is =

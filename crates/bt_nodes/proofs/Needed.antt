@@ -1,4 +1,4 @@
--- The scripts and ports of a node need no slot but those of its view.
+-- The scripts and ports of a node need only slots of its view.
 use Rattle.std.proofs.Common.{◌≡◌, ℕ, length, Option, Some, None, ap, subst, sym, ◌∙◌}
 use Rattle.std.specs.List.{All}
 use Rattle.std.proofs.lemmas.List.{length-map}

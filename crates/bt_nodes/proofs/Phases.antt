@@ -1,4 +1,4 @@
--- A leaf is called in its phase: it is held since some moment before exactly where it runs.
+-- A leaf is called in its phase: it is held since an earlier time exactly where it is RUNNING.
 use Rattle.std.proofs.Common.{◌≡◌, ℕ, ◌≤◌, List, Bool, true, false, Option, Some, None, refl, sym, ap, ◌∙◌}
 use Rattle.std.specs.Prelude.{MatchOption, is_some, option_map, slice_get, unwrap_or}
 use Rattle.std.proofs.lemmas.Option.{unwrap_or-slice_get}

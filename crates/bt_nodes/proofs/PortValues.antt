@@ -1,4 +1,4 @@
--- What the ports of a node give is what the definition reads from those of its term.
+-- What the ports of a node give is what the definition reads from the ports of its term.
 use Rattle.std.proofs.Common.{◌≡◌, ℕ, ℤ, zero, suc, ◌+◌, ◌<◌, ◌≤◌, List, [], ◌∷◌, ◌++◌, length, map, take, codes, decimal, Option, Some, None, Result, Ok, Err, refl, sym, ap, subst, ◌∙◌, arith, lit<, if◌then◌else◌}
 use Rattle.std.proofs.lemmas.Fmt.{decimal_digit}
 use Rattle.std.proofs.lemmas.List.{length-map, length-take}
@@ -31,7 +31,7 @@ given_means site s (Some (Literal value)) = refl
 given_means site s (Some (Key key)) = refl
 given_means site s None = refl
 
--- a bad port is the same fault, whichever memo stands behind it
+-- a bad port is the same fault, whichever memo comes after it
 pub bad_port_behind : (uid : ℕ) (r : Result (Unit {0}) PortId) (memo : Memo) → with_memo (or_bad_port uid r) memo ≡ or_bad_port uid (with_memo r memo)
 bad_port_behind uid (Ok _) memo = refl
 bad_port_behind uid (Err p) memo = refl
@@ -41,12 +41,12 @@ pub no_memo : {E : Type 0} (r : Result (Unit {0}) E) (memo : Memo) (e : E) → I
 no_memo (Ok _) memo e is = absurd is
 no_memo (Err x) memo e is = ap Err is
 
--- these are the ports of cases in order, of which the first has this place
+-- these are the ports of cases in order, counted from this place on
 abbrev AreNumbered : ℕ → List PortRule → Type 0
 AreNumbered place [] = Unit {0}
 AreNumbered place (rule ∷ rules) = (rule.name ≡ codes "case_" ++ decimal (place + 1)) × AreNumbered (place + 1) rules
 
--- these are the ports of a Switch with so many cases
+-- these are the ports of a Switch with this many cases
 abbrev IsSwitch : ℕ → List PortRule → Type 0
 IsSwitch cases ports = (rules : List PortRule) × (ports ≡ required (codes "variable") AnyValue ∷ rules) × (length rules ≡ cases) × AreNumbered 0 rules
 

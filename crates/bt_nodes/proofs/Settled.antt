@@ -10,7 +10,7 @@ use Rattle.bt_arena.specs.Ends.{IsMade, Meets}
 use Rattle.bt_arena.specs.Scenes.{Scene, state_in}
 use Rattle.bt_nodes.specs.Settles.{SettlesWith}
 
--- what settles is met, with no note and no call
+-- what settles also meets its definition, with no note and no call
 pub settles_met : {A M : Type 0} (nodes : List Node) (now : ℕ) (m : M) (r : Result A (Stop NodeFault)) (before after : Scene) (old : List Note) (d : Done A M) →
     after.drivers ≡ before.drivers → SettlesWith m r (state_in nodes after now) d → Meets nodes now (λ _. m) r before after old old d
 settles_met {A} {M} nodes now m (Ok a) before after old d same e =

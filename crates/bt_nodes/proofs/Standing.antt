@@ -24,7 +24,7 @@ use Rattle.bt_arena.proofs.Framed.{framed_all}
 use Rattle.bt_arena.proofs.Opened.{memory_out, opened}
 use Rattle.bt_nodes.specs.Here.{FitsHere}
 
--- a term that fits, as its node with what its children mean
+-- a term that fits an arena, as its node with what its children mean
 pub fits_here : (t : Term) (view : View) (uid : ℕ) (nodes : List Node) (s : Scene) → Fits t view uid nodes s → FitsHere (map-Term Term Meaning meaning (out-Term t)) view uid nodes s
 fits_here t view uid nodes s fits =
     let stands = opened t nodes view uid fits.stands in
@@ -37,7 +37,7 @@ fits_here t view uid nodes s fits =
       facts = fits.facts;
     }
 
--- as much is kept as there are nodes
+-- there are as many kept values as nodes
 as_many_kept : (nodes : List Node) (kept : List Kept) (drivers : List DriverState) → marks_of kept ≡ map is_held (instances_of nodes drivers) → length kept ≡ length nodes
 as_many_kept nodes kept drivers marks =
     sym (length-map kept (λ (k : Kept). k.held)) ∙ ap length marks ∙ length-map (instances_of nodes drivers) is_held ∙ length-map nodes (λ (node : Node). leaf_instance drivers node.leaf)
@@ -46,7 +46,7 @@ as_many_kept nodes kept drivers marks =
 pub kept_there : (term : Term-F Meaning) (view : View) (uid : ℕ) (nodes : List Node) (s : Scene) → FitsHere term view uid nodes s → uid < length s.kept
 kept_there term view uid nodes s fits = omega (arith, fits.there, as_many_kept nodes s.kept s.drivers fits.marks)
 
--- a part that is met, its memory read in another way
+-- a part that meets its definition, its memory read in another way
 pub read_as : {A M : Type 0} (nodes : List Node) (now : ℕ) (read other : List Kept → M) (r : Result A (Stop NodeFault)) (before after : Scene) (old new : List Note) (d : Done A M) →
     read after.kept ≡ other after.kept → Meets nodes now read r before after old new d → Meets nodes now other r before after old new d
 read_as nodes now read other (Ok a) before after old new d same m =
@@ -59,7 +59,7 @@ module _ (kept kept1 : List Kept) (uid : ℕ) (k : Kept) (is : kept1 ≡ set kep
   kept_other : (p : ℕ) → p ≢ uid → kept_at kept1 p ≡ kept_at kept p
   kept_other p apart = ap (λ ks. kept_at ks p) is ∙ get_or-set_other kept uid p k at_rest apart
 
-  -- nothing beside a node has changed
+  -- no other node has changed
   pub beside_one : Beside uid 1 kept kept1
   beside_one = record {
     below = λ p low. kept_other p (λ same. omega (arith, low, same));
@@ -71,11 +71,11 @@ module _ (kept kept1 : List Kept) (uid : ℕ) (k : Kept) (is : kept1 ≡ set kep
   pub children_same : (ts : List Term) → memories_of ts (uid + 1) kept1 ≡ memories_of ts (uid + 1) kept
   children_same ts = framed_all ts (uid + 1) kept1 kept (λ p low high. kept_other p (λ same. omega (arith, low, same)))
 
-  -- its memory is what it keeps, over that of its children before
+  -- its memory is what it keeps now, and that of its children as before
   pub memory_now : (t : Term) → memory_of t uid kept1 ≡ remembered (kept_at kept1 uid).status (kept_at kept1 uid).memo (memories_of (out-Term t).children (uid + 1) kept)
   memory_now t = memory_out t uid kept1 ∙ ap (λ (ms : List Memory). remembered (kept_at kept1 uid).status (kept_at kept1 uid).memo ms) (children_same (out-Term t).children)
 
--- where a mark, the slots and the facts stay, all fits as before
+-- where the mark of a node, the slots and the facts stay, the arena still fits
 pub stays_fit : (nodes : List Node) (uid : ℕ) (k : Kept) (before after : Scene) → after.kept ≡ set before.kept uid k → k.held ≡ (kept_at before.kept uid).held →
     length after.board ≡ length before.board → length after.facts ≡ length before.facts → after.drivers ≡ before.drivers → StaysFit nodes before after
 stays_fit nodes uid k before after kept mark slots facts drivers term view top fits = record {

@@ -42,12 +42,13 @@ outputs_written _ _ board = board
 
 -- ---- Calls
 
--- a driver is called to begin at an instance that is not held, and to go on at one that is held since some moment before
+-- a driver is called to begin at an instance that is not held, and to go on at one that is held since a time not
+-- later
 abbrev pub IsInPhase : Status → Instance → ℕ → Type 0
 IsInPhase status.Running instance now = IsHeldBy instance now
 IsInPhase _ instance now = instance.since ≡ None
 
--- a leaf can be called over a board of so many slots and so many facts
+-- a leaf can be called over a board of this many slots and this many facts
 pub record CanBeCalled (slots facts : ℕ) (drivers : List DriverState) (status : Status) (now : ℕ) (leaf : ReadyLeaf) : Type 0 where
   pub read : All (IsSourceOf slots) leaf.inputs
   pub few_inputs : length leaf.inputs ≤ 8

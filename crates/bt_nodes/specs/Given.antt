@@ -13,7 +13,7 @@ use Rattle.bt_arena.specs.declared.source.Source.{Source}
 use Rattle.bt_arena.specs.declared.source.Source.TheVariants.{Absent, Lit}
 use Rattle.bt_arena.specs.Sources.{IsSourceOf, source_value}
 
--- a node has a source for each port of its kind, and those that are slots are slots of a board of so many
+-- a node has a source for each port of its kind, and each slot among them is one of a board of this many
 pub record HasPorts (slots : ℕ) (node : Node) : Type 0 where
   pub as_many : length node.ports ≡ length (ports_of node.kind)
   pub known : All (IsSourceOf slots) node.ports
@@ -26,7 +26,7 @@ port_at node place = slice_index_or node.ports place Absent
 abbrev pub source_number : List (Option Value) → Source → Option ℤ
 source_number board source = number_by (source_value board source)
 
--- the truth that is given: a literal text is one where it is `true`, and a number where it is not 0
+-- the truth that is given: of a literal text whether it is `true`, of a number whether it is not 0
 abbrev pub source_truth : List (Option Value) → Source → Option Bool
 source_truth board (Lit (Text t)) = Some (bytes_eq t (codes "true"))
 source_truth board source = option_map is_true (source_number board source)
@@ -35,13 +35,13 @@ source_truth board source = option_map is_true (source_number board source)
 abbrev pub source_text : List (Option Value) → Source → Option (List ℕ)
 source_text board source = text_by (source_value board source)
 
--- the place of the first of these cases that has this text, where the first of them has this place; the place behind
--- them where none has it
+-- the place of the first of these cases that has this text, where they are counted from this place on; the place
+-- after them where none has it
 abbrev pub first_case : List (Option Value) → List Source → ℕ → List ℕ → ℕ
 first_case board [] place text = place
 first_case board (c ∷ cs) place text = if is_case (source_text board c) text then place else first_case board cs (place + 1) text
 
--- the case of this text, or the place behind them
+-- the case of this text, or the place after them
 abbrev pub case_of : List (Option Value) → List Source → Option (List ℕ) → ℕ
 case_of board cases (Some text) = first_case board cases 0 text
 case_of board cases None = length cases
@@ -51,7 +51,7 @@ abbrev pub case_selected : List (Option Value) → List Source → ℕ
 case_selected board [] = 0
 case_selected board (variable ∷ cases) = case_of board cases (source_text board variable)
 
--- the memo that stands behind what gave no error, or the error
+-- the memo after what gave no error, or the error
 abbrev pub with_memo : {E : Type 0} → Result (Unit {0}) E → Memo → Result Memo E
 with_memo (Ok _) memo = Ok memo
 with_memo (Err e) memo = Err e

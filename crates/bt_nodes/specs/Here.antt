@@ -14,12 +14,12 @@ use Rattle.bt_arena.specs.Rosters.{AreServed, instances_of}
 use Rattle.bt_arena.specs.Scenes.{Scene, marks_of}
 use Rattle.bt_arena.specs.Stands.{written}
 
--- a term where it stands
+-- a term at its place
 abbrev pub site_at : View → ℕ → Term → Site
 site_at view uid term = site_of (map-Term Term Meaning meaning (out-Term term)) view uid
 
--- a node of a term is the one of this uid in an arena whose marks say which instances are held and whose leaves are
--- served, and there are as many slots and facts as the view has
+-- A node of a term is the one of this uid in an arena: the marks say which instances are held, the leaves are served,
+-- and there are as many slots and facts as the view has.
 pub record FitsHere (term : Term-F Meaning) (view : View) (uid : ℕ) (nodes : List Node) (s : Scene) : Type 0 where
   pub there : uid < length nodes
   pub node : IsNode view (written term) (1 + sizes term.children) (node_at nodes uid)
@@ -28,7 +28,7 @@ pub record FitsHere (term : Term-F Meaning) (view : View) (uid : ℕ) (nodes : L
   pub slots : length s.board ≡ length view.slots
   pub facts : length s.facts ≡ length view.facts
 
--- an answer or a fault, given by a call that might want memory
+-- an answer or a fault, given by a call in which there might be want of memory (out of memory)
 abbrev pub in_stop : {A : Type 0} → Result A NodeFault → Result A (Stop NodeFault)
 in_stop (Ok a) = Ok a
 in_stop (Err fault) = Err (Fault fault)

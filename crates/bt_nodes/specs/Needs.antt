@@ -4,7 +4,7 @@ use Rattle.bt_script_code.specs.declared.codes.Code.{Code}
 use Rattle.bt_script_code.specs.Codes.{program}
 use Rattle.bt_arena.specs.declared.nodes.ReadyGuards.{ReadyGuards}
 
--- a code, where it is there, needs no slot but the first ones, so many
+-- a code, where it is there, needs this many slots at most
 abbrev pub NeedsAtMost : ℕ → Option Code → Type 0
 NeedsAtMost slots None = Unit {0}
 NeedsAtMost slots (Some code) = (program code).reach ≤ slots

@@ -1,4 +1,5 @@
--- What a call that can change the blackboard alone leaves, against what the definition says of this part of an event.
+-- What a call leaves that can change the blackboard alone, compared with what the definition says of this part of an
+-- event.
 use Rattle.std.specs.Prelude.{◌≡◌, Bool, true, false, List, Option, Some, Result, Ok, Err}
 use Rattle.bt_script.specs.declared.stop.Stop.{Stop}
 use Rattle.bt_script.specs.declared.stop.Stop.TheVariants as stop
@@ -11,18 +12,19 @@ use Rattle.bt_model.specs.Done.{Done, State, done, ends}
 abbrev pub on_board : List (Option Value) → State → State
 on_board board s = record s { board = board }
 
--- The answer and the fault are those of the definition, and so is the state that is left, with this memory and with no
--- note and no call. Want of memory may come anywhere.
+-- The answer or the fault is that of the definition, and so is the state that is left, with this memory, no note and
+-- no call. Want of memory (out of memory) may come anywhere.
 abbrev pub SettlesWith : {A M : Type 0} → M → Result A (Stop NodeFault) → State → Done A M → Type 0
 SettlesWith memory (Ok a) s d = d ≡ done a memory s
 SettlesWith memory (Err (stop.Fault f)) s d = d ≡ ends (Err f) memory s
 SettlesWith memory (Err stop.NoMemory) s d = Unit {0}
 
--- the same of a part that leaves no memory
+-- a part that leaves no memory, with the answer or the fault and the state of the definition
 abbrev pub Settles : {A : Type 0} → Result A (Stop NodeFault) → State → Done A (Unit {0}) → Type 0
 Settles r s d = SettlesWith tt r s d
 
--- A guard was tried: its answer is all where it answers, and else what comes after it goes on from the state that is left.
+-- A guard was tried: where it answers, this is the answer of all; else the next guards go on from the state that is
+-- left.
 abbrev pub Tries : Result Bool (Stop NodeFault) → Answer → (State → Done (Option Answer) (Unit {0})) → State → Done (Option Answer) (Unit {0}) → Type 0
 Tries (Ok true) answer next s d = d ≡ done (Some answer) tt s
 Tries (Ok false) answer next s d = d ≡ next s

@@ -31,7 +31,8 @@ use bt_script::Stop;
 use bt_script_code::Code;
 use std::alloc::Global;
 
-/// The rule of a Script node with this uid: its code runs, and it answers SUCCESS.
+/// Visits the Script node with this uid: its code runs, and the answer is SUCCESS. The error is a
+/// fault of the code, or want of memory (out of memory).
 fn script_node(
     alloc: Global,
     code: &Option<Code>,
@@ -52,7 +53,8 @@ fn script_node(
     }
 }
 
-/// The rule of a ScriptCondition with this uid: SUCCESS where its code is true, and else FAILURE.
+/// Visits the ScriptCondition with this uid: SUCCESS where its code is true, else FAILURE. The
+/// error is a fault of the code, or want of memory.
 fn script_condition(
     alloc: Global,
     code: &Option<Code>,
@@ -70,7 +72,7 @@ fn script_condition(
     }
 }
 
-/// SUCCESS where something holds, and else FAILURE.
+/// SUCCESS where this is true, else FAILURE.
 fn answer_where(holds: bool) -> Answer
     ensures { result ≡ (if holds then Answer.Success else Answer.Failure) }
 {
@@ -81,8 +83,10 @@ fn answer_where(holds: bool) -> Answer
     }
 }
 
-/// Applies the rule of the node with this uid, which has no children: a leaf's driver is called, a
-/// script node runs its code, and two answer as their names say. It keeps nothing in its memo.
+/// Visits the node with this uid, which has no children, up to its answer: a leaf's driver is
+/// called, a script node runs its code, and AlwaysSuccess and AlwaysFailure answer as their names
+/// say. The memo stays as it was. The error is a fault of the node, or want of memory. `now` is in
+/// milliseconds.
 #[inline(always)]
 pub fn lone_rule<D: Drivers>(
     alloc: Global,
@@ -122,8 +126,9 @@ pub fn lone_rule<D: Drivers>(
     }
 }
 
-/// Applies the rule of the node with this uid, which has no children and is not held back by a guard,
-/// and ends its visit.
+/// Visits the node with this uid, which has no children and is not kept from its visit by a guard,
+/// and ends the visit. The error is a fault of the node, or want of memory. `now` is in
+/// milliseconds.
 #[inline(always)]
 pub fn visit_alone<D: Drivers>(
     alloc: Global,

@@ -19,7 +19,7 @@ use bt_model::{Answer, Memo, NodeFault, Note, Status};
 use bt_script::{NoMemory, Stop};
 use std::alloc::Global;
 
-/// The status that an answer leaves.
+/// The status of a node after this answer.
 fn status_of(answer: Answer) -> Status
     ensures { result ≡ status_of answer }
 {
@@ -31,7 +31,8 @@ fn status_of(answer: Answer) -> Status
     }
 }
 
-/// Notes the change of a node's status to a different one. Refused, it changes nothing.
+/// Adds a note of a node's change of status, where there is one. Where there is want of memory,
+/// nothing changes.
 #[inline(always)]
 pub fn note_change(notes: &mut Notes, uid: u32, old: Status, new: Status) -> Result<(), NoMemory>
     ensures ok { OnOk result (notes.new ≡ record notes.old { list = notes.old.list ++ change uid old new }) }
@@ -43,8 +44,8 @@ pub fn note_change(notes: &mut Notes, uid: u32, old: Status, new: Status) -> Res
     Ok(())
 }
 
-/// Gives the node with this uid a memo. Most visits are those of leaves, which keep nothing before and
-/// behind: nothing is written then.
+/// Gives the node with this uid a memo. Most visits are those of leaves, which have no memo before
+/// or after: then nothing is written.
 #[inline(always)]
 fn keep_memo(kept: &mut [Kept], uid: u32, memo: Memo)
     requires { uid < length kept.old }
@@ -56,8 +57,9 @@ fn keep_memo(kept: &mut [Kept], uid: u32, memo: Memo)
     }
 }
 
-/// Ends the visit of a node with these guards that has given an answer and a memo: the memo is kept,
-/// the scripts after the answer run, and then the status becomes that of the answer, which is noted.
+/// Ends the visit of a node with these guards that has given an answer and a memo: the memo is
+/// kept, the scripts after the answer run, and then the status becomes that of the answer, with a
+/// note. The error is a fault of a script, or want of memory.
 #[inline(always)]
 fn end_node(
     alloc: Global,
@@ -87,9 +89,9 @@ fn end_node(
     Ok(answer)
 }
 
-/// Ends the visit of the node with this uid that has given an answer and a memo: the memo is kept, the
-/// scripts after the answer run, and then the status becomes that of the answer, which is noted. A
-/// fault of a script leaves the status as it was.
+/// Ends the visit of the node with this uid that has given an answer and a memo: the memo is kept,
+/// the scripts after the answer run, and then the status becomes that of the answer, with a note.
+/// The error is a fault of a script, which leaves the status as it was, or want of memory.
 #[inline(always)]
 pub fn end_visit(
     alloc: Global,

@@ -25,11 +25,11 @@ use bt_driver::{Drivers, FactTable, Inputs, Outs};
 use bt_model::{Answer, NodeFault, Note, Reply, Status};
 use bt_script::{Cells, Seen, Stop};
 
-/// What a driver sees of a leaf without inputs.
+/// The inputs that a driver sees of a leaf without inputs.
 static NO_INPUTS: Inputs = [Seen::Absent; 8];
 
-/// Puts in what a driver sees of these inputs; those behind them stay absent. It is not inlined as most
-/// leaves have none.
+/// Fills in what a driver sees of these inputs; the places after them stay absent. It is not
+/// inlined, since most leaves have none.
 #[inline(never)]
 fn see_inputs(sources: &[Source], board: &Board, inputs: &mut Inputs)
     requires read { All (IsSourceOf (length board.now)) sources.now }
@@ -54,7 +54,8 @@ fn write_output(source: &Source, n: i64, board: &mut Board)
     }
 }
 
-/// Writes the outputs in order, each where a slot is given. It is not inlined as most leaves have none.
+/// Writes the outputs in order, each where a slot is given. It is not inlined since most leaves
+/// have none.
 #[inline(never)]
 fn write_outputs(sources: &[Source], outputs: &[i64], board: &mut Board)
     requires { All (IsSourceOf (length board.old)) sources.now }
@@ -69,7 +70,8 @@ fn write_outputs(sources: &[Source], outputs: &[i64], board: &mut Board)
     }
 }
 
-/// Calls the driver of a leaf of this status, to begin or to go on.
+/// Calls the driver of a leaf of this status: `running` where it is RUNNING, else `start`. `now` is
+/// in milliseconds.
 #[inline(always)]
 fn call_driver<D: Drivers>(
     leaf: &ReadyLeaf,
@@ -110,7 +112,7 @@ fn call_driver<D: Drivers>(
     }
 }
 
-/// Calls the driver of a leaf of this status with its inputs.
+/// Calls the driver of a leaf of this status with its inputs. `now` is in milliseconds.
 #[inline(always)]
 fn call_with_inputs<D: Drivers>(
     leaf: &ReadyLeaf,
@@ -132,7 +134,7 @@ fn call_with_inputs<D: Drivers>(
     call_driver(leaf, status, &inputs, facts, outs, drivers, now)
 }
 
-/// Writes the outputs of a call where it answered SUCCESS.
+/// Writes the outputs of a call whose reply was SUCCESS.
 #[inline(always)]
 fn write_answer(reply: Reply, leaf: &ReadyLeaf, outs: &Outs, board: &mut Board)
     requires { All (IsSourceOf (length board.old)) leaf.now.outputs }
@@ -148,7 +150,8 @@ fn write_answer(reply: Reply, leaf: &ReadyLeaf, outs: &Outs, board: &mut Board)
     }
 }
 
-/// Calls the driver of a leaf of this status with its inputs, and writes its outputs.
+/// Calls the driver of a leaf of this status with its inputs, and writes its outputs. `now` is in
+/// milliseconds.
 #[inline(always)]
 fn make_call<D: Drivers>(
     leaf: &ReadyLeaf,
@@ -174,7 +177,8 @@ fn make_call<D: Drivers>(
     reply
 }
 
-/// Marks a leaf by the reply of its driver: it is held while it runs.
+/// Marks a leaf by the reply of its driver: its instance is held where it is RUNNING. A fault
+/// changes nothing.
 #[inline(always)]
 fn mark(reply: Reply, uid: u32, kept: &mut [Kept])
     requires { uid < length kept.old }
@@ -209,8 +213,8 @@ fn answer_of(reply: Reply, uid: u32) -> Result<Answer, Stop<NodeFault>>
     }
 }
 
-/// Notes the call of a leaf of this status that had this reply, in a reserved place; a call that broke
-/// has no note. It gives the answer, or the fault.
+/// Adds the note of a call of a leaf of this status with this reply, in a reserved place; a call
+/// with a fault has no note. It gives the answer, or the fault.
 #[inline(always)]
 fn tell(
     reply: Reply,
@@ -229,9 +233,10 @@ fn tell(
     Ok(answer)
 }
 
-/// Calls the driver of the leaf with this uid, to begin or to go on, with its inputs. On SUCCESS its
-/// outputs are written. Room for its note is made before the call, so that no note of a call that was
-/// made is refused.
+/// Calls the driver of the leaf with this uid, with its inputs: `running` where it is RUNNING, else
+/// `start`. On SUCCESS its outputs are written. The place of the note is reserved before the call,
+/// so that each call that was made has its note. The error is the leaf's fault, or want of memory,
+/// which comes before the call. `now` is in milliseconds.
 #[inline(always)]
 pub fn leaf_call<D: Drivers>(
     leaf: &ReadyLeaf,

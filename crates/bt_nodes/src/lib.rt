@@ -1,4 +1,4 @@
-//! What one node of an arena does by itself, without a visit or a reset of another: its scripts, its
+//! What one node of an arena does by itself, without visiting or halting another: its scripts, its
 //! ports, the call of its driver, and the end of its visit.
 #![tactic(auto)]
 

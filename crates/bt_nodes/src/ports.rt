@@ -22,7 +22,7 @@ use bt_model::{
 use bt_script::Value;
 use itoa::Buffer;
 
-/// The next child of a memo.
+/// The place of the next child, as a memo keeps it.
 fn index_of(memo: Memo) -> u32
     ensures { result ≡ index_of memo }
 {
@@ -32,8 +32,8 @@ fn index_of(memo: Memo) -> u32
     }
 }
 
-/// A count of so many children, where it is one of 1 to their number; a negative one counts from
-/// behind the last.
+/// A port's count of children, where it is from 1 to their number; a negative one counts back from
+/// their number: -1 is all of them.
 fn threshold(children: u32, count: Option<i64>) -> Option<u32>
     ensures { result ≡ threshold children count }
 {
@@ -50,7 +50,8 @@ fn threshold(children: u32, count: Option<i64>) -> Option<u32>
     }
 }
 
-/// The start of a Parallel of so many children with these counts.
+/// The first memo of a Parallel of this many children with these counts. The error is the port
+/// whose count is out of range.
 fn parallel_start(children: u32, success: Option<i64>, failure: Option<i64>) -> Result<Memo, PortId>
     ensures { result ≡ parallel_start (threshold children success) (is_negative success) (threshold children failure) }
 {
@@ -66,7 +67,8 @@ fn parallel_start(children: u32, success: Option<i64>, failure: Option<i64>) -> 
     }))
 }
 
-/// The start of a Retry or Repeat with this limit.
+/// The first memo of a Retry or Repeat with this limit. The error is its port, where the limit is
+/// not in range.
 fn turns_start(port: PortId, limit: Option<i64>) -> Result<Memo, PortId>
     ensures { result ≡ turns_start port (within TurnRange limit) }
 {
@@ -78,7 +80,8 @@ fn turns_start(port: PortId, limit: Option<i64>) -> Result<Memo, PortId>
     }
 }
 
-/// The start of a Timeout or Delay of this length at this moment.
+/// The first memo of a Timeout or Delay of this length, from `now` on, both in milliseconds. The
+/// error is its port, where the length is not in range.
 fn since_start(port: PortId, now: u64, length: Option<i64>) -> Result<Memo, PortId>
     ensures { result ≡ since_start port now (within Duration length) }
 {
@@ -91,7 +94,7 @@ fn since_start(port: PortId, now: u64, length: Option<i64>) -> Result<Memo, Port
     }
 }
 
-/// The number that the port of this place is given, where it is one.
+/// The number that the port at this place is given; none where it is given none.
 fn number_at(node: &Node, place: usize, board: &Board) -> Option<i64>
     requires ports { HasPorts (length board.now) node.now }
     requires there { place < length node.now.ports }
@@ -100,8 +103,8 @@ fn number_at(node: &Node, place: usize, board: &Board) -> Option<i64>
     number_of(&node.ports.list()[place], board)
 }
 
-/// Makes a memo the one with which its node starts, or answers the node's port that holds no number of
-/// its range.
+/// Makes a memo the one with which a visit of its node starts. The error is the first port that has
+/// no number of its range, and then the memo stays. `now` is in milliseconds.
 #[inline(always)]
 fn start_of(node: &Node, memo: &mut Memo, board: &Board, now: u64) -> Result<(), PortId>
     requires { HasPorts (length board.now) node.now }
@@ -137,8 +140,8 @@ fn start_of(node: &Node, memo: &mut Memo, board: &Board, now: u64) -> Result<(),
     Ok(())
 }
 
-/// What was read from the ports of the node with this uid, or its fault: the port that holds no number
-/// of its range.
+/// What was read from the ports of the node with this uid. The error is the node's fault: the port
+/// that has no number of its range.
 #[inline(always)]
 fn or_bad_port<A>(uid: u32, read: Result<A, PortId>) -> Result<A, NodeFault>
     ensures { result ≡ or_bad_port uid read }
@@ -152,8 +155,9 @@ fn or_bad_port<A>(uid: u32, read: Result<A, PortId>) -> Result<A, NodeFault>
     }
 }
 
-/// Makes a memo the one with which the node with this uid starts, or answers the fault of its first
-/// numeric port that holds no number of its range, and leaves the memo. `now` is in milliseconds.
+/// Makes a memo the one with which a visit of the node with this uid starts. The error is the fault
+/// of its first port that has no number of its range, and then the memo stays. `now` is in
+/// milliseconds.
 #[inline(always)]
 pub fn start_memo(
     node: &Node,
@@ -170,7 +174,7 @@ pub fn start_memo(
     or_bad_port(uid, start_of(node, memo, board, now))
 }
 
-/// The mark of a RunOnce.
+/// The mark of a RunOnce: the answer of its one run, where it has ended.
 fn mark_of(memo: Memo) -> Option<Answer>
     ensures { result ≡ mark_of memo }
 {
@@ -180,7 +184,8 @@ fn mark_of(memo: Memo) -> Option<Answer>
     }
 }
 
-/// What a RunOnce with a mark picks by its port `then_skip`.
+/// What is picked for a RunOnce with a mark, by its port `then_skip`: 1 where it skips, else 0. The
+/// error is that port, where it has no truth.
 fn skip_picked(skip: Option<bool>) -> Result<u32, PortId>
     ensures { result ≡ skip_picked skip }
 {
@@ -191,7 +196,8 @@ fn skip_picked(skip: Option<bool>) -> Result<u32, PortId>
     }
 }
 
-/// The place of the child that a Switch with these ports selects. It is not inlined as few nodes are one.
+/// The place of the child that a Switch with these ports selects. It is not inlined, since few
+/// nodes are a Switch.
 #[inline(never)]
 fn selected(ports: &[Source], board: &Board) -> u32
     requires known { All (IsSourceOf (length board.now)) ports.now }
@@ -208,7 +214,7 @@ fn selected(ports: &[Source], board: &Board) -> u32
     }
 }
 
-/// What is picked for a visit of a node; or its port that holds no truth.
+/// What is picked for a visit of a node. The error is its port that has no truth.
 #[inline(always)]
 fn pick(node: &Node, memo: Memo, board: &Board) -> Result<u32, PortId>
     requires { HasPorts (length board.now) node.now }
@@ -225,8 +231,8 @@ fn pick(node: &Node, memo: Memo, board: &Board) -> Result<u32, PortId>
     }
 }
 
-/// What is picked for a visit of the node with this uid: the place of the child that a Switch selects,
-/// and for a RunOnce with a mark 1 where it skips; or the fault of its port.
+/// What is picked for a visit of the node with this uid: for a Switch the place of the selected
+/// child, and for a RunOnce with a mark 1 where it skips. The error is the fault of its port.
 #[inline(always)]
 pub fn picked(node: &Node, uid: u32, memo: Memo, board: &Board) -> Result<u32, NodeFault>
     requires { HasPorts (length board.now) node.now }

@@ -34,8 +34,9 @@ fn cause_of(fault: ExecFault) -> Cause
     }
 }
 
-/// Runs a script of the node with this uid, and gives its value. A fault of the script is one of its
-/// node, and the writes before it stand. Want of memory comes only where there are texts.
+/// Runs a script of the node with this uid, and gives its value. The error is a fault of the
+/// script, as one of its node, and what it wrote before stays. Want of memory comes only where
+/// there are texts.
 #[inline(never)]
 pub fn run_script(
     alloc: Global,
@@ -59,8 +60,9 @@ pub fn run_script(
     }
 }
 
-/// Runs a script of the node with this uid for what it writes alone. It is not inlined, as most scripts
-/// give a number at once and don't come here.
+/// Runs a script of the node with this uid for what it writes alone. It is not inlined, since most
+/// scripts give a number at once and do not come here. The error is a fault of the script, or want
+/// of memory.
 #[inline(never)]
 fn run_whole(alloc: Global, code: &Code, uid: u32, board: &mut Board) -> Result<(), Stop<NodeFault>>
     requires { (program code.now).reach ≤ length board.old }
@@ -73,7 +75,8 @@ fn run_whole(alloc: Global, code: &Code, uid: u32, board: &mut Board) -> Result<
     Ok(())
 }
 
-/// Runs a script of the node with this uid for what it writes alone.
+/// Runs a script of the node with this uid for what it writes alone. The error is a fault of the
+/// script, or want of memory.
 #[inline(always)]
 pub fn run_for_writes(
     alloc: Global,
@@ -93,7 +96,8 @@ pub fn run_for_writes(
     }
 }
 
-/// Runs a script of the node with this uid where it is there.
+/// Runs a script of the node with this uid, where there is one. The error is a fault of the script,
+/// or want of memory.
 #[inline(always)]
 pub fn script_if_there(
     alloc: Global,
@@ -113,7 +117,8 @@ pub fn script_if_there(
     }
 }
 
-/// A value as a condition of the node with this uid.
+/// A value as a condition of the node with this uid: a number other than 0 is true. The error is
+/// the fault of the node: a text.
 #[inline(always)]
 fn truth(value: &Value, uid: u32) -> Result<bool, Stop<NodeFault>>
     ensures gives { Gives result (truth_of uid value.now) }
@@ -128,8 +133,9 @@ fn truth(value: &Value, uid: u32) -> Result<bool, Stop<NodeFault>>
     }
 }
 
-/// Runs a script of the node with this uid as a condition: a number other than 0 is true, and a text
-/// is a fault. It is not inlined, as most scripts give a number at once and don't come here.
+/// Runs a script of the node with this uid as a condition: a number other than 0 is true, and a
+/// text is a fault. It is not inlined, since most scripts give a number at once and do not come
+/// here. The error is a fault of the script, or want of memory.
 #[inline(never)]
 fn whole_holds(
     alloc: Global,
@@ -147,8 +153,8 @@ fn whole_holds(
     truth(&value, uid)
 }
 
-/// Runs a script of the node with this uid as a condition: a number other than 0 is true, and a text
-/// is a fault.
+/// Runs a script of the node with this uid as a condition: a number other than 0 is true, and a
+/// text is a fault. The error is a fault of the script, or want of memory.
 #[inline(always)]
 pub fn script_holds(
     alloc: Global,
@@ -168,7 +174,8 @@ pub fn script_holds(
     }
 }
 
-/// Tries a guard of the node with this uid: whether it is there and as true as this.
+/// Tries a guard of the node with this uid: whether it is there, and is true or false as asked. The
+/// error is a fault of the guard, or want of memory.
 #[inline(always)]
 fn is_answered(
     alloc: Global,
@@ -188,8 +195,8 @@ fn is_answered(
     }
 }
 
-/// Tries the guards of the node with this uid, which is not RUNNING, one behind the other. It is not
-/// inlined as most nodes have none.
+/// Tries the guards of the node with this uid, which is not RUNNING, one after the other. It is not
+/// inlined, since most nodes have none. The error is a fault of a guard, or want of memory.
 #[inline(never)]
 fn try_each(
     alloc: Global,
@@ -217,8 +224,9 @@ fn try_each(
     Ok(None)
 }
 
-/// Tries the guards of the node with this uid, which is not RUNNING. It is inlined where there are some,
-/// so that there alone room is made for what they give.
+/// Tries the guards of the node with this uid, which is not RUNNING. It is inlined where a node has
+/// guards, so that only there the stack has room for their results. The error is a fault of a
+/// guard, or want of memory.
 #[inline(always)]
 fn try_guards(
     alloc: Global,
@@ -235,8 +243,8 @@ fn try_guards(
 }
 
 /// The answer of the guards of the node with this uid, which is not RUNNING: that of the first of
-/// `_failureIf`, `_successIf`, `_skipIf` and `_while` that answers, if one does. Those behind it do
-/// not run.
+/// `_failureIf`, `_successIf`, `_skipIf` and `_while` that answers; none where none does. Those
+/// after it do not run. The error is a fault of a guard, or want of memory.
 #[inline(always)]
 pub fn guards_answer(
     alloc: Global,
@@ -257,6 +265,7 @@ pub fn guards_answer(
 }
 
 /// Whether the node with this uid, which is RUNNING, goes on: it does unless its `_while` is false.
+/// The error is a fault of that guard, or want of memory.
 pub fn goes_on(
     alloc: Global,
     guards: &ReadyGuards,
@@ -275,8 +284,8 @@ pub fn goes_on(
     }
 }
 
-/// Runs two scripts of the node with this uid, one after the other, each where it is there. It is not
-/// inlined as most nodes have none.
+/// Runs two scripts of the node with this uid in order, each where there is one. It is not inlined,
+/// since most nodes have none. The error is a fault of a script, or want of memory.
 #[inline(never)]
 fn both_if_there(
     alloc: Global,
@@ -295,8 +304,9 @@ fn both_if_there(
     script_if_there(alloc, second, uid, board)
 }
 
-/// Runs the scripts of the node with this uid after its answer. It is inlined where there are some, so
-/// that there alone room is made for what they give.
+/// Runs the scripts of the node with this uid after its answer. It is inlined where a node has such
+/// scripts, so that only there the stack has room for their results. The error is a fault of a
+/// script, or want of memory.
 #[inline(always)]
 fn run_posts(
     alloc: Global,
@@ -318,7 +328,8 @@ fn run_posts(
 }
 
 /// Runs the scripts of the node with this uid after its answer: `_onSuccess` after SUCCESS and
-/// `_onFailure` after FAILURE, and then `_post` after either.
+/// `_onFailure` after FAILURE, and then `_post` after either. The error is a fault of a script, or
+/// want of memory.
 #[inline(always)]
 pub fn posts(
     alloc: Global,

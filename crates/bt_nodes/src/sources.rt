@@ -11,7 +11,7 @@ use bt_board::Board;
 use bt_script::{Cells, Seen, Value};
 use itoa::Buffer;
 
-/// Lends the value that a port is given, where there is one.
+/// Lends the value that a port is given; none where it has none.
 pub fn value_of<'a>(source: &'a Source, board: &'a Board) -> Option<&'a Value>
     requires { IsSourceOf (length board.now) source.now }
     ensures { option_copied result ≡ source_value board.now source.now }
@@ -23,7 +23,7 @@ pub fn value_of<'a>(source: &'a Source, board: &'a Board) -> Option<&'a Value>
     }
 }
 
-/// The number that a port is given, where it is one.
+/// The number that a port is given; none where it is given none.
 pub fn number_of(source: &Source, board: &Board) -> Option<i64>
     requires { IsSourceOf (length board.now) source.now }
     ensures { result ≡ source_number board.now source.now }
@@ -46,8 +46,8 @@ pub fn seen_of(source: &Source, board: &Board) -> Seen
     }
 }
 
-/// The truth that a port is given: a literal text is true where it is `true`, and a number where it is
-/// not 0.
+/// The truth that a port is given: of a literal text whether it is `true`, of a number whether it
+/// is not 0; none else.
 pub fn truth_of(source: &Source, board: &Board) -> Option<bool>
     requires { IsSourceOf (length board.now) source.now }
     ensures { result ≡ source_truth board.now source.now }

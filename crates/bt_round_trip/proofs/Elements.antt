@@ -98,9 +98,9 @@ or_true : (a b : Bool) → b ≡ true → (a || b) ≡ true
 or_true true b h = refl
 or_true false b h = h
 
--- ---- What is spelled
+-- ---- What a printed element spells
 
--- an element at this indentation, behind the rest of the line before it
+-- an element at this indentation, after the rest of the line before it
 record Spelling (e : Element) (blanks before : List ℕ) : Type 0 where
   rest : List ℕ
   begins : concat (lines_of e blanks) ≡ blanks ++ 60 ∷ rest
@@ -411,7 +411,7 @@ whole_spelled y blanks before can white behind =
 spelled : (e : Element) → Spelled e
 spelled = ind-Element Spelled (λ x y is. subst (λ (z : Element-F Element). Spelled (roll-Element z)) is (whole_spelled y))
 
--- the bytes of a printed element spell it, at the places that it has there
+-- the printed bytes of an element spell it, at the places that it has among them
 pub element_spelled :
     (e : Element) → can_be_written e ≡ true → depth_of e ≤ 258 →
     (f : Element) × Spells (concat (lines_of e [])) f × (unplaced f ≡ unplaced e)

@@ -59,14 +59,14 @@ either_name :
 either_name p true known k more id kind same h named others = subst (λ (z : List ℕ). p z ≡ true) (sym ((bytes_eq-Decides id known).0 same)) named
 either_name p false known k more id kind same h named others = others h
 
--- what holds of each name in a table of kinds holds of one that is found there
+-- what holds of each name in a table of kinds holds of a name found there
 pub named_by : (p : List ℕ → Bool) (rows : List (List ℕ × Kind)) (id : List ℕ) (kind : Kind) → kind_among rows id ≡ Some kind → list_all (λ (row : List ℕ × Kind). p row.0) rows ≡ true → p id ≡ true
 named_by p [] id kind h all = absurd (cc)
 named_by p (row ∷ rows) id kind h all =
     let t = both (p row.0) (list_all (λ (r : List ℕ × Kind). p r.0) rows) all in
     either_name p (bytes_eq id row.0) row.0 row.1 (kind_among rows id) id kind refl h t.0 (λ more. named_by p rows id kind more t.1)
 
--- a built-in node's name is one
+-- the name of a built-in node is a name
 built_in_name : (id : List ℕ) (kind : Kind) → kind_named id ≡ Some kind → is_name id ≡ true
 unfolding named_kinds
 built_in_name id kind h = named_by is_name named_kinds id kind h refl
@@ -179,7 +179,7 @@ guards_can_stand g h =
     ap (list_all can_stand) (guards_are_rows g)
     ∙ rows_stand (rows_of g) (rows_of_stand g.failure_if g.success_if g.skip_if g.while_true g.on_success g.on_failure g.post g.on_halted h)
 
--- ---- No name stands twice
+-- ---- No attribute occurs twice
 
 abbrev has_name : List ℕ → List Attribute → Bool
 has_name n xs = list_any (λ (b : Attribute). bytes_eq b.0 n) xs
@@ -309,7 +309,7 @@ twice_not : (b : Bool) → b ≡ true → not (not b) ≡ true
 twice_not true h = refl
 twice_not false h = h
 
--- no guard's name, which all begin with `_`
+-- a name is not that of a guard: these all begin with `_`
 abbrev no_guard : List ℕ → Bool
 no_guard n = bytes_eq n (codes "_autoremap") || not (nat_eq (slice_index n 0) 95)
 
@@ -359,7 +359,7 @@ coded_single head ports code single all (inr none) =
     (twice_by p (head ++ []) (script_attribute (codes "code") code) here (script_single (codes "code") code) (all_both p head [] all refl)
     (script_all (λ (m : List ℕ). not (p m)) (codes "code") code refl))
 
--- no attribute stands twice in the mark of a node that fits
+-- no attribute occurs twice in the mark of a node that fits
 pub node_single : {X : Type 0} (node : Term-F X) → ports_fit node.kind node.ports ≡ true → list_all port_stands node.ports ≡ true → CodeFits (has_code node.kind) node.code → all_differ (names_of node.ports) ≡ true → no_name_twice (node_attributes node) ≡ true
 node_single node fits stand code apart =
     let i = not (is_compact node.kind node.id) in

@@ -1,4 +1,4 @@
--- The trees that are read open their trees alike: what an element reads as depends on nothing but the file.
+-- A tree that is read opens its trees alike: what an element reads as depends on the file alone.
 use Rattle.std.proofs.Common.{◌≡◌, ◌⊎◌, inl, inr, ℕ, zero, suc, ◌+◌, Bool, true, false, not, ◌&&◌, cond, if◌then◌else◌, List, [], ◌∷◌, ◌++◌, map, length, codes, Option, Some, None, Result, Ok, Err, refl, ap, sym, ◌∙◌, subst, append_assoc}
 use Rattle.std.specs.Prelude.{bytes_eq, is_some, option_map, nat_eq, nat_le, ◌||◌}
 use Rattle.std.proofs.lemmas.Slice.Eq.{bytes_eq-Decides}
@@ -44,7 +44,7 @@ use Rattle.bt_round_trip.proofs.ReadNodes.{elements_of, opened_in}
 
 -- ---- What the attributes of a node say does not depend on its uid
 
--- what is read stays the same
+-- where the first of two results is a value, the second is the same value
 abbrev Keeps : {A : Type 0} → Result A BuildFault → Result A BuildFault → Type 0
 Keeps {A} r s = (x : A) → r ≡ Ok x → s ≡ Ok x
 
@@ -385,7 +385,7 @@ read_fresh file (suc left) e opened n m t h =
 
 -- ---- Each opened tree is what the file's tree of its ID reads as
 
--- some elements read as these terms
+-- these elements read as these terms
 abbrev ReadBy : File → List Element → List Term → Type 0
 ReadBy file es ts = (left : ℕ) × (opened : List (List ℕ)) × (n : Numbers) × (m : Numbers) × (nodes_by (read_node file left) opened es n ≡ Ok (ts, m))
 

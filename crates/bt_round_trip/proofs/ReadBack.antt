@@ -1,4 +1,4 @@
--- The bytes that are printed of a tree read as the tree again.
+-- The printed bytes of a tree read as that tree.
 use Rattle.std.proofs.Common.{◌≡◌, ℕ, List, [], Option, None, Ok}
 use Rattle.std.specs.List.{concat}
 use Rattle.bt_elements.specs.declared.element.Element.{Element}
@@ -14,7 +14,7 @@ use Rattle.bt_round_trip.proofs.Openings.{reads_alike}
 use Rattle.bt_round_trip.proofs.ReadTrees.{element_models, element_reads}
 use Rattle.bt_round_trip.proofs.Writable.{tree_spelled}
 
--- a valid tree whose trees are opened alike
+-- a valid tree in which the trees are opened alike
 pub alike_read_back : (tree : Tree) → IsValid tree → OpensAlike tree → (f : Element) × Spells (concat (tree_lines tree)) f × (manifest_in f ≡ Ok []) × (reads [] None f ≡ Ok tree)
 alike_read_back tree valid opens =
     let s = tree_spelled tree valid in (s.0, s.1, element_models tree s.0 s.2, element_reads tree s.0 valid opens s.2)

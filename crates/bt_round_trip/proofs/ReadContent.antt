@@ -1,4 +1,4 @@
--- The attributes that are printed of a node that fits say what the node has.
+-- The printed attributes of a node that fits say what the node has.
 use Rattle.std.proofs.Common.{◌≡◌, ◌⊎◌, inl, inr, ℕ, Bool, true, false, not, ◌&&◌, ◌||◌, cond, if◌then◌else◌, List, [], ◌∷◌, ◌++◌, map, codes, Option, Some, None, Result, Ok, Err, refl, ap, sym, ◌∙◌, subst, append_assoc, append-nil}
 use Rattle.std.specs.Prelude.{bytes_eq, is_some, unwrap_or, option_map}
 use Rattle.std.proofs.lemmas.List.Folds.{list_all-append}
@@ -112,7 +112,7 @@ rows_value name ((m, Some script) ∷ rows) h = by_name (bytes_eq name m) (rows_
 
 -- ---- The attributes of a node
 
--- a node with so many children
+-- a node with this many children
 abbrev pub counted : Term-F Term → ℕ → Node
 counted x n = record { kind = x.kind; id = x.id; name = x.name; ports = x.ports; code = x.code; guards = x.guards; autoremap = x.autoremap; children = n }
 
@@ -122,7 +122,7 @@ front x = head_attributes (not (is_compact x.kind x.id)) (not (bytes_eq x.name x
 combined : (a b c d e f g h : Option (List ℕ)) → a ≡ e → b ≡ f → c ≡ g → d ≡ h → or_else (or_else (or_else a b) c) d ≡ or_else (or_else (or_else e f) g) h
 combined a b c d e f g h p q r s = cc
 
--- the value of an attribute, by what its parts have
+-- the value of an attribute, from the parts of the attributes
 value_by : (x : Term-F Term) (name : List ℕ) (e f g h : Option (List ℕ)) → value_of name (front x) ≡ e → value_of name (map port_attribute x.ports) ≡ f →
     value_of name (script_attribute (codes "code") x.code) ≡ g → value_of name (guard_attributes x.guards) ≡ h → value_of name (node_attributes x) ≡ or_else (or_else (or_else e f) g) h
 value_by x name e f g h p q r s =
@@ -262,7 +262,7 @@ front_id false true false id name = refl
 front_id false false true id name = refl
 front_id false false false id name = refl
 
--- nothing follows
+-- where no other part has the attribute
 alone : (o : Option (List ℕ)) → or_else (or_else (or_else o None) None) None ≡ o
 alone None = refl
 alone (Some text) = refl
@@ -291,7 +291,7 @@ name_by : (name id : List ℕ) (b : Bool) → bytes_eq name id ≡ b → unwrap_
 name_by name id true e = sym ((bytes_eq-Decides name id).0 e)
 name_by name id false e = refl
 
--- the name that is read
+-- the name is read
 pub name_reads : (x : Term-F Term) (n : ℕ) → NodeFits (counted x n) → name_in (node_attributes x) x.id ≡ x.name
 name_reads x n fits =
     ap (λ (o : Option (List ℕ)). unwrap_or o x.id)
@@ -299,7 +299,7 @@ name_reads x n fits =
     (front_name (not (is_compact x.kind x.id)) (not (bytes_eq x.name x.id)) x.autoremap x.id x.name))
     ∙ name_by x.name x.id (bytes_eq x.name x.id) refl
 
--- the ID that is read, where it is written
+-- the ID is read, where it is written
 pub id_reads : (x : Term-F Term) (n : ℕ) → NodeFits (counted x n) → is_compact x.kind x.id ≡ false → value_of (codes "ID") (node_attributes x) ≡ Some x.id
 id_reads x n fits explicit =
     front_value x n (codes "ID") (if not (is_compact x.kind x.id) then Some x.id else None) fits refl refl refl
@@ -488,7 +488,7 @@ built_ports b rules (port ∷ ports) (inl no_code) h named =
     )
 built_ports b rules (port ∷ ports) (inr none) h named = absurd (cc)
 
--- ---- No port is filled in
+-- ---- No port gets a default
 
 among_there : (name : List ℕ) (ports : List Port) → is_among name (names_of ports) ≡ true → is_some (value_of name (map port_attribute ports)) ≡ true
 among_there name [] h = absurd (cc)
@@ -527,7 +527,7 @@ rules_there uid x (rule ∷ rules) h =
     ap (λ (b : Bool). go_on (λ next. with_rules uid A next rules) (if b then Ok x.ports else with_default uid x.ports rule rule.default)) (written_there x rule.name t.0)
     ∙ rules_there uid x rules t.1
 
--- the ports of a node are read, and none is filled in
+-- the ports of a node are read, and none gets a default
 record RulesRead (x : Term-F Term) (kind : Kind) : Type 0 where
   read : AllRead (has_code kind) (rules_of [] kind x.id) x.ports
   absent : (uid : ℕ) → with_absent uid (node_attributes x) (rules_of [] kind x.id) x.ports ≡ Ok x.ports
@@ -577,7 +577,7 @@ ports_read uid x n fits r =
 
 -- ---- All together
 
--- what a node has beside its kind, its ID, its name and its children
+-- what a node has besides its kind, its ID, its name and its children
 abbrev pub content_of : Term-F Term → Content
 content_of x = record { ports = x.ports; code = x.code; guards = x.guards; autoremap = x.autoremap }
 

@@ -1,4 +1,4 @@
--- The element that is printed of a node that fits is read as that node.
+-- The printed element of a node that fits is read as that node.
 use Rattle.std.proofs.Common.{◌≡◌, ℕ, Bool, true, false, not, ◌&&◌, ◌||◌, if◌then◌else◌, List, [], codes, Option, Some, None, refl, ap, ◌∙◌}
 use Rattle.std.specs.Prelude.{nat_eq, bytes_eq, unwrap_or}
 use Rattle.std.specs.Option.{option_and_then}
@@ -35,7 +35,7 @@ four a b c d p q r s = rw (p, q, r, s) refl
 three : (a b c : Bool) → a ≡ false → b ≡ false → c ≡ false → (a || b || c) ≡ false
 three a b c p q r = rw (p, q, r) refl
 
--- what is so of a name that is not reserved
+-- what holds of a name that is not reserved
 record Free (id : List ℕ) : Type 0 where
   plain : is_plain id ≡ true
   kept : is_kept id ≡ false

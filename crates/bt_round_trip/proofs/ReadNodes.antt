@@ -1,4 +1,4 @@
--- A printed node is read back, with all below it.
+-- A printed node is read as the node, with all below it.
 use Rattle.std.proofs.Common.{◌≡◌, ◌⊎◌, inl, inr, ℕ, zero, suc, ◌+◌, ◌-◌, ◌<◌, ◌≤◌, Bool, true, false, not, if◌then◌else◌, List, [], ◌∷◌, ◌++◌, map, length, sum, Some, Result, Ok, refl, ap, sym, ◌∙◌, subst, arith}
 use Rattle.std.specs.Prelude.{nat_eq, flat_map}
 use Rattle.std.proofs.lemmas.Bool.Decides.{nat_tests}
@@ -35,7 +35,7 @@ use Rattle.bt_round_trip.specs.TreeElements.{Said, Subtree, element, own_tree, s
 use Rattle.bt_round_trip.proofs.ReadContent.{content_of, content_reads, counted, id_reads, name_reads}
 use Rattle.bt_round_trip.proofs.ReadHeads.{head_reads}
 
--- ---- The parts of an element, but for its place
+-- ---- The parts of an element, apart from its place
 
 pub record HasParts (e : Element) (n : List ℕ) (a : List Attribute) (c : List Element) : Type 0 where
   pub name : name_of e ≡ n
@@ -57,9 +57,9 @@ has_parts e n a c h =
 length_same : (xs ys : List Element) → map unplaced xs ≡ map unplaced ys → length xs ≡ length ys
 length_same xs ys h = sym (length-map xs unplaced) ∙ ap (λ (zs : List Element). length zs) h ∙ length-map ys unplaced
 
--- ---- What is given of a term that is to be read
+-- ---- What must hold of a term that is to be read
 
--- the tree of this ID is there, with these elements in it
+-- there is a tree of this ID, with these elements in it
 abbrev pub Known : Trees → Subtree → Type 0
 Known trees t = (e : Element) × (tree_of t.0 trees ≡ Some e) × (map unplaced (children_of e) ≡ map unplaced t.1)
 
@@ -69,7 +69,7 @@ elements_of ts = map (λ (c : Said). c.node) (map said ts)
 abbrev pub opened_in : List Term → List Subtree
 opened_in ts = flat_map (λ (c : Said). c.opened) (map said ts)
 
--- the numbers behind a term, and behind some terms
+-- the numbers after a term, and after several terms
 abbrev pub behind : Numbers → Term → Numbers
 behind n t = record { nodes = n.nodes + node_count t; scopes = n.scopes + scope_count t }
 
@@ -88,7 +88,7 @@ pub record Given (trees : Trees) (left : ℕ) (opened : List (List ℕ)) (n : Nu
   pub fresh : opens_fresh t opened ≡ true
   pub known : AllByRecursion (Known trees) (said t).opened
 
--- the same of some terms
+-- what must hold of several terms
 record AllGiven (trees : Trees) (left : ℕ) (opened : List (List ℕ)) (n : Numbers) (ts : List Term) : Type 0 where
   depth : greatest (map depth_of ts) ≤ left
   nodes : n.nodes + sum (map node_count ts) ≤ 4096
@@ -139,7 +139,7 @@ rest_given trees left opened n t ts g = record {
   known = (both_parts (Known trees) (said t).opened (opened_in ts) g.known).1;
 }
 
--- two lists that are the same, part by part
+-- equal lists have equal parts
 pub heads_same : (x y : Element) (xs ys : List Element) → ◌≡◌ {A = List Element} (x ∷ xs) (y ∷ ys) → (x ≡ y) × (xs ≡ ys)
 heads_same x y xs ys h = (let e : x ≡ y = cc in e, let e : xs ≡ ys = cc in e)
 
@@ -174,7 +174,7 @@ term_again : (x : Term-F Term) (n : ℕ) → NodeFits (counted x n) → term_of 
 term_again x n fits =
     ap (λ (name : List ℕ). roll-Term (record { kind = x.kind; id = x.id; name = name; ports = x.ports; code = x.code; guards = x.guards; autoremap = x.autoremap; children = x.children })) (name_reads x n fits)
 
--- what is given of the children of a node
+-- the IDs of the trees that are open where the children of a node are read
 abbrev below_opened : Kind → List ℕ → List (List ℕ) → List (List ℕ)
 below_opened SubTree id opened = opened ++ id ∷ []
 below_opened kind id opened = opened
@@ -212,7 +212,7 @@ children_given trees left opened n x g =
       known = (both_parts (Known trees) (own_tree x.kind x.id (elements_of x.children)) (opened_in x.children) known).1;
     }
 
--- the numbers behind the children are those behind the node
+-- the numbers after the children are those after the node
 numbers_behind : (n : Numbers) (x : Term-F Term) → behind_all (below_numbers x.kind n) x.children ≡ behind n (roll-Term x)
 numbers_behind n x =
     let m = below_numbers x.kind n in
@@ -236,7 +236,7 @@ plain_opened : (kind : Kind) (id : List ℕ) (opened : List (List ℕ)) → is_s
 plain_opened SubTree id opened h = absurd (cc)
 plain_opened kind id opened h = refl
 
--- the element of a node, and how it is read
+-- the element of a node, and what must hold so that it is read
 record NodeGiven (trees : Trees) (left : ℕ) (opened : List (List ℕ)) (n : Numbers) (e : Element) (x : Term-F Term) : Type 0 where
   given : Given trees (suc left) opened n (roll-Term x)
   fits : NodeFits (counted x (length x.children))
@@ -247,7 +247,7 @@ record NodeGiven (trees : Trees) (left : ℕ) (opened : List (List ℕ)) (n : Nu
 elements_count : (ts : List Term) → length (elements_of ts) ≡ length ts
 elements_count ts = length-map (map said ts) (λ (c : Said). c.node) ∙ length-map ts said
 
--- what all of a node is read as
+-- what a whole node is read as
 node_made : (trees : Trees) (left : ℕ) (opened : List (List ℕ)) (n : Numbers) (e : Element) (x : Term-F Term) (es : List Element) → NodeGiven trees left opened n e x → map unplaced es ≡ map unplaced (elements_of x.children) →
     node_of [] (read_node (plain_file trees) left) (plain_head x.kind x.id) (attributes_of e) (below_opened x.kind x.id opened) es (below_numbers x.kind n) (n.nodes + 1) ≡ Ok (roll-Term x, behind n (roll-Term x))
 node_made trees left opened n e x es g h =
@@ -295,7 +295,7 @@ plain_reads trees left opened n e x g plain =
     ∙ ap (λ (m : Numbers). node_of [] below head (attributes_of e) (below_opened x.kind x.id opened) es m (n.nodes + 1)) (sym (plain_numbers x.kind n plain))
     ∙ node_made trees left opened n e x es g same
 
--- what is so of a SubTree node
+-- what holds of a SubTree node
 record SubtreeGiven (trees : Trees) (opened : List (List ℕ)) (x : Term-F Term) : Type 0 where
   fresh : is_among x.id opened ≡ false
   known : Known trees (x.id, elements_of x.children)

@@ -1,4 +1,4 @@
--- A printed tree is read back.
+-- A printed tree is read as the tree.
 use Rattle.std.proofs.Common.{◌≡◌, ℕ, ◌≤◌, Bool, true, false, not, ◌||◌, cond, if◌then◌else◌, List, [], ◌∷◌, ◌++◌, map, length, codes, Option, Some, None, Result, Ok, Err, refl, ap, sym, ◌∙◌, subst, arith, append_assoc, append-nil}
 use Rattle.std.specs.Prelude.{bytes_eq, is_some, nat_le}
 use Rattle.std.proofs.lemmas.Bool.Decides.{nat_tests}
@@ -33,7 +33,7 @@ use Rattle.bt_round_trip.specs.Printed.{unplaced}
 use Rattle.bt_round_trip.specs.TreeElements.{Said, Subtree, element_of, own_tree, said, said_node, subtree_element, subtrees_of, with_subtree, with_subtrees}
 use Rattle.bt_round_trip.proofs.ReadNodes.{Given, Known, elements_of, has_parts, heads_same, opened_in, plain_file, term_reads}
 
--- ---- The first of each ID is kept
+-- ---- Of several trees of one ID the first is kept
 
 abbrev first_else : Option (List Element) → Option (List Element) → Option (List Element)
 first_else (Some es) other = Some es
@@ -48,7 +48,7 @@ lookup_append id (t ∷ ts) us = by_first (bytes_eq id t.0) (lookup_append id ts
     by_first true rest = refl
     by_first false rest = rest
 
--- whether an ID is there
+-- whether there is a tree of this ID
 abbrev is_there : List ℕ → List Subtree → Bool
 is_there id ts = list_any (λ (known : Subtree). bytes_eq id known.0) ts
 
@@ -60,7 +60,7 @@ there_found id (t ∷ ts) = by_first (bytes_eq id t.0) (there_found id ts)
     by_first true rest = refl
     by_first false rest = rest
 
--- a subtree joins: what is found is as if it stood at the end
+-- a tree is added: lookups find what they would if it were always added at the end
 joins : (id : List ℕ) (ts : List Subtree) (t : Subtree) → lookup (bytes_eq id) (with_subtree ts t) ≡ lookup (bytes_eq id) (ts ++ t ∷ [])
 joins id ts t = by_there (is_there t.0 ts) refl
   where
@@ -111,7 +111,7 @@ differ_joins ts (u ∷ us) h = differ_joins (with_subtree ts u) us (differ_join 
 
 -- ---- The trees of the file
 
--- a subtree in its element
+-- a tree as its element
 record TreeParts (e : Element) (t : Subtree) : Type 0 where
   name : name_of e ≡ codes "BehaviorTree"
   id : id_or_empty (attributes_of e) ≡ t.0
@@ -122,7 +122,7 @@ tree_parts e t h =
     let p = has_parts e (codes "BehaviorTree") ((codes "ID", t.0) ∷ []) t.1 h in
     record { name = p.name; id = ap (λ (A : Attributes). id_or_empty A) p.attributes; children = p.children }
 
--- elements of these subtrees, each in its place
+-- elements of these trees, in their order
 abbrev AreTrees : List Element → List Subtree → Type 0
 AreTrees [] [] = Unit {0}
 AreTrees (e ∷ es) (t ∷ ts) = TreeParts e t × AreTrees es ts
@@ -153,7 +153,7 @@ tree_ids_append : (xs ys : Trees) → tree_ids (xs ++ ys) ≡ tree_ids xs ++ tre
 tree_ids_append [] ys = refl
 tree_ids_append (x ∷ xs) ys = ap (λ (z : List (List ℕ)). x.0 ∷ z) (tree_ids_append xs ys)
 
--- none of these IDs is there
+-- there is no tree of these IDs
 abbrev NoneThere : Trees → List Subtree → Type 0
 NoneThere trees ts = AllByRecursion (λ t. is_among t.0 (tree_ids trees) ≡ false) ts
 
@@ -185,7 +185,7 @@ none_at_first : (ts : List Subtree) → NoneThere [] ts
 none_at_first [] = tt
 none_at_first (t ∷ ts) = (refl, none_at_first ts)
 
--- a tree of these is found with what stands in it
+-- a tree of these is found, with the elements in it
 found_tree : (es : List Element) (ts : List Subtree) (id : List ℕ) (below : List Element) → AreTrees es ts → lookup (bytes_eq id) ts ≡ Some below →
     (e : Element) × (tree_of id (paired es ts) ≡ Some e) × (map unplaced (children_of e) ≡ map unplaced below)
 found_tree [] [] id below are h = absurd (cc)
@@ -227,7 +227,7 @@ all_out (t ∷ ts) opened h =
     let u = both (opens_fresh t.0 opened) (list_all (λ (child : List (List ℕ) → Bool). child opened) (map opens_fresh (bare ts))) h in
     joined opened (said t.0).opened (opened_in (bare ts)) (t.1 opened u.0) (all_out ts opened u.1)
 
--- fewer are kept out
+-- what is not among more IDs is not among fewer
 among_front : (id : List ℕ) (xs ys : List (List ℕ)) → is_among id (xs ++ ys) ≡ false → is_among id xs ≡ false
 among_front id [] ys h = refl
 among_front id (x ∷ xs) ys h = let u = neither (bytes_eq id x) (is_among id (xs ++ ys)) h in or_false (bytes_eq id x) (is_among id xs) u.0 (among_front id xs ys u.1)
@@ -249,7 +249,7 @@ whole_out y opened h =
     let fresh = sym (ap (λ (f : List (List ℕ) → Bool). f opened) (fold-roll-Term (List (List ℕ) → Bool) fresh_step x)) ∙ h in
     subst (λ (s : Said). NoneOf opened s.opened) (sym (fold-roll-Term Said said_node x)) (out_by x.kind x.id y.children opened fresh)
 
--- no tree that is opened is one of those that are being opened
+-- a term opens none of the trees that must not be opened in it
 opened_out : (t : Term) → KeepsOut t
 opened_out = ind-Term KeepsOut (λ x y is. subst (λ (z : Term-F Term). KeepsOut (roll-Term z)) is (whole_out y))
 
@@ -325,7 +325,7 @@ main_reads es tree valid opens are =
 differ_first : (tree : Tree) → all_differ (ids_of (subtrees_of tree)) ≡ true
 differ_first tree = differ_joins ((tree.main, (said tree.term).node ∷ []) ∷ []) (said tree.term).opened refl
 
--- the element that a tree is printed as, at any places, reads as the tree
+-- the printed element of a tree, at any places, reads as the tree
 pub element_reads : (tree : Tree) (f : Element) → IsValid tree → OpensAlike tree → unplaced f ≡ unplaced (element_of tree) → reads [] None f ≡ Ok tree
 element_reads tree f valid opens h =
     let ts = subtrees_of tree in
@@ -340,7 +340,7 @@ element_reads tree f valid opens h =
     ∙ ap (λ (r : Result Trees BuildFault). go_on (trees_read [] None (root_attributes tree) Four) r) (trees_are [] es ts are (differ_first tree) (none_at_first ts))
     ∙ main_reads es tree valid opens are
 
--- and has no models
+-- the printed element of a tree has no models
 pub element_models : (tree : Tree) (f : Element) → unplaced f ≡ unplaced (element_of tree) → manifest_in f ≡ Ok []
 element_models tree f h =
     let ts = subtrees_of tree in

@@ -1,4 +1,4 @@
--- What is printed of a port's value says that value.
+-- The printed value of a port says that value.
 use Rattle.std.proofs.Common.{◌≡◌, ℕ, ℤ, pos, negsuc, zero, suc, ◌+◌, ◌-◌, ◌<◌, ◌≤◌, ◌^◌, Bool, true, false, not, ◌==◌, ◌&&◌, ◌||◌, nat_lt, cond, if◌then◌else◌, List, [], ◌∷◌, ◌++◌, length, get_or, take, codes, decimal, Option, Some, None, refl, ap, sym, ◌∙◌, subst, arith, length-append}
 use Rattle.std.specs.Prelude.{nat_le, slice_index, slice_range, is_some}
 use Rattle.std.proofs.lemmas.Bool.{leb-true}
@@ -38,7 +38,7 @@ digits_pass : (ds : List ℕ) → AllDigits 10 ds → list_all is_ascii_digit ds
 digits_pass [] h = refl
 digits_pass (d ∷ ds) h = both_true (digit_passes d h.0) (digits_pass ds h.1)
 
--- the texts of numbers that are not 0 and have no sign
+-- the texts of numbers that are not 0, without a sign
 record Positive (ds : List ℕ) (n : ℕ) : Type 0 where
   positive : is_positive ds ≡ true
   plain : without_minus ds ≡ ds
@@ -78,7 +78,7 @@ pub or_second : (a b : Bool) → b ≡ true → (a || b) ≡ true
 or_second true b h = refl
 or_second false b h = h
 
--- what is said of the text of a number
+-- what must be shown of the text of a number
 record Said (text : List ℕ) (n : ℤ) : Type 0 where
   canonical : is_canonical text ≡ true
   value : signed_digits_value 10 text ≡ n
@@ -112,7 +112,7 @@ number_said (negsuc n) h =
       no_key = no_brace (45 ∷ decimal (suc n)) (omega arith);
     }
 
--- the text of a number of 64 bits writes it
+-- the text of a number of 64 bits is read as the number
 number_reads : (n : ℤ) → is_int n ≡ true → int_in (signed_decimal n) ≡ Some n
 number_reads n h =
     let s = number_said n h in
@@ -166,14 +166,14 @@ none_of : (o : Option ℤ) → is_some o ≡ false → o ≡ None
 none_of None h = refl
 none_of (Some n) h = absurd (cc)
 
--- the text of a literal says it
+-- the text of a literal is read as the literal
 literal_reads : (value : Value) → is_plain value ≡ true → (in_braces (port_text (Lit value)) ≡ false) × (literal (port_text (Lit value)) ≡ value)
 literal_reads (Int n) h = ((number_said n h).no_key, ap (λ (o : Option ℤ). option_map_or Int o (Text (signed_decimal n))) (number_reads n h))
 literal_reads (Text text) h =
     let t = both (not (is_some (int_in text))) (not (in_braces text)) h in
     (not_true (in_braces text) t.1, ap (λ (o : Option ℤ). option_map_or Int o (Text text)) (none_of (int_in text) (not_true (is_some (int_in text)) t.0)))
 
--- what is printed of a value that fits a range says it there
+-- the printed value of a port is read as that value, where it fits the range
 pub value_reads : (range : Range) (port : List ℕ) (v : PortValue) → value_fits range v ≡ true → value_in range port (port_text v) ≡ Some v
 value_reads range port (Key key) h =
     ap (λ (b : Bool). if b then key_value (key_said port (braced key)) else literal_value range (literal (braced key))) (key_braced key)

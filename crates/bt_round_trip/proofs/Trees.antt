@@ -122,7 +122,7 @@ tree_shown tree =
     ∙ ap (λ (ls : List Lines). element_lines (codes "root") (root_attributes tree) ls []) (elements_shown (subtrees_of tree))
     ∙ ap (λ (ls : Lines). ls []) (sym (lines_element (codes "root") (root_attributes tree) (map subtree_element (subtrees_of tree))))
 
--- the bytes of a printed tree spell its element, where this can be written
+-- the printed bytes of a tree spell its element, where it can be written
 pub element_of_spelled :
     (tree : Tree) → can_be_written (element_of tree) ≡ true → term_depth tree.term ≤ 256 →
     (f : Element) × Spells (concat (tree_lines tree)) f × (unplaced f ≡ unplaced (element_of tree))

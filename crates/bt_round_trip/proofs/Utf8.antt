@@ -1,4 +1,4 @@
--- What is printed is UTF-8 where its texts are.
+-- What is printed is UTF-8 where the texts in it are.
 use Rattle.std.proofs.Common.{◌≡◌, ℕ, suc, ◌<◌, ◌≤◌, ◌^◌, Bool, true, false, ◌==◌, nat_lt, List, [], ◌∷◌, ◌++◌, length, get_or, refl, ap, sym, ◌∙◌, subst, append-nil, arith, codes, decimal}
 use Rattle.std.proofs.lemmas.Bool.Decides.{nat_tests}
 use Rattle.std.proofs.lemmas.Fmt.{IsAscii-decimal}
@@ -45,7 +45,7 @@ differ b c h k = grind (arith, nat_tests)
 not_below : (b : ℕ) → 128 ≤ b → nat_lt b 32 ≡ false
 not_below b h = grind (arith, nat_tests)
 
--- a byte past ASCII stands for itself
+-- a byte past ASCII is printed as itself
 plain_byte : (b : ℕ) → 128 ≤ b → escaped_byte b ≡ b ∷ []
 plain_byte b h =
     ap (λ (t : Bool). escaped_by b t (b == 60) (b == 34) (nat_lt b 32)) (differ b 38 (omega arith) h)

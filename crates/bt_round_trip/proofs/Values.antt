@@ -1,4 +1,4 @@
--- What is printed between two `"` says what it was printed of.
+-- A value printed between two `"` says the value that was printed.
 use Rattle.std.proofs.Common.{◌≡◌, ℕ, ◌+◌, ◌<◌, ◌^◌, Bool, true, false, ◌&&◌, not, ◌==◌, nat_lt, List, [], ◌∷◌, ◌++◌, length, take, drop, Option, Some, None, refl, ap, sym, ◌∙◌, append_assoc, arith, length-append, if◌then◌else◌, codes, decimal}
 use Rattle.std.proofs.lemmas.Bool.Decides.{nat_tests}
 use Rattle.std.proofs.lemmas.Fmt.{decimal_is_IsNumeral}
@@ -74,7 +74,7 @@ reference_decimal (d ∷ ds) rest c some all value is =
     ap (λ (x : Bool). hash_by (35 ∷ ((d ∷ ds) ++ 59 ∷ rest)) (x && true)) (digit_is_no_x d all.0)
     ∙ numeric_of (d ∷ ds) rest c (digits_pass (d ∷ ds) all) value is
 
--- a reference says its character
+-- a reference gives its character
 decoded_reference : (cs : List ℕ) (c n : ℕ) → reference_of cs ≡ Some (c, n) → c < 128 → decoded (38 ∷ cs) ≡ c ∷ decoded (drop n cs)
 decoded_reference cs c n is ascii =
     ap (λ (o : Option (ℕ × ℕ)). elim o as (λ _. List ℕ) [ Some r ↦ encode_utf8 r.0 ++ decoded_from r.1 cs | None ↦ 38 ∷ decoded_from 0 cs ]) is
@@ -132,7 +132,7 @@ not_false : (b : Bool) → not b ≡ true → b ≡ false
 not_false true h = absurd (cc)
 not_false false h = refl
 
--- a printed value says itself
+-- a printed value is decoded as the value
 pub value_says : (value : List ℕ) → list_all is_not_zero value ≡ true → decoded (flat_map escaped_byte value) ≡ value
 value_says [] h = refl
 value_says (c ∷ cs) h =

@@ -17,7 +17,7 @@ fresh_by kind id children opened = list_all (λ (child : List (List ℕ) → Boo
 abbrev pub fresh_step : Term-F (List (List ℕ) → Bool) → List (List ℕ) → Bool
 fresh_step f opened = fresh_by f.kind f.id f.children opened
 
--- whether no SubTree node of a term opens a tree of these IDs, or one that is opened round it
+-- whether no SubTree node of a term opens a tree of these IDs, or one inside which it is opened
 abbrev pub opens_fresh : Term → List (List ℕ) → Bool
 opens_fresh = fold-Term (List (List ℕ) → Bool) fresh_step
 

@@ -5,13 +5,13 @@ use Rattle.bt_model.specs.PrintedTree.{Lines, element_lines}
 abbrev pub lines_step : Element-F Lines → Lines
 lines_step f = element_lines f.name f.attributes f.children
 
--- the lines of an element, by their indentation
+-- the lines of an element, for an indentation
 abbrev pub lines_of : Element → Lines
 lines_of = fold-Element Lines lines_step
 
 abbrev pub unplaced_step : Element-F Element → Element
 unplaced_step f = roll-Element (record { name = f.name; attributes = f.attributes; children = f.children; place = 0 })
 
--- an element without the places that it and all in it have in a file
+-- an element without the places that it and its parts have in a file
 abbrev pub unplaced : Element → Element
 unplaced = fold-Element Element unplaced_step

@@ -13,11 +13,11 @@ use Rattle.bt_model.specs.PrintedTree.{Attribute, element_name, node_attributes,
 abbrev pub element : List ℕ → List Attribute → List Element → Element
 element name attributes children = roll-Element (record { name = name; attributes = attributes; children = children; place = 0 })
 
--- a tree by its ID, with the elements that stand in it
+-- a tree by its ID, with the elements in it
 abbrev pub Subtree : Type 0
 Subtree = List ℕ × List Element
 
--- what is said of a term: its element, and the trees that it opens, in pre-order
+-- what is printed of a term: its element, and the trees that it opens, in pre-order
 pub record Said : Type 0 where
   pub node : Element
   pub opened : List Subtree
@@ -38,7 +38,7 @@ said_node f =
 abbrev pub said : Term → Said
 said = fold-Term Said said_node
 
--- a tree joins these, but for one whose ID stands there already
+-- a tree is added, unless one of its ID is there already
 abbrev pub with_subtree : List Subtree → Subtree → List Subtree
 with_subtree trees t = if list_any (λ (known : Subtree). bytes_eq t.0 known.0) trees then trees else trees ++ t ∷ []
 
@@ -46,7 +46,7 @@ abbrev pub with_subtrees : List Subtree → List Subtree → List Subtree
 with_subtrees trees [] = trees
 with_subtrees trees (t ∷ ts) = with_subtrees (with_subtree trees t) ts
 
--- the main tree, and then every other one that is opened, once, in the order of the first openings
+-- the main tree, and then each tree that is opened, once, in the order of their first openings
 abbrev pub subtrees_of : Tree → List Subtree
 subtrees_of tree = with_subtrees ((tree.main, (said tree.term).node ∷ []) ∷ []) (said tree.term).opened
 

@@ -14,27 +14,28 @@ ghost use Rattle.bt_round_trip.specs.Openings.{OpensAlike};
 ghost use Rattle.bt_round_trip.specs.Printed.{lines_of, unplaced};
 ghost use Rattle.bt_round_trip.specs.TreeElements.{element_of};
 
-/// A value without the byte 0 is printed as one that may stand between two `"`, and says itself.
+/// A value without the byte 0 is printed as one that may stand between two `"`, and its printed
+/// bytes say the value.
 pub fn printed_values_read_back()
     ensures stands { (value : List ℕ) → IsTrue (list_all is_not_zero value) → IsTrue (list_all (is_value_byte 34) (flat_map escaped_byte value)) }
     ensures says { (value : List ℕ) → IsTrue (list_all is_not_zero value) → decoded (flat_map escaped_byte value) ≡ value }
 {}
 
-/// An element that can be written is spelled by the bytes that are printed of it, at the places that
-/// it has there.
+/// The printed bytes of an element that can be written spell the element, at the places that it has
+/// among them.
 pub fn printed_elements_read_back()
     ensures { (e : Element) → IsTrue (can_be_written e) → depth_of e ≤ 258
         → (f : Element) × Spells (concat (lines_of e [])) f × (unplaced f ≡ unplaced e) }
 {}
 
-/// The bytes that are printed of a valid tree spell its element.
+/// The printed bytes of a valid tree spell its element.
 pub fn printed_trees_spell_their_elements()
     ensures { (tree : Tree) → IsValid tree → (f : Element) × Spells (concat (tree_lines tree)) f × (unplaced f ≡ unplaced (element_of tree)) }
 {}
 
-/// The bytes that are printed of a tree that was read spell an element without models that reads as
-/// the tree again. So do those of each valid tree whose SubTree nodes of one ID have the same tree
-/// below them.
+/// The printed bytes of a tree that was read spell an element without models, which reads as the
+/// same tree. So do those of each valid tree in which no tree is opened in itself and the SubTree
+/// nodes of one ID have the same tree below them.
 pub fn printed_trees_read_back()
     ensures alike { (tree : Tree) → IsValid tree → OpensAlike tree
         → (f : Element) × Spells (concat (tree_lines tree)) f × (manifest_in f ≡ Ok []) × (reads [] None f ≡ Ok tree) }

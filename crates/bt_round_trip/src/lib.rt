@@ -1,4 +1,4 @@
-//! Laws: what is printed of a tree reads back.
+//! Laws: what is printed of a tree reads as that tree.
 #![tactic(auto)]
 
 mod laws;

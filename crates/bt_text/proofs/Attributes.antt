@@ -1,10 +1,10 @@
--- Attributes that are put one after another.
+-- Attributes that are added one after the other.
 use Rattle.std.proofs.Common.{◌≡◌, ℕ, List, ◌++◌, append_assoc}
 use Rattle.std.proofs.lemmas.Grind.{flat_map-append}
 use Rattle.std.specs.List.{flat_map}
 use Rattle.bt_model.specs.PrintedTree.{Attribute}
 
--- the texts of eight lists of attributes are that of all
+-- the texts of eight lists of attributes are the text of all together
 pub eight_texts :
     (f : Attribute → List ℕ) (out : List ℕ) (a b c d e g h i : List Attribute) →
     (((((((out ++ flat_map f a) ++ flat_map f b) ++ flat_map f c) ++ flat_map f d) ++ flat_map f e) ++ flat_map f g) ++ flat_map f h) ++ flat_map f i

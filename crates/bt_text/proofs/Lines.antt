@@ -1,4 +1,4 @@
--- Texts that are written one after another.
+-- Texts that are written one after the other.
 use Rattle.std.proofs.Common.{◌≡◌, ℕ, ◌+◌, ◌<◌, List, [], ◌∷◌, ◌++◌, Option, map, length, get_or, take, drop, ap, sym, subst, ◌∙◌, append-nil}
 use Rattle.std.proofs.lemmas.List.{take_more, drop_more, take-append-drop, map-append}
 use Rattle.std.proofs.lemmas.List.Folds.{concat-append}
@@ -8,7 +8,7 @@ use Rattle.bt_model.specs.Lines.{LineNames, entry_line, fact_line, header_line, 
 use Rattle.bt_outside.specs.Appending.{Appended, AppendedFront}
 use Rattle.bt_outside.proofs.Appends.{Appended-trans, AppendedFront-whole, AppendedFront-longer, AppendedFront-after}
 
--- a text that was put behind nothing
+-- a text that was added to an empty line is the line
 pub alone : {line old : List ℕ} (text : List ℕ) → old ≡ [] → line ≡ old ++ text → line ≡ text
 alone text none put = put ∙ ap (λ (z : List ℕ). z ++ text) none
 
@@ -45,7 +45,7 @@ AppendedFront-map_some f xs i a b p =
     subst (AppendedFront a b) (sym (concat-map_split f xs i))
     (AppendedFront-longer a b (concat (map f (take i xs))) (concat (map f (drop i xs))) (AppendedFront-whole a b (concat (map f (take i xs))) p))
 
--- the texts before a place were written, and a front of the next
+-- the texts before a place were written, and a prefix of the next
 pub AppendedFront-map_next :
     {X : Type 0} (f : X → List ℕ) (xs : List X) (i : ℕ) (d : X) (a b c : Option (List ℕ)) →
     i < length xs → Appended a b (concat (map f (take i xs))) → AppendedFront b c (f (get_or xs i d)) →
@@ -71,7 +71,7 @@ Appended-lines_of names block a b c d e p q r s =
     let rest = subst (Appended b e) (sym (concat-append (notes ++ facts) entries)) (Appended-trans b d e (concat (notes ++ facts)) (concat entries) first s) in
     Appended-trans a b e header (concat (notes ++ facts ++ entries)) p rest
 
--- the header of a block was written, and a front of its notes
+-- the header of a block was written, and a prefix of its notes
 pub AppendedFront-lines_of_notes :
     (names : LineNames) (block : Block) (a b c : Option (List ℕ)) →
     Appended a b (header_line names block.header) → AppendedFront b c (concat (map (note_line names) block.notes)) →
@@ -86,7 +86,7 @@ AppendedFront-lines_of_notes names block a b c p q =
     AppendedFront-after a b c header (concat (notes ++ facts ++ entries)) p
     (subst (AppendedFront b c) (sym (concat-append (notes ++ facts) entries)) rest)
 
--- the header and the notes of a block were written, and a front of its facts
+-- the header and the notes of a block were written, and a prefix of its facts
 pub AppendedFront-lines_of_facts :
     (names : LineNames) (block : Block) (a b c d : Option (List ℕ)) →
     Appended a b (header_line names block.header) → Appended b c (concat (map (note_line names) block.notes)) →
@@ -101,7 +101,7 @@ AppendedFront-lines_of_facts names block a b c d p q r =
     AppendedFront-after a b d header (concat (notes ++ facts ++ entries)) p
     (subst (AppendedFront b d) (sym (concat-append (notes ++ facts) entries)) rest)
 
--- the header, the notes and the facts of a block were written, and a front of its entries
+-- the header, the notes and the facts of a block were written, and a prefix of its entries
 pub AppendedFront-lines_of_entries :
     (names : LineNames) (block : Block) (a b c d e : Option (List ℕ)) →
     Appended a b (header_line names block.header) → Appended b c (concat (map (note_line names) block.notes)) →

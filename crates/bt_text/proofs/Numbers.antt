@@ -1,10 +1,10 @@
--- A word, and the label of a number behind it.
+-- A word, followed by the label of a number.
 use Rattle.std.proofs.Common.{◌≡◌, ℕ, ◌+◌, ◌≤◌, List, [], ◌∷◌, ◌++◌, length, take, drop, ap, sym, ◌∙◌, append_assoc, length-append, arith}
 use Rattle.std.proofs.lemmas.List.{take-append-drop, take-append-le}
 use Rattle.std.proofs.Math.Seq.{take-append-add}
 use Rattle.std.specs.Fmt.{decimal}
 
--- the bytes before a place, and the first of those that were written from there on
+-- the bytes before a place, followed by a prefix of those that were copied from there on
 front_and_some :
     (new front piece : List ℕ) (start len : ℕ) → length front ≡ start → len ≤ length piece → take (start + length piece) new ≡ front ++ piece →
     take (start + len) new ≡ front ++ take len piece
@@ -17,7 +17,7 @@ front_and_some new front piece start len at within written =
     ∙ ap (λ (n : ℕ). take (n + len) (front ++ piece)) (sym at)
     ∙ take-append-add front piece len
 
--- the word was written, and over what follows it the whole room of a label
+-- after the word the whole room of a label was copied
 pub labelled :
     (new old word room label : List ℕ) (len n : ℕ) → length word ≡ 4 → take (0 + length word) old ≡ word → len ≤ length room →
     take (4 + length room) new ≡ take 4 old ++ room → take len room ≡ label → label ≡ 32 ∷ decimal n →

@@ -20,25 +20,25 @@ use Rattle.bt_text.specs.Trees.{end_mark, node_mark, start_mark, written}
 
 -- ---- The trees that are written
 
--- the test on the code's list
+-- whether a tree is in the code's list, and whether it is written
 pub has_written : (id : List ℕ) (ts : List Written) → list_any (λ t. bytes_eq id t.id.now) ts ≡ list_any (λ (known : WrittenTree). bytes_eq id known.0) (map written ts)
 has_written id [] = refl
 has_written id (t ∷ ts) = ap (λ (rest : Bool). bytes_eq id t.id.now || rest) (has_written id ts)
 
--- a tree that stands there already
+-- a tree that is there already is not added
 pub with_known : (trees : List WrittenTree) (t : WrittenTree) → list_any (λ (known : WrittenTree). bytes_eq t.0 known.0) trees ≡ true → with_tree trees t ≡ trees
 with_known trees t h = ap (λ (b : Bool). if b then trees else trees ++ t ∷ []) h
 
--- a new one
+-- a new tree is added
 pub with_new : (trees : List WrittenTree) (t : WrittenTree) → list_any (λ (known : WrittenTree). bytes_eq t.0 known.0) trees ≡ false → with_tree trees t ≡ trees ++ t ∷ []
 with_new trees t h = ap (λ (b : Bool). if b then trees else trees ++ t ∷ []) h
 
--- first some and then others
+-- trees are added, and then others
 pub with_trees-append : (trees a b : List WrittenTree) → with_trees trees (a ++ b) ≡ with_trees (with_trees trees a) b
 with_trees-append trees [] b = refl
 with_trees-append trees (t ∷ ts) b = with_trees-append (with_tree trees t) ts b
 
--- those of one more node
+-- the trees of one more node are added
 pub with_trees-more :
     {X : Type 0} (f : X → List WrittenTree) (trees : List WrittenTree) (xs : List X) (i : ℕ) (d : X) → i < length xs →
     with_trees trees (flat_map f (take (i + 1) xs)) ≡ with_trees (with_trees trees (flat_map f (take i xs))) (f (get_or xs i d))
@@ -127,7 +127,7 @@ pub Appended-element_empty :
     Appended a b (start_mark blanks name attributes (codes "/>")) → Appended a b (concat (element_lines name attributes (map f xs) blanks))
 Appended-element_empty f name attributes blanks xs a b h p = subst (Appended a b) (sym (text_empty f name attributes blanks xs h)) p
 
--- or a front of it
+-- a prefix of the one mark of an element with nothing in it was written
 pub AppendedFront-element_empty :
     {X : Type 0} (f : X → Lines) (name : List ℕ) (attributes : List Attribute) (blanks : List ℕ) (xs : List X) (a b : Option (List ℕ)) → length xs ≡ 0 →
     AppendedFront a b (start_mark blanks name attributes (codes "/>")) → AppendedFront a b (concat (element_lines name attributes (map f xs) blanks))
@@ -144,7 +144,7 @@ Appended-element f name attributes blanks xs a b c d h p q r =
     subst (Appended a d) (sym (text_filled f name attributes blanks xs h))
     (Appended-trans a b d start (nodes ++ end_mark blanks name) p (Appended-trans b c d nodes (end_mark blanks name) q r))
 
--- a front of its start mark was written
+-- a prefix of the start mark of an element was written
 pub AppendedFront-element_start :
     {X : Type 0} (f : X → Lines) (name : List ℕ) (attributes : List Attribute) (blanks : List ℕ) (xs : List X) (a b : Option (List ℕ)) → 0 < length xs →
     AppendedFront a b (start_mark blanks name attributes (codes ">")) → AppendedFront a b (concat (element_lines name attributes (map f xs) blanks))
@@ -153,7 +153,7 @@ AppendedFront-element_start f name attributes blanks xs a b h p =
     let start = start_mark blanks name attributes (codes ">") in
     subst (AppendedFront a b) (sym (text_filled f name attributes blanks xs h)) (AppendedFront-longer a b start (nodes ++ end_mark blanks name) p)
 
--- its start mark was written, and a front of what stands in it
+-- the start mark of an element was written, and a prefix of what is in it
 pub AppendedFront-element_below :
     {X : Type 0} (f : X → Lines) (name : List ℕ) (attributes : List Attribute) (blanks : List ℕ) (xs : List X) (a b c : Option (List ℕ)) → 0 < length xs →
     Appended a b (start_mark blanks name attributes (codes ">")) → AppendedFront b c (concat (map (λ x. concat (f x (deeper blanks))) xs)) →
@@ -164,7 +164,7 @@ AppendedFront-element_below f name attributes blanks xs a b c h p q =
     subst (AppendedFront a c) (sym (text_filled f name attributes blanks xs h))
     (AppendedFront-after a b c start (nodes ++ end_mark blanks name) p (AppendedFront-longer b c nodes (end_mark blanks name) q))
 
--- all but its end mark was written, and a front of this
+-- an element was written without its end mark, and a prefix of this
 pub AppendedFront-element_end :
     {X : Type 0} (f : X → Lines) (name : List ℕ) (attributes : List Attribute) (blanks : List ℕ) (xs : List X) (a b c d : Option (List ℕ)) → 0 < length xs →
     Appended a b (start_mark blanks name attributes (codes ">")) → Appended b c (concat (map (λ x. concat (f x (deeper blanks))) xs)) →
@@ -175,27 +175,27 @@ AppendedFront-element_end f name attributes blanks xs a b c d h p q r =
     subst (AppendedFront a d) (sym (text_filled f name attributes blanks xs h))
     (AppendedFront-after a b d start (nodes ++ end_mark blanks name) p (AppendedFront-after b c d nodes (end_mark blanks name) q r))
 
--- ---- One after another
+-- ---- Items, one after the other
 
--- one more was written
+-- one more item was written
 pub Appended-item :
     {X : Type 0} (f : X → List ℕ) (xs : List X) (i : ℕ) (x : X) (a b c : Option (List ℕ)) → i < length xs → x ≡ get_or xs i x →
     Appended a b (concat (map f (take i xs))) → Appended b c (f x) → Appended a c (concat (map f (take (i + 1) xs)))
 Appended-item f xs i x a b c h e p q = Appended-map_more f xs i x a b c h p (subst (λ y. Appended b c (f y)) e q)
 
--- those before a place were written, and a front of the next
+-- the items before a place were written, and a prefix of the next
 pub AppendedFront-item :
     {X : Type 0} (f : X → List ℕ) (xs : List X) (i : ℕ) (x : X) (a b c : Option (List ℕ)) → i < length xs → x ≡ get_or xs i x →
     Appended a b (concat (map f (take i xs))) → AppendedFront b c (f x) → AppendedFront a c (concat (map f xs))
 AppendedFront-item f xs i x a b c h e p q = AppendedFront-map_next f xs i x a b c h p (subst (λ y. AppendedFront b c (f y)) e q)
 
--- all were written
+-- all items were written
 pub Appended-all :
     {X : Type 0} (f : X → List ℕ) (xs : List X) (i : ℕ) (a b : Option (List ℕ)) → length xs ≤ i →
     Appended a b (concat (map f (take i xs))) → Appended a b (concat (map f xs))
 Appended-all f xs i a b h p = subst (λ ys. Appended a b (concat (map f ys))) (take_all i xs h) p
 
--- what the test says of a list
+-- a list that passes the test is empty
 pub length_empty : {X : Type 0} (xs : List X) (is : Bool) → is ≡ (length xs == 0) → is ≡ true → length xs ≡ 0
 length_empty xs is h t = grind (arith, nat_tests)
 
@@ -225,7 +225,7 @@ pub Appended-node_empty :
     Appended a b (node_mark blanks t (codes "/>")) → Appended a b (concat ((printed t).lines blanks))
 Appended-node_empty t nodes blanks a b h e p = subst (Appended a b) (node_empty t nodes blanks h e) p
 
--- or a front of it
+-- a prefix of the one mark of a node with nothing in it was written
 pub AppendedFront-node_empty :
     (t : Term) (nodes : List Term) (blanks : List ℕ) (a b : Option (List ℕ)) → nodes ≡ written_below (out-Term t).kind (out-Term t).children → length nodes ≡ 0 →
     AppendedFront a b (node_mark blanks t (codes "/>")) → AppendedFront a b (concat ((printed t).lines blanks))
@@ -241,7 +241,7 @@ Appended-node t nodes blanks a b c d e h p q r =
     subst (λ (ls : Lines). Appended a d (concat (ls blanks))) (sym (lines_of_node t nodes e))
     (Appended-element (λ n. (printed n).lines) (element_name node.kind node.id) (node_attributes node) blanks nodes a b c d h p q r)
 
--- a front of its start mark was written
+-- a prefix of the start mark of a node was written
 pub AppendedFront-node_start :
     (t : Term) (nodes : List Term) (blanks : List ℕ) (a b : Option (List ℕ)) → nodes ≡ written_below (out-Term t).kind (out-Term t).children → 0 < length nodes →
     AppendedFront a b (node_mark blanks t (codes ">")) → AppendedFront a b (concat ((printed t).lines blanks))
@@ -250,7 +250,7 @@ AppendedFront-node_start t nodes blanks a b e h p =
     subst (λ (ls : Lines). AppendedFront a b (concat (ls blanks))) (sym (lines_of_node t nodes e))
     (AppendedFront-element_start (λ n. (printed n).lines) (element_name node.kind node.id) (node_attributes node) blanks nodes a b h p)
 
--- its start mark was written, and a front of what stands in it
+-- the start mark of a node was written, and a prefix of what is in it
 pub AppendedFront-node_below :
     (t : Term) (nodes : List Term) (blanks : List ℕ) (a b c : Option (List ℕ)) → nodes ≡ written_below (out-Term t).kind (out-Term t).children → 0 < length nodes →
     Appended a b (node_mark blanks t (codes ">")) → AppendedFront b c (concat (map (λ n. concat ((printed n).lines (deeper blanks))) nodes)) →
@@ -260,7 +260,7 @@ AppendedFront-node_below t nodes blanks a b c e h p q =
     subst (λ (ls : Lines). AppendedFront a c (concat (ls blanks))) (sym (lines_of_node t nodes e))
     (AppendedFront-element_below (λ n. (printed n).lines) (element_name node.kind node.id) (node_attributes node) blanks nodes a b c h p q)
 
--- all but its end mark was written, and a front of this
+-- a node was written without its end mark, and a prefix of this
 pub AppendedFront-node_end :
     (t : Term) (nodes : List Term) (blanks : List ℕ) (a b c d : Option (List ℕ)) → nodes ≡ written_below (out-Term t).kind (out-Term t).children → 0 < length nodes →
     Appended a b (node_mark blanks t (codes ">")) → Appended b c (concat (map (λ n. concat ((printed n).lines (deeper blanks))) nodes)) →

@@ -19,8 +19,9 @@ use bt_script::Value;
 use std::alloc::Global;
 
 /// Writes the lines of the block, each by one write: its event, what happened, and the facts and
-/// the entries that changed. After a stop some front of them was written. `TextStop::WriteFault` comes only where
-/// the sink's count of failures rose in this call.
+/// the entries that changed. After a stop a prefix of their bytes was written.
+/// `TextStop::WriteFault` comes only where the sink's count of failures rose in this call, and
+/// `TextStop::NoMemory` for want of memory (out of memory).
 #[tactic(auto, using(bt_outside::proofs::Appends::appending))]
 pub fn write_block<K: Sink>(
     alloc: Global,
@@ -43,8 +44,8 @@ pub fn write_block<K: Sink>(
     Ok(())
 }
 
-/// Writes the line by one write. After a stop some front of it was written.
-/// `TextStop::WriteFault` comes only where the sink's count of failures rose in this call.
+/// Writes the line by one write. After a stop a prefix of it was written. `TextStop::WriteFault`
+/// comes only where the sink's count of failures rose in this call.
 #[inline(always)]
 pub fn write_line<K: Sink>(out: &mut K, line: &[u8]) -> Result<(), TextStop>
     ensures whole { OnOk result (Appended (K.written out.old) (K.written out.new) line.now) }
@@ -56,7 +57,8 @@ pub fn write_line<K: Sink>(out: &mut K, line: &[u8]) -> Result<(), TextStop>
     Ok(())
 }
 
-// Writes the lines of the notes. The room of `line` is used for one after another.
+/// Writes the lines of the notes. The long ones all use the room of `line`. After a stop a prefix
+/// of the bytes was written.
 #[tactic(auto, using(bt_outside::proofs::Appends::appending))]
 fn write_notes<K: Sink>(
     line: &mut Vec<u8>,
@@ -78,7 +80,7 @@ fn write_notes<K: Sink>(
     Ok(())
 }
 
-// Writes the line of the note.
+/// Writes the line of the note. After a stop a prefix of it was written.
 #[tactic(auto, using(bt_outside::proofs::Appends::appending))]
 #[inline(always)]
 fn write_note<K: Sink>(
@@ -100,7 +102,8 @@ fn write_note<K: Sink>(
     write_long(line, out, note, names)
 }
 
-// Writes the line of a note that is long, as that of a fault. It stands apart as few blocks have one.
+/// Writes the line of a note that is long, as that of a fault. It is a function of its own, since
+/// few blocks have such a note.
 #[tactic(auto, using(bt_outside::proofs::Appends::appending))]
 #[cold]
 #[inline(never)]
@@ -121,7 +124,8 @@ fn write_long<K: Sink>(
     write_line(out, line.as_slice())
 }
 
-// Writes the lines of the facts in the same way.
+/// Writes the lines of the facts that changed. All use the room of `line`. After a stop a prefix of
+/// the bytes was written.
 #[tactic(auto, using(bt_outside::proofs::Appends::appending))]
 fn write_facts<K: Sink>(
     line: &mut Vec<u8>,
@@ -143,7 +147,8 @@ fn write_facts<K: Sink>(
     Ok(())
 }
 
-// Writes the lines of the entries in the same way.
+/// Writes the lines of the entries that changed. All use the room of `line`. After a stop a prefix
+/// of the bytes was written.
 #[tactic(auto, using(bt_outside::proofs::Appends::appending))]
 fn write_entries<K: Sink>(
     line: &mut Vec<u8>,

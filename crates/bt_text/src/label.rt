@@ -5,10 +5,11 @@ use bt_script::NoMemory;
 use std::alloc::Global;
 use std::marker::Model;
 
-/// How many bytes a label takes in place.
+/// How many bytes of room a label has.
 const ROOM: usize = 8;
 
-/// A blank and a number in decimal, made once so that a line needs no division. Contracts see its bytes.
+/// A blank and a number in decimal, made once, so that a line needs no division. Contracts see its
+/// bytes.
 #[derive(Debug, Drop)]
 pub struct Label {
     text: [u8; ROOM],
@@ -26,7 +27,7 @@ impl Model for Label {
 }
 
 impl Label {
-    // That of one digit.
+    /// The label of a number of one digit.
     fn of_digit(digit: u8) -> Label
         requires { digit < 10 }
         ensures { result ≡ 32 ∷ (48 + digit) ∷ [] }
@@ -36,7 +37,7 @@ impl Label {
         Label { text, len: 2 }
     }
 
-    // That with one digit more.
+    /// The label of the number with this one digit more.
     fn with_digit(&self, digit: u8) -> Label
         requires digit { digit < 10 }
         requires room { length self.now ≤ 7 }
@@ -50,7 +51,7 @@ impl Label {
         }
     }
 
-    /// All of its room, and how many bytes of it are the label's.
+    /// All bytes of its room, and how many of them are the label.
     #[inline(always)]
     pub fn room(&self) -> ([u8; ROOM], usize)
         ensures text { take result.1 result.0 ≡ self.now }
@@ -61,7 +62,7 @@ impl Label {
     }
 }
 
-/// The labels of 0 and of the numbers behind it, as far as there are any.
+/// The labels of 0 and the numbers after it, as far as there are labels.
 #[derive(Drop)]
 pub struct Labels<'a> {
     list: &'a [Label],
@@ -98,7 +99,8 @@ impl<'a> Labels<'a> {
     }
 }
 
-// The label of a number, by that of its digits but the last, which is among these.
+/// The label of a number, made from that of the number without its last digit, which is among these
+/// labels.
 fn label_of(labels: &[Label], number: u32) -> Label
     requires labels { AreLabels labels.now }
     requires among { number ≤ length labels.now }
@@ -111,8 +113,8 @@ fn label_of(labels: &[Label], number: u32) -> Label
     labels[(number / 10) as usize].with_digit((number % 10) as u8)
 }
 
-/// The labels of 0 and of the numbers behind it up to this one, but of none that has more than seven
-/// digits.
+/// The labels of the numbers from 0 up to this one, as far as they have seven digits at most. The
+/// error is want of memory.
 pub fn labels_to(alloc: Global, last: usize) -> Result<Vec<Label>, NoMemory>
     ensures labels { IfOk result (λ labels. AreLabels labels.items) }
     ensures count { IfOk result (λ labels. length labels.items ≡ min last 9999999 + 1) }

@@ -11,7 +11,7 @@ use crate::word::{put_cause, put_value};
 use bt_model::{Cause, Header, Note};
 use bt_script::{NoMemory, Value};
 
-/// Puts the line of the event at the end.
+/// Adds the line of the event. The error is want of memory.
 pub fn put_header(out: &mut Vec<u8>, header: Header, names: &Names) -> Result<(), NoMemory>
     ensures { OnOk result (out.new.items ≡ out.old.items ++ header_line names.now header) }
 {
@@ -31,7 +31,7 @@ pub fn put_header(out: &mut Vec<u8>, header: Header, names: &Names) -> Result<()
     }
 }
 
-// Puts the line of an event of a runner.
+/// Adds the line of an event of a runner. `at` is in milliseconds. The error is want of memory.
 fn put_runner_event(out: &mut Vec<u8>, event: &[u8], runner: u8, at: u64) -> Result<(), NoMemory>
     ensures { OnOk result (out.new.items ≡
         out.old.items ++ (event.now ++ decimal runner ++ codes " at " ++ decimal at ++ codes "\n")) }
@@ -43,7 +43,7 @@ fn put_runner_event(out: &mut Vec<u8>, event: &[u8], runner: u8, at: u64) -> Res
     put_bytes(out, b"\n")
 }
 
-/// Makes the line that of the note, and says whether it did: a long one has its place elsewhere.
+/// Makes the line that of the note, and says whether it did: long lines are made by `put_long`.
 #[inline(always)]
 pub fn put_short(line: &mut ShortLine, note: &Note, labels: &Labels) -> bool
     ensures text { IsTrue result → (names : LineNames) → line.new ≡ note_line names note.now }
@@ -80,7 +80,7 @@ pub fn put_short(line: &mut ShortLine, note: &Note, labels: &Labels) -> bool
     }
 }
 
-/// Puts the line of a note that is long at the end.
+/// Adds the line of a note that is long. The error is want of memory.
 pub fn put_long(out: &mut Vec<u8>, note: Note, names: &Names) -> Result<(), NoMemory>
     requires { IsTrue (is_long note) }
     ensures { OnOk result (out.new.items ≡ out.old.items ++ note_line names.now note) }
@@ -92,7 +92,7 @@ pub fn put_long(out: &mut Vec<u8>, note: Note, names: &Names) -> Result<(), NoMe
     }
 }
 
-// Puts the line of a fault.
+/// Adds the line of a fault. The error is want of memory.
 fn put_faulted(
     out: &mut Vec<u8>,
     runner: u8,
@@ -112,7 +112,7 @@ fn put_faulted(
     put_bytes(out, b"\n")
 }
 
-// Puts the line of a quench.
+/// Adds the line of a quench. The error is want of memory.
 fn put_quenched(out: &mut Vec<u8>, runner: u8, uid: u32) -> Result<(), NoMemory>
     ensures { OnOk result (out.new.items ≡
         out.old.items ++ (codes "quench " ++ decimal runner ++ codes " " ++ decimal uid ++ codes "\n")) }
@@ -124,7 +124,7 @@ fn put_quenched(out: &mut Vec<u8>, runner: u8, uid: u32) -> Result<(), NoMemory>
     put_bytes(out, b"\n")
 }
 
-/// Puts the line of a fact that changed at the end, with its new value.
+/// Adds the line of a fact that changed, with its new value. The error is want of memory.
 pub fn put_fact(out: &mut Vec<u8>, fact: (u32, i64), names: &Names) -> Result<(), NoMemory>
     ensures { OnOk result (out.new.items ≡ out.old.items ++ fact_line names.now fact) }
 {
@@ -136,8 +136,8 @@ pub fn put_fact(out: &mut Vec<u8>, fact: (u32, i64), names: &Names) -> Result<()
     put_bytes(out, b"\n")
 }
 
-/// Puts the line of an entry of a runner's board that changed or is new at the end, with its new
-/// value.
+/// Adds the line of an entry of a runner's blackboard that changed or is new, with its new value.
+/// The error is want of memory.
 pub fn put_entry(out: &mut Vec<u8>, entry: &(u8, u32, Value), names: &Names) -> Result<(), NoMemory>
     ensures { OnOk result (out.new.items ≡ out.old.items ++ entry_line names.now entry.now) }
 {

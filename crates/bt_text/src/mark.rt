@@ -10,7 +10,8 @@ use bt_script::{Name, NoMemory, Script, Value, is_identifier};
 use itoa::Buffer;
 use std::alloc::Global;
 
-// A byte of a value between two `"`.
+/// Adds a byte of a value that stands between two `"`: where it cannot stand there itself, a
+/// reference. The error is want of memory.
 fn put_escaped_byte(out: &mut Vec<u8>, byte: u8) -> Result<(), NoMemory>
     ensures { OnOk result (out.new.items ≡ out.old.items ++ escaped_byte byte) }
 {
@@ -30,6 +31,7 @@ fn put_escaped_byte(out: &mut Vec<u8>, byte: u8) -> Result<(), NoMemory>
     }
 }
 
+/// Adds a value that stands between two `"`. The error is want of memory.
 fn put_value(out: &mut Vec<u8>, value: &[u8]) -> Result<(), NoMemory>
     ensures { OnOk result (out.new.items ≡ out.old.items ++ flat_map escaped_byte value.now) }
 {
@@ -39,7 +41,7 @@ fn put_value(out: &mut Vec<u8>, value: &[u8]) -> Result<(), NoMemory>
     Ok(())
 }
 
-/// Puts an attribute with the blank before it.
+/// Adds an attribute with the blank before it. The error is want of memory.
 pub fn put_attribute(out: &mut Vec<u8>, name: &[u8], value: &[u8]) -> Result<(), NoMemory>
     ensures { OnOk result (out.new.items ≡ out.old.items ++ attribute_text (name.now, value.now)) }
 {
@@ -50,7 +52,7 @@ pub fn put_attribute(out: &mut Vec<u8>, name: &[u8], value: &[u8]) -> Result<(),
     put_bytes(out, b"\"")
 }
 
-// What a port is given, between its quotes.
+/// Adds what a port is given, as the value of an attribute. The error is want of memory.
 fn put_given(out: &mut Vec<u8>, given: &PortValue) -> Result<(), NoMemory>
     ensures { OnOk result (out.new.items ≡ out.old.items ++ flat_map escaped_byte (port_text given.now)) }
 {
@@ -65,6 +67,7 @@ fn put_given(out: &mut Vec<u8>, given: &PortValue) -> Result<(), NoMemory>
     }
 }
 
+/// Adds the attribute of a port. The error is want of memory.
 fn put_port(out: &mut Vec<u8>, port: &Port) -> Result<(), NoMemory>
     ensures { OnOk result (out.new.items ≡ out.old.items ++ attribute_text (port_attribute port.now)) }
 {
@@ -75,6 +78,7 @@ fn put_port(out: &mut Vec<u8>, port: &Port) -> Result<(), NoMemory>
     put_bytes(out, b"\"")
 }
 
+/// Adds the attributes of ports, in order. The error is want of memory.
 fn put_ports(out: &mut Vec<u8>, ports: &[Port]) -> Result<(), NoMemory>
     ensures { OnOk result (out.new.items
         ≡ out.old.items ++ flat_map attribute_text (map port_attribute ports.now)) }
@@ -85,6 +89,7 @@ fn put_ports(out: &mut Vec<u8>, ports: &[Port]) -> Result<(), NoMemory>
     Ok(())
 }
 
+/// Adds the attribute of a script, where there is one. The error is want of memory.
 fn put_script(out: &mut Vec<u8>, name: &[u8], script: &Option<Script>) -> Result<(), NoMemory>
     ensures { OnOk result (out.new.items
         ≡ out.old.items ++ flat_map attribute_text (script_attribute name.now script.now)) }
@@ -95,6 +100,7 @@ fn put_script(out: &mut Vec<u8>, name: &[u8], script: &Option<Script>) -> Result
     }
 }
 
+/// Adds the attributes of the guards that are there. The error is want of memory.
 fn put_guards(out: &mut Vec<u8>, guards: &Guards) -> Result<(), NoMemory>
     ensures { OnOk result (out.new.items
         ≡ out.old.items ++ flat_map attribute_text (guard_attributes guards.now)) }
@@ -110,7 +116,7 @@ fn put_guards(out: &mut Vec<u8>, guards: &Guards) -> Result<(), NoMemory>
     Ok(())
 }
 
-// Whether the name of a node's element is its ID.
+/// Whether the name of a node's element is its ID.
 fn is_compact(kind: Kind, id: &Name) -> bool
     ensures { result ≡ is_compact kind id.now }
 {
@@ -121,7 +127,7 @@ fn is_compact(kind: Kind, id: &Name) -> bool
     }
 }
 
-// The name of an element that names its node by the attribute `ID`.
+/// The name of an element that names its node by the attribute `ID`.
 fn explicit_name(kind: Kind) -> &'static [u8]
     ensures { result.now ≡ explicit_name kind }
 {
@@ -142,8 +148,8 @@ pub fn element_name(term: &Term) -> &[u8]
     }
 }
 
-// The attributes that say which node it is: `ID` where the element's name does not, and `name`
-// where it is another one.
+/// Adds the attributes that say which node it is: `ID` where the element's name does not say it,
+/// and `name` where the node's name is not its ID. The error is want of memory.
 fn put_identity(out: &mut Vec<u8>, term: &Term) -> Result<(), NoMemory>
     ensures { OnOk result (out.new.items ≡ out.old.items
         ++ flat_map attribute_text (attribute_if (not (is_compact (out-Term term.now).kind (out-Term term.now).id)) (codes "ID") (out-Term term.now).id
@@ -158,7 +164,8 @@ fn put_identity(out: &mut Vec<u8>, term: &Term) -> Result<(), NoMemory>
     Ok(())
 }
 
-// That a SubTree node takes all keys of the tree around it.
+/// Adds the attribute by which a SubTree node takes all keys of the tree around it, where it does.
+/// The error is want of memory.
 fn put_autoremap(out: &mut Vec<u8>, autoremap: bool) -> Result<(), NoMemory>
     ensures { OnOk result (out.new.items ≡ out.old.items
         ++ flat_map attribute_text (attribute_if autoremap (codes "_autoremap") (codes "true"))) }
@@ -169,7 +176,7 @@ fn put_autoremap(out: &mut Vec<u8>, autoremap: bool) -> Result<(), NoMemory>
     Ok(())
 }
 
-// A node's mark behind its `<`, up to its end.
+/// Adds a node's mark, from after its `<` up to its ending. The error is want of memory.
 fn put_node(out: &mut Vec<u8>, term: &Term) -> Result<(), NoMemory>
     ensures { OnOk result (out.new.items ≡ out.old.items
         ++ opening_text (element_name (out-Term term.now).kind (out-Term term.now).id) (node_attributes (out-Term term.now))) }
@@ -183,7 +190,7 @@ fn put_node(out: &mut Vec<u8>, term: &Term) -> Result<(), NoMemory>
     Ok(())
 }
 
-/// The line of a node's mark, which ends with these bytes.
+/// The line of a node's mark, which ends with these bytes, or want of memory.
 pub fn node_line(
     alloc: Global,
     blanks: &[u8],
@@ -203,6 +210,7 @@ pub fn node_line(
     Ok(line)
 }
 
+/// Adds attributes, in order. The error is want of memory.
 fn put_attributes(out: &mut Vec<u8>, attributes: &[(&[u8], &[u8])]) -> Result<(), NoMemory>
     ensures { OnOk result (out.new.items
         ≡ out.old.items ++ flat_map attribute_text (map (λ a. (a.0.now, a.1.now)) attributes.now)) }
@@ -213,7 +221,7 @@ fn put_attributes(out: &mut Vec<u8>, attributes: &[(&[u8], &[u8])]) -> Result<()
     Ok(())
 }
 
-/// The line of a mark with these attributes, which ends with these bytes.
+/// The line of a mark with these attributes, which ends with these bytes, or want of memory.
 pub fn mark_line(
     alloc: Global,
     blanks: &[u8],
@@ -234,7 +242,7 @@ pub fn mark_line(
     Ok(line)
 }
 
-/// The line of an end mark.
+/// The line of an end mark, or want of memory.
 pub fn end_line(alloc: Global, blanks: &[u8], name: &[u8]) -> Result<Vec<u8>, NoMemory>
     ensures { IfOk result (λ line. line.items ≡ indented blanks.now (codes "</" ++ name.now ++ codes ">")) }
 {
@@ -246,7 +254,7 @@ pub fn end_line(alloc: Global, blanks: &[u8], name: &[u8]) -> Result<Vec<u8>, No
     Ok(line)
 }
 
-/// The indentation of one level more.
+/// The indentation of one level more, or want of memory.
 pub fn deeper(alloc: Global, blanks: &[u8]) -> Result<Vec<u8>, NoMemory>
     ensures { IfOk result (λ more. more.items ≡ deeper blanks.now) }
 {

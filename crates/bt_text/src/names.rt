@@ -13,9 +13,9 @@ use bt_script::{Items, Name, NoMemory};
 use std::alloc::Global;
 use std::marker::Model;
 
-/// The names that the lines of a trace need. Contracts see those of the facts in the order of
-/// their numbers, the cells by slot, and the inputs of each node in pre-order. The labels of the
-/// uids lie beside them.
+/// The names that the lines of a trace need: of the facts by their number, of the cells by slot,
+/// and of the inputs of each node in pre-order. Contracts see these alone. The labels of the uids
+/// are kept here too.
 #[derive(Debug, Drop)]
 pub struct Names {
     facts: Vec<Name>,
@@ -36,13 +36,13 @@ impl Model for Names {
 }
 
 impl Names {
-    /// The labels of the numbers from 0 on.
+    /// Lends the labels of the numbers from 0 on.
     #[inline(always)]
     pub(crate) fn labels(&self) -> Labels<'_> {
         Labels::of(self.labels.as_slice())
     }
 
-    /// The name of the fact of this number, or nothing where it has none.
+    /// The name of the fact of this number; empty where there is no such fact.
     pub fn fact_name(&self, number: u32) -> &[u8]
         ensures { result.now ≡ fact_name self.now.facts number }
     {
@@ -52,7 +52,8 @@ impl Names {
         }
     }
 
-    /// The name of the input at this place of the node of this uid, or nothing where it has none.
+    /// The name of the input at this place of the node with this uid; empty where there is no such
+    /// input.
     pub fn input_name(&self, uid: u32, place: u8) -> &[u8]
         ensures { result.now ≡ input_name self.now uid place }
     {
@@ -65,8 +66,8 @@ impl Names {
         }
     }
 
-    /// Puts the scope and the key of the cell of a slot at the end, or scope 0 and an empty key
-    /// where the slot has none.
+    /// Adds the scope and the key of the cell of a slot; scope 0 and an empty key where there is no
+    /// such slot. The error is want of memory.
     pub fn put_cell(&self, out: &mut Vec<u8>, slot: u32) -> Result<(), NoMemory>
         ensures { OnOk result (out.new.items ≡ out.old.items ++ cell_words (cell_at self.now slot)) }
     {
@@ -84,7 +85,7 @@ impl Names {
     }
 }
 
-/// Equal names.
+/// Copies of these names, or want of memory.
 fn copies(alloc: Global, names: &[Name]) -> Result<Vec<Name>, NoMemory>
     ensures { IfOk result (λ copies. copies.items ≡ names.now) }
 {
@@ -95,7 +96,7 @@ fn copies(alloc: Global, names: &[Name]) -> Result<Vec<Name>, NoMemory>
     Ok(copies)
 }
 
-/// The names of the facts.
+/// The names of the facts by their number, or want of memory.
 fn names_of_facts(alloc: Global, world: &World) -> Result<Vec<Name>, NoMemory>
     ensures { IfOk result (λ names. names.items ≡ fact_names world.now) }
 {
@@ -106,7 +107,7 @@ fn names_of_facts(alloc: Global, world: &World) -> Result<Vec<Name>, NoMemory>
     Ok(facts)
 }
 
-/// Equal cells.
+/// Copies of these cells, or want of memory.
 fn copies_of_cells(alloc: Global, cells: &[Cell]) -> Result<Vec<Cell>, NoMemory>
     ensures { IfOk result (λ copies. copies.items ≡ cells.now) }
 {
@@ -117,14 +118,15 @@ fn copies_of_cells(alloc: Global, cells: &[Cell]) -> Result<Vec<Cell>, NoMemory>
     Ok(copies)
 }
 
-/// The row of an ID.
+/// The row of an ID; none where there is no such row.
 fn find_row<'a>(rows: &'a [Row], id: &Name) -> Option<&'a Row>
     ensures { option_copied result ≡ row_of rows.now id.now }
 {
     rows.iter().find(|row| row.id == *id)
 }
 
-/// The inputs of a node: those of its row, where it is a leaf.
+/// The names of the inputs of a node: those of its row, where it is a leaf. The error is want of
+/// memory.
 fn inputs_of_node(alloc: Global, node: &Term, rows: &[Row]) -> Result<Items<Name>, NoMemory>
     ensures { IfOk result (λ inputs. inputs ≡ own_inputs rows.now (out-Term node.now).kind (out-Term node.now).id) }
 {
@@ -136,7 +138,7 @@ fn inputs_of_node(alloc: Global, node: &Term, rows: &[Row]) -> Result<Items<Name
     Ok(Items::of(Vec::new(alloc)))
 }
 
-/// Adds the inputs of the nodes of a term, in pre-order.
+/// Adds the names of the inputs of the nodes of a term, in pre-order. The error is want of memory.
 fn add_inputs(
     alloc: Global,
     term: &Term,
@@ -152,7 +154,8 @@ fn add_inputs(
     Ok(())
 }
 
-/// The names that the lines of a run of this tree over this world need. The slots are the tree's.
+/// The names that the lines of a run of this tree in this world need. The slots are the tree's. The
+/// error is want of memory.
 pub fn names_of(alloc: Global, tree: &Tree, world: &World, slots: &Slots) -> Result<Names, NoMemory>
     requires { slots.now ≡ slot_table tree.now }
     ensures { IfOk result (λ names. names ≡ line_names tree.now world.now) }

@@ -7,18 +7,18 @@ use bt_script::NoMemory;
 use itoa::Buffer;
 use std::alloc::Global;
 
-/// The room that a line has at first: most lines need no more, so that they do not grow.
+/// The room that a line has at first. Most lines need no more and do not grow.
 const LINE_ROOM: usize = 256;
 
-/// A line that has no bytes yet.
+/// A line that has no bytes yet, or want of memory.
 pub fn empty_line(alloc: Global) -> Result<Vec<u8>, NoMemory>
     ensures { IfOk result (λ line. line.items ≡ []) }
 {
     Ok(Vec::with_capacity(alloc, LINE_ROOM)?)
 }
 
-/// Puts the bytes at the end. It is inlined as most calls put a short constant, of which then only
-/// a store is left.
+/// Adds the bytes. It is inlined, since most calls add a short constant, which is then a single
+/// store. The error is want of memory.
 #[inline]
 pub fn put_bytes(out: &mut Vec<u8>, bytes: &[u8]) -> Result<(), NoMemory>
     ensures { OnOk result (out.new.items ≡ out.old.items ++ bytes.now) }
@@ -27,7 +27,7 @@ pub fn put_bytes(out: &mut Vec<u8>, bytes: &[u8]) -> Result<(), NoMemory>
     Ok(())
 }
 
-/// Puts the number at the end, in decimal.
+/// Adds the number in decimal. The error is want of memory.
 pub fn put_number(out: &mut Vec<u8>, number: u64) -> Result<(), NoMemory>
     ensures { OnOk result (out.new.items ≡ out.old.items ++ decimal number) }
 {
@@ -35,7 +35,7 @@ pub fn put_number(out: &mut Vec<u8>, number: u64) -> Result<(), NoMemory>
     put_bytes(out, buffer.format(number).as_bytes())
 }
 
-/// Puts the signed number at the end, in decimal.
+/// Adds the signed number in decimal. The error is want of memory.
 pub fn put_signed(out: &mut Vec<u8>, number: i64) -> Result<(), NoMemory>
     ensures { OnOk result (out.new.items ≡ out.old.items ++ signed_decimal number) }
 {
@@ -43,8 +43,8 @@ pub fn put_signed(out: &mut Vec<u8>, number: i64) -> Result<(), NoMemory>
     put_bytes(out, buffer.format(number).as_bytes())
 }
 
-/// Puts the text at the end in single quotes, with escapes for quotes, backslashes and bytes below
-/// 32.
+/// Adds the text in single quotes, with escapes for quotes, backslashes and bytes below 32. The
+/// error is want of memory.
 pub fn put_quoted(out: &mut Vec<u8>, text: &[u8]) -> Result<(), NoMemory>
     ensures { OnOk result (out.new.items ≡ out.old.items ++ quoted text.now) }
 {
@@ -53,6 +53,8 @@ pub fn put_quoted(out: &mut Vec<u8>, text: &[u8]) -> Result<(), NoMemory>
     put_bytes(out, b"'")
 }
 
+/// Adds the bytes of a text between single quotes, each escaped where it has to be. The error is
+/// want of memory.
 fn put_escaped(out: &mut Vec<u8>, text: &[u8]) -> Result<(), NoMemory>
     ensures { OnOk result (out.new.items ≡ out.old.items ++ flat_map quoted_byte text.now) }
 {
@@ -62,6 +64,8 @@ fn put_escaped(out: &mut Vec<u8>, text: &[u8]) -> Result<(), NoMemory>
     Ok(())
 }
 
+/// Adds a byte of a text between single quotes, escaped where it has to be. The error is want of
+/// memory.
 fn put_byte(out: &mut Vec<u8>, byte: u8) -> Result<(), NoMemory>
     ensures { OnOk result (out.new.items ≡ out.old.items ++ quoted_byte byte) }
 {
@@ -79,6 +83,7 @@ fn put_byte(out: &mut Vec<u8>, byte: u8) -> Result<(), NoMemory>
     }
 }
 
+/// The digit of a number below 16, as a byte.
 fn hex_digit(number: u8) -> u8
     requires { number < 16 }
     ensures { result ≡ hex_digit number }

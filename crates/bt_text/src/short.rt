@@ -6,10 +6,11 @@ use crate::tail::Tail;
 use itoa::Buffer;
 use std::marker::Model;
 
-/// The room of a short line: a word, a number and the room of a tail.
+/// The room of a short line: for a word, a number and the room of a tail.
 const ROOM: usize = 64;
 
-/// A line that is short, as most are. It lies in place and takes no memory. Contracts see its bytes.
+/// A line that is short, as most are. It lies in an array and needs no memory of its own. Contracts
+/// see its bytes.
 #[derive(Drop)]
 pub struct ShortLine {
     bytes: [u8; ROOM],
@@ -45,8 +46,8 @@ impl ShortLine {
         &self.bytes[..self.len]
     }
 
-    /// Makes the line a word of four letters, and the number behind it with a blank between. The room of
-    /// a label is copied whole, so that one load and one store are left of it.
+    /// Makes the line a word of four letters, a blank and a number. The room of a label is copied
+    /// whole, so that the copy is one load and one store.
     #[inline(always)]
     pub fn begin(&mut self, word: [u8; 4], number: u32, labels: &Labels)
         ensures text { self.new ≡ word ++ codes " " ++ decimal number }
@@ -63,8 +64,9 @@ impl ShortLine {
         }
     }
 
-    // The same of a number without a label. It stands apart as few lines have one: none but that of a
-    // root whose runner's number is above the number of nodes.
+    /// Makes the line such a word, a blank and a number that has no label. It is a function of its
+    /// own, since few lines have such a number: only those of a root whose runner's number is above
+    /// the number of nodes.
     #[cold]
     #[inline(never)]
     fn begin_apart(&mut self, word: [u8; 4], number: u32)
@@ -79,7 +81,7 @@ impl ShortLine {
         self.len = 5 + digits.len();
     }
 
-    /// Puts the tail at the end. What else its room has then lies behind the line.
+    /// Adds the tail. The unused bytes of its room are after the end of the line.
     #[inline(always)]
     pub fn end(&mut self, tail: &Tail)
         requires short { length self.old ≤ 40 }
@@ -92,7 +94,7 @@ impl ShortLine {
     }
 }
 
-// Writes the piece over the bytes from a place on.
+/// Copies the piece over the bytes from a place on.
 #[inline(always)]
 fn copy_in(bytes: &mut [u8], start: usize, piece: &[u8])
     requires { start + length piece.now ≤ length bytes.old }

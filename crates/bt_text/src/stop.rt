@@ -1,12 +1,12 @@
 use bt_outside::SinkFault;
 use bt_script::NoMemory;
 
-/// Why a text was not written whole.
+/// Why a text was not written to its end.
 #[derive(Clone, Copy, Debug, PartialEq, Eq)]
 pub enum TextStop {
     /// The sink failed: its count of failures rose.
     WriteFault,
-    /// Want of memory.
+    /// There was want of memory (out of memory).
     NoMemory,
 }
 

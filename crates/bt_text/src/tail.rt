@@ -4,19 +4,19 @@ ghost use Rattle.bt_text.specs.Tails.{tail_text};
 
 use bt_model::{Answer, Status};
 
-/// How many bytes a tail takes in place: so many that a few moves are left of its copy.
+/// How many bytes of room a tail has: few enough that its copy is a few moves.
 const ROOM: usize = 24;
 
-/// The end of a line, in a room of one size for all. The room is copied whole, so that the copy has a
-/// length that is known beforehand.
+/// The end of a line, in a room that has the same size for all, so that the room is copied with a
+/// length known to the compiler.
 #[derive(Clone, Copy, Debug)]
 pub struct Tail {
     pub room: [u8; ROOM],
-    /// How many bytes of the room are meant.
+    /// How many bytes of the room are the end of the line.
     pub len: usize,
 }
 
-// The ends of the lines of changed statuses, by the status before and the one behind.
+/// The ends of the lines of changed statuses, by the status before and the one after.
 static CHANGES: [[Tail; 4]; 4] = [
     [
         Tail {
@@ -92,7 +92,7 @@ static CHANGES: [[Tail; 4]; 4] = [
     ],
 ];
 
-// By the answer of a start.
+/// The ends of the lines of `start` calls, by the answer.
 static STARTS: [Tail; 4] = [
     Tail {
         room: *b" start RUNNING\n         ",
@@ -112,7 +112,7 @@ static STARTS: [Tail; 4] = [
     },
 ];
 
-// By the answer of a call of what runs.
+/// The ends of the lines of `running` calls, by the answer.
 static RUNS: [Tail; 4] = [
     Tail {
         room: *b" running RUNNING\n       ",
@@ -132,7 +132,7 @@ static RUNS: [Tail; 4] = [
     },
 ];
 
-// By the answer of a root.
+/// The ends of the lines of a root, by its answer.
 static ANSWERS: [Tail; 4] = [
     Tail {
         room: *b" RUNNING\n               ",
@@ -157,8 +157,8 @@ static HALTED: Tail = Tail {
     len: 8,
 };
 
-/// The words of a status and of the next, and the end of their line: from a table, as most lines have
-/// one.
+/// The end of the line of a change: the status before and the one after. It is read from a table,
+/// since most lines have one.
 #[inline(always)]
 pub fn change_tail(old: Status, new: Status) -> &'static Tail
     ensures text { tail_text result.now ≡ codes " " ++ status_word old ++ codes " " ++ status_word new ++ codes "\n" }
@@ -167,7 +167,7 @@ pub fn change_tail(old: Status, new: Status) -> &'static Tail
     &CHANGES[old as usize][new as usize]
 }
 
-/// A start's answer, and the end of its line.
+/// The end of the line of a `start` call, with its answer.
 #[inline(always)]
 pub fn start_tail(answer: Answer) -> &'static Tail
     ensures text { tail_text result.now ≡ codes " start " ++ answer_word answer ++ codes "\n" }
@@ -176,7 +176,7 @@ pub fn start_tail(answer: Answer) -> &'static Tail
     &STARTS[answer as usize]
 }
 
-/// The answer of a call of what runs, and the end of its line.
+/// The end of the line of a `running` call, with its answer.
 #[inline(always)]
 pub fn run_tail(answer: Answer) -> &'static Tail
     ensures text { tail_text result.now ≡ codes " running " ++ answer_word answer ++ codes "\n" }
@@ -185,7 +185,7 @@ pub fn run_tail(answer: Answer) -> &'static Tail
     &RUNS[answer as usize]
 }
 
-/// A blank and the word of the answer, and the end of its line.
+/// The end of the line of a root: a blank and its answer.
 #[inline(always)]
 pub fn answer_tail(answer: Answer) -> &'static Tail
     ensures text { tail_text result.now ≡ codes " " ++ answer_word answer ++ codes "\n" }
@@ -194,7 +194,7 @@ pub fn answer_tail(answer: Answer) -> &'static Tail
     &ANSWERS[answer as usize]
 }
 
-/// The end of the line of a call that halts.
+/// The end of the line of a `halted` call.
 #[inline(always)]
 pub fn halted_tail() -> &'static Tail
     ensures text { tail_text result.now ≡ codes " halted\n" }

@@ -15,21 +15,22 @@ use bt_outside::Sink;
 use bt_script::{Name, NoMemory};
 use std::alloc::Global;
 
-/// A tree of the printed file: its ID, and the nodes that stand in its element.
+/// A tree of the printed file: its ID, and the nodes in its element.
 #[derive(Clone, Copy)]
 struct WrittenTree<'a> {
     id: &'a Name,
     nodes: &'a [Term],
 }
 
-// Whether a tree of this ID is among these.
+/// Whether a tree of this ID is among these.
 fn has_tree(trees: &[WrittenTree], id: &Name) -> bool
     ensures { result ≡ list_any (λ t. bytes_eq id.now t.id.now) trees.now }
 {
     trees.iter().any(|tree| id == tree.id)
 }
 
-// The tree joins these, but for one whose ID stands there already. There are at most 256.
+/// Adds a tree, unless one of its ID is there already. There are at most 256. The error is want of
+/// memory.
 fn add_tree<'a>(
     trees: &mut Vec<WrittenTree<'a>>,
     id: &'a Name,
@@ -45,7 +46,8 @@ fn add_tree<'a>(
     Ok(())
 }
 
-// The tree that the node opens itself joins these.
+/// Adds the tree that the node opens itself, where it is a SubTree node. The error is want of
+/// memory.
 fn add_own<'a>(trees: &mut Vec<WrittenTree<'a>>, term: &'a Term) -> Result<(), NoMemory>
     ensures { OnOk result (map written trees.new.items ≡ with_trees (map written trees.old.items)
         (opened_by (out-Term term.now).kind (out-Term term.now).id (map (λ c. (printed c).lines) (out-Term term.now).children))) }
@@ -56,7 +58,7 @@ fn add_own<'a>(trees: &mut Vec<WrittenTree<'a>>, term: &'a Term) -> Result<(), N
     }
 }
 
-// The trees that are opened in the term join these, in pre-order.
+/// Adds the trees that are opened in the term, in pre-order. The error is want of memory.
 fn add_opened<'a>(trees: &mut Vec<WrittenTree<'a>>, term: &'a Term) -> Result<(), NoMemory>
     ensures { OnOk result (map written trees.new.items ≡ with_trees (map written trees.old.items) (printed term.now).opened) }
 {
@@ -67,7 +69,8 @@ fn add_opened<'a>(trees: &mut Vec<WrittenTree<'a>>, term: &'a Term) -> Result<()
     Ok(())
 }
 
-// The main tree, and then every other one that is opened, once, in the order of their first openings.
+/// The main tree, and then each tree that is opened, once, in the order of their first openings.
+/// The error is want of memory.
 fn trees_of<'a>(alloc: Global, tree: &'a Tree) -> Result<Vec<WrittenTree<'a>>, NoMemory>
     ensures { IfOk result (λ trees. map written trees.items ≡ trees_of tree.now) }
 {
@@ -80,7 +83,8 @@ fn trees_of<'a>(alloc: Global, tree: &'a Tree) -> Result<Vec<WrittenTree<'a>>, N
     Ok(trees)
 }
 
-// The nodes that are written in a node's element: the tree of a SubTree node is written apart.
+/// The nodes that are written in a node's element. Those of a SubTree node are written in the
+/// element of its tree.
 fn nodes_below(term: &Term) -> &[Term]
     ensures { result.now ≡ written_below (out-Term term.now).kind (out-Term term.now).children }
 {
@@ -90,7 +94,8 @@ fn nodes_below(term: &Term) -> &[Term]
     }
 }
 
-// Writes the line of a node's mark, which ends with these bytes.
+/// Writes the line of a node's mark, which ends with these bytes. After a stop a prefix of it was
+/// written.
 fn write_node_line<K: Sink>(
     alloc: Global,
     out: &mut K,
@@ -107,7 +112,8 @@ fn write_node_line<K: Sink>(
     write_line(out, line.as_slice())
 }
 
-// Writes the line of a mark with these attributes, which ends with these bytes.
+/// Writes the line of a mark with these attributes, which ends with these bytes. After a stop a
+/// prefix of it was written.
 fn write_mark<K: Sink>(
     alloc: Global,
     out: &mut K,
@@ -127,7 +133,7 @@ fn write_mark<K: Sink>(
     write_line(out, line.as_slice())
 }
 
-// Writes the line of an end mark.
+/// Writes the line of an end mark. After a stop a prefix of it was written.
 fn write_end<K: Sink>(
     alloc: Global,
     out: &mut K,
@@ -143,7 +149,7 @@ fn write_end<K: Sink>(
     write_line(out, line.as_slice())
 }
 
-// Writes the lines of a node and of all below it.
+/// Writes the lines of a node and of all below it. After a stop a prefix of the bytes was written.
 #[tactic(auto, using(bt_outside::proofs::Appends::appending))]
 fn write_node<K: Sink>(
     alloc: Global,
@@ -171,7 +177,8 @@ fn write_node<K: Sink>(
     Ok(())
 }
 
-// Writes the lines of a tree in its element, one level deep.
+/// Writes the lines of a tree in its element, one level deep. After a stop a prefix of the bytes
+/// was written.
 #[tactic(auto, using(bt_outside::proofs::Appends::appending))]
 fn write_written<K: Sink>(
     alloc: Global,
@@ -199,8 +206,9 @@ fn write_written<K: Sink>(
     Ok(())
 }
 
-/// Writes the tree as a tree file, each line by one write. After a stop some front of the lines was
-/// written. `TextStop::WriteFault` comes only where the sink's count of failures rose in this call.
+/// Writes the tree as a tree file, each line by one write. After a stop a prefix of the bytes was
+/// written. `TextStop::WriteFault` comes only where the sink's count of failures rose in this call,
+/// and `TextStop::NoMemory` for want of memory.
 #[tactic(auto, using(bt_outside::proofs::Appends::appending))]
 pub fn write_tree<K: Sink>(alloc: Global, out: &mut K, tree: &Tree) -> Result<(), TextStop>
     ensures whole { OnOk result (Appended (K.written out.old) (K.written out.new) (concat (tree_lines tree.now))) }

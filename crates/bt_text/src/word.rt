@@ -6,7 +6,7 @@ use crate::put::{put_bytes, put_quoted, put_signed};
 use bt_model::{Cause, PortId};
 use bt_script::{NoMemory, Value};
 
-/// The name of the port.
+/// The name of the port, as a fault tells it.
 pub fn port_word(port: PortId) -> &'static [u8]
     ensures { result.now ≡ port_word port }
 {
@@ -21,7 +21,7 @@ pub fn port_word(port: PortId) -> &'static [u8]
     }
 }
 
-/// Puts the words of the cause of a fault of the node of this uid at the end.
+/// Adds the words of the cause of a fault of the node with this uid. The error is want of memory.
 pub fn put_cause(out: &mut Vec<u8>, uid: u32, cause: Cause, names: &Names) -> Result<(), NoMemory>
     ensures { OnOk result (out.new.items ≡ out.old.items ++ cause_words names.now uid cause) }
 {
@@ -46,7 +46,7 @@ pub fn put_cause(out: &mut Vec<u8>, uid: u32, cause: Cause, names: &Names) -> Re
     }
 }
 
-/// Puts the value at the end: a number in decimal, or a text in quotes.
+/// Adds the value: a number in decimal, or a text in quotes. The error is want of memory.
 pub fn put_value(out: &mut Vec<u8>, value: &Value) -> Result<(), NoMemory>
     ensures { OnOk result (out.new.items ≡ out.old.items ++ value_words value.now) }
 {

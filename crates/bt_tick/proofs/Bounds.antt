@@ -37,11 +37,11 @@ cost_more (suc d) a =
 pub cost_up : (a b : ℕ) → a ≤ b → cost a ≤ cost b
 cost_up a b up = let e : (b - a) + a ≡ b = omega (arith, up) in subst (λ (n : ℕ). cost a ≤ cost n) e (cost_more (b - a) a)
 
--- fewer visits cost less, by one at least
+-- fewer visits cost less, by at least the cost of one
 fewer : (v w c : ℕ) → v < w → v * c + c ≤ w * c
 fewer v w c less = let m = mul-le-mul_right c (let e : suc v ≤ w = omega (arith, less) in e) in omega (arith, m)
 
--- a turn to a child is less than the step that made it
+-- a turn to a child is less than the turn of the step that led to it
 pub turn_less : (nodes : List Node) (step : Step) (frame : Frame) (b : Bool) → frame.uid ≡ step.uid →
     visits_left (node_at nodes step.uid).kind (node_at nodes step.uid).children frame.memo (frame.place + 1) < visits_left (node_at nodes step.uid).kind (node_at nodes step.uid).children step.memo (next_place step.heard) →
     (node_at nodes frame.child).size ≤ (node_at nodes step.uid).size - 1 → turn_work nodes (turn_to b frame) < turn_work nodes (turn.GoOn step)
@@ -62,7 +62,7 @@ turn_less nodes step frame b here less small =
     by true same all child = omega (arith, same, all)
     by false same all child = omega (arith, same, all, child)
 
--- .. as the code makes it
+-- a turn to a child is less than the turn of the step, as the code makes it
 pub work_turned : (nodes : List Node) (step : Step) (frame : Frame) (b : Bool) (t : Turn) → t ≡ turn_to b frame → frame.uid ≡ step.uid → (here : Node) → here ≡ node_at nodes step.uid → (then : Then) → then ≡ then_.Visit frame.place →
     GoesOn here.kind here.children step.memo (next_place step.heard) frame.memo then → (node_at nodes frame.child).size ≤ (node_at nodes step.uid).size - 1 → turn_work nodes t < turn_work nodes (turn.GoOn step)
 work_turned nodes step frame b t is_turn same here is then visits onward small =

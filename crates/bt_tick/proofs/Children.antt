@@ -20,11 +20,11 @@ use Rattle.bt_laws.proofs.Seats.{Seat, first_seat, later_seat}
 
 -- ---- Places
 
--- the uid of the child behind the first one, in terms of those behind the first
+-- the uid of a later child, counted from the second child on
 uid_behind : (c : Term) (cs : List Term) (place uid : ℕ) → uid_of cs (uid + (meaning c).size) place ≡ uid_of (c ∷ cs) uid (suc place)
 uid_behind c cs place uid = omega (arith, sizes_cons c (take place cs))
 
--- a child lies within all of them
+-- the nodes of a child are among those of all children
 pub child_inside : (ts : List Term) (place uid : ℕ) (t : Term) → place < length ts →
     (uid ≤ uid_of ts uid place) × (uid_of ts uid place + (meaning (get_or ts place t)).size ≤ uid + all_sizes ts)
 child_inside [] place uid t within = absurd (omega (arith, within))
@@ -64,7 +64,7 @@ child_found t nodes view uid place here stands is within =
     let uids : here.child_uids ≡ uids_of (out-Term t).children (uid + 1) = ap (λ (n : Node). n.child_uids) is ∙ (opened t nodes view uid stands).3 in
     (omega (arith, within, ap length uids, uids_many (out-Term t).children (uid + 1)), ap (λ (us : List ℕ). get_or us place 0) uids ∙ uids_at (out-Term t).children place (uid + 1) within)
 
--- it stands there
+-- a child stands in the arena
 pub child_stands : (nodes : List Node) (view : View) (ts : List Term) (place uid : ℕ) (t : Term) → place < length ts → StandAll ts nodes view uid → Stands (get_or ts place t) nodes view (uid_of ts uid place)
 child_stands nodes view [] place uid t within stand = absurd (omega (arith, within))
 child_stands nodes view (c ∷ cs) zero uid t within stand = subst (λ (u : ℕ). Stands c nodes view u) (let e : uid ≡ uid + 0 = omega arith in e) stand.0
@@ -76,14 +76,14 @@ child_stands nodes view (c ∷ cs) (suc place) uid t within stand =
 pub size_stands : (t : Term) (nodes : List Node) (view : View) (uid : ℕ) → Stands t nodes view uid → (node_at nodes uid).size ≡ (meaning t).size
 size_stands t nodes view uid stands = (opened t nodes view uid stands).1.size ∙ sym (size_out t)
 
--- a child in an arena is there
+-- the nodes of a child are nodes of the arena
 pub child_there : (ts : List Term) (nodes : List Node) (view : View) (first place at : ℕ) → StandAll ts nodes view first → place < length ts → at ≡ uid_of ts first place → at < length nodes
 child_there [] nodes view first place at stand within is = absurd (omega (arith, within))
 child_there (c ∷ cs) nodes view first place at stand within is =
     let t = get_or (c ∷ cs) place c in
     (opened t nodes view at (subst (λ (u : ℕ). Stands t nodes view u) (sym is) (child_stands nodes view (c ∷ cs) place first c within stand))).0
 
--- ---- What changes beside
+-- ---- What changes among other nodes
 
 pub beside_same : (uid size : ℕ) (a : List Kept) → Beside uid size a a
 beside_same uid size a = record { below = λ p e. refl; above = λ p e. refl; as_many = refl }
@@ -99,7 +99,7 @@ beside_both k l low1 high1 low2 high2 = record {
 pub beside_more : {uid size uid1 size1 : ℕ} {a b : List Kept} → Beside uid1 size1 a b → uid ≤ uid1 → uid1 + size1 ≤ uid + size → Beside uid size a b
 beside_more {uid} {size} {b = b} k low high = beside_both k (beside_same uid size b) low high (omega arith) (omega arith)
 
--- of as many nodes as an arena says
+-- the nodes of a term are as many as its size in the arena says
 pub beside_sized : (term : Term) (uid size : ℕ) (a b : List Kept) → size ≡ (meaning term).size → Beside uid size a b → Beside uid (meaning term).size a b
 beside_sized term uid size a b is k = subst (λ (n : ℕ). Beside uid n a b) is k
 

@@ -1,4 +1,4 @@
--- The visits that wait stand one below the other, so they are fewer than the tree has levels.
+-- The visits that wait stand one below the other, so there are fewer than the tree has levels.
 use Rattle.std.proofs.Common.{◌≡◌, ℕ, zero, suc, ◌+◌, ◌<◌, ◌≤◌, List, [], ◌∷◌, map, length, get_or, ap, arith}
 use Rattle.std.proofs.lemmas.List.{length-append}
 use Rattle.bt_script.specs.Numbers.{greatest}
@@ -39,7 +39,7 @@ module _ (nodes : List Node) (moment : ℕ) (s : Scene) (root : Term) (first : �
         length-append below (w.frame ∷ []),
       )
 
--- there is a level left for the visit that is under way
+-- there is one more level for the visit that is under way
 pub level_left : (nodes : List Node) (moment : ℕ) (root : Term) (first : ℕ) (turn : Turn) (stack : List Frame) (before after : Scene) (old new : List Note) (whole : Done Answer Memory) →
     Going nodes moment root first turn stack before after old new whole → length stack + 1 ≤ depth_of root
 level_left nodes moment root first turn stack before after old new whole k =

@@ -1,4 +1,4 @@
--- A node that is entered: what its guards, its start and its rule do of its visit.
+-- When a node is entered: what its guards, its start and its rule do of its visit.
 use Rattle.std.proofs.Common.{◌≡◌, ℕ, ℤ, ◌+◌, ◌<◌, ◌≤◌, ◌^◌, Bool, true, false, List, [], ◌∷◌, ◌++◌, map, length, refl, sym, ap, subst, ◌∙◌, arith, append-nil, slice_set, Option, Some, None, Result, Ok, Err}
 use Rattle.std.proofs.lemmas.List.{get_or-set_same, length-map}
 use Rattle.std.specs.Prelude.{IfOk, IsErrAnd}
@@ -90,7 +90,7 @@ node_rule_is _ site st memo ms s e = refl
 
 -- ---- Faults
 
--- a fault that takes no note and no call
+-- a fault, without a note or a call
 pub faulted : (nodes : List Node) (moment : ℕ) (term : Term) (uid : ℕ) (s s1 : Scene) (n : List Note) (f : NodeFault) (d : Done Answer Memory) → s1.drivers ≡ s.drivers →
     d ≡ ends (Err f) (memory_of term uid s1.kept) (state_in nodes s1 moment) → Meets {A = Answer} nodes moment (memory_of term uid) (Err (stop.Fault f)) s s1 n n d
 faulted nodes moment term uid s s1 n f d same is =
@@ -123,11 +123,11 @@ module _ (nodes : List Node) (moment : ℕ) (term : Term) (view : View) (uid : �
       ap (λ (c : Meaning). c.visit view uid (memory_in term uid s) now) (fold_out-Term Meaning meaning_of_node term)
       ∙ ap (λ (r : Memory-F Memory). visit_by r.status site (memory_in term uid s) now) memory_parts
 
-  -- a RUNNING node tries whether it goes on
+  -- the visit of a RUNNING node begins with the test whether it goes on
   pub running_visit : st ≡ status.Running → visit_in nodes moment term view uid s ≡ follow (goes_on site now) (λ _. memory_in term uid s) (λ b _ s1. continued b site (memory_in term uid s) s1)
   running_visit runs = visit_out ∙ ap (λ (x : Status). visit_by x site (memory_in term uid s) now) runs
 
-  -- any other tries its guards
+  -- the visit of any other node begins with its guards
   pub resting_visit : is_running st ≡ false → visit_in nodes moment term view uid s ≡ follow (guards_answer site now) (λ _. memory_in term uid s) (λ a _ s1. guarded a site (memory_in term uid s) s1)
   resting_visit rests = visit_out ∙ by st rests
     where
@@ -165,7 +165,7 @@ module _ (nodes : List Node) (moment : ℕ) (term : Term) (view : View) (uid : �
   ruled_so : has_rule (kind_of term) ≡ true → (r : Result ℕ NodeFault) → r ≡ or_bad_port uid (picked (kind_of term) site memo now) → ruled_in nodes moment term view uid s ≡ after_rule (rule_of r)
   ruled_so with_rule r is = ap after_rule (node_rule_is (kind_of term) site st memo ms now with_rule ∙ ap rule_of (sym is))
 
-  -- with what is picked the rule begins
+  -- with what is picked, the rule begins
   pub rule_begins : has_rule (kind_of term) ≡ true → (place : ℕ) → Ok place ≡ or_bad_port uid (picked (kind_of term) site memo now) →
       ruled_in nodes moment term view uid s ≡ goes_by nodes moment term view uid s (rest (kind_of term) (number term) moment memo (Begin place))
   rule_begins with_rule place is =
@@ -198,28 +198,28 @@ follows_on nodes moment term view uid s n follow with_rule place is =
       comes = comes_same nodes s s n (ruled_in nodes moment term view uid s) next refl (rule_begins nodes moment term view uid s with_rule place is);
     }
 
--- ---- What follows a script of the node
+-- ---- What comes after a script of the node
 
 module _ (nodes : List Node) (moment : ℕ) (term : Term) (view : View) (uid : ℕ) (s s1 : Scene) (n : List Note) (kept_same : s1.kept ≡ s.kept) (drivers_same : s1.drivers ≡ s.drivers) where
   module _ {A : Type 0} (d : Done A (Unit {0})) (go : A → Unit {0} → State → Done Answer Memory) where
-    -- the script was made, and what follows it is still to come
+    -- the script ran, and what comes after it is still to come
     pub script_made : (a : A) → Settles (Ok a) (state_in nodes s1 moment) d → Comes nodes s s1 n n (follow d (λ _. memory_in term uid s) go) (go a tt (state_in nodes s1 moment))
     script_made a k = part_made nodes moment (λ (_ : List Kept). tt) s s1 n n d (λ _. memory_in term uid s) go a (settles_met nodes moment tt (Ok a) s s1 n d drivers_same k)
 
-    -- it stopped
+    -- the script ended with a fault or for want of memory
     pub script_stopped : (e : Stop NodeFault) → Settles {A = A} (Err e) (state_in nodes s1 moment) d → Meets {A = Answer} nodes moment (memory_of term uid) (Err e) s s1 n n (follow d (λ _. memory_in term uid s) go)
     script_stopped e k =
         stopped nodes moment (λ (_ : List Kept). tt) (memory_of term uid) s s1 n n d (λ _. memory_in term uid s) go e (ap (λ (kept : List Kept). memory_of term uid kept) (sym kept_same))
         (settles_met nodes moment tt (Err e) s s1 n d drivers_same k)
 
--- ---- What can be done behind it
+-- ---- What holds after a script
 
 number_few : (ts : List Term) → length ts ≤ all_sizes ts
 number_few [] = omega arith
 number_few (c ∷ cs) = omega (arith, number_few cs, sizes_cons c cs, size_out c)
 
 module _ (keeps : (t : Term) → Keeps (meaning t) (Sound t)) (nodes : List Node) (moment : ℕ) (term : Term) (view : View) (uid : ℕ) where
-  -- a board of as many slots changes nothing of that
+  -- with another board of as many slots, the node can still go on
   pub still_can : (kept : List Kept) (board board1 : List (Option Value)) (facts : List ℤ) (drivers : List DriverState) → length board1 ≡ length board →
       CanVisit nodes moment term view uid (scene kept board facts drivers) → CanVisit nodes moment term view uid (scene kept board1 facts drivers)
   still_can kept board board1 facts drivers slots can = record {
@@ -244,7 +244,7 @@ module _ (keeps : (t : Term) → Keeps (meaning t) (Sound t)) (nodes : List Node
     begins_by : (memo : Memo) → Begins (kind_of term) (out-Term term).ports moment memo here_statuses → CanBegin (kind_of term) (number term) memo
     begins_by memo begins = begins_so (out-Term term).ports moment (number term) here_statuses (sym as_many_here) few_here (kind_of term) memo (node_fits can.fits).children (node_fits can.fits).ports begins
 
-    -- a RUNNING node can follow its rule
+    -- a RUNNING node can apply its rule
     pub can_run : (kept_at s.kept uid).status ≡ status.Running → CanFollow nodes moment term view uid s
     can_run runs =
         let here = sound_opened term view.rows uid s.kept (state_in nodes s moment) can.sound in
@@ -265,7 +265,7 @@ module _ (keeps : (t : Term) → Keeps (meaning t) (Sound t)) (nodes : List Node
     rests_so : is_running (kept_at s.kept uid).status ≡ false → RestingShape (kept_at s.kept uid).memo (kind_of term) here_statuses
     rests_so rests = resting_shape (kept_at s.kept uid).status (kept_at s.kept uid).memo rests (sound_opened term view.rows uid s.kept (state_in nodes s moment) can.sound).0.shape
 
-    -- so can one that does not start
+    -- a node that does not start can apply its rule
     pub can_keep : is_running (kept_at s.kept uid).status ≡ false → starts (kind_of term) (kept_at s.kept uid).memo ≡ false → CanFollow nodes moment term view uid s
     can_keep rests none = record {
       can = can_go;
@@ -273,7 +273,7 @@ module _ (keeps : (t : Term) → Keeps (meaning t) (Sound t)) (nodes : List Node
       held = λ alone. (sound_opened term view.rows uid s.kept (state_in nodes s moment) can.sound).0.held;
     }
 
-    -- the memo with which it starts
+    -- the memo with which a node starts
     pub starts_so : is_running (kept_at s.kept uid).status ≡ false → starts (kind_of term) (kept_at s.kept uid).memo ≡ true → (memo : Memo) →
         Ok memo ≡ or_bad_port uid (new_memo (kind_of term) (site_at view uid term) (kept_at s.kept uid).memo (state_in nodes s moment)) → CanBegin (kind_of term) (number term) memo
     starts_so rests start memo is =
@@ -286,13 +286,13 @@ module _ (keeps : (t : Term) → Keeps (meaning t) (Sound t)) (nodes : List Node
         given_so (Ok m) is begins = let same : m ≡ memo = cc in subst (λ (x : Memo). Begins (kind_of term) (out-Term term).ports moment x here_statuses) same begins
         given_so (Err p) is begins = cc
 
--- ---- A rule that is followed
+-- ---- A rule that is applied
 
--- a term's node above the meanings of its children
+-- the node of a term, with the meanings of its children
 abbrev pub as_node : Term → Term-F Meaning
 as_node term = map-Term Term Meaning meaning (out-Term term)
 
--- the node as it is written
+-- the node in the arena is that of the term
 pub node_here : (term : Term) (view : View) (uid : ℕ) (nodes : List Node) (s : Scene) → Fits term view uid nodes s → (node : Node) → node ≡ node_at nodes uid →
     IsNode view (written (map-Term Term Meaning meaning (out-Term term))) (1 + sizes (map meaning (out-Term term).children)) node
 node_here term view uid nodes s fits node is =
@@ -308,7 +308,7 @@ module _ {nodes : List Node} {moment : ℕ} {term : Term} {view : View} {uid : �
       let kind : kind_of term ≡ Leaf = leaf_kind view (written (out-Term term)) (leaf_at nodes uid) leaf is (opened term nodes view uid follow.can.fits.stands).1.leaf in
       in_phase nodes s moment uid leaf is follow.can.dated (kept_at s.kept uid).status (follow.held alone ∙ ap (λ (k : Kind). Some (is_held (kept_at s.kept uid).status k)) kind)
 
-  -- a node without children has done all
+  -- the visit of a node without children is at its end
   pub alone_goes : (r : Result Answer (Stop NodeFault)) (s1 : Scene) (n0 n1 : List Note) → StaysFit nodes s s1 → Beside uid 1 s.kept s1.kept →
       Meets nodes moment (memory_of term uid) r s s1 n0 n1 (ruled_in nodes moment term view uid s) → Goes nodes moment term view uid (back_of r) s s1 n0 n1 (ruled_in nodes moment term view uid s)
   alone_goes r s1 n0 n1 stays beside m = record {
@@ -327,7 +327,7 @@ module _ {nodes : List Node} {moment : ℕ} {term : Term} {view : View} {uid : �
       stays = λ t v u fits. fits;
     }
 
-    -- a bad port ends its visit
+    -- a bad port ends the visit of such a node
     pub goes_fault : (f : NodeFault) → Err f ≡ or_bad_port uid (picked (kind_of term) (site_at view uid term) k.memo (state_in nodes s moment)) →
         Goes nodes moment term view uid (Err (stop.Fault f)) s s n n (ruled_in nodes moment term view uid s)
     goes_fault f is = record {
@@ -350,9 +350,9 @@ module _ {nodes : List Node} {moment : ℕ} {term : Term} {view : View} {uid : �
         subst (λ (m : Memo). 1 + left_of (node_at nodes uid) m 0 < cost (node_at nodes uid).size) memo
         (begins_less (node_at nodes uid) k.memo (omega (arith, size_is follow.can.fits, size_out term)) few)
 
--- ---- A part of a visit, and what goes on behind it
+-- ---- A part of a visit, and the part after it
 
--- a turn behind what was done
+-- a turn, after what was done before
 pub goes_after : (nodes : List Node) (moment : ℕ) (term : Term) (view : View) (uid : ℕ) (r : Result Turn (Stop NodeFault)) (s0 s1 s2 : Scene) (n0 n1 n2 : List Note) (d e : Done Answer Memory) →
     Comes nodes s0 s1 n0 n1 d e → Beside uid (meaning term).size s0.kept s1.kept → StaysFit nodes s0 s1 → Goes nodes moment term view uid r s1 s2 n1 n2 e → Goes nodes moment term view uid r s0 s2 n0 n2 d
 goes_after nodes moment term view uid (Ok t) s0 s1 s2 n0 n1 n2 d e k beside stays goes = record {
@@ -366,7 +366,7 @@ goes_after nodes moment term view uid (Err x) s0 s1 s2 n0 n1 n2 d e k beside sta
   stays = λ t v u fits. goes.stays t v u (stays t v u fits);
 }
 
--- scripts leave what the nodes keep
+-- scripts do not change what the nodes keep
 module _ (nodes : List Node) (moment : ℕ) (term : Term) (view : View) (uid : ℕ) (kept : List Kept) (board board1 : List (Option Value)) (facts : List ℤ) (drivers : List DriverState) (n : List Note) (slots : length board1 ≡ length board) where
   abbrev before : Scene
   before = scene kept board facts drivers
@@ -381,7 +381,7 @@ module _ (nodes : List Node) (moment : ℕ) (term : Term) (view : View) (uid : �
   script_beside = beside_same uid (meaning term).size kept
 
   module _ {A : Type 0} (d : Done A (Unit {0})) (go : A → Unit {0} → State → Done Answer Memory) (is : visit_in nodes moment term view uid before ≡ follow d (λ _. memory_in term uid before) go) where
-    -- a script of the node stopped
+    -- a script of the node ended with a fault or for want of memory
     pub script_ends : (e : Stop NodeFault) → Settles {A = A} (Err e) (state_in nodes behind_script moment) d → Goes nodes moment term view uid (Err e) before behind_script n n (visit_in nodes moment term view uid before)
     script_ends e k = record {
       ends = subst (λ (x : Done Answer Memory). Meets {A = Answer} nodes moment (memory_of term uid) (Err e) before behind_script n n x) (sym is) (script_stopped nodes moment term view uid before behind_script n refl refl d go e k);
@@ -389,7 +389,7 @@ module _ (nodes : List Node) (moment : ℕ) (term : Term) (view : View) (uid : �
       stays = script_stays;
     }
 
-    -- it was made, and this follows
+    -- a script of the node ran, and this comes after it
     pub script_goes : (a : A) → Settles (Ok a) (state_in nodes behind_script moment) d → (e : Done Answer Memory) → go a tt (state_in nodes behind_script moment) ≡ e →
         (r : Result Turn (Stop NodeFault)) (s2 : Scene) (n2 : List Note) → Goes nodes moment term view uid r behind_script s2 n n2 e → Goes nodes moment term view uid r before s2 n n2 (visit_in nodes moment term view uid before)
     script_goes a k e is_next r s2 n2 goes =
@@ -400,7 +400,7 @@ module _ (nodes : List Node) (moment : ℕ) (term : Term) (view : View) (uid : �
 
 -- ---- A RUNNING node that does not go on
 
--- its halt was made, and it answers SKIPPED
+-- the halt was made, and the node answers SKIPPED
 pub halt_goes : (nodes : List Node) (moment : ℕ) (term : Term) (view : View) (uid : ℕ) (s s1 : Scene) (n0 n1 : List Note) → Beside uid (meaning term).size s.kept s1.kept → StaysFit nodes s s1 →
     Meets nodes moment (memory_of term uid) (Ok tt) s s1 n0 n1 (halt (site_at view uid term) (memory_in term uid s) (state_in nodes s moment)) →
     Goes nodes moment term view uid (Ok (turn.Back answer.Skipped)) s s1 n0 n1 (continued false (site_at view uid term) (memory_in term uid s) (state_in nodes s moment))
@@ -476,12 +476,12 @@ module _ (nodes : List Node) (moment : ℕ) (term : Term) (view : View) (uid : �
         ∙ guard_answers nodes moment term view uid second a
         ∙ ap (λ (x : Kept). ended its (kept_at kept uid).status (record { answer = a; memo = x.memo }) (children_in term uid kept) (state_in nodes second moment)) (sym read)
 
-    -- none has, and the node does not start
+    -- no guard has answered, and the node does not start
     pub keeps_so : o ≡ None → starts (kind_of term) (kept_at kept uid).memo ≡ false → guarded o its m (state_in nodes second moment) ≡ ruled_in nodes moment term view uid second
     keeps_so is none =
         ap (λ (x : Option Answer). guarded x its m (state_in nodes second moment)) is ∙ none_answers nodes moment term view uid second false none ∙ begins_kept nodes moment term view uid second
 
-    -- .. or it starts
+    -- no guard has answered, and the node starts
     pub begins_so_far : o ≡ None → starts (kind_of term) (kept_at kept uid).memo ≡ true → guarded o its m (state_in nodes second moment) ≡ started_in nodes moment term view uid second
     begins_so_far is start =
         ap (λ (x : Option Answer). guarded x its m (state_in nodes second moment)) is ∙ none_answers nodes moment term view uid second true start
@@ -544,7 +544,7 @@ module _ (keeps : (t : Term) → Keeps (meaning t) (Sound t)) (nodes : List Node
   after_start r =
       follow (ends r (children_in term uid kept) (state_in nodes s0 moment)) (λ ms1. remembered status.Running old.memo ms1) (λ memo1 ms1 x. ruled (site_at view uid term) status.Running memo1 ms1 x)
 
-  -- the start reads the memo behind the status
+  -- the start reads the memo after the change of status
   started_as : (r : Result Memo NodeFault) → r ≡ starting (kept_at kept1 uid).memo →
       started_in nodes moment term view uid s0 ≡ behind (Changed uid old.status status.Running ∷ []) [] (after_start r)
   started_as r is =
@@ -570,7 +570,7 @@ module _ (keeps : (t : Term) → Keeps (meaning t) (Sound t)) (nodes : List Node
     start_stays : StaysFit nodes s0 s2
     start_stays = λ t v u fits. stays_fit nodes uid (record (kept_at kept1 uid) { memo = memo }) s1 s2 is2 refl refl refl refl t v u (stays1 t v u fits)
 
-    -- a bad port: the node has become RUNNING, and no more
+    -- a bad port: the node has become RUNNING, and nothing else was done
     pub start_faults : (f : NodeFault) → Err f ≡ starting (kept_at kept1 uid).memo → memo ≡ (kept_at kept1 uid).memo →
         Starts nodes moment term view uid (Err (stop.Fault f)) s0 s2 n0 n1
     start_faults f is same =
@@ -612,28 +612,28 @@ module _ (keeps : (t : Term) → Keeps (meaning t) (Sound t)) (nodes : List Node
 pub starts_kind : {term : Term} {view : View} {uid : ℕ} {nodes : List Node} {s : Scene} (fits : Fits term view uid nodes s) → starts (node_at nodes uid).kind (kept_at s.kept uid).memo ≡ true → starts (kind_of term) (kept_at s.kept uid).memo ≡ true
 starts_kind {uid = uid} {s = s} fits e = ap (λ (k : Kind). starts k (kept_at s.kept uid).memo) (sym (kind_is fits)) ∙ e
 
--- the note was refused
+-- there was want of memory for the note
 pub starts_stopped : (nodes : List Node) (moment : ℕ) (term : Term) (view : View) (uid : ℕ) (s : Scene) (n0 n1 : List Note) (r : Result (Unit {0}) (Stop NodeFault)) → IsErrAnd r (λ x. x ≡ stop.NoMemory) → n1 ≡ n0 → Starts nodes moment term view uid r s s n0 n1
 starts_stopped nodes moment term view uid s n0 n1 r is same =
     subst (λ (x : Result (Unit {0}) (Stop NodeFault)). Starts nodes moment term view uid x s s n0 n1) (sym (stops_with r stop.NoMemory is))
     (subst (λ (n : List Note). Starts nodes moment term view uid (Err stop.NoMemory) s s n0 n) (sym same) (none_told nodes s n0 (started_in nodes moment term view uid s)))
 
--- a status leaves the marks
+-- a change of status does not change the marks
 stays_running : (nodes : List Node) (uid : ℕ) (kept kept1 : List Kept) (board : List (Option Value)) (facts : List ℤ) (drivers : List DriverState) → kept1 ≡ slice_set kept uid (record (kept_at kept uid) { status = status.Running }) →
     StaysFit nodes (scene kept board facts drivers) (scene kept1 board facts drivers)
 stays_running nodes uid kept kept1 board facts drivers is = stays_fit nodes uid (record (kept_at kept uid) { status = status.Running }) (scene kept board facts drivers) (scene kept1 board facts drivers) is refl refl refl refl
 
--- and so does a memo behind it
+-- nor does a change of the memo after it
 pub stays_twice : (nodes : List Node) (uid : ℕ) (kept kept1 kept2 : List Kept) (board : List (Option Value)) (facts : List ℤ) (drivers : List DriverState) → kept1 ≡ slice_set kept uid (record (kept_at kept uid) { status = status.Running }) →
     (memo : Memo) → kept2 ≡ slice_set kept1 uid (record (kept_at kept1 uid) { memo = memo }) → StaysFit nodes (scene kept board facts drivers) (scene kept2 board facts drivers)
 stays_twice nodes uid kept kept1 kept2 board facts drivers is memo is2 = λ t v u fits.
     stays_fit nodes uid (record (kept_at kept1 uid) { memo = memo }) (scene kept1 board facts drivers) (scene kept2 board facts drivers) is2 refl refl refl refl t v u (stays_running nodes uid kept kept1 board facts drivers is t v u fits)
 
--- a change of the node is one of its nodes
+-- a change of the node itself is a change among the nodes of its term
 pub one_within : (term : Term) (uid : ℕ) (a b : List Kept) → Beside uid 1 a b → Beside uid (meaning term).size a b
 one_within term uid a b k = beside_more k (omega arith) (omega (arith, size_out term))
 
--- a start stopped
+-- a start ended with a fault or for want of memory
 pub start_stops : (nodes : List Node) (moment : ℕ) (term : Term) (view : View) (uid : ℕ) (e : Stop NodeFault) (s s1 : Scene) (n0 n1 : List Note) → StaysFit nodes s s1 → Beside uid 1 s.kept s1.kept →
     Starts nodes moment term view uid (Err e) s s1 n0 n1 → Goes nodes moment term view uid (Err e) s s1 n0 n1 (started_in nodes moment term view uid s)
 start_stops nodes moment term view uid e s s1 n0 n1 stays beside k = record { ends = k; beside = one_within term uid s.kept s1.kept beside; stays = stays }

@@ -1,4 +1,4 @@
--- Visits that wait for a child, one upon the other.
+-- Visits that wait for a child, one on top of the other.
 use Rattle.std.proofs.Common.{◌≡◌, ℕ, ◌+◌, ◌≤◌, List, [], ◌∷◌, slice_set, refl, sym, ap, subst, ◌∙◌, arith, Err}
 use Rattle.bt_script.specs.declared.stop.Stop.{Stop}
 use Rattle.bt_script.specs.declared.stop.Stop.TheVariants as stop
@@ -26,10 +26,10 @@ use Rattle.bt_tick.specs.Turns.{AllLeave, Comes, StackIs, Waiting, WaitsFor, chi
 use Rattle.bt_tick.proofs.Children.{beside_both, child_inside}
 use Rattle.bt_tick.proofs.Passing.{follow_behind}
 
--- ---- What is behind notes and calls
+-- ---- What comes after notes and calls
 
 module _ (ns : List Note) (cs : List Call) where
-  -- what a waiting visit does behind its child
+  -- what a waiting visit does after its child
   pub waiting_behind : (w : Waiting) (d : Done Answer Memory) → goes_behind w (behind ns cs d) ≡ behind ns cs (goes_behind w d)
   waiting_behind w d =
       follow_behind ns cs (placed w.frame.place (children_in w.term w.frame.uid w.kept) d)
@@ -45,7 +45,7 @@ module _ (ns : List Note) (cs : List Call) where
   leave_behind (w ∷ ws) d k = (k.0, leave_behind ws (goes_behind w d) (subst (λ (x : Done Answer Memory). AllLeave ws x) (waiting_behind w d) k.1))
 
 module _ {nodes : List Node} {s0 s1 : Scene} {n0 n1 : List Note} {d e : Done Answer Memory} (k : Comes nodes s0 s1 n0 n1 d e) where
-  -- what is still to come of a part is still to come of all
+  -- what is still to come of a part is still to come of the whole
   pub resume_comes : (ws : List Waiting) → Comes nodes s0 s1 n0 n1 (resume ws d) (resume ws e)
   resume_comes ws = record {
     told = k.told;
@@ -63,7 +63,7 @@ module _ {nodes : List Node} {s0 s1 : Scene} {n0 n1 : List Note} {d e : Done Ans
 
 module _ (nodes : List Node) (moment : ℕ) (root : Term) (first : ℕ) where
   module _ {s : Scene} {w : Waiting} {term : Term} {view : View} {uid : ℕ} (k : WaitsFor nodes moment s w term view uid) where
-    -- the child lies within its node
+    -- the nodes of the child are among those of its node
     pub within_node : (w.frame.uid + 1 ≤ w.frame.child) × (w.frame.child + (meaning (child_of_waiting w)).size ≤ w.frame.uid + (meaning w.term).size)
     within_node =
         let inside = child_inside (out-Term w.term).children w.frame.place (w.frame.uid + 1) w.term k.there in
@@ -74,11 +74,11 @@ module _ (nodes : List Node) (moment : ℕ) (root : Term) (first : ℕ) where
         subst (λ (u : ℕ). Beside u (meaning (child_of_waiting w)).size a b) (sym k.uid_is)
         (subst (λ (t : Term). Beside uid (meaning t).size a b) (sym k.child_is) beside)
 
-    -- while its child is visited, a node keeps what it kept
+    -- a node keeps what it kept while its child is visited
     pub node_kept : kept_at s.kept w.frame.uid ≡ kept_at w.kept w.frame.uid
     node_kept = k.beside.below w.frame.uid (omega (arith, within_node.0))
 
-    -- the memories of its children
+    -- the memories of its children, while a child is visited
     pub children_now : slice_set (children_in w.term w.frame.uid w.kept) w.frame.place (memory_of term uid s.kept) ≡ children_in w.term w.frame.uid s.kept
     children_now =
         let at : memory_of term uid s.kept ≡ memory_of (child_of_waiting w) (uid_of (out-Term w.term).children (w.frame.uid + 1) w.frame.place) s.kept =
@@ -87,7 +87,7 @@ module _ (nodes : List Node) (moment : ℕ) (root : Term) (first : ℕ) where
         ∙ memory_set (out-Term w.term).children w.frame.place (w.frame.uid + 1) w.term w.kept s.kept k.there
         (subst (λ (u : ℕ). Beside u (meaning (child_of_waiting w)).size w.kept s.kept) k.child k.beside)
 
-    -- and its own
+    -- and the memory of the node itself
     pub memory_now : remembered (kept_at w.kept w.frame.uid).status (kept_at w.kept w.frame.uid).memo (slice_set (children_in w.term w.frame.uid w.kept) w.frame.place (memory_of term uid s.kept)) ≡ memory_of w.term w.frame.uid s.kept
     memory_now = (λ i. remembered (sym node_kept i).status (sym node_kept i).memo (children_now i)) ∙ sym (memory_out w.term w.frame.uid s.kept)
 
@@ -113,7 +113,8 @@ module _ (nodes : List Node) (moment : ℕ) (root : Term) (first : ℕ) where
         beside_none : Beside uid (meaning term).size s1.kept s1.kept
         beside_none = record { below = λ p e. refl; above = λ p e. refl; as_many = refl }
 
-  -- the frames stay those of the visits that wait, where nothing has changed beside the term for which the topmost waits
+  -- where only nodes of the term have changed that the topmost visit waits for, the frames are still those of the
+  -- visits that wait
   pub stack_stays : (s s1 : Scene) (stack : List Frame) (ws : List Waiting) (term : Term) (view : View) (uid : ℕ) → StackIs nodes moment s root first stack ws term view uid →
       Beside uid (meaning term).size s.kept s1.kept → StaysFit nodes s s1 → StackIs nodes moment s1 root first stack ws term view uid
   stack_stays s s1 stack [] term view uid k beside stays = k
@@ -136,7 +137,7 @@ module _ (nodes : List Node) (moment : ℕ) (root : Term) (first : ℕ) where
       (λ a ms1 s. ruled_by w.term w.view w.frame.uid (kept_at w.kept w.frame.uid).status (kept_at w.kept w.frame.uid).memo (after (kind_of w.term) (number w.term) w.frame.memo (Answered w.frame.place a)) ms1 s)
       e (memory_now k) (placed_stops (memory_of term uid) w.frame.place (children_in w.term w.frame.uid w.kept) e s0 s1 n0 n1 d m)
 
-  -- a part stopped, and so all stops
+  -- a part ended with a fault or for want of memory, and so did the whole
   pub all_stops : (e : Stop NodeFault) (s0 s1 : Scene) (n0 n1 : List Note) (stack : List Frame) (ws : List Waiting) (term : Term) (view : View) (uid : ℕ) (d : Done Answer Memory) → StackIs nodes moment s1 root first stack ws term view uid →
       Meets {A = Answer} nodes moment (memory_of term uid) (Err e) s0 s1 n0 n1 d → Meets {A = Answer} nodes moment (memory_of root first) (Err e) s0 s1 n0 n1 (resume ws d)
   all_stops e s0 s1 n0 n1 stack [] term view uid d k m =

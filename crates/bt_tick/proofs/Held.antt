@@ -1,4 +1,4 @@
--- What the rules of a term say of its nodes where they stand in an arena.
+-- What the rules of a term say of its nodes in an arena.
 use Rattle.std.proofs.Common.{◌≡◌, ℕ, ◌+◌, ◌<◌, ◌≤◌, List, [], ◌∷◌, true, Option, Some, None, sym, ap, subst, ◌∙◌, arith, ⊎_elim}
 use Rattle.std.proofs.lemmas.Bool.{cases_eq, cases_lt}
 use Rattle.bt_model.specs.declared.memory.Memo.{Memo}
@@ -44,7 +44,7 @@ sound_opened t rows uid kept s sound =
     rules_opened (out-Term t) rows uid (memory_of t uid kept) (kept_at kept uid).status (kept_at kept uid).memo (children_in t uid kept) s (memory_out t uid kept)
     (subst (λ (r : States). r rows None uid (memory_of t uid kept) s) (sound_out t) sound)
 
--- ---- Leaves that run are held
+-- ---- RUNNING leaves are held
 
 module _ (nodes : List Node) (s : Scene) (moment : ℕ) (rows : List Row) (view : View) (base : (c : Term) (at : ℕ) → Stands c nodes view at → Fits c view at nodes s) where
   -- each RUNNING leaf of these nodes has its mark

@@ -1,4 +1,4 @@
--- A node that goes on: what a move does of what is still to come.
+-- A node that goes on: what a move changes in what is still to come.
 use Rattle.std.proofs.Common.{◌≡◌, ℕ, ◌+◌, ◌-◌, ◌<◌, ◌≤◌, Bool, true, false, List, [], ◌∷◌, length, get_or, refl, sym, ap, subst, ◌∙◌, arith, Result, Ok, Err, cond}
 use Rattle.std.specs.Prelude.{IsErrAnd, IsTrue}
 use Rattle.std.proofs.lemmas.List.{length-map}
@@ -105,7 +105,7 @@ module _ (term : Term) (view : View) (uid : ℕ) (st : Status) (memo : Memo) (ru
       follow_follow (resets span (children_of (site_at view uid term)) 0 ms s) (λ ms1. ms1) (λ _ ms1 s1. rule (children_of (site_at view uid term)) ms1 s1)
       (λ ms1. remembered st memo ms1) (λ g ms1 s1. ended (site_at view uid term) st g ms1 s1)
 
-  -- a rule behind resets: these come first
+  -- of a rule after resets, the resets come first
   pub resets_first : (span : Span) → ruled_by term view uid st memo (behind_resets span rule) ms s ≡ behind_all span
   resets_first span.None = ap (λ (d : Done (Unit {0}) (List Memory)). follow d (λ ms1. remembered st memo ms1) (λ _ ms1 s1. ruled_by term view uid st memo rule ms1 s1)) (sym (none_resets (children_of (site_at view uid term)) 0 ms s))
   resets_first span.All = reset_opened span.All
@@ -113,7 +113,7 @@ module _ (term : Term) (view : View) (uid : ℕ) (st : Status) (memo : Memo) (ru
   resets_first (span.AllBut other) = reset_opened (span.AllBut other)
   resets_first (span.One only) = reset_opened (span.One only)
 
--- ---- The memory behind resets
+-- ---- The memory after resets
 
 module _ (term : Term) (uid : ℕ) (a b : List Kept) (beside : Beside (uid + 1) ((meaning term).size - 1) a b) where
   node_kept : kept_at b uid ≡ kept_at a uid
@@ -136,7 +136,7 @@ module _ (keeps : (t : Term) → Keeps (meaning t) (Sound t)) (nodes : List Node
     abbrev resets_here : Done (Unit {0}) (List Memory)
     resets_here = resets span (children_of (site_at view uid term)) 0 (children_in term uid s.kept) (state_in nodes s moment)
 
-    -- behind the resets the node can go on
+    -- after the resets the node can go on
     pub can_behind : Meets nodes moment (children_in term uid) (Ok tt) s s1 n0 n1 resets_here → CanGoOn nodes moment term view uid s1
     can_behind m =
         let left = resets_left span in
@@ -154,7 +154,7 @@ module _ (keeps : (t : Term) → Keeps (meaning t) (Sound t)) (nodes : List Node
       first_is : first ≡ behind_all term view uid (kept_at s.kept uid).status (kept_at s.kept uid).memo rule (children_in term uid s.kept) (state_in nodes s moment) span
       first_is = resets_first term view uid (kept_at s.kept uid).status (kept_at s.kept uid).memo rule (children_in term uid s.kept) (state_in nodes s moment) span
 
-      -- they were made, and the rule is still to come
+      -- the resets were made, and the rule is still to come
       pub resets_made : Meets nodes moment (children_in term uid) (Ok tt) s s1 n0 n1 resets_here → Comes nodes s s1 n0 n1 first (goes_by nodes moment term view uid s1 rule)
       resets_made m =
           let same = node_kept term uid s.kept s1.kept beside in
@@ -164,14 +164,14 @@ module _ (keeps : (t : Term) → Keeps (meaning t) (Sound t)) (nodes : List Node
           (part_made nodes moment (children_in term uid) s s1 n0 n1 resets_here (λ ms1. remembered (kept_at s.kept uid).status (kept_at s.kept uid).memo ms1)
           (λ _ ms1 x. ruled_by term view uid (kept_at s.kept uid).status (kept_at s.kept uid).memo rule ms1 x) tt m))
 
-      -- they stopped
+      -- the resets ended with a fault or for want of memory
       pub resets_stopped : (e : Stop NodeFault) → Meets {A = Unit {0}} nodes moment (children_in term uid) (Err e) s s1 n0 n1 resets_here → Meets {A = Answer} nodes moment (memory_of term uid) (Err e) s s1 n0 n1 first
       resets_stopped e m =
           subst (λ (d : Done Answer Memory). Meets {A = Answer} nodes moment (memory_of term uid) (Err e) s s1 n0 n1 d) (sym first_is)
           (stopped nodes moment (children_in term uid) (memory_of term uid) s s1 n0 n1 resets_here (λ ms1. remembered (kept_at s.kept uid).status (kept_at s.kept uid).memo ms1)
           (λ _ ms1 x. ruled_by term view uid (kept_at s.kept uid).status (kept_at s.kept uid).memo rule ms1 x) e (memory_behind term uid s.kept s1.kept beside) m)
 
--- ---- What comes behind the resets
+-- ---- What comes after the resets
 
 -- an answer is given, and the visit ends
 pub keep_opened : (term : Term) (view : View) (uid : ℕ) (st : Status) (memo kept : Memo) (a : Answer) (ms : List Memory) (s : State) →
@@ -194,7 +194,7 @@ module _ (term : Term) (view : View) (uid : ℕ) (st : Status) (memo : Memo) (pl
   hears_visited Parallel e = ap (λ (b : Bool). follow (cond b (go (Passed place) (children_of (site_at view uid term)) ms s) (visit place (λ a. go (Answered place a)) (children_of (site_at view uid term)) ms s)) (λ ms1. remembered st memo ms1) (λ g ms1 s1. ended (site_at view uid term) st g ms1 s1)) e
   hears_visited _ e = refl
 
--- the status of a child is the one that it keeps
+-- the status of a child is the one that its memory says
 pub child_status : (term : Term) (view : View) (uid place at : ℕ) (kept : List Kept) → place < number term → at ≡ uid_of (out-Term term).children (uid + 1) place →
     (child_at (children_of (site_at view uid term)) place).status (children_in term uid kept) ≡ (kept_at kept at).status
 child_status term view uid place at kept there is =
@@ -244,19 +244,19 @@ module _ (nodes : List Node) (moment : ℕ) (term : Term) (view : View) (uid : �
 abbrev pub next_child : ℕ → Move
 next_child place = record { reset = span.None; then = then_.Visit place }
 
--- only a Parallel passes children over
+-- only a Parallel passes over children
 pub visits_all : (kind : Kind) (x : Status) → (kind ≡ Parallel → ⊥) → passes_over kind x ≡ false
 visits_all Parallel x other = absurd (other refl)
 visits_all _ x other = refl
 
 -- ---- The end of a visit
 
--- the answer of a visit as a turn
+-- the end of a visit as a turn
 abbrev pub back_of : Result Answer (Stop NodeFault) → Result Turn (Stop NodeFault)
 back_of (Ok a) = Ok (turn.Back a)
 back_of (Err e) = Err e
 
--- what was still to come was met, and the visit is over
+-- what was still to come was done, and the visit has ended
 pub ends_so : (nodes : List Node) (moment : ℕ) (term : Term) (view : View) (uid : ℕ) (s s1 s2 : Scene) (n0 n1 n2 : List Note) (d e : Done Answer Memory) (r : Result Answer (Stop NodeFault)) →
     Comes nodes s s1 n0 n1 d e → Meets nodes moment (memory_of term uid) r s1 s2 n1 n2 e → GoesTo nodes moment term view uid (back_of r) s s2 n0 n2 d
 ends_so nodes moment term view uid s s1 s2 n0 n1 n2 d e (Ok a) k m = record {
@@ -266,20 +266,20 @@ ends_so nodes moment term view uid s s1 s2 n0 n1 n2 d e (Ok a) k m = record {
 }
 ends_so nodes moment term view uid s s1 s2 n0 n1 n2 d e (Err x) k m = met_behind nodes moment (memory_of term uid) s s1 s2 n0 n1 n2 d e (Err x) k m
 
--- a node that goes on stopped with this
+-- where a node that goes on ended with this, so did the turn
 pub next_with : (nodes : List Node) (moment : ℕ) (term : Term) (view : View) (uid : ℕ) (frame : Frame) (r : Result Next (Stop NodeFault)) (e : Stop NodeFault) (s s1 : Scene) (n0 n1 : List Note) (d : Done Answer Memory) →
     IsErrAnd r (λ x. x ≡ e) → Goes nodes moment term view uid (Err e) s s1 n0 n1 d → Goes nodes moment term view uid (turn_with frame r) s s1 n0 n1 d
 next_with nodes moment term view uid frame r e s s1 n0 n1 d is goes =
     subst (λ (x : Result Next (Stop NodeFault)). Goes nodes moment term view uid (turn_with frame x) s s1 n0 n1 d) (sym (stops_with r e is)) goes
 
--- .. when a node was entered
+-- where a node was entered and ended with this, so did the turn
 pub turned_with : (nodes : List Node) (moment : ℕ) (term : Term) (view : View) (uid : ℕ) (r : Result Entered (Stop NodeFault)) (e : Stop NodeFault) (s s1 : Scene) (n0 n1 : List Note) (d : Done Answer Memory) →
     IsErrAnd r (λ x. x ≡ e) → Goes nodes moment term view uid (Err e) s s1 n0 n1 d → Goes nodes moment term view uid (turned uid s1.kept r) s s1 n0 n1 d
 turned_with nodes moment term view uid r e s s1 n0 n1 d is goes = subst (λ (x : Result Entered (Stop NodeFault)). Goes nodes moment term view uid (turned uid s1.kept x) s s1 n0 n1 d) (sym (stops_with r e is)) goes
 
 -- ---- A step
 
--- it is the same with a memo that is the same
+-- an equal memo makes no difference
 pub same_memo : (nodes : List Node) (moment : ℕ) (term : Term) (view : View) (step : Step) (s : Scene) (next : Done Answer Memory) (memo : Memo) → memo ≡ step.memo →
     GoesOnBy nodes moment term view step.uid step s next → GoesOnBy nodes moment term view step.uid (record { uid = step.uid; memo = memo; heard = step.heard }) s next
 same_memo nodes moment term view step s next memo same k =
@@ -319,7 +319,7 @@ module _ (keeps : (t : Term) → Keeps (meaning t) (Sound t)) (nodes : List Node
           subst (λ (kd : Kind). GoesOn kd (number term) step.memo (next_place step.heard) memo go.then) here_kind
           (subst (λ (n : ℕ). GoesOn here.kind n step.memo (next_place step.heard) memo go.then) here_number onward)
 
-      -- a child that comes next is there
+      -- the child that comes next is there
       pub visit_there : (place : ℕ) → go.then ≡ then_.Visit place → GoesOn (kind_of term) (number term) step.memo (next_place step.heard) memo (then_.Visit place)
       visit_there place visits = subst (λ (x : Then). GoesOn (kind_of term) (number term) step.memo (next_place step.heard) memo x) visits onward_so
 
@@ -339,7 +339,7 @@ module _ (keeps : (t : Term) → Keeps (meaning t) (Sound t)) (nodes : List Node
         within_node : {a b : List Kept} → Beside (step.uid + 1) ((meaning term).size - 1) a b → Beside step.uid (meaning term).size a b
         within_node x = beside_more x (omega arith) (omega (arith, some_size))
 
-        -- the resets stopped
+        -- the resets ended with a fault or for want of memory
         pub step_stopped : (e : Stop NodeFault) → Meets {A = Unit {0}} nodes moment (children_in term step.uid) (Err e) s s1 n0 n1 reset_part → Goes nodes moment term view step.uid (Err e) s s1 n0 n1 next
         step_stopped e m = record {
           ends = subst (λ (d : Done Answer Memory). Meets {A = Answer} nodes moment (memory_of term step.uid) (Err e) s s1 n0 n1 d) (sym next_so)

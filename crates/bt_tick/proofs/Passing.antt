@@ -14,7 +14,7 @@ use Rattle.bt_arena.proofs.Follows.{after_both, behind_met, named_both}
 use Rattle.bt_nodes.proofs.Following.{stops_with}
 use Rattle.bt_tick.specs.Turns.{Comes}
 
--- ---- Parts one behind the other
+-- ---- Parts one after the other
 
 behind_twice : {A M : Type 0} (ns ms : List Note) (cs es : List Call) (d : Done A M) → behind (ns ++ ms) (cs ++ es) d ≡ behind ns cs (behind ms es d)
 behind_twice ns ms cs es d = λ i. record {
@@ -30,7 +30,7 @@ module _ {A M B N : Type 0} (ns : List Note) (cs : List Call) (d : Done A M) (pl
   carried_behind (Ok a) = behind_twice ns d.notes cs d.calls (go a d.memory d.state)
   carried_behind (Err f) = refl
 
-  -- what is behind some notes and calls stays so
+  -- what comes after some notes and calls still comes after them
   pub follow_behind : follow (behind ns cs d) place go ≡ behind ns cs (follow d place go)
   follow_behind = carried_behind d.answer
 
@@ -39,7 +39,7 @@ module _ {A M B N C O : Type 0} (d : Done A M) (place : M → N) (go : A → M �
   carried_follow (Ok a) = follow_behind d.notes d.calls (go a d.memory d.state) place2 go2
   carried_follow (Err f) = refl
 
-  -- two parts behind a third
+  -- two parts after a third
   pub follow_follow : follow (follow d place go) place2 go2 ≡ follow d (λ m. place2 (place m)) (λ a m s. follow (go a m s) place2 go2)
   follow_follow = carried_follow d.answer
 
@@ -60,7 +60,7 @@ module _ {A M : Type 0} (nodes : List Node) where
     drivers = l.drivers ∙ ap (roster_after nodes l.made) k.drivers ∙ sym (after_both nodes k.made l.made s0.drivers);
   }
 
-  -- what is met of the rest is met of the whole
+  -- if the rest meets its definition, so does the whole
   pub met_behind : (moment : ℕ) (memory : List Kept → M) (s0 s1 s2 : Scene) (n0 n1 n2 : List Note) (d e : Done A M) (r : Result A (Stop NodeFault)) →
       Comes nodes s0 s1 n0 n1 d e → Meets nodes moment memory r s1 s2 n1 n2 e → Meets nodes moment memory r s0 s2 n0 n2 d
   met_behind moment memory s0 s1 s2 n0 n1 n2 d e r k m =
@@ -68,7 +68,7 @@ module _ {A M : Type 0} (nodes : List Node) where
       (behind_met nodes moment memory s0 s1 s2 n0 n1 n2 k.told k.made k.notes k.drivers e k.named r m)
 
 module _ {A M B N : Type 0} (nodes : List Node) (moment : ℕ) (memory : List Kept → M) (s0 s1 : Scene) (n0 n1 : List Note) (d : Done A M) (place : M → N) (go : A → M → State → Done B N) where
-  -- a part was made, and what follows it is still to come
+  -- a part was made, and what comes after it is still to come
   pub part_made : (a : A) → Meets nodes moment memory (Ok a) s0 s1 n0 n1 d → Comes nodes s0 s1 n0 n1 (follow d place go) (go a (memory s1.kept) (state_in nodes s1 moment))
   part_made a m = record {
     told = d.notes;
@@ -82,11 +82,11 @@ module _ {A M B N : Type 0} (nodes : List Node) (moment : ℕ) (memory : List Ke
     drivers = m.0.drivers;
   }
 
--- nothing was told yet
+-- no note was added yet
 pub none_told : {A M : Type 0} (nodes : List Node) (s : Scene) (n : List Note) (d : Done A M) → IsCut nodes s s n n d
 none_told nodes s n d = record { told = []; untold = d.notes; made = []; unmade = d.calls; all_notes = refl; all_calls = refl; named = refl; notes = sym (append-nil n); drivers = refl }
 
--- what stopped with this stops all with it
+-- what ends with this ends the whole with it
 pub met_with : {A M : Type 0} (nodes : List Node) (moment : ℕ) (memory : List Kept → M) (r : Result A (Stop NodeFault)) (e : Stop NodeFault) (s0 s1 : Scene) (n0 n1 : List Note) (d : Done A M) → IsErrAnd r (λ x. x ≡ e) →
     Meets nodes moment memory (Err e) s0 s1 n0 n1 d → Meets nodes moment memory r s0 s1 n0 n1 d
 met_with {A} nodes moment memory r e s0 s1 n0 n1 d is m = subst (λ (x : Result A (Stop NodeFault)). Meets nodes moment memory x s0 s1 n0 n1 d) (sym (stops_with r e is)) m

@@ -75,7 +75,7 @@ module _ (keeps : (t : Term) → Keeps (meaning t) (Sound t)) (nodes : List Node
         memory_at_place (out-Term term).children frame.place (frame.uid + 1) term s.kept k.there
         ∙ ap (λ (u : ℕ). memory_of child u s.kept) (sym k.child)
 
-    -- what the node sees of the child's visit is the visit
+    -- the visit of the child, as its node sees it, is that of the term
     child_visit : (child_at (children_of (site_at view frame.uid term)) frame.place).visit ms (state_in nodes s moment) ≡ placed frame.place ms (visit_in nodes moment child below frame.child s)
     child_visit =
         let index : 0 + frame.place ≡ frame.place = omega arith in
@@ -84,7 +84,7 @@ module _ (keeps : (t : Term) → Keeps (meaning t) (Sound t)) (nodes : List Node
         (seen ∙ (λ i. child_of below (meaning child) (sym k.child i) (index i)))
         ∙ ap (λ (m : Memory). placed frame.place ms ((meaning child).visit below frame.child m (state_in nodes s moment))) child_memory
 
-    -- what is to come is the visit of the child, and then what is behind it
+    -- what is still to come is the visit of the child, followed by what comes after it
     pub waits_as : next ≡ goes_behind now_waiting (visit_in nodes moment child below frame.child s)
     waits_as =
         k.next_is
@@ -210,7 +210,7 @@ module _ (keeps : (t : Term) → Keeps (meaning t) (Sound t)) (nodes : List Node
       comes = comes_both nodes s0 s s1 n0 n n1 whole (resume g.waiting g.next) (resume g.waiting goes.ends.next) g.comes (resume_comes goes.ends.comes g.waiting);
     }
 
-    -- a turn stopped, and so the visit of the root did
+    -- a turn ended with a fault or for want of memory, and so did the visit of the root
     pub stops : {t : Turn} (g : Going nodes moment root first t stack s0 s n0 n whole) (s1 : Scene) (n1 : List Note) (e : Stop NodeFault) →
         Goes nodes moment g.term g.view g.uid (Err e) s s1 n n1 g.next → Meets {A = Answer} nodes moment (memory_of root first) (Err e) s0 s1 n0 n1 whole
     stops g s1 n1 e goes =
@@ -343,9 +343,9 @@ module _ (keeps : (t : Term) → Keeps (meaning t) (Sound t)) (nodes : List Node
     pub back_answers : {t : Turn} {a : Answer} → t ≡ turn.Back a → stack ≡ [] → Going nodes moment root first t stack s0 s n0 n whole → Meets nodes moment (memory_of root first) (Ok a) s0 s n0 n whole
     back_answers {a = a} is empty g = answers (subst (λ (fs : List Frame). Going nodes moment root first (turn.Back a) fs s0 s n0 n whole) empty (as_turn is g))
 
--- ---- Behind a visit
+-- ---- After a visit
 
--- what a visit that was made has left can be visited again, and its status is its answer's
+-- after a visit the term can be visited again, and its status is that of its answer
 pub can_again : (keeps : (t : Term) → Keeps (meaning t) (Sound t)) (nodes : List Node) (moment : ℕ) (term : Term) (view : View) (uid : ℕ) (s s1 : Scene) (n0 n1 : List Note) (a : Answer) →
     CanVisit nodes moment term view uid s → StaysFit nodes s s1 → Meets nodes moment (memory_of term uid) (Ok a) s s1 n0 n1 (visit_in nodes moment term view uid s) → CanVisit nodes moment term view uid s1
 can_again keeps nodes moment term view uid s s1 n0 n1 a can stays m =

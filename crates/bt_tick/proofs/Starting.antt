@@ -1,4 +1,4 @@
--- With which memo the rule of a node can begin.
+-- The memos with which the rule of a node can begin.
 use Rattle.std.proofs.Common.{◌≡◌, ℕ, zero, suc, ◌+◌, ◌<◌, ◌≤◌, ◌^◌, ℤ, pos, negsuc, int_le, List, [], ◌∷◌, ◌++◌, length, find, Bool, true, false, ◌&&◌, ◌||◌, cond, codes, Option, Some, None, Ok, sym, subst, ◌∙◌, arith, ⊎_elim, nat_eq}
 use Rattle.std.proofs.lemmas.Bool.{and_parts, cases_lt, cond_both, eqb-true, leb-true, or_cases}
 use Rattle.std.proofs.lemmas.List.{get_or_past}
@@ -90,7 +90,7 @@ ports_small name (first ∷ ports) k fit is =
     let parts = and_parts (is_one_of (required name range.Turns ∷ []) first) (list_all (is_one_of (required name range.Turns ∷ [])) ports) fit in
     first_small name first ports k (one_fits name first parts.0) (λ given. ports_small name ports k parts.1 given) (bytes_eq first.name name) is
 
--- turns that go on
+-- where a Retry or Repeat goes on, a turn is left
 turn_left : (t : Turns) → Small t.limit → TurnsGoOn t t.limit → TurnIsLeft t.done (limit_of t.limit)
 turn_left t = by t.limit
   where
@@ -100,7 +100,7 @@ turn_left t = by t.limit
 
 -- ---- Beginnings
 
--- a child that runs is there
+-- a RUNNING child is one of the children
 runs_there : (ss : List Status) (place : ℕ) → status_at ss place ≡ Running → place < length ss
 runs_there ss place runs = ⊎_elim
     (λ within. within)
@@ -113,7 +113,7 @@ runs_there ss place runs = ⊎_elim
 two_children : (n : ℕ) → (nat_eq n 2 || nat_eq n 3) ≡ true → 2 ≤ n
 two_children n e = ⊎_elim (λ two. omega (arith, eqb-true n 2 two)) (λ three. omega (arith, eqb-true n 3 three)) (or_cases (nat_eq n 2) (nat_eq n 3) e)
 
--- with a memo with which the rule of a node can begin its moves can
+-- where the rule of a node can begin with a memo, so can its moves
 pub begins_so : (ports : List Port) (moment n : ℕ) (ss : List Status) → n ≡ length ss → n < 2 ^ 30 → (kind : Kind) (memo : Memo) → IsTrue (takes kind n) → IsTrue (ports_fit kind ports) → Begins kind ports moment memo ss → CanBegin kind n memo
 begins_so ports moment n ss all few Parallel (Counted c) takes_so fit counted = λ picked can. omega (arith, all, few, counted.successes, counted.failures, counted.skipped, count_by-le-length is_success ss, count_by-le-length is_failure ss)
 begins_so ports moment n ss all few (Switch cases) memo takes_so fit begins = λ picked can. omega (arith, eqb-true n (cases + 1) takes_so, can)

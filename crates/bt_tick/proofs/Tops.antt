@@ -42,21 +42,21 @@ top_place stack below frame n many is =
     let same = ap length is in
     omega (arith, many, all, same)
 
--- the frame on top, in a list that is the stack
+-- the frame on top, in a list that equals the stack
 pub top_is : (stack items below : List Frame) (frame : Frame) (n : ℕ) → items ≡ stack → n ≡ length stack → stack ≡ below ++ frame ∷ [] → slice_index_or items (n - 1) no_frame ≡ frame
 top_is stack items below frame n same many is =
     ap (λ (fs : List Frame). slice_index_or fs (n - 1) no_frame) (same ∙ is)
     ∙ ap (λ (k : ℕ). slice_index_or (below ++ frame ∷ []) k no_frame) (top_place stack below frame n many is)
     ∙ get_or-append_seam below frame [] no_frame
 
--- another frame in its place
+-- another frame is put in the place of the one on top
 pub top_set : (stack below : List Frame) (frame new : Frame) (n : ℕ) → n ≡ length stack → stack ≡ below ++ frame ∷ [] → slice_set stack (n - 1) new ≡ below ++ new ∷ []
 top_set stack below frame new n many is =
     ap (λ (fs : List Frame). slice_set fs (n - 1) new) is
     ∙ ap (λ (k : ℕ). slice_set (below ++ frame ∷ []) k new) (top_place stack below frame n many is)
     ∙ set-append_seam below frame [] new
 
--- .. as it is written through a list that is the stack
+-- another frame is put there through a list that equals the stack
 pub top_written : (stack items below : List Frame) (frame new : Frame) (n : ℕ) → items ≡ stack → n ≡ length stack → stack ≡ below ++ frame ∷ [] →
     refill (length stack) stack (slice_set items (n - 1) new) ≡ below ++ new ∷ []
 top_written stack items below frame new n same many is =
@@ -69,7 +69,7 @@ top_written stack items below frame new n same many is =
     ∙ ap (λ (k : ℕ). take k (written ++ drop (length written) stack)) as_many
     ∙ take-append_seam written (drop (length written) stack)
 
--- the frames below are left
+-- without the frame on top, the frames below it are left
 pub top_taken : (stack below : List Frame) (frame : Frame) → stack ≡ below ++ frame ∷ [] → take (length stack - 1) stack ≡ below
 top_taken stack below frame is =
     ap (λ (fs : List Frame). take (length stack - 1) fs) is
@@ -77,7 +77,7 @@ top_taken stack below frame is =
     ∙ take-append_seam below (frame ∷ [])
 
 module _ {nodes : List Node} {moment : ℕ} {root : Term} {first : ℕ} {stack : List Frame} {s0 s : Scene} {n0 n : List Note} {whole : Done Answer Memory} where
-  -- the node goes on whose frame is on top
+  -- the node whose frame is on top goes on
   pub going_on : (items : List Frame) (many : ℕ) {heard : Heard} → items ≡ stack → many ≡ length stack → GoingOn nodes moment root first (next.GoOn heard) stack s0 s n0 n whole →
       (below : List Frame) × (stack ≡ below ++ slice_index_or items (many - 1) no_frame ∷ []) × Going nodes moment root first (turn.GoOn (step_of (slice_index_or items (many - 1) no_frame) heard)) below s0 s n0 n whole
   going_on items many {heard} same all g =
@@ -85,7 +85,7 @@ module _ {nodes : List Node} {moment : ℕ} {root : Term} {first : ℕ} {stack :
       let top : frame ≡ slice_index_or items (many - 1) no_frame = sym (top_is stack items below frame many same all stands) in
       (below, subst (λ (f : Frame). stack ≡ below ++ f ∷ []) top stands, subst (λ (f : Frame). Going nodes moment root first (turn.GoOn (step_of f heard)) below s0 s n0 n whole) top going)
 
-  -- .. so there is one
+  -- where a node goes on, there is a frame
   pub one_on_top : {heard : Heard} → GoingOn nodes moment root first (next.GoOn heard) stack s0 s n0 n whole → 1 ≤ length stack
   one_on_top g =
       let (below, frame, stands, going) = g.came in
@@ -96,14 +96,14 @@ module _ {nodes : List Node} {moment : ℕ} {root : Term} {first : ℕ} {stack :
     pub comes_as : {b : Next} → nx ≡ b → GoingOn nodes moment root first nx stack s0 s n0 n whole → GoingOn nodes moment root first b stack s0 s n0 n whole
     comes_as is g = subst (λ (x : Next). GoingOn nodes moment root first x stack s0 s n0 n whole) is g
 
-    -- the node has answered whose frame is on top
+    -- the node whose frame is on top has answered
     pub gone_back : {a : Answer} → nx ≡ next.Back a → GoingOn nodes moment root first nx stack s0 s n0 n whole →
         (below : List Frame) × (take (length stack - 1) stack ≡ below) × Going nodes moment root first (turn.Back a) below s0 s n0 n whole
     gone_back is g =
         let (below, frame, stands, going) = (comes_as is g).came in
         (below, top_taken stack below frame stands, going)
 
-    -- a node went on whose frame is on top
+    -- the node whose frame is on top went on
     pub went_on : (keeps : (t : Term) → Keeps (meaning t) (Sound t)) (below : List Frame) (frame : Frame) → EntersChild frame nx → stack ≡ below ++ frame ∷ [] →
         Going nodes moment root first (turn_of frame nx) below s0 s n0 n whole → GoingOn nodes moment root first nx stack s0 s n0 n whole
     went_on keeps below frame child is g = record { came = by nx child g } where
@@ -114,7 +114,7 @@ module _ {nodes : List Node} {moment : ℕ} {root : Term} {first : ℕ} {stack :
       by (next.GoOn heard) enters going = (below, frame, is, going)
       by (next.Back a) enters going = (below, frame, is, going)
 
--- a turn stopped with this, and so the visit of the root did
+-- a turn ended with this, and so did the visit of the root
 pub reached_with : (nodes : List Node) (moment : ℕ) (root : Term) (first : ℕ) (r : Result Reached (Stop NodeFault)) (e : Stop NodeFault) (stack : List Frame) (s0 s s1 : Scene) (n0 n1 : List Note) (whole : Done Answer Memory) →
     IsErrAnd r (λ x. x ≡ e) → StaysFit nodes s s1 → Meets {A = Answer} nodes moment (memory_of root first) (Err e) s0 s1 n0 n1 whole → Reaches nodes moment root first r stack s0 s s1 n0 n1 whole
 reached_with nodes moment root first r e stack s0 s s1 n0 n1 whole is stays met =
@@ -128,14 +128,14 @@ reached_as {nodes} {moment} {root} {first} {stack = stack} {s0 = s0} {s1 = s1} {
 
 -- ---- Work
 
--- the work that is left where a node goes on
+-- the bound on the turns still to come where a node goes on
 going_work : (nodes : List Node) (heard : Heard) (stack below : List Frame) (frame : Frame) → stack ≡ below ++ frame ∷ [] →
     next_work nodes (next.GoOn heard) stack ≡ turn_work nodes (turn.GoOn (step_of frame heard)) + stack_work nodes below
 going_work nodes heard stack below frame is =
     ap (λ (f : Frame). turn_work nodes (turn.GoOn (step_of f heard)) + stack_work nodes (below_of stack)) (top_is stack stack below frame (length stack) refl refl is)
     ∙ ap (λ (fs : List Frame). turn_work nodes (turn.GoOn (step_of frame heard)) + stack_work nodes fs) (top_taken stack below frame is)
 
--- .. is less than that of all frames where it hears its child
+-- it is less than that of all frames before, where the node hears its child
 pub less_heard : (nodes : List Node) (heard : Heard) (stack below : List Frame) (frame : Frame) (a : Answer) → stack ≡ below ++ frame ∷ [] → heard ≡ Answered frame.place a →
     next_work nodes (next.GoOn heard) stack < stack_work nodes stack
 less_heard nodes heard stack below frame a is hears =
@@ -144,7 +144,7 @@ less_heard nodes heard stack below frame a is hears =
     let stacked : stack_work nodes stack ≡ stack_work nodes below + (0 + frame_work nodes frame) = ap (λ (fs : List Frame). stack_work nodes fs) is ∙ sum_by-append (frame_work nodes) below (frame ∷ []) in
     omega (arith, all, step, stacked)
 
--- .. is less behind its turn
+-- it is less after the node's turn
 pub less_on_top : (nodes : List Node) (nx b : Next) (heard : Heard) (stack stack1 below : List Frame) (frame new : Frame) → nx ≡ b → stack ≡ below ++ frame ∷ [] → stack1 ≡ below ++ new ∷ [] →
     EntersChild new nx → turn_work nodes (turn_of new nx) < turn_work nodes (turn.GoOn (step_of frame heard)) → next_work nodes b stack1 < next_work nodes (next.GoOn heard) stack
 less_on_top nodes nx b heard stack stack1 below frame new comes is is1 enters less =

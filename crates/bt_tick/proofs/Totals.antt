@@ -1,4 +1,4 @@
--- A visit begins no more calls than its work.
+-- A visit makes no more calls of start and running than its work.
 use Rattle.std.proofs.Common.{◌≡◌, ℕ, ◌+◌, ◌≤◌, List, [], ◌∷◌, ◌++◌, length, slice_set, Option, Some, None, Result, Ok, Err, ap, arith, ⊎_elim}
 use Rattle.std.proofs.Math.Nat.{min-le_left}
 use Rattle.std.proofs.lemmas.Bool.{cases_lt}

@@ -1,4 +1,4 @@
--- What is still to come of a visit, and the turns in which it is made.
+-- What is still to come of a visit, and the turns of which it is made.
 use Rattle.std.specs.Prelude.{◌≡◌, ◌+◌, ◌-◌, ◌*◌, ◌^◌, ◌<◌, ◌≤◌, ℕ, zero, suc, sum_by, List, [], ◌∷◌, ◌++◌, length, slice_index_or, take, Bool, true, false, Some, None, Result, Ok, Err}
 use Rattle.bt_script.specs.declared.stop.Stop.{Stop}
 use Rattle.bt_model.specs.declared.fault.NodeFault.{NodeFault}
@@ -64,7 +64,7 @@ children_in term uid kept = memories_of (out-Term term).children (uid + 1) kept
 abbrev pub memory_in : Term → ℕ → Scene → Memory
 memory_in term uid s = memory_of term uid s.kept
 
--- .. of a node as it stands in a scene
+-- what is still to come of the visit of a node in a scene, from this rule on
 abbrev pub goes_by : List Node → ℕ → Term → View → ℕ → Scene → Rule → Done Answer Memory
 goes_by nodes moment term view uid s rule =
     ruled_by term view uid (kept_at s.kept uid).status (kept_at s.kept uid).memo rule (children_in term uid s.kept) (state_in nodes s moment)
@@ -73,7 +73,7 @@ goes_by nodes moment term view uid s rule =
 abbrev pub visit_in : List Node → ℕ → Term → View → ℕ → Scene → Done Answer Memory
 visit_in nodes moment term view uid s = (meaning term).visit view uid (memory_in term uid s) (state_in nodes s moment)
 
--- ---- What is asked of the nodes
+-- ---- What must hold of the nodes
 
 abbrev pub number : Term → ℕ
 number term = length (out-Term term).children
@@ -82,7 +82,7 @@ abbrev pub kind_of : Term → Kind
 kind_of term = (out-Term term).kind
 
 -- a term that stands in a scene can be visited: it and all below it keep their rules, and no instance is held since a
--- later moment
+-- time that is later than now
 pub record CanVisit (nodes : List Node) (moment : ℕ) (term : Term) (view : View) (uid : ℕ) (s : Scene) : Type 0 where
   pub fits : Fits term view uid nodes s
   pub sound : Sound term view.rows None uid (memory_in term uid s) (state_in nodes s moment)
@@ -103,27 +103,27 @@ abbrev pub CanPick : Kind → ℕ → Type 0
 CanPick (Switch cases) picked = picked ≤ cases
 CanPick kind picked = Unit {0}
 
--- a rule can begin with this memo, whatever is picked
+-- a rule can begin with this memo, with anything that can be picked
 abbrev pub CanBegin : Kind → ℕ → Memo → Type 0
 CanBegin kind children memo = (picked : ℕ) → CanPick kind picked → FitsStart kind children memo picked
 
--- the rule of a node can be followed from the status and the memo that it has: where it has children with any pick, and
--- a leaf is held where it is RUNNING
+-- The rule of a node can be applied from its status and its memo on: one with children can begin with any pick, and a
+-- leaf is held where it is RUNNING.
 pub record CanFollow (nodes : List Node) (moment : ℕ) (term : Term) (view : View) (uid : ℕ) (s : Scene) : Type 0 where
   pub can : CanGoOn nodes moment term view uid s
   pub begins : has_rule (kind_of term) ≡ true → CanBegin (kind_of term) (number term) (kept_at s.kept uid).memo
   pub held : has_rule (kind_of term) ≡ false → held_at (state_in nodes s moment) uid ≡ Some (is_held (kept_at s.kept uid).status (kind_of term))
 
--- the visit of a node from its rule on
+-- the visit of a node, from its rule on
 abbrev pub ruled_in : List Node → ℕ → Term → View → ℕ → Scene → Done Answer Memory
 ruled_in nodes moment term view uid s =
     ruled (site_at view uid term) (kept_at s.kept uid).status (kept_at s.kept uid).memo (children_in term uid s.kept) (state_in nodes s moment)
 
--- its start, and all that follows
+-- the visit of a node, from its start on
 abbrev pub started_in : List Node → ℕ → Term → View → ℕ → Scene → Done Answer Memory
 started_in nodes moment term view uid s = started (site_at view uid term) (memory_in term uid s) (state_in nodes s moment)
 
--- a node has started, and its rule is still to come; or it stopped
+-- a node has started, and its rule is still to come; or it stopped with a fault or for want of memory (out of memory)
 abbrev pub Starts : List Node → ℕ → Term → View → ℕ → Result (Unit {0}) (Stop NodeFault) → Scene → Scene → List Note → List Note → Type 0
 Starts nodes moment term view uid (Ok _) before after old new =
     CanFollow nodes moment term view uid after × Comes nodes before after old new (started_in nodes moment term view uid before) (ruled_in nodes moment term view uid after)
@@ -132,7 +132,7 @@ Starts nodes moment term view uid (Err e) before after old new =
 
 -- ---- Turns
 
--- a node goes on
+-- a node goes on with what it hears, and this is still to come
 pub record GoesOnBy (nodes : List Node) (moment : ℕ) (term : Term) (view : View) (uid : ℕ) (step : Step) (s : Scene) (next : Done Answer Memory) : Type 0 where
   pub here : step.uid ≡ uid
   pub can : CanGoOn nodes moment term view uid s
@@ -140,7 +140,7 @@ pub record GoesOnBy (nodes : List Node) (moment : ℕ) (term : Term) (view : Vie
   pub fits : FitsMoves (kind_of term) (number term) step.memo step.heard
   pub next_is : next ≡ goes_by nodes moment term view uid s (rest (kind_of term) (number term) moment step.memo step.heard)
 
--- it waits for a child, which is visited
+-- a node waits for a child, which is visited, and this is still to come
 pub record WaitsBy (nodes : List Node) (moment : ℕ) (term : Term) (view : View) (uid : ℕ) (frame : Frame) (s : Scene) (next : Done Answer Memory) : Type 0 where
   pub here : frame.uid ≡ uid
   pub can : CanGoOn nodes moment term view uid s
@@ -150,14 +150,14 @@ pub record WaitsBy (nodes : List Node) (moment : ℕ) (term : Term) (view : View
   pub child : frame.child ≡ uid_of (out-Term term).children (uid + 1) frame.place
   pub next_is : next ≡ goes_by nodes moment term view uid s (visit frame.place (λ a. after (kind_of term) (number term) frame.memo (Answered frame.place a)))
 
--- what a turn of this term does, which stands in this view at this uid
+-- what is still to come of the visit of a term, which stands in this view at this uid, where this turn is next
 abbrev pub TurnDoes : List Node → ℕ → Term → View → ℕ → Turn → Scene → Done Answer Memory → Type 0
 TurnDoes nodes moment term view uid (turn.Enter at) s next = (at ≡ uid) × CanVisit nodes moment term view uid s × (next ≡ visit_in nodes moment term view uid s)
 TurnDoes nodes moment term view uid (turn.GoOn step) s next = GoesOnBy nodes moment term view uid step s next
 TurnDoes nodes moment term view uid (turn.Wait frame) s next = WaitsBy nodes moment term view uid frame s next
 TurnDoes nodes moment term view uid (turn.Back a) s next = next ≡ done a (memory_in term uid s) (state_in nodes s moment)
 
--- what a visit that was entered goes on with: with the memo that its node keeps where a rule begins
+-- the turn after a node was entered: where its rule begins, it has the memo that the node keeps
 abbrev pub turn_after : ℕ → List Kept → Entered → Turn
 turn_after uid kept (Begins picked) = turn.GoOn (record { uid = uid; memo = (kept_at kept uid).memo; heard = Begin picked })
 turn_after uid kept (Answers a) = turn.Back a
@@ -166,12 +166,12 @@ abbrev pub turned : ℕ → List Kept → Result Entered (Stop NodeFault) → Re
 turned uid kept (Ok entered) = Ok (turn_after uid kept entered)
 turned uid kept (Err e) = Err e
 
--- whether a child of this status is passed over: one of a Parallel is that has completed
+-- whether a node passes over a child with this status: a Parallel does where the child has completed
 abbrev pub passes_over : Kind → Status → Bool
 passes_over Parallel status = is_completed status
 passes_over kind status = false
 
--- a node whose frame this is goes on with what it hears
+-- the node with this frame goes on with what it hears
 abbrev pub step_of : Frame → Heard → Step
 step_of frame heard = record { uid = frame.uid; memo = frame.memo; heard = heard }
 
@@ -180,7 +180,7 @@ abbrev pub turn_to : Bool → Frame → Turn
 turn_to true frame = turn.GoOn (step_of frame (Passed frame.place))
 turn_to false frame = turn.Wait frame
 
--- what comes next is a turn of the node whose frame is on top
+-- what comes next, as a turn of the node with this frame
 abbrev pub turn_of : Frame → Next → Turn
 turn_of frame (next.Enter uid) = turn.Wait frame
 turn_of frame (next.GoOn heard) = turn.GoOn (step_of frame heard)
@@ -195,18 +195,18 @@ abbrev pub EntersChild : Frame → Next → Type 0
 EntersChild frame (next.Enter uid) = frame.child ≡ uid
 EntersChild frame _ = Unit {0}
 
--- a turn, and what is done and what is still to come of a whole
+-- the visit came to a turn: what was done, and what is still to come
 pub record ComesTo (nodes : List Node) (moment : ℕ) (term : Term) (view : View) (uid : ℕ) (turn : Turn) (before after : Scene) (old new : List Note) (whole : Done Answer Memory) : Type 0 where
   pub next : Done Answer Memory
   pub does : TurnDoes nodes moment term view uid turn after next
   pub comes : Comes nodes before after old new whole next
 
--- a turn was made, and the next one goes on; or it stopped, and so all stops
+-- a turn was made, and this one is next; or it stopped with a fault or for want of memory, and so did the visit
 abbrev pub GoesTo : List Node → ℕ → Term → View → ℕ → Result Turn (Stop NodeFault) → Scene → Scene → List Note → List Note → Done Answer Memory → Type 0
 GoesTo nodes moment term view uid (Ok turn) before after old new whole = ComesTo nodes moment term view uid turn before after old new whole
 GoesTo nodes moment term view uid (Err e) before after old new whole = Meets {A = Answer} nodes moment (memory_of term uid) (Err e) before after old new whole
 
--- .. and no node beside this term keeps anything else, and what fitted fits
+-- a turn was made or stopped, no node of another term has changed, and what fitted the arena still fits
 pub record Goes (nodes : List Node) (moment : ℕ) (term : Term) (view : View) (uid : ℕ) (result : Result Turn (Stop NodeFault)) (before after : Scene) (old new : List Note) (whole : Done Answer Memory) : Type 0 where
   pub ends : GoesTo nodes moment term view uid result before after old new whole
   pub beside : Beside uid (meaning term).size before.kept after.kept
@@ -222,11 +222,11 @@ pub record Waiting : Type 0 where
   pub kept : List Kept
   pub state : State
 
--- the child for which it waits
+-- the child that a visit waits for
 abbrev pub child_of_waiting : Waiting → Term
 child_of_waiting w = slice_index_or (out-Term w.term).children w.frame.place w.term
 
--- what it still does behind the visit of the child
+-- what a waiting visit still does after the visit of its child
 abbrev pub goes_behind : Waiting → Done Answer Memory → Done Answer Memory
 goes_behind w d =
     follow (placed w.frame.place (children_in w.term w.frame.uid w.kept) d)
@@ -234,12 +234,12 @@ goes_behind w d =
     (λ a ms1 s1. ruled_by w.term w.view w.frame.uid (kept_at w.kept w.frame.uid).status (kept_at w.kept w.frame.uid).memo
     (after (kind_of w.term) (number w.term) w.frame.memo (Answered w.frame.place a)) ms1 s1)
 
--- what all that wait still do, the topmost first
+-- what all waiting visits still do, the topmost first
 abbrev pub resume : List Waiting → Done Answer Memory → Done Answer Memory
 resume [] d = d
 resume (w ∷ ws) d = resume ws (goes_behind w d)
 
--- what a child leaves from the moment on in which it was entered
+-- what the visit of a child leaves, from the time when it was entered
 abbrev pub ChildLeaves : Waiting → Done Answer Memory → Type 0
 ChildLeaves w d =
     Leaves (λ fault m s. Sound (child_of_waiting w) w.view.rows fault w.frame.child m s)
@@ -264,8 +264,8 @@ pub record WaitsFor (nodes : List Node) (moment : ℕ) (s : Scene) (w : Waiting)
   pub there : w.frame.place < number w.term
   pub child : w.frame.child ≡ uid_of (out-Term w.term).children (w.frame.uid + 1) w.frame.place
 
--- the frames of these visits, of which the topmost stands last and waits for the term at this uid; the lowest is that
--- of the root
+-- the frames of these visits: the topmost is the last one and waits for the term at this uid; the lowest is that of
+-- the root
 abbrev pub StackIs : List Node → ℕ → Scene → Term → ℕ → List Frame → List Waiting → Term → View → ℕ → Type 0
 StackIs nodes moment s root first stack [] term view uid = (stack ≡ []) × (term ≡ root) × (uid ≡ first)
 StackIs nodes moment s root first stack (w ∷ ws) term view uid =
@@ -283,8 +283,8 @@ pub record Going (nodes : List Node) (moment : ℕ) (root : Term) (first : ℕ) 
   pub leaves : AllLeave waiting next
   pub comes : Comes nodes before after old new whole (resume waiting next)
 
--- a fact of what comes next, by the stack of all frames: of the turn that it is, and of the frames below the node whose
--- turn it is; where a child is visited all frames are those of visits that wait
+-- A property of what comes next, said of its turn and of the frames below the node whose turn it is; where a child is
+-- visited, all frames are those of visits that wait.
 abbrev pub OnStack : Next → List Frame → (Turn → List Frame → Type 0) → Type 0
 OnStack (next.Enter uid) stack P = P (turn.Enter uid) stack
 OnStack (next.GoOn heard) stack P = (below : List Frame) × (frame : Frame) × (stack ≡ below ++ frame ∷ []) × P (turn.GoOn (step_of frame heard)) below
@@ -294,25 +294,25 @@ OnStack (next.Back a) stack P = (below : List Frame) × (frame : Frame) × (stac
 pub record GoingOn (nodes : List Node) (moment : ℕ) (root : Term) (first : ℕ) (next : Next) (stack : List Frame) (before after : Scene) (old new : List Note) (whole : Done Answer Memory) : Type 0 where
   pub came : OnStack next stack (λ turn below. Going nodes moment root first turn below before after old new whole)
 
--- it came to the visit of a child, or it ended
+-- the visit came to a child, or it ended
 abbrev pub ReachesTo : List Node → ℕ → Term → ℕ → Result Reached (Stop NodeFault) → List Frame → Scene → Scene → List Note → List Note → Done Answer Memory → Type 0
 ReachesTo nodes moment root first (Ok (reached.Child uid)) stack before after old new whole = GoingOn nodes moment root first (next.Enter uid) stack before after old new whole
 ReachesTo nodes moment root first (Ok (reached.End a)) stack before after old new whole = Meets nodes moment (memory_of root first) (Ok a) before after old new whole
 ReachesTo nodes moment root first (Err e) stack before after old new whole = Meets {A = Answer} nodes moment (memory_of root first) (Err e) before after old new whole
 
--- .. and what fitted where it went on fits
+-- the visit came to a child, or it ended, and what fitted the arena still fits
 pub record Reaches (nodes : List Node) (moment : ℕ) (root : Term) (first : ℕ) (result : Result Reached (Stop NodeFault)) (stack : List Frame) (before here after : Scene) (old new : List Note) (whole : Done Answer Memory) : Type 0 where
   pub ends : ReachesTo nodes moment root first result stack before after old new whole
   pub stays : StaysFit nodes here after
 
 -- ---- Work
 
--- a bound on the turns of a visit of so many nodes
+-- a bound on the turns of a visit of this many nodes
 abbrev pub cost : ℕ → ℕ
 cost zero = 1
 cost (suc size) = 2 ^ 40 * cost size
 
--- a bound on those of the visits of children that are left to a node
+-- a bound on the turns of the visits of children that are still to come of a node
 abbrev pub left_of : Node → Memo → ℕ → ℕ
 left_of node memo first = visits_left node.kind node.children memo first * (cost (node.size - 1) + 3)
 
@@ -335,7 +335,7 @@ top_of stack = slice_index_or stack (length stack - 1) (record { uid = 0; memo =
 abbrev pub below_of : List Frame → List Frame
 below_of stack = take (length stack - 1) stack
 
--- the turns that are left by what comes next
+-- a bound on the turns still to come after what comes next
 abbrev pub next_work : List Node → Next → List Frame → ℕ
 next_work nodes (next.Enter uid) stack = turn_work nodes (turn.Enter uid) + stack_work nodes stack
 next_work nodes (next.GoOn heard) stack = turn_work nodes (turn.GoOn (step_of (top_of stack) heard)) + stack_work nodes (below_of stack)

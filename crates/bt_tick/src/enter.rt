@@ -24,8 +24,8 @@ use bt_nodes::{end_visit, goes_on, guards_answer, picked, start_memo, visit_alon
 use bt_script::Stop;
 use std::alloc::Global;
 
-/// Whether a node of this kind with this memo starts: one with children does, but for a RunOnce with a
-/// mark.
+/// Whether a node of this kind with this memo starts: one with children does, except a RunOnce with
+/// a mark.
 #[inline(always)]
 fn starts(kind: Kind, memo: Memo) -> bool
     ensures { result ≡ starts kind memo }
@@ -36,8 +36,8 @@ fn starts(kind: Kind, memo: Memo) -> bool
     }
 }
 
-/// Begins the rule of the node with this uid, which is one over its children, with what is picked for
-/// the visit.
+/// Begins the rule of the node with this uid, which has children. The answer says what is picked
+/// for the visit; the error is the fault of the port that decides it.
 #[inline(always)]
 fn begin_rule(
     nodes: &[Node],
@@ -60,8 +60,9 @@ fn begin_rule(
     }
 }
 
-/// Follows the rule of the node with this uid from the status and the memo that it has: a node with
-/// children goes on by moves, and any other does all that it does.
+/// Applies the rule of the node with this uid, from its status and its memo on: a node with
+/// children goes on by moves, and any other has its whole visit. The error is a fault, or want of
+/// memory (out of memory). `now` is in milliseconds.
 #[inline(always)]
 fn follow_rule<D: Drivers>(
     alloc: Global,
@@ -90,8 +91,8 @@ fn follow_rule<D: Drivers>(
     begin_rule(nodes, kept, board, uid)
 }
 
-/// Starts the node with this uid, which is not RUNNING: it becomes RUNNING, which is noted, with a new
-/// memo.
+/// Starts the node with this uid, which is not RUNNING: it becomes RUNNING, with a note, and gets a
+/// new memo. The error is the fault of a port, or want of memory. `now` is in milliseconds.
 #[inline(always)]
 fn start(
     nodes: &[Node],
@@ -126,6 +127,7 @@ fn start(
 }
 
 /// Begins a visit of the node with this uid, which is not RUNNING: its guards answer, or it starts.
+/// The error is a fault, or want of memory. `now` is in milliseconds.
 #[inline(always)]
 fn begin<D: Drivers>(
     alloc: Global,
@@ -157,11 +159,12 @@ fn begin<D: Drivers>(
         return follow_rule(alloc, nodes, kept, board, facts, drivers, uid, now, notes);
     }
     start(nodes, kept, board, uid, now, notes)?;
-    // What starts has a rule over its children.
+    // A node that starts has children.
     begin_rule(nodes, kept, board, uid)
 }
 
-/// Goes on with the node with this uid, which is RUNNING, or halts it where its guard says so.
+/// Goes on with the node with this uid, which is RUNNING, or halts it where its `_while` is false,
+/// and answers SKIPPED. The error is a fault, or want of memory. `now` is in milliseconds.
 #[inline(always)]
 fn resume<D: Drivers>(
     alloc: Global,
@@ -190,7 +193,8 @@ fn resume<D: Drivers>(
     Ok(Entered::Answers(Answer::Skipped))
 }
 
-/// Visits the node with this uid, up to its answer or to where it goes on by moves.
+/// Visits the node with this uid, up to its answer or to where it goes on by moves. The error is a
+/// fault, or want of memory. `now` is in milliseconds.
 #[inline(always)]
 pub(crate) fn enter<D: Drivers>(
     alloc: Global,

@@ -3,8 +3,8 @@ use bt_model::{Answer, Heard};
 /// What comes next in a tick.
 #[derive(Clone, Copy, Debug)]
 pub enum Next {
-    /// The node with this uid is visited: the root, or the child for which the node on top of the stack
-    /// waits.
+    /// The node with this uid is visited: the root, or the child that the node on top of the stack
+    /// waits for.
     Enter(u32),
     /// The node on top of the stack goes on with what it hears.
     GoOn(Heard),
@@ -12,7 +12,7 @@ pub enum Next {
     Back(Answer),
 }
 
-/// What the visit of a node has come to when it was entered.
+/// What a visit has come to when its node was entered.
 #[derive(Clone, Copy, Debug)]
 pub enum Entered {
     /// Its rule begins, with this pick.
@@ -21,11 +21,11 @@ pub enum Entered {
     Answers(Answer),
 }
 
-/// What a visit has reached that went on up the stack.
+/// Where a visit is after nodes on the stack have gone on.
 #[derive(Clone, Copy, Debug)]
 pub enum Reached {
-    /// The child with this uid, which is visited: the node on top of the stack waits for it.
+    /// At the child with this uid, which is visited: the node on top of the stack waits for it.
     Child(u32),
-    /// The end of the visit, with the answer of the root.
+    /// At its end, with the answer of the root.
     End(Answer),
 }

@@ -17,7 +17,8 @@ pub(crate) fn is_completed(status: Status) -> bool
     }
 }
 
-/// The next move of a node with `n` children at the moment `now`. The memo becomes the one behind it.
+/// The next move of a node with `n` children at the time `now` in milliseconds. The memo becomes
+/// the one after it.
 #[inline(always)]
 pub(crate) fn next_move(kind: Kind, memo: &mut Memo, n: u32, now: u64, heard: Heard) -> Move
     requires ruled { has_rule kind ≡ true }

@@ -35,7 +35,7 @@ fn child_at(here: &Node, place: u32) -> u32
     here.child_uids.list()[place as usize]
 }
 
-/// Whether a child of this status is passed over.
+/// Whether a node of this kind passes over a child with this status, without a visit.
 fn passes_over(kind: Kind, status: Status) -> bool
     ensures { result ≡ passes_over kind status }
 {
@@ -45,7 +45,8 @@ fn passes_over(kind: Kind, status: Status) -> bool
     }
 }
 
-/// Resets the children of a span of the node with this uid, in order.
+/// Resets the children of a span of the node with this uid, in order. The error is a fault of an
+/// `_onHalted`, or want of memory.
 #[inline(always)]
 fn reset_before<D: Drivers>(
     alloc: Global,
@@ -68,14 +69,15 @@ fn reset_before<D: Drivers>(
 {
     match span {
         Span::None => Ok(()),
-        // Most resets are of all children, and with a constant span none of these is tested.
+        // Most resets are of all children: with a constant span there is no test for each child.
         Span::All => reset_children(alloc, nodes, kept, board, drivers, uid, Span::All, notes),
         _ => reset_children(alloc, nodes, kept, board, drivers, uid, span, notes),
     }
 }
 
-/// The node on top of the stack, whose frame this is, goes on with what it hears: it makes its next
-/// move, up to its answer or to the visit of a child.
+/// The node on top of the stack, which has this frame, goes on with what it hears: it makes its
+/// next move, up to its answer or to the visit of a child. The error is a fault, or want of memory.
+/// `now` is in milliseconds.
 #[inline(always)]
 pub(crate) fn go_on<D: Drivers>(
     alloc: Global,

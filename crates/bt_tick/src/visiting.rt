@@ -28,7 +28,7 @@ use bt_script::Stop;
 use smallvec::SmallVec;
 use std::alloc::Global;
 
-/// The frame of a node whose rule begins: with the memo that the node keeps.
+/// The frame of a node whose rule begins, with the memo that the node keeps.
 #[inline(always)]
 fn begun(uid: u32, kept: &[Kept]) -> Frame
     requires there { uid < length kept.now }
@@ -43,8 +43,8 @@ fn begun(uid: u32, kept: &[Kept]) -> Frame
     }
 }
 
-/// What the node on top of the stack hears where its child has answered. Where the stack is empty it is
-/// the root that has answered, and nobody hears of it.
+/// What the node on top of the stack hears where its child has answered. Where the stack is empty,
+/// the root has answered, and no node hears it.
 #[inline(always)]
 fn heard_on(stack: &SmallVec<Frame, 32>, answer: Answer) -> Option<Heard>
     ensures some { (heard : HeardOf) → result ≡ Some heard → (below : List Frame) × (frame : Frame) × (stack.now.items ≡ below ++ frame ∷ []) × (heard ≡ HeardOf.Answered frame.place answer) }
@@ -56,8 +56,9 @@ fn heard_on(stack: &SmallVec<Frame, 32>, answer: Answer) -> Option<Heard>
     }
 }
 
-/// The node on top of the stack goes on with what it hears, and so does each below it that hears the
-/// answer of its child, up to the visit of a child or the end of the visit of the root.
+/// The node on top of the stack goes on with what it hears, and so does each below it when its
+/// child has answered, up to the visit of a child or to the answer of the root. The error is a
+/// fault, or want of memory. `now` is in milliseconds.
 #[inline(always)]
 fn reach_child<D: Drivers>(
     alloc: Global,
@@ -96,9 +97,11 @@ fn reach_child<D: Drivers>(
     }
 }
 
-/// Visits the root, a step for each node that is entered. The nodes with children whose visits are under
-/// way have their frames on a stack, the one that goes on topmost; what answers at once, as a leaf, has
-/// none. It takes memory for them only where the stack has no room for all that can be under way at once.
+/// Visits the root: one round of the loop for each node that is entered. The nodes with children
+/// whose visits are under way have their frames on a stack, the one that goes on topmost; nodes
+/// that answer at once, as leaves, have none. It allocates memory for frames only where the stack
+/// has no room for all visits that can be under way at once. The error is a fault, or want of
+/// memory. `now` is in milliseconds.
 fn visit<D: Drivers>(
     alloc: Global,
     nodes: &[Node],
@@ -143,10 +146,11 @@ fn visit<D: Drivers>(
     }
 }
 
-/// Visits the root of a runner's tree once, at the moment `now` in milliseconds. The answer or the
-/// fault comes with all that the visit has done. Want of memory cuts it off: the first notes of the
-/// visit were added, and the drivers took the calls that these name. The marks of the arena say after
-/// each answer which instances are held, and the reserve of the notes is not smaller.
+/// Visits the root of a runner's tree once, at the time `now` in milliseconds. The answer or the
+/// fault comes with all that the visit has done. Want of memory (out of memory) cuts the visit off:
+/// a prefix of its notes was added, and the drivers took the calls that these notes name. After any
+/// answer the marks of the arena say which instances are held, and the reserve of the notes is not
+/// smaller.
 pub fn tick<D: Drivers>(
     alloc: Global,
     arena: &mut Arena,
@@ -161,16 +165,16 @@ pub fn tick<D: Drivers>(
         Meets arena.old.nodes.items now (memory_of term 1) result (scene arena.old.kept.items board.old facts.old (D.states drivers.old)) (scene arena.new.kept.items board.new facts.new (D.states drivers.new)) notes.old.list notes.new.list
         (visit_in arena.old.nodes.items now term view 1 (scene arena.old.kept.items board.old facts.old (D.states drivers.old))) }
     ensures fits { StaysFit arena.old.nodes.items (scene arena.old.kept.items board.old facts.old (D.states drivers.old)) (scene arena.new.kept.items board.new facts.new (D.states drivers.new)) }
-    // Behind an answer the root can be visited again.
+    // After an answer the root can be visited again.
     ensures again { OnOk result ((term : Term) (view : View) → CanVisit arena.old.nodes.items now term view 1 (scene arena.old.kept.items board.old facts.old (D.states drivers.old)) →
         CanVisit arena.old.nodes.items now term view 1 (scene arena.new.kept.items board.new facts.new (D.states drivers.new))) }
-    // The drivers are called to begin or to go on no more often than the work of the tree says.
+    // The drivers have no more calls of `start` and `running` than the work of the tree counts.
     ensures work { (term : Term) (view : View) → CanVisit arena.old.nodes.items now term view 1 (scene arena.old.kept.items board.old facts.old (D.states drivers.old)) →
         AllByRecursion NodeFits (nodes_of term) → begun_by (D.states drivers.new) ≤ begun_by (D.states drivers.old) + work_of term }
     ensures nodes { arena.new.nodes ≡ arena.old.nodes }
     ensures runner { arena.new.runner ≡ arena.old.runner }
-    // The room for the visits that are under way does not shrink, and where it is as much as the tree is
-    // deep, as `arena_of` makes it, it stays: no visit takes memory for its frame.
+    // The room for the visits that are under way does not shrink. Where it is as much as the tree
+    // is deep, as `arena_of` makes it, it stays: no visit allocates memory for its frame.
     ensures room { arena.old.frames.capacity ≤ arena.new.frames.capacity }
     ensures enough { (term : Term) (view : View) → CanVisit arena.old.nodes.items now term view 1 (scene arena.old.kept.items board.old facts.old (D.states drivers.old)) →
         depth_of term ≤ arena.old.frames.capacity → arena.new.frames.capacity ≡ arena.old.frames.capacity }

@@ -1,4 +1,4 @@
-//! Whether a script may be compiled, tested at run time.
+//! What must hold of a script that is compiled, as tests at run time.
 ghost use Rattle.std.specs.Prelude.{◌≡◌, ◌<◌, ◌≤◌, IsTrue};
 ghost use Rattle.std.specs.List.{All};
 ghost use Rattle.bt_script.specs.Grammar.{height};
@@ -7,7 +7,7 @@ ghost use Rattle.bt_script.specs.Scripts.{IsArithmetic, names_of, texts_of};
 
 use bt_script::{BinOp, Expr, Name, Stmt};
 
-/// Whether the name has a pair.
+/// Whether the name has a slot in this list.
 fn is_listed(slots: &[(Name, u32)], name: &Name) -> bool
     ensures { IsTrue result → IsListed slots.now name.now }
 {
@@ -19,7 +19,7 @@ fn is_listed(slots: &[(Name, u32)], name: &Name) -> bool
     false
 }
 
-/// Whether the expression's names are listed, and it is no higher than this.
+/// Whether the expression's names have slots, and it is no higher than this.
 pub fn expr_fits(e: &Expr, slots: &[(Name, u32)], most: u32) -> bool
     ensures named { IsTrue result → All (IsListed slots.now) (names_of e.now) }
     ensures low { IsTrue result → height e.now ≤ most }
@@ -88,14 +88,14 @@ pub fn script_fits(stmts: &[Stmt], slots: &[(Name, u32)]) -> bool
     stmts.iter().all(|stmt| stmt_fits(stmt, slots))
 }
 
-/// Whether each slot is below the number.
+/// Whether each slot is less than this number.
 pub fn slots_fit(slots: &[(Name, u32)], n: usize) -> bool
     ensures { IsTrue result → All (λ pair. pair.1 < n) slots.now }
 {
     slots.iter().all(|pair| (pair.1 as usize) < n)
 }
 
-/// Whether no text literal stands in the expression.
+/// Whether there is no text literal in the expression.
 pub fn is_textless(e: &Expr) -> bool
     ensures { IsTrue result → texts_of e.now ≡ 0 }
 {

@@ -3,6 +3,6 @@ use Rattle.std.specs.List.{flat_map}
 use Rattle.bt_model.specs.Terms.{leaf_ids}
 use Rattle.bt_arena.proofs.joining.+add_ids.Given as goal
 
--- the IDs so far, followed by those of the children that are left, are all
+-- the IDs so far, followed by those of the children still to come, are all
 abbrev pub invariant-loop-child : goal.invariant-loop-child
 invariant-loop-child l = l.ids.items ++ flat_map (λ ids. ids) (map leaf_ids (drop l.child-index l.child-items)) ≡ l.fn.ids.items ++ leaf_ids l.term

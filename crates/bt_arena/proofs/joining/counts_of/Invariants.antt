@@ -3,7 +3,8 @@ use Rattle.bt_arena.specs.Joins.{first_lack}
 use Rattle.bt_arena.specs.Laying.{counted_all}
 use Rattle.bt_arena.proofs.joining.counts_of.Given as goal
 
--- what is left lacks what all lack, and counted on gives the counts of all
+-- what is missing for the leaves still to come is what is missing for all, and their counts added give the counts of
+-- all
 abbrev pub invariant-loop-id : goal.invariant-loop-id
 invariant-loop-id g l = record {
   lacks : first_lack l.world.rows (g.D.Drivers.states l.drivers) (drop l.id-index l.ids) ≡ first_lack l.world.rows (g.D.Drivers.states l.drivers) l.ids;

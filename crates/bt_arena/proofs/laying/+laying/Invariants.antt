@@ -11,7 +11,7 @@ decreases-lay_term g l = 2 * node_count l.term.now
 abbrev pub decreases-lay_terms : goal.decreases-lay_terms
 decreases-lay_terms g l = 2 * sum (map node_count l.terms.now) + 1
 
--- the terms that are left can be laid, and with them all are
+-- the terms still to come can be added, and with them all are
 abbrev pub invariant-lay_terms-loop-term : goal.invariant-lay_terms-loop-term
 invariant-lay_terms-loop-term g l = record {
   can : CanBeLaid l.setting.tree.now l.setting.world.now (g.D.Drivers.states l.drivers) (drop l.term-index l.terms) (length l.nodes.items) l.scope;

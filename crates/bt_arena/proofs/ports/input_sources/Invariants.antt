@@ -5,7 +5,7 @@ use Rattle.bt_arena.specs.Resolving.{view_in}
 use Rattle.bt_arena.specs.Sources.{IsSourceOf, source_at}
 use Rattle.bt_arena.proofs.ports.input_sources.Given as goal
 
--- what was made, followed by what is left, is all
+-- the sources so far, followed by those still to come, are all
 abbrev pub invariant-loop-name : goal.invariant-loop-name
 invariant-loop-name l = record {
   sources : l.sources.items ++ map (λ (name : List ℕ). source_at (view_in l.setting.tree.now l.setting.world.now l.scope) l.ports name) (drop l.name-index l.names) ≡ map (λ (name : List ℕ). source_at (view_in l.setting.tree.now l.setting.world.now l.scope) l.ports name) l.names;

@@ -6,7 +6,7 @@ use Rattle.bt_arena.specs.Resolving.{view_in}
 use Rattle.bt_arena.specs.Sources.{IsSourceOf, source_at}
 use Rattle.bt_arena.proofs.ports.output_sources.Given as goal
 
--- what was made, followed by what is left, is all
+-- the sources so far, followed by those still to come, are all
 abbrev pub invariant-loop-out : goal.invariant-loop-out
 invariant-loop-out l = record {
   sources : l.sources.items ++ map (λ (out : Out). source_at (view_in l.setting.tree.now l.setting.world.now l.scope) l.ports out.port) (drop l.out-index l.outs) ≡ map (λ (out : Out). source_at (view_in l.setting.tree.now l.setting.world.now l.scope) l.ports out.port) l.outs;

@@ -6,7 +6,7 @@ use Rattle.bt_arena.specs.Resolving.{view_in}
 use Rattle.bt_arena.specs.Sources.{IsSourceOf, source_at}
 use Rattle.bt_arena.proofs.ports.rule_sources.Given as goal
 
--- what was made, followed by what is left, is all
+-- the sources so far, followed by those still to come, are all
 abbrev pub invariant-loop-rule : goal.invariant-loop-rule
 invariant-loop-rule l = record {
   sources : l.sources.items ++ map (λ (port : PortRule). source_at (view_in l.setting.tree.now l.setting.world.now l.scope) l.ports port.name.now) (drop l.rule-index l.rules) ≡ map (λ (port : PortRule). source_at (view_in l.setting.tree.now l.setting.world.now l.scope) l.ports port.name.now) l.rules;

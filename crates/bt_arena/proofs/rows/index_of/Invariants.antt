@@ -4,7 +4,7 @@ use Rattle.indexmap.specs.IndexMap.{get}
 use Rattle.bt_arena.proofs.Indexed.{FindsFrom}
 use Rattle.bt_arena.proofs.rows.index_of.Given as goal
 
--- the rows that are found, and else those that are left, are all
+-- the row that is found for an ID, or else among the rows still to come, is the world's
 abbrev pub invariant-loop-row : goal.invariant-loop-row
 invariant-loop-row l = record {
   place : l.number ≡ l.row-index;

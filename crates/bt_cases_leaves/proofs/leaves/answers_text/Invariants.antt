@@ -4,7 +4,7 @@ use Rattle.bt_driver.specs.Rules.{rule}
 use Rattle.bt_cases_leaves.specs.Stages.{IsAtWork}
 use Rattle.bt_cases_leaves.proofs.leaves.answers_text.Given as goal
 
--- the roster is at work on the row
+-- the row can be tried with the roster
 abbrev pub invariant-loop-call : goal.invariant-loop-call
 invariant-loop-call g l =
     (goal.iterator-loop-call g).can_next l.call-iterator

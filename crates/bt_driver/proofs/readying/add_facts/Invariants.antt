@@ -3,7 +3,7 @@ use Rattle.bt_model.specs.Worlds.{names_of_facts}
 use Rattle.bt_driver.specs.Places.{placed}
 use Rattle.bt_driver.proofs.readying.add_facts.Given as goal
 
--- the names that are left stand at the places from here on
+-- the names still to come have the places from here on
 abbrev pub invariant-loop-fact : goal.invariant-loop-fact
 invariant-loop-fact l = record {
   place : l.place ≡ 8 + l.fact-index;

@@ -2,7 +2,7 @@ use Rattle.std.proofs.Common.{◌≡◌, ◌++◌, drop}
 use Rattle.bt_driver.specs.Places.{placed}
 use Rattle.bt_driver.proofs.readying.add_ports.Given as goal
 
--- the names that are left stand at the places from here on
+-- the names still to come have the places from here on
 abbrev pub invariant-loop-port : goal.invariant-loop-port
 invariant-loop-port l = record {
   place : l.place ≡ l.port-index;

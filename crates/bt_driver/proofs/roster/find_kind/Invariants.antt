@@ -3,7 +3,7 @@ use Rattle.std.specs.Prelude.{option_map}
 use Rattle.bt_model.specs.Drivers.{place_of_kind}
 use Rattle.bt_driver.proofs.roster.find_kind.Given as goal
 
--- the drivers that are left decide
+-- the drivers still to come decide
 abbrev pub invariant-loop-place : goal.invariant-loop-place
 invariant-loop-place g l =
     let state = λ (b : _). (goal.Driver-dyn g (b.vtable, b.value)).state b.value in

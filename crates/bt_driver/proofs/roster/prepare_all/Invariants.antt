@@ -2,7 +2,7 @@ use Rattle.std.proofs.Common.{◌≡◌, map, take}
 use Rattle.bt_model.specs.Drivers.{roster_prepared}
 use Rattle.bt_driver.proofs.roster.prepare_all.Given as goal
 
--- the first drivers are prepared
+-- a prefix of the drivers is prepared
 abbrev pub invariant-loop-place : goal.invariant-loop-place
 invariant-loop-place g l =
     let state = λ (b : _). (goal.Driver-dyn g (b.vtable, b.value)).state b.value in

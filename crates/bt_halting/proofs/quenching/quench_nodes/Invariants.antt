@@ -8,7 +8,7 @@ use Rattle.bt_arena.specs.Scenes.{marks_of}
 use Rattle.bt_halting.proofs.Leaving.{calls_left}
 use Rattle.bt_halting.proofs.quenching.quench_nodes.Given as goal
 
--- what was let go so far, before what is left, is the whole
+-- the leaves halted so far, followed by those still to come, are all
 abbrev pub invariant-loop-uid : goal.invariant-loop-uid
 invariant-loop-uid g l = record {
   rest : (p : ℕ) → p < l.uid → kept_at l.kept p ≡ at_rest;

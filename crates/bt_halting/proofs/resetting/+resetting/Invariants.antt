@@ -21,7 +21,7 @@ decreases-reset_children g l = 4 * (node_at l.nodes.now l.uid).size
 abbrev pub decreases-reset_wanted : goal.decreases-reset_wanted
 decreases-reset_wanted g l = 4 * (node_at l.nodes.now l.uid).size + 3
 
--- what was reset so far, before the resets that are left, is the whole
+-- the resets so far, followed by those still to come, are all
 abbrev pub invariant-reset_children-loop-place : goal.invariant-reset_children-loop-place
 invariant-reset_children-loop-place g l = record {
   fits : (facts : List ℤ) → StaysFit l.nodes (scene l.fn.kept l.fn.board facts (g.D.Drivers.states l.fn.drivers)) (scene l.kept l.board facts (g.D.Drivers.states l.drivers));

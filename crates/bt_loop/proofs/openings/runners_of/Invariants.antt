@@ -4,7 +4,7 @@ use Rattle.bt_arena.specs.Joins.{first_lack}
 use Rattle.bt_loop.specs.Opening.{AreOpening}
 use Rattle.bt_loop.proofs.openings.runners_of.Given as goal
 
--- so many runners are made, and the first of them shows that nothing is lacking
+-- this many runners are made, and the first one shows that nothing is missing
 abbrev pub invariant-loop-before : goal.invariant-loop-before
 invariant-loop-before g l = record {
   many : length l.runners.items ≡ l.before;

@@ -4,7 +4,7 @@ use Rattle.std.proofs.lemmas.List.{get_or_default}
 use Rattle.bt_text.specs.Labels.{AreLabels}
 use Rattle.bt_text.proofs.label.label_of.Goals as goal
 
--- what a label says by its place
+-- the label at a place is that of this number
 found : (labels : List (List ℕ)) (n : ℕ) (label : List ℕ) → AreLabels labels → n < length labels → label ≡ get_or labels n label → label ≡ 32 ∷ decimal n
 found labels n label are within at = at ∙ get_or_default labels n label [] within ∙ are n within
 

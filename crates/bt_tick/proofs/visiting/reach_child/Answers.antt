@@ -55,7 +55,7 @@ went g c root facts start told whole came =
       λ t v u fits. fit t v u ((c.loop-child.invariant.all root facts start told whole came).1 t v u fits),
     )
 
--- .. with fewer turns left
+-- and fewer turns are still to come
 less : (g : Over) (c : In_ok-child g) (b : Next) → c.in_ok-child.field-0 ≡ b → next_work c.args.nodes.now b (refill (length c.loop-child.stack.items) c.loop-child.stack.items (slice_set c.as_mut_slice.result.now (c.len-top.result - 1) c.go_on.new.frame)) < next_work c.args.nodes.now (next.GoOn c.loop-child.heard) c.loop-child.stack.items
 less g c b comes =
     let (root, facts, start, told, whole, came) = c.requires.going in

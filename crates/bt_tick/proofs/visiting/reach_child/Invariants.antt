@@ -10,7 +10,7 @@ use Rattle.bt_tick.specs.declared.machine.Next.TheVariants as next
 use Rattle.bt_tick.specs.Turns.{GoingOn, next_work}
 use Rattle.bt_tick.proofs.visiting.reach_child.Given as goal
 
--- the visit of a root that came to the turn with which this began came to what the node on top of the stack hears
+-- where the visit of a root came to the turn at the beginning, it came to what the node on top of the stack hears now
 abbrev pub invariant-loop-child : goal.invariant-loop-child
 invariant-loop-child g l = record {
   all : (root : Term) (facts : List ℤ) (start : Scene) (told : List Note) (whole : Done Answer Memory) →

@@ -60,7 +60,7 @@ returns-in-None-clause-again g c = λ term view can.
     can_again term_keeps _ _ term view 1 _ _ _ _ c.in-Answers.answer can (λ t1 v1 u fits. (c.in_ok-picked.ensures.goes t v by).stays t1 v1 u (c.loop-picked.invariant.stays t1 v1 u fits))
     (back_answers term_keeps _ _ (ap (turn_after c.loop-picked.uid _) c.in-Answers.is) (c.in-None.ensures.none refl) (enter_made term_keeps _ _ _ _ refl (c.loop-picked.invariant.all term view can).came (λ t v k. c.in_ok-picked.ensures.goes t v k)))
 
--- the node on top of the stack goes on behind the one that was entered
+-- the node on top of the stack goes on after the node that was entered
 hears : (g : Over) (c : Joined-branch-2 g) (term : Term) (view : View) → CanVisit c.args.nodes.now c.args.now term view 1 (scene c.args.kept.now c.args.board.now c.args.facts.now (g.D.Drivers.states c.args.drivers.now)) →
     GoingOn c.args.nodes.now c.args.now term 1 (next.GoOn c.match-branch-2.heard) c.match-branch-2.stack.items (scene c.args.kept.now c.args.board.now c.args.facts.now (g.D.Drivers.states c.args.drivers.now)) (scene c.enter.new.kept c.enter.new.board c.enter.new.facts (g.D.Drivers.states c.enter.new.drivers)) c.args.notes.now.list c.enter.new.notes.list
     (visit_in c.args.nodes.now c.args.now term view 1 (scene c.args.kept.now c.args.board.now c.args.facts.now (g.D.Drivers.states c.args.drivers.now)))
@@ -85,7 +85,7 @@ hears g c term view can = elim c.match-branch-2.branch [
       }
 ]
 
--- .. and its room is as said
+-- and the room of the stack is as the contract says
 room : (g : Over) (c : Joined-branch-2 g) → c.args.stack.now.capacity ≤ c.match-branch-2.stack.capacity
 room g c = elim c.match-branch-2.branch [
   | in-Begins+in_ok-push-in-Begins w ↦ let same : c.match-branch-2.stack.capacity ≡ w.push.new.self.capacity = λ i. (w.stack-is i).capacity in omega (arith, same, w.in_ok-push-in-Begins.ensures.capacity, c.loop-picked.invariant.room)

@@ -8,7 +8,7 @@ use Rattle.bt_tick.specs.declared.machine.Next.TheVariants as next
 use Rattle.bt_tick.specs.Turns.{CanVisit, GoingOn, next_work, visit_in}
 use Rattle.bt_tick.proofs.visiting.visit.Given as goal
 
--- the visit of the root came to the visit of this node and this stack
+-- the visit of the root came to the visit of this node, with this stack
 abbrev pub invariant-loop-picked : goal.invariant-loop-picked
 invariant-loop-picked g l = record {
   all : (term : Term) (view : View) → CanVisit l.nodes l.now term view 1 (scene l.fn.kept l.fn.board l.fn.facts (g.D.Drivers.states l.fn.drivers)) →
