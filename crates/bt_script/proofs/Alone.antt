@@ -49,7 +49,7 @@ found-whole e rest fit r =
     let le : height e ≤ height e = omega arith in
     finds e (height e) 0 rest fit (stops-from_rests rest r) ∙ ap (λ (b : Bool). cond b (Some (e, rest)) None) (le-yes (height e) (height e) le)
 
--- a name before a sign that goes on no expression is found alone
+-- a name is found alone before a sign that takes in no expression
 word-alone : (limit : ℕ) (name : List ℕ) (ts : List Token) → 0 < limit → Stops 0 ts → climb limit 0 (Word name ∷ ts) ≡ Some (roll-Expr (Look name), ts)
 word-alone zero name ts some stop = absurd (omega arith)
 word-alone (suc left) name ts some stop = more-stops (climb left) left left 0 (roll-Expr (Look name)) ts stop
@@ -96,7 +96,7 @@ assigned e f rest more_rest fit_e fit_f r q same = finds-alone e f rest more_res
 sign-parts : (op : BinOp) (e : Expr) → (changes op && fits e 0) ≡ true → fits e 0 ≡ true
 sign-parts op e h = (both (changes op) (fits e 0) h).1
 
--- a statement with its end has these tokens alone
+-- a statement with its end has tokens of its own
 pub stmt-alone : (s t : Stmt) (rest more_rest : List Token) → fits_stmt s ≡ true → fits_stmt t ≡ true → Rests rest → Rests more_rest →
     spelled_stmt s ++ rest ≡ spelled_stmt t ++ more_rest → (s ≡ t) × (rest ≡ more_rest)
 stmt-alone (Create n e) (Create m f) rest more_rest p q r k same =

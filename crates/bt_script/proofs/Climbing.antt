@@ -16,7 +16,7 @@ use Rattle.bt_script.specs.Climb.{Found, then_found, closed, negated, first, Nex
 use Rattle.bt_script.proofs.Bools.{both}
 use Rattle.bt_script.proofs.Trees.{induct, spelled_is, fits_is, height_is}
 
--- what stands in front, as far as it may follow an expression and take it in
+-- the sign in front that may follow an expression and take it in, with its level
 pub data Front : Type 0 where
   Sign : BinOp → Front
   Mark : Front
@@ -38,11 +38,11 @@ ends_before place (Sign op) = level op ≤ place
 ends_before place Mark = 0 < place
 ends_before place Other = Unit {0}
 
--- nothing that goes on an expression at this level stands in front
+-- no sign of this level or a tighter one stands in front
 abbrev pub Stops : ℕ → List Token → Type 0
 Stops place ts = stops_before place (front_of ts)
 
--- what stands in front may go on an expression of this level as a whole
+-- what stands in front may take in an expression of this level as a whole
 abbrev pub Ends_at : ℕ → List Token → Type 0
 Ends_at place ts = ends_before place (front_of ts)
 
@@ -79,7 +79,7 @@ eq-from a b h = grind (arith, nat_tests)
 pub eq-no : (a : ℕ) → 0 < a → (a == 0) ≡ false
 eq-no a h = grind (arith, nat_tests)
 
--- where nothing goes on, nothing is next
+-- where no sign stands in front, nothing is next
 pub next-stops : (place : ℕ) (ts : List Token) → Stops place ts → next_of place ts ≡ Ends
 next-stops place [] h = refl
 next-stops place (Operator op ∷ ts) h = ap (λ (b : Bool). cond b (Infix op ts) Ends) (le-no place (level op) h)

@@ -194,7 +194,7 @@ module _ (X : Type 0) (Is : List Token → X → Type 0) (Bare : Type 0) where
     pub fit : fits test 1 ≡ true
     pub opens : Opens tail
 
-  -- tokens after which an expression stands in what is open
+  -- tokens that an expression may follow, within what is open
   abbrev pub Inside : List Opened → List Token → Type 0
   Inside [] ts = Bare × Base ts
   Inside (Whole ∷ os) ts = Base ts
@@ -225,7 +225,7 @@ module _ (X : Type 0) (Is : List Token → X → Type 0) (Bare : Type 0) where
     opens = opens-append i.tail us i.opens o;
   }
 
-  -- an operand after tokens after which an expression stands
+  -- an operand after tokens that an expression may follow
   past-operand : (os : List Opened) (ts : List Token) (x : Expr) (t : Token) → Inside os ts → Operand x → spelled x ≡ t ∷ [] → Past os (ts ++ t ∷ [])
   past-operand os ts x t i operand is = record { before = ts; last = x; is = ap (λ (vs : List Token). ts ++ vs) (sym is); inner = i; operand = operand }
 

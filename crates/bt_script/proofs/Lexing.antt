@@ -17,7 +17,7 @@ front-step : (p : ℕ → Bool) (b : Bool) (c : ℕ) (cs : List ℕ) → p c ≡
 front-step p true c cs is all = rw (one-add (prefix_len p cs)) (ap (λ (b : Bool). b && list_all p (take (prefix_len p cs) cs)) is ∙ all)
 front-step p false c cs is all = refl
 
--- the bytes of a prefix that passes pass
+-- each byte of the longest prefix that passes does pass
 pub list_all-front : (p : ℕ → Bool) (bs : List ℕ) → list_all p (take (prefix_len p bs) bs) ≡ true
 list_all-front p [] = refl
 list_all-front p (c ∷ cs) = front-step p (p c) c cs refl (list_all-front p cs)

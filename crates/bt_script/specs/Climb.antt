@@ -28,6 +28,7 @@ use Rattle.bt_script.specs.Reading.{bare, high_expr, high_stmt}
 abbrev pub Found : Type 0
 Found = Expr × List Token
 
+-- what is made of an expression that was found
 abbrev pub then_found : Option Found → (Expr → List Token → Option Found) → Option Found
 then_found None next = None
 then_found (Some f) next = next f.0 f.1
@@ -38,6 +39,7 @@ closed e [] = None
 closed e (Close ∷ ts) = Some (roll-Expr (Group e), ts)
 closed e (t ∷ ts) = None
 
+-- the operation of a sign on an expression
 abbrev pub negated : UnOp → Expr → List Token → Option Found
 negated op e ts = Some (roll-Expr (Unary op e), ts)
 
@@ -64,12 +66,14 @@ pub data Next : Type 0 where
   Infix : BinOp → List Token → Next
   Asks : List Token → Next
 
+-- what follows an expression in a place of this level, by the first of these tokens
 abbrev pub next_of : ℕ → List Token → Next
 next_of place [] = Ends
 next_of place (Operator op ∷ ts) = if nat_le place (level op) then Infix op ts else Ends
 next_of place (Question ∷ ts) = if place == 0 then Asks ts else Ends
 next_of place (t ∷ ts) = Ends
 
+-- the choice of which the first two parts were found: a `:` and the last part come first
 abbrev pub last_part : (ℕ → List Token → Option Found) → Expr → Expr → List Token → Option Found
 last_part lower a b [] = None
 last_part lower a b (Colon ∷ ts) = then_found (lower 0 ts) (λ c rest. Some (roll-Expr (Choose a b c), rest))
@@ -83,6 +87,7 @@ go_on again lower left e ts (Infix op rest) =
 go_on again lower left e ts (Asks rest) =
     if nat_le (height e) left then then_found (lower 0 rest) (last_part lower e) else None
 
+-- an expression with what follows it, in at most so many turns
 abbrev pub more : (ℕ → List Token → Option Found) → ℕ → ℕ → ℕ → Expr → List Token → Option Found
 more lower left zero place e ts = go_on (λ f rest. None) lower left e ts (next_of place ts)
 more lower left (suc turns) place e ts = go_on (more lower left turns place) lower left e ts (next_of place ts)
@@ -111,16 +116,19 @@ abbrev pub IsFirst : List Placed → ℕ → Option (Bor Token) → Type 0
 IsFirst ts at None = from_token ts at ≡ []
 IsFirst ts at (Some t) = (from_token ts at ≡ t.now ∷ from_token ts (at + 1)) × (at < length ts)
 
+-- what the code found to follow an expression, with the tokens after it
 abbrev pub follows : List Token → Follow → Next
 follows rest Nothing = Ends
 follows rest (Operation op) = Infix op rest
 follows rest Choosing = Asks rest
 
+-- what follows is a token that is there
 abbrev pub Within : List Placed → ℕ → Follow → Type 0
 Within ts at Nothing = Unit {0}
 Within ts at (Operation op) = at < length ts
 Within ts at Choosing = at < length ts
 
+-- the statement that is made of an expression that was found
 abbrev pub as_stmt : (Expr → Stmt) → Option Found → Option (Stmt × List Token)
 as_stmt make None = None
 as_stmt make (Some f) = Some (make f.0, f.1)
@@ -130,6 +138,7 @@ pub data Beginning : Type 0 where
   Assigned : (Expr → Stmt) → List Token → Beginning
   Evaluated : Beginning
 
+-- how a statement begins with this name, by what follows the name
 abbrev pub assigned_by : List ℕ → List Token → Beginning
 assigned_by name [] = Evaluated
 assigned_by name (Creates ∷ ts) = Assigned (Create name) ts
@@ -137,6 +146,7 @@ assigned_by name (Assigns ∷ ts) = Assigned (Assign name) ts
 assigned_by name (Changes op ∷ ts) = Assigned (Change op name) ts
 assigned_by name (t ∷ ts) = Evaluated
 
+-- how the statement that begins with these tokens does
 abbrev pub beginning : List Token → Beginning
 beginning [] = Evaluated
 beginning (Word name ∷ ts) = assigned_by name ts
@@ -146,6 +156,7 @@ beginning (t ∷ ts) = Evaluated
 unfoldable pub whole_expr : List Token → Option Found
 whole_expr ts = climb 64 0 ts
 
+-- the statement that begins so
 abbrev pub begun : List Token → Beginning → Option (Stmt × List Token)
 begun ts (Assigned make rest) = as_stmt make (whole_expr rest)
 begun ts Evaluated = as_stmt Plain (whole_expr ts)
@@ -159,6 +170,7 @@ abbrev pub seen_stmt : List Placed → Option (Stmt × ℕ) → Option (Stmt × 
 seen_stmt ts None = None
 seen_stmt ts (Some b) = Some (b.0, from_token ts b.1)
 
+-- a statement that was built ends within the tokens
 abbrev pub ends_within : List Placed → Option (Stmt × ℕ) → Type 0
 ends_within ts None = Unit {0}
 ends_within ts (Some b) = b.1 ≤ length ts

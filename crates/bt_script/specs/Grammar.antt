@@ -15,6 +15,7 @@ use Rattle.bt_script.specs.declared.syntax.Stmt.TheVariants.{Create, Assign, Cha
 use Rattle.bt_script.specs.declared.token.Token.{Token}
 use Rattle.bt_script.specs.declared.token.Token.TheVariants.{Number, Text, Word, Operator, Bang, Tilde, Question, Colon, Open, Close, Semicolon, Creates, Assigns, Changes}
 
+-- the levels of the comparisons
 abbrev pub comparison_level : Cmp → ℕ
 comparison_level Equal = 6
 comparison_level Differ = 6
@@ -43,6 +44,7 @@ unary_sign Neg = Operator Sub
 unary_sign Not = Bang
 unary_sign Flip = Tilde
 
+-- the tokens of an expression, where those of its parts are known
 abbrev pub spelled_step : Expr-F (List Token) → List Token
 spelled_step (Num n) = Number n ∷ []
 spelled_step (Lit t) = Text t ∷ []
@@ -71,6 +73,7 @@ fits_step (Choose a b c) place = place == 0 && (a 1 && (b 0 && c 0))
 abbrev pub fits : Expr → ℕ → Bool
 fits = fold-Expr (ℕ → Bool) fits_step
 
+-- the height of an expression, where that of its parts is known
 abbrev pub height_step : Expr-F ℕ → ℕ
 height_step (Num n) = 1
 height_step (Lit t) = 1
@@ -111,6 +114,7 @@ spelled_stmt (Assign name e) = Word name ∷ Assigns ∷ spelled e
 spelled_stmt (Change op name e) = Word name ∷ Changes op ∷ spelled e
 spelled_stmt (Plain e) = spelled e
 
+-- whether a statement's operator may stand before `=`
 abbrev pub sign_fits : Stmt → Bool
 sign_fits (Create name e) = true
 sign_fits (Assign name e) = true

@@ -96,6 +96,7 @@ Faulty Is high text (TooNested place) = (length text ≤ 4096) × Nested Is high
 abbrev pub ReadsExpr : List ℕ → Expr → Type 0
 ReadsExpr text e = Reads IsExpr high_expr text e
 
+-- the text has this fault as an expression
 abbrev pub ExprFault : List ℕ → ScriptFault → Type 0
 ExprFault text fault = Faulty IsExpr high_expr text fault
 
@@ -103,6 +104,7 @@ ExprFault text fault = Faulty IsExpr high_expr text fault
 abbrev pub ReadsScript : List ℕ → Script → Type 0
 ReadsScript text s = (s.text ≡ text) × ((slots : List (Option Stmt)) × Reads IsStmts high_stmt text slots × (s.stmts ≡ kept slots))
 
+-- the text has this fault as a script
 abbrev pub StmtsFault : List ℕ → ScriptFault → Type 0
 StmtsFault text fault = Faulty IsStmts high_stmt text fault
 

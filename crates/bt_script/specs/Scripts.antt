@@ -7,6 +7,7 @@ use Rattle.bt_script.specs.declared.syntax.Stmt.{Stmt}
 use Rattle.bt_script.specs.declared.syntax.Stmt.TheVariants.{Create, Assign, Change, Plain}
 use Rattle.bt_script.specs.Grammar.{changes, sign_fits}
 
+-- the names in an expression, where those in its parts are known
 abbrev pub names_step : Expr-F (List (List ℕ)) → List (List ℕ)
 names_step (Num n) = []
 names_step (Lit t) = []
@@ -27,6 +28,7 @@ stmt_names (Assign name e) = name ∷ names_of e
 stmt_names (Change op name e) = name ∷ names_of e
 stmt_names (Plain e) = names_of e
 
+-- how many text literals stand in an expression, where it is known of its parts
 abbrev pub texts_step : Expr-F ℕ → ℕ
 texts_step (Num n) = 0
 texts_step (Lit t) = 1

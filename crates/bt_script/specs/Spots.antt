@@ -26,6 +26,7 @@ abbrev pub spot_of : Option Stage → List Opened → Option Spot
 spot_of None opened = None
 spot_of (Some stage) opened = Some (stage, reverse opened)
 
+-- of the operators only `-` stands where an operand may
 abbrev pub after_minus : BinOp → Option Spot → Option Spot
 after_minus Sub s = s
 after_minus op s = None
@@ -48,6 +49,7 @@ closing_step Paren stage (Paren ∷ opened) = Some (stage, opened)
 closing_step Whole stage (Whole ∷ opened) = Some (stage, opened)
 closing_step wanted stage opened = None
 
+-- a semicolon after an operand
 abbrev pub semicolon_step : List Opened → Option Spot
 semicolon_step [] = Some (Start, [])
 semicolon_step opened = None
@@ -66,6 +68,7 @@ abbrev pub start_step : Stage → List Opened → Token → Option Spot
 start_step stage opened Semicolon = Some (stage, opened)
 start_step stage opened t = operand_step Named opened t
 
+-- the sign of a change, by whether its operator may stand before `=`
 abbrev pub change_step : Bool → List Opened → Option Spot
 change_step true opened = Some (Before, opened)
 change_step false opened = None
@@ -77,6 +80,7 @@ named_step opened Assigns = Some (Before, opened)
 named_step opened (Changes op) = change_step (changes op) opened
 named_step opened t = behind_step opened t
 
+-- a token in any stage
 abbrev pub stage_step : Stage → List Opened → Token → Option Spot
 stage_step Blank opened t = start_step Blank opened t
 stage_step Start opened t = start_step Start opened t
@@ -84,9 +88,11 @@ stage_step Named opened t = named_step opened t
 stage_step Before opened t = operand_step Behind opened t
 stage_step Behind opened t = behind_step opened t
 
+-- a token at a spot
 abbrev pub step : Spot → Token → Option Spot
 step s t = stage_step s.0 s.1 t
 
+-- one step and then the next
 abbrev pub then_spot : Option Spot → (Spot → Option Spot) → Option Spot
 then_spot None next = None
 then_spot (Some s) next = next s
@@ -96,10 +102,12 @@ abbrev pub run : List Token → Spot → Option Spot
 run [] s = Some s
 run (t ∷ ts) s = then_spot (step s t) (run ts)
 
+-- whether nothing is open
 abbrev pub nothing_open : List Opened → Bool
 nothing_open [] = true
 nothing_open opened = false
 
+-- whether nothing is open but the whole text
 abbrev pub only_whole : List Opened → Bool
 only_whole [] = true
 only_whole (Whole ∷ []) = true
@@ -113,6 +121,7 @@ ends_at Named opened = nothing_open opened
 ends_at Before opened = false
 ends_at Behind opened = only_whole opened
 
+-- whether a text may end at a spot
 abbrev pub may_end : Spot → Bool
 may_end s = ends_at s.0 s.1
 
@@ -132,6 +141,7 @@ pub record Leads (start : Spot) (ts : List Placed) (end : Bool) : Type 0 where
   pub led : run (bare ts) start ≡ Some spot
   pub ends : may_end spot ≡ end
 
+-- what the verdict says of some tokens, from this spot on
 abbrev pub Checked : Spot → List Placed → Verdict → Type 0
 Checked start ts verdict.Whole = Leads start ts true
 Checked start ts verdict.Unfinished = Leads start ts false

@@ -118,6 +118,7 @@ one_sign c =
     else (if c == 59 then Some Semicolon
     else None))))))))))))))))
 
+-- a sign of one byte, or a fault
 abbrev pub single : ℕ → Option Token → Result (Token × ℕ) ScriptFault
 single place None = Err (Syntax place)
 single place (Some t) = Ok (t, 1)

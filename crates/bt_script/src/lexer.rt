@@ -73,7 +73,7 @@ fn number(digits: &[u8], base: u64) -> Option<i64>
     Some(n as i64)
 }
 
-/// The sign that these two bytes are.
+/// The sign that these two bytes are, if they are one.
 fn two_bytes(c: u8, d: u8) -> Option<Token>
     ensures { result ≡ two_sign c d }
 {
@@ -93,7 +93,7 @@ fn two_bytes(c: u8, d: u8) -> Option<Token>
     }
 }
 
-/// The sign that this byte is.
+/// The sign that this byte is, if it is one.
 fn one_byte(c: u8) -> Option<Token>
     ensures { result ≡ one_sign c }
 {
