@@ -1,7 +1,7 @@
 -- The nodes of a term while they are added to an arena.
 use Rattle.std.specs.Prelude.{◌≡◌, ℕ, List, [], ◌∷◌, ◌++◌, length, map, sum, true, Option, Some, None, slice_index_or}
 use Rattle.std.specs.List.{All, AllByRecursion, flat_map}
-use Rattle.bt_model.specs.declared.term.Term.{Term, Term-F}
+use Rattle.bt_model.specs.declared.term.Term.{Term}
 use Rattle.bt_model.specs.declared.term.Tree.{Tree}
 use Rattle.bt_model.specs.declared.world.World.{World}
 use Rattle.bt_model.specs.Boards.{Standing, keys_named, makes_scope, scope_below, scope_of, standing_all, standing_from}
@@ -16,7 +16,7 @@ use Rattle.bt_arena.specs.declared.nodes.Node.{Node}
 use Rattle.bt_arena.specs.declared.nodes.ReadyLeaf.{ReadyLeaf}
 use Rattle.bt_arena.specs.Joins.{first_lack, place_by}
 use Rattle.bt_arena.specs.Nodes.{AreCompiled, IsCompiled, LeafStands}
-use Rattle.bt_arena.specs.Resolving.{AreNamed, GuardsAreNamed, names_if_there, port_keys, view_in}
+use Rattle.bt_arena.specs.Resolving.{AreNamed, view_in}
 use Rattle.bt_arena.specs.Rows.{counted_at}
 use Rattle.bt_arena.specs.Sources.{IsSourceOf, source_at}
 use Rattle.bt_arena.specs.Stands.{StandAll}
@@ -29,12 +29,6 @@ pub record StandsIn (tree : Tree) (node : Standing) : Type 0 where
   pub scope : scope_of tree node.number ≡ node.scope
   pub made : makes_scope node.kind ≡ true → scope_of tree node.uid ≡ scope_below node.uid node.ports node.autoremap node.scope
   pub named : AreNamed tree node.number (keys_named node)
-
--- a tree has a slot for each name in a node, in the scope of a number
-pub record NodeIsNamed {X : Type 0} (tree : Tree) (number : ℕ) (node : Term-F X) : Type 0 where
-  pub code : AreNamed tree number (names_if_there node.code)
-  pub guards : GuardsAreNamed tree number node.guards
-  pub ports : AreNamed tree number (port_keys node.ports)
 
 -- some terms of a tree, from this uid on, in the scope of a number: each node stands in the tree, is a valid one, and
 -- nothing is missing for it

@@ -9,6 +9,7 @@ use Rattle.bt_model.specs.declared.term.Term.{Term, Term-F, roll-Term}
 use Rattle.bt_model.specs.declared.term.Tree.{Tree}
 use Rattle.bt_model.specs.Boards.{slots}
 use Rattle.bt_model.specs.BuiltIns.{takes}
+use Rattle.bt_model.specs.Limits.{most_nodes, most_depth, most_scopes, most_keys, most_work}
 use Rattle.bt_model.specs.Names.{is_among}
 use Rattle.bt_model.specs.Terms.{work_of}
 use Rattle.bt_manifest.specs.Attributes.{Attributes, value_of}
@@ -96,7 +97,7 @@ abbrev pub opened_by : File → Reader → Head → Element → List (List ℕ) 
 opened_by file below head e opened numbers None = Err (NoTree head.id)
 opened_by file below head e opened numbers (Some tree) =
     refused_if (is_among head.id opened) (Recursive head.id)
-    (refused_if (nat_le 256 numbers.scopes) TooManyScopes
+    (refused_if (nat_le most_scopes numbers.scopes) TooManyScopes
     (refused_if (not (nat_eq (length (children_of e)) 0 && nat_eq (length (children_of tree)) 1)) (ChildCount (numbers.nodes + 1))
     (node_of file.models below head (attributes_of e) (opened ++ head.id ∷ []) (children_of tree) (one_scope_more (one_node_more numbers)) (numbers.nodes + 1))))
 
@@ -124,9 +125,9 @@ known file below e opened numbers (Some head) = node_by file below head e opened
 
 -- A node, where so many levels are left. The nodes of a tree are numbered from 1 as they are reached.
 abbrev pub read_node : File → ℕ → Reader
-read_node file zero e opened numbers = refused_if (nat_le 4096 numbers.nodes) TooManyNodes (Err (TooDeep (numbers.nodes + 1)))
+read_node file zero e opened numbers = refused_if (nat_le most_nodes numbers.nodes) TooManyNodes (Err (TooDeep (numbers.nodes + 1)))
 read_node file (suc left) e opened numbers =
-    refused_if (nat_le 4096 numbers.nodes) TooManyNodes
+    refused_if (nat_le most_nodes numbers.nodes) TooManyNodes
     (known file (read_node file left) e opened numbers (head_of file.version (name_of e) (attributes_of e) (length (children_of e))))
 
 -- ---- The file
@@ -181,7 +182,7 @@ no_numbers = record { nodes = 0; scopes = 1 }
 
 -- the levels that are left for a root node
 unfoldable pub most_levels : ℕ
-most_levels = 256
+most_levels = most_depth
 
 -- the term of a root node, the tree of which has this ID
 abbrev pub read_root : File → Element → List ℕ → Result (Term × Numbers) BuildFault
@@ -190,8 +191,8 @@ read_root file root id = read_node file most_levels root (id ∷ []) no_numbers
 -- the tree, where its slots and then its work are within their limits
 abbrev pub within_limits : Tree → Result Tree BuildFault
 within_limits tree =
-    refused_if (not (nat_le (length (slots tree)) 4096)) TooManyKeys
-    (refused_if (not (nat_le (work_of tree.term) 100000)) TooMuchWork (Ok tree))
+    refused_if (not (nat_le (length (slots tree)) most_keys)) TooManyKeys
+    (refused_if (not (nat_le (work_of tree.term) most_work)) TooMuchWork (Ok tree))
 
 -- the tree of this ID and root node
 abbrev pub root_read : File → List ℕ → Element → Result Tree BuildFault
