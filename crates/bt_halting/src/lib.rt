@@ -8,5 +8,4 @@ mod quenching;
 mod resetting;
 
 pub use calls::{halt, quench, reset};
-pub use quenching::quench_nodes;
-pub use resetting::{halt_node, reset_children, reset_node};
+pub use resetting::{halt_node, reset_children};

@@ -9,8 +9,7 @@ mod ports;
 mod scripts;
 mod sources;
 
-pub use alone::{lone_rule, visit_alone};
+pub use alone::visit_alone;
 pub use ending::{end_visit, note_change};
-pub use leaves::leaf_call;
 pub use ports::{picked, start_memo};
-pub use scripts::{goes_on, guards_answer, posts, run_script, script_holds, script_if_there};
+pub use scripts::{goes_on, guards_answer, script_if_there};
