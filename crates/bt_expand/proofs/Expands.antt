@@ -17,7 +17,7 @@ use Rattle.bt_expand.specs.declared.node.Part.{Part}
 use Rattle.bt_expand.specs.declared.node.Part.TheVariants.{Goals, Sequence, Fallback, Condition, Action}
 use Rattle.bt_expand.specs.declared.plan_tree.PlanTree.{PlanTree}
 use Rattle.bt_expand.specs.declared.rule.Rule.{Rule}
-use Rattle.bt_expand.specs.Expanded.{Chooses, Expands, GrowsBehind}
+use Rattle.bt_expand.specs.Expanded.{Chooses, Expands, GrowsAt}
 use Rattle.bt_expand.specs.Expansion.{NewKeys, expanded, expanded_below, goal_tree, grown, leaves, new_sequence, tried}
 use Rattle.bt_expand.specs.Forests.{Forest, Empty, Tree, Ancestor, changed_below, is_fallback, part_at, size, subtrees, height}
 use Rattle.bt_expand.specs.Growth.{Adds, AddsLast, Wraps, branch_tree, parts_of, rule_needs}
@@ -82,7 +82,7 @@ needs_known world valid row = elim (slice_get_cases world.rows row).1 [
 ]
 
 module _ (test : Template → Bool) where
-  -- the templates behind the first row of some
+  -- the templates after the first row of some
   abbrev after_row : ℕ → Row → List Row → Bool → List Template
   after_row n row rows b = if b then record { row = n } ∷ templates_from (suc n) rows else templates_from (suc n) rows
 
@@ -211,7 +211,7 @@ module _ (world : World) (t : PlanTree) (tree : Forest) (st : StandsFor t world 
     branch_all : length keys ≡ length (needs_of world.rows row) + 1
     branch_all = counted ∙ parts_count
 
-  by_kind : (b : Bool) → is_fallback at.a.part ≡ b → GrowsBehind b t.nodes new at.a.key key added (Sequence row) real_parts → Expands (record t { nodes = new }) world tree key added
+  by_kind : (b : Bool) → is_fallback at.a.part ≡ b → GrowsAt b t.nodes new at.a.key key added (Sequence row) real_parts → Expands (record t { nodes = new }) world tree key added
   by_kind true kind g =
       let grew = regrown_last world t tree st key (Condition is.0) at 0 added (Sequence row) real_parts new kind g (omega (arith, branch_few g.keys g.counted)) (branch_one g.keys g.counted) (branch_low g.keys g.counted)
       (branch_fits g.keys g.counted) in
@@ -256,14 +256,14 @@ module _ (world : World) (t : PlanTree) (tree : Forest) (st : StandsFor t world 
         kept = λ old x there. ap (λ (f : Forest). part_at old f) is_changed ∙ regrown_parts world t tree st new at.a.key change more grew old x there;
       }
 
-  pub expands : ((node : Node) → get t.nodes choice.parent ≡ Some node → GrowsBehind (is_fallback node.part) t.nodes new choice.parent key added (Sequence choice.row) row_parts) →
+  pub expands : ((node : Node) → get t.nodes choice.parent ≡ Some node → GrowsAt (is_fallback node.part) t.nodes new choice.parent key added (Sequence choice.row) row_parts) →
       Expands (record t { nodes = new }) world tree key added
   expands grows =
       let node = at.keeps_a.node in
       let first = grows node (ap (λ (k : ℕ). get t.nodes k) parent_at ∙ at.keeps_a.there) in
-      let second = subst (λ (k : ℕ). GrowsBehind (is_fallback node.part) t.nodes new k key added (Sequence row) row_parts) parent_at first in
-      let third = subst (λ (x : Part). GrowsBehind (is_fallback x) t.nodes new at.a.key key added (Sequence row) row_parts) at.keeps_a.part_is second in
-      by_kind (is_fallback at.a.part) refl (subst (λ (ps : List Part). GrowsBehind (is_fallback at.a.part) t.nodes new at.a.key key added (Sequence row) ps) parts_now third)
+      let second = subst (λ (k : ℕ). GrowsAt (is_fallback node.part) t.nodes new k key added (Sequence row) row_parts) parent_at first in
+      let third = subst (λ (x : Part). GrowsAt (is_fallback x) t.nodes new at.a.key key added (Sequence row) row_parts) at.keeps_a.part_is second in
+      by_kind (is_fallback at.a.part) refl (subst (λ (ps : List Part). GrowsAt (is_fallback at.a.part) t.nodes new at.a.key key added (Sequence row) ps) parts_now third)
 
 -- room alone changes nothing
 pub room_stands : (world : World) (t : PlanTree) (tree : Forest) (room : ℕ) → StandsFor t world tree → StandsFor (record t { nodes = record t.nodes { capacity = room } }) world tree

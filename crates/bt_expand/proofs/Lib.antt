@@ -4,7 +4,9 @@ pub mod Expansions
 pub mod NewNodes
 pub mod Places
 pub mod Regrown
+pub mod RowTexts
 pub mod Searched
 pub mod Split
 pub mod Standing
+pub mod Valid
 pub mod Walked

@@ -43,7 +43,7 @@ place_counts k f place found = elim (zero_or (times k f)) [
 -- ---- One level up
 
 module _ (s : Slab Node) where
-  -- the key stands at the top, behind these trees
+  -- the key stands at the top, after these trees
   pub record AtTop (parent : Option ℕ) (keys : List ℕ) (k : ℕ) (before : Forest) : Type 0 where
     pub part : Part
     pub children : List ℕ
@@ -90,7 +90,7 @@ module _ (s : Slab Node) where
             ∙ ap (λ (o : Option Place). option_or (option_map (below_first key part) o) (option_map (after_first key part below) (place_of a.key rest))) under.place;
       }
 
-  -- and in trees that stand behind a first one
+  -- and in trees that stand after a first one
   climbs_after : (parent : Option ℕ) (key : ℕ) (part : Part) (below rest : Forest) (children keys others : List ℕ) → keys ≡ key ∷ others → Keeps s parent key part children → Stands s (Some key) children below →
       ((n : ℕ) → times n (Tree key part below rest) ≤ 1) → (k : ℕ) (before : Forest) (above : List Ancestor) → Climbs parent others rest k before above →
       Climbs parent keys (Tree key part below rest) k (Tree key part below before) above

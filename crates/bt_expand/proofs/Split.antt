@@ -9,7 +9,7 @@ use Rattle.bt_expand.specs.Forests.{Forest, Empty, Tree, height, joined, keys_of
 use Rattle.bt_expand.specs.Stands.{Keeps, Stands}
 use Rattle.bt_expand.proofs.Counted.{height-joined, one_of, one_same, total-joined}
 
--- the trees before a key, the tree of the key, and those behind it
+-- the trees before a key, the tree of the key, and those after it
 pub record Split (s : Slab Node) (parent : Option ℕ) (before : List ℕ) (key : ℕ) (after : List ℕ) (f : Forest) : Type 0 where
   pub left : Forest
   pub part : Part

@@ -63,8 +63,8 @@ module _ (s : Slab Node) (keys : List ℕ) (i : ℕ) (within : i < length keys) 
       all : Split s parent (take i keys) (get_or keys i 0) (drop (suc i) keys) f
       all = split_all s parent keys i f within stands
 
-      behind_left : number ≡ left + size all.left
-      behind_left = let high = split_height s parent (take i keys) (get_or keys i 0) (drop (suc i) keys) f all in before parent all.left all.stands_left (omega (arith, low, high))
+      past_left : number ≡ left + size all.left
+      past_left = let high = split_height s parent (take i keys) (get_or keys i 0) (drop (suc i) keys) f all in before parent all.left all.stands_left (omega (arith, low, high))
 
       keys_are : keys_of f ≡ keys_of all.left ++ (get_or keys i 0 ∷ (keys_of all.below ++ keys_of all.right))
       keys_are = ap keys_of all.is ∙ keys-joined all.left (Tree (get_or keys i 0) all.part all.below all.right)
@@ -72,9 +72,9 @@ module _ (s : Slab Node) (keys : List ℕ) (i : ℕ) (within : i < length keys) 
       at_left : (j key : ℕ) → j ≡ left → slice_get (get_or keys i 0 ∷ (keys_of all.below ++ keys_of all.right)) j ≡ Some key → slice_get (keys_of f) number ≡ Some key
       at_left j key is found =
           let many = length-keys all.left in
-          let behind = behind_left in
+          let past = past_left in
           ap (λ (l : List ℕ). slice_get l number) keys_are
-          ∙ get-append_right (keys_of all.left) (get_or keys i 0 ∷ (keys_of all.below ++ keys_of all.right)) number j key (omega (arith, many, behind, is)) found
+          ∙ get-append_right (keys_of all.left) (get_or keys i 0 ∷ (keys_of all.below ++ keys_of all.right)) number j key (omega (arith, many, past, is)) found
 
       -- the key itself has the number
       pub found_here : left ≡ 0 → slice_get (keys_of f) number ≡ Some (get_or keys i 0)
@@ -89,15 +89,15 @@ module _ (s : Slab Node) (keys : List ℕ) (i : ℕ) (within : i < length keys) 
           let below = lower (Some (get_or keys i 0)) all.below (below_node s keys i within node there parent (take i keys) (drop (suc i) keys) f all) (omega (arith, low, high, some)) in
           at_left (suc (left - 1)) found (omega (arith, some_left)) (get-append_left (keys_of all.below) (keys_of all.right) (left - 1) found below)
 
-    -- behind one more tree
-    pub behind_next : (node : Node) → get s (get_or keys i 0) ≡ Some node → (rest : ℕ) → left ≢ 0 →
+    -- past one more tree
+    pub past_next : (node : Node) → get s (get_or keys i 0) ≡ Some node → (rest : ℕ) → left ≢ 0 →
         ((above : Option ℕ) (g : Forest) → Stands s above node.children.items g → height g ≤ levels - 1 → left - 1 ≡ rest + size g) →
         (parent : Option ℕ) (f : Forest) → Stands s parent (take (i + 1) keys) f → height f ≤ levels → number ≡ rest + size f
-    behind_next node there rest some_left lower parent f stands low =
+    past_next node there rest some_left lower parent f stands low =
         let split = split_last s parent keys i f within stands in
         let high = split_height s parent (take i keys) (get_or keys i 0) [] f split in
         let wide = split_size s parent (take i keys) (get_or keys i 0) [] f split in
         let none : size split.right ≡ 0 = ap size (stands_none s parent split.right split.stands_right) in
-        let behind = before parent split.left split.stands_left (omega (arith, low, high)) in
+        let past = before parent split.left split.stands_left (omega (arith, low, high)) in
         let below = lower (Some (get_or keys i 0)) split.below (below_node s keys i within node there parent (take i keys) [] f split) (omega (arith, low, high, some)) in
-        omega (arith, wide, none, behind, below, some_left)
+        omega (arith, wide, none, past, below, some_left)

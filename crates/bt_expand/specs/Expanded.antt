@@ -32,10 +32,10 @@ abbrev pub is_open : PlanTree → ℕ → List ℕ → Template → Bool
 is_open t condition tried template =
     rule_achieves t.rules condition template.row && not (list_any (names_sequence t.nodes template.row) tried)
 
--- how the slab grows behind a condition that stands in a fallback, or elsewhere
-abbrev pub GrowsBehind : Bool → Slab Node → Slab Node → ℕ → ℕ → ℕ → Part → List Part → Type 0
-GrowsBehind true old new parent condition key part parts = AddsLast old new parent key part parts
-GrowsBehind false old new parent condition key part parts = Wraps old new parent condition key part parts
+-- how the slab grows at a condition that stands in a fallback, or elsewhere
+abbrev pub GrowsAt : Bool → Slab Node → Slab Node → ℕ → ℕ → ℕ → Part → List Part → Type 0
+GrowsAt true old new parent condition key part parts = AddsLast old new parent key part parts
+GrowsAt false old new parent condition key part parts = Wraps old new parent condition key part parts
 
 -- the row is that of the first untried template, and the parent is the node above the condition
 pub record Chooses (t : PlanTree) (world : World) (tree : Forest) (key : ℕ) (choice : Choice) : Type 0 where

@@ -26,12 +26,12 @@ sequence_rows Empty = []
 sequence_rows (Tree key (Sequence row) below rest) = row ∷ sequence_rows rest
 sequence_rows (Tree key part below rest) = sequence_rows rest
 
--- behind a condition stand the sequences of the fallback whose child it is, if it is one's
+-- for a condition were added the sequences of the fallback whose child it is, if it is one's
 abbrev pub tried_below : List Ancestor → Forest → List ℕ
 tried_below [] tree = []
 tried_below (parent ∷ outer) tree = if is_fallback parent.part then sequence_rows (below_at parent.key tree) else []
 
--- the rows of the actions that were added behind the condition of this key
+-- the rows of the actions that were added for the condition of this key
 abbrev pub tried : ℕ → Forest → List ℕ
 tried k tree = tried_below (ancestors k tree) tree
 
@@ -46,7 +46,7 @@ untried_of rows None tried = []
 untried_of rows (Some condition) tried =
     filter (λ (t : Template). row_achieves rows condition t.row && not (list_any (λ row. row == t.row) tried)) (templates_of rows)
 
--- the untried templates of the condition of this key: those that achieve it and were not added behind it
+-- the untried templates of the condition of this key: those that achieve it and were not added for it
 abbrev pub untried : List Row → ℕ → Forest → List Template
 untried rows k tree = untried_of rows (condition_row (part_at k tree)) (tried k tree)
 

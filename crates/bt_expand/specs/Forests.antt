@@ -93,7 +93,7 @@ pub record Place : Type 0 where
 abbrev pub below_first : ℕ → Part → Place → Place
 below_first key part place = record { before = Empty; above = place.above ++ record { key = key; part = part; before = place.before } ∷ [] }
 
--- a place among the others, behind the first tree
+-- a place among the others, after the first tree
 abbrev pub after_first : ℕ → Part → Forest → Place → Place
 after_first key part below place = record { before = Tree key part below place.before; above = place.above }
 

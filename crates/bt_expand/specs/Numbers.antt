@@ -16,7 +16,7 @@ row_in _ = None
 abbrev pub IsRowAt : Forest → ℕ → ℕ → Type 0
 IsRowAt tree key row = option_and_then row_in (part_at key tree) ≡ Some row
 
--- the key of the node with this number, from 0 on, or what is left of the number behind all nodes
+-- the key of the node with this number, from 0 on, or what is left of the number after all nodes
 abbrev pub Numbered : Forest → ℕ → Result ℕ ℕ → Type 0
 Numbered f number (Ok key) = slice_get (keys_of f) number ≡ Some key
 Numbered f number (Err left) = number ≡ left + size f

@@ -10,7 +10,7 @@ ghost use Rattle.bt_expand.specs.declared.expanding.ExpandFault.TheVariants.{NoU
 ghost use Rattle.bt_expand.specs.declared.node.Node.{Node};
 ghost use Rattle.bt_expand.specs.declared.node.Part.TheVariants.{Sequence};
 ghost use Rattle.bt_expand.specs.Expansion.{untried};
-ghost use Rattle.bt_expand.specs.Expanded.{Chooses, Expands, GrowsBehind, is_open};
+ghost use Rattle.bt_expand.specs.Expanded.{Chooses, Expands, GrowsAt, is_open};
 ghost use Rattle.bt_expand.specs.Forests.{Forest, is_fallback};
 ghost use Rattle.bt_expand.specs.Growth.{fallback_children, names_sequence, parts_of, rule_achieves, rule_effects, rule_needs, site_of};
 ghost use Rattle.bt_expand.specs.Stands.{IsConditionOf, StandsFor};
@@ -32,7 +32,7 @@ pub(crate) struct Site {
     pub parent: usize,
 }
 
-/// What is added behind a condition: the row of an action, and the key of the node above the condition.
+/// What is added for a condition: the row of an action, and the key of the node above the condition.
 #[derive(Clone, Copy)]
 pub(crate) struct Choice {
     pub row: u32,
@@ -42,7 +42,7 @@ pub(crate) struct Choice {
 /// Why a condition is not expanded.
 #[derive(Clone, Copy, Debug, PartialEq, Eq)]
 pub enum ExpandFault {
-    /// Every template that achieves the condition was added behind it.
+    /// Every template that achieves the condition was added for it.
     NoUntried,
 }
 
@@ -172,8 +172,9 @@ fn choose(t: &PlanTree, key: usize) -> Option<Choice>
     })
 }
 
-/// A new sequence joins the condition of this key. Refused, only the slab's room has changed.
-fn add_behind(
+/// A new sequence joins the condition of this key. Refused for want of memory (out of memory), only
+/// the slab's room has changed.
+fn grow_at(
     alloc: Global,
     nodes: &mut Slab<Node>,
     parent: usize,
@@ -181,7 +182,7 @@ fn add_behind(
     branch: &Branch<'_>,
 ) -> Result<usize, NoMemory>
     ensures added { IfOk result (λ added. (node : Node) → get nodes.old parent ≡ Some node →
-        GrowsBehind (is_fallback node.part) nodes.old nodes.new parent key added branch.now.part (parts_of branch.now.conditions.now branch.now.action)) }
+        GrowsAt (is_fallback node.part) nodes.old nodes.new parent key added branch.now.part (parts_of branch.now.conditions.now branch.now.action)) }
     ensures kept { OnErr result (nodes.new ≡ record nodes.old { capacity = nodes.new.capacity }) }
 {
     if is_fallback(nodes, parent) {
@@ -191,8 +192,8 @@ fn add_behind(
     }
 }
 
-/// The sequence of an action joins the condition of this key. Refused, only the slab's room has
-/// changed.
+/// The sequence of an action joins the condition of this key. Refused for want of memory,
+/// only the slab's room has changed.
 fn add_sequence(
     alloc: Global,
     nodes: &mut Slab<Node>,
@@ -201,7 +202,7 @@ fn add_sequence(
     choice: Choice,
 ) -> Result<usize, NoMemory>
     ensures added { IfOk result (λ added. (node : Node) → get nodes.old choice.parent ≡ Some node →
-        GrowsBehind (is_fallback node.part) nodes.old nodes.new choice.parent key added (Sequence choice.row) (parts_of (rule_needs rules.now choice.row) (Some choice.row))) }
+        GrowsAt (is_fallback node.part) nodes.old nodes.new choice.parent key added (Sequence choice.row) (parts_of (rule_needs rules.now choice.row) (Some choice.row))) }
     ensures kept { OnErr result (nodes.new ≡ record nodes.old { capacity = nodes.new.capacity }) }
 {
     let branch = Branch {
@@ -209,12 +210,12 @@ fn add_sequence(
         conditions: needs_of(rules, choice.row),
         action: Some(choice.row),
     };
-    add_behind(alloc, nodes, choice.parent, key, &branch)
+    grow_at(alloc, nodes, choice.parent, key, &branch)
 }
 
 /// Expands the condition of this key: the sequence of its first untried template joins it, as the
 /// last one of its fallback, or in a new fallback that takes the condition's place. Gives the key of
-/// the sequence. Every key names the same node as before. Refused, the tree is as it was.
+/// the sequence. Every key names the same node as before. Refused, also for want of memory, the tree is as it was.
 pub fn expand(alloc: Global, t: &mut PlanTree, key: usize) -> Result<usize, Stop<ExpandFault>>
     requires { (world : World) × (tree : Forest) × StandsFor t.old world tree × IsConditionOf tree key }
     ensures added { IfOk result (λ added. (world : World) (tree : Forest) → StandsFor t.old world tree → IsConditionOf tree key → Expands t.new world tree key added) }

@@ -223,7 +223,8 @@ fn pair(alloc: Global, condition: usize, sequence: usize) -> SmallVec<usize, 4>
     keys
 }
 
-/// A new sequence becomes the last child of its parent. Refused, only the slab's room has changed.
+/// A new sequence becomes the last child of its parent. Refused for want of memory (out of memory),
+/// only the slab's room has changed.
 pub(crate) fn add_last(
     alloc: Global,
     nodes: &mut Slab<Node>,
@@ -242,8 +243,8 @@ pub(crate) fn add_last(
     Ok(key)
 }
 
-/// A fallback of a condition and a new sequence takes the condition's place. Refused, only the slab's
-/// room has changed.
+/// A fallback of a condition and a new sequence takes the condition's place. Refused for want of
+/// memory, only the slab's room has changed.
 pub(crate) fn wrap(
     alloc: Global,
     nodes: &mut Slab<Node>,

@@ -7,7 +7,7 @@ pub enum Part {
     Goals,
     /// The sequence of what the action of this row needs and the action itself.
     Sequence(u32),
-    /// A condition and the sequences that were added behind it.
+    /// A condition and the sequences that were added for it.
     Fallback,
     /// The condition of this row.
     Condition(u32),

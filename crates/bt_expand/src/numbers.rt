@@ -52,7 +52,7 @@ pub fn row_of(t: &PlanTree, key: usize) -> u32
 }
 
 /// The key of this number among the nodes of some trees, from 0 on in pre-order, or the number that
-/// is left behind all of them.
+/// is left after all of them.
 fn find_in(nodes: &Slab<Node>, keys: &[usize], number: usize, levels: usize) -> Result<usize, usize>
     ensures { (parent : Option ℕ) (f : Forest) → Stands nodes.now parent keys.now f → height f ≤ levels → Numbered f number result }
 {

@@ -74,7 +74,7 @@ under_counts j k x under (Tree key part below rest) found = elim (tested key k) 
 
 -- ---- The first place of a key
 
--- a key that occurs once stands behind the keys of other trees
+-- a key that occurs once stands after the keys of other trees
 first_differs : (k b : ℕ) (part : Part) (below rest : Forest) (before others : List ℕ) → tops rest ≡ before ++ k ∷ others → times k (Tree b part below rest) ≤ 1 → nat_eq b k ≡ false
 first_differs k b part below rest before others is once =
     let has = in_tops k rest before others is in

@@ -201,7 +201,7 @@ module _ (t : PlanTree) (keys : List ℕ) (i : ℕ) (within : i < length keys) (
         ∙ first-append (conflicts_of world.rows tree (own left right split)) (conflicts_of world.rows tree (actions split.right))
         ∙ ap (λ (o : Option Pair). option_or o (slice_get (conflicts_of world.rows tree (actions split.right)) 0)) own_is)
 
-    -- or there is none up to behind the place
+    -- or there is none up to the place and at it
     pub conflict_passed : Stands t.nodes parent (take (i + 1) keys) f → found ≡ None → conflicts_of world.rows tree (actions f) ≡ []
     conflict_passed stands is =
         let split = split_last t.nodes parent keys i f within stands in

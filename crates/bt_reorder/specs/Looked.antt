@@ -76,7 +76,7 @@ left_of key node = left_in (is_sequence node.part) (position (λ (k : ℕ). k ==
 abbrev pub move_in : Ancestor → Move
 move_in a = record { parent = a.key; place = count a.before - 1 }
 
--- the places of a list at this place and behind it change
+-- the element at this place and the next one change places
 abbrev pub swapped : ℕ → List ℕ → List ℕ
 swapped zero (a ∷ b ∷ rest) = b ∷ a ∷ rest
 swapped (suc place) (a ∷ rest) = a ∷ swapped place rest

@@ -5,7 +5,7 @@ use Rattle.bt_domain.specs.declared.template.Template.{Template}
 use Rattle.slab.specs.Slab.{get}
 use Rattle.bt_expand.specs.declared.node.Node.{Node}
 use Rattle.bt_expand.specs.declared.node.Part.TheVariants.{Sequence}
-use Rattle.bt_expand.specs.Expanded.{GrowsBehind}
+use Rattle.bt_expand.specs.Expanded.{GrowsAt}
 use Rattle.bt_expand.specs.Expansion.{untried}
 use Rattle.bt_expand.specs.Forests.{is_fallback}
 use Rattle.bt_expand.specs.Growth.{parts_of, rule_needs}
@@ -25,7 +25,7 @@ returns-in_ok-add_sequence-in-Some-clause-added c = λ world tree st is.
     let chosen = c.in-Some.ensures world tree st is in
     expands world c.args.t.now tree st c.args.key is c.add_sequence.new.nodes c.in-Some.choice chosen c.in_ok-add_sequence-in-Some.field-0
     (subst (λ rules. (node : Node) → get c.args.t.now.nodes c.in-Some.choice.parent ≡ Some node →
-    GrowsBehind (is_fallback node.part) c.args.t.now.nodes c.add_sequence.new.nodes c.in-Some.choice.parent c.args.key c.in_ok-add_sequence-in-Some.field-0 (Sequence c.in-Some.choice.row)
+    GrowsAt (is_fallback node.part) c.args.t.now.nodes c.add_sequence.new.nodes c.in-Some.choice.parent c.args.key c.in_ok-add_sequence-in-Some.field-0 (Sequence c.in-Some.choice.row)
     (parts_of (rule_needs rules c.in-Some.choice.row) (Some c.in-Some.choice.row))) c.list.ensures c.in_ok-add_sequence-in-Some.ensures.added)
 
 pub returns-in_ok-add_sequence-in-Some-clause-untried : goal.returns-in_ok-add_sequence-in-Some-clause-untried

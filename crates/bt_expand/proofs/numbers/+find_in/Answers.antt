@@ -3,7 +3,7 @@ use Rattle.std.proofs.lemmas.List.{take_all}
 use Rattle.bt_expand.specs.Forests.{size}
 use Rattle.bt_expand.specs.Stands.{Stands}
 use Rattle.bt_expand.proofs.Split.{no_levels, stands_none}
-use Rattle.bt_expand.proofs.Walked.{behind_next, found_below, found_here, no_node}
+use Rattle.bt_expand.proofs.Walked.{past_next, found_below, found_here, no_node}
 use Rattle.bt_expand.proofs.numbers.+find_in.Goals as goal
 
 pub returns-then-levels-eq0 : goal.returns-then-levels-eq0
@@ -33,7 +33,7 @@ returns-in-Ok t c = λ parent f stands low.
 
 pub loop-key-preserved : goal.loop-key-preserved
 loop-key-preserved t c =
-    behind_next c.args.nodes.now c.args.keys.now c.loop-key.key-index c.loop-key-test.true c.args.levels c.args.number c.loop-key.left (omega (arith, c.if-levels-eq0.false)) c.loop-key.invariant
+    past_next c.args.nodes.now c.args.keys.now c.loop-key.key-index c.loop-key-test.true c.args.levels c.args.number c.loop-key.left (omega (arith, c.if-levels-eq0.false)) c.loop-key.invariant
     c.in-Some.node.now (sym c.in-Some.ensures) c.in-Err.rest (λ e. absurd (omega (arith, c.if-left-eq0.false, e)))
     (λ above g under lower. c.in-Err.ensures above g (subst (λ (l : List ℕ). Stands c.args.nodes.now above l g) (sym c.deref.ensures) under) lower)
 

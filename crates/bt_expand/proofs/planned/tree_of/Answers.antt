@@ -8,10 +8,11 @@ use Rattle.bt_expand.specs.Forests.{Forest, Empty, Tree, height}
 use Rattle.bt_expand.specs.Planned.{kind_of, part_id, plain_node, terms_of}
 use Rattle.bt_expand.specs.Stands.{Stands}
 use Rattle.bt_expand.proofs.Counted.{height-le_size}
+use Rattle.bt_expand.proofs.Valid.{planned_lone, planned_valid}
 use Rattle.bt_expand.proofs.planned.tree_of.Goals as goal
 
-pub returns : goal.returns
-returns c = λ tree st.
+pub returns-clause-planned : goal.returns-clause-planned
+returns-clause-planned c = λ tree st.
     let t = c.args.t.now in
     let rows = c.args.world.now.rows in
     let root : Stands t.nodes None (t.root ∷ []) (Tree t.root Goals st.shape.below Empty) = subst (λ (f : Forest). Stands t.nodes None (t.root ∷ []) f) st.shape.is st.nodes in
@@ -32,3 +33,13 @@ returns c = λ tree st.
       main = c.in_ok-main-in-Some.ensures;
       term = ap (terms_of rows) st.shape.is ∙ ap (λ (x : Term). x ∷ []) (sym by_part);
     }
+
+pub returns-clause-valid : goal.returns-clause-valid
+returns-clause-valid c =
+    planned_valid c.args.world.now c.requires.1.valid c.args.t.now c.requires.0 (record { main = c.in_ok-main-in-Some.main; term = c.in_ok-term-in-Some.term }) c.requires.1 c.requires.2
+    (returns-clause-planned c c.requires.0 c.requires.1)
+
+pub returns-clause-lone : goal.returns-clause-lone
+returns-clause-lone c =
+    planned_lone c.args.world.now c.requires.1.valid c.requires.0 (record { main = c.in_ok-main-in-Some.main; term = c.in_ok-term-in-Some.term })
+    (returns-clause-planned c c.requires.0 c.requires.1)
