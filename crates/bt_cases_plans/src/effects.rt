@@ -54,3 +54,21 @@ fn single_effects(rt: HostRuntime) {
         assert!(rt; !threatens(&[elsewhere], &test));
     }
 }
+
+#[test]
+fn effects_together(rt: HostRuntime) {
+    let test = Test {
+        fact: 1,
+        op: Cmp::Equal,
+        value: 3,
+    };
+    let there = Set {
+        fact: 1,
+        how: How::To,
+        value: 3,
+    };
+    let away = Set { value: 4, ..there };
+    let both = [away, there];
+    assert!(rt; achieves(&test, &both));
+    assert!(rt; threatens(&both, &test));
+}

@@ -1,5 +1,11 @@
-//! Tests alone: which effects achieve and threaten a test.
+//! Tests alone: which effects achieve and threaten a test, and plan trees, step by step.
 #![tactic(auto)]
 
 #[cfg(test)]
 mod effects;
+#[cfg(test)]
+mod plans;
+#[cfg(test)]
+mod stage;
+#[cfg(test)]
+mod steps;

@@ -1,5 +1,6 @@
 pub mod Depths
 pub mod Elements
+pub mod Lone
 pub mod Marks
 pub mod Openings
 pub mod ReadBack

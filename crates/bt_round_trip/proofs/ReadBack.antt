@@ -5,11 +5,13 @@ use Rattle.bt_elements.specs.declared.element.Element.{Element}
 use Rattle.bt_elements.specs.Elements.{IsValid as IsValidElement, Spells}
 use Rattle.bt_model.specs.declared.term.Tree.{Tree}
 use Rattle.bt_model.specs.PrintedTree.{tree_lines}
+use Rattle.bt_model.specs.Terms.{scope_count}
 use Rattle.bt_model.specs.Trees.{IsValid}
 use Rattle.bt_manifest.specs.Models.{Models, manifest_in}
 use Rattle.bt_build.specs.Reads.{reads}
 use Rattle.bt_build.proofs.Fits.{reads_valid}
 use Rattle.bt_round_trip.specs.Openings.{OpensAlike}
+use Rattle.bt_round_trip.proofs.Lone.{lone_alike}
 use Rattle.bt_round_trip.proofs.Openings.{reads_alike}
 use Rattle.bt_round_trip.proofs.ReadTrees.{element_models, element_reads}
 use Rattle.bt_round_trip.proofs.Writable.{tree_spelled}
@@ -18,6 +20,10 @@ use Rattle.bt_round_trip.proofs.Writable.{tree_spelled}
 pub alike_read_back : (tree : Tree) → IsValid tree → OpensAlike tree → (f : Element) × Spells (concat (tree_lines tree)) f × (manifest_in f ≡ Ok []) × (reads [] None f ≡ Ok tree)
 alike_read_back tree valid opens =
     let s = tree_spelled tree valid in (s.0, s.1, element_models tree s.0 s.2, element_reads tree s.0 valid opens s.2)
+
+-- a valid tree without SubTree nodes
+pub lone_read_back : (tree : Tree) → IsValid tree → scope_count tree.term ≡ 0 → (f : Element) × Spells (concat (tree_lines tree)) f × (manifest_in f ≡ Ok []) × (reads [] None f ≡ Ok tree)
+lone_read_back tree valid few = alike_read_back tree valid (lone_alike tree few)
 
 -- a tree that was read
 pub read_back : (root : Element) (models : Models) (asked : Option (List ℕ)) (tree : Tree) → IsValidElement root → manifest_in root ≡ Ok models → reads models asked root ≡ Ok tree →

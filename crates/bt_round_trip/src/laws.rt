@@ -8,6 +8,7 @@ ghost use Rattle.bt_elements.specs.Written.{can_be_written};
 ghost use Rattle.bt_elements.specs.declared.element.Element.{Element};
 ghost use Rattle.bt_manifest.specs.Models.{Models, manifest_in};
 ghost use Rattle.bt_model.specs.PrintedTree.{escaped_byte, tree_lines};
+ghost use Rattle.bt_model.specs.Terms.{scope_count};
 ghost use Rattle.bt_model.specs.Trees.{IsValid};
 ghost use Rattle.bt_model.specs.declared.term.Tree.{Tree};
 ghost use Rattle.bt_round_trip.specs.Openings.{OpensAlike};
@@ -35,9 +36,11 @@ pub fn printed_trees_spell_their_elements()
 
 /// The printed bytes of a tree that was read spell an element without models, which reads as the
 /// same tree. So do those of each valid tree in which no tree is opened in itself and the SubTree
-/// nodes of one ID have the same tree below them.
+/// nodes of one ID have the same tree below them, as of one that has none.
 pub fn printed_trees_read_back()
     ensures alike { (tree : Tree) → IsValid tree → OpensAlike tree
+        → (f : Element) × Spells (concat (tree_lines tree)) f × (manifest_in f ≡ Ok []) × (reads [] None f ≡ Ok tree) }
+    ensures lone { (tree : Tree) → IsValid tree → scope_count tree.term ≡ 0
         → (f : Element) × Spells (concat (tree_lines tree)) f × (manifest_in f ≡ Ok []) × (reads [] None f ≡ Ok tree) }
     ensures read { (root : Element) (models : Models) (asked : Option (List ℕ)) (tree : Tree) → IsValidElement root → manifest_in root ≡ Ok models → reads models asked root ≡ Ok tree
         → (f : Element) × Spells (concat (tree_lines tree)) f × (manifest_in f ≡ Ok []) × (reads [] None f ≡ Ok tree) }

@@ -1,0 +1,60 @@
+//! Plan trees over the worlds of scripts, grown step by step and printed.
+
+ghost use Rattle.std.specs.Prelude.{◌≢◌, []};
+ghost use Rattle.bt_model.specs.Worlds.{IsValidWorld};
+
+use crate::steps::{Step, grown};
+use bt_model::{Tree, World};
+use bt_outside::SureSink;
+use bt_script::NoMemory;
+use bt_text::write_tree;
+use bt_world::read_world;
+use std::alloc::Global;
+use std::process::Abort;
+
+/// A world script, the steps over its plan tree, and what they tell, with the tree at the end.
+pub struct Row {
+    pub world: &'static str,
+    pub steps: &'static [Step],
+    pub want: &'static str,
+}
+
+/// Prints a tree.
+fn print(alloc: Global, tree: &Tree, told: &mut String) -> Result<(), NoMemory> {
+    let mut sink = SureSink::new(alloc);
+    if write_tree(alloc, &mut sink, tree).is_err() {
+        return Err(NoMemory);
+    }
+    told.push_str(str::from_utf8(sink.list()).unwrap_or("?"))?;
+    Ok(())
+}
+
+/// What the steps tell over a world that has a goal, and the tree after them.
+fn told_of(alloc: Global, world: &World, steps: &[Step]) -> Result<String, NoMemory>
+    requires valid { IsValidWorld world.now }
+    requires goal { world.now.goals ≢ [] }
+{
+    let mut told = String::new(alloc);
+    let tree = grown(alloc, world, steps, &mut told)?;
+    print(alloc, &tree, &mut told)?;
+    Ok(told)
+}
+
+/// What the steps tell over the world of a script.
+fn told(alloc: Global, script: &str, steps: &[Step]) -> Result<String, NoMemory> {
+    if script.len() > 1_048_576 {
+        return Err(NoMemory);
+    }
+    match read_world(alloc, script.as_bytes()) {
+        Ok(world) if !world.goals.list().is_empty() => told_of(alloc, &world, steps),
+        _ => Err(NoMemory),
+    }
+}
+
+/// Compares what is told with what is wanted.
+pub fn compare(rt: &impl Abort, alloc: Global, rows: &[&Row]) -> Result<(), NoMemory> {
+    for row in rows {
+        assert_eq!(rt; told(alloc, row.world, row.steps)?.as_str(), row.want);
+    }
+    Ok(())
+}

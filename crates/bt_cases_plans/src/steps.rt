@@ -1,0 +1,214 @@
+//! The steps that a plan tree grows by, and what each of them tells.
+
+ghost use Rattle.std.specs.Prelude.{◌≢◌, [], IfOk, IfSome};
+ghost use Rattle.bt_model.specs.Worlds.{IsValidWorld};
+ghost use Rattle.bt_cases_plans.specs.Stages.{HasCondition, HasKey, HasSequence, IsPlan};
+
+use bt_expand::{Part, PlanTree, expand, key_of, part_of, plan_tree_of, tree_of};
+use bt_model::{Tree, World};
+use bt_reorder::{conflict, raise};
+use bt_script::{NoMemory, Stop};
+use std::alloc::Global;
+
+/// What is done to a plan tree. Each step tells a line.
+#[derive(Clone, Copy)]
+pub enum Step {
+    /// Expands the condition of this number.
+    Expand(u32),
+    /// Raises the sequence of this number.
+    Raise(u32),
+    /// Looks for the first conflict.
+    Conflict,
+}
+
+/// The ID of a row.
+fn id_of(world: &World, row: u32) -> &str {
+    match world.rows.list().get(row as usize) {
+        Some(row) => str::from_utf8(row.id.list()).unwrap_or("?"),
+        None => "?",
+    }
+}
+
+/// The ID of the row of the node of this key.
+fn name_of<'a>(t: &PlanTree, world: &'a World, key: usize) -> &'a str {
+    match part_of(t, key) {
+        Some(Part::Sequence(row) | Part::Condition(row) | Part::Action(row)) => id_of(world, row),
+        _ => "?",
+    }
+}
+
+/// The key of this number, if the tree has so many nodes.
+fn key_at(t: &PlanTree, world: &World, uid: u32) -> Option<usize>
+    requires { IsPlan world.now t.now }
+    ensures { IfSome result (HasKey world.now t.now) }
+{
+    if uid == 0 || uid as usize > t.nodes.len() {
+        return None;
+    }
+    Some(key_of(t, uid))
+}
+
+/// The key of this number, if it is that of a condition.
+fn condition_at(t: &PlanTree, world: &World, uid: u32) -> Option<usize>
+    requires { IsPlan world.now t.now }
+    ensures { IfSome result (HasCondition world.now t.now) }
+{
+    let key = key_at(t, world, uid)?;
+    match part_of(t, key) {
+        Some(Part::Condition(_)) => Some(key),
+        _ => None,
+    }
+}
+
+/// The key of this number, if it is that of a sequence that was added.
+fn sequence_at(t: &PlanTree, world: &World, uid: u32) -> Option<usize>
+    requires { IsPlan world.now t.now }
+    ensures { IfSome result (HasSequence world.now t.now) }
+{
+    let key = key_at(t, world, uid)?;
+    match part_of(t, key) {
+        Some(Part::Sequence(_)) => Some(key),
+        _ => None,
+    }
+}
+
+/// Expands the condition of this key, and tells whose sequence was added.
+fn tell_expansion(
+    alloc: Global,
+    t: &mut PlanTree,
+    world: &World,
+    key: usize,
+    told: &mut String,
+) -> Result<(), NoMemory>
+    requires { HasCondition world.now t.old key }
+    ensures { IfOk result (λ _. IsPlan world.now t.new) }
+{
+    match expand(alloc, t, key) {
+        Ok(added) => {
+            let id = name_of(t, world, added);
+            writeln!(told, "expand {id}")?;
+        }
+        Err(Stop::Fault(_)) => told.push_str("untried\n")?,
+        Err(Stop::NoMemory) => return Err(NoMemory),
+    }
+    Ok(())
+}
+
+/// Raises the sequence of this key, and tells whether it was moved.
+fn tell_raise(
+    t: &mut PlanTree,
+    world: &World,
+    key: usize,
+    told: &mut String,
+) -> Result<(), NoMemory>
+    requires { HasSequence world.now t.old key }
+    ensures { IfOk result (λ _. IsPlan world.now t.new) }
+{
+    let text = if raise(t, key) {
+        "raised\n"
+    } else {
+        "not raised\n"
+    };
+    told.push_str(text)?;
+    Ok(())
+}
+
+/// Tells the first conflict.
+fn tell_conflict(t: &PlanTree, world: &World, told: &mut String) -> Result<(), NoMemory> {
+    match conflict(t) {
+        Some((action, head)) => {
+            let action = name_of(t, world, action);
+            let head = name_of(t, world, head);
+            writeln!(told, "conflict {action} {head}")?;
+        }
+        None => told.push_str("no conflict\n")?,
+    }
+    Ok(())
+}
+
+/// Takes one step.
+fn take(
+    alloc: Global,
+    t: &mut PlanTree,
+    world: &World,
+    step: Step,
+    told: &mut String,
+) -> Result<(), NoMemory>
+    requires { IsPlan world.now t.old }
+    ensures { IfOk result (λ _. IsPlan world.now t.new) }
+{
+    match step {
+        Step::Expand(uid) => match condition_at(t, world, uid) {
+            Some(key) => tell_expansion(alloc, t, world, key, told)?,
+            None => told.push_str("no such condition\n")?,
+        },
+        Step::Raise(uid) => match sequence_at(t, world, uid) {
+            Some(key) => tell_raise(t, world, key, told)?,
+            None => told.push_str("no such sequence\n")?,
+        },
+        Step::Conflict => tell_conflict(t, world, told)?,
+    }
+    Ok(())
+}
+
+/// What all nodes are, each with its key.
+fn parts_of(alloc: Global, t: &PlanTree) -> Result<Vec<(usize, Part)>, NoMemory> {
+    let mut parts = Vec::new(alloc);
+    for (key, node) in t.nodes.iter() {
+        parts.push((key, node.part))?;
+    }
+    Ok(parts)
+}
+
+/// Whether each of these keys still names such a node.
+fn are_kept(t: &PlanTree, parts: &[(usize, Part)]) -> bool {
+    parts
+        .iter()
+        .all(|(key, part)| part_of(t, *key) == Some(*part))
+}
+
+/// Takes one step, and tells where a key does not name what it named.
+fn take_kept(
+    alloc: Global,
+    t: &mut PlanTree,
+    world: &World,
+    step: Step,
+    told: &mut String,
+) -> Result<(), NoMemory>
+    requires { IsPlan world.now t.old }
+    ensures { IfOk result (λ _. IsPlan world.now t.new) }
+{
+    let parts = parts_of(alloc, t)?;
+    take(alloc, t, world, step, told)?;
+    if !are_kept(t, parts.as_slice()) {
+        told.push_str("a key names another node\n")?;
+    }
+    Ok(())
+}
+
+/// The behavior tree of a plan tree of at most 120 nodes.
+fn planned(alloc: Global, t: &PlanTree, world: &World) -> Result<Tree, NoMemory>
+    requires { IsPlan world.now t.now }
+{
+    if t.nodes.len() > 120 {
+        return Err(NoMemory);
+    }
+    tree_of(alloc, t, world)
+}
+
+/// The behavior tree after all steps over a world that has a goal, which tell their lines.
+pub fn grown(
+    alloc: Global,
+    world: &World,
+    steps: &[Step],
+    told: &mut String,
+) -> Result<Tree, NoMemory>
+    requires valid { IsValidWorld world.now }
+    requires goal { world.now.goals ≢ [] }
+{
+    let mut t = plan_tree_of(alloc, world)?;
+    for step in steps {
+        take_kept(alloc, &mut t, world, *step, told)?;
+    }
+    planned(alloc, &t, world)
+}
