@@ -1,5 +1,5 @@
 -- A stack has room for the code of an expression of height 64 behind one value.
-use Rattle.std.proofs.Common.{◌≡◌, ℕ, ◌+◌, ◌-◌, ◌<◌, ◌≤◌, max, Bool, true, false, ◌&&◌, List, [], ◌∷◌, ◌++◌, length, refl, sym, ap, ◌∙◌, subst, arith, append_assoc, append-nil, lt-ltb, le-leb, ltb, leb}
+use Rattle.std.proofs.Common.{◌≡◌, ℕ, ◌+◌, ◌-◌, ◌≤◌, max, ℤ, Bool, true, ◌&&◌, List, [], ◌∷◌, ◌++◌, length, refl, sym, ap, ◌∙◌, subst, arith, append_assoc, append-nil, lt-ltb, le-leb, ltb, leb}
 use Rattle.std.proofs.lemmas.Bool.{and_from}
 use Rattle.bt_script.specs.declared.syntax.BinOp.{BinOp}
 use Rattle.bt_script.specs.declared.syntax.BinOp.TheVariants.{Add, Sub, Mul, Div, And, Or, BitAnd, BitOr, BitXor, Compare}
@@ -9,7 +9,7 @@ use Rattle.bt_script.specs.declared.syntax.Expr.TheOpen.{Expr-F, Num, Lit, Look,
 use Rattle.bt_script.specs.Grammar.{height_step, height}
 use Rattle.bt_script_code.specs.declared.instr.Instr.{Instr}
 use Rattle.bt_script_code.specs.declared.instr.Instr.TheVariants as instr
-use Rattle.bt_script_code.specs.Postfixes.{between, choice_code, code_step, code_of}
+use Rattle.bt_script_code.specs.Postfixes.{operator, with_number, applied, between, choice_code, code_step, code_of}
 use Rattle.bt_script_code.specs.Rooms.{fits_step, fits_from, fits}
 use Rattle.bt_script_code.proofs.Standing.{behind}
 
@@ -39,20 +39,39 @@ more_needs a b code le needs rest above room fit = needs rest above (omega arith
 
 -- both operands, and then the operator
 abbrev in_turn : BinOp → List Instr → List Instr → List Instr
-in_turn op a b = a ++ (b ++ instr.Binary op ∷ [])
+in_turn op a b = a ++ applied op b
 
 unary_needs : (op : UnOp) (n : ℕ) (a : List Instr) → Needs n a → Needs n (a ++ instr.Unary op ∷ [])
 unary_needs op n a needs rest above le fit =
     subst (λ code. fits_from code 0 above ≡ true) (sym (append_assoc a (instr.Unary op ∷ []) rest))
     (needs (instr.Unary op ∷ rest) above le (one_left above _ fit))
 
+two_left : (above : ℕ) (rest : List Instr) → fits_from rest 0 (above + 1) ≡ true → (ltb 1 (above + 1 + 1) && fits_from rest 0 (above + 1 + 1 - 1)) ≡ true
+two_left above rest fit = let e : above + 1 ≡ above + 1 + 1 - 1 = omega arith in and_from _ _ (lt-ltb 1 (above + 1 + 1) (omega arith)) (at_height rest 0 _ _ e fit)
+
+operator_fits : (op : BinOp) (rest : List Instr) (above : ℕ) → fits_from rest 0 (above + 1) ≡ true → fits_from (operator op ∷ rest) 0 (above + 1 + 1) ≡ true
+operator_fits Add rest above fit = two_left above rest fit
+operator_fits Sub rest above fit = two_left above rest fit
+operator_fits Mul rest above fit = two_left above rest fit
+operator_fits op rest above fit = two_left above rest fit
+
+number_fits : (op : BinOp) (n : ℤ) (rest : List Instr) (above : ℕ) → fits_from rest 0 (above + 1) ≡ true → fits_from (with_number op n ∷ rest) 0 (above + 1) ≡ true
+number_fits Add n rest above fit = one_left above _ fit
+number_fits Sub n rest above fit = one_left above _ fit
+number_fits Mul n rest above fit = one_left above _ fit
+number_fits op n rest above fit = one_left above _ fit
+
+stacked_needs : (op : BinOp) (n : ℕ) (a b : List Instr) → Needs n a → Needs n b → Needs (1 + n) (a ++ (b ++ operator op ∷ []))
+stacked_needs op n a b na nb rest above le fit =
+    subst (λ code. fits_from code 0 above ≡ true) (sym (append_assoc a (b ++ operator op ∷ []) rest ∙ ap (λ z. a ++ z) (append_assoc b (operator op ∷ []) rest)))
+    (na (b ++ operator op ∷ rest) above (omega arith)
+    (nb (operator op ∷ rest) (above + 1) (omega arith) (operator_fits op rest above fit)))
+
 in_turn_needs : (op : BinOp) (n : ℕ) (a b : List Instr) → Needs n a → Needs n b → Needs (1 + n) (in_turn op a b)
-in_turn_needs op n a b na nb rest above le fit =
-    let e : above + 1 ≡ above + 1 + 1 - 1 = omega arith in
-    subst (λ code. fits_from code 0 above ≡ true) (sym (append_assoc a (b ++ instr.Binary op ∷ []) rest ∙ ap (λ z. a ++ z) (append_assoc b (instr.Binary op ∷ []) rest)))
-    (na (b ++ instr.Binary op ∷ rest) above (omega arith)
-    (nb (instr.Binary op ∷ rest) (above + 1) (omega arith)
-    (and_from _ _ (lt-ltb 1 (above + 1 + 1) (omega arith)) (at_height rest 0 _ _ e fit))))
+in_turn_needs op n a (instr.Number k ∷ []) na nb rest above le fit =
+    subst (λ code. fits_from code 0 above ≡ true) (sym (append_assoc a (with_number op k ∷ []) rest))
+    (na (with_number op k ∷ rest) above (omega arith) (number_fits op k rest above fit))
+in_turn_needs op n a b na nb rest above le fit = stacked_needs op n a b na nb rest above le fit
 
 -- the right side of `&&` or `||`, where it is evaluated and where it is passed over
 module _ (n : ℕ) (b : List Instr) (nb : Needs n b) (rest : List Instr) (above : ℕ) (le : above + (1 + n) ≤ 65) (fit : fits_from rest 0 (above + 1) ≡ true) where

@@ -1,8 +1,10 @@
 -- What a step leaves has room.
-use Rattle.std.proofs.Common.{◌≡◌, ℕ, ◌+◌, ◌-◌, ◌<◌, ◌≤◌, ℤ, Bool, true, false, ◌&&◌, List, [], ◌∷◌, length, refl, sym, ap, ◌∙◌, subst, arith, true≢false, eqb-true, zero, suc}
-use Rattle.std.specs.Prelude.{Option, Some, Result, Ok, Err, slice_get, if◌then◌else◌}
+use Rattle.std.proofs.Common.{◌≡◌, ℕ, ◌+◌, ◌-◌, ◌≤◌, ℤ, Bool, true, false, List, [], ◌∷◌, length, refl, sym, ap, ◌∙◌, subst, arith, true≢false, eqb-true, zero, suc}
+use Rattle.std.specs.Prelude.{Some, Result, Ok, Err, slice_get, if◌then◌else◌}
 use Rattle.bt_script.specs.declared.value.Value.{Value}
 use Rattle.bt_script.specs.declared.value.Value.TheVariants.{Int, Text}
+use Rattle.bt_script.specs.declared.syntax.BinOp.{BinOp}
+use Rattle.bt_script.specs.declared.syntax.BinOp.TheVariants.{Add, Sub, Mul}
 use Rattle.bt_script.specs.declared.fault.ExecFault.{ExecFault}
 use Rattle.bt_script.specs.declared.stop.Stop.{Stop}
 use Rattle.bt_script.specs.declared.stop.Stop.TheVariants as stop
@@ -10,9 +12,8 @@ use Rattle.bt_script.specs.Operators.{number_in, is_true, unary_on, binary_on}
 use Rattle.bt_script.specs.Results.{◌>>=◌}
 use Rattle.bt_script_code.specs.declared.instr.Instr.{Instr}
 use Rattle.bt_script_code.specs.declared.instr.Instr.TheVariants as instr
-use Rattle.bt_script_code.specs.Places.{at_place}
 use Rattle.bt_script_code.specs.Rooms.{has_room, leads_well, fits_step, fits_from}
-use Rattle.bt_script_code.specs.Running.{on_top, put, told, Step, next, either_step, by_truth, step_of, does, gives_from}
+use Rattle.bt_script_code.specs.Running.{on_top, put, binary_put, told, Step, next, either_step, step_of, does, gives_from}
 use Rattle.bt_script_code.specs.Stacks.{Leads, Leaves}
 use Rattle.bt_script_code.proofs.Standing.{opens, place_within, and_first, and_second}
 
@@ -27,6 +28,14 @@ module _ (go : ℕ → ℕ → Bool) where
       let e : height ≡ length (x ∷ below) = omega arith in subst (λ h. go 0 h ≡ true) e well
   put_well (Err f) below height same well = tt
 
+  two_well : (op : BinOp) (stack : List Value) → go 0 (length stack - 1) ≡ true → IsWell (next (binary_put op stack))
+  two_well op [] well = tt
+  two_well op (y ∷ []) well = tt
+  two_well op (y ∷ x ∷ below) well = put_well (binary_on op x y) below (length (y ∷ x ∷ below) - 1) (omega arith) well
+
+  number_well : (op : BinOp) (n : ℤ) (x : Value) (below : List Value) → go 0 (length (x ∷ below)) ≡ true → IsWell (next (binary_put op (Int n ∷ x ∷ below)))
+  number_well op n x below well = put_well (binary_on op x (Int n)) below (length (x ∷ below)) (omega arith) well
+
   truth_well : (one other : List Value → Step) (below : List Value) (r : Result ℤ ExecFault) → go (one below).0 (length (one below).1) ≡ true → go (other below).0 (length (other below).1) ≡ true →
       IsWell (r >>= told below >>= either_step one other)
   truth_well one other below (Err f) yes' no' = tt
@@ -40,9 +49,18 @@ module _ (go : ℕ → ℕ → Bool) where
     step_well (instr.Slot k) stack well = put_well (look k) stack (length stack + 1) refl well
     step_well (instr.Unary op) [] well = tt
     step_well (instr.Unary op) (x ∷ below) well = put_well (unary_on op x) below (length (x ∷ below)) (omega arith) well
-    step_well (instr.Binary op) [] well = tt
-    step_well (instr.Binary op) (y ∷ []) well = tt
-    step_well (instr.Binary op) (y ∷ x ∷ below) well = put_well (binary_on op x y) below (length (y ∷ x ∷ below) - 1) (omega arith) well
+    step_well (instr.Binary op) stack well = two_well op stack well
+    step_well (instr.BinaryNumber op n) [] well = tt
+    step_well (instr.BinaryNumber op n) (x ∷ below) well = number_well op n x below well
+    step_well instr.Add stack well = two_well Add stack well
+    step_well instr.Sub stack well = two_well Sub stack well
+    step_well instr.Mul stack well = two_well Mul stack well
+    step_well (instr.AddNumber n) [] well = tt
+    step_well (instr.AddNumber n) (x ∷ below) well = number_well Add n x below well
+    step_well (instr.SubNumber n) [] well = tt
+    step_well (instr.SubNumber n) (x ∷ below) well = number_well Sub n x below well
+    step_well (instr.MulNumber n) [] well = tt
+    step_well (instr.MulNumber n) (x ∷ below) well = number_well Mul n x below well
     step_well (instr.AndThen n) [] well = tt
     step_well (instr.AndThen n) (x ∷ below) well =
         let e : length (x ∷ below) - 1 ≡ length below = omega arith in

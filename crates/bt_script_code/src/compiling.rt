@@ -5,7 +5,7 @@ ghost use Rattle.bt_script_code.specs.declared.instr.Instr.TheVariants.{Slot, Un
 ghost use Rattle.bt_script_code.specs.Codes.{program, formula};
 ghost use Rattle.bt_script_code.specs.Programs.{program_of, formula_of, statement_of};
 ghost use Rattle.bt_script.specs.Grammar.{height};
-ghost use Rattle.bt_script_code.specs.Postfixes.{begun, between, code_of, ended, has_jump};
+ghost use Rattle.bt_script_code.specs.Postfixes.{applied, begun, between, code_of, ended, has_jump, lone_number as lone_number_of, operator as operator_of, with_number as with_number_of};
 ghost use Rattle.bt_script_code.specs.Sources.{slot_of, IsListed, IsCompilable};
 ghost use Rattle.bt_script.specs.Scripts.{names_of};
 ghost use Rattle.bt_script_code.specs.Statements.{stmt_program};
@@ -48,9 +48,63 @@ fn begin(op: BinOp, code: &mut Vec<Instr>) -> Result<(), NoMemory>
     }
 }
 
+/// An operator whose operands are the two topmost values.
+fn operator(op: BinOp) -> Instr
+    ensures { result ≡ operator_of op }
+{
+    match op {
+        BinOp::Add => Instr::Add,
+        BinOp::Sub => Instr::Sub,
+        BinOp::Mul => Instr::Mul,
+        _ => Instr::Binary(op),
+    }
+}
+
+/// An operator whose right operand is this number.
+fn with_number(op: BinOp, n: i64) -> Instr
+    ensures { result ≡ with_number_of op n }
+{
+    match op {
+        BinOp::Add => Instr::AddNumber(n),
+        BinOp::Sub => Instr::SubNumber(n),
+        BinOp::Mul => Instr::MulNumber(n),
+        _ => Instr::BinaryNumber(op, n),
+    }
+}
+
+/// The number that a code puts on top, where it does nothing else.
+fn lone_number(code: &[Instr]) -> Option<i64>
+    ensures { result ≡ lone_number_of code.now }
+{
+    match code {
+        [only] => match only {
+            Instr::Number(n) => Some(*n),
+            _ => None,
+        },
+        _ => None,
+    }
+}
+
+/// Puts an operator after its right operand, which began at this place and is taken in where it is a
+/// number.
+fn apply(op: BinOp, place: usize, code: &mut Vec<Instr>) -> Result<(), NoMemory>
+    requires { place ≤ length code.old.items }
+    ensures { (front b : List Turn) → place ≡ length front → code.old.items ≡ front ++ b →
+        OnOk result (code.new.items ≡ front ++ applied op b) }
+{
+    match lone_number(&code[place..]) {
+        Some(n) => {
+            code[place] = with_number(op, n);
+            Ok(())
+        }
+        None => put(code, operator(op)),
+    }
+}
+
 /// Ends the right operand of an operator, which began at this place.
 fn end(op: BinOp, place: usize, code: &mut Vec<Instr>) -> Result<(), NoMemory>
-    requires { has_jump op ≡ true → place < length code.old.items }
+    requires place { place ≤ length code.old.items }
+    requires jump { has_jump op ≡ true → place < length code.old.items }
     ensures { (front b : List Turn) → place ≡ length front → code.old.items ≡ front ++ (begun op ++ b) →
         OnOk result (code.new.items ≡ front ++ ended op b) }
 {
@@ -65,7 +119,7 @@ fn end(op: BinOp, place: usize, code: &mut Vec<Instr>) -> Result<(), NoMemory>
             put(code, Instr::Truth)?;
             Ok(())
         }
-        _ => put(code, Instr::Binary(op)),
+        _ => apply(op, place, code),
     }
 }
 

@@ -71,6 +71,11 @@ impl<B: Cells> Stack<B> for EntryNumbers {
     }
 
     #[inline(always)]
+    fn binary_number(&mut self, op: BinOp, n: i64) -> Result<(), Stop<ExecFault>> {
+        Ok(self.numbers.binary_number(op, n)?)
+    }
+
+    #[inline(always)]
     fn take_truth(&mut self) -> Result<bool, Stop<ExecFault>> {
         Ok(self.numbers.take_truth())
     }

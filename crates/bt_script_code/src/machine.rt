@@ -5,9 +5,10 @@ ghost use Rattle.bt_script_code.specs.Running.{code_reach, code_texts, code_valu
 ghost use Rattle.bt_script_code.specs.Stacks.{Leads, Leaves};
 
 use crate::instr::Instr;
+use crate::operators::as_number;
 use crate::postfix::Postfix;
 use crate::stack::Stack;
-use bt_script::{ExecFault, Stop};
+use bt_script::{BinOp, ExecFault, Stop};
 
 /// Does one instruction, and answers how many behind it are passed over.
 #[inline(always)]
@@ -18,56 +19,42 @@ fn turn<C, S: Stack<C>>(instr: &Instr, slots: &C, stack: &mut S) -> Result<usize
     ensures answered { S.numbers ≡ true → S.IsHeld slots.now → instr_texts instr.now ≡ 0 → IsAnswered result }
 {
     match instr {
-        Instr::Number(n) => {
-            stack.put_number(*n);
-            Ok(0)
-        }
-        Instr::Text(text) => {
-            stack.put_text(text)?;
-            Ok(0)
-        }
-        Instr::Slot(slot) => {
-            stack.put_slot(*slot, slots)?;
-            Ok(0)
-        }
-        Instr::Unary(op) => {
-            stack.unary(*op)?;
-            Ok(0)
-        }
-        Instr::Binary(op) => {
-            stack.binary(*op)?;
-            Ok(0)
-        }
+        Instr::Number(n) => stack.put_number(*n),
+        Instr::Text(text) => stack.put_text(text)?,
+        Instr::Slot(slot) => stack.put_slot(*slot, slots)?,
+        Instr::Unary(op) => stack.unary(*op)?,
+        Instr::Binary(op) => stack.binary(*op)?,
+        Instr::BinaryNumber(op, n) => stack.binary_number(*op, *n)?,
+        Instr::Add => stack.binary(BinOp::Add)?,
+        Instr::Sub => stack.binary(BinOp::Sub)?,
+        Instr::Mul => stack.binary(BinOp::Mul)?,
+        Instr::AddNumber(n) => stack.binary_number(BinOp::Add, *n)?,
+        Instr::SubNumber(n) => stack.binary_number(BinOp::Sub, *n)?,
+        Instr::MulNumber(n) => stack.binary_number(BinOp::Mul, *n)?,
         Instr::AndThen(n) => {
-            if stack.take_truth()? {
-                return Ok(0);
+            if !stack.take_truth()? {
+                stack.put_number(0);
+                return Ok(*n);
             }
-            stack.put_number(0);
-            Ok(*n)
         }
         Instr::OrElse(n) => {
             if stack.take_truth()? {
                 stack.put_number(1);
                 return Ok(*n);
             }
-            Ok(0)
         }
         Instr::Truth => {
-            if stack.take_truth()? {
-                stack.put_number(1);
-                return Ok(0);
-            }
-            stack.put_number(0);
-            Ok(0)
+            let holds = stack.take_truth()?;
+            stack.put_number(as_number(holds));
         }
         Instr::Unless(n) => {
-            if stack.take_truth()? {
-                return Ok(0);
+            if !stack.take_truth()? {
+                return Ok(*n);
             }
-            Ok(*n)
         }
-        Instr::Skip(n) => Ok(*n),
+        Instr::Skip(n) => return Ok(*n),
     }
+    Ok(0)
 }
 
 /// Does the instruction at a place, and answers the place at which to go on.

@@ -10,16 +10,19 @@ use std::marker::Model;
 /// A stack of 65 places for numbers. Contracts see the list of them, the topmost first.
 #[derive(Drop)]
 pub struct NumberStack {
-    places: [i64; 65],
     height: usize,
+    /// The topmost.
+    top: i64,
+    /// Those below it, from the second place on.
+    places: [i64; 65],
 }
 
 impl Model for NumberStack {
-    ghost use Rattle.std.specs.Prelude.{◌≤◌, List, ℤ, reverse, take};
+    ghost use Rattle.std.specs.Prelude.{◌≤◌, List, ◌∷◌, ℤ, reverse, take};
 
     ghost Value = { List ℤ };
 
-    ghost view = { λ s. reverse (take s.height s.places) };
+    ghost view = { λ s. take s.height (s.top ∷ reverse (take s.height s.places)) };
 
     ghost invariant = { λ s. s.height ≤ 65 };
 }
@@ -31,8 +34,9 @@ impl NumberStack {
         ensures { result ≡ [] }
     {
         NumberStack {
-            places: [0; 65],
             height: 0,
+            top: 0,
+            places: [0; 65],
         }
     }
 
@@ -42,8 +46,9 @@ impl NumberStack {
         requires { length self.old < 65 }
         ensures { self.new ≡ n ∷ self.old }
     {
-        self.places[self.height] = n;
+        self.places[self.height] = self.top;
         self.height += 1;
+        self.top = n;
     }
 
     /// Takes the topmost number.
@@ -53,8 +58,10 @@ impl NumberStack {
         ensures taken { self.old ≡ result ∷ self.new }
         ensures room { length self.new < 65 }
     {
+        let n = self.top;
         self.height -= 1;
-        self.places[self.height]
+        self.top = self.places[self.height];
+        n
     }
 
     /// Puts an operator's result in place of its operand.
@@ -78,6 +85,18 @@ impl NumberStack {
         let y = self.take();
         let x = self.take();
         let n = binary_ints(op, x, y)?;
+        self.put(n);
+        Ok(())
+    }
+
+    /// Puts an operator's result in place of its left operand. The right one is this number.
+    #[inline(always)]
+    pub fn binary_number(&mut self, op: BinOp, n: i64) -> Result<(), ExecFault>
+        requires { 0 < length self.old }
+        ensures { binary_put op (Int n ∷ map Int self.old) ≡ left result (map Int self.new) }
+    {
+        let x = self.take();
+        let n = binary_ints(op, x, n)?;
         self.put(n);
         Ok(())
     }

@@ -63,6 +63,11 @@ impl<L: Looks> Stack<L> for SeenNumbers {
     }
 
     #[inline(always)]
+    fn binary_number(&mut self, op: BinOp, n: i64) -> Result<(), Stop<ExecFault>> {
+        Ok(self.numbers.binary_number(op, n)?)
+    }
+
+    #[inline(always)]
     fn take_truth(&mut self) -> Result<bool, Stop<ExecFault>> {
         Ok(self.numbers.take_truth())
     }

@@ -73,6 +73,13 @@ impl<B: Cells> Stack<B> for EntryValues {
         Ok(())
     }
 
+    fn binary_number(&mut self, op: BinOp, n: i64) -> Result<(), Stop<ExecFault>> {
+        let x = self.values.take();
+        let value = binary_values(op, x, Value::Int(n))?;
+        self.values.put(value);
+        Ok(())
+    }
+
     fn take_truth(&mut self) -> Result<bool, Stop<ExecFault>> {
         let x = self.values.take();
         Ok(as_int(&x)? != 0)

@@ -55,6 +55,12 @@ pub trait Stack<C> {
         ensures puts { Leaves result (binary_put op (values self.old)) (λ _. values self.new) }
         ensures answered { numbers ≡ true → IsAnswered result };
 
+    /// Puts an operator's result in place of its left operand. The right one is this number.
+    fn binary_number(&mut self, op: BinOp, n: i64) -> Result<(), Stop<ExecFault>>
+        requires { 0 < length (values self.old) }
+        ensures puts { Leaves result (binary_put op (Int n ∷ values self.old)) (λ _. values self.new) }
+        ensures answered { numbers ≡ true → IsAnswered result };
+
     /// Takes the topmost value, as a truth.
     fn take_truth(&mut self) -> Result<bool, Stop<ExecFault>>
         requires { 0 < length (values self.old) }

@@ -1,5 +1,4 @@
 use Rattle.std.proofs.Common.{◌≡◌, ◌∙◌, ◌++◌, ◌∷◌, [], List, true, ap, subst, sym, arith, append_assoc}
-use Rattle.std.proofs.lemmas.Grind.{common_steps}
 use Rattle.bt_script_code.specs.declared.instr.Instr.{Instr}
 use Rattle.bt_script_code.specs.declared.instr.Instr.TheVariants.{Slot}
 use Rattle.bt_script_code.specs.Postfixes.{begun, between, code_of}

@@ -1,4 +1,4 @@
-use Rattle.std.proofs.Common.{◌≤◌, ◌∙◌, [], ap, sym, length, arith, ltb-false}
+use Rattle.std.proofs.Common.{◌≤◌, ◌∙◌, [], ap, sym, length, arith}
 use Rattle.std.proofs.lemmas.Grind.{common_steps}
 use Rattle.bt_script_code.specs.Running.{code_value, put}
 use Rattle.bt_script_code.proofs.Steps.{given_at_end}

@@ -1,8 +1,5 @@
-use Rattle.std.proofs.Common.{◌≡◌, ◌≤◌, ◌+◌, length, refl, sym, arith}
-use Rattle.std.specs.Prelude.{Some, slice_get}
+use Rattle.std.proofs.Common.{length, refl, sym, arith}
 use Rattle.std.proofs.lemmas.Option.{slice_get_read}
-use Rattle.bt_script_code.proofs.Means.{expr_value}
-use Rattle.bt_script_code.proofs.Fitting.{expr_fits}
 use Rattle.bt_script_code.proofs.Steps.{same_on, room_on, within_on, stops_here, room_here}
 use Rattle.bt_script_code.proofs.Standing.{reach_at, texts_at}
 use Rattle.bt_script_code.proofs.machine.turn_at.Goals as goal
