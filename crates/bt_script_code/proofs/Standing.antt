@@ -30,11 +30,11 @@ module _ {R : Type 0} (makes : Instr → (ℕ → R) → R) (end past : R) where
       opens code place i is ∙ (λ k. makes i (λ n. shift n k))
 
 -- a place that a stack has room for is no place past the end
-pub place_within : (code : List Instr) (place height : ℕ) → fits_from code place height ≡ true → place ≤ length code
-place_within [] zero height fit = omega arith
-place_within [] (suc n) height fit = absurd (true≢false (sym fit))
-place_within (i ∷ code) zero height fit = omega arith
-place_within (i ∷ code) (suc n) height fit = omega (arith, place_within code n height fit)
+pub place_within : (room : ℕ) (code : List Instr) (place height : ℕ) → fits_from room code place height ≡ true → place ≤ length code
+place_within room [] zero height fit = omega arith
+place_within room [] (suc n) height fit = absurd (true≢false (sym fit))
+place_within room (i ∷ code) zero height fit = omega arith
+place_within room (i ∷ code) (suc n) height fit = omega (arith, place_within room code n height fit)
 
 pub and_first : (a b : Bool) → (a && b) ≡ true → a ≡ true
 and_first true b h = refl

@@ -77,15 +77,15 @@ module _ (go : ℕ → ℕ → Bool) where
         truth_well _ _ below (number_in x) (subst (λ h. go 0 h ≡ true) e (and_first _ _ well)) (subst (λ h. go n h ≡ true) e (and_second (go 0 (length (x ∷ below) - 1)) _ well))
     step_well (instr.Skip n) stack well = well
 
-module _ (look : ℕ → Result Value ExecFault) (code : List Instr) (place : ℕ) (i : Instr) (is : slice_get code place ≡ Some i) (stack : List Value) where
+module _ (room : ℕ) (look : ℕ → Result Value ExecFault) (code : List Instr) (place : ℕ) (i : Instr) (is : slice_get code place ≡ Some i) (stack : List Value) where
   abbrev heights : ℕ → ℕ → Bool
-  heights n = fits_from code (place + 1 + n)
+  heights n = fits_from room code (place + 1 + n)
 
-  fit_here : fits_from code place (length stack) ≡ true → fits_step i heights (length stack) ≡ true
-  fit_here fit = sym (ap (λ (f : ℕ → Bool). f (length stack)) (opens fits_step _ _ code place i is)) ∙ fit
+  fit_here : fits_from room code place (length stack) ≡ true → fits_step room i heights (length stack) ≡ true
+  fit_here fit = sym (ap (λ (f : ℕ → Bool). f (length stack)) (opens (fits_step room) _ _ code place i is)) ∙ fit
 
-  pub room_here : fits_from code place (length stack) ≡ true → has_room i (length stack) ≡ true
-  room_here fit = and_first (has_room i (length stack)) _ (fit_here fit)
+  pub room_here : fits_from room code place (length stack) ≡ true → has_room room i (length stack) ≡ true
+  room_here fit = and_first (has_room room i (length stack)) _ (fit_here fit)
 
   module _ (n : ℕ) (after : List Value) (leads : step_of look i stack ≡ Ok (n, after)) where
     -- the code gives the same from where the step leads
@@ -95,11 +95,11 @@ module _ (look : ℕ → Result Value ExecFault) (code : List Instr) (place : �
         ∙ ap (λ (r : Result Step ExecFault). r >>= λ s. gives_from look code (place + 1 + s.0) s.1) leads)
 
     -- there is room where the step leads
-    pub room_on : fits_from code place (length stack) ≡ true → fits_from code (place + 1 + n) (length after) ≡ true
-    room_on fit = subst (IsWell heights) leads (step_well heights look i stack (and_second (has_room i (length stack)) _ (fit_here fit)))
+    pub room_on : fits_from room code place (length stack) ≡ true → fits_from room code (place + 1 + n) (length after) ≡ true
+    room_on fit = subst (IsWell heights) leads (step_well heights look i stack (and_second (has_room room i (length stack)) _ (fit_here fit)))
 
-    pub within_on : fits_from code place (length stack) ≡ true → place + 1 + n ≤ length code
-    within_on fit = place_within code (place + 1 + n) (length after) (room_on fit)
+    pub within_on : fits_from room code place (length stack) ≡ true → place + 1 + n ≤ length code
+    within_on fit = place_within room code (place + 1 + n) (length after) (room_on fit)
 
   -- a step's fault is that of the code
   fault_here : (f : ExecFault) → step_of look i stack ≡ Err f → gives_from look code place stack ≡ Err f
@@ -119,8 +119,8 @@ one_given (x ∷ []) one = refl
 one_given (x ∷ y ∷ below) one = absurd (omega arith)
 
 -- what a code gives where it ends
-pub given_at_end : (look : ℕ → Result Value ExecFault) (code : List Instr) (place : ℕ) (stack : List Value) → length code ≤ place → fits_from code place (length stack) ≡ true → put (gives_from look code place stack) [] ≡ Ok stack
-given_at_end look [] zero stack past fit = one_given stack (eqb-true (length stack) 1 fit)
-given_at_end look [] (suc n) stack past fit = absurd (true≢false (sym fit))
-given_at_end look (i ∷ code) zero stack past fit = absurd (omega arith)
-given_at_end look (i ∷ code) (suc n) stack past fit = given_at_end look code n stack (omega arith) fit
+pub given_at_end : (room : ℕ) (look : ℕ → Result Value ExecFault) (code : List Instr) (place : ℕ) (stack : List Value) → length code ≤ place → fits_from room code place (length stack) ≡ true → put (gives_from look code place stack) [] ≡ Ok stack
+given_at_end room look [] zero stack past fit = one_given stack (eqb-true (length stack) 1 fit)
+given_at_end room look [] (suc n) stack past fit = absurd (true≢false (sym fit))
+given_at_end room look (i ∷ code) zero stack past fit = absurd (omega arith)
+given_at_end room look (i ∷ code) (suc n) stack past fit = given_at_end room look code n stack (omega arith) fit

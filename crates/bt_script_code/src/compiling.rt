@@ -1,4 +1,4 @@
-ghost use Rattle.std.specs.Prelude.{◌≡◌, ◌+◌, ◌<◌, ◌≤◌, ℕ, List, [], ◌∷◌, ◌++◌, true, IfOk, OnOk, length};
+ghost use Rattle.std.specs.Prelude.{◌≡◌, ◌+◌, ◌<◌, ◌≤◌, ℕ, List, [], ◌∷◌, ◌++◌, true, IfOk, IsTrue, OnOk, length};
 ghost use Rattle.std.specs.List.{All};
 ghost use Rattle.bt_script_code.specs.declared.instr.Instr.{Instr as Turn};
 ghost use Rattle.bt_script_code.specs.declared.instr.Instr.TheVariants.{Slot, Unless, Skip};
@@ -173,6 +173,26 @@ fn emit(
     }
 }
 
+/// Whether the expression is no higher than this.
+fn is_low(e: &Expr, most: u32) -> bool
+    ensures { IsTrue result → height e.now ≤ most }
+{
+    if most == 0 {
+        return false;
+    }
+    match e {
+        Expr::Num(_) => true,
+        Expr::Lit(_) => true,
+        Expr::Look(_) => true,
+        Expr::Group(a) => is_low(a.get(), most - 1),
+        Expr::Unary(_, a) => is_low(a.get(), most - 1),
+        Expr::Binary(_, a, b) => is_low(a.get(), most - 1) && is_low(b.get(), most - 1),
+        Expr::Choose(a, b, c) => {
+            is_low(a.get(), most - 1) && is_low(b.get(), most - 1) && is_low(c.get(), most - 1)
+        }
+    }
+}
+
 /// The code of an expression.
 fn postfix(alloc: Global, e: &Expr, slots: &[(Name, u32)]) -> Result<Postfix, NoMemory>
     requires { height e.now ≤ 64 }
@@ -182,6 +202,7 @@ fn postfix(alloc: Global, e: &Expr, slots: &[(Name, u32)]) -> Result<Postfix, No
     emit(alloc, e, slots, &mut code)?;
     Ok(Postfix {
         instrs: Items::of(code),
+        is_low: is_low(e, 8),
     })
 }
 
@@ -203,6 +224,7 @@ fn change(
     end(op, 1, &mut code)?;
     Ok(Postfix {
         instrs: Items::of(code),
+        is_low: is_low(e, 7),
     })
 }
 

@@ -1,6 +1,6 @@
 ghost use Rattle.std.specs.Prelude.{◌≡◌, ◌<◌, ◌≤◌, [], true, IfOk, length};
 ghost use Rattle.bt_script.specs.Entries.{IsAnswered};
-ghost use Rattle.bt_script_code.specs.Rooms.{fits_from, has_room};
+ghost use Rattle.bt_script_code.specs.Rooms.{fits, fits_from, has_room};
 ghost use Rattle.bt_script_code.specs.Running.{code_reach, code_texts, code_value, gives_from, instr_reach, instr_texts, put, step_of};
 ghost use Rattle.bt_script_code.specs.Stacks.{Leads, Leaves};
 
@@ -13,7 +13,7 @@ use bt_script::{BinOp, ExecFault, Stop};
 /// Does one instruction, and answers how many behind it are passed over.
 #[inline(always)]
 fn turn<C, S: Stack<C>>(instr: &Instr, slots: &C, stack: &mut S) -> Result<usize, Stop<ExecFault>>
-    requires room { has_room instr.now (length (S.values stack.old)) ≡ true }
+    requires room { has_room S.room instr.now (length (S.values stack.old)) ≡ true }
     requires reach { instr_reach instr.now ≤ S.reach slots.now }
     ensures leads { Leaves result (step_of (S.gives slots.now) instr.now (S.values stack.old)) (λ n. (n, S.values stack.new)) }
     ensures answered { S.numbers ≡ true → S.IsHeld slots.now → instr_texts instr.now ≡ 0 → IsAnswered result }
@@ -66,11 +66,11 @@ fn turn_at<C, S: Stack<C>>(
     stack: &mut S,
 ) -> Result<usize, Stop<ExecFault>>
     requires at { place < length code.now }
-    requires room { fits_from code.now place (length (S.values stack.old)) ≡ true }
+    requires room { fits_from S.room code.now place (length (S.values stack.old)) ≡ true }
     requires reach { code_reach code.now ≤ S.reach slots.now }
     ensures leads { let look = S.gives slots.now in
         Leads result (gives_from look code.now place (S.values stack.old)) (λ next. gives_from look code.now next (S.values stack.new)) }
-    ensures room { IfOk result (λ next. fits_from code.now next (length (S.values stack.new)) ≡ true) }
+    ensures room { IfOk result (λ next. fits_from S.room code.now next (length (S.values stack.new)) ≡ true) }
     ensures on { IfOk result (λ next. place < next) }
     ensures answered { S.numbers ≡ true → S.IsHeld slots.now → code_texts code.now ≡ 0 → IsAnswered result }
 {
@@ -85,6 +85,7 @@ fn turn_at<C, S: Stack<C>>(
 #[inline(always)]
 pub fn run<C, S: Stack<C>>(code: &Postfix, slots: &C, stack: &mut S) -> Result<(), Stop<ExecFault>>
     requires empty { S.values stack.old ≡ [] }
+    requires fits { fits S.room code.now.instrs ≡ true }
     requires reach { code_reach code.now.instrs ≤ S.reach slots.now }
     ensures leaves { Leaves result (put (code_value (S.gives slots.now) code.now.instrs) []) (λ _. S.values stack.new) }
     ensures answered { S.numbers ≡ true → S.IsHeld slots.now → code_texts code.now.instrs ≡ 0 → IsAnswered result }

@@ -31,6 +31,8 @@ impl<B: Cells> Stack<B> for EntryValues {
 
     ghost numbers = { false };
 
+    ghost room = { 65 };
+
     ghost reach = { λ cells. length (B.entries cells) };
 
     ghost gives = { λ cells. found (B.entries cells) };

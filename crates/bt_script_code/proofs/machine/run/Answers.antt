@@ -9,4 +9,4 @@ returns-clause-leaves g c =
     let look = g.S.Stack.gives c.args.slots.now in
     let past : length c.list-instrs.result.now ≤ c.loop-place.place = grind (arith, common_steps) in
     ap (λ r. put r []) (ap (code_value look) (sym c.list-instrs.ensures) ∙ sym c.loop-place.invariant.gives)
-    ∙ given_at_end look c.list-instrs.result.now c.loop-place.place (g.S.Stack.values c.loop-place.stack) past c.loop-place.invariant.room
+    ∙ given_at_end g.S.Stack.room look c.list-instrs.result.now c.loop-place.place (g.S.Stack.values c.loop-place.stack) past c.loop-place.invariant.room

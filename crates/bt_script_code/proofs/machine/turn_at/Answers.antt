@@ -8,30 +8,30 @@ pub turn-requires : goal.turn-requires
 turn-requires g c =
     let is = slice_get_read c.args.code.now (length c.args.code.now) c.args.place c.index-code-place.result refl c.requires.at c.index-code-place.is in
     record {
-      room = room_here (g.S.Stack.gives c.args.slots.now) c.args.code.now c.args.place c.index-code-place.result is (g.S.Stack.values c.args.stack.now) c.requires.room;
+      room = room_here g.S.Stack.room (g.S.Stack.gives c.args.slots.now) c.args.code.now c.args.place c.index-code-place.result is (g.S.Stack.values c.args.stack.now) c.requires.room;
       reach = omega (arith, reach_at c.args.code.now c.args.place c.index-code-place.result is, c.requires.reach);
     }
 
 pub overflow_add-result-in-Ok : goal.overflow_add-result-in-Ok
 overflow_add-result-in-Ok g c =
     let is = slice_get_read c.args.code.now (length c.args.code.now) c.args.place c.index-code-place.result refl c.requires.at c.index-code-place.is in
-    let within = within_on (g.S.Stack.gives c.args.slots.now) c.args.code.now c.args.place c.index-code-place.result is (g.S.Stack.values c.args.stack.now) c.in-Ok.passed (g.S.Stack.values c.turn.new.stack) c.in-Ok.ensures.leads c.requires.room in
+    let within = within_on g.S.Stack.room (g.S.Stack.gives c.args.slots.now) c.args.code.now c.args.place c.index-code-place.result is (g.S.Stack.values c.args.stack.now) c.in-Ok.passed (g.S.Stack.values c.turn.new.stack) c.in-Ok.ensures.leads c.requires.room in
     grind (arith, within)
 
 pub returns-in-Ok-clause-leads : goal.returns-in-Ok-clause-leads
 returns-in-Ok-clause-leads g c =
     let is = slice_get_read c.args.code.now (length c.args.code.now) c.args.place c.index-code-place.result refl c.requires.at c.index-code-place.is in
-    sym (same_on (g.S.Stack.gives c.args.slots.now) c.args.code.now c.args.place c.index-code-place.result is (g.S.Stack.values c.args.stack.now) c.in-Ok.passed (g.S.Stack.values c.turn.new.stack) c.in-Ok.ensures.leads)
+    sym (same_on g.S.Stack.room (g.S.Stack.gives c.args.slots.now) c.args.code.now c.args.place c.index-code-place.result is (g.S.Stack.values c.args.stack.now) c.in-Ok.passed (g.S.Stack.values c.turn.new.stack) c.in-Ok.ensures.leads)
 
 pub returns-in-Ok-clause-room : goal.returns-in-Ok-clause-room
 returns-in-Ok-clause-room g c =
     let is = slice_get_read c.args.code.now (length c.args.code.now) c.args.place c.index-code-place.result refl c.requires.at c.index-code-place.is in
-    room_on (g.S.Stack.gives c.args.slots.now) c.args.code.now c.args.place c.index-code-place.result is (g.S.Stack.values c.args.stack.now) c.in-Ok.passed (g.S.Stack.values c.turn.new.stack) c.in-Ok.ensures.leads c.requires.room
+    room_on g.S.Stack.room (g.S.Stack.gives c.args.slots.now) c.args.code.now c.args.place c.index-code-place.result is (g.S.Stack.values c.args.stack.now) c.in-Ok.passed (g.S.Stack.values c.turn.new.stack) c.in-Ok.ensures.leads c.requires.room
 
 pub returns-in-Err-clause-leads : goal.returns-in-Err-clause-leads
 returns-in-Err-clause-leads g c =
     let is = slice_get_read c.args.code.now (length c.args.code.now) c.args.place c.index-code-place.result refl c.requires.at c.index-code-place.is in
-    stops_here (g.S.Stack.gives c.args.slots.now) c.args.code.now c.args.place c.index-code-place.result is (g.S.Stack.values c.args.stack.now) _ (λ n. (n, g.S.Stack.values c.turn.new.stack)) c.in-Err.stop c.in-Err.ensures.leads
+    stops_here g.S.Stack.room (g.S.Stack.gives c.args.slots.now) c.args.code.now c.args.place c.index-code-place.result is (g.S.Stack.values c.args.stack.now) _ (λ n. (n, g.S.Stack.values c.turn.new.stack)) c.in-Err.stop c.in-Err.ensures.leads
 
 pub returns-in-Err-clause-answered : goal.returns-in-Err-clause-answered
 returns-in-Err-clause-answered g c =
