@@ -13,7 +13,7 @@ use Rattle.bt_script.specs.Results.{◌>>=◌}
 use Rattle.bt_script_code.specs.declared.instr.Instr.{Instr}
 use Rattle.bt_script_code.specs.declared.instr.Instr.TheVariants as instr
 use Rattle.bt_script_code.specs.Rooms.{has_room, leads_well, fits_step, fits_from}
-use Rattle.bt_script_code.specs.Running.{on_top, put, binary_put, told, Step, next, either_step, step_of, does, gives_from}
+use Rattle.bt_script_code.specs.Running.{on_top, put, binary_put, told, Step, next, either_step, step_of, jump_of, does, gives_from}
 use Rattle.bt_script_code.specs.Stacks.{Leads, Leaves}
 use Rattle.bt_script_code.proofs.Standing.{opens, place_within, and_first, and_second}
 
@@ -77,6 +77,12 @@ module _ (go : ℕ → ℕ → Bool) where
         truth_well _ _ below (number_in x) (subst (λ h. go 0 h ≡ true) e (and_first _ _ well)) (subst (λ h. go n h ≡ true) e (and_second (go 0 (length (x ∷ below) - 1)) _ well))
     step_well (instr.Skip n) stack well = well
 
+pub none_over : (n : ℕ) → n - n ≡ 0
+none_over n = omega arith
+
+pub passed_over : (n m : ℕ) → n + m - n ≡ m
+passed_over n m = omega arith
+
 module _ (room : ℕ) (look : ℕ → Result Value ExecFault) (code : List Instr) (place : ℕ) (i : Instr) (is : slice_get code place ≡ Some i) (stack : List Value) where
   abbrev heights : ℕ → ℕ → Bool
   heights n = fits_from room code (place + 1 + n)
@@ -86,6 +92,31 @@ module _ (room : ℕ) (look : ℕ → Result Value ExecFault) (code : List Instr
 
   pub room_here : fits_from room code place (length stack) ≡ true → has_room room i (length stack) ≡ true
   room_here fit = and_first (has_room room i (length stack)) _ (fit_here fit)
+
+  jump_leads : (i : Instr) (height : ℕ) → leads_well i heights height ≡ true → (h : ℕ) × (heights (jump_of i) h ≡ true)
+  jump_leads (instr.Number n) height well = (height + 1, well)
+  jump_leads (instr.Text t) height well = (height + 1, well)
+  jump_leads (instr.Slot k) height well = (height + 1, well)
+  jump_leads (instr.Unary op) height well = (height, well)
+  jump_leads (instr.Binary op) height well = (height - 1, well)
+  jump_leads (instr.BinaryNumber op n) height well = (height, well)
+  jump_leads instr.Add height well = (height - 1, well)
+  jump_leads instr.Sub height well = (height - 1, well)
+  jump_leads instr.Mul height well = (height - 1, well)
+  jump_leads (instr.AddNumber n) height well = (height, well)
+  jump_leads (instr.SubNumber n) height well = (height, well)
+  jump_leads (instr.MulNumber n) height well = (height, well)
+  jump_leads (instr.AndThen n) height well = (height, and_second (heights 0 (height - 1)) _ well)
+  jump_leads (instr.OrElse n) height well = (height, and_second (heights 0 (height - 1)) _ well)
+  jump_leads instr.Truth height well = (height, well)
+  jump_leads (instr.Unless n) height well = (height - 1, and_second (heights 0 (height - 1)) _ well)
+  jump_leads (instr.Skip n) height well = (height, well)
+
+  -- the place to which a jump leads stands in the code, or at its end
+  pub jump_within : fits_from room code place (length stack) ≡ true → place + 1 + jump_of i ≤ length code
+  jump_within fit =
+      let led = jump_leads i (length stack) (and_second (has_room room i (length stack)) _ (fit_here fit)) in
+      place_within room code (place + 1 + jump_of i) led.0 led.1
 
   module _ (n : ℕ) (after : List Value) (leads : step_of look i stack ≡ Ok (n, after)) where
     -- the code gives the same from where the step leads

@@ -62,6 +62,14 @@ either_step one other t = Ok (if t.0 then one t.1 else other t.1)
 abbrev pub by_truth : (List Value → Step) → (List Value → Step) → List Value → Result Step ExecFault
 by_truth one other stack = truth_taken stack >>= either_step one other
 
+-- how many instructions one passes over where it jumps
+abbrev pub jump_of : Instr → ℕ
+jump_of (instr.AndThen n) = n
+jump_of (instr.OrElse n) = n
+jump_of (instr.Unless n) = n
+jump_of (instr.Skip n) = n
+jump_of i = 0
+
 -- what an instruction does of a stack
 abbrev pub step_of : (ℕ → Result Value ExecFault) → Instr → List Value → Result Step ExecFault
 step_of look (instr.Number n) = λ stack. Ok (0, Int n ∷ stack)

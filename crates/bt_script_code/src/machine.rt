@@ -1,7 +1,7 @@
-ghost use Rattle.std.specs.Prelude.{◌≡◌, ◌<◌, ◌≤◌, [], true, IfOk, length};
+ghost use Rattle.std.specs.Prelude.{◌≡◌, ◌+◌, ◌-◌, ◌^◌, ◌<◌, ◌≤◌, [], true, IfOk, length};
 ghost use Rattle.bt_script.specs.Entries.{IsAnswered};
 ghost use Rattle.bt_script_code.specs.Rooms.{fits, fits_from, has_room};
-ghost use Rattle.bt_script_code.specs.Running.{code_reach, code_texts, code_value, gives_from, instr_reach, instr_texts, put, step_of};
+ghost use Rattle.bt_script_code.specs.Running.{code_reach, code_texts, code_value, gives_from, instr_reach, instr_texts, jump_of, put, step_of};
 ghost use Rattle.bt_script_code.specs.Stacks.{Leads, Leaves};
 
 use crate::instr::Instr;
@@ -10,12 +10,20 @@ use crate::postfix::Postfix;
 use crate::stack::Stack;
 use bt_script::{BinOp, ExecFault, Stop};
 
-/// Does one instruction, and answers how many behind it are passed over.
+/// Does one instruction, and answers the place at which to go on. Here is the place that follows it.
+#[tactic(auto, using(crate::proofs::Steps::none_over, crate::proofs::Steps::passed_over))]
 #[inline(always)]
-fn turn<C, S: Stack<C>>(instr: &Instr, slots: &C, stack: &mut S) -> Result<usize, Stop<ExecFault>>
+fn turn<C, S: Stack<C>>(
+    instr: &Instr,
+    next: usize,
+    slots: &C,
+    stack: &mut S,
+) -> Result<usize, Stop<ExecFault>>
     requires room { has_room S.room instr.now (length (S.values stack.old)) ≡ true }
     requires reach { instr_reach instr.now ≤ S.reach slots.now }
-    ensures leads { Leaves result (step_of (S.gives slots.now) instr.now (S.values stack.old)) (λ n. (n, S.values stack.new)) }
+    requires within { next + jump_of instr.now < 2 ^ 63 }
+    ensures leads { Leaves result (step_of (S.gives slots.now) instr.now (S.values stack.old)) (λ place. (place - next, S.values stack.new)) }
+    ensures on { IfOk result (λ place. next ≤ place) }
     ensures answered { S.numbers ≡ true → S.IsHeld slots.now → instr_texts instr.now ≡ 0 → IsAnswered result }
 {
     match instr {
@@ -34,13 +42,13 @@ fn turn<C, S: Stack<C>>(instr: &Instr, slots: &C, stack: &mut S) -> Result<usize
         Instr::AndThen(n) => {
             if !stack.take_truth()? {
                 stack.put_number(0);
-                return Ok(*n);
+                return Ok(next + *n);
             }
         }
         Instr::OrElse(n) => {
             if stack.take_truth()? {
                 stack.put_number(1);
-                return Ok(*n);
+                return Ok(next + *n);
             }
         }
         Instr::Truth => {
@@ -49,12 +57,12 @@ fn turn<C, S: Stack<C>>(instr: &Instr, slots: &C, stack: &mut S) -> Result<usize
         }
         Instr::Unless(n) => {
             if !stack.take_truth()? {
-                return Ok(*n);
+                return Ok(next + *n);
             }
         }
-        Instr::Skip(n) => return Ok(*n),
+        Instr::Skip(n) => return Ok(next + *n),
     }
-    Ok(0)
+    Ok(next)
 }
 
 /// Does the instruction at a place, and answers the place at which to go on.
@@ -74,8 +82,8 @@ fn turn_at<C, S: Stack<C>>(
     ensures on { IfOk result (λ next. place < next) }
     ensures answered { S.numbers ≡ true → S.IsHeld slots.now → code_texts code.now ≡ 0 → IsAnswered result }
 {
-    match turn(&code[place], slots, stack) {
-        Ok(passed) => Ok(place + 1 + passed),
+    match turn(&code[place], place + 1, slots, stack) {
+        Ok(next) => Ok(next),
         Err(stop) => Err(stop),
     }
 }
