@@ -127,13 +127,14 @@ fn end(op: BinOp, place: usize, code: &mut Vec<Instr>) -> Result<(), NoMemory>
 fn aim(test: usize, end: usize, code: &mut Vec<Instr>)
     requires { test < end × end < length code.old.items }
     ensures { (front b c : List Turn) → test ≡ length front → end ≡ length front + 1 + length b →
-        code.old.items ≡ front ++ Unless 0 ∷ (b ++ Skip 0 ∷ c) → code.new.items ≡ front ++ Unless (length b + 1) ∷ (b ++ Skip (length c) ∷ c) }
+        code.old.items ≡ front ++ Unless 0 ∷ (b ++ Skip 0 ∷ c) →
+        code.new.items ≡ front ++ Unless (length b + 1) ∷ (b ++ Skip (length c) ∷ c) }
 {
     code[test] = Instr::Unless(end - test);
     code[end] = Instr::Skip(code.len() - end - 1);
 }
 
-/// Puts the code of an expression behind what is there, with its names replaced by their slots.
+/// Puts the code of an expression after what is there, with its names replaced by their slots.
 fn emit(
     alloc: Global,
     e: &Expr,

@@ -174,9 +174,11 @@ pub fn step_int<B: Cells>(stmt: &StmtCode, cells: &mut B) -> Result<i64, Stop<Ex
 #[inline(never)]
 pub fn exec_int<B: Cells>(code: &Code, cells: &mut B) -> Option<i64>
     requires { (program code.now).reach ≤ length (B.entries cells.old) }
-    ensures gives { IfSome result (λ n. (program code.now).run (B.entries cells.old) ≡ record { answer = Ok (Int n); entries = B.entries cells.new }) }
+    ensures gives { IfSome result (λ n. (program code.now).run (B.entries cells.old) ≡
+        record { answer = Ok (Int n); entries = B.entries cells.new }) }
     ensures nothing { IfNone result (B.entries cells.new ≡ B.entries cells.old) }
-    ensures fault { length code.now.stmts ≡ 1 → (program code.now).texts ≡ 0 → All HoldsNoText (B.entries cells.old) → IfNone result (IsErr ((program code.now).run (B.entries cells.old)).answer) }
+    ensures fault { length code.now.stmts ≡ 1 → (program code.now).texts ≡ 0 →
+        All HoldsNoText (B.entries cells.old) → IfNone result (IsErr ((program code.now).run (B.entries cells.old)).answer) }
     ensures several { length code.now.stmts ≢ 1 → result ≡ None }
     ensures slots { length (B.entries cells.new) ≡ length (B.entries cells.old) }
     ensures left { All HoldsNoText (B.entries cells.old) → All HoldsNoText (B.entries cells.new) }

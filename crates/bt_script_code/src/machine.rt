@@ -10,7 +10,7 @@ use crate::postfix::Postfix;
 use crate::stack::Stack;
 use bt_script::{BinOp, ExecFault, Stop};
 
-/// Does one instruction, and answers the place at which to go on. Here is the place that follows it.
+/// Does one instruction, and answers the place at which to go on. `next` is the place that follows it.
 #[tactic(auto, using(crate::proofs::Steps::none_over, crate::proofs::Steps::passed_over))]
 #[inline(always)]
 fn turn<C, S: Stack<C>>(
@@ -22,7 +22,8 @@ fn turn<C, S: Stack<C>>(
     requires room { has_room S.room instr.now (length (S.values stack.old)) ≡ true }
     requires reach { instr_reach instr.now ≤ S.reach slots.now }
     requires within { next + jump_of instr.now < 2 ^ 63 }
-    ensures leads { Leaves result (step_of (S.gives slots.now) instr.now (S.values stack.old)) (λ place. (place - next, S.values stack.new)) }
+    ensures leads { let step = step_of (S.gives slots.now) instr.now (S.values stack.old) in
+        Leaves result step (λ place. (place - next, S.values stack.new)) }
     ensures on { IfOk result (λ place. next ≤ place) }
     ensures answered { S.numbers ≡ true → S.IsHeld slots.now → instr_texts instr.now ≡ 0 → IsAnswered result }
 {
@@ -40,7 +41,8 @@ fn turn<C, S: Stack<C>>(
         Instr::SubNumber(n) => stack.binary_number(BinOp::Sub, *n)?,
         Instr::MulNumber(n) => stack.binary_number(BinOp::Mul, *n)?,
         Instr::AndThen(n) => {
-            if !stack.take_truth()? {
+            let left = stack.take_truth()?;
+            if !left {
                 stack.put_number(0);
                 return Ok(next + *n);
             }
