@@ -1,5 +1,5 @@
 -- The one value that a code leaves on a stack.
-use Rattle.std.proofs.Common.{◌≡◌, ◌+◌, ◌<◌, ℤ, List, [], ◌∷◌, map, length, sym, ap, ◌∙◌, arith, true≢false, true, false, Bool, is_ok}
+use Rattle.std.proofs.Common.{◌≡◌, ◌<◌, ℤ, List, [], ◌∷◌, map, length, sym, ap, ◌∙◌, arith, true≢false, true, false, Bool, is_ok}
 use Rattle.std.specs.Prelude.{Result, Ok, Err}
 use Rattle.bt_script.specs.declared.value.Value.{Value}
 use Rattle.bt_script.specs.declared.value.Value.TheVariants.{Int}

@@ -1,5 +1,5 @@
 -- The code of an expression, in front of any other code, means the expression: its value comes on top of the stack, and its first fault ends all.
-use Rattle.std.proofs.Common.{◌≡◌, ℕ, ◌+◌, ℤ, pos, Bool, true, false, List, [], ◌∷◌, ◌++◌, length, refl, sym, ap, ◌∙◌, subst, arith, append_assoc, append-nil}
+use Rattle.std.proofs.Common.{◌≡◌, ℕ, ◌+◌, ℤ, pos, true, false, List, [], ◌∷◌, ◌++◌, length, refl, sym, ap, ◌∙◌, subst, arith, append_assoc, append-nil}
 use Rattle.std.specs.Prelude.{Result, Ok, Err, if◌then◌else◌}
 use Rattle.bt_script.specs.declared.value.Value.{Value}
 use Rattle.bt_script.specs.declared.value.Value.TheVariants.{Int, Text}
@@ -14,13 +14,13 @@ use Rattle.bt_script.specs.Results.{◌>>=◌}
 use Rattle.bt_script.specs.Evaluation.{eval_step, eval_of}
 use Rattle.bt_script_code.specs.declared.instr.Instr.{Instr}
 use Rattle.bt_script_code.specs.declared.instr.Instr.TheVariants as instr
-use Rattle.bt_script_code.specs.Postfixes.{between, choice_code, code_step, code_of}
-use Rattle.bt_script_code.specs.Running.{put, told, Step, next, either_step, does, gives_from, code_value}
+use Rattle.bt_script_code.specs.Postfixes.{operator, with_number, applied, between, choice_code, code_step, code_of}
+use Rattle.bt_script_code.specs.Running.{put, binary_put, told, Step, next, either_step, step_of, does, gives_from, code_value}
 use Rattle.bt_script_code.proofs.Standing.{behind}
 
 -- both operands, and then the operator
 abbrev in_turn : BinOp → List Instr → List Instr → List Instr
-in_turn op a b = a ++ (b ++ instr.Binary op ∷ [])
+in_turn op a b = a ++ applied op b
 
 module _ (look : ℕ → Result Value ExecFault) where
   abbrev gives : List Instr → ℕ → List Value → Result Value ExecFault
@@ -57,20 +57,47 @@ module _ (look : ℕ → Result Value ExecFault) where
       ap (λ code. gives code 0 stack) (append_assoc a (instr.Unary op ∷ []) rest)
       ∙ ma (instr.Unary op ∷ rest) stack ∙ unary_ends op ra rest stack
 
+  operator_step : (op : BinOp) (stack : List Value) → step_of look (operator op) stack ≡ next (binary_put op stack)
+  operator_step Add stack = refl
+  operator_step Sub stack = refl
+  operator_step Mul stack = refl
+  operator_step op stack = refl
+
+  -- a right operand that is taken in, and one on the stack
+  taken_in : (op : BinOp) (n : ℤ) (stack : List Value) → step_of look (with_number op n) stack ≡ step_of look (operator op) (Int n ∷ stack)
+  taken_in Add n stack = refl
+  taken_in Sub n stack = refl
+  taken_in Mul n stack = refl
+  taken_in op n stack = refl
+
+  abbrev goes_on : List Instr → Result Step ExecFault → Result Value ExecFault
+  goes_on rest r = r >>= λ s. gives rest s.0 s.1
+
   binary_ends : (op : BinOp) (x : Value) (rb : Result Value ExecFault) (rest : List Instr) (stack : List Value) →
-      (rb >>= λ y. gives (instr.Binary op ∷ rest) 0 (y ∷ x ∷ stack)) ≡ (in_order op (Ok x) rb >>= λ v. gives rest 0 (v ∷ stack))
-  binary_ends op x (Ok y) rest stack = found (binary_on op x y) rest stack
+      (rb >>= λ y. gives (operator op ∷ rest) 0 (y ∷ x ∷ stack)) ≡ (in_order op (Ok x) rb >>= λ v. gives rest 0 (v ∷ stack))
+  binary_ends op x (Ok y) rest stack = ap (goes_on rest) (operator_step op (y ∷ x ∷ stack)) ∙ found (binary_on op x y) rest stack
   binary_ends op x (Err f) rest stack = refl
 
   binary_goes : (op : BinOp) (b : List Instr) (ra rb : Result Value ExecFault) → Means b rb → (rest : List Instr) (stack : List Value) →
-      (ra >>= λ x. gives (b ++ instr.Binary op ∷ rest) 0 (x ∷ stack)) ≡ (in_order op ra rb >>= λ v. gives rest 0 (v ∷ stack))
-  binary_goes op b (Ok x) rb mb rest stack = mb (instr.Binary op ∷ rest) (x ∷ stack) ∙ binary_ends op x rb rest stack
+      (ra >>= λ x. gives (b ++ operator op ∷ rest) 0 (x ∷ stack)) ≡ (in_order op ra rb >>= λ v. gives rest 0 (v ∷ stack))
+  binary_goes op b (Ok x) rb mb rest stack = mb (operator op ∷ rest) (x ∷ stack) ∙ binary_ends op x rb rest stack
   binary_goes op b (Err f) rb mb rest stack = refl
 
+  number_goes : (op : BinOp) (n : ℤ) (ra rb : Result Value ExecFault) → Means (instr.Number n ∷ []) rb → (rest : List Instr) (stack : List Value) →
+      (ra >>= λ x. gives (with_number op n ∷ rest) 0 (x ∷ stack)) ≡ (in_order op ra rb >>= λ v. gives rest 0 (v ∷ stack))
+  number_goes op n (Ok x) rb mb rest stack = ap (goes_on rest) (taken_in op n (x ∷ stack)) ∙ binary_goes op (instr.Number n ∷ []) (Ok x) rb mb rest stack
+  number_goes op n (Err f) rb mb rest stack = refl
+
+  stacked_means : (op : BinOp) (a b : List Instr) (ra rb : Result Value ExecFault) → Means a ra → Means b rb → Means (a ++ (b ++ operator op ∷ [])) (in_order op ra rb)
+  stacked_means op a b ra rb ma mb rest stack =
+      ap (λ code. gives code 0 stack) (append_assoc a (b ++ operator op ∷ []) rest ∙ ap (λ z. a ++ z) (append_assoc b (operator op ∷ []) rest))
+      ∙ ma (b ++ operator op ∷ rest) stack ∙ binary_goes op b ra rb mb rest stack
+
   in_turn_means : (op : BinOp) (a b : List Instr) (ra rb : Result Value ExecFault) → Means a ra → Means b rb → Means (in_turn op a b) (in_order op ra rb)
-  in_turn_means op a b ra rb ma mb rest stack =
-      ap (λ code. gives code 0 stack) (append_assoc a (b ++ instr.Binary op ∷ []) rest ∙ ap (λ z. a ++ z) (append_assoc b (instr.Binary op ∷ []) rest))
-      ∙ ma (b ++ instr.Binary op ∷ rest) stack ∙ binary_goes op b ra rb mb rest stack
+  in_turn_means op a (instr.Number n ∷ []) ra rb ma mb rest stack =
+      ap (λ code. gives code 0 stack) (append_assoc a (with_number op n ∷ []) rest)
+      ∙ ma (with_number op n ∷ rest) stack ∙ number_goes op n ra rb mb rest stack
+  in_turn_means op a b ra rb ma mb rest stack = stacked_means op a b ra rb ma mb rest stack
 
   -- the truth of the topmost value, as a number
   truth_by : (r : Result ℤ ExecFault) (rest : List Instr) (stack : List Value) →

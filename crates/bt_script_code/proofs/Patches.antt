@@ -1,9 +1,32 @@
 -- A jump is written after the instructions that it passes over.
-use Rattle.std.proofs.Common.{◌≡◌, ℕ, ◌+◌, ◌-◌, List, [], ◌∷◌, ◌++◌, length, sym, ap, ◌∙◌, arith, append_assoc, length-append}
-use Rattle.std.specs.Prelude.{slice_set}
-use Rattle.std.proofs.Math.Seq.{set-append_seam}
+use Rattle.std.proofs.Common.{◌≡◌, ℕ, ◌+◌, ◌-◌, ℤ, pos, Bool, true, false, true≢false, drop, List, [], ◌∷◌, ◌++◌, length, sym, ap, ◌∙◌, arith, append_assoc, length-append}
+use Rattle.std.specs.Prelude.{Option, Some, None, slice_set}
+use Rattle.std.proofs.Math.Seq.{drop-append_seam, set-append_seam}
+use Rattle.bt_script.specs.declared.syntax.BinOp.{BinOp}
 use Rattle.bt_script_code.specs.declared.instr.Instr.{Instr}
 use Rattle.bt_script_code.specs.declared.instr.Instr.TheVariants as instr
+use Rattle.bt_script_code.specs.Postfixes.{with_number, lone_number, applied}
+
+abbrev number_or_zero : Option ℤ → ℤ
+number_or_zero (Some n) = n
+number_or_zero None = pos 0
+
+abbrev is_there : Option ℤ → Bool
+is_there (Some n) = true
+is_there None = false
+
+lone : (b : List Instr) (n : ℤ) → lone_number b ≡ Some n → b ≡ instr.Number n ∷ []
+lone (instr.Number m ∷ []) n is = ap (λ o. instr.Number (number_or_zero o) ∷ []) is
+lone b n is = absurd (true≢false (sym (ap is_there is)))
+
+-- an operator that takes in its right operand
+pub take_in : (op : BinOp) (n : ℤ) (code front b : List Instr) (place : ℕ) → place ≡ length front → code ≡ front ++ b → lone_number (drop place code) ≡ Some n → slice_set code place (with_number op n) ≡ front ++ applied op b
+take_in op n code front b place at is found =
+    let rest : drop place code ≡ b = (λ k. drop (at k) (is k)) ∙ drop-append_seam front b in
+    let same : b ≡ instr.Number n ∷ [] = lone b n (ap lone_number (sym rest) ∙ found) in
+    (λ k. slice_set ((is ∙ ap (λ z. front ++ z) same) k) (at k) (with_number op n))
+    ∙ set-append_seam front (instr.Number n) [] (with_number op n)
+    ∙ ap (λ z. front ++ applied op z) (sym same)
 
 -- the jump over the right operand of `&&` or `||`
 pub patch : (jump : ℕ → Instr) (t : Instr) (code front b : List Instr) (place : ℕ) → place ≡ length front → code ≡ front ++ jump 0 ∷ b → slice_set code place (jump (length code - place)) ++ t ∷ [] ≡ front ++ jump (length b + 1) ∷ (b ++ t ∷ [])

@@ -1,48 +1,58 @@
 -- The code of a script means what the script means.
-use Rattle.std.proofs.Common.{◌≡◌, ℕ, ◌+◌, max, List, [], ◌∷◌, ◌++◌, map, length, refl, sym, ap, ◌∙◌, subst, arith, pos, sum, take, get_or, ◌<◌}
+use Rattle.std.proofs.Common.{◌≡◌, ℕ, ℤ, ◌+◌, max, List, [], ◌∷◌, ◌++◌, map, length, refl, sym, ap, ◌∙◌, subst, arith, pos, sum, take, get_or, ◌<◌}
 use Rattle.std.proofs.lemmas.Grind.{take_at_read}
 use Rattle.std.proofs.lemmas.List.{map-append}
 use Rattle.std.proofs.lemmas.List.Sums.{sum_by-cons}
-use Rattle.std.specs.Prelude.{Option, Result}
+use Rattle.std.specs.Prelude.{Option}
 use Rattle.bt_script.specs.declared.value.Value.{Value}
 use Rattle.bt_script.specs.declared.value.Value.TheVariants.{Int}
 use Rattle.bt_script.specs.declared.syntax.BinOp.{BinOp}
-use Rattle.bt_script.specs.declared.syntax.BinOp.TheVariants.{Add, Sub, Mul, Div, And, Or, BitAnd, BitOr, BitXor, Compare}
-use Rattle.bt_script.specs.declared.syntax.Expr.{Expr, ind-Expr, map-Expr, roll-Expr, fold-roll-Expr}
+use Rattle.bt_script.specs.declared.syntax.BinOp.TheVariants.{Add, Sub, Mul, And, Or}
+use Rattle.bt_script.specs.declared.syntax.Expr.{Expr, ind-Expr, map-Expr, fold-roll-Expr}
 use Rattle.bt_script.specs.declared.syntax.Expr.TheOpen.{Expr-F, Num, Lit, Look, Group, Unary, Binary, Choose}
 use Rattle.bt_script.specs.declared.syntax.Stmt.{Stmt}
 use Rattle.bt_script.specs.declared.syntax.Stmt.TheVariants as stmt
-use Rattle.bt_script.specs.declared.fault.ExecFault.{ExecFault}
 use Rattle.bt_script.specs.Entries.{entry_of}
-use Rattle.bt_script.specs.Evaluation.{Run, eval_of, stmts_of, written, if_there, followed}
+use Rattle.bt_script.specs.Evaluation.{stmts_of, written, if_there, followed}
 use Rattle.bt_script.specs.Grammar.{expr_of}
 use Rattle.bt_script.specs.Numbers.{greatest}
-use Rattle.bt_script.specs.Operators.{combined}
 use Rattle.bt_script.specs.Scripts.{texts_step, texts_of}
 use Rattle.bt_script_code.specs.declared.codes.StmtCode.TheVariants as coded
 use Rattle.bt_script_code.specs.declared.instr.Instr.{Instr}
 use Rattle.bt_script_code.specs.declared.instr.Instr.TheVariants as instr
 use Rattle.bt_script_code.specs.declared.postfix.Postfix.{Postfix}
-use Rattle.bt_script_code.specs.Postfixes.{ended, between, choice_code, code_step, code_of}
+use Rattle.bt_script_code.specs.Postfixes.{operator, with_number, applied, ended, between, choice_code, code_step, code_of}
 use Rattle.bt_script_code.specs.Programs.{Formula, Program, formula_of, statement_of, program_of}
-use Rattle.bt_script_code.specs.Running.{code_value, instr_reach, code_reach, instr_texts, code_texts}
+use Rattle.bt_script_code.specs.Running.{instr_reach, code_reach, instr_texts, code_texts}
 use Rattle.bt_script_code.specs.Sources.{reach_step, reach_of, stmt_reach}
 use Rattle.bt_script_code.specs.Statements.{code_formula, stmt_program, runs, one_by_one}
 use Rattle.bt_script_code.proofs.Means.{expr_value, change_value}
 use Rattle.bt_script_code.proofs.Standing.{reach-append, texts-append}
 
+operator_reach : (op : BinOp) → instr_reach (operator op) ≡ 0
+operator_reach Add = refl
+operator_reach Sub = refl
+operator_reach Mul = refl
+operator_reach op = refl
+
+number_reach : (op : BinOp) (n : ℤ) → instr_reach (with_number op n) ≡ 0
+number_reach Add n = refl
+number_reach Sub n = refl
+number_reach Mul n = refl
+number_reach op n = refl
+
+reach-stacked : (op : BinOp) (b : List Instr) → code_reach (b ++ operator op ∷ []) ≡ code_reach b
+reach-stacked op b = omega (arith, reach-append b (operator op ∷ []), operator_reach op)
+
+reach-applied : (op : BinOp) (b : List Instr) → code_reach (applied op b) ≡ code_reach b
+reach-applied op (instr.Number n ∷ []) = omega (arith, number_reach op n)
+reach-applied op b = reach-stacked op b
+
 -- the slots that the right operand of an operator needs
 reach-ended : (op : BinOp) (b : List Instr) → code_reach (ended op b) ≡ code_reach b
 reach-ended And b = omega (arith, reach-append b (instr.Truth ∷ []))
 reach-ended Or b = omega (arith, reach-append b (instr.Truth ∷ []))
-reach-ended Add b = omega (arith, reach-append b (instr.Binary Add ∷ []))
-reach-ended Sub b = omega (arith, reach-append b (instr.Binary Sub ∷ []))
-reach-ended Mul b = omega (arith, reach-append b (instr.Binary Mul ∷ []))
-reach-ended Div b = omega (arith, reach-append b (instr.Binary Div ∷ []))
-reach-ended BitAnd b = omega (arith, reach-append b (instr.Binary BitAnd ∷ []))
-reach-ended BitOr b = omega (arith, reach-append b (instr.Binary BitOr ∷ []))
-reach-ended BitXor b = omega (arith, reach-append b (instr.Binary BitXor ∷ []))
-reach-ended (Compare c) b = omega (arith, reach-append b (instr.Binary (Compare c) ∷ []))
+reach-ended op b = reach-applied op b
 
 reach-between : (op : BinOp) (a b : List Instr) → code_reach (between op a b) ≡ max (code_reach a) (code_reach b)
 reach-between op a b = omega (arith, reach-append a (ended op b), reach-ended op b)
@@ -54,17 +64,29 @@ one_more i b none = omega (arith, texts-append b (i ∷ []), sum_by-cons instr_t
 one_before : (i : Instr) (b : List Instr) → instr_texts i ≡ 0 → code_texts (i ∷ b) ≡ code_texts b
 one_before i b none = omega (arith, sum_by-cons instr_texts i b, none)
 
+operator_texts : (op : BinOp) → instr_texts (operator op) ≡ 0
+operator_texts Add = refl
+operator_texts Sub = refl
+operator_texts Mul = refl
+operator_texts op = refl
+
+number_texts : (op : BinOp) (n : ℤ) → instr_texts (with_number op n) ≡ 0
+number_texts Add n = refl
+number_texts Sub n = refl
+number_texts Mul n = refl
+number_texts op n = refl
+
+texts-stacked : (op : BinOp) (b : List Instr) → code_texts (b ++ operator op ∷ []) ≡ code_texts b
+texts-stacked op b = one_more (operator op) b (operator_texts op)
+
+texts-applied : (op : BinOp) (b : List Instr) → code_texts (applied op b) ≡ code_texts b
+texts-applied op (instr.Number n ∷ []) = one_before (with_number op n) [] (number_texts op n) ∙ sym (one_before (instr.Number n) [] refl)
+texts-applied op b = texts-stacked op b
+
 texts-ended : (op : BinOp) (b : List Instr) → code_texts (ended op b) ≡ code_texts b
 texts-ended And b = one_before (instr.AndThen (length b + 1)) (b ++ instr.Truth ∷ []) refl ∙ one_more instr.Truth b refl
 texts-ended Or b = one_before (instr.OrElse (length b + 1)) (b ++ instr.Truth ∷ []) refl ∙ one_more instr.Truth b refl
-texts-ended Add b = one_more (instr.Binary Add) b refl
-texts-ended Sub b = one_more (instr.Binary Sub) b refl
-texts-ended Mul b = one_more (instr.Binary Mul) b refl
-texts-ended Div b = one_more (instr.Binary Div) b refl
-texts-ended BitAnd b = one_more (instr.Binary BitAnd) b refl
-texts-ended BitOr b = one_more (instr.Binary BitOr) b refl
-texts-ended BitXor b = one_more (instr.Binary BitXor) b refl
-texts-ended (Compare c) b = one_more (instr.Binary (Compare c)) b refl
+texts-ended op b = texts-applied op b
 
 texts-between : (op : BinOp) (a b : List Instr) → code_texts (between op a b) ≡ code_texts a + code_texts b
 texts-between op a b = omega (arith, texts-append a (ended op b), texts-ended op b)

@@ -1,9 +1,8 @@
 -- Places of codes that stand one after the other, and what is said of each instruction of a code.
-use Rattle.std.proofs.Common.{◌≡◌, ℕ, zero, suc, ◌+◌, ◌<◌, ◌≤◌, max, Bool, true, false, ◌&&◌, List, [], ◌∷◌, ◌++◌, map, sum, length, refl, sym, ap, ◌∙◌, subst, arith, true≢false}
-use Rattle.std.specs.Prelude.{Option, Some, None, slice_get}
+use Rattle.std.proofs.Common.{◌≡◌, ℕ, zero, suc, ◌+◌, ◌≤◌, max, Bool, true, false, ◌&&◌, List, [], ◌∷◌, ◌++◌, length, refl, sym, ap, ◌∙◌, arith, true≢false}
+use Rattle.std.specs.Prelude.{Some, slice_get}
 use Rattle.std.proofs.lemmas.Option.{slice_get_within}
 use Rattle.std.proofs.lemmas.List.Sums.{sum_by-append, sum_by-cons}
-use Rattle.bt_script.specs.Numbers.{greatest}
 use Rattle.bt_script_code.specs.declared.instr.Instr.{Instr}
 use Rattle.bt_script_code.specs.Places.{at_place}
 use Rattle.bt_script_code.specs.Rooms.{fits_from}
@@ -31,11 +30,11 @@ module _ {R : Type 0} (makes : Instr → (ℕ → R) → R) (end past : R) where
       opens code place i is ∙ (λ k. makes i (λ n. shift n k))
 
 -- a place that a stack has room for is no place past the end
-pub place_within : (code : List Instr) (place height : ℕ) → fits_from code place height ≡ true → place ≤ length code
-place_within [] zero height fit = omega arith
-place_within [] (suc n) height fit = absurd (true≢false (sym fit))
-place_within (i ∷ code) zero height fit = omega arith
-place_within (i ∷ code) (suc n) height fit = omega (arith, place_within code n height fit)
+pub place_within : (room : ℕ) (code : List Instr) (place height : ℕ) → fits_from room code place height ≡ true → place ≤ length code
+place_within room [] zero height fit = omega arith
+place_within room [] (suc n) height fit = absurd (true≢false (sym fit))
+place_within room (i ∷ code) zero height fit = omega arith
+place_within room (i ∷ code) (suc n) height fit = omega (arith, place_within room code n height fit)
 
 pub and_first : (a b : Bool) → (a && b) ≡ true → a ≡ true
 and_first true b h = refl

@@ -2,7 +2,7 @@
 use Rattle.std.specs.Prelude.{ℕ, zero, suc, List, [], ◌∷◌}
 use Rattle.bt_script_code.specs.declared.instr.Instr.{Instr}
 
--- What a place of a code stands for: what its instruction makes of the places behind it, of which the next is number 0.
+-- What a place of a code stands for: what its instruction makes of the places that follow it, of which the next is number 0.
 -- The place at the end stands for one thing, and those past the end for another.
 abbrev pub at_place : {R : Type 0} → (Instr → (ℕ → R) → R) → R → R → List Instr → ℕ → R
 at_place makes end past [] zero = end

@@ -1,5 +1,5 @@
 -- The postfix code of an expression: the codes of its operands, and then what is done of what they leave on the stack.
-use Rattle.std.specs.Prelude.{ℕ, ◌+◌, List, [], ◌∷◌, ◌++◌, length, Bool, true, false}
+use Rattle.std.specs.Prelude.{ℕ, ℤ, ◌+◌, List, [], ◌∷◌, ◌++◌, length, Bool, true, false, Option, Some, None}
 use Rattle.bt_script.specs.declared.syntax.BinOp.{BinOp}
 use Rattle.bt_script.specs.declared.syntax.BinOp.TheVariants.{Add, Sub, Mul, Div, And, Or, BitAnd, BitOr, BitXor, Compare}
 use Rattle.bt_script.specs.declared.syntax.Expr.{Expr, fold-Expr}
@@ -33,18 +33,35 @@ has_jump BitOr = false
 has_jump BitXor = false
 has_jump (Compare c) = false
 
--- the right operand of an operator, with what is done behind it: that of `&&` and `||` is passed over where the left one decides
+-- an operator whose operands are the two topmost values
+abbrev pub operator : BinOp → Instr
+operator Add = instr.Add
+operator Sub = instr.Sub
+operator Mul = instr.Mul
+operator op = instr.Binary op
+
+-- an operator whose right operand is a number
+abbrev pub with_number : BinOp → ℤ → Instr
+with_number Add n = instr.AddNumber n
+with_number Sub n = instr.SubNumber n
+with_number Mul n = instr.MulNumber n
+with_number op n = instr.BinaryNumber op n
+
+-- the number that a code puts on top, where it does nothing else
+abbrev pub lone_number : List Instr → Option ℤ
+lone_number (instr.Number n ∷ []) = Some n
+lone_number code = None
+
+-- the right operand of an operator that evaluates both, and the operator, which takes in an operand that is a number
+abbrev pub applied : BinOp → List Instr → List Instr
+applied op (instr.Number n ∷ []) = with_number op n ∷ []
+applied op b = b ++ operator op ∷ []
+
+-- the right operand of an operator, with what is done after it: that of `&&` and `||` is passed over where the left one decides
 abbrev pub ended : BinOp → List Instr → List Instr
 ended And b = instr.AndThen (length b + 1) ∷ (b ++ instr.Truth ∷ [])
 ended Or b = instr.OrElse (length b + 1) ∷ (b ++ instr.Truth ∷ [])
-ended Add b = b ++ instr.Binary Add ∷ []
-ended Sub b = b ++ instr.Binary Sub ∷ []
-ended Mul b = b ++ instr.Binary Mul ∷ []
-ended Div b = b ++ instr.Binary Div ∷ []
-ended BitAnd b = b ++ instr.Binary BitAnd ∷ []
-ended BitOr b = b ++ instr.Binary BitOr ∷ []
-ended BitXor b = b ++ instr.Binary BitXor ∷ []
-ended (Compare c) b = b ++ instr.Binary (Compare c) ∷ []
+ended op b = applied op b
 
 -- an operator between two operands
 abbrev pub between : BinOp → List Instr → List Instr → List Instr

@@ -5,6 +5,7 @@ use Rattle.bt_script.specs.declared.value.Value.{Value}
 use Rattle.bt_script.specs.declared.value.Value.TheVariants.{Int, Text}
 use Rattle.bt_script.specs.declared.syntax.UnOp.{UnOp}
 use Rattle.bt_script.specs.declared.syntax.BinOp.{BinOp}
+use Rattle.bt_script.specs.declared.syntax.BinOp.TheVariants.{Add, Sub, Mul}
 use Rattle.bt_script.specs.declared.fault.ExecFault.{ExecFault}
 use Rattle.bt_script.specs.declared.fault.ExecFault.TheVariants.{Mixed}
 use Rattle.bt_script.specs.Operators.{number_in, is_true, unary_on, binary_on}
@@ -61,6 +62,14 @@ either_step one other t = Ok (if t.0 then one t.1 else other t.1)
 abbrev pub by_truth : (List Value → Step) → (List Value → Step) → List Value → Result Step ExecFault
 by_truth one other stack = truth_taken stack >>= either_step one other
 
+-- how many instructions one passes over where it jumps
+abbrev pub jump_of : Instr → ℕ
+jump_of (instr.AndThen n) = n
+jump_of (instr.OrElse n) = n
+jump_of (instr.Unless n) = n
+jump_of (instr.Skip n) = n
+jump_of i = 0
+
 -- what an instruction does of a stack
 abbrev pub step_of : (ℕ → Result Value ExecFault) → Instr → List Value → Result Step ExecFault
 step_of look (instr.Number n) = λ stack. Ok (0, Int n ∷ stack)
@@ -68,13 +77,20 @@ step_of look (instr.Text t) = λ stack. Ok (0, Text t ∷ stack)
 step_of look (instr.Slot k) = λ stack. next (put (look k) stack)
 step_of look (instr.Unary op) = λ stack. next (unary_put op stack)
 step_of look (instr.Binary op) = λ stack. next (binary_put op stack)
+step_of look (instr.BinaryNumber op n) = λ stack. next (binary_put op (Int n ∷ stack))
+step_of look instr.Add = λ stack. next (binary_put Add stack)
+step_of look instr.Sub = λ stack. next (binary_put Sub stack)
+step_of look instr.Mul = λ stack. next (binary_put Mul stack)
+step_of look (instr.AddNumber n) = λ stack. next (binary_put Add (Int n ∷ stack))
+step_of look (instr.SubNumber n) = λ stack. next (binary_put Sub (Int n ∷ stack))
+step_of look (instr.MulNumber n) = λ stack. next (binary_put Mul (Int n ∷ stack))
 step_of look (instr.AndThen n) = by_truth (λ below. (0, below)) (λ below. (n, Int (pos 0) ∷ below))
 step_of look (instr.OrElse n) = by_truth (λ below. (n, Int (pos 1) ∷ below)) (λ below. (0, below))
 step_of look instr.Truth = by_truth (λ below. (0, Int (pos 1) ∷ below)) (λ below. (0, Int (pos 0) ∷ below))
 step_of look (instr.Unless n) = by_truth (λ below. (0, below)) (λ below. (n, below))
 step_of look (instr.Skip n) = λ stack. Ok (n, stack)
 
--- what an instruction gives, where the places behind it give this
+-- what an instruction gives, where the places after it give this
 abbrev pub does : (ℕ → Result Value ExecFault) → Instr → (ℕ → List Value → Result Value ExecFault) → List Value → Result Value ExecFault
 does look i go stack = step_of look i stack >>= λ s. go s.0 s.1
 
@@ -87,32 +103,16 @@ abbrev pub code_value : (ℕ → Result Value ExecFault) → List Instr → Resu
 code_value look code = gives_from look code 0 []
 
 abbrev pub instr_reach : Instr → ℕ
-instr_reach (instr.Number n) = 0
-instr_reach (instr.Text t) = 0
 instr_reach (instr.Slot k) = k + 1
-instr_reach (instr.Unary op) = 0
-instr_reach (instr.Binary op) = 0
-instr_reach (instr.AndThen n) = 0
-instr_reach (instr.OrElse n) = 0
-instr_reach instr.Truth = 0
-instr_reach (instr.Unless n) = 0
-instr_reach (instr.Skip n) = 0
+instr_reach i = 0
 
 -- how many slots a code needs
 abbrev pub code_reach : List Instr → ℕ
 code_reach code = greatest (map instr_reach code)
 
 abbrev pub instr_texts : Instr → ℕ
-instr_texts (instr.Number n) = 0
 instr_texts (instr.Text t) = 1
-instr_texts (instr.Slot k) = 0
-instr_texts (instr.Unary op) = 0
-instr_texts (instr.Binary op) = 0
-instr_texts (instr.AndThen n) = 0
-instr_texts (instr.OrElse n) = 0
-instr_texts instr.Truth = 0
-instr_texts (instr.Unless n) = 0
-instr_texts (instr.Skip n) = 0
+instr_texts i = 0
 
 -- how many text literals stand in a code
 abbrev pub code_texts : List Instr → ℕ

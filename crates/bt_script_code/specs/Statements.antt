@@ -1,5 +1,5 @@
 -- What the code of statements does, one after the other.
-use Rattle.std.specs.Prelude.{ℕ, ◌+◌, pos, max, List, [], ◌∷◌, map, sum, Option, Result, Ok}
+use Rattle.std.specs.Prelude.{ℕ, ◌+◌, pos, max, List, [], ◌∷◌, map, sum, Option, Ok}
 use Rattle.bt_script.specs.declared.value.Value.{Value}
 use Rattle.bt_script.specs.declared.value.Value.TheVariants.{Int}
 use Rattle.bt_script.specs.Entries.{entry_of}

@@ -1,11 +1,11 @@
-ghost use Rattle.std.specs.Prelude.{◌≡◌, ◌+◌, ◌<◌, ◌≤◌, ℕ, List, [], ◌∷◌, ◌++◌, true, IfOk, OnOk, length};
+ghost use Rattle.std.specs.Prelude.{◌≡◌, ◌+◌, ◌<◌, ◌≤◌, ℕ, List, [], ◌∷◌, ◌++◌, true, IfOk, IsTrue, OnOk, length};
 ghost use Rattle.std.specs.List.{All};
 ghost use Rattle.bt_script_code.specs.declared.instr.Instr.{Instr as Turn};
 ghost use Rattle.bt_script_code.specs.declared.instr.Instr.TheVariants.{Slot, Unless, Skip};
 ghost use Rattle.bt_script_code.specs.Codes.{program, formula};
 ghost use Rattle.bt_script_code.specs.Programs.{program_of, formula_of, statement_of};
 ghost use Rattle.bt_script.specs.Grammar.{height};
-ghost use Rattle.bt_script_code.specs.Postfixes.{begun, between, code_of, ended, has_jump};
+ghost use Rattle.bt_script_code.specs.Postfixes.{applied, begun, between, code_of, ended, has_jump, lone_number as lone_number_of, operator as operator_of, with_number as with_number_of};
 ghost use Rattle.bt_script_code.specs.Sources.{slot_of, IsListed, IsCompilable};
 ghost use Rattle.bt_script.specs.Scripts.{names_of};
 ghost use Rattle.bt_script_code.specs.Statements.{stmt_program};
@@ -48,9 +48,63 @@ fn begin(op: BinOp, code: &mut Vec<Instr>) -> Result<(), NoMemory>
     }
 }
 
+/// An operator whose operands are the two topmost values.
+fn operator(op: BinOp) -> Instr
+    ensures { result ≡ operator_of op }
+{
+    match op {
+        BinOp::Add => Instr::Add,
+        BinOp::Sub => Instr::Sub,
+        BinOp::Mul => Instr::Mul,
+        _ => Instr::Binary(op),
+    }
+}
+
+/// An operator whose right operand is this number.
+fn with_number(op: BinOp, n: i64) -> Instr
+    ensures { result ≡ with_number_of op n }
+{
+    match op {
+        BinOp::Add => Instr::AddNumber(n),
+        BinOp::Sub => Instr::SubNumber(n),
+        BinOp::Mul => Instr::MulNumber(n),
+        _ => Instr::BinaryNumber(op, n),
+    }
+}
+
+/// The number that a code puts on top, where it does nothing else.
+fn lone_number(code: &[Instr]) -> Option<i64>
+    ensures { result ≡ lone_number_of code.now }
+{
+    match code {
+        [only] => match only {
+            Instr::Number(n) => Some(*n),
+            _ => None,
+        },
+        _ => None,
+    }
+}
+
+/// Puts an operator after its right operand, which began at this place and is taken in where it is a
+/// number.
+fn apply(op: BinOp, place: usize, code: &mut Vec<Instr>) -> Result<(), NoMemory>
+    requires { place ≤ length code.old.items }
+    ensures { (front b : List Turn) → place ≡ length front → code.old.items ≡ front ++ b →
+        OnOk result (code.new.items ≡ front ++ applied op b) }
+{
+    match lone_number(&code[place..]) {
+        Some(n) => {
+            code[place] = with_number(op, n);
+            Ok(())
+        }
+        None => put(code, operator(op)),
+    }
+}
+
 /// Ends the right operand of an operator, which began at this place.
 fn end(op: BinOp, place: usize, code: &mut Vec<Instr>) -> Result<(), NoMemory>
-    requires { has_jump op ≡ true → place < length code.old.items }
+    requires place { place ≤ length code.old.items }
+    requires jump { has_jump op ≡ true → place < length code.old.items }
     ensures { (front b : List Turn) → place ≡ length front → code.old.items ≡ front ++ (begun op ++ b) →
         OnOk result (code.new.items ≡ front ++ ended op b) }
 {
@@ -65,7 +119,7 @@ fn end(op: BinOp, place: usize, code: &mut Vec<Instr>) -> Result<(), NoMemory>
             put(code, Instr::Truth)?;
             Ok(())
         }
-        _ => put(code, Instr::Binary(op)),
+        _ => apply(op, place, code),
     }
 }
 
@@ -73,13 +127,14 @@ fn end(op: BinOp, place: usize, code: &mut Vec<Instr>) -> Result<(), NoMemory>
 fn aim(test: usize, end: usize, code: &mut Vec<Instr>)
     requires { test < end × end < length code.old.items }
     ensures { (front b c : List Turn) → test ≡ length front → end ≡ length front + 1 + length b →
-        code.old.items ≡ front ++ Unless 0 ∷ (b ++ Skip 0 ∷ c) → code.new.items ≡ front ++ Unless (length b + 1) ∷ (b ++ Skip (length c) ∷ c) }
+        code.old.items ≡ front ++ Unless 0 ∷ (b ++ Skip 0 ∷ c) →
+        code.new.items ≡ front ++ Unless (length b + 1) ∷ (b ++ Skip (length c) ∷ c) }
 {
     code[test] = Instr::Unless(end - test);
     code[end] = Instr::Skip(code.len() - end - 1);
 }
 
-/// Puts the code of an expression behind what is there, with its names replaced by their slots.
+/// Puts the code of an expression after what is there, with its names replaced by their slots.
 fn emit(
     alloc: Global,
     e: &Expr,
@@ -119,6 +174,26 @@ fn emit(
     }
 }
 
+/// Whether the expression is no higher than this.
+fn is_low(e: &Expr, most: u32) -> bool
+    ensures { IsTrue result → height e.now ≤ most }
+{
+    if most == 0 {
+        return false;
+    }
+    match e {
+        Expr::Num(_) => true,
+        Expr::Lit(_) => true,
+        Expr::Look(_) => true,
+        Expr::Group(a) => is_low(a.get(), most - 1),
+        Expr::Unary(_, a) => is_low(a.get(), most - 1),
+        Expr::Binary(_, a, b) => is_low(a.get(), most - 1) && is_low(b.get(), most - 1),
+        Expr::Choose(a, b, c) => {
+            is_low(a.get(), most - 1) && is_low(b.get(), most - 1) && is_low(c.get(), most - 1)
+        }
+    }
+}
+
 /// The code of an expression.
 fn postfix(alloc: Global, e: &Expr, slots: &[(Name, u32)]) -> Result<Postfix, NoMemory>
     requires { height e.now ≤ 64 }
@@ -128,6 +203,7 @@ fn postfix(alloc: Global, e: &Expr, slots: &[(Name, u32)]) -> Result<Postfix, No
     emit(alloc, e, slots, &mut code)?;
     Ok(Postfix {
         instrs: Items::of(code),
+        is_low: is_low(e, 8),
     })
 }
 
@@ -149,6 +225,7 @@ fn change(
     end(op, 1, &mut code)?;
     Ok(Postfix {
         instrs: Items::of(code),
+        is_low: is_low(e, 7),
     })
 }
 

@@ -1,6 +1,6 @@
 use bt_script::{BinOp, Txt, UnOp};
 
-/// An instruction of postfix code. A jump says how many instructions behind it are passed over.
+/// An instruction of postfix code. A jump says how many of those that follow it are passed over.
 #[derive(Debug, Drop)]
 pub enum Instr {
     /// Puts a number on top.
@@ -13,6 +13,16 @@ pub enum Instr {
     Unary(UnOp),
     /// Puts an operator's result in place of its operands, the two topmost.
     Binary(BinOp),
+    /// Puts an operator's result in place of its left operand, the topmost. The right one is a number.
+    BinaryNumber(BinOp, i64),
+    /// `Binary` of `+`, `-` and `*`, which are met most.
+    Add,
+    Sub,
+    Mul,
+    /// `BinaryNumber` of `+`, `-` and `*`.
+    AddNumber(i64),
+    SubNumber(i64),
+    MulNumber(i64),
     /// Takes the topmost. Where it is false, 0 is put there, and the jump is made.
     AndThen(usize),
     /// Takes the topmost. Where it is true, 1 is put there, and the jump is made.

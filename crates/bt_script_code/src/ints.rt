@@ -1,10 +1,11 @@
-ghost use Rattle.std.specs.Prelude.{◌≡◌, ◌≢◌, ◌+◌, ◌<◌, ◌≤◌, None, IfNone, IfSome, IsErr, OnErr, Ok, length};
+ghost use Rattle.std.specs.Prelude.{◌≡◌, true, ◌≢◌, ◌+◌, ◌<◌, ◌≤◌, None, IfNone, IfSome, IsErr, OnErr, Ok, length};
 ghost use Rattle.std.specs.List.{All};
 ghost use Rattle.bt_script.specs.declared.value.Value.TheVariants.{Int};
 ghost use Rattle.bt_script.specs.Entries.{entry_of, HoldsNoText, IsAnswered};
 ghost use Rattle.bt_script.specs.Evaluation.{Run, written, if_there};
 ghost use Rattle.bt_script.specs.Stops.{UnlessMemory};
 ghost use Rattle.bt_script_code.specs.Codes.{program};
+ghost use Rattle.bt_script_code.specs.Rooms.{fits};
 ghost use Rattle.bt_script_code.specs.Running.{code_reach, code_texts, code_value};
 ghost use Rattle.bt_script_code.specs.Stacks.{Leaves};
 ghost use Rattle.bt_script_code.specs.Statements.{stmt_code_reach, stmt_code_texts, stmt_run};
@@ -18,19 +19,21 @@ use bt_script::{BinOp, Cells, ExecFault, Stop, Txt, UnOp, Value};
 
 /// A stack of numbers over entries. It can't hold texts.
 #[derive(Drop)]
-struct EntryNumbers {
-    numbers: NumberStack,
+struct EntryNumbers<'a, const N: usize> {
+    numbers: NumberStack<'a, N>,
 }
 
-impl<B: Cells> Stack<B> for EntryNumbers {
-    ghost use Rattle.std.specs.Prelude.{true, length, map};
+impl<B: Cells, const N: usize> Stack<B> for EntryNumbers<'_, N> {
+    ghost use Rattle.std.specs.Prelude.{true as yes, length, map};
     ghost use Rattle.std.specs.List.{All};
     ghost use Rattle.bt_script.specs.declared.value.Value.TheVariants.{Int as Number};
     ghost use Rattle.bt_script.specs.Entries.{entry_of as found, HoldsNoText as IsPlain};
 
     ghost values = { λ s. map Number s.numbers };
 
-    ghost numbers = { true };
+    ghost numbers = { yes };
+
+    ghost room = { N };
 
     ghost reach = { λ cells. length (B.entries cells) };
 
@@ -71,24 +74,49 @@ impl<B: Cells> Stack<B> for EntryNumbers {
     }
 
     #[inline(always)]
+    fn binary_number(&mut self, op: BinOp, n: i64) -> Result<(), Stop<ExecFault>> {
+        Ok(self.numbers.binary_number(op, n)?)
+    }
+
+    #[inline(always)]
     fn take_truth(&mut self) -> Result<bool, Stop<ExecFault>> {
         Ok(self.numbers.take_truth())
     }
 }
 
-/// The number that a code gives over entries, or its first fault. It gives up where a text is met.
+/// The number that a code gives over entries, or its first fault, on a stack over these places. It
+/// gives up where a text is met.
 #[tactic(auto, using(crate::proofs::Given::number_there, crate::proofs::Given::number_given))]
+#[inline(always)]
+fn int_on<B: Cells, const N: usize>(
+    code: &Postfix,
+    cells: &B,
+    places: &mut [i64; N],
+) -> Result<i64, Stop<ExecFault>>
+    requires most { N ≤ 65 }
+    requires fits { fits N code.now.instrs ≡ true }
+    requires reach { code_reach code.now.instrs ≤ length (B.entries cells.now) }
+    ensures leaves { Leaves result (code_value (entry_of (B.entries cells.now)) code.now.instrs) Int }
+    ensures answered { code_texts code.now.instrs ≡ 0 → All HoldsNoText (B.entries cells.now) → IsAnswered result }
+{
+    let mut stack = EntryNumbers {
+        numbers: NumberStack::empty(places),
+    };
+    run(code, cells, &mut stack)?;
+    Ok(stack.numbers.take())
+}
+
+/// The number that a code gives over entries, or its first fault. It gives up where a text is met.
 #[inline(always)]
 fn int_of<B: Cells>(code: &Postfix, cells: &B) -> Result<i64, Stop<ExecFault>>
     requires { code_reach code.now.instrs ≤ length (B.entries cells.now) }
     ensures leaves { Leaves result (code_value (entry_of (B.entries cells.now)) code.now.instrs) Int }
     ensures answered { code_texts code.now.instrs ≡ 0 → All HoldsNoText (B.entries cells.now) → IsAnswered result }
 {
-    let mut stack = EntryNumbers {
-        numbers: NumberStack::empty(),
-    };
-    run(code, cells, &mut stack)?;
-    Ok(stack.numbers.take())
+    if code.is_low {
+        return int_on(code, cells, &mut [0; 8]);
+    }
+    int_on(code, cells, &mut [0; 65])
 }
 
 /// Writes the number to a slot that has an entry, and gives it.
@@ -146,9 +174,11 @@ pub fn step_int<B: Cells>(stmt: &StmtCode, cells: &mut B) -> Result<i64, Stop<Ex
 #[inline(never)]
 pub fn exec_int<B: Cells>(code: &Code, cells: &mut B) -> Option<i64>
     requires { (program code.now).reach ≤ length (B.entries cells.old) }
-    ensures gives { IfSome result (λ n. (program code.now).run (B.entries cells.old) ≡ record { answer = Ok (Int n); entries = B.entries cells.new }) }
+    ensures gives { IfSome result (λ n. (program code.now).run (B.entries cells.old) ≡
+        record { answer = Ok (Int n); entries = B.entries cells.new }) }
     ensures nothing { IfNone result (B.entries cells.new ≡ B.entries cells.old) }
-    ensures fault { length code.now.stmts ≡ 1 → (program code.now).texts ≡ 0 → All HoldsNoText (B.entries cells.old) → IfNone result (IsErr ((program code.now).run (B.entries cells.old)).answer) }
+    ensures fault { length code.now.stmts ≡ 1 → (program code.now).texts ≡ 0 →
+        All HoldsNoText (B.entries cells.old) → IfNone result (IsErr ((program code.now).run (B.entries cells.old)).answer) }
     ensures several { length code.now.stmts ≢ 1 → result ≡ None }
     ensures slots { length (B.entries cells.new) ≡ length (B.entries cells.old) }
     ensures left { All HoldsNoText (B.entries cells.old) → All HoldsNoText (B.entries cells.new) }

@@ -1,73 +1,70 @@
-ghost use Rattle.std.specs.Prelude.{◌≡◌, ◌<◌, ◌≤◌, [], true, IfOk, length};
+ghost use Rattle.std.specs.Prelude.{◌≡◌, ◌+◌, ◌-◌, ◌^◌, ◌<◌, ◌≤◌, [], true, IfOk, length};
 ghost use Rattle.bt_script.specs.Entries.{IsAnswered};
-ghost use Rattle.bt_script_code.specs.Rooms.{fits_from, has_room};
-ghost use Rattle.bt_script_code.specs.Running.{code_reach, code_texts, code_value, gives_from, instr_reach, instr_texts, put, step_of};
+ghost use Rattle.bt_script_code.specs.Rooms.{fits, fits_from, has_room};
+ghost use Rattle.bt_script_code.specs.Running.{code_reach, code_texts, code_value, gives_from, instr_reach, instr_texts, jump_of, put, step_of};
 ghost use Rattle.bt_script_code.specs.Stacks.{Leads, Leaves};
 
 use crate::instr::Instr;
+use crate::operators::as_number;
 use crate::postfix::Postfix;
 use crate::stack::Stack;
-use bt_script::{ExecFault, Stop};
+use bt_script::{BinOp, ExecFault, Stop};
 
-/// Does one instruction, and answers how many behind it are passed over.
+/// Does one instruction, and answers the place at which to go on. `next` is the place that follows it.
+#[tactic(auto, using(crate::proofs::Steps::none_over, crate::proofs::Steps::passed_over))]
 #[inline(always)]
-fn turn<C, S: Stack<C>>(instr: &Instr, slots: &C, stack: &mut S) -> Result<usize, Stop<ExecFault>>
-    requires room { has_room instr.now (length (S.values stack.old)) ≡ true }
+fn turn<C, S: Stack<C>>(
+    instr: &Instr,
+    next: usize,
+    slots: &C,
+    stack: &mut S,
+) -> Result<usize, Stop<ExecFault>>
+    requires room { has_room S.room instr.now (length (S.values stack.old)) ≡ true }
     requires reach { instr_reach instr.now ≤ S.reach slots.now }
-    ensures leads { Leaves result (step_of (S.gives slots.now) instr.now (S.values stack.old)) (λ n. (n, S.values stack.new)) }
+    requires within { next + jump_of instr.now < 2 ^ 63 }
+    ensures leads { let step = step_of (S.gives slots.now) instr.now (S.values stack.old) in
+        Leaves result step (λ place. (place - next, S.values stack.new)) }
+    ensures on { IfOk result (λ place. next ≤ place) }
     ensures answered { S.numbers ≡ true → S.IsHeld slots.now → instr_texts instr.now ≡ 0 → IsAnswered result }
 {
     match instr {
-        Instr::Number(n) => {
-            stack.put_number(*n);
-            Ok(0)
-        }
-        Instr::Text(text) => {
-            stack.put_text(text)?;
-            Ok(0)
-        }
-        Instr::Slot(slot) => {
-            stack.put_slot(*slot, slots)?;
-            Ok(0)
-        }
-        Instr::Unary(op) => {
-            stack.unary(*op)?;
-            Ok(0)
-        }
-        Instr::Binary(op) => {
-            stack.binary(*op)?;
-            Ok(0)
-        }
+        Instr::Number(n) => stack.put_number(*n),
+        Instr::Text(text) => stack.put_text(text)?,
+        Instr::Slot(slot) => stack.put_slot(*slot, slots)?,
+        Instr::Unary(op) => stack.unary(*op)?,
+        Instr::Binary(op) => stack.binary(*op)?,
+        Instr::BinaryNumber(op, n) => stack.binary_number(*op, *n)?,
+        Instr::Add => stack.binary(BinOp::Add)?,
+        Instr::Sub => stack.binary(BinOp::Sub)?,
+        Instr::Mul => stack.binary(BinOp::Mul)?,
+        Instr::AddNumber(n) => stack.binary_number(BinOp::Add, *n)?,
+        Instr::SubNumber(n) => stack.binary_number(BinOp::Sub, *n)?,
+        Instr::MulNumber(n) => stack.binary_number(BinOp::Mul, *n)?,
         Instr::AndThen(n) => {
-            if stack.take_truth()? {
-                return Ok(0);
+            let left = stack.take_truth()?;
+            if !left {
+                stack.put_number(0);
+                return Ok(next + *n);
             }
-            stack.put_number(0);
-            Ok(*n)
         }
         Instr::OrElse(n) => {
             if stack.take_truth()? {
                 stack.put_number(1);
-                return Ok(*n);
+                return Ok(next + *n);
             }
-            Ok(0)
         }
         Instr::Truth => {
-            if stack.take_truth()? {
-                stack.put_number(1);
-                return Ok(0);
-            }
-            stack.put_number(0);
-            Ok(0)
+            let holds = stack.take_truth()?;
+            stack.put_number(as_number(holds));
         }
         Instr::Unless(n) => {
-            if stack.take_truth()? {
-                return Ok(0);
+            if !stack.take_truth()? {
+                return Ok(next + *n);
             }
-            Ok(*n)
         }
-        Instr::Skip(n) => Ok(*n),
+        Instr::Skip(n) => return Ok(next + *n),
     }
+    Ok(next)
 }
 
 /// Does the instruction at a place, and answers the place at which to go on.
@@ -79,16 +76,16 @@ fn turn_at<C, S: Stack<C>>(
     stack: &mut S,
 ) -> Result<usize, Stop<ExecFault>>
     requires at { place < length code.now }
-    requires room { fits_from code.now place (length (S.values stack.old)) ≡ true }
+    requires room { fits_from S.room code.now place (length (S.values stack.old)) ≡ true }
     requires reach { code_reach code.now ≤ S.reach slots.now }
     ensures leads { let look = S.gives slots.now in
         Leads result (gives_from look code.now place (S.values stack.old)) (λ next. gives_from look code.now next (S.values stack.new)) }
-    ensures room { IfOk result (λ next. fits_from code.now next (length (S.values stack.new)) ≡ true) }
+    ensures room { IfOk result (λ next. fits_from S.room code.now next (length (S.values stack.new)) ≡ true) }
     ensures on { IfOk result (λ next. place < next) }
     ensures answered { S.numbers ≡ true → S.IsHeld slots.now → code_texts code.now ≡ 0 → IsAnswered result }
 {
-    match turn(&code[place], slots, stack) {
-        Ok(passed) => Ok(place + 1 + passed),
+    match turn(&code[place], place + 1, slots, stack) {
+        Ok(next) => Ok(next),
         Err(stop) => Err(stop),
     }
 }
@@ -98,6 +95,7 @@ fn turn_at<C, S: Stack<C>>(
 #[inline(always)]
 pub fn run<C, S: Stack<C>>(code: &Postfix, slots: &C, stack: &mut S) -> Result<(), Stop<ExecFault>>
     requires empty { S.values stack.old ≡ [] }
+    requires fits { fits S.room code.now.instrs ≡ true }
     requires reach { code_reach code.now.instrs ≤ S.reach slots.now }
     ensures leaves { Leaves result (put (code_value (S.gives slots.now) code.now.instrs) []) (λ _. S.values stack.new) }
     ensures answered { S.numbers ≡ true → S.IsHeld slots.now → code_texts code.now.instrs ≡ 0 → IsAnswered result }

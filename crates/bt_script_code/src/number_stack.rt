@@ -7,43 +7,50 @@ use crate::operators::{binary_ints, unary_int};
 use bt_script::{BinOp, ExecFault, UnOp};
 use std::marker::Model;
 
-/// A stack of 65 places for numbers. Contracts see the list of them, the topmost first.
+/// A stack for numbers, over the places that it is lent. Contracts see the list of them, the topmost
+/// first.
 #[derive(Drop)]
-pub struct NumberStack {
-    places: [i64; 65],
+pub struct NumberStack<'a, const N: usize> {
     height: usize,
+    /// The topmost.
+    top: i64,
+    /// Those below it, from the second place on.
+    places: &'a mut [i64; N],
 }
 
-impl Model for NumberStack {
-    ghost use Rattle.std.specs.Prelude.{◌≤◌, List, ℤ, reverse, take};
+impl<'a, const N: usize> Model for NumberStack<'a, N> {
+    ghost use Rattle.std.specs.Prelude.{◌≡◌, ◌≤◌, List, ◌∷◌, ℤ, length, reverse, take};
 
     ghost Value = { List ℤ };
 
-    ghost view = { λ s. reverse (take s.height s.places) };
+    ghost view = { λ s. take s.height (s.top ∷ reverse (take s.height s.places.now)) };
 
-    ghost invariant = { λ s. s.height ≤ 65 };
+    ghost invariant = { λ s. (s.height ≤ N) × (length s.places.now ≡ N) × (N ≤ 65) };
 }
 
-impl NumberStack {
+impl<'a, const N: usize> NumberStack<'a, N> {
     /// A stack without numbers.
     #[inline(always)]
-    pub fn empty() -> NumberStack
+    pub fn empty(places: &'a mut [i64; N]) -> NumberStack<'a, N>
+        requires { N ≤ 65 }
         ensures { result ≡ [] }
     {
         NumberStack {
-            places: [0; 65],
             height: 0,
+            top: 0,
+            places,
         }
     }
 
     /// Puts a number on top.
     #[inline(always)]
     pub fn put(&mut self, n: i64)
-        requires { length self.old < 65 }
+        requires { length self.old < N }
         ensures { self.new ≡ n ∷ self.old }
     {
-        self.places[self.height] = n;
+        self.places[self.height] = self.top;
         self.height += 1;
+        self.top = n;
     }
 
     /// Takes the topmost number.
@@ -51,10 +58,12 @@ impl NumberStack {
     pub fn take(&mut self) -> i64
         requires { 0 < length self.old }
         ensures taken { self.old ≡ result ∷ self.new }
-        ensures room { length self.new < 65 }
+        ensures room { length self.new < N }
     {
+        let n = self.top;
         self.height -= 1;
-        self.places[self.height]
+        self.top = self.places[self.height];
+        n
     }
 
     /// Puts an operator's result in place of its operand.
@@ -78,6 +87,18 @@ impl NumberStack {
         let y = self.take();
         let x = self.take();
         let n = binary_ints(op, x, y)?;
+        self.put(n);
+        Ok(())
+    }
+
+    /// Puts an operator's result in place of its left operand. The right one is this number.
+    #[inline(always)]
+    pub fn binary_number(&mut self, op: BinOp, n: i64) -> Result<(), ExecFault>
+        requires { 0 < length self.old }
+        ensures { binary_put op (Int n ∷ map Int self.old) ≡ left result (map Int self.new) }
+    {
+        let x = self.take();
+        let n = binary_ints(op, x, n)?;
         self.put(n);
         Ok(())
     }

@@ -9,5 +9,8 @@ use bt_script::Items;
 #[derive(Debug, Drop)]
 pub struct Postfix {
     pub(crate) instrs: Items<Instr>,
-    ghost room: { fits instrs ≡ true },
+    /// Whether it is known that 8 places are enough.
+    pub(crate) is_low: bool,
+    ghost room: { fits 65 instrs ≡ true },
+    ghost low: { is_low ≡ true → fits 8 instrs ≡ true },
 }

@@ -31,6 +31,8 @@ impl<B: Cells> Stack<B> for EntryValues {
 
     ghost numbers = { false };
 
+    ghost room = { 65 };
+
     ghost reach = { λ cells. length (B.entries cells) };
 
     ghost gives = { λ cells. found (B.entries cells) };
@@ -69,6 +71,13 @@ impl<B: Cells> Stack<B> for EntryValues {
         let y = self.values.take();
         let x = self.values.take();
         let value = binary_values(op, x, y)?;
+        self.values.put(value);
+        Ok(())
+    }
+
+    fn binary_number(&mut self, op: BinOp, n: i64) -> Result<(), Stop<ExecFault>> {
+        let x = self.values.take();
+        let value = binary_values(op, x, Value::Int(n))?;
         self.values.put(value);
         Ok(())
     }

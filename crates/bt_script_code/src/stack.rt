@@ -8,7 +8,7 @@ ghost use Rattle.bt_script_code.specs.Stacks.{Leaves};
 
 use bt_script::{BinOp, ExecFault, Stop, Txt, UnOp};
 
-/// A stack of 65 places for what postfix code gives, over slots of some kind. Want of memory is also
+/// A stack for what postfix code gives, over slots of some kind. Want of memory is also
 /// the answer of a stack that can't hold a value.
 pub trait Stack<C> {
     /// Its values, the topmost first.
@@ -16,6 +16,9 @@ pub trait Stack<C> {
 
     /// Whether it holds numbers alone.
     ghost numbers: { Bool };
+
+    /// How many values it has room for.
+    ghost room: { ℕ };
 
     /// How many slots there are.
     ghost reach: { C → ℕ };
@@ -28,17 +31,17 @@ pub trait Stack<C> {
 
     /// Puts a number on top.
     fn put_number(&mut self, n: i64)
-        requires { length (values self.old) < 65 }
+        requires { length (values self.old) < room }
         ensures { values self.new ≡ Int n ∷ values self.old };
 
     /// Puts a copy of a text on top.
     fn put_text(&mut self, text: &Txt) -> Result<(), Stop<ExecFault>>
-        requires { length (values self.old) < 65 }
+        requires { length (values self.old) < room }
         ensures { Leaves result (Ok (Text text.now ∷ values self.old)) (λ _. values self.new) };
 
     /// Puts what a slot gives on top.
     fn put_slot(&mut self, slot: u32, slots: &C) -> Result<(), Stop<ExecFault>>
-        requires room { length (values self.old) < 65 }
+        requires room { length (values self.old) < room }
         requires slot { slot < reach slots.now }
         ensures puts { Leaves result (put (gives slots.now slot) (values self.old)) (λ _. values self.new) }
         ensures answered { IsHeld slots.now → IsAnswered result };
@@ -53,6 +56,12 @@ pub trait Stack<C> {
     fn binary(&mut self, op: BinOp) -> Result<(), Stop<ExecFault>>
         requires { 1 < length (values self.old) }
         ensures puts { Leaves result (binary_put op (values self.old)) (λ _. values self.new) }
+        ensures answered { numbers ≡ true → IsAnswered result };
+
+    /// Puts an operator's result in place of its left operand. The right one is this number.
+    fn binary_number(&mut self, op: BinOp, n: i64) -> Result<(), Stop<ExecFault>>
+        requires { 0 < length (values self.old) }
+        ensures puts { Leaves result (binary_put op (Int n ∷ values self.old)) (λ _. values self.new) }
         ensures answered { numbers ≡ true → IsAnswered result };
 
     /// Takes the topmost value, as a truth.

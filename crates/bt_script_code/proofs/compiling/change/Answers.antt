@@ -1,5 +1,4 @@
 use Rattle.std.proofs.Common.{◌≡◌, ◌∙◌, ◌++◌, ◌∷◌, [], List, true, ap, subst, sym, arith, append_assoc}
-use Rattle.std.proofs.lemmas.Grind.{common_steps}
 use Rattle.bt_script_code.specs.declared.instr.Instr.{Instr}
 use Rattle.bt_script_code.specs.declared.instr.Instr.TheVariants.{Slot}
 use Rattle.bt_script_code.specs.Postfixes.{begun, between, code_of}
@@ -18,4 +17,7 @@ invariant_of-result c =
     ∙ append_assoc front (begun c.args.op) (code_of names c.args.e.now) in
     let same : c.of.result ≡ between c.args.op front (code_of names c.args.e.now) =
     c.of.ensures ∙ c.in_ok-end.ensures front (code_of names c.args.e.now) (omega arith) made in
-    record { room = subst (λ code. fits code ≡ true) (sym same) (change_fits names c.args.op c.args.slot c.args.e.now c.requires) }
+    record {
+      room = subst (λ code. fits 65 code ≡ true) (sym same) (change_fits 65 names c.args.op c.args.slot c.args.e.now (omega arith) (omega (arith, c.requires)));
+      low = λ low. subst (λ code. fits 8 code ≡ true) (sym same) (change_fits 8 names c.args.op c.args.slot c.args.e.now (omega arith) (omega (arith, c.is_low.ensures low)));
+    }

@@ -1,7 +1,7 @@
 use Rattle.std.proofs.Common.{◌≡◌, ◌<◌, ◌≤◌, ◌∙◌, length, map, ap, subst, sym, arith}
 use Rattle.std.proofs.lemmas.Grind.{common_steps}
 use Rattle.bt_script_code.specs.Codes.{program}
-use Rattle.bt_script_code.specs.Programs.{Program, program_of, statement_of}
+use Rattle.bt_script_code.specs.Programs.{Program, statement_of}
 use Rattle.bt_script_code.specs.Sources.{slot_of}
 use Rattle.bt_script_code.specs.Statements.{stmt_program, one_by_one}
 use Rattle.bt_script_code.proofs.Reaches.{stmts_within}

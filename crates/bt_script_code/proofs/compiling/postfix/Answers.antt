@@ -1,4 +1,4 @@
-use Rattle.std.proofs.Common.{◌≡◌, ◌∙◌, ◌++◌, true, ap, subst, sym}
+use Rattle.std.proofs.Common.{arith, ◌≡◌, ◌∙◌, ◌++◌, true, ap, subst, sym}
 use Rattle.bt_script_code.specs.Postfixes.{code_of}
 use Rattle.bt_script_code.specs.Rooms.{fits}
 use Rattle.bt_script_code.specs.Sources.{slot_of}
@@ -10,4 +10,7 @@ invariant_of-result c =
     let names = slot_of c.args.slots.now in
     let same : c.of.result ≡ code_of names c.args.e.now =
     c.of.ensures ∙ c.in_ok-emit.ensures ∙ ap (λ z. z ++ code_of names c.args.e.now) c.new-code.ensures.items in
-    record { room = subst (λ code. fits code ≡ true) (sym same) (expr_fits names c.args.e.now c.requires) }
+    record {
+      room = subst (λ code. fits 65 code ≡ true) (sym same) (expr_fits 65 names c.args.e.now (omega (arith, c.requires)));
+      low = λ low. subst (λ code. fits 8 code ≡ true) (sym same) (expr_fits 8 names c.args.e.now (c.is_low.ensures low));
+    }

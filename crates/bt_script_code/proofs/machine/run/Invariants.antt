@@ -9,7 +9,7 @@ invariant-loop-place g l =
     let look = g.S.Stack.gives l.slots in
     record {
       gives : gives_from look l.instrs l.place (values l.stack) ≡ code_value look l.instrs;
-      room : fits_from l.instrs l.place (length (values l.stack)) ≡ true;
+      room : fits_from g.S.Stack.room l.instrs l.place (length (values l.stack)) ≡ true;
     }
 
 abbrev pub decreases-loop-place : goal.decreases-loop-place
