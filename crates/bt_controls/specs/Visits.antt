@@ -26,8 +26,8 @@ place_of (Begin picked) = 0
 place_of (Answered place a) = place
 place_of (Passed place) = place
 
--- a node of this kind that has this rule still to follow visits these children one after the other, or
--- passes them over, and where it hears this of them, it has then that rule still to follow
+-- a node of this kind with this rule still to follow visits these children, or passes them over, one after the
+-- other; and where it hears this of them, that rule is left to follow
 abbrev pub Hears : Kind → Rule → List Told → Rule → Type 0
 Hears kind rule [] rest = rule ≡ rest
 Hears kind rule (t ∷ more) rest =
@@ -60,7 +60,7 @@ says kind cs place ms s =
     if passes_over kind ((child_at cs place).status ms) then done (Passed place) ms s
     else follow ((child_at cs place).visit ms s) (λ ms1. ms1) (λ a ms1 s1. done (Answered place a) ms1 s1)
 
--- what children say one after the other, of each of which this is to be told, after the resets before it
+-- what all children of a list say, one after the other, each after the resets before it
 abbrev pub all_say : Kind → List Child → List Told → List Memory → State → Done (List Heard) (List Memory)
 all_say kind cs [] ms s = done [] ms s
 all_say kind cs (t ∷ more) ms s =
@@ -70,8 +70,8 @@ all_say kind cs (t ∷ more) ms s =
 
 -- ---- Whole visits
 
--- a list is that of one visit: it ends at the first place at which the visit stops for what was heard so far,
--- and where it stops at none, with as many as can be heard
+-- a list is that of one visit: it ends at the first place at which the visit stops, by what was heard so far; and
+-- where it stops at none, with the last of as many children or turns as are left
 pub record IsVisit {A : Type 0} (stops : List A → Bool) (most : ℕ) (heard : List A) : Type 0 where
   pub some : 1 ≤ length heard
   pub within : length heard ≤ most
