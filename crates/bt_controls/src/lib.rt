@@ -8,6 +8,7 @@ pub mod laws;
 mod parallels;
 mod rounds;
 mod steps;
+pub mod whole_visits;
 
 pub use bt_model::{Heard, Move, Span, Then};
 pub use control::{control_next, goes_to_next};

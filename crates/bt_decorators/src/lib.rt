@@ -3,6 +3,7 @@
 #![tactic(auto)]
 
 mod decorator;
+pub mod laws;
 mod once;
 mod turns;
 mod waits;

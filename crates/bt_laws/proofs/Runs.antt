@@ -48,24 +48,24 @@ reset_last : (o : Option Runner) (h : Header) (tree : Tree) (world : World) (run
 reset_last None h tree world runner at s = refl
 reset_last (Some r) h tree world runner at s = told_last _ h tree runner _ _ s _
 
-step_last : (what : What) (tree : Tree) (world : World) (at : ℕ) (s : RunState) → (step_by what tree world at s).state.last ≡ at
+pub step_last : (what : What) (tree : Tree) (world : World) (at : ℕ) (s : RunState) → (step_by what tree world at s).state.last ≡ at
 step_last (Tick runner) tree world at s = tick_last (runner_at s runner) tree world runner at s
 step_last (Halt runner) tree world at s = reset_last (runner_at s runner) _ tree world runner at s
 step_last (Change fact value) tree world at s = refl
 
 -- these events are in order, and none comes before this moment
-record InOrderFrom (last : ℕ) (events : List Event) : Type 0 where
-  in_order : IsNonDecreasingBy (λ (e : Event). e.at) events
-  behind : (k : ℕ) (d : Event) → k < length events → last ≤ (slice_index_or events k d).at
+pub record InOrderFrom (last : ℕ) (events : List Event) : Type 0 where
+  pub in_order : IsNonDecreasingBy (λ (e : Event). e.at) events
+  pub behind : (k : ℕ) (d : Event) → k < length events → last ≤ (slice_index_or events k d).at
 
-order_behind : (last : ℕ) (e : Event) (events : List Event) → InOrderFrom last (e ∷ events) → InOrderFrom e.at events
+pub order_behind : (last : ℕ) (e : Event) (events : List Event) → InOrderFrom last (e ∷ events) → InOrderFrom e.at events
 order_behind last e events order = record {
   in_order = λ i j d low within. order.in_order (suc i) (suc j) d (omega (arith, low)) (omega (arith, within));
   behind = λ k d within. order.in_order 0 (suc k) d (omega arith) (omega (arith, within));
 }
 
 module _ (tree : Tree) (world : World) where
-  abbrev Holds : RunState → Type 0
+  abbrev pub Holds : RunState → Type 0
   Holds s = RunSteady tree.term world.rows s
 
   fresh_steady : (facts : List ℤ) (at : ℕ) → Steady tree.term world.rows (fresh_runner tree).memory (state_of (fresh_runner tree) facts at)
@@ -84,11 +84,11 @@ module _ (tree : Tree) (world : World) where
   opening_steady k r is =
       equal_entry (λ (x : Runner). Steady tree.term world.rows x.memory (state_of x (opening tree world).facts 0)) world.runners k (fresh_runner tree) r (fresh_steady (opening tree world).facts 0) is
 
-  rest_steady : (fault : Option RunFault) (first : Stepped) (rest : RunState → Trace) → Holds first.state → Holds (rest first.state).state → Holds (before_rest fault first rest).state
+  pub rest_steady : (fault : Option RunFault) (first : Stepped) (rest : RunState → Trace) → Holds first.state → Holds (rest first.state).state → Holds (before_rest fault first rest).state
   rest_steady None first rest now then = then
   rest_steady (Some f) first rest now then = now
 
-  finishes_steady : (others runner : ℕ) (s : RunState) → Holds s → Holds (finishes tree world runner others s).state
+  pub finishes_steady : (others runner : ℕ) (s : RunState) → Holds s → Holds (finishes tree world runner others s).state
   finishes_steady zero runner s steady = steady
   finishes_steady (suc others) runner s steady =
       let first : Stepped = finish tree world runner s in
