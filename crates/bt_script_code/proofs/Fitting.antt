@@ -9,7 +9,7 @@ use Rattle.bt_script.specs.declared.syntax.Expr.TheOpen.{Expr-F, Num, Lit, Look,
 use Rattle.bt_script.specs.Grammar.{height_step, height}
 use Rattle.bt_script_code.specs.declared.instr.Instr.{Instr}
 use Rattle.bt_script_code.specs.declared.instr.Instr.TheVariants as instr
-use Rattle.bt_script_code.specs.Postfixes.{operator, with_number, applied, between, choice_code, code_step, code_of}
+use Rattle.bt_script_code.specs.Postfixes.{operator, with_number, applied, between, operation, choice_code, code_step, code_of}
 use Rattle.bt_script_code.specs.Rooms.{fits_step, fits_from, fits}
 use Rattle.bt_script_code.proofs.Standing.{behind}
 
@@ -123,6 +123,11 @@ module _ (room : ℕ) where
   between_needs BitXor n a b na nb = in_turn_needs BitXor n a b na nb
   between_needs (Compare c) n a b na nb = in_turn_needs (Compare c) n a b na nb
 
+  operation_needs : (op : BinOp) (n : ℕ) (a b : List Instr) → Needs n a → Needs n b → Needs (1 + n) (operation op a b)
+  operation_needs Add n (instr.Number k ∷ []) b na nb = in_turn_needs Add n b (instr.Number k ∷ []) nb na
+  operation_needs Mul n (instr.Number k ∷ []) b na nb = in_turn_needs Mul n b (instr.Number k ∷ []) nb na
+  operation_needs op n a b na nb = between_needs op n a b na nb
+
   pub slot_needs : (k : ℕ) → Needs 1 (instr.Slot k ∷ [])
   slot_needs k rest above le fit = put_needs above 1 _ le (omega arith) fit
 
@@ -141,7 +146,7 @@ module _ (room : ℕ) where
     layer_needs (Unary op a) = more_needs (height a.0) (1 + height a.0) (code_of names a.0 ++ instr.Unary op ∷ []) (omega arith) (unary_needs op (height a.0) (code_of names a.0) a.1)
     layer_needs (Binary op a b) =
         let n = max (height a.0) (height b.0) in
-        between_needs op n (code_of names a.0) (code_of names b.0) (more_needs (height a.0) n (code_of names a.0) (omega arith) a.1) (more_needs (height b.0) n (code_of names b.0) (omega arith) b.1)
+        operation_needs op n (code_of names a.0) (code_of names b.0) (more_needs (height a.0) n (code_of names a.0) (omega arith) a.1) (more_needs (height b.0) n (code_of names b.0) (omega arith) b.1)
     layer_needs (Choose a b c) =
         let n = max (height a.0) (max (height b.0) (height c.0)) in
         more_needs n (1 + n) (choice_code (code_of names a.0) (code_of names b.0) (code_of names c.0)) (omega arith)

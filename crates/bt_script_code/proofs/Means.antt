@@ -1,5 +1,6 @@
 -- The code of an expression, in front of any other code, means the expression: its value comes on top of the stack, and its first fault ends all.
 use Rattle.std.proofs.Common.{◌≡◌, ℕ, ◌+◌, ℤ, pos, true, false, List, [], ◌∷◌, ◌++◌, length, refl, sym, ap, ◌∙◌, subst, arith, append_assoc, append-nil}
+use Rattle.std.proofs.Math.IntN.{+ℤ_comm, *ℤ_comm}
 use Rattle.std.specs.Prelude.{Result, Ok, Err, if◌then◌else◌}
 use Rattle.bt_script.specs.declared.value.Value.{Value}
 use Rattle.bt_script.specs.declared.value.Value.TheVariants.{Int, Text}
@@ -9,12 +10,12 @@ use Rattle.bt_script.specs.declared.syntax.BinOp.TheVariants.{Add, Sub, Mul, Div
 use Rattle.bt_script.specs.declared.syntax.Expr.{Expr, ind-Expr, map-Expr, roll-Expr, fold-roll-Expr}
 use Rattle.bt_script.specs.declared.syntax.Expr.TheOpen.{Expr-F, Num, Lit, Look, Group, Unary, Binary, Choose}
 use Rattle.bt_script.specs.declared.fault.ExecFault.{ExecFault}
-use Rattle.bt_script.specs.Operators.{number_in, is_true, truth, unary_on, binary_on, both, either, chosen, in_order, combined}
+use Rattle.bt_script.specs.Operators.{bounded, int_value, number_in, is_true, truth, unary_on, binary_on, both, either, chosen, in_order, combined}
 use Rattle.bt_script.specs.Results.{◌>>=◌}
 use Rattle.bt_script.specs.Evaluation.{eval_step, eval_of}
 use Rattle.bt_script_code.specs.declared.instr.Instr.{Instr}
 use Rattle.bt_script_code.specs.declared.instr.Instr.TheVariants as instr
-use Rattle.bt_script_code.specs.Postfixes.{operator, with_number, applied, between, choice_code, code_step, code_of}
+use Rattle.bt_script_code.specs.Postfixes.{operator, with_number, applied, between, operation, choice_code, code_step, code_of}
 use Rattle.bt_script_code.specs.Running.{put, binary_put, told, Step, next, either_step, step_of, does, gives_from, code_value}
 use Rattle.bt_script_code.proofs.Standing.{behind}
 
@@ -191,6 +192,26 @@ module _ (look : ℕ → Result Value ExecFault) where
         whole (Ok v) = refl
         whole (Err f) = refl
 
+  -- a number on the left and on the right of an operator
+  sum_swapped : (n : ℤ) (rb : Result Value ExecFault) → in_order Add rb (Ok (Int n)) ≡ in_order Add (Ok (Int n)) rb
+  sum_swapped n (Ok (Int m)) = ap (λ z. int_value (bounded z)) (+ℤ_comm m n)
+  sum_swapped n (Ok (Text t)) = refl
+  sum_swapped n (Err f) = refl
+
+  product_swapped : (n : ℤ) (rb : Result Value ExecFault) → in_order Mul rb (Ok (Int n)) ≡ in_order Mul (Ok (Int n)) rb
+  product_swapped n (Ok (Int m)) = ap (λ z. int_value (bounded z)) (*ℤ_comm m n)
+  product_swapped n (Ok (Text t)) = refl
+  product_swapped n (Err f) = refl
+
+  operation_means : (op : BinOp) (a b : List Instr) (ra rb : Result Value ExecFault) → Means a ra → Means b rb → Means (operation op a b) (combined op ra rb)
+  operation_means Add (instr.Number n ∷ []) b ra rb ma mb =
+      subst (Means (b ++ instr.AddNumber n ∷ [])) (subst (λ r. in_order Add rb r ≡ in_order Add r rb) (value_when (instr.Number n ∷ []) ra ma) (sum_swapped n rb))
+      (in_turn_means Add b (instr.Number n ∷ []) rb ra mb ma)
+  operation_means Mul (instr.Number n ∷ []) b ra rb ma mb =
+      subst (Means (b ++ instr.MulNumber n ∷ [])) (subst (λ r. in_order Mul rb r ≡ in_order Mul r rb) (value_when (instr.Number n ∷ []) ra ma) (product_swapped n rb))
+      (in_turn_means Mul b (instr.Number n ∷ []) rb ra mb ma)
+  operation_means op a b ra rb ma mb = between_means op a b ra rb ma mb
+
   module _ (names : List ℕ → ℕ) where
     abbrev eval : Expr → Result Value ExecFault
     eval = eval_of (λ name. look (names name))
@@ -207,7 +228,7 @@ module _ (look : ℕ → Result Value ExecFault) where
     layer_means (Look name) = slot_means (names name)
     layer_means (Group a) = a.1
     layer_means (Unary op a) = unary_means op (code_of names a.0) (eval a.0) a.1
-    layer_means (Binary op a b) = between_means op (code_of names a.0) (code_of names b.0) (eval a.0) (eval b.0) a.1 b.1
+    layer_means (Binary op a b) = operation_means op (code_of names a.0) (code_of names b.0) (eval a.0) (eval b.0) a.1 b.1
     layer_means (Choose a b c) = choice_means (code_of names a.0) (code_of names b.0) (code_of names c.0) (eval a.0) (eval b.0) (eval c.0) a.1 b.1 c.1
 
     -- the code of an expression means it

@@ -21,7 +21,7 @@ use Rattle.bt_script_code.specs.declared.codes.StmtCode.TheVariants as coded
 use Rattle.bt_script_code.specs.declared.instr.Instr.{Instr}
 use Rattle.bt_script_code.specs.declared.instr.Instr.TheVariants as instr
 use Rattle.bt_script_code.specs.declared.postfix.Postfix.{Postfix}
-use Rattle.bt_script_code.specs.Postfixes.{operator, with_number, applied, ended, between, choice_code, code_step, code_of}
+use Rattle.bt_script_code.specs.Postfixes.{operator, with_number, applied, ended, between, operation, choice_code, code_step, code_of}
 use Rattle.bt_script_code.specs.Programs.{Formula, Program, formula_of, statement_of, program_of}
 use Rattle.bt_script_code.specs.Running.{instr_reach, code_reach, instr_texts, code_texts}
 use Rattle.bt_script_code.specs.Sources.{reach_step, reach_of, stmt_reach}
@@ -57,6 +57,11 @@ reach-ended op b = reach-applied op b
 reach-between : (op : BinOp) (a b : List Instr) → code_reach (between op a b) ≡ max (code_reach a) (code_reach b)
 reach-between op a b = omega (arith, reach-append a (ended op b), reach-ended op b)
 
+reach-operation : (op : BinOp) (a b : List Instr) → code_reach (operation op a b) ≡ max (code_reach a) (code_reach b)
+reach-operation Add (instr.Number n ∷ []) b = omega (arith, reach-append b (instr.AddNumber n ∷ []))
+reach-operation Mul (instr.Number n ∷ []) b = omega (arith, reach-append b (instr.MulNumber n ∷ []))
+reach-operation op a b = reach-between op a b
+
 -- one more instruction, without a text
 one_more : (i : Instr) (b : List Instr) → instr_texts i ≡ 0 → code_texts (b ++ i ∷ []) ≡ code_texts b
 one_more i b none = omega (arith, texts-append b (i ∷ []), sum_by-cons instr_texts i [], none)
@@ -91,6 +96,11 @@ texts-ended op b = texts-applied op b
 texts-between : (op : BinOp) (a b : List Instr) → code_texts (between op a b) ≡ code_texts a + code_texts b
 texts-between op a b = omega (arith, texts-append a (ended op b), texts-ended op b)
 
+texts-operation : (op : BinOp) (a b : List Instr) → code_texts (operation op a b) ≡ code_texts a + code_texts b
+texts-operation Add (instr.Number n ∷ []) b = omega (arith, one_more (instr.AddNumber n) b refl, sum_by-cons instr_texts (instr.Number n) [])
+texts-operation Mul (instr.Number n ∷ []) b = omega (arith, one_more (instr.MulNumber n) b refl, sum_by-cons instr_texts (instr.Number n) [])
+texts-operation op a b = texts-between op a b
+
 texts-choice : (a b c : List Instr) → code_texts (choice_code a b c) ≡ code_texts a + code_texts b + code_texts c
 texts-choice a b c =
     omega (
@@ -113,7 +123,7 @@ module _ (names : List ℕ → ℕ) where
   reach_layer (Look name) = omega arith
   reach_layer (Group a) = a.1
   reach_layer (Unary op a) = omega (arith, reach-append (code_of names a.0) (instr.Unary op ∷ []), a.1)
-  reach_layer (Binary op a b) = omega (arith, reach-between op (code_of names a.0) (code_of names b.0), a.1, b.1)
+  reach_layer (Binary op a b) = omega (arith, reach-operation op (code_of names a.0) (code_of names b.0), a.1, b.1)
   reach_layer (Choose a b c) =
       let cb = code_of names b.0 in
       let cc' = code_of names c.0 in
@@ -137,7 +147,7 @@ module _ (names : List ℕ → ℕ) where
   texts_layer (Look name) = sum_by-cons instr_texts (instr.Slot (names name)) []
   texts_layer (Group a) = a.1
   texts_layer (Unary op a) = one_more (instr.Unary op) (code_of names a.0) refl ∙ a.1
-  texts_layer (Binary op a b) = omega (arith, texts-between op (code_of names a.0) (code_of names b.0), a.1, b.1)
+  texts_layer (Binary op a b) = omega (arith, texts-operation op (code_of names a.0) (code_of names b.0), a.1, b.1)
   texts_layer (Choose a b c) = omega (arith, texts-choice (code_of names a.0) (code_of names b.0) (code_of names c.0), a.1, b.1, c.1)
 
   -- a code has as many text literals as its expression

@@ -67,6 +67,18 @@ ended op b = applied op b
 abbrev pub between : BinOp → List Instr → List Instr → List Instr
 between op a b = a ++ ended op b
 
+-- the left operand of an operator that takes it in, which is a number: `+` and `*` give the same in either order
+abbrev pub left_number : BinOp → List Instr → Option ℤ
+left_number Add a = lone_number a
+left_number Mul a = lone_number a
+left_number op a = None
+
+-- an operator in an expression, which takes in a left operand that is a number where it can
+abbrev pub operation : BinOp → List Instr → List Instr → List Instr
+operation Add (instr.Number n ∷ []) b = b ++ instr.AddNumber n ∷ []
+operation Mul (instr.Number n ∷ []) b = b ++ instr.MulNumber n ∷ []
+operation op a b = between op a b
+
 -- `? :`: the test, and a part that passes over the other one
 abbrev pub choice_code : List Instr → List Instr → List Instr → List Instr
 choice_code a b c = a ++ instr.Unless (length b + 1) ∷ (b ++ instr.Skip (length c) ∷ c)
@@ -77,7 +89,7 @@ code_step names (Lit t) = instr.Text t ∷ []
 code_step names (Look name) = instr.Slot (names name) ∷ []
 code_step names (Group a) = a
 code_step names (Unary op a) = a ++ instr.Unary op ∷ []
-code_step names (Binary op a b) = between op a b
+code_step names (Binary op a b) = operation op a b
 code_step names (Choose a b c) = choice_code a b c
 
 -- the code of an expression, with each name replaced by its slot

@@ -5,7 +5,7 @@ ghost use Rattle.bt_script_code.specs.declared.instr.Instr.TheVariants.{Slot, Un
 ghost use Rattle.bt_script_code.specs.Codes.{program, formula};
 ghost use Rattle.bt_script_code.specs.Programs.{program_of, formula_of, statement_of};
 ghost use Rattle.bt_script.specs.Grammar.{height};
-ghost use Rattle.bt_script_code.specs.Postfixes.{applied, begun, between, code_of, ended, has_jump, lone_number as lone_number_of, operator as operator_of, with_number as with_number_of};
+ghost use Rattle.bt_script_code.specs.Postfixes.{applied, begun, between, code_of, ended, has_jump, left_number as left_number_of, lone_number as lone_number_of, operator as operator_of, with_number as with_number_of};
 ghost use Rattle.bt_script_code.specs.Sources.{slot_of, IsListed, IsCompilable};
 ghost use Rattle.bt_script.specs.Scripts.{names_of};
 ghost use Rattle.bt_script_code.specs.Statements.{stmt_program};
@@ -85,6 +85,16 @@ fn lone_number(code: &[Instr]) -> Option<i64>
     }
 }
 
+/// The left operand of an operator that takes it in, which is a number.
+fn left_number(op: BinOp, code: &[Instr]) -> Option<i64>
+    ensures { result ≡ left_number_of op code.now }
+{
+    match op {
+        BinOp::Add | BinOp::Mul => lone_number(code),
+        _ => None,
+    }
+}
+
 /// Puts an operator after its right operand, which began at this place and is taken in where it is a
 /// number.
 fn apply(op: BinOp, place: usize, code: &mut Vec<Instr>) -> Result<(), NoMemory>
@@ -153,7 +163,13 @@ fn emit(
             put(code, Instr::Unary(*op))
         }
         Expr::Binary(op, a, b) => {
+            let start = code.len();
             emit(alloc, a.get(), slots, code)?;
+            if let Some(n) = left_number(*op, &code[start..]) {
+                code.truncate(start);
+                emit(alloc, b.get(), slots, code)?;
+                return put(code, with_number(*op, n));
+            }
             let place = code.len();
             begin(*op, code)?;
             emit(alloc, b.get(), slots, code)?;
