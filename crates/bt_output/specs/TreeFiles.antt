@@ -6,8 +6,8 @@ use Rattle.bt_elements.specs.declared.element.Element.{Element}
 use Rattle.bt_elements.specs.declared.element.ElementFault.{ElementFault}
 use Rattle.bt_elements.specs.Elements.{Spells}
 use Rattle.bt_elements.specs.Faults.{ElementFaultOf}
-use Rattle.bt_refusals.specs.declared.tree_file.TreeFault.{TreeFault}
-use Rattle.bt_refusals.specs.declared.tree_file.TreeFault.TheVariants as fault
+use Rattle.bt_refusals.specs.declared.fault.TreeFault.{TreeFault}
+use Rattle.bt_refusals.specs.declared.fault.TreeFault.TheVariants as fault
 use Rattle.bt_manifest.specs.Models.{Models, manifest_in}
 use Rattle.bt_manifest.specs.declared.fault.ManifestFault.{ManifestFault}
 use Rattle.bt_model.specs.declared.term.Tree.{Tree}

@@ -2,27 +2,18 @@ ghost use Rattle.std.specs.Prelude.{◌≡◌, ◌≤◌, IfOk, Ok, length};
 ghost use Rattle.std.specs.Option.{option_copied};
 ghost use Rattle.bt_elements.specs.Elements.{IsValid as IsValidElement};
 ghost use Rattle.bt_manifest.specs.Models.{manifest_in};
+ghost use Rattle.bt_model.specs.Limits.{most_file_bytes};
 ghost use Rattle.bt_model.specs.Trees.{IsValid};
-ghost use Rattle.bt_refusals.specs.TreeFiles.{ReadsAs, element_read};
+ghost use Rattle.bt_output.specs.TreeFiles.{ReadsAs, element_read};
 ghost use Rattle.bt_script.specs.Stops.{Gives};
 
-use bt_build::{BuildFault, build};
-use bt_elements::{ElementFault, Elements, read_elements};
-use bt_manifest::{Manifest, ManifestFault, manifest_of};
+use bt_build::build;
+use bt_elements::{Elements, read_elements};
+use bt_manifest::{Manifest, manifest_of};
 use bt_model::Tree;
+use bt_refusals::TreeFault;
 use bt_script::{Name, Stop};
 use std::alloc::Global;
-
-/// Why a tree file is refused.
-#[derive(Debug, Drop)]
-pub enum TreeFault {
-    /// Its bytes spell no element.
-    Elements(ElementFault),
-    /// Its node models can't be read.
-    Manifest(ManifestFault),
-    /// Its elements are no tree.
-    Build(BuildFault),
-}
 
 /// The tree that the elements of a file and its models read as, or their first fault.
 fn built(
@@ -64,13 +55,14 @@ fn element_tree(
     }
 }
 
-/// The tree that the bytes of a tree file read as, or their first fault. `main` asks for a main tree.
-pub fn read_tree(alloc: Global, bytes: &[u8], main: Option<&Name>) -> Result<Tree, Stop<TreeFault>>
-    requires { length bytes.now ≤ 1048576 }
+/// Parses the bytes of a tree file: the tree that they read as, or their first fault. `main` asks for a
+/// main tree.
+pub fn parse_tree(alloc: Global, bytes: &[u8], main: Option<&Name>) -> Result<Tree, Stop<TreeFault>>
+    requires { length bytes.now ≤ most_file_bytes }
     ensures reads { ReadsAs result (option_copied main.entry) bytes.now }
     ensures valid { IfOk result (λ tree. IsValid tree) }
 {
-    // What is large is let go by a call, which is proved once.
+    // What is large is dropped by a call, which is proved once.
     match read_elements(alloc, bytes) {
         Ok(elements) => {
             let tree = element_tree(alloc, &elements, main);
