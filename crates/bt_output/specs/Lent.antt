@@ -1,7 +1,6 @@
 -- What a command is lent, as it finds it and as it leaves it.
 use Rattle.std.specs.Prelude.{ℕ, ◌≡◌, ◌≤◌, List, Option}
 use Rattle.bt_model.specs.Drivers.{DriverState}
-use Rattle.bt_outside.specs.Counts.{Rose}
 use Rattle.bt_outside.specs.Moments.{Moments}
 use Rattle.bt_output.specs.declared.outside.Outside.{Outside}
 use Rattle.bt_output.specs.Answers.{Side, side}
@@ -10,10 +9,6 @@ use Rattle.bt_trace.specs.Traces.{AreKept}
 -- what is seen of the sink, the clock and the drivers that are lent
 abbrev pub seen : {S K C D : Type 0} → (K → Option (List ℕ)) → (K → ℕ) → (C → Option Moments) → (D → List DriverState) → Outside S K C D → Side
 seen written faults moments states o = side (written o.out.now) (faults o.out.now) (moments o.clock.now) (states o.drivers.now)
-
--- the count of failures of the shelf rose
-abbrev pub shelf_rose : {S K C D : Type 0} → (S → ℕ) → Outside S K C D → Outside S K C D → Type 0
-shelf_rose faults old new = Rose (faults old.shelf.now) (faults new.shelf.now)
 
 -- What stays of what is lent: it is the same shelf, sink, clock and drivers; the drivers are the same in the same places,
 -- and none holds anything; and no count has fallen.

@@ -4,11 +4,13 @@ ghost use Rattle.bt_command_line.specs.Commands.{HasFewLeaves, command_seen};
 ghost use Rattle.bt_command_line.specs.Words.{Check, Load, command_of};
 ghost use Rattle.bt_model.specs.Drivers.{NothingHeld};
 ghost use Rattle.bt_model.specs.Limits.{most_file_bytes, most_leaves};
-ghost use Rattle.bt_output.specs.Answers.{CommandAnswered};
+ghost use Rattle.bt_output.specs.Answers.{CommandAnswered, side};
+ghost use Rattle.bt_outside.specs.Counts.{Rose};
 ghost use Rattle.bt_output.specs.Ends.{CommandEnds, EndsAt, FilesEnd};
-ghost use Rattle.bt_output.specs.Lent.{Stays, seen, shelf_rose};
-ghost use Rattle.bt_output.specs.Output.{FilesGive, RunsOn};
+ghost use Rattle.bt_output.specs.Lent.{Stays, seen};
+ghost use Rattle.bt_output.specs.Output.{FilesGive, RunsOn, tree_name, world_name};
 ghost use Rattle.bt_output.specs.Reads.{Unread, WordsUnread};
+ghost use Rattle.bt_trace.specs.Traces.{AreKept};
 
 use crate::course::Course;
 use crate::join::join_and_run;
@@ -59,7 +61,7 @@ fn read_and_run<S: Shelf, K: Sink, C: Clock, D: Drivers>(
     requires quiet { NothingHeld (D.states outside.old.drivers.now) }
     ensures ends { let old = outside.old.shelf.now in
         let new = outside.new.shelf.now in
-        CommandEnds (shelf_rose S.faults outside.old outside.new)
+        CommandEnds (Rose (S.faults old) (S.faults new))
         (Unread S.read_gives (S.holds old) (Some tree.now) (Some world.now) old new)
         (FilesEnd (S.holds old) (Some tree.now) (Some world.now) (RunsOn course (option_copied main.entry))) result
         (seen K.written K.faults C.moments D.states outside.old)
@@ -114,7 +116,7 @@ fn read_and_print<S: Shelf, K: Sink, C: Clock, D: Drivers>(
     requires quiet { NothingHeld (D.states outside.old.drivers.now) }
     ensures ends { let old = outside.old.shelf.now in
         let new = outside.new.shelf.now in
-        CommandEnds (shelf_rose S.faults outside.old outside.new)
+        CommandEnds (Rose (S.faults old) (S.faults new))
         (Unread S.read_gives (S.holds old) (Some tree.now) None old new)
         (FilesEnd (S.holds old) (Some tree.now) None (FilesGive (Check tree.now (option_copied main.entry)))) result
         (seen K.written K.faults C.moments D.states outside.old)
@@ -137,7 +139,7 @@ fn run_command<S: Shelf, K: Sink, C: Clock, D: Drivers>(
     ensures ends { let old = outside.old.shelf.now in
         let new = outside.new.shelf.now in
         let command = command_seen command.entry in
-        CommandEnds (shelf_rose S.faults outside.old outside.new)
+        CommandEnds (Rose (S.faults old) (S.faults new))
         (Unread S.read_gives (S.holds old) (tree_name command) (world_name command) old new)
         (FilesEnd (S.holds old) (tree_name command) (world_name command) (FilesGive command)) result
         (seen K.written K.faults C.moments D.states outside.old)
@@ -159,9 +161,8 @@ fn run_command<S: Shelf, K: Sink, C: Clock, D: Drivers>(
     }
 }
 
-/// Runs the command that the words of a command line are, over the files of the shelf, the moments of
-/// the clock and the drivers, and writes its output line by line to the sink, or the line of its refusal.
-pub fn run_words<S: Shelf, K: Sink, C: Clock, D: Drivers>(
+/// Runs the command that the words of a command line are, or writes the line of its refusal.
+fn run_or_refuse<S: Shelf, K: Sink, C: Clock, D: Drivers>(
     alloc: Global,
     words: &[Name],
     outside: &mut Outside<S, K, C, D>,
@@ -169,7 +170,7 @@ pub fn run_words<S: Shelf, K: Sink, C: Clock, D: Drivers>(
     requires quiet { NothingHeld (D.states outside.old.drivers.now) }
     ensures answered { let old = outside.old.shelf.now in
         let new = outside.new.shelf.now in
-        CommandAnswered (command_of words.now) (S.holds old) (shelf_rose S.faults outside.old outside.new)
+        CommandAnswered (command_of words.now) (S.holds old) (Rose (S.faults old) (S.faults new))
         (WordsUnread S.read_gives (S.holds old) (command_of words.now) old new) result
         (seen K.written K.faults C.moments D.states outside.old)
         (seen K.written K.faults C.moments D.states outside.new) }
@@ -183,4 +184,32 @@ pub fn run_words<S: Shelf, K: Sink, C: Clock, D: Drivers>(
         Ok(exit) => exit,
         Err(refusal) => write_refusal(alloc, &refusal, outside.out),
     }
+}
+
+/// Runs the command that the words of a command line are, over the files of the shelf, the moments of
+/// the clock and the drivers, and writes its output line by line to the sink, or the line of its refusal.
+pub fn run_words<S: Shelf, K: Sink, C: Clock, D: Drivers>(
+    alloc: Global,
+    words: &[Name],
+    shelf: &mut S,
+    out: &mut K,
+    clock: &mut C,
+    drivers: &mut D,
+) -> Exit
+    requires quiet { NothingHeld (D.states drivers.old) }
+    ensures answered { CommandAnswered (command_of words.now) (S.holds shelf.old) (Rose (S.faults shelf.old) (S.faults shelf.new))
+        (WordsUnread S.read_gives (S.holds shelf.old) (command_of words.now) shelf.old shelf.new) result
+        (side (K.written out.old) (K.faults out.old) (C.moments clock.old) (D.states drivers.old))
+        (side (K.written out.new) (K.faults out.new) (C.moments clock.new) (D.states drivers.new)) }
+    ensures kept { AreKept (D.states drivers.old) (D.states drivers.new) }
+    ensures read_count { S.faults shelf.old ≤ S.faults shelf.new }
+    ensures count { K.faults out.old ≤ K.faults out.new }
+{
+    let mut outside = Outside {
+        shelf,
+        out,
+        clock,
+        drivers,
+    };
+    run_or_refuse(alloc, words, &mut outside)
 }

@@ -12,4 +12,3 @@ mod refusal;
 mod tree_file;
 
 pub use command::run_words;
-pub use outside::Outside;

@@ -12,7 +12,7 @@ use crate::boxes::Boxes;
 use bt_command_line::Exit;
 use bt_driver::Driver;
 use bt_elements::{element_or_fault, one_element};
-use bt_output::{Outside, run_words};
+use bt_output::run_words;
 use bt_outside::{Clock, Shelf, Sink};
 use bt_script::Name;
 use bt_world::laws::worlds_read_one_way;
@@ -86,13 +86,7 @@ pub fn bt<S: Shelf, K: Sink, C: Clock>(
     let mut boxes = Boxes {
         drivers: mem::replace(roster, Vec::new(alloc)),
     };
-    let mut outside = Outside {
-        shelf,
-        out,
-        clock,
-        drivers: &mut boxes,
-    };
-    let exit = run_words(alloc, words, &mut outside);
+    let exit = run_words(alloc, words, shelf, out, clock, &mut boxes);
     *roster = boxes.drivers;
     exit
 }
