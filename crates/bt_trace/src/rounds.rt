@@ -114,9 +114,11 @@ pub fn run_rounds<D: Drivers, C: Clock, W: Watch>(
     ensures watcher { StaysWatcher result (W.state watch.old) (W.state watch.new) }
 {
     let mut underway = underway(alloc, runs)?;
-    let ended = run_live(alloc, &mut underway, rounds, clock, drivers, watch);
-    if ended.is_err() {
-        finish_unwritten(alloc, &mut underway, drivers);
+    match run_live(alloc, &mut underway, rounds, clock, drivers, watch) {
+        Ok(ended) => Ok(ended),
+        Err(stopped) => {
+            finish_unwritten(alloc, &mut underway, drivers);
+            Err(stopped)
+        }
     }
-    ended
 }

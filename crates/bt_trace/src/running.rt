@@ -64,9 +64,11 @@ pub fn run_events<D: Drivers, W: Watch>(
     ensures watcher { StaysWatcher result (W.state watch.old) (W.state watch.new) }
 {
     let mut underway = underway(alloc, runs)?;
-    let ended = run_script(alloc, &mut underway, events, drivers, watch);
-    if ended.is_err() {
-        finish_unwritten(alloc, &mut underway, drivers);
+    match run_script(alloc, &mut underway, events, drivers, watch) {
+        Ok(ended) => Ok(ended),
+        Err(stopped) => {
+            finish_unwritten(alloc, &mut underway, drivers);
+            Err(stopped)
+        }
     }
-    ended
 }
