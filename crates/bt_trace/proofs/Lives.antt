@@ -1,20 +1,23 @@
 -- Rounds at the moments of a clock, against the rounds of the definition.
-use Rattle.std.proofs.Common.{◌≡◌, ℕ, zero, suc, ◌+◌, ◌-◌, ◌<◌, ◌≤◌, max, arith, List, [], ◌∷◌, ◌++◌, length, take, drop, replicate, Option, Some, None, IfSome, IsSome, Result, Ok, Err, OnOk, refl, sym, ap, subst, ◌∙◌, append_assoc, append-nil}
+use Rattle.std.proofs.Common.{◌≡◌, ℕ, zero, suc, ◌+◌, ◌-◌, ◌<◌, ◌≤◌, max, arith, List, [], ◌∷◌, ◌++◌, length, take, drop, replicate, Option, Some, None, IfSome, IsSome, Result, Ok, Err, OnOk, true, false, refl, sym, ap, subst, ◌∙◌, append_assoc, append-nil}
 use Rattle.std.specs.Option.{option_map}
 use Rattle.std.specs.Result.{IsErr}
 use Rattle.std.proofs.lemmas.List.{length-append, length-replicate, take-append-drop, take-append-le, take_at}
 use Rattle.bt_model.specs.declared.fault.RunFault.{RunFault}
 use Rattle.bt_model.specs.declared.term.Tree.{Tree}
+use Rattle.bt_model.specs.declared.world.Event.{Event}
 use Rattle.bt_model.specs.declared.world.World.{World}
+use Rattle.bt_model.specs.Drivers.{DriverState}
 use Rattle.bt_model.specs.Run.{RunState, Trace}
 use Rattle.bt_outside.specs.Moments.{Moments, after_now}
 use Rattle.bt_text.specs.declared.stop.TextStop.{TextStop}
 use Rattle.bt_text.specs.declared.stop.TextStop.TheVariants as text_stop
+use Rattle.bt_loop.specs.declared.runs.Runs.{Runs}
 use Rattle.bt_trace.specs.declared.ended.Ended.{Ended}
 use Rattle.bt_trace.specs.declared.ended.Ended.TheVariants.{Done, Faulted}
 use Rattle.bt_trace.specs.Going.{HasGiven, LiveMade, Makes, MakesPart, RoundsMade, Stage, arenas_at, finishes_then, rounds_then, state_at}
 use Rattle.bt_trace.specs.Rounds.{AreBegun, AreMoments, WasAsked, events_then, fault_in, moments_after, nothing_more, round_of, taken}
-use Rattle.bt_trace.specs.Traces.{Setup, ended}
+use Rattle.bt_trace.specs.Traces.{Setup, ended, state_in}
 use Rattle.bt_trace.proofs.Following.{round_next, rounds_front}
 use Rattle.bt_trace.proofs.Parts.{part_as, part_before, part_next, part_stopped, part_to}
 
@@ -213,7 +216,7 @@ module _ (of : Setup) (rounds : ℕ) (s0 s1 : Stage) (asked left : Option Moment
   all_begun p ends (Some m) has =
       on_any ends (subst (λ (ms : List ℕ). AreBegun of.tree of.world Opened ms (state_at of s0) (length p.given)) (are_all rounds (Some m) left p.given has (p.all refl)).given (begun_all p))
 
-  none_begun : (stopped : TextStop) (asked' : Option Moments) (P : Moments → Type 0) → IfSome asked' (λ m. OnOk {Ended} (Err stopped) (P m))
+  none_begun : (stopped : TextStop) (asked' : Option Moments) (P : Moments → Type 0) → IfSome asked' (λ m. OnOk {T = Ended} {E = TextStop} (Err stopped) (P m))
   none_begun stopped None P = tt
   none_begun stopped (Some m) P = tt
 
@@ -230,28 +233,32 @@ module _ (of : Setup) (rounds : ℕ) (s0 s1 : Stage) (asked left : Option Moment
     asked = record { begun = length p.given; within = p.within; asked = p.told.left; begin = all_begun p result asked p.told; all = λ done. p.all refl };
   }
 
-  over : (result : Result Ended TextStop) → (result ≡ Ok Done → ⊥) → (p : RoundsMade of result rounds s0 s1 asked left) (later : List ℕ) → Makes of result s0 s1 (λ rest. Rounds (p.given ++ later) (Finishes rest))
-  over result over p later =
-      part_to of s0 s1 (λ rest. Rounds (p.given ++ later) (Finishes rest)) (λ rest. Finishes rest (state_at of s1)) result (λ rest. rest (state_at of s1)) (λ done. absurd (over done))
-      (part_before of s0 s1 (Rounds (p.given ++ later)) (λ rest. rest (state_at of s1)) result Finishes (p.made later (λ done. absurd (over done))))
+  rounds_over : (result : Result Ended TextStop) → (result ≡ Ok Done → ⊥) → (p : RoundsMade of result rounds s0 s1 asked left) (later : List ℕ) → Makes of result s0 s1 (λ rest. Rounds (p.given ++ later) (Finishes rest))
+  rounds_over result ends p later =
+      part_to of s0 s1 (λ rest. Rounds (p.given ++ later) (Finishes rest)) (λ rest. Finishes rest (state_at of s1)) result (λ rest. rest (state_at of s1)) (λ done. absurd (ends done))
+      (part_before of s0 s1 (Rounds (p.given ++ later)) (λ rest. rest (state_at of s1)) result Finishes (p.made later (λ done. absurd (ends done))))
 
   -- a fault ended the run in a round
   pub live_faulted : RoundsMade of (Ok Faulted) rounds s0 s1 asked left → LiveMade of (Ok Faulted) rounds s0 s1 asked left
   live_faulted p = record {
     moments = p.given ++ to_come (rounds - length p.given) left;
     are = are_moments rounds asked left p.given p.told p.within;
-    made = over (Ok Faulted) (λ done. cc) p (to_come (rounds - length p.given) left);
+    made = rounds_over (Ok Faulted) (λ done. cc) p (to_come (rounds - length p.given) left);
     asked = record { begun = length p.given; within = p.within; asked = p.told.left; begin = last_begun p asked p.told; all = λ done. cc };
   }
 
   -- .. or it was stopped there
-  pub live_stopped : (stopped : TextStop) → RoundsMade of (Err stopped) rounds s0 s1 asked left → LiveMade of (Err stopped) rounds s0 s1 asked left
+  live_stopped : (stopped : TextStop) → RoundsMade of (Err stopped) rounds s0 s1 asked left → LiveMade of (Err stopped) rounds s0 s1 asked left
   live_stopped stopped p = record {
     moments = p.given ++ to_come (rounds - length p.given) left;
     are = are_moments rounds asked left p.given p.told p.within;
-    made = over (Err stopped) (λ done. cc) p (to_come (rounds - length p.given) left);
+    made = rounds_over (Err stopped) (λ done. cc) p (to_come (rounds - length p.given) left);
     asked = record { begun = length p.given; within = p.within; asked = p.told.left; begin = none_begun stopped asked (λ m. AreBegun of.tree of.world Opened (taken rounds m) (state_at of s0) (length p.given)); all = λ done. cc };
   }
+
+  pub live_over : (ends : Result Ended TextStop) → IsErr ends → RoundsMade of ends rounds s0 s1 asked left → LiveMade of ends rounds s0 s1 asked left
+  live_over (Err stopped) err p = live_stopped stopped p
+  live_over (Ok ending) err p = absurd (let w : false ≡ true = err in cc)
 
 -- no round was begun
 pub asked_nothing : (ends : Result Ended TextStop) → IsErr ends → (tree : Tree) (world : World) (rounds last : ℕ) (s : RunState) (old : Option Moments) → WasAsked ends tree world rounds last s old old
@@ -263,10 +270,20 @@ asked_nothing (Err stopped) err tree world rounds last s old = record {
   begin = none old;
   all = λ done. cc;
 } where
-  none : (o : Option Moments) → IfSome o (λ m. OnOk {Ended} {TextStop} (Err stopped) (AreBegun tree world last (taken rounds m) s 0))
+  none : (o : Option Moments) → IfSome o (λ m. OnOk {T = Ended} {E = TextStop} (Err stopped) (AreBegun tree world last (taken rounds m) s 0))
   none None = tt
   none (Some m) = tt
 
 -- rounds whose answer is known
 pub rounds_as : (of : Setup) (result ends : Result Ended TextStop) (rounds : ℕ) (s0 s1 : Stage) (asked left : Option Moments) → result ≡ ends → RoundsMade of result rounds s0 s1 asked left → RoundsMade of ends rounds s0 s1 asked left
 rounds_as of result ends rounds s0 s1 asked left same p = subst (λ (r : Result Ended TextStop). RoundsMade of r rounds s0 s1 asked left) same p
+
+-- the events that were followed are a round
+pub round_is : (of : Setup) (result : Result Ended TextStop) (s1 s2 : Stage) (events : List Event) (at : ℕ) → events ≡ round_of of.world.runners at → Makes of result s1 s2 (λ rest. events_then of.tree of.world events rest (state_at of s1)) →
+    Makes of result s1 s2 (λ rest. events_then of.tree of.world (round_of of.world.runners at) rest (state_at of s1))
+round_is of result s1 s2 events at is made = subst (λ (es : List Event). Makes of result s1 s2 (λ rest. events_then of.tree of.world es rest (state_at of s1))) is made
+
+-- .. of runs under another name
+pub asked_as : (of : Setup) (result : Result Ended TextStop) (rounds : ℕ) (drivers : List DriverState) (a b : Runs) (old new : Option Moments) → a ≡ b → WasAsked result of.tree of.world rounds a.last (state_in of drivers a) old new →
+    WasAsked result of.tree of.world rounds b.last (state_in of drivers b) old new
+asked_as of result rounds drivers a b old new same p = subst (λ (r : Runs). WasAsked result of.tree of.world rounds r.last (state_in of drivers r) old new) same p

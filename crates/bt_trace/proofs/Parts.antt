@@ -1,11 +1,13 @@
 -- The parts of a run follow one another: each is a part of the whole, with what is still to come.
 use Rattle.std.proofs.Common.{◌≡◌, ◌⊎◌, inl, inr, ◌≤◌, ◌<◌, ◌+◌, ◌-◌, ◌^◌, ℕ, List, [], ◌∷◌, ◌++◌, Option, Some, None, Result, Ok, Err, IfOk, OnErr, length, true, false, refl, sym, ap, subst, ◌∙◌, append_assoc, append-nil, arith}
 use Rattle.std.specs.List.{flat_map}
-use Rattle.std.specs.Result.{IsErr}
+use Rattle.std.specs.Result.{IsErr, IsErrAnd}
 use Rattle.std.proofs.lemmas.Bool.{cases_lt}
 use Rattle.bt_script.specs.declared.stop.NoMemory.{NoMemory}
 use Rattle.bt_model.specs.declared.block.Block.{Block}
 use Rattle.bt_model.specs.declared.fault.RunFault.{RunFault}
+use Rattle.bt_model.specs.declared.world.Event.{Event}
+use Rattle.bt_model.specs.declared.world.World.{World}
 use Rattle.bt_model.specs.Drivers.{DriverState}
 use Rattle.bt_model.specs.Run.{RunnerCall, RunState, Trace}
 use Rattle.bt_outside.specs.Appending.{AppendedFront}
@@ -24,7 +26,7 @@ use Rattle.bt_trace.specs.declared.underway.Underway.{Underway}
 use Rattle.bt_trace.specs.Cuts.{HaveHalted, IsCut}
 use Rattle.bt_trace.specs.Going.{CanGoOn, Goes, Going, Makes, MakesPart, Stage, Stand, WasStopped, arenas_at, side_of, state_at}
 use Rattle.bt_trace.specs.Rounds.{nothing_more}
-use Rattle.bt_trace.specs.Traces.{CanRun, IsRun, Leaves, Setup, Side, ended, side}
+use Rattle.bt_trace.specs.Traces.{CanAllCome, CanRun, IsRun, Leaves, Setup, Side, ended, side}
 use Rattle.bt_trace.specs.Watches.{StaysWatcher, WasShown, Watched}
 use Rattle.bt_trace.proofs.Cuts.{cut_after, cut_before, cut_here, cut_none, on_err, over_both}
 use Rattle.bt_trace.proofs.Rests.{same_many}
@@ -105,7 +107,7 @@ goes_as result arenas a b whole other rest same p = subst (λ (t : Trace). Goes 
 
 -- ---- Watchers
 
-watcher_same : (w : Watched) → StaysWatcher {Ended} (Ok Done) w w
+watcher_same : (w : Watched) → StaysWatcher {A = Ended} (Ok Done) w w
 watcher_same w = record { text = refl; lent = refl; failed = λ is. cc; count = omega arith }
 
 rose_after : (a b c : ℕ) → a ≤ b → Rose b c → Rose a c
@@ -114,13 +116,29 @@ rose_after a b c low rose = elim rose [ inl more ↦ inl (omega (arith, low, mor
   rose_last a b c low last = elim (cases_lt a c) [ inl more ↦ inl more | inr none ↦ inr (omega (arith, low, last.0, last.1, none), last.1) ]
 
 -- a watcher that is still the same one, whatever was answered
-watcher_both : (result : Result Ended TextStop) (a b c : Watched) → StaysWatcher {Ended} (Ok Done) a b → StaysWatcher result b c → StaysWatcher result a c
+watcher_both : (result : Result Ended TextStop) (a b c : Watched) → StaysWatcher {A = Ended} (Ok Done) a b → StaysWatcher result b c → StaysWatcher result a c
 watcher_both result a b c p q = record {
   text = q.text ∙ p.text;
   lent = q.lent ∙ p.lent;
   failed = λ is. rose_after a.faults b.faults c.faults p.count (q.failed is);
   count = omega (arith, p.count, q.count);
 }
+
+-- ---- Answers
+
+-- an error that is handed on
+pub handed_on : (result ends : Result Ended TextStop) (e : TextStop) → result ≡ Err e → IsErrAnd ends (λ f. f ≡ e) → result ≡ ends
+handed_on result (Err f) e was p = was ∙ ap Err (sym p)
+handed_on result (Ok x) e was p = absurd p
+
+-- .. is no end
+pub not_done : (result : Result Ended TextStop) {P : Type 0} → IsErr result → result ≡ Ok Done → P
+not_done (Err stopped) err done = cc
+not_done (Ok ending) err done = cc
+
+pub not_faulted : (result : Result Ended TextStop) {P : Type 0} → IsErr result → result ≡ Ok Faulted → P
+not_faulted (Err stopped) err faulted = cc
+not_faulted (Ok ending) err faulted = cc
 
 -- ---- Parts
 
@@ -293,3 +311,7 @@ pub begun : (of : Setup) (drivers : List DriverState) (runs : Runs) (u : Underwa
 begun of drivers runs u can is room =
     let are : AreRuns of.tree of.world drivers u.runs = subst (λ (r : Runs). AreRuns of.tree of.world drivers r) (sym is) can.are in
     record { are = are; few = omega (arith, are.fit.many, can.is_valid_world.few_runners); room = subst (λ (r : Runs). HaveRoom (arenas_of r) u.block.notes) (sym is) room }
+
+-- .. over the same events
+pub come_as : (world : World) (a b : Runs) (events : List Event) → a ≡ b → CanAllCome world b.last events → CanAllCome world a.last events
+come_as world a b events is can = subst (λ (r : Runs). CanAllCome world r.last events) (sym is) can

@@ -142,9 +142,9 @@ pub record RoundsMade (of : Setup) (result : Result Ended TextStop) (rounds : �
   pub before : result ≡ Ok Faulted → fault_in of.tree of.world old.underway.runs.last (take (length given - 1) given) (state_at of old) ≡ None
 
 -- rounds were made at the clock's moments, and then all runners were finished
-pub record LiveMade (of : Setup) (result : Result Ended TextStop) (rounds : ℕ) (old new : Stage) (asked left : Option Moments) : Type 0 where
+pub record LiveMade (of : Setup) (result : Result Ended TextStop) (rounds : ℕ) (old new : Stage) (clock left : Option Moments) : Type 0 where
   pub moments : List ℕ
-  pub are : AreMoments rounds asked moments
+  pub are : AreMoments rounds clock moments
   pub made : Makes of result old new
       (λ rest. rounds_then of old.underway.runs.last moments (finishes_then of.tree of.world 1 of.world.runners rest) (state_at of old))
-  pub asked : WasAsked result of.tree of.world rounds old.underway.runs.last (state_at of old) asked left
+  pub asked : WasAsked result of.tree of.world rounds old.underway.runs.last (state_at of old) clock left

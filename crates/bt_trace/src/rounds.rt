@@ -9,7 +9,7 @@ ghost use Rattle.bt_trace.specs.Watches.{StaysWatcher};
 use crate::ended::Ended;
 use crate::events::follow;
 use crate::finishes::{finish_all, finish_unwritten};
-use crate::underway::{Underway, underway};
+use crate::underway::{Underway, begin};
 use crate::watch::Watch;
 use bt_driver::Drivers;
 use bt_loop::Runs;
@@ -51,10 +51,13 @@ fn follow_clock<D: Drivers, C: Clock, W: Watch>(
         RoundsMade of result rounds old new (C.moments clock.old) (C.moments clock.new) }
 {
     let mut round = Vec::new(alloc);
+    let runners = underway.runs.runners.len() as u8;
     let mut last = underway.runs.last;
     for _ in 0..rounds {
         last = clock.now().max(last);
-        fill_round(&mut round, underway.runs.runners.len() as u8, last)?;
+        let Ok(()) = fill_round(&mut round, runners, last) else {
+            return Err(TextStop::NoMemory);
+        };
         if let Ended::Faulted = follow(alloc, underway, round.as_slice(), drivers, watch)? {
             return Ok(Ended::Faulted);
         }
@@ -113,7 +116,7 @@ pub fn run_rounds<D: Drivers, C: Clock, W: Watch>(
     ensures kept { AreKept (D.states drivers.old) (D.states drivers.new) }
     ensures watcher { StaysWatcher result (W.state watch.old) (W.state watch.new) }
 {
-    let mut underway = underway(alloc, runs)?;
+    let mut underway = begin(alloc, runs)?;
     match run_live(alloc, &mut underway, rounds, clock, drivers, watch) {
         Ok(ended) => Ok(ended),
         Err(stopped) => {

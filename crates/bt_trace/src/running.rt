@@ -9,7 +9,7 @@ ghost use Rattle.bt_trace.specs.Watches.{StaysWatcher};
 use crate::ended::Ended;
 use crate::events::follow;
 use crate::finishes::{finish_all, finish_unwritten};
-use crate::underway::{Underway, underway};
+use crate::underway::{Underway, begin};
 use crate::watch::Watch;
 use bt_driver::Drivers;
 use bt_loop::Runs;
@@ -31,8 +31,8 @@ fn run_script<D: Drivers, W: Watch>(
     ensures made {
         let old = stage (D.states drivers.old) (W.state watch.old) underway.old in
         let new = stage (D.states drivers.new) (W.state watch.new) underway.new in
-        let last = λ rest. finishes_then of.tree of.world 1 of.world.runners rest in
-        Makes of result old new (λ rest. events_then of.tree of.world events.now (last rest) (state_at of old)) }
+        Makes of result old new (λ rest.
+        events_then of.tree of.world events.now (finishes_then of.tree of.world 1 of.world.runners rest) (state_at of old)) }
     ensures none { OnOk result (NothingHeld (D.states drivers.new)) }
 {
     match follow(alloc, underway, events, drivers, watch)? {
@@ -63,7 +63,7 @@ pub fn run_events<D: Drivers, W: Watch>(
     ensures kept { AreKept (D.states drivers.old) (D.states drivers.new) }
     ensures watcher { StaysWatcher result (W.state watch.old) (W.state watch.new) }
 {
-    let mut underway = underway(alloc, runs)?;
+    let mut underway = begin(alloc, runs)?;
     match run_script(alloc, &mut underway, events, drivers, watch) {
         Ok(ended) => Ok(ended),
         Err(stopped) => {

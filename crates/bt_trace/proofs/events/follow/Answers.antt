@@ -1,19 +1,16 @@
 use Rattle.std.proofs.Common.{◌≤◌, ◌<◌, ◌+◌, ◌∙◌, Ok, ap, drop, length, refl, subst, sym, arith}
 use Rattle.bt_trace.specs.Traces.{CanAllCome, last_moment}
 use Rattle.bt_trace.proofs.Following.{come_next, event_next, events_end, last_end, last_next}
-use Rattle.bt_trace.proofs.Parts.{go_on, part_none, part_on, part_over, part_to}
+use Rattle.bt_trace.proofs.Parts.{go_on, handed_on, not_done, part_none, part_on, part_over, part_to}
 use Rattle.bt_trace.proofs.events.follow.Goals as goal
 
 pub loop-next-init : goal.loop-next-init
-loop-next-init g c = record { made = part_none g.of _ _ _ c.requires.runs.are (λ rest. refl); come = c.requires.come; last = refl }
+loop-next-init g c = record { made = part_none g.of _ _ _ c.requires.1.1.0.are (λ rest. refl); come = c.requires.1.1.1; last = refl }
 
-pub make_event-requires-clause-runs : goal.make_event-requires-clause-runs
-make_event-requires-clause-runs g c = go_on g.of _ _ _ _ c.loop-next.invariant.made c.requires.runs
-
-pub make_event-requires-clause-come : goal.make_event-requires-clause-come
-make_event-requires-clause-come g c =
+pub make_event-requires : goal.make_event-requires
+make_event-requires g c = λ lifetimes live.
     let low : c.loop-next.next-index < length c.args.events.now = omega arith in
-    (come_next g.of.world _ _ _ _ low c.loop-next.invariant.come).0
+    (live.0, (live.1, (go_on g.of _ _ _ _ c.loop-next.invariant.made c.requires.1.1.0, (come_next g.of.world _ _ _ _ low c.loop-next.invariant.come).0)))
 
 pub returns-in-Faulted-clause-made : goal.returns-in-Faulted-clause-made
 returns-in-Faulted-clause-made g c =
@@ -41,3 +38,9 @@ pub returns-clause-last : goal.returns-clause-last
 returns-clause-last g c = λ done.
     let all : length c.args.events.now ≤ c.loop-next.next-index = omega arith in
     sym (last_end _ c.args.events.now c.loop-next.next-index all) ∙ c.loop-next.invariant.last
+
+pub returns-in_err-make_event-clause-made : goal.returns-in_err-make_event-clause-made
+returns-in_err-make_event-clause-made g c =
+    let low : c.loop-next.next-index < length c.args.events.now = omega arith in
+    part_over g.of _ _ _ _ c.make_event.result c.from_residual.result _ _ _ (handed_on _ _ _ c.in_err-make_event.was c.from_residual.ensures.1) (λ done. not_done c.from_residual.result c.from_residual.ensures.0 done)
+    c.loop-next.invariant.made (λ rest. event_next g.of.tree g.of.world c.args.events.now c.loop-next.next-index _ rest _ low) c.make_event.ensures.made

@@ -10,7 +10,7 @@ pub loop-place-init : goal.loop-place-init
 loop-place-init g c =
     let drivers = g.D.Drivers.states c.args.drivers.now in
     record {
-      stand = c.requires.stand;
+      stand = c.requires.1.0;
       rest = λ usable. none_yet g.of.tree drivers c.args.underway.now.runs;
       halts = halted_none _ drivers;
       arenas = refl;

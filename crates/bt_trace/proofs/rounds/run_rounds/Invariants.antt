@@ -1,7 +1,7 @@
 use Rattle.bt_trace.proofs.rounds.run_rounds.Given as goal
 
-abbrev pub ghost-underway : goal.ghost-underway
-ghost-underway g a = g.of
+abbrev pub ghost-begin : goal.ghost-begin
+ghost-begin g a = g.of
 
 abbrev pub ghost-run_live : goal.ghost-run_live
 ghost-run_live g a = g.of

@@ -1,7 +1,7 @@
 use Rattle.bt_trace.proofs.running.run_events.Given as goal
 
-abbrev pub ghost-underway : goal.ghost-underway
-ghost-underway g a = g.of
+abbrev pub ghost-begin : goal.ghost-begin
+ghost-begin g a = g.of
 
 abbrev pub ghost-run_script : goal.ghost-run_script
 ghost-run_script g a = g.of

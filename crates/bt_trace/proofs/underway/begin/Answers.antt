@@ -1,6 +1,6 @@
 use Rattle.std.proofs.Common.{arith}
 use Rattle.bt_loop.proofs.FewLeaves.{leaves_are_few}
-use Rattle.bt_trace.proofs.underway.underway.Goals as goal
+use Rattle.bt_trace.proofs.underway.begin.Goals as goal
 
 pub leaves-requires : goal.leaves-requires
 leaves-requires g c =
