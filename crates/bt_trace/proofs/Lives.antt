@@ -193,7 +193,7 @@ module _ (of : Setup) (rounds : ℕ) (s0 s1 : Stage) (asked left : Option Moment
   begun_all : (p : RoundsMade of (Ok Done) rounds s0 s1 asked left) → AreBegun of.tree of.world Opened p.given (state_at of s0) (length p.given)
   begun_all p =
       let none : fault_in of.tree of.world Opened p.given (state_at of s0) ≡ None =
-          ap (λ (ms : List ℕ). fault_in of.tree of.world Opened ms (state_at of s0)) (sym (append-nil p.given)) ∙ sym ((p.made [] (λ done. refl)).goes nothing_more).fault in
+      ap (λ (ms : List ℕ). fault_in of.tree of.world Opened ms (state_at of s0)) (sym (append-nil p.given)) ∙ sym ((p.made [] (λ done. refl)).goes nothing_more).fault in
       record {
         within = omega arith;
         before = rounds_front of.tree of.world Opened (take (length p.given - 1) p.given) (drop (length p.given - 1) p.given) (state_at of s0)

@@ -45,8 +45,7 @@ fn follow_clock<D: Drivers, C: Clock, W: Watch>(
 ) -> Result<Ended, TextStop>
     ghost of: { Setup }
     requires { CanGoOn of (D.states drivers.old) underway.old }
-    ensures {
-        let old = stage (D.states drivers.old) (W.state watch.old) underway.old in
+    ensures { let old = stage (D.states drivers.old) (W.state watch.old) underway.old in
         let new = stage (D.states drivers.new) (W.state watch.new) underway.new in
         RoundsMade of result rounds old new (C.moments clock.old) (C.moments clock.new) }
 {
@@ -77,8 +76,7 @@ fn run_live<D: Drivers, C: Clock, W: Watch>(
 ) -> Result<Ended, TextStop>
     ghost of: { Setup }
     requires { CanGoOn of (D.states drivers.old) underway.old }
-    ensures made {
-        let old = stage (D.states drivers.old) (W.state watch.old) underway.old in
+    ensures made { let old = stage (D.states drivers.old) (W.state watch.old) underway.old in
         let new = stage (D.states drivers.new) (W.state watch.new) underway.new in
         LiveMade of result rounds old new (C.moments clock.old) (C.moments clock.new) }
     ensures none { OnOk result (NothingHeld (D.states drivers.new)) }
@@ -105,13 +103,11 @@ pub fn run_rounds<D: Drivers, C: Clock, W: Watch>(
 ) -> Result<Ended, TextStop>
     ghost of: { Setup }
     requires runs { CanRun of (D.states drivers.old) runs }
-    ensures leaves {
-        let old = side (D.states drivers.old) (W.state watch.old) in
+    ensures leaves { let old = side (D.states drivers.old) (W.state watch.old) in
         let new = side (D.states drivers.new) (W.state watch.new) in
         (moments : List ℕ) × AreMoments rounds (C.moments clock.old) moments
         × Leaves result (arenas_of runs) old new (trace_of of old.drivers runs (live_events of.world runs.last moments)) }
-    ensures asked {
-        let opened = state_in of (D.states drivers.old) runs in
+    ensures asked { let opened = state_in of (D.states drivers.old) runs in
         WasAsked result of.tree of.world rounds runs.last opened (C.moments clock.old) (C.moments clock.new) }
     ensures kept { AreKept (D.states drivers.old) (D.states drivers.new) }
     ensures watcher { StaysWatcher result (W.state watch.old) (W.state watch.new) }

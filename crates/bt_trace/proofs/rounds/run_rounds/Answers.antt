@@ -31,7 +31,7 @@ returns-in-Ok-clause-leaves g c =
       live.moments,
       live.are,
       leaves_run g.of _ _ _ c.args.runs _ (λ (r : Runs). trace_of g.of (g.D.Drivers.states c.args.drivers.now) r (live_events g.of.world r.last live.moments)) c.in_ok-underway.ensures.runs
-      (run_is g.of.tree g.of.world (live_events g.of.world c.in_ok-underway.underway.runs.last live.moments) _) live.made,
+          (run_is g.of.tree g.of.world (live_events g.of.world c.in_ok-underway.underway.runs.last live.moments) _) live.made,
     )
 
 pub returns-in-Ok-clause-asked : goal.returns-in-Ok-clause-asked
@@ -50,8 +50,8 @@ returns-clause-leaves g c =
       live.moments,
       live.are,
       leaves_halted _ _ _ _ _ _ _ (live.made.arenas ∙ ap arenas_of c.in_ok-underway.ensures.runs)
-      (leaves_run g.of _ _ _ c.args.runs _ (λ (r : Runs). trace_of g.of (g.D.Drivers.states c.args.drivers.now) r (live_events g.of.world r.last live.moments)) c.in_ok-underway.ensures.runs
-      (run_is g.of.tree g.of.world (live_events g.of.world c.in_ok-underway.underway.runs.last live.moments) _) live.made) c.finish_unwritten.ensures.halts,
+          (leaves_run g.of _ _ _ c.args.runs _ (λ (r : Runs). trace_of g.of (g.D.Drivers.states c.args.drivers.now) r (live_events g.of.world r.last live.moments)) c.in_ok-underway.ensures.runs
+          (run_is g.of.tree g.of.world (live_events g.of.world c.in_ok-underway.underway.runs.last live.moments) _) live.made) c.finish_unwritten.ensures.halts,
     )
 
 pub returns-clause-asked : goal.returns-clause-asked

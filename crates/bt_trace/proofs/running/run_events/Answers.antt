@@ -11,10 +11,16 @@ pub begin-requires : goal.begin-requires
 begin-requires g c = (g.D.Drivers.states c.args.drivers.now, c.requires.1.1.0)
 
 pub run_script-requires : goal.run_script-requires
-run_script-requires g c = λ lifetimes live. (live.0, (live.1, (
-  begun g.of _ c.args.runs c.in_ok-underway.underway c.requires.1.1.0 c.in_ok-underway.ensures.runs c.in_ok-underway.ensures.room,
-  come_as g.of.world _ c.args.runs c.args.events.now c.in_ok-underway.ensures.runs c.requires.1.1.1,
-)))
+run_script-requires g c = λ lifetimes live. (
+  live.0,
+  (
+    live.1,
+    (
+      begun g.of _ c.args.runs c.in_ok-underway.underway c.requires.1.1.0 c.in_ok-underway.ensures.runs c.in_ok-underway.ensures.room,
+      come_as g.of.world _ c.args.runs c.args.events.now c.in_ok-underway.ensures.runs c.requires.1.1.1,
+    ),
+  ),
+)
 
 pub returns-in_err-underway-clause-leaves : goal.returns-in_err-underway-clause-leaves
 returns-in_err-underway-clause-leaves g c = leaves_nothing c.from_residual.result c.from_residual.ensures.0 _ _ _
