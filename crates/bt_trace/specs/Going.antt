@@ -82,10 +82,10 @@ pub record Stand (of : Setup) (drivers : List DriverState) (runs : Runs) : Type 
   pub on : runs.usable ≡ true → AreRuns of.tree of.world drivers runs
   pub off : runs.usable ≡ false → NothingHeld drivers
 
--- What a part of a run leaves, by its answer: `whole rest` is the trace of the part and what follows it. Only the answer
--- Done lets the run go on.
-pub record Makes (of : Setup) (result : Result Ended TextStop) (old new : Stage) (whole : (RunState → Trace) → Trace) : Type 0 where
-  pub goes : (rest : RunState → Trace) → Goes result (arenas_at old) (side_of old) (side_of new) (whole rest) (rest (state_at of new))
+-- What a part of a run leaves, by its answer: `whole rest` is the trace of the part and what follows it, of which `more rest`
+-- is still to come. Only the answer Done lets the run go on.
+pub record MakesPart (of : Setup) (result : Result Ended TextStop) (old new : Stage) (whole more : (RunState → Trace) → Trace) : Type 0 where
+  pub goes : (rest : RunState → Trace) → Goes result (arenas_at old) (side_of old) (side_of new) (whole rest) (more rest)
   pub stand : Stand of new.drivers new.underway.runs
   pub on : result ≡ Ok Done → new.underway.runs.usable ≡ true
   pub off : result ≡ Ok Faulted → new.underway.runs.usable ≡ false
@@ -93,6 +93,10 @@ pub record Makes (of : Setup) (result : Result Ended TextStop) (old new : Stage)
   pub room : new.underway.block.notes.full ≡ old.underway.block.notes.full
   pub roster : IsSameRoster old.drivers new.drivers
   pub watcher : StaysWatcher result old.watch new.watch
+
+-- .. and only what follows the part is to come
+abbrev pub Makes : Setup → Result Ended TextStop → Stage → Stage → ((RunState → Trace) → Trace) → Type 0
+Makes of result old new whole = MakesPart of result old new whole (λ rest. rest (state_at of new))
 
 -- the block of an event that was made was shown, or a prefix of its text was written; where memory ran out in the event,
 -- nothing was
@@ -138,9 +142,9 @@ pub record RoundsMade (of : Setup) (result : Result Ended TextStop) (rounds : �
   pub before : result ≡ Ok Faulted → fault_in of.tree of.world old.underway.runs.last (take (length given - 1) given) (state_at of old) ≡ None
 
 -- rounds were made at the clock's moments, and then all runners were finished
-pub record LiveMade (of : Setup) (result : Result Ended TextStop) (rounds : ℕ) (old new : Stage) (asked left : Option Moments) : Type 0 where
+pub record LiveMade (of : Setup) (result : Result Ended TextStop) (rounds : ℕ) (old new : Stage) (clock left : Option Moments) : Type 0 where
   pub moments : List ℕ
-  pub are : AreMoments rounds asked moments
+  pub are : AreMoments rounds clock moments
   pub made : Makes of result old new
       (λ rest. rounds_then of old.underway.runs.last moments (finishes_then of.tree of.world 1 of.world.runners rest) (state_at of old))
-  pub asked : WasAsked result of.tree of.world rounds old.underway.runs.last (state_at of old) asked left
+  pub asked : WasAsked result of.tree of.world rounds old.underway.runs.last (state_at of old) clock left

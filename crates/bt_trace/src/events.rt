@@ -26,8 +26,7 @@ fn make_event<D: Drivers, W: Watch>(
     ghost of: { Setup }
     requires runs { CanGoOn of (D.states drivers.old) underway.old }
     requires come { CanCome of.world underway.old.runs.last next.now }
-    ensures made {
-        let old = stage (D.states drivers.old) (W.state watch.old) underway.old in
+    ensures made { let old = stage (D.states drivers.old) (W.state watch.old) underway.old in
         let new = stage (D.states drivers.new) (W.state watch.new) underway.new in
         Makes of result old new (λ rest. then_rest (step of.tree of.world next.now (state_at of old)) rest) }
     ensures last { result ≡ Ok Ended.Done → underway.new.runs.last ≡ next.now.at }
@@ -53,8 +52,7 @@ pub fn follow<D: Drivers, W: Watch>(
     ghost of: { Setup }
     requires runs { CanGoOn of (D.states drivers.old) underway.old }
     requires come { CanAllCome of.world underway.old.runs.last events.now }
-    ensures made {
-        let old = stage (D.states drivers.old) (W.state watch.old) underway.old in
+    ensures made { let old = stage (D.states drivers.old) (W.state watch.old) underway.old in
         let new = stage (D.states drivers.new) (W.state watch.new) underway.new in
         Makes of result old new (λ rest. events_then of.tree of.world events.now rest (state_at of old)) }
     ensures last { result ≡ Ok Ended.Done → underway.new.runs.last ≡ last_moment underway.old.runs.last events.now }

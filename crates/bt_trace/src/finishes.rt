@@ -28,12 +28,10 @@ fn finish_one<D: Drivers, W: Watch>(
     requires runs { CanGoOn of (D.states drivers.old) underway.old }
     requires first { 1 ≤ runner }
     requires last { runner ≤ of.world.runners }
-    ensures made {
-        let old = stage (D.states drivers.old) (W.state watch.old) underway.old in
+    ensures made { let old = stage (D.states drivers.old) (W.state watch.old) underway.old in
         let new = stage (D.states drivers.new) (W.state watch.new) underway.new in
         Makes of result old new (λ rest. then_rest (finish_step of.tree of.world runner (state_at of old)) rest) }
-    ensures rests {
-        let old = stage (D.states drivers.old) (W.state watch.old) underway.old in
+    ensures rests { let old = stage (D.states drivers.old) (W.state watch.old) underway.old in
         let new = stage (D.states drivers.new) (W.state watch.new) underway.new in
         result ≡ Ok Ended.Done → AreAtRest (runner - 1) (state_at of old) → AreAtRest runner (state_at of new) }
 {
@@ -56,8 +54,7 @@ pub fn finish_all<D: Drivers, W: Watch>(
 ) -> Result<Ended, TextStop>
     ghost of: { Setup }
     requires runs { CanGoOn of (D.states drivers.old) underway.old }
-    ensures made {
-        let old = stage (D.states drivers.old) (W.state watch.old) underway.old in
+    ensures made { let old = stage (D.states drivers.old) (W.state watch.old) underway.old in
         let new = stage (D.states drivers.new) (W.state watch.new) underway.new in
         Makes of result old new (λ rest. finishes_then of.tree of.world 1 of.world.runners rest (state_at of old)) }
     ensures none { OnOk result (NothingHeld (D.states drivers.new)) }

@@ -9,7 +9,7 @@ ghost use Rattle.bt_trace.specs.Watches.{StaysWatcher};
 use crate::ended::Ended;
 use crate::events::follow;
 use crate::finishes::{finish_all, finish_unwritten};
-use crate::underway::{Underway, underway};
+use crate::underway::{Underway, begin};
 use crate::watch::Watch;
 use bt_driver::Drivers;
 use bt_loop::Runs;
@@ -45,16 +45,18 @@ fn follow_clock<D: Drivers, C: Clock, W: Watch>(
 ) -> Result<Ended, TextStop>
     ghost of: { Setup }
     requires { CanGoOn of (D.states drivers.old) underway.old }
-    ensures {
-        let old = stage (D.states drivers.old) (W.state watch.old) underway.old in
+    ensures { let old = stage (D.states drivers.old) (W.state watch.old) underway.old in
         let new = stage (D.states drivers.new) (W.state watch.new) underway.new in
         RoundsMade of result rounds old new (C.moments clock.old) (C.moments clock.new) }
 {
     let mut round = Vec::new(alloc);
+    let runners = underway.runs.runners.len() as u8;
     let mut last = underway.runs.last;
     for _ in 0..rounds {
         last = clock.now().max(last);
-        fill_round(&mut round, underway.runs.runners.len() as u8, last)?;
+        let Ok(()) = fill_round(&mut round, runners, last) else {
+            return Err(TextStop::NoMemory);
+        };
         if let Ended::Faulted = follow(alloc, underway, round.as_slice(), drivers, watch)? {
             return Ok(Ended::Faulted);
         }
@@ -74,8 +76,7 @@ fn run_live<D: Drivers, C: Clock, W: Watch>(
 ) -> Result<Ended, TextStop>
     ghost of: { Setup }
     requires { CanGoOn of (D.states drivers.old) underway.old }
-    ensures made {
-        let old = stage (D.states drivers.old) (W.state watch.old) underway.old in
+    ensures made { let old = stage (D.states drivers.old) (W.state watch.old) underway.old in
         let new = stage (D.states drivers.new) (W.state watch.new) underway.new in
         LiveMade of result rounds old new (C.moments clock.old) (C.moments clock.new) }
     ensures none { OnOk result (NothingHeld (D.states drivers.new)) }
@@ -102,21 +103,21 @@ pub fn run_rounds<D: Drivers, C: Clock, W: Watch>(
 ) -> Result<Ended, TextStop>
     ghost of: { Setup }
     requires runs { CanRun of (D.states drivers.old) runs }
-    ensures leaves {
-        let old = side (D.states drivers.old) (W.state watch.old) in
+    ensures leaves { let old = side (D.states drivers.old) (W.state watch.old) in
         let new = side (D.states drivers.new) (W.state watch.new) in
         (moments : List ℕ) × AreMoments rounds (C.moments clock.old) moments
         × Leaves result (arenas_of runs) old new (trace_of of old.drivers runs (live_events of.world runs.last moments)) }
-    ensures asked {
-        let opened = state_in of (D.states drivers.old) runs in
+    ensures asked { let opened = state_in of (D.states drivers.old) runs in
         WasAsked result of.tree of.world rounds runs.last opened (C.moments clock.old) (C.moments clock.new) }
     ensures kept { AreKept (D.states drivers.old) (D.states drivers.new) }
     ensures watcher { StaysWatcher result (W.state watch.old) (W.state watch.new) }
 {
-    let mut underway = underway(alloc, runs)?;
-    let ended = run_live(alloc, &mut underway, rounds, clock, drivers, watch);
-    if ended.is_err() {
-        finish_unwritten(alloc, &mut underway, drivers);
+    let mut underway = begin(alloc, runs)?;
+    match run_live(alloc, &mut underway, rounds, clock, drivers, watch) {
+        Ok(ended) => Ok(ended),
+        Err(stopped) => {
+            finish_unwritten(alloc, &mut underway, drivers);
+            Err(stopped)
+        }
     }
-    ended
 }

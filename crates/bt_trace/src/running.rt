@@ -9,7 +9,7 @@ ghost use Rattle.bt_trace.specs.Watches.{StaysWatcher};
 use crate::ended::Ended;
 use crate::events::follow;
 use crate::finishes::{finish_all, finish_unwritten};
-use crate::underway::{Underway, underway};
+use crate::underway::{Underway, begin};
 use crate::watch::Watch;
 use bt_driver::Drivers;
 use bt_loop::Runs;
@@ -28,11 +28,10 @@ fn run_script<D: Drivers, W: Watch>(
     ghost of: { Setup }
     requires runs { CanGoOn of (D.states drivers.old) underway.old }
     requires come { CanAllCome of.world underway.old.runs.last events.now }
-    ensures made {
-        let old = stage (D.states drivers.old) (W.state watch.old) underway.old in
+    ensures made { let old = stage (D.states drivers.old) (W.state watch.old) underway.old in
         let new = stage (D.states drivers.new) (W.state watch.new) underway.new in
-        let last = λ rest. finishes_then of.tree of.world 1 of.world.runners rest in
-        Makes of result old new (λ rest. events_then of.tree of.world events.now (last rest) (state_at of old)) }
+        Makes of result old new (λ rest.
+        events_then of.tree of.world events.now (finishes_then of.tree of.world 1 of.world.runners rest) (state_at of old)) }
     ensures none { OnOk result (NothingHeld (D.states drivers.new)) }
 {
     match follow(alloc, underway, events, drivers, watch)? {
@@ -56,17 +55,18 @@ pub fn run_events<D: Drivers, W: Watch>(
     ghost of: { Setup }
     requires runs { CanRun of (D.states drivers.old) runs }
     requires come { CanAllCome of.world runs.last events.now }
-    ensures leaves {
-        let old = side (D.states drivers.old) (W.state watch.old) in
+    ensures leaves { let old = side (D.states drivers.old) (W.state watch.old) in
         let new = side (D.states drivers.new) (W.state watch.new) in
         Leaves result (arenas_of runs) old new (trace_of of old.drivers runs events.now) }
     ensures kept { AreKept (D.states drivers.old) (D.states drivers.new) }
     ensures watcher { StaysWatcher result (W.state watch.old) (W.state watch.new) }
 {
-    let mut underway = underway(alloc, runs)?;
-    let ended = run_script(alloc, &mut underway, events, drivers, watch);
-    if ended.is_err() {
-        finish_unwritten(alloc, &mut underway, drivers);
+    let mut underway = begin(alloc, runs)?;
+    match run_script(alloc, &mut underway, events, drivers, watch) {
+        Ok(ended) => Ok(ended),
+        Err(stopped) => {
+            finish_unwritten(alloc, &mut underway, drivers);
+            Err(stopped)
+        }
     }
-    ended
 }

@@ -17,7 +17,7 @@ pub struct Underway {
 }
 
 /// Makes a block for runs before their first event.
-pub fn underway(alloc: Global, runs: Runs) -> Result<Underway, NoMemory>
+pub fn begin(alloc: Global, runs: Runs) -> Result<Underway, NoMemory>
     ghost of: { Setup }
     requires { (drivers : List DriverState) × CanRun of drivers runs }
     ensures runs { IfOk result (λ u. u.runs ≡ runs) }
