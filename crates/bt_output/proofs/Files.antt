@@ -66,7 +66,7 @@ ends_more P Q more (Ok exit) a b x = (x.0, more x.0 x.1, x.2)
 ends_more P Q more (Err r) a b x = (some_more (refused_as r) P Q more x.0, x.1)
 
 -- a refusal whose output is one of these, or that has none
-refused_ends : (P : Moments → List DriverState → Output → Type 0) (r : Refusal) (a : Side) → ((moments : Moments) → IfSome (refused_as r) (P moments a.drivers)) → EndsAt P (Err r) a a
+pub refused_ends : (P : Moments → List DriverState → Output → Type 0) (r : Refusal) (a : Side) → ((moments : Moments) → IfSome (refused_as r) (P moments a.drivers)) → EndsAt P (Err r) a a
 refused_ends P r a p = at_any a.clock (λ moments. Ends (P moments a.drivers) (Err r) a a) (λ moments. (p moments, still a))
 
 -- ---- Lengths

@@ -176,13 +176,12 @@ fn run_or_refuse<S: Shelf, K: Sink, C: Clock, D: Drivers>(
         (seen K.written K.faults C.moments D.states outside.new) }
     ensures stays { Stays S.faults K.faults D.states outside.old outside.new }
 {
-    let ended = match read_command(words) {
-        Some(command) => run_command(alloc, command, outside),
-        None => Err(Refusal::Words),
-    };
-    match ended {
-        Ok(exit) => exit,
-        Err(refusal) => write_refusal(alloc, &refusal, outside.out),
+    match read_command(words) {
+        Some(command) => match run_command(alloc, command, outside) {
+            Ok(exit) => exit,
+            Err(refusal) => write_refusal(alloc, &refusal, outside.out),
+        },
+        None => write_refusal(alloc, &Refusal::Words, outside.out),
     }
 }
 

@@ -40,6 +40,7 @@ fn exit_of(ended: Result<Ended, TextStop>) -> Exit
 }
 
 /// Runs a load of so many leaves, and writes the line that sums it up.
+#[tactic(auto, using(crate::proofs::Runs::all_come))]
 fn run_summed<S: Shelf, K: Sink, C: Clock, D: Drivers>(
     alloc: Global,
     leaves: u32,
@@ -64,6 +65,7 @@ fn run_summed<S: Shelf, K: Sink, C: Clock, D: Drivers>(
 
 /// Runs what was joined, on its course: the trace of its events is written, or the line that sums up a
 /// load.
+#[tactic(auto, using(crate::proofs::Runs::all_come))]
 fn run<S: Shelf, K: Sink, C: Clock, D: Drivers>(
     alloc: Global,
     runs: Runs,
