@@ -1,5 +1,5 @@
 -- Runs that were cut off: the first calls of the trace were made, and then all that is held was halted.
-use Rattle.std.proofs.Common.{◌≡◌, ◌⊎◌, inl, inr, ℕ, ◌+◌, List, [], ◌∷◌, ◌++◌, Option, Some, None, Result, Ok, Err, OnErr, length, refl, sym, ap, subst, ◌∙◌, append_assoc, append-nil, arith}
+use Rattle.std.proofs.Common.{◌≡◌, ◌⊎◌, inl, inr, ℕ, ◌+◌, List, [], ◌∷◌, ◌++◌, Option, Some, None, Result, Ok, Err, length, refl, sym, ap, subst, ◌∙◌, append_assoc, append-nil, arith}
 use Rattle.std.proofs.lemmas.Bool.{cases_eq, cases_lt}
 use Rattle.std.proofs.lemmas.List.{get_or-set_same, get_or-set_other}
 use Rattle.std.proofs.Math.Seq.{set_out}
@@ -16,11 +16,10 @@ use Rattle.bt_model.specs.declared.leaf.Phase.TheVariants as phase
 use Rattle.bt_model.specs.declared.note.Note.{Note}
 use Rattle.bt_model.specs.declared.term.Term.{Term}
 use Rattle.bt_model.specs.declared.term.Tree.{Tree}
-use Rattle.bt_model.specs.declared.world.Event.{Event}
 use Rattle.bt_model.specs.declared.world.World.{World}
 use Rattle.bt_model.specs.Done.{Call}
 use Rattle.bt_model.specs.Drivers.{DriverState, after_call, driver_at, new_driver, roster_called}
-use Rattle.bt_model.specs.Run.{RunState, Runner, RunnerCall, Stepped, Trace, before_rest, finish, letting_go, quench_calls, reset_step, root_reset, root_view, run_from, runner_at, runner_calls, state_of, then_rest, told, with_runner}
+use Rattle.bt_model.specs.Run.{RunState, Runner, RunnerCall, Stepped, Trace, before_rest, finish, letting_go, quench_calls, reset_step, root_reset, root_view, runner_at, runner_calls, state_of, then_rest, told, with_runner}
 use Rattle.bt_model.specs.Sound.{begins, begun_calls}
 use Rattle.bt_laws.proofs.TermWork.{resets_make_none}
 use Rattle.bt_arena.specs.declared.block.Block.{Block}
@@ -33,14 +32,6 @@ use Rattle.bt_loop.specs.Runs.{arenas_of, nodes_of_runner, roster_over}
 use Rattle.bt_loop.specs.Steps.{EventEnds, IsSameRoster}
 use Rattle.bt_loop.proofs.Rising.{over_same}
 use Rattle.bt_trace.specs.Cuts.{AreHalts, HaveBegunWithin, IsCut, HaveHalted}
-
-pub on_err : {A E P : Type 0} (r : Result A E) → P → OnErr r P
-on_err (Ok a) p = tt
-on_err (Err e) p = p
-
-pub err_gives : {A E P Q : Type 0} (r : Result A E) → (P → Q) → OnErr r P → OnErr r Q
-err_gives (Ok a) f p = tt
-err_gives (Err e) f p = f p
 
 pub over_both : (arenas : List (List Node)) (xs ys : List RunnerCall) (ds : List DriverState) → roster_over arenas (xs ++ ys) ds ≡ roster_over arenas ys (roster_over arenas xs ds)
 over_both arenas [] ys ds = refl
@@ -211,10 +202,6 @@ cut_before arenas arenas1 d0 d1 d2 trace same p q = record {
       q.drivers ∙ ap (λ (x : List (List Node)). roster_over x q.halts d1) same ∙ ap (roster_over arenas q.halts) p.drivers ∙ sym (over_both arenas (p.made ++ p.halts) q.halts d0)
       ∙ ap (λ (cs : List RunnerCall). roster_over arenas cs d0) (append_assoc p.made p.halts q.halts);
 }
-
--- the trace under another name
-pub cut_as : (arenas : List (List Node)) (d0 d1 : List DriverState) (trace other : Trace) → trace ≡ other → IsCut arenas d0 d1 trace → IsCut arenas d0 d1 other
-cut_as arenas d0 d1 trace other same p = subst (λ (t : Trace). IsCut arenas d0 d1 t) same p
 
 -- ---- Totals
 

@@ -1,5 +1,5 @@
 -- Rounds at the moments of a clock, against the rounds of the definition.
-use Rattle.std.proofs.Common.{◌≡◌, ℕ, zero, suc, ◌+◌, ◌-◌, ◌<◌, ◌≤◌, max, arith, List, [], ◌∷◌, ◌++◌, length, take, drop, replicate, Option, Some, None, IfSome, IsSome, Result, Ok, Err, OnOk, true, false, refl, sym, ap, subst, ◌∙◌, append_assoc, append-nil}
+use Rattle.std.proofs.Common.{◌≡◌, ℕ, zero, suc, ◌+◌, ◌-◌, ◌≤◌, max, arith, List, [], ◌∷◌, ◌++◌, length, take, drop, replicate, Option, Some, None, IfSome, IsSome, Result, Ok, Err, OnOk, true, false, refl, sym, ap, subst, ◌∙◌, append_assoc, append-nil}
 use Rattle.std.specs.Option.{option_map}
 use Rattle.std.specs.Result.{IsErr}
 use Rattle.std.proofs.lemmas.List.{length-append, length-replicate, take-append-drop, take-append-le, take_at}
@@ -15,7 +15,7 @@ use Rattle.bt_text.specs.declared.stop.TextStop.TheVariants as text_stop
 use Rattle.bt_loop.specs.declared.runs.Runs.{Runs}
 use Rattle.bt_trace.specs.declared.ended.Ended.{Ended}
 use Rattle.bt_trace.specs.declared.ended.Ended.TheVariants.{Done, Faulted}
-use Rattle.bt_trace.specs.Going.{HasGiven, LiveMade, Makes, MakesPart, RoundsMade, Stage, arenas_at, finishes_then, rounds_then, state_at}
+use Rattle.bt_trace.specs.Going.{HasGiven, LiveMade, Makes, MakesPart, RoundsMade, Stage, finishes_then, rounds_then, state_at}
 use Rattle.bt_trace.specs.Rounds.{AreBegun, AreMoments, WasAsked, events_then, fault_in, moments_after, nothing_more, round_of, taken}
 use Rattle.bt_trace.specs.Traces.{Setup, ended, state_in}
 use Rattle.bt_trace.proofs.Following.{round_next, rounds_front}

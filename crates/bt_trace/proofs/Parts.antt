@@ -1,11 +1,10 @@
 -- The parts of a run follow one another: each is a part of the whole, with what is still to come.
-use Rattle.std.proofs.Common.{◌≡◌, ◌⊎◌, inl, inr, ◌≤◌, ◌<◌, ◌+◌, ◌-◌, ◌^◌, ℕ, List, [], ◌∷◌, ◌++◌, Option, Some, None, Result, Ok, Err, IfOk, OnErr, length, true, false, refl, sym, ap, subst, ◌∙◌, append_assoc, append-nil, arith}
+use Rattle.std.proofs.Common.{◌≡◌, ◌⊎◌, inl, inr, ◌≤◌, ◌<◌, ◌+◌, ◌-◌, ◌^◌, ℕ, List, [], ◌++◌, None, Result, Ok, Err, length, true, false, refl, sym, ap, subst, ◌∙◌, append_assoc, append-nil, arith}
 use Rattle.std.specs.List.{flat_map}
 use Rattle.std.specs.Result.{IsErr, IsErrAnd}
 use Rattle.std.proofs.lemmas.Bool.{cases_lt}
 use Rattle.bt_script.specs.declared.stop.NoMemory.{NoMemory}
 use Rattle.bt_model.specs.declared.block.Block.{Block}
-use Rattle.bt_model.specs.declared.fault.RunFault.{RunFault}
 use Rattle.bt_model.specs.declared.world.Event.{Event}
 use Rattle.bt_model.specs.declared.world.World.{World}
 use Rattle.bt_model.specs.Drivers.{DriverState}
@@ -23,12 +22,12 @@ use Rattle.bt_loop.proofs.Rising.{roster_both, same_roster}
 use Rattle.bt_trace.specs.declared.ended.Ended.{Ended}
 use Rattle.bt_trace.specs.declared.ended.Ended.TheVariants.{Done, Faulted}
 use Rattle.bt_trace.specs.declared.underway.Underway.{Underway}
-use Rattle.bt_trace.specs.Cuts.{HaveHalted, IsCut}
+use Rattle.bt_trace.specs.Cuts.{HaveHalted}
 use Rattle.bt_trace.specs.Going.{CanGoOn, Goes, Going, Makes, MakesPart, Stage, Stand, WasStopped, arenas_at, side_of, state_at}
 use Rattle.bt_trace.specs.Rounds.{nothing_more}
 use Rattle.bt_trace.specs.Traces.{CanAllCome, CanRun, IsRun, Leaves, Setup, Side, ended, side}
 use Rattle.bt_trace.specs.Watches.{StaysWatcher, WasShown, Watched}
-use Rattle.bt_trace.proofs.Cuts.{cut_after, cut_before, cut_here, cut_none, on_err, over_both}
+use Rattle.bt_trace.proofs.Cuts.{cut_after, cut_before, cut_here, cut_none, over_both}
 use Rattle.bt_trace.proofs.Rests.{same_many}
 use Rattle.bt_trace.proofs.Watching.{front_after, front_all, front_of, shown_both, shown_none}
 

@@ -1,5 +1,5 @@
 -- An event whose block was shown is the first step of what is to come.
-use Rattle.std.proofs.Common.{◌≡◌, ℕ, List, [], ◌∷◌, ◌++◌, Option, Some, None, Result, Ok, Err, OnOk, OnErr, true, false, refl, sym, ap, subst, ◌∙◌, append-nil}
+use Rattle.std.proofs.Common.{◌≡◌, ℕ, List, [], ◌∷◌, ◌++◌, Option, Some, None, Result, Ok, Err, OnOk, OnErr, true, false, refl, sym, ap, subst, ◌∙◌}
 use Rattle.std.specs.List.{flat_map}
 use Rattle.bt_script.specs.declared.stop.Stop.{Stop}
 use Rattle.bt_script.specs.declared.stop.Stop.TheVariants as stop
@@ -14,7 +14,7 @@ use Rattle.bt_model.specs.declared.world.What.TheVariants.{Tick, Halt, Change}
 use Rattle.bt_model.specs.declared.world.World.{World}
 use Rattle.bt_model.specs.Done.{Call}
 use Rattle.bt_model.specs.Drivers.{DriverState, NothingHeld}
-use Rattle.bt_model.specs.Run.{RunState, Runner, RunnerCall, Stepped, Trace, before_rest, reset_step, runner_at, step_by, then_rest, tick_step, told}
+use Rattle.bt_model.specs.Run.{RunState, Runner, Stepped, Trace, before_rest, reset_step, runner_at, step_by, then_rest, tick_step, told}
 use Rattle.bt_outside.specs.Appending.{AppendedFront}
 use Rattle.bt_outside.proofs.Appends.{AppendedFront-longer, AppendedFront-nothing}
 use Rattle.bt_text.specs.declared.stop.TextStop.{TextStop}
@@ -23,11 +23,11 @@ use Rattle.bt_arena.specs.declared.block.Block.{Block}
 use Rattle.bt_arena.specs.declared.nodes.Node.{Node}
 use Rattle.bt_arena.specs.Blocks.{seen}
 use Rattle.bt_loop.specs.declared.runs.Runs.{Runs}
-use Rattle.bt_loop.specs.Runs.{AreRuns, arenas_of, roster_over}
+use Rattle.bt_loop.specs.Runs.{AreRuns, roster_over}
 use Rattle.bt_loop.specs.Steps.{EventEnds, IsSameRoster, IsStep}
 use Rattle.bt_trace.specs.declared.ended.Ended.{Ended}
 use Rattle.bt_trace.specs.declared.ended.Ended.TheVariants.{Done, Faulted}
-use Rattle.bt_trace.specs.Going.{Goes, Going, Makes, Shows, Stage, Stand, WasStopped, arenas_at, side_of, state_at}
+use Rattle.bt_trace.specs.Going.{Goes, Going, Makes, Shows, Stage, Stand, arenas_at, side_of, state_at}
 use Rattle.bt_trace.specs.Traces.{IsRun, Setup, Side, ended}
 use Rattle.bt_trace.specs.Watches.{StaysWatcher, WasShown, Watched}
 use Rattle.bt_trace.proofs.Cuts.{event_cut}

@@ -16,7 +16,13 @@ pub struct Writer<'a, K: Sink> {
 }
 
 impl<'a, K: Sink> Watch for Writer<'a, K> {
-    ghost state = { λ w. record { text = block_text w.names.now; written = K.written w.out.now; faults = K.faults w.out.now; counts = None; lent = w.out.ghost_name } };
+    ghost state = { λ w. record {
+      text = block_text w.names.now;
+      written = K.written w.out.now;
+      faults = K.faults w.out.now;
+      counts = None;
+      lent = w.out.ghost_name;
+    } };
 
     fn show(&mut self, alloc: Global, block: &Block) -> Result<(), TextStop> {
         write_block(alloc, self.out, block, self.names)

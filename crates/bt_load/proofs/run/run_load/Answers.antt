@@ -1,4 +1,4 @@
-use Rattle.std.proofs.Common.{rules, ℕ, ◌≡◌, ◌∙◌, [], Some, ap, length, refl}
+use Rattle.std.proofs.Common.{rules, ℕ, ◌≡◌, ◌∙◌, [], Some, ap, length}
 use Rattle.bt_model.specs.Terms.{node_count}
 use Rattle.bt_trace.specs.declared.counts.Counts.{Counts}
 use Rattle.bt_load.specs.Summaries.{summary_line}
@@ -8,7 +8,7 @@ is_same : (x y : Counts) → Some x ≡ Some y → x ≡ y
 is_same x y same = cc
 
 pub nodes-count-requires : goal.nodes-count-requires
-nodes-count-requires g c = record { runs = (g.of.tree, g.of.world, g.D.Drivers.states c.args.drivers.now, c.requires.1.0.is_valid_world, c.requires.1.0.are) }
+nodes-count-requires g c = (g.D.Drivers.states c.args.drivers.now, c.requires.1.0.is_valid_world, c.requires.1.0.are)
 
 pub returns-clause-whole : goal.returns-clause-whole
 returns-clause-whole g c =
@@ -18,7 +18,7 @@ returns-clause-whole g c =
       ends = p.ends;
       told =
           c.in_ok-line.ensures
-          ∙ ap (λ (x : ℕ). summary_line c.args.n x (length c.args.events.now) c.run_events.new.watch.counts) (c.nodes-count.ensures g.of.tree g.of.world _ c.requires.1.0.is_valid_world c.requires.1.0.are)
+          ∙ ap (λ (x : ℕ). summary_line c.args.n x (length c.args.events.now) c.run_events.new.watch.counts) c.nodes-count.ensures
           ∙ ap (λ (x : Counts). summary_line c.args.n (node_count g.of.tree.term) (length c.args.events.now) x) counted;
       drivers = p.drivers;
     }

@@ -1,4 +1,4 @@
-use Rattle.std.proofs.Common.{◌<◌, ◌≤◌, ◌+◌, ◌∙◌, Ok, ap, refl, arith}
+use Rattle.std.proofs.Common.{◌<◌, ◌≤◌, ◌+◌, ◌∙◌, Ok, ap, arith}
 use Rattle.bt_trace.proofs.Following.{finish_next, finishes_end, finishes_first}
 use Rattle.bt_trace.proofs.Parts.{go_on, handed_on, not_done, part_none, part_on, part_over, part_runs, part_to}
 use Rattle.bt_trace.proofs.Rests.{next_rests, none_yet, rest_holds_nothing}

@@ -1,5 +1,4 @@
-use Rattle.std.proofs.Common.{◌∙◌, Ok, ap, refl, subst}
-use Rattle.bt_text.specs.declared.stop.TextStop.{TextStop}
+use Rattle.std.proofs.Common.{◌∙◌, Ok, ap, refl}
 use Rattle.bt_trace.proofs.Parts.{as_done, ended_so, go_on, handed_on, not_done, part_before, part_next}
 use Rattle.bt_trace.proofs.running.run_script.Goals as goal
 
