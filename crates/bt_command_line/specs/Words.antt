@@ -8,7 +8,7 @@ use Rattle.bt_model.specs.Numbers.{int_in}
 
 -- ---- Options
 
--- the value that options, each a name and a value behind it, give to this name
+-- the value that options, each a name and a value after it, give to this name
 abbrev pub value_of : List ℕ → List (List ℕ) → Option (List ℕ)
 value_of name [] = None
 value_of name (one ∷ []) = None
@@ -42,7 +42,7 @@ abbrev pub as_count : ℕ → Option ℤ → Option ℕ
 as_count most (Some (pos n)) = if nat_le 1 n && nat_le n most then Some n else None
 as_count most _ = None
 
--- the number from 1 to 100,000 that the option `--ticks` gives, written canonically
+-- the number from 1 to `most_rounds` that the option `--ticks` gives, written canonically
 unfoldable pub rounds_in : List (List ℕ) → Option ℕ
 rounds_in options = option_and_then (λ word. as_count most_rounds (int_in word)) (value_of (codes "--ticks") options)
 
@@ -60,7 +60,7 @@ live_of (tree ∷ world ∷ options) =
     else None
 live_of _ = None
 
--- `N`, a number from 1 to 1,000, written canonically
+-- `N`, a number from 1 to `most_leaves`, written canonically
 abbrev pub load_of : List (List ℕ) → Option Command
 load_of (word ∷ []) = option_map Load (as_count most_leaves (int_in word))
 load_of _ = None
@@ -70,7 +70,7 @@ abbrev pub check_of : List (List ℕ) → Option Command
 check_of (tree ∷ options) = if are_options (is_option false) options then Some (Check tree (value_of (codes "--main") options)) else None
 check_of _ = None
 
--- the commands by their first words, each with what it makes of the words behind it
+-- the commands by their first words, each with what it makes of the words after it
 abbrev pub commands : List (List ℕ × (List (List ℕ) → Option Command))
 commands = (codes "tick", tick_of) ∷ (codes "live", live_of) ∷ (codes "load", load_of) ∷ (codes "check", check_of) ∷ []
 
@@ -82,11 +82,6 @@ command_among (row ∷ rows) word words = if bytes_eq word row.0 then row.1 word
 abbrev pub command_of : List (List ℕ) → Option Command
 command_of [] = None
 command_of (word ∷ words) = command_among commands word words
-
--- the files of a command
-pub data File : Type 0 where
-  TreeFile : File
-  WorldFile : File
 
 -- the status of the process
 abbrev pub status_of : Exit → ℕ

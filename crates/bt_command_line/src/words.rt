@@ -27,13 +27,13 @@ pub enum Command<'a> {
     Live {
         tree: &'a Name,
         world: &'a Name,
-        /// 1 to 100,000.
+        /// From 1 to `MOST_ROUNDS`.
         rounds: u32,
         main: Option<&'a Name>,
     },
     /// `load N`
     Load {
-        /// 1 to 1,000.
+        /// From 1 to `MOST_LEAVES`.
         leaves: u32,
     },
     /// `check TREE [--main ID]`
@@ -43,7 +43,7 @@ pub enum Command<'a> {
     },
 }
 
-/// The value that options, each a name and a value behind it, give to this name.
+/// The value that options, each a name and a value after it, give to this name.
 fn value_of<'a>(options: &'a [Name], name: &[u8]) -> Option<&'a Name>
     ensures { option_copied result ≡ value_of name.now options.now }
 {
@@ -97,7 +97,7 @@ fn main_of<'a>(options: &'a [Name]) -> Option<&'a Name>
     value_of(options, b"--main")
 }
 
-/// A number from 1 to 100,000.
+/// A number from 1 to `MOST_ROUNDS`.
 fn as_rounds(number: Option<i64>) -> Option<u32>
     ensures { result ≡ as_count most_rounds number }
 {
@@ -118,7 +118,7 @@ fn rounds_in(options: &[Name]) -> Option<u32>
     }
 }
 
-/// The command `tick` with these words behind it.
+/// The command `tick` with these words after it.
 fn read_tick<'a>(words: &'a [Name]) -> Option<Command<'a>>
     ensures command { MatchOption result (tick_of words.now ≡ None) (λ c. tick_of words.now ≡ Some (command_seen c)) }
     ensures few { IfSome result (λ c. HasFewLeaves (command_seen c)) }
@@ -136,7 +136,7 @@ fn read_tick<'a>(words: &'a [Name]) -> Option<Command<'a>>
     })
 }
 
-/// The command `live` with these words behind it.
+/// The command `live` with these words after it.
 fn read_live<'a>(words: &'a [Name]) -> Option<Command<'a>>
     ensures command { MatchOption result (live_of words.now ≡ None) (λ c. live_of words.now ≡ Some (command_seen c)) }
     ensures few { IfSome result (λ c. HasFewLeaves (command_seen c)) }
@@ -158,7 +158,7 @@ fn read_live<'a>(words: &'a [Name]) -> Option<Command<'a>>
     }
 }
 
-/// The number of leaves, from 1 to 1,000, that a word is.
+/// The number of leaves, from 1 to `MOST_LEAVES`, that a word is.
 fn leaves_in(word: &Name) -> Option<u32>
     ensures number { result ≡ as_count most_leaves (int_in word.now) }
     ensures few { IfSome result (λ leaves. leaves ≤ most_leaves) }
@@ -169,7 +169,7 @@ fn leaves_in(word: &Name) -> Option<u32>
     }
 }
 
-/// The command `load` with these words behind it.
+/// The command `load` with these words after it.
 fn read_load<'a>(words: &'a [Name]) -> Option<Command<'a>>
     ensures command { MatchOption result (load_of words.now ≡ None) (λ c. load_of words.now ≡ Some (command_seen c)) }
     ensures few { IfSome result (λ c. HasFewLeaves (command_seen c)) }
@@ -183,7 +183,7 @@ fn read_load<'a>(words: &'a [Name]) -> Option<Command<'a>>
     }
 }
 
-/// The command `check` with these words behind it.
+/// The command `check` with these words after it.
 fn read_check<'a>(words: &'a [Name]) -> Option<Command<'a>>
     ensures command { MatchOption result (check_of words.now ≡ None) (λ c. check_of words.now ≡ Some (command_seen c)) }
     ensures few { IfSome result (λ c. HasFewLeaves (command_seen c)) }
@@ -233,7 +233,7 @@ pub fn word_of(alloc: Global, word: &str) -> Result<Name, NoMemory>
 pub enum NoWords {
     /// A word is no UTF-8.
     NotUtf8,
-    /// Want of memory.
+    /// The program is out of memory.
     NoMemory,
 }
 
@@ -257,7 +257,7 @@ impl<T: Drop> From<AllocFailed<T>> for NoWords {
     }
 }
 
-// What it means that the host does not give the words.
+/// What it means that the host does not give the words.
 fn refused_words(error: io::Error) -> NoWords
     ensures { (result ≡ NoWords.NoMemory) ↔ (error_kind error ≡ ErrorKind.OutOfMemory) }
 {

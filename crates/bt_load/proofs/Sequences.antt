@@ -39,7 +39,7 @@ texts_are_short text most first (suc n) short =
     let product : most * suc n ≡ most * n + most = mul-suc most n in
     omega (arith, front, last, all, product)
 
--- ---- Texts that are put one behind another
+-- ---- Texts that are put one after another
 
 pub put_three : (a b c d x y z : List ℕ) → b ≡ a ++ x → c ≡ b ++ y → d ≡ c ++ z → d ≡ a ++ (x ++ (y ++ z))
 put_three a b c d x y z p q r = r ∙ ap (λ (w : List ℕ). w ++ z) (q ∙ ap (λ (w : List ℕ). w ++ y) p) ∙ append_assoc (a ++ x) y z ∙ append_assoc a x (y ++ z)

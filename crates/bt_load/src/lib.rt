@@ -9,6 +9,5 @@ mod tree;
 mod world;
 
 pub use run::run_load;
-pub use summary::summary_line;
 pub use tree::load_tree;
 pub use world::load_world;

@@ -1,17 +1,17 @@
 ghost use Rattle.std.specs.Prelude.{◌≡◌, List};
-ghost use Rattle.bt_model.specs.declared.term.Tree.{Tree};
-ghost use Rattle.bt_model.specs.declared.world.World.{World};
 ghost use Rattle.bt_model.specs.Drivers.{DriverState};
 ghost use Rattle.bt_model.specs.Terms.{node_count};
 ghost use Rattle.bt_model.specs.Worlds.{IsValidWorld};
 ghost use Rattle.bt_loop.specs.Runs.{AreRuns};
+ghost use Rattle.bt_trace.specs.Traces.{Setup};
 
 use bt_loop::Runs;
 
 /// How many nodes the tree of runs has.
 pub fn nodes(runs: &Runs) -> usize
-    requires runs { (tree : Tree) × (world : World) × (drivers : List DriverState) × IsValidWorld world × AreRuns tree world drivers runs.now }
-    ensures { (tree : Tree) (world : World) (drivers : List DriverState) → IsValidWorld world → AreRuns tree world drivers runs.now → result ≡ node_count tree.term }
+    ghost of: { Setup }
+    requires { (drivers : List DriverState) × IsValidWorld of.world × AreRuns of.tree of.world drivers runs.now }
+    ensures { result ≡ node_count of.tree.term }
 {
     runs.runners[0].arena.nodes.len() - 1
 }

@@ -6,7 +6,7 @@ use bt_text::{put_bytes, put_number};
 use bt_trace::Counts;
 use std::alloc::Global;
 
-/// Puts words and the number behind them.
+/// Puts words and the number after them.
 fn put_count(out: &mut Vec<u8>, words: &[u8], count: u64) -> Result<(), NoMemory>
     ensures { OnOk result (out.new.items ≡ out.old.items ++ (words.now ++ decimal count)) }
 {

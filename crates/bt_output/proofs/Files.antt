@@ -1,23 +1,37 @@
--- What the files of a command give, and its clock.
-use Rattle.std.proofs.Common.{◌≡◌, ℕ, ◌<◌, ◌≤◌, List, [], Bool, true, false, ◌⊎◌, inl, inr, Option, Some, None, length, refl, subst, arith, MatchBool, Result, Ok, Err}
+-- What the files of a command give, and what a command comes to.
+use Rattle.std.proofs.Common.{◌≡◌, ◌∙◌, ℕ, ◌<◌, ◌≤◌, List, [], Bool, true, false, ◌⊎◌, inl, inr, Option, Some, None, length, refl, sym, subst, arith, MatchBool, Result, Ok, Err}
+use Rattle.std.specs.Prelude.{IfSome, MatchOption}
 use Rattle.std.proofs.lemmas.Grind.{common_steps}
-use Rattle.bt_output.specs.declared.course.Course.{Course}
-use Rattle.bt_output.specs.declared.course.Course.TheVariants as course
 use Rattle.bt_command_line.specs.declared.exit.Exit.{Exit}
 use Rattle.bt_command_line.specs.declared.exit.Exit.TheVariants as exit
-use Rattle.bt_refusals.specs.declared.tree_file.TreeFault.{TreeFault}
-use Rattle.bt_output.specs.Answers.{Answers, AtMoments, FilesAnswered, Gave, IfTold, ReadFailed, Reading, Side, ToldIfNamed, Unread, WorldAnswered, no_moments}
-use Rattle.bt_output.specs.Output.{CheckGives, FilesGive, Given, Giving, Output, RunGives, RunsOn, TreeGives, check_output, given, is_too_long, tree_too_long, unread, world_too_long}
-use Rattle.bt_refusals.specs.TreeFiles.{TreeReads}
-use Rattle.bt_command_line.specs.Words.{File, Load, Check, WorldFile}
+use Rattle.bt_command_line.specs.Words.{Command, Load, Check}
 use Rattle.bt_load.specs.Texts.{tree_text, world_text}
 use Rattle.bt_model.specs.declared.term.Tree.{Tree}
+use Rattle.bt_model.specs.declared.world.World.{World}
+use Rattle.bt_model.specs.declared.world_fault.WorldFault.{WorldFault}
 use Rattle.bt_model.specs.Drivers.{DriverState}
+use Rattle.bt_model.specs.Limits.{most_file_bytes}
+use Rattle.bt_model.specs.WorldFile.{ReadsWorld}
 use Rattle.bt_outside.specs.Counts.{Rose}
 use Rattle.bt_outside.specs.Files.{Told}
 use Rattle.bt_outside.specs.Moments.{Moments}
 use Rattle.bt_outside.specs.declared.shelf.ShelfFault.TheVariants as shelf_fault
 use Rattle.bt_outside.proofs.Rises.{Rose-after}
+use Rattle.bt_output.specs.declared.course.Course.{Course}
+use Rattle.bt_output.specs.declared.course.Course.TheVariants as course
+use Rattle.bt_output.specs.declared.refusal.File.{File}
+use Rattle.bt_output.specs.declared.refusal.File.TheVariants as file
+use Rattle.bt_output.specs.declared.refusal.Refusal.{Refusal}
+use Rattle.bt_output.specs.declared.refusal.Refusal.TheVariants as refusal
+use Rattle.bt_output.specs.Answers.{Answers, AreUncalled, AtMoments, CommandAnswered, Gave, IfTold, IsRefused, Printed, ReadFailed, Side, ToldIfNamed, no_moments, side}
+use Rattle.bt_output.specs.Ends.{CommandEnds, Ends, EndsAt, FilesEnd, IsUntouched, ReadStopped}
+use Rattle.bt_output.specs.Output.{CheckGives, FilesGive, Given, Giving, JoinGives, Output, RunGives, RunsOn, TreeGives, check_output, given, is_too_long, refused_as, stopped_as, too_long, tree_name, tree_refused, unread, words_refused, world_name, world_refused}
+use Rattle.bt_output.specs.Reads.{IsLong, IsUnread, Reading, Unread, WasRead}
+use Rattle.bt_output.specs.TreeFiles.{ReadsAs, TreeReads}
+use Rattle.bt_refusals.specs.declared.fault.TreeFault.{TreeFault}
+use Rattle.bt_world.specs.Readings.{Gives}
+use Rattle.bt_script.specs.declared.stop.Stop.{Stop}
+use Rattle.bt_script.specs.declared.stop.Stop.TheVariants as stop
 
 -- ---- Moments
 
@@ -26,7 +40,7 @@ abbrev pub some_moments : Option Moments → Moments
 some_moments None = no_moments
 some_moments (Some told) = told
 
-pub some_told : (clock : Option Moments) → IfTold clock (λ told. some_moments clock ≡ told)
+some_told : (clock : Option Moments) → IfTold clock (λ told. some_moments clock ≡ told)
 some_told None = tt
 some_told (Some told) = refl
 
@@ -34,16 +48,34 @@ some_told (Some told) = refl
 pub at_any : (clock : Option Moments) (P : Moments → Type 0) → ((moments : Moments) → P moments) → AtMoments clock P
 at_any clock P p = record { moments = some_moments clock; told = some_told clock; holds = p (some_moments clock) }
 
-pub at_more : (clock : Option Moments) (P Q : Moments → Type 0) → ((moments : Moments) → P moments → Q moments) → AtMoments clock P → AtMoments clock Q
+at_more : (clock : Option Moments) (P Q : Moments → Type 0) → ((moments : Moments) → P moments → Q moments) → AtMoments clock P → AtMoments clock Q
 at_more clock P Q more x = record { moments = x.moments; told = x.told; holds = more x.moments x.holds }
 
--- ---- Files
+-- ---- Ends
+
+-- nothing was done
+pub still : (s : Side) → IsUntouched s s
+still s = record { written = refl; faults = refl; clock = refl; drivers = λ place. refl }
+
+some_more : (o : Option Output) (P Q : Output → Type 0) → ((o : Output) → P o → Q o) → IfSome o P → IfSome o Q
+some_more None P Q more x = tt
+some_more (Some o) P Q more x = more o x
+
+ends_more : (P Q : Output → Type 0) → ((o : Output) → P o → Q o) → (result : Result Exit Refusal) (a b : Side) → Ends P result a b → Ends Q result a b
+ends_more P Q more (Ok exit) a b x = (x.0, more x.0 x.1, x.2)
+ends_more P Q more (Err r) a b x = (some_more (refused_as r) P Q more x.0, x.1)
+
+-- a refusal whose output is one of these, or that has none
+pub refused_ends : (P : Moments → List DriverState → Output → Type 0) (r : Refusal) (a : Side) → ((moments : Moments) → IfSome (refused_as r) (P moments a.drivers)) → EndsAt P (Err r) a a
+refused_ends P r a p = at_any a.clock (λ moments. Ends (P moments a.drivers) (Err r) a a) (λ moments. (p moments, still a))
+
+-- ---- Lengths
 
 -- what is not too long, and what is
-short_is : (bytes : List ℕ) → length bytes ≤ 1048576 → is_too_long bytes ≡ false
+short_is : (bytes : List ℕ) → length bytes ≤ most_file_bytes → is_too_long bytes ≡ false
 short_is bytes short = grind (arith, common_steps)
 
-long_is : (bytes : List ℕ) → 1048576 < length bytes → is_too_long bytes ≡ true
+long_is : (bytes : List ℕ) → most_file_bytes < length bytes → is_too_long bytes ≡ true
 long_is bytes long = grind (arith, common_steps)
 
 match_false : (b : Bool) (P Q : Type 0) → b ≡ false → Q → MatchBool b P Q
@@ -54,81 +86,64 @@ match_true : (b : Bool) (P Q : Type 0) → b ≡ true → P → MatchBool b P Q
 match_true true P Q e p = p
 match_true false P Q e p = cc
 
+-- ---- Bytes
+
 -- the output of files that are not too long
-pub run_gives : (main : Option (List ℕ)) (tree world : List ℕ) (g : Given) (r : Result Tree TreeFault) (o : Output) → length tree ≤ 1048576 → length world ≤ 1048576
+run_gives : (main : Option (List ℕ)) (tree world : List ℕ) (g : Given) (r : Result Tree TreeFault) (o : Output) → length tree ≤ most_file_bytes → length world ≤ most_file_bytes
     → TreeReads main tree r → TreeGives r world g o → RunGives main tree world g o
 run_gives main tree world g r o st sw reads_as e =
     match_false (is_too_long tree) _ _ (short_is tree st) (match_false (is_too_long world) _ _ (short_is world sw) (r, reads_as, e))
 
-pub check_gives : (main : Option (List ℕ)) (tree : List ℕ) (r : Result Tree TreeFault) → length tree ≤ 1048576 → TreeReads main tree r → CheckGives main tree (check_output r)
+check_gives : (main : Option (List ℕ)) (tree : List ℕ) (r : Result Tree TreeFault) → length tree ≤ most_file_bytes → TreeReads main tree r → CheckGives main tree (check_output r)
 check_gives main tree r short reads_as = match_false (is_too_long tree) _ _ (short_is tree short) (r, reads_as, refl)
 
--- a tree that was read, with what a run of it was answered
-pub run_answers : (main : Option (List ℕ)) (tree world : List ℕ) (g : Given) (r : Result Tree TreeFault) (result : Exit) (a b : Side) → length tree ≤ 1048576 → length world ≤ 1048576
-    → TreeReads main tree r → Answers (TreeGives r world g) result a b → Answers (RunGives main tree world g) result a b
-run_answers main tree world g r result a b st sw reads_as (inl x) = inl (x.0, run_gives main tree world g r x.0 st sw reads_as x.1, x.2)
-run_answers main tree world g r result a b st sw reads_as (inr y) = inr y
+-- the bytes of both files of a run
+module _ (course : Course) (main : Option (List ℕ)) (tree world : List ℕ) (st : length tree ≤ most_file_bytes) (sw : length world ≤ most_file_bytes) where
+  -- the tree file could not be parsed
+  pub tree_stopped : (stopped : Stop TreeFault) (a : Side) → ReadsAs (Err stopped) main tree → EndsAt (RunsOn course main tree world) (Err (stopped_as refusal.Tree stopped)) a a
+  tree_stopped (stop.Fault f) a reads =
+      refused_ends (RunsOn course main tree world) (refusal.Tree f) a (λ moments. run_gives main tree world (given course moments a.drivers) (Err f) (tree_refused f) st sw reads refl)
+  tree_stopped stop.NoMemory a reads = refused_ends (RunsOn course main tree world) refusal.NoMemory a (λ moments. tt)
 
--- what a file holds, where the shelf tells it
-record Contents (holds : Option (List ℕ → List ℕ)) (name : List ℕ) : Type 0 where
-  pub bytes : List ℕ
-  pub told : Told holds name (λ file. bytes ≡ file)
+  -- the world script could not be parsed
+  pub world_stopped : (t : Tree) (stopped : Stop WorldFault) (a : Side) → ReadsAs (Ok t) main tree → Gives (Err {World} stopped) (ReadsWorld world) → EndsAt (RunsOn course main tree world) (Err (stopped_as refusal.World stopped)) a a
+  world_stopped t (stop.Fault f) a reads described =
+      refused_ends (RunsOn course main tree world) (refusal.World f) a
+      (λ moments. run_gives main tree world (given course moments a.drivers) (Ok t) (world_refused f) st sw reads (Err f, described, refl))
+  world_stopped t stop.NoMemory a reads described = refused_ends (RunsOn course main tree world) refusal.NoMemory a (λ moments. tt)
 
-contents_of : (holds : Option (List ℕ → List ℕ)) (name : List ℕ) → Contents holds name
-contents_of None name = record { bytes = []; told = tt }
-contents_of (Some h) name = record { bytes = h name; told = refl }
+  -- both were parsed
+  pub both_parsed : (t : Tree) (w : World) (result : Result Exit Refusal) (a b : Side) → ReadsAs (Ok t) main tree → ReadsWorld world (Ok w) → EndsAt (JoinGives t w course) result a b → EndsAt (RunsOn course main tree world) result a b
+  both_parsed t w result a b reads described ends =
+      at_more a.clock (λ moments. Ends (JoinGives t w course moments a.drivers) result a b) (λ moments. Ends (RunsOn course main tree world moments a.drivers) result a b)
+      (λ moments. ends_more (JoinGives t w course moments a.drivers) (RunsOn course main tree world moments a.drivers)
+      (λ o is. run_gives main tree world (given course moments a.drivers) (Ok t) o st sw reads (Ok w, described, is)) result a b) ends
 
--- a file that is too long
-record LongFile (holds : Option (List ℕ → List ℕ)) (name : List ℕ) : Type 0 where
-  pub bytes : List ℕ
-  pub told : Told holds name (λ file. bytes ≡ file)
-  pub long : 1048576 < length bytes
+-- ---- Files
 
-long_file : (holds : Option (List ℕ → List ℕ)) (name room : List ℕ) → length room ≡ 1048577 → Told holds name (λ file. 1048576 < length file) → LongFile holds name
-long_file None name room e h = record { bytes = room; told = tt; long = omega arith }
-long_file (Some f) name room e h = record { bytes = f name; told = refl; long = h }
-
--- what a world file holds, where it is named and the shelf tells it
-record NamedContents (holds : Option (List ℕ → List ℕ)) (name : Option (List ℕ)) : Type 0 where
+-- what a file holds that may be named, where the shelf tells it
+record Contents (holds : Option (List ℕ → List ℕ)) (name : Option (List ℕ)) : Type 0 where
   pub bytes : List ℕ
   pub told : ToldIfNamed holds name (λ file. bytes ≡ file)
 
-named_contents : (holds : Option (List ℕ → List ℕ)) (name : Option (List ℕ)) → NamedContents holds name
-named_contents holds None = record { bytes = []; told = tt }
-named_contents holds (Some name) = record { bytes = (contents_of holds name).bytes; told = (contents_of holds name).told }
+contents_of : (holds : Option (List ℕ → List ℕ)) (name : Option (List ℕ)) → Contents holds name
+contents_of holds None = record { bytes = []; told = tt }
+contents_of None (Some name) = record { bytes = []; told = tt }
+contents_of (Some h) (Some name) = record { bytes = h name; told = refl }
 
 -- memory ran out before the output was known
-pub world_out_of_memory : (holds : Option (List ℕ → List ℕ)) (main : Option (List ℕ)) (course : Course) (tree name : List ℕ) (a b : Side) → b.written ≡ a.written → WorldAnswered holds main course tree name exit.Memory a b
-world_out_of_memory holds main course tree name a b same = record {
-  world = (contents_of holds name).bytes;
-  is_world = (contents_of holds name).told;
-  answers = at_any a.clock (λ moments. Answers (RunGives main tree (contents_of holds name).bytes (given course moments a.drivers)) exit.Memory a b) (λ moments. inr (refl, same));
+pub out_of_memory : (holds : Option (List ℕ → List ℕ)) (tree world : Option (List ℕ)) (Gives : Giving) (a : Side) → FilesEnd holds tree world Gives (Err refusal.NoMemory) a a
+out_of_memory holds tree world Gives a = record {
+  tree = (contents_of holds tree).bytes;
+  world = (contents_of holds world).bytes;
+  is_tree = (contents_of holds tree).told;
+  is_world = (contents_of holds world).told;
+  answers = refused_ends (Gives (contents_of holds tree).bytes (contents_of holds world).bytes) refusal.NoMemory a (λ moments. tt);
 }
 
-pub out_of_memory : (holds : Option (List ℕ → List ℕ)) (tree world : Option (List ℕ)) (Gives : Giving) (a b : Side) → b.written ≡ a.written → FilesAnswered holds tree world Gives exit.Memory a b
-out_of_memory holds tree world Gives a b same = record {
-  tree = (named_contents holds tree).bytes;
-  world = (named_contents holds world).bytes;
-  is_tree = (named_contents holds tree).told;
-  is_world = (named_contents holds world).told;
-  answers = at_any a.clock (λ moments. Answers (Gives (named_contents holds tree).bytes (named_contents holds world).bytes moments a.drivers) exit.Memory a b) (λ moments. inr (refl, same));
-}
-
--- the world file is too long
-pub long_world : (holds : Option (List ℕ → List ℕ)) (main : Option (List ℕ)) (course : Course) (tree name room : List ℕ) (result : Exit) (a b : Side) → length tree ≤ 1048576 → length room ≡ 1048577 → Told holds name (λ file. 1048576 < length file)
-    → Gave world_too_long result a b → WorldAnswered holds main course tree name result a b
-long_world holds main course tree name room result a b short e h gave =
-    let f = long_file holds name room e h in
-    record {
-      world = f.bytes;
-      is_world = f.told;
-      answers = at_any a.clock (λ moments. Answers (RunGives main tree f.bytes (given course moments a.drivers)) result a b)
-          (λ moments. inl (world_too_long, match_false (is_too_long tree) _ _ (short_is tree short) (match_true (is_too_long f.bytes) _ _ (long_is f.bytes f.long) refl), gave));
-    }
-
--- what a tree file that is too long has for output
+-- a tree file that is too long has this output
 abbrev LongGives : Giving → Type 0
-LongGives Gives = (tree world : List ℕ) (moments : Moments) (drivers : List DriverState) → 1048576 < length tree → Gives tree world moments drivers tree_too_long
+LongGives Gives = (tree world : List ℕ) (moments : Moments) (drivers : List DriverState) → most_file_bytes < length tree → Gives tree world moments drivers (too_long file.Tree)
 
 pub long_run : (course : Course) (main : Option (List ℕ)) → LongGives (RunsOn course main)
 long_run course main tree world moments drivers long = match_true (is_too_long tree) _ _ (long_is tree long) refl
@@ -136,46 +151,135 @@ long_run course main tree world moments drivers long = match_true (is_too_long t
 pub long_check : (name : List ℕ) (main : Option (List ℕ)) → LongGives (FilesGive (Check name main))
 long_check name main tree world moments drivers long = match_true (is_too_long tree) _ _ (long_is tree long) refl
 
--- the tree file is too long
-pub long_tree : (holds : Option (List ℕ → List ℕ)) (name : List ℕ) (world : Option (List ℕ)) (Gives : Giving) (room : List ℕ) (result : Exit) (a b : Side) → LongGives Gives → length room ≡ 1048577 → Told holds name (λ file. 1048576 < length file)
-    → Gave tree_too_long result a b → FilesAnswered holds (Some name) world Gives result a b
-long_tree holds name world Gives room result a b gives e h gave =
-    let f = long_file holds name room e h in
-    record {
-      tree = f.bytes;
-      world = (named_contents holds world).bytes;
-      is_tree = f.told;
-      is_world = (named_contents holds world).told;
-      answers = at_any a.clock (λ moments. Answers (Gives f.bytes (named_contents holds world).bytes moments a.drivers) result a b)
-          (λ moments. inl (tree_too_long, gives f.bytes (named_contents holds world).bytes moments a.drivers f.long, gave));
-    }
-
--- a tree file that was read, with what a check of it was answered
-pub check_ends : (holds : Option (List ℕ → List ℕ)) (main : Option (List ℕ)) (tree bytes : List ℕ) (result : Exit) (a b : Side) → Told holds tree (λ file. bytes ≡ file)
-    → Answers (CheckGives main bytes) result a b → FilesAnswered holds (Some tree) None (FilesGive (Check tree main)) result a b
-check_ends holds main tree bytes result a b told answers = record {
-  tree = bytes;
-  world = [];
-  is_tree = told;
-  is_world = tt;
-  answers = at_any a.clock (λ moments. Answers (CheckGives main bytes) result a b) (λ moments. answers);
-}
-
 -- a file that is told is as long as its bytes
-told_short : (holds : Option (List ℕ → List ℕ)) (name bytes : List ℕ) → Told holds name (λ file. bytes ≡ file) → length bytes ≤ 1048576 → Told holds name (λ file. length file ≤ 1048576)
+told_short : (holds : Option (List ℕ → List ℕ)) (name bytes : List ℕ) → Told holds name (λ file. bytes ≡ file) → length bytes ≤ most_file_bytes → Told holds name (λ file. length file ≤ most_file_bytes)
 told_short None name bytes told short = tt
-told_short (Some h) name bytes told short = subst (λ (file : List ℕ). length file ≤ 1048576) told short
+told_short (Some h) name bytes told short = subst (λ (file : List ℕ). length file ≤ most_file_bytes) told short
 
--- a tree file that was read, with what a run of it was answered, the world file being read behind it
-module _ {Shelf : Type 0} (read_gives : Reading Shelf) (holds : Option (List ℕ → List ℕ)) (main : Option (List ℕ)) (tree world bytes : List ℕ) (old between new : Shelf) (fell rose last : ℕ) (result : Exit) (a b : Side) (course : Course) where
-  pub run_ends : fell ≤ rose → read_gives old tree (Ok tt) between → Told holds tree (λ file. bytes ≡ file) → length bytes ≤ 1048576
-      → ReadFailed (Rose rose last) (λ file. (file ≡ WorldFile) × read_gives between world (Err shelf_fault.Failed) new) result a b ⊎ WorldAnswered holds main course bytes world result a b
-      → ReadFailed (Rose fell last) (Unread read_gives holds (Some tree) (Some world) old new) result a b ⊎ FilesAnswered holds (Some tree) (Some world) (RunsOn course main) result a b
-  run_ends less read told short (inl r) =
-      inl (Rose-after fell rose last less r.0, WorldFile, (between, read, told_short holds tree bytes told short, r.2.1), subst (λ (f : File). Gave (unread f) result a b) r.2.0 r.3)
-  run_ends less read told short (inr w) = inr (record { tree = bytes; world = w.world; is_tree = told; is_world = w.is_world; answers = w.answers })
+-- the files of a command are read
+module _ {Shelf : Type 0} (read_gives : Reading Shelf) (faults : Shelf → ℕ) (holds : Option (List ℕ → List ℕ)) (tree : List ℕ) where
+  -- the tree file was not read
+  pub tree_unread : (world : Option (List ℕ)) (Gives : Giving) → LongGives Gives → (old new : Shelf) (r : Refusal) (a : Side) → IsUnread read_gives faults holds file.Tree tree r old new
+      → CommandEnds (Rose (faults old) (faults new)) (Unread read_gives holds (Some tree) world old new) (FilesEnd holds (Some tree) world Gives) (Err r) a a
+  tree_unread world Gives long old new (refusal.Unread which) a u =
+      inl (u.1, subst (λ (f : File). Unread read_gives holds (Some tree) world old new f) (sym u.0) u.2, still a)
+  tree_unread world Gives long old new (refusal.TooLong which) a u = inr (record {
+    tree = u.1.bytes;
+    world = (contents_of holds world).bytes;
+    is_tree = u.1.told;
+    is_world = (contents_of holds world).told;
+    answers = refused_ends (Gives u.1.bytes (contents_of holds world).bytes) (refusal.TooLong which) a
+        (λ moments. subst (λ (f : File). Gives u.1.bytes (contents_of holds world).bytes moments a.drivers (too_long f)) (sym u.0)
+        (long u.1.bytes (contents_of holds world).bytes moments a.drivers u.1.long));
+  })
+  tree_unread world Gives long old new refusal.NoMemory a u = inr (out_of_memory holds (Some tree) world Gives a)
+  tree_unread world Gives long old new refusal.Words a u = absurd u
+  tree_unread world Gives long old new (refusal.Tree f) a u = absurd u
+  tree_unread world Gives long old new (refusal.World f) a u = absurd u
+  tree_unread world Gives long old new (refusal.Join f) a u = absurd u
+
+  -- the world file was not read, after the tree file
+  pub world_unread : (world bytes : List ℕ) (course : Course) (main : Option (List ℕ)) (old between new : Shelf) (r : Refusal) (a : Side) → faults old ≤ faults between
+      → WasRead read_gives holds tree bytes old between → IsUnread read_gives faults holds file.World world r between new
+      → CommandEnds (Rose (faults old) (faults new)) (Unread read_gives holds (Some tree) (Some world) old new) (FilesEnd holds (Some tree) (Some world) (RunsOn course main)) (Err r) a a
+  world_unread world bytes course main old between new (refusal.Unread which) a less read u =
+      inl (
+        Rose-after (faults old) (faults between) (faults new) less u.1,
+        subst (λ (f : File). Unread read_gives holds (Some tree) (Some world) old new f) (sym u.0) (between, read.gave, told_short holds tree bytes read.told read.short, u.2),
+        still a,
+      )
+  world_unread world bytes course main old between new (refusal.TooLong which) a less read u = inr (record {
+    tree = bytes;
+    world = u.1.bytes;
+    is_tree = read.told;
+    is_world = u.1.told;
+    answers = refused_ends (RunsOn course main bytes u.1.bytes) (refusal.TooLong which) a
+        (λ moments. subst (λ (f : File). RunsOn course main bytes u.1.bytes moments a.drivers (too_long f)) (sym u.0)
+        (match_false (is_too_long bytes) _ _ (short_is bytes read.short) (match_true (is_too_long u.1.bytes) _ _ (long_is u.1.bytes u.1.long) refl)));
+  })
+  world_unread world bytes course main old between new refusal.NoMemory a less read u = inr (out_of_memory holds (Some tree) (Some world) (RunsOn course main) a)
+  world_unread world bytes course main old between new refusal.Words a less read u = absurd u
+  world_unread world bytes course main old between new (refusal.Tree f) a less read u = absurd u
+  world_unread world bytes course main old between new (refusal.World f) a less read u = absurd u
+  world_unread world bytes course main old between new (refusal.Join f) a less read u = absurd u
+
+  -- both were read
+  pub both_read : (world tree_bytes world_bytes : List ℕ) (course : Course) (main : Option (List ℕ)) (old between new after : Shelf) (result : Result Exit Refusal) (a b : Side)
+      → WasRead read_gives holds tree tree_bytes old between → WasRead read_gives holds world world_bytes between new → EndsAt (RunsOn course main tree_bytes world_bytes) result a b
+      → CommandEnds (Rose (faults old) (faults after)) (Unread read_gives holds (Some tree) (Some world) old after) (FilesEnd holds (Some tree) (Some world) (RunsOn course main)) result a b
+  both_read world tree_bytes world_bytes course main old between new after result a b first second ends =
+      inr (record { tree = tree_bytes; world = world_bytes; is_tree = first.told; is_world = second.told; answers = ends })
+
+-- a tree file was read for its check
+module _ (holds : Option (List ℕ → List ℕ)) (name : List ℕ) (main : Option (List ℕ)) (bytes : List ℕ) (told : Told holds name (λ file. bytes ≡ file)) (short : length bytes ≤ most_file_bytes) where
+  check_files : (result : Result Exit Refusal) (a b : Side) → EndsAt (λ moments drivers. CheckGives main bytes) result a b → FilesEnd holds (Some name) None (FilesGive (Check name main)) result a b
+  check_files result a b ends = record { tree = bytes; world = []; is_tree = told; is_world = tt; answers = ends }
+
+  pub check_stopped : (stopped : Stop TreeFault) (a : Side) → ReadsAs (Err stopped) main bytes → FilesEnd holds (Some name) None (FilesGive (Check name main)) (Err (stopped_as refusal.Tree stopped)) a a
+  check_stopped (stop.Fault f) a reads =
+      check_files (Err (refusal.Tree f)) a a (refused_ends (λ moments drivers. CheckGives main bytes) (refusal.Tree f) a (λ moments. check_gives main bytes (Err f) short reads))
+  check_stopped stop.NoMemory a reads = out_of_memory holds (Some name) None (FilesGive (Check name main)) a
+
+  pub check_printed : (t : Tree) (exit : Exit) (written : Option (List ℕ)) (faults : ℕ) (a : Side) → ReadsAs (Ok t) main bytes → Printed (check_output (Ok t)) exit a.written a.faults written faults
+      → FilesEnd holds (Some name) None (FilesGive (Check name main)) (Ok exit) a (side written faults a.clock a.drivers)
+  check_printed t exit written faults a reads printed =
+      check_files (Ok exit) a (side written faults a.clock a.drivers)
+      (at_any a.clock (λ moments. Ends (CheckGives main bytes) (Ok exit) a (side written faults a.clock a.drivers))
+      (λ moments. (check_output (Ok t), check_gives main bytes (Ok t) short reads, printed a.clock a.drivers a.drivers (λ place. refl))))
 
 -- the files of a load, which names none
-pub load_ends : (holds : Option (List ℕ → List ℕ)) (leaves : ℕ) (result : Exit) (a b : Side) → AtMoments a.clock (λ moments. Answers (RunsOn (course.Load leaves) None (tree_text leaves) (world_text leaves) moments a.drivers) result a b)
-    → FilesAnswered holds None None (FilesGive (Load leaves)) result a b
-load_ends holds leaves result a b answers = record { tree = []; world = []; is_tree = tt; is_world = tt; answers = answers }
+pub load_ends : (holds : Option (List ℕ → List ℕ)) (leaves : ℕ) (result : Result Exit Refusal) (a b : Side) → EndsAt (RunsOn (course.Load leaves) None (tree_text leaves) (world_text leaves)) result a b
+    → FilesEnd holds None None (FilesGive (Load leaves)) result a b
+load_ends holds leaves result a b ends = record { tree = []; world = []; is_tree = tt; is_world = tt; answers = ends }
+
+-- ---- Words
+
+-- the line of a refusal was written after nothing was done
+gave_after : (o : Output) (result : Exit) (a b : Side) (written : Option (List ℕ)) (faults : ℕ) → IsUntouched a b → Printed o result b.written b.faults written faults → Gave o result a (side written faults b.clock b.drivers)
+gave_after o result a b written faults same printed =
+    subst (λ (w : Option (List ℕ)). Gave o result (side w a.faults a.clock a.drivers) (side written faults b.clock b.drivers)) same.written
+    (subst (λ (n : ℕ). Gave o result (side b.written n a.clock a.drivers) (side written faults b.clock b.drivers)) same.faults
+    (subst (λ (c : Option Moments). Gave o result (side b.written b.faults a.clock a.drivers) (side written faults c b.drivers)) (sym same.clock)
+    (printed a.clock a.drivers b.drivers same.drivers)))
+
+-- a command that came to this was answered
+module _ (command : Command) (holds : Option (List ℕ → List ℕ)) (rose : Type 0) (IsUnread : File → Type 0) where
+  abbrev Ended : Result Exit Refusal → Side → Side → Type 0
+  Ended result a b = CommandEnds rose IsUnread (FilesEnd holds (tree_name command) (world_name command) (FilesGive command)) result a b
+
+  -- .. with an exit
+  pub exit_answered : (exit : Exit) (a b : Side) → Ended (Ok exit) a b → CommandAnswered (Some command) holds rose IsUnread exit a b
+  exit_answered exit a b (inl x) = absurd x
+  exit_answered exit a b (inr f) = inr (record {
+    tree = f.tree;
+    world = f.world;
+    is_tree = f.is_tree;
+    is_world = f.is_world;
+    answers = at_more a.clock (λ moments. Ends (FilesGive command f.tree f.world moments a.drivers) (Ok exit) a b) (λ moments. Answers (FilesGive command f.tree f.world moments a.drivers) exit a b)
+        (λ moments x. inl x) f.answers;
+  })
+
+  refused_answers : (P : Output → Type 0) (o : Option Output) (exit : Exit) (a b : Side) (written : Option (List ℕ)) (faults : ℕ) → IfSome o P → IsUntouched a b
+      → MatchOption o ((exit ≡ exit.Memory) × (written ≡ b.written)) (λ o. Printed o exit b.written b.faults written faults) → Answers P exit a (side written faults b.clock b.drivers)
+  refused_answers P None exit a b written faults is same x = inr (x.0, x.1 ∙ same.written)
+  refused_answers P (Some o) exit a b written faults is same x = inl (o, is, gave_after o exit a b written faults same x)
+
+  -- .. with a refusal, whose line was then written
+  pub refusal_answered : (r : Refusal) (exit : Exit) (a b : Side) (written : Option (List ℕ)) (faults : ℕ) → Ended (Err r) a b → IsRefused r exit b.written b.faults written faults
+      → CommandAnswered (Some command) holds rose IsUnread exit a (side written faults b.clock b.drivers)
+  refusal_answered (refusal.Unread which) exit a b written faults (inl x) refused = inl (x.0, which, x.1, gave_after (unread which) exit a b written faults x.2 refused)
+  refusal_answered refusal.Words exit a b written faults (inl x) refused = absurd x
+  refusal_answered (refusal.TooLong which) exit a b written faults (inl x) refused = absurd x
+  refusal_answered (refusal.Tree f) exit a b written faults (inl x) refused = absurd x
+  refusal_answered (refusal.World f) exit a b written faults (inl x) refused = absurd x
+  refusal_answered (refusal.Join f) exit a b written faults (inl x) refused = absurd x
+  refusal_answered refusal.NoMemory exit a b written faults (inl x) refused = absurd x
+  refusal_answered r exit a b written faults (inr f) refused = inr (record {
+    tree = f.tree;
+    world = f.world;
+    is_tree = f.is_tree;
+    is_world = f.is_world;
+    answers = at_more a.clock (λ moments. Ends (FilesGive command f.tree f.world moments a.drivers) (Err r) a b)
+        (λ moments. Answers (FilesGive command f.tree f.world moments a.drivers) exit a (side written faults b.clock b.drivers))
+        (λ moments x. refused_answers (FilesGive command f.tree f.world moments a.drivers) (refused_as r) exit a b written faults x.0 x.1 refused) f.answers;
+  })

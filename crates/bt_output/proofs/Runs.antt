@@ -1,19 +1,19 @@
--- What a run was answered that was made, or could not be.
+-- What a run gives that was joined.
 use Rattle.std.proofs.Common.{◌≡◌, ◌≤◌, ℕ, List, [], ◌∷◌, Option, Some, None, refl, sym, ap, subst, ◌∙◌, Result, Ok, Err}
 use Rattle.std.specs.Prelude.{IfOk, IfSome, IsErrOf, OnOk, length, option_map}
+use Rattle.std.specs.List.{flat_map}
 use Rattle.bt_arena.specs.declared.join_fault.JoinFault.{JoinFault}
 use Rattle.bt_arena.specs.declared.nodes.Node.{Node}
-use Rattle.bt_load.specs.Summaries.{load_line}
+use Rattle.bt_arena.specs.Joins.{Joins}
+use Rattle.bt_command_line.specs.declared.exit.Exit.{Exit}
+use Rattle.bt_command_line.specs.declared.exit.Exit.TheVariants as exit
+use Rattle.bt_load.specs.Summaries.{IsLoad, load_line}
 use Rattle.bt_loop.specs.declared.runs.Runs.{Runs}
-use Rattle.bt_loop.specs.Runs.{AreRuns, instances_wanted, roster_over}
+use Rattle.bt_loop.specs.Runs.{arenas_of, instances_wanted, roster_over}
 use Rattle.bt_loop.specs.Served.{calls_made, roster_after_run, serving_places}
 use Rattle.bt_loop.specs.Steps.{IsSameRoster}
 use Rattle.bt_loop.proofs.Rising.{roster_both, same_roster}
-use Rattle.bt_output.specs.declared.course.Course.TheVariants as course
-use Rattle.bt_command_line.specs.declared.exit.Exit.{Exit}
-use Rattle.bt_output.specs.Answers.{AreKept, AtMoments, ClockLeft, Gave, IfTold, IsWhole, Side, Wrote, exit_of, side}
-use Rattle.bt_output.specs.Output.{Given, UpToFault, asked_by, given, join_refused, joined_output, run_exit, run_output}
-use Rattle.bt_output.proofs.Files.{at_any}
+use Rattle.bt_model.specs.declared.block.Block.{Block}
 use Rattle.bt_model.specs.declared.fault.RunFault.{RunFault}
 use Rattle.bt_model.specs.declared.term.Tree.{Tree}
 use Rattle.bt_model.specs.declared.world.Event.{Event}
@@ -21,155 +21,75 @@ use Rattle.bt_model.specs.declared.world.World.{World}
 use Rattle.bt_model.specs.Drivers.{DriverState, NothingHeld, roster_prepared}
 use Rattle.bt_model.specs.Lines.{LineNames, line_names}
 use Rattle.bt_model.specs.Run.{RunState, RunnerCall, Trace, opening, run_from, run_over}
-use Rattle.bt_model.specs.Trees.{IsValid}
-use Rattle.bt_model.specs.Worlds.{IsValidWorld}
+use Rattle.bt_outside.proofs.Appends.{AppendedFront-nothing}
 use Rattle.bt_outside.specs.Appending.{Appended, AppendedFront}
 use Rattle.bt_outside.specs.Counts.{Rose}
 use Rattle.bt_outside.specs.Moments.{Moments}
+use Rattle.bt_output.specs.declared.course.Course.{Course}
+use Rattle.bt_output.specs.declared.course.Course.TheVariants as course
+use Rattle.bt_output.specs.declared.refusal.Refusal.{Refusal}
+use Rattle.bt_output.specs.declared.refusal.Refusal.TheVariants as refusal
+use Rattle.bt_output.specs.Answers.{AtMoments, ClockLeft, Gave, IfTold, IsWhole, Side, exit_of, side}
+use Rattle.bt_output.specs.Courses.{course_output, trace_output}
+use Rattle.bt_output.specs.Ends.{Ends, EndsAt, IsUntouched}
+use Rattle.bt_output.specs.Output.{Asked, Given, JoinGives, Output, UpToFault, asked_by, given, join_refused, joined_output, lack_of, run_exit, run_output, stopped_as}
+use Rattle.bt_output.proofs.Files.{at_any}
+use Rattle.bt_script.specs.declared.stop.Stop.{Stop}
+use Rattle.bt_script.specs.declared.stop.Stop.TheVariants as stop
+use Rattle.bt_text.specs.declared.stop.TextStop.{TextStop}
+use Rattle.bt_text.specs.declared.stop.TextStop.TheVariants as text_stop
 use Rattle.bt_trace.specs.declared.ended.Ended.{Ended}
 use Rattle.bt_trace.specs.declared.ended.Ended.TheVariants.{Done, Faulted}
-use Rattle.bt_trace.specs.Rounds.{AreBegun, AreMoments, live_events, moments_after, taken}
-use Rattle.bt_trace.specs.Texts.{text_of}
-use Rattle.bt_trace.specs.Traces.{CanAllCome, CanRun, IsRun, ended}
+use Rattle.bt_trace.specs.Rounds.{AreBegun, AreMoments, WasAsked, live_events, moments_after, taken}
+use Rattle.bt_trace.specs.Texts.{block_text, text_of}
+use Rattle.bt_trace.specs.Traces.{AreKept, CanAllCome, CanRun, Leaves, Setup, ended, side as stage, state_in, trace_of}
+use Rattle.bt_trace.specs.Watches.{Watched}
 use Rattle.bt_trace.proofs.Worlds.{events_of_world}
-use Rattle.bt_text.specs.declared.stop.TextStop.{TextStop}
-use Rattle.bt_text.specs.declared.stop.TextStop.TheVariants as stop
+
+-- ---- Drivers
 
 -- nothing was done
 pub kept_still : (ds : List DriverState) → NothingHeld ds → AreKept ds ds
 kept_still ds none = record { same = same_roster ds; none = none }
 
-pub kept_both : (a b c : List DriverState) → IsSameRoster a b → IsSameRoster b c → NothingHeld c → AreKept a c
-kept_both a b c ab bc none = record { same = roster_both a b c ab bc; none = none }
+pub kept_both : (a b c : List DriverState) → IsSameRoster a b → AreKept b c → AreKept a c
+kept_both a b c ab bc = record { same = roster_both a b c ab bc.same; none = bc.none }
+
+-- ---- Events
+
+-- before its first event the events of a world can come in order
+pub all_come : (of : Setup) (drivers : List DriverState) (runs : Runs) (events : List Event) → CanRun of drivers runs → state_in of drivers runs ≡ opening of.tree of.world → events ≡ of.world.events → CanAllCome of.world runs.last events
+all_come of drivers runs events can opened listed =
+    subst (λ (es : List Event). CanAllCome of.world runs.last es) (sym listed)
+    (subst (λ (n : ℕ). CanAllCome of.world n of.world.events) (sym (ap (λ (s : RunState). s.last) opened)) (events_of_world of.world can.is_valid_world))
+
+-- ---- Ends
 
 -- the exit of a run is that of its trace's fault
 ended_exit : (fault : Option RunFault) (ending : Ended) → ending ≡ ended fault → run_exit fault ≡ exit_of (Ok ending)
 ended_exit None ending e = ap (λ (x : Ended). exit_of (Ok x)) (sym e)
 ended_exit (Some fault) ending e = ap (λ (x : Ended). exit_of (Ok x)) (sym e)
 
--- the events of a world come in order, from the moment 0 on
-pub events_come : (world : World) (last : ℕ) (events : List Event) → IsValidWorld world → events ≡ world.events → last ≡ 0 → CanAllCome world last events
-events_come world last events valid listed zero =
-    subst (λ (es : List Event). CanAllCome world last es) (sym listed) (subst (λ (n : ℕ). CanAllCome world n world.events) (sym zero) (events_of_world world valid))
+-- a run has left this of the sink, the clock and the drivers
+module _ (of : Setup) (arenas : List (List Node)) (g : Given) (trace : Trace) (after : List DriverState) (a b : Option (List ℕ)) (fell rose : ℕ) (clock asked : Option Moments) where
+  -- how a run has ended says how often the clock was asked
+  abbrev pub Asking : Ended → Type 0
+  Asking ending = (fault : Option RunFault) → ending ≡ ended fault → ClockLeft (g.asked of.tree of.world fault) clock asked
 
-pub can_run : (tree : Tree) (world : World) (names : LineNames) (drivers : List DriverState) (runs : Runs) → IsValid tree → IsValidWorld world → names ≡ line_names tree world → AreRuns tree world drivers runs → NothingHeld drivers → CanRun tree world names drivers runs
-can_run tree world names drivers runs valid valid_world named are none = record { is_valid = valid; is_valid_world = valid_world; named = named; are = are; none = none }
+  abbrev pub GivenBy : Exit → Type 0
+  GivenBy result = Gave (trace_output of arenas g trace) result (side a fell clock g.drivers) (side b rose asked after)
 
--- a leaf lacks nothing, or something
-pub joined_gave : (lack : Option JoinFault) (tree : Tree) (world : World) (g : Given) (result ending : Exit) (a b : Side) → lack ≡ None → result ≡ ending → Gave (run_output tree world g) ending a b → Gave (joined_output lack tree world g) result a b
-joined_gave lack tree world g result ending a b none is gave =
-    subst (λ (l : Option JoinFault). Gave (joined_output l tree world g) result a b) (sym none) (subst (λ (e : Exit). Gave (run_output tree world g) e a b) (sym is) gave)
+  -- .. with an end, its bytes, its drivers and its moments
+  pub ending_gave : (ending : Ended) → ending ≡ ended trace.fault → Appended a b (g.bytes of.tree of.world trace) → after ≡ roster_over arenas trace.calls g.drivers → Asking ending → GivenBy (exit_of (Ok ending))
+  ending_gave Done ends written drivers asking = (ended_exit trace.fault Done ends, written, drivers, asking trace.fault ends)
+  ending_gave Faulted ends written drivers asking = (ended_exit trace.fault Faulted ends, written, drivers, asking trace.fault ends)
 
-pub lacking_gave : (lack : Option JoinFault) (fault : JoinFault) (tree : Tree) (world : World) (g : Given) (result : Exit) (a b : Side) → lack ≡ Some fault → Gave (join_refused fault) result a b → Gave (joined_output lack tree world g) result a b
-lacking_gave lack fault tree world g result a b some gave =
-    subst (λ (l : Option JoinFault). Gave (joined_output l tree world g) result a b) (sym some) gave
+  -- .. or was stopped after some of its bytes
+  pub stopped_gave : (stopped : TextStop) → AppendedFront a b (g.bytes of.tree of.world trace) → (stopped ≡ text_stop.WriteFault → Rose fell rose) → GivenBy (exit_of (Err stopped))
+  stopped_gave text_stop.WriteFault front failed = (failed refl, front)
+  stopped_gave text_stop.NoMemory front failed = front
 
--- runs that were made for these drivers, their events, and what was there before and behind
-module _ (tree : Tree) (world : World) (g : Given) (made after : List DriverState) (arenas : List (List Node)) (events : List Event) (s : RunState)
-    (listed : events ≡ g.events world)
-    (opened : s ≡ opening tree world)
-    (prepared : made ≡ roster_prepared g.drivers (instances_wanted tree world g.drivers))
-    (calls : (calls : List RunnerCall) (now : List DriverState) → roster_over arenas calls now ≡ calls_made world.runners (serving_places tree world g.drivers) calls now)
-    (a b : Option (List ℕ)) (fell rose : ℕ) (clock asked : Option Moments)
-  where
-    abbrev trace : Trace
-    trace = run_from tree world events s
-
-    abbrev whole_trace : Trace
-    whole_trace = run_over tree world (g.events world)
-
-    -- the run of the state in which they began is the run of the world
-    trace_is : trace ≡ whole_trace
-    trace_is = ap (λ (es : List Event). run_from tree world es s) listed ∙ ap (λ (z : RunState). run_from tree world (g.events world) z) opened
-
-    bytes_are : g.bytes tree world trace ≡ (run_output tree world g).bytes
-    bytes_are = ap (λ (t : Trace). g.bytes tree world t) trace_is
-
-    drivers_are : after ≡ roster_over arenas trace.calls made → after ≡ roster_after_run tree world g.drivers whole_trace.calls
-    drivers_are e =
-        e
-        ∙ calls trace.calls made
-        ∙ ap (λ (t : Trace). calls_made world.runners (serving_places tree world g.drivers) t.calls made) trace_is
-        ∙ ap (λ (ds : List DriverState). calls_made world.runners (serving_places tree world g.drivers) whole_trace.calls ds) prepared
-
-    -- how a run has ended says how often the clock was asked
-    abbrev Asking : Ended → Type 0
-    Asking ending = (fault : Option RunFault) → ending ≡ ended fault → ClockLeft (g.asked tree world fault) clock asked
-
-    abbrev Ran : Ended → Type 0
-    Ran ending = Wrote (λ (t : Trace). g.bytes tree world t) arenas made after a b ending trace
-
-    whole_run : (ending : Ended) → Ran ending → Asking ending → IsWhole (run_output tree world g) (exit_of (Ok ending)) (side a fell clock g.drivers) (side b rose asked after)
-    whole_run ending is asking = (
-      ap (λ (t : Trace). run_exit t.fault) (sym trace_is) ∙ ended_exit trace.fault ending is.ends,
-      subst (Appended a b) bytes_are is.written,
-      drivers_are is.drivers,
-      asking whole_trace.fault (is.ends ∙ ap (λ (t : Trace). ended t.fault) trace_is),
-    )
-
-    pub ending_gave : (ending : Ended) → Ran ending → Asking ending → Gave (run_output tree world g) (exit_of (Ok ending)) (side a fell clock g.drivers) (side b rose asked after)
-    ending_gave Done is asking = whole_run Done is asking
-    ending_gave Faulted is asking = whole_run Faulted is asking
-
-    pub stopped_gave : (stopped : TextStop) → AppendedFront a b (g.bytes tree world trace) → (stopped ≡ stop.WriteFault → Rose fell rose) → Gave (run_output tree world g) (exit_of (Err stopped)) (side a fell clock g.drivers) (side b rose asked after)
-    stopped_gave stop.WriteFault front failed = (failed refl, subst (AppendedFront a b) bytes_are front)
-    stopped_gave stop.NoMemory front failed = subst (AppendedFront a b) bytes_are front
-
-    -- however a run has ended, its output was given
-    pub run_gave : (result : Result Ended TextStop) → IfOk result Ran → AppendedFront a b (g.bytes tree world trace) → (IsErrOf result stop.WriteFault → Rose fell rose) →
-        IfOk result Asking → Gave (run_output tree world g) (exit_of result) (side a fell clock g.drivers) (side b rose asked after)
-    run_gave (Ok ending) whole front failed asking = ending_gave ending whole asking
-    run_gave (Err stopped) whole front failed asking = stopped_gave stopped front (λ e. failed (ap Err e))
-
--- ---- Courses
-
--- the lines of a trace, with the names that the tree and the world give
-module _ (tree : Tree) (world : World) (names : LineNames) (named : names ≡ line_names tree world) (made after : List DriverState) (arenas : List (List Node)) (trace : Trace) (a b : Option (List ℕ)) where
-  abbrev lines : Trace → List ℕ
-  lines t = text_of (line_names tree world) t.blocks
-
-  wrote_lines : (ending : Ended) → IsRun arenas names made after a b ending trace → Wrote lines arenas made after a b ending trace
-  wrote_lines ending is = record { ends = is.ends; written = subst (λ (n : LineNames). Appended a b (text_of n trace.blocks)) named is.written; drivers = is.drivers }
-
-  all_wrote_lines : (ran : Result Ended TextStop) → IfOk ran (λ ending. IsRun arenas names made after a b ending trace) → IfOk ran (λ ending. Wrote lines arenas made after a b ending trace)
-  all_wrote_lines (Ok ending) is = wrote_lines ending is
-  all_wrote_lines (Err e) is = tt
-
-  front_of_lines : AppendedFront a b (text_of names trace.blocks) → AppendedFront a b (lines trace)
-  front_of_lines front = subst (λ (n : LineNames). AppendedFront a b (text_of n trace.blocks)) named front
-
-never_asked : (clock : Option Moments) (ran : Result Ended TextStop) → IfOk ran (λ ending. (fault : Option RunFault) → ending ≡ ended fault → clock ≡ clock)
-never_asked clock (Ok ending) = λ fault e. refl
-never_asked clock (Err e) = tt
-
--- the events of a world's script were run, and the clock was not asked
-module _ (tree : Tree) (world : World) (drivers made after : List DriverState) (arenas : List (List Node)) (events : List Event) (s : RunState)
-    (listed : events ≡ world.events) (opened : s ≡ opening tree world)
-    (prepared : made ≡ roster_prepared drivers (instances_wanted tree world drivers))
-    (calls : (calls : List RunnerCall) (now : List DriverState) → roster_over arenas calls now ≡ calls_made world.runners (serving_places tree world drivers) calls now)
-    (a b : Option (List ℕ)) (fell rose : ℕ) (clock : Option Moments) (result : Exit) (lack : Option JoinFault) (none : lack ≡ None) (ran : Result Ended TextStop) (is : result ≡ exit_of ran)
-  where
-    abbrev made_trace : Trace
-    made_trace = run_from tree world events s
-
-    -- .. and their trace was written
-    pub script_gave : (names : LineNames) → names ≡ line_names tree world →
-        IfOk ran (λ ending. IsRun arenas names made after a b ending made_trace) → AppendedFront a b (text_of names made_trace.blocks) → (IsErrOf ran stop.WriteFault → Rose fell rose) →
-        AtMoments clock (λ moments. Gave (joined_output lack tree world (given course.Script moments drivers)) result (side a fell clock drivers) (side b rose clock after))
-    script_gave names named whole front failed =
-        at_any clock _ (λ moments. joined_gave lack tree world (given course.Script moments drivers) result (exit_of ran) _ _ none is
-        (run_gave tree world (given course.Script moments drivers) made after arenas events s listed opened prepared calls a b fell rose clock clock ran
-        (all_wrote_lines tree world names named made after arenas made_trace a b ran whole) (front_of_lines tree world names named made after arenas made_trace a b front) failed (never_asked clock ran)))
-
-    -- .. and the line of a load was written
-    pub load_gave : (leaves : ℕ) →
-        IfOk ran (λ ending. Wrote (load_line leaves tree (length events)) arenas made after a b ending made_trace) → AppendedFront a b (load_line leaves tree (length events) made_trace) → (IsErrOf ran stop.WriteFault → Rose fell rose) →
-        AtMoments clock (λ moments. Gave (joined_output lack tree world (given (course.Load leaves) moments drivers)) result (side a fell clock drivers) (side b rose clock after))
-    load_gave leaves whole front failed =
-        at_any clock _ (λ moments. joined_gave lack tree world (given (course.Load leaves) moments drivers) result (exit_of ran) _ _ none is
-        (run_gave tree world (given (course.Load leaves) moments drivers) made after arenas events s listed opened prepared calls a b fell rose clock clock ran
-        (subst (λ (es : List Event). IfOk ran (λ ending. Wrote (load_line leaves tree (length es)) arenas made after a b ending made_trace)) listed whole)
-        (subst (λ (es : List Event). AppendedFront a b (load_line leaves tree (length es) made_trace)) listed front) failed (never_asked clock ran)))
+-- ---- Moments
 
 -- moments as a clock's
 moments_are : (ms : List ℕ) (last : ℕ) → taken (length ms) (record { ahead = ms; last = last }) ≡ ms
@@ -190,73 +110,197 @@ gives rounds None ms are = record {
 }
 gives rounds (Some told) ms are = record { moments = told; is = are.given; told = refl }
 
--- how often rounds have asked a clock
-module _ (tree : Tree) (world : World) (rounds : ℕ) (clock asked : Option Moments) (s : RunState) (last : ℕ) (opened : s ≡ opening tree world) (zero_last : last ≡ 0) where
-  abbrev Asks : Moments → Ended → Type 0
-  Asks moments ending = (fault : Option RunFault) → ending ≡ ended fault → ClockLeft (asked_by (course.Rounds rounds) moments tree world fault) clock asked
+-- ---- Courses
 
-  abbrev Begun : Moments → ℕ → Type 0
-  Begun m begun = AreBegun tree world last (taken rounds m) s begun
+never_asked : (clock : Option Moments) (ending : Ended) (fault : Option RunFault) → ending ≡ ended fault → clock ≡ clock
+never_asked clock ending fault e = refl
 
-  faulted_asks : (c : Option Moments) (moments : Moments) → IfTold c (λ m. moments ≡ m) → (begun : ℕ) → asked ≡ option_map (moments_after begun) c → IfSome c (λ m. Begun m begun) → ClockLeft (UpToFault tree world (taken rounds moments)) c asked
-  faulted_asks None moments same begun is are = tt
-  faulted_asks (Some m) moments same begun is are = (
-    begun,
-    subst (λ (z : RunState). AreBegun tree world 0 (taken rounds moments) z begun) opened
-        (subst (λ (n : ℕ). AreBegun tree world n (taken rounds moments) s begun) zero_last
-        (subst (λ (k : Moments). Begun k begun) (sym same) are)),
-    is,
-  )
+-- runs before their first event
+module _ (of : Setup) (runs : Runs) (before after : List DriverState) (opened : state_in of before runs ≡ opening of.tree of.world) where
+  -- a trace of these events is that of the definition
+  trace_is : (events listed : List Event) → events ≡ listed → trace_of of before runs events ≡ run_over of.tree of.world listed
+  trace_is events listed e = ap (λ (es : List Event). trace_of of before runs es) e ∙ ap (λ (s : RunState). run_from of.tree of.world listed s) opened
 
-  -- what is so of what rounds ask, by how they have ended
-  asks : (ending : Ended) (moments : Moments) → IfTold clock (λ m. moments ≡ m) → (begun : ℕ) → asked ≡ option_map (moments_after begun) clock → IfSome clock (λ m. Begun m begun)
-      → (ending ≡ Done → asked ≡ option_map (moments_after rounds) clock) → Asks moments ending
-  asks Done moments same begun is are all = λ fault e. done_asks fault e (all refl)
-    where
-      done_asks : (fault : Option RunFault) → Done ≡ ended fault → asked ≡ option_map (moments_after rounds) clock → ClockLeft (asked_by (course.Rounds rounds) moments tree world fault) clock asked
-      done_asks None e p = p
-      done_asks (Some f) e p = let x : Done ≡ Faulted = e in cc
-  asks Faulted moments same begun is are all = λ fault e. fault_asks fault e
-    where
-      fault_asks : (fault : Option RunFault) → Faulted ≡ ended fault → ClockLeft (asked_by (course.Rounds rounds) moments tree world fault) clock asked
-      fault_asks None e = let x : Faulted ≡ Done = e in cc
-      fault_asks (Some f) e = faulted_asks clock moments same begun is are
+  -- a fact of the trace of these events is one of the output on a course
+  on_course : (course : Course) (moments : Moments) (events : List Event) (result : Exit) (a b : Option (List ℕ)) (fell rose : ℕ) (clock asked : Option Moments) → events ≡ (given course moments before).events of.world
+      → GivenBy of (arenas_of runs) (given course moments before) (trace_of of before runs events) after a b fell rose clock asked result
+      → Gave (course_output of (arenas_of runs) course moments before) result (side a fell clock before) (side b rose asked after)
+  on_course course moments events result a b fell rose clock asked e gave =
+      subst (λ (t : Trace). Gave (trace_output of (arenas_of runs) (given course moments before) t) result (side a fell clock before) (side b rose asked after))
+      (trace_is events ((given course moments before).events of.world) e) gave
 
--- rounds were run by a clock
-module _ (tree : Tree) (world : World) (drivers made after : List DriverState) (arenas : List (List Node)) (names : LineNames) (s : RunState) (rounds last : ℕ)
-    (named : names ≡ line_names tree world) (zero_last : last ≡ 0) (opened : s ≡ opening tree world)
-    (prepared : made ≡ roster_prepared drivers (instances_wanted tree world drivers))
-    (calls : (calls : List RunnerCall) (now : List DriverState) → roster_over arenas calls now ≡ calls_made world.runners (serving_places tree world drivers) calls now)
-    (a b : Option (List ℕ)) (fell rose : ℕ) (clock asked : Option Moments) (result : Exit) (lack : Option JoinFault) (none : lack ≡ None)
+  -- the events of the script were run, and their blocks were written
+  module _ (old new : Watched) (named : old.text ≡ block_text (line_names of.tree of.world)) where
+    abbrev Written : Trace → Type 0
+    Written t = Appended old.written new.written (text_of (line_names of.tree of.world) t.blocks)
+
+    lines_are : (blocks : List Block) → flat_map old.text blocks ≡ text_of (line_names of.tree of.world) blocks
+    lines_are blocks = ap (λ (text : Block → List ℕ). flat_map text blocks) named
+
+    -- whatever is answered, on a course that writes the lines of its blocks
+    wrote : (course : Course) (moments : Moments) (t : Trace) (clock asked : Option Moments) → (given course moments before).bytes of.tree of.world t ≡ text_of (line_names of.tree of.world) t.blocks → (result : Result Ended TextStop)
+        → Leaves result (arenas_of runs) (stage before old) (stage after new) t → (IsErrOf result text_stop.WriteFault → Rose old.faults new.faults)
+        → IfOk result (Asking of (arenas_of runs) (given course moments before) t after old.written new.written old.faults new.faults clock asked)
+        → GivenBy of (arenas_of runs) (given course moments before) t after old.written new.written old.faults new.faults clock asked (exit_of result)
+    wrote course moments t clock asked bytes (Ok ending) leaves failed asking =
+        ending_gave of (arenas_of runs) (given course moments before) t after old.written new.written old.faults new.faults clock asked ending leaves.whole.ends
+        (subst (Appended old.written new.written) (lines_are t.blocks ∙ sym bytes) leaves.whole.shown.written) leaves.whole.drivers asking
+    wrote course moments t clock asked bytes (Err stopped) leaves failed asking =
+        stopped_gave of (arenas_of runs) (given course moments before) t after old.written new.written old.faults new.faults clock asked stopped
+        (subst (AppendedFront old.written new.written) (lines_are t.blocks ∙ sym bytes) leaves.front) (λ e. failed (ap Err e))
+
+    never : (ran : Result Ended TextStop) (clock : Option Moments) → IfOk ran (λ ending. (fault : Option RunFault) → ending ≡ ended fault → clock ≡ clock)
+    never (Ok ending) clock = never_asked clock ending
+    never (Err stopped) clock = tt
+
+    pub script_gave : (events : List Event) → events ≡ of.world.events → (clock : Option Moments) (result : Result Ended TextStop)
+        → Leaves result (arenas_of runs) (stage before old) (stage after new) (trace_of of before runs events) → (IsErrOf result text_stop.WriteFault → Rose old.faults new.faults)
+        → AtMoments clock (λ moments. Gave (course_output of (arenas_of runs) course.Script moments before) (exit_of result) (side old.written old.faults clock before) (side new.written new.faults clock after))
+    script_gave events listed clock result leaves failed =
+        at_any clock (λ moments. Gave (course_output of (arenas_of runs) course.Script moments before) (exit_of result) (side old.written old.faults clock before) (side new.written new.faults clock after))
+        (λ moments. on_course course.Script moments events (exit_of result) old.written new.written old.faults new.faults clock clock listed
+        (wrote course.Script moments (trace_of of before runs events) clock clock refl result leaves failed (never result clock)))
+
+    -- rounds were run by a clock
+    module _ (rounds : ℕ) (clock asked : Option Moments) where
+      faulted_asks : (c : Option Moments) (moments : Moments) → IfTold c (λ m. moments ≡ m) → (begun : ℕ) → asked ≡ option_map (moments_after begun) c
+          → IfSome c (λ m. AreBegun of.tree of.world runs.last (taken rounds m) (state_in of before runs) begun) → ClockLeft (UpToFault of.tree of.world (taken rounds moments)) c asked
+      faulted_asks None moments same begun is are = tt
+      faulted_asks (Some m) moments same begun is are = (
+        begun,
+        subst (λ (z : RunState). AreBegun of.tree of.world 0 (taken rounds moments) z begun) opened
+            (subst (λ (n : ℕ). AreBegun of.tree of.world n (taken rounds moments) (state_in of before runs) begun) (ap (λ (s : RunState). s.last) opened)
+            (subst (λ (k : Moments). AreBegun of.tree of.world runs.last (taken rounds k) (state_in of before runs) begun) (sym same) are)),
+        is,
+      )
+
+      done_asks : (moments : Moments) (fault : Option RunFault) → Done ≡ ended fault → asked ≡ option_map (moments_after rounds) clock → ClockLeft (asked_by (course.Rounds rounds) moments of.tree of.world fault) clock asked
+      done_asks moments None e all = all
+      done_asks moments (Some f) e all = let x : Done ≡ Faulted = e in cc
+
+      fault_asks : (moments : Moments) (fault : Option RunFault) → Faulted ≡ ended fault → ClockLeft (UpToFault of.tree of.world (taken rounds moments)) clock asked → ClockLeft (asked_by (course.Rounds rounds) moments of.tree of.world fault) clock asked
+      fault_asks moments None e left = let x : Faulted ≡ Done = e in cc
+      fault_asks moments (Some f) e left = left
+
+      begun_of : (c : Option Moments) (ending : Ended) (begun : ℕ) → IfSome c (λ m. OnOk (Ok {TextStop} ending) (AreBegun of.tree of.world runs.last (taken rounds m) (state_in of before runs) begun))
+          → IfSome c (λ m. AreBegun of.tree of.world runs.last (taken rounds m) (state_in of before runs) begun)
+      begun_of None ending begun x = tt
+      begun_of (Some m) ending begun x = x
+
+      asks : (result : Result Ended TextStop) (moments : Moments) → IfTold clock (λ m. moments ≡ m) → WasAsked result of.tree of.world rounds runs.last (state_in of before runs) clock asked
+          → IfOk result (λ ending. (fault : Option RunFault) → ending ≡ ended fault → ClockLeft (asked_by (course.Rounds rounds) moments of.tree of.world fault) clock asked)
+      asks (Ok Done) moments same was = λ fault e. done_asks moments fault e (subst (λ (n : ℕ). asked ≡ option_map (moments_after n) clock) (was.all refl) was.asked)
+      asks (Ok Faulted) moments same was = λ fault e. fault_asks moments fault e (faulted_asks clock moments same was.begun was.asked (begun_of clock Faulted was.begun was.begin))
+      asks (Err stopped) moments same was = tt
+
+      listed : (ms : List ℕ) (moments : Moments) → ms ≡ taken rounds moments → live_events of.world runs.last ms ≡ live_events of.world 0 (taken rounds moments)
+      listed ms moments e = ap (λ (n : ℕ). live_events of.world n ms) (ap (λ (s : RunState). s.last) opened) ∙ ap (λ (l : List ℕ). live_events of.world 0 l) e
+
+      pub rounds_gave : (result : Result Ended TextStop) → (ms : List ℕ) × AreMoments rounds clock ms × Leaves result (arenas_of runs) (stage before old) (stage after new) (trace_of of before runs (live_events of.world runs.last ms))
+          → (IsErrOf result text_stop.WriteFault → Rose old.faults new.faults) → WasAsked result of.tree of.world rounds runs.last (state_in of before runs) clock asked
+          → AtMoments clock (λ moments. Gave (course_output of (arenas_of runs) (course.Rounds rounds) moments before) (exit_of result) (side old.written old.faults clock before) (side new.written new.faults asked after))
+      rounds_gave result ran failed was =
+          let m = gives rounds clock ran.0 ran.1 in
+          record {
+            moments = m.moments;
+            told = m.told;
+            holds = on_course (course.Rounds rounds) m.moments (live_events of.world runs.last ran.0) (exit_of result) old.written new.written old.faults new.faults clock asked (listed ran.0 m.moments m.is)
+                (wrote (course.Rounds rounds) m.moments (trace_of of before runs (live_events of.world runs.last ran.0)) clock asked refl result ran.2 failed (asks result m.moments m.told was));
+          }
+
+  -- a load was run
+  module _ (leaves : ℕ) (events : List Event) (listed : events ≡ of.world.events) (clock : Option Moments) where
+    abbrev load_trace : Trace
+    load_trace = trace_of of before runs events
+
+    load_gave : (result : Exit) (a b : Option (List ℕ)) (fell rose : ℕ)
+        → ((moments : Moments) → GivenBy of (arenas_of runs) (given (course.Load leaves) moments before) load_trace after a b fell rose clock clock result)
+        → AtMoments clock (λ moments. Gave (course_output of (arenas_of runs) (course.Load leaves) moments before) result (side a fell clock before) (side b rose clock after))
+    load_gave result a b fell rose gave =
+        at_any clock (λ moments. Gave (course_output of (arenas_of runs) (course.Load leaves) moments before) result (side a fell clock before) (side b rose clock after))
+        (λ moments. on_course (course.Load leaves) moments events result a b fell rose clock clock listed (gave moments))
+
+    line_is : load_line leaves of.tree (length events) load_trace ≡ load_line leaves of.tree (length of.world.events) load_trace
+    line_is = ap (λ (es : List Event). load_line leaves of.tree (length es) load_trace) listed
+
+    -- its line was written
+    pub line_gave : (ending : Ended) (line : List ℕ) (a b : Option (List ℕ)) (fell rose : ℕ) → IsLoad leaves of.tree (arenas_of runs) (length events) before after line ending load_trace → Appended a b line
+        → AtMoments clock (λ moments. Gave (course_output of (arenas_of runs) (course.Load leaves) moments before) (exit_of (Ok ending)) (side a fell clock before) (side b rose clock after))
+    line_gave ending line a b fell rose is written =
+        load_gave (exit_of (Ok ending)) a b fell rose
+        (λ moments. ending_gave of (arenas_of runs) (given (course.Load leaves) moments before) load_trace after a b fell rose clock clock ending is.ends
+        (subst (Appended a b) (is.told ∙ line_is) written) is.drivers (never_asked clock ending))
+
+    -- .. or a prefix of it
+    pub line_stopped : (stopped : TextStop) (ending : Ended) (line : List ℕ) (a b : Option (List ℕ)) (fell rose : ℕ) → IsLoad leaves of.tree (arenas_of runs) (length events) before after line ending load_trace → AppendedFront a b line
+        → (stopped ≡ text_stop.WriteFault → Rose fell rose)
+        → AtMoments clock (λ moments. Gave (course_output of (arenas_of runs) (course.Load leaves) moments before) (exit_of (Err stopped)) (side a fell clock before) (side b rose clock after))
+    line_stopped stopped ending line a b fell rose is front failed =
+        load_gave (exit_of (Err stopped)) a b fell rose
+        (λ moments. stopped_gave of (arenas_of runs) (given (course.Load leaves) moments before) load_trace after a b fell rose clock clock stopped
+        (subst (AppendedFront a b) (is.told ∙ line_is) front) failed)
+
+    -- .. or there was no memory for it
+    pub no_line : (a : Option (List ℕ)) (fell : ℕ)
+        → AtMoments clock (λ moments. Gave (course_output of (arenas_of runs) (course.Load leaves) moments before) exit.Memory (side a fell clock before) (side a fell clock after))
+    no_line a fell = load_gave exit.Memory a a fell fell (λ moments. AppendedFront-nothing a (load_line leaves of.tree (length of.world.events) load_trace))
+
+-- ---- Joins
+
+-- a leaf lacks what it needs, or memory ran out
+pub join_stopped : (tree : Tree) (world : World) (course : Course) (stopped : Stop JoinFault) (a b : Side) → IsUntouched a b → Joins (Err {Runs} stopped) (lack_of tree world a.drivers) → EndsAt (JoinGives tree world course) (Err (stopped_as refusal.Join stopped)) a b
+join_stopped tree world course (stop.Fault f) a b same lacks =
+    at_any a.clock (λ moments. Ends (JoinGives tree world course moments a.drivers) (Err (refusal.Join f)) a b)
+    (λ moments. (sym (ap (λ (lack : Option JoinFault). joined_output lack tree world (given course moments a.drivers)) lacks), same))
+join_stopped tree world course stop.NoMemory a b same lacks =
+    at_any a.clock (λ moments. Ends (JoinGives tree world course moments a.drivers) (Err refusal.NoMemory) a b) (λ moments. (tt, same))
+
+-- what is given says nothing of the drivers before
+gave_from : (bytes : List ℕ) (end : Exit) (left : List DriverState) (asked : Asked) (result : Exit) (a b : Side) (drivers : List DriverState) →
+    Gave (record { bytes = bytes; exit = end; drivers = Some left; asked = asked }) result a b →
+    Gave (record { bytes = bytes; exit = end; drivers = Some left; asked = asked }) result (side a.written a.faults a.clock drivers) b
+gave_from bytes end left asked exit.Done a b drivers x = x
+gave_from bytes end left asked exit.Words a b drivers x = x
+gave_from bytes end left asked exit.Tree a b drivers x = x
+gave_from bytes end left asked exit.World a b drivers x = x
+gave_from bytes end left asked exit.Fault a b drivers x = x
+gave_from bytes end left asked exit.Read a b drivers x = x
+gave_from bytes end left asked exit.Write a b drivers x = x
+gave_from bytes end left asked exit.Memory a b drivers x = x
+
+-- runs that were made for these drivers, which were then prepared
+module _ (of : Setup) (runs : Runs) (before made : List DriverState) (course : Course)
+    (lacks : lack_of of.tree of.world before ≡ None)
+    (prepared : made ≡ roster_prepared before (instances_wanted of.tree of.world before))
+    (calls : (calls : List RunnerCall) (now : List DriverState) → roster_over (arenas_of runs) calls now ≡ calls_made of.world.runners (serving_places of.tree of.world before) calls now)
   where
-    abbrev Answered : Moments → Type 0
-    Answered moments = Gave (joined_output lack tree world (given (course.Rounds rounds) moments drivers)) result (side a fell clock drivers) (side b rose asked after)
+    abbrev whole : Moments → Trace
+    whole moments = run_over of.tree of.world ((given course moments before).events of.world)
 
-    listed : (ms : List ℕ) (moments : Moments) → ms ≡ taken rounds moments → live_events world last ms ≡ live_events world 0 (taken rounds moments)
-    listed ms moments e = ap (λ (n : ℕ). live_events world n ms) zero_last ∙ ap (λ (l : List ℕ). live_events world 0 l) e
+    drivers_are : (moments : Moments) → roster_over (arenas_of runs) (whole moments).calls made ≡ roster_after_run of.tree of.world before (whole moments).calls
+    drivers_are moments =
+        calls (whole moments).calls made
+        ∙ ap (λ (ds : List DriverState). calls_made of.world.runners (serving_places of.tree of.world before) (whole moments).calls ds) prepared
 
-    pub rounds_gave : (ran : Result Ended TextStop) → result ≡ exit_of ran →
-        (ms : List ℕ) × AreMoments rounds clock ms × IfOk ran (λ ending. IsRun arenas names made after a b ending (run_from tree world (live_events world last ms) s)) →
-        (ms : List ℕ) × AreMoments rounds clock ms × AppendedFront a b (text_of names (run_from tree world (live_events world last ms) s).blocks) →
-        (IsErrOf ran stop.WriteFault → Rose fell rose) →
-        (begun : ℕ) × (begun ≤ rounds) × (asked ≡ option_map (moments_after begun) clock) × IfSome clock (λ m. OnOk ran (AreBegun tree world last (taken rounds m) s begun)) →
-        (ran ≡ Ok Done → asked ≡ option_map (moments_after rounds) clock) → AtMoments clock Answered
-    rounds_gave (Ok ending) is whole front failed begun all =
-        let m = gives rounds clock whole.0 whole.1 in
-        record {
-          moments = m.moments;
-          told = m.told;
-          holds = joined_gave lack tree world (given (course.Rounds rounds) m.moments drivers) result (exit_of (Ok ending)) _ _ none is
-              (ending_gave tree world (given (course.Rounds rounds) m.moments drivers) made after arenas (live_events world last whole.0) s (listed whole.0 m.moments m.is) opened prepared calls a b fell rose clock asked ending
-              (wrote_lines tree world names named made after arenas (run_from tree world (live_events world last whole.0) s) a b ending whole.2)
-              (asks tree world rounds clock asked s last opened zero_last ending m.moments m.told begun.0 begun.2 begun.3 (λ e. all (ap Ok e))));
-        }
-    rounds_gave (Err stopped) is whole front failed begun all =
-        let m = gives rounds clock front.0 front.1 in
-        record {
-          moments = m.moments;
-          told = m.told;
-          holds = joined_gave lack tree world (given (course.Rounds rounds) m.moments drivers) result (exit_of (Err stopped)) _ _ none is
-              (stopped_gave tree world (given (course.Rounds rounds) m.moments drivers) made after arenas (live_events world last front.0) s (listed front.0 m.moments m.is) opened prepared calls a b fell rose clock asked stopped
-              (front_of_lines tree world names named made after arenas (run_from tree world (live_events world last front.0) s) a b front.2) (λ e. failed (ap Err e)));
-        }
+    output_is : (moments : Moments) → course_output of (arenas_of runs) course moments made ≡ joined_output (lack_of of.tree of.world before) of.tree of.world (given course moments before)
+    output_is moments =
+        ap (λ (ds : List DriverState). record {
+          bytes = (given course moments before).bytes of.tree of.world (whole moments);
+          exit = run_exit (whole moments).fault;
+          drivers = Some ds;
+          asked = (given course moments before).asked of.tree of.world (whole moments).fault;
+        }) (drivers_are moments)
+        ∙ sym (ap (λ (lack : Option JoinFault). joined_output lack of.tree of.world (given course moments before)) lacks)
+
+    pub joined_ends : (result : Exit) (a b : Side) → AtMoments a.clock (λ moments. Gave (course_output of (arenas_of runs) course moments made) result (side a.written a.faults a.clock made) b)
+        → EndsAt (JoinGives of.tree of.world course) (Ok result) (side a.written a.faults a.clock before) b
+    joined_ends result a b x = record {
+      moments = x.moments;
+      told = x.told;
+      holds = (
+        joined_output (lack_of of.tree of.world before) of.tree of.world (given course x.moments before),
+        refl,
+        subst (λ (o : Output). Gave o result (side a.written a.faults a.clock before) b) (output_is x.moments)
+            (gave_from _ _ _ _ result (side a.written a.faults a.clock made) b before x.holds),
+      );
+    }

@@ -10,22 +10,29 @@ use Rattle.bt_output.specs.declared.course.Course.{Course}
 use Rattle.bt_output.specs.declared.course.Course.TheVariants as course
 use Rattle.bt_command_line.specs.declared.exit.Exit.{Exit}
 use Rattle.bt_command_line.specs.declared.exit.Exit.TheVariants as exit
-use Rattle.bt_refusals.specs.declared.tree_file.TreeFault.{TreeFault}
+use Rattle.bt_output.specs.declared.refusal.File.{File}
+use Rattle.bt_output.specs.declared.refusal.File.TheVariants as file
+use Rattle.bt_output.specs.declared.refusal.Refusal.{Refusal}
+use Rattle.bt_output.specs.declared.refusal.Refusal.TheVariants as refusal
+use Rattle.bt_refusals.specs.declared.fault.TreeFault.{TreeFault}
 use Rattle.bt_refusals.specs.Refusals.{join_words, tree_words, world_words}
-use Rattle.bt_refusals.specs.TreeFiles.{TreeReads}
-use Rattle.bt_command_line.specs.Words.{Command, Tick, Live, Load, Check, File, TreeFile, WorldFile}
+use Rattle.bt_output.specs.TreeFiles.{TreeReads}
+use Rattle.bt_command_line.specs.Words.{Command, Tick, Live, Load, Check}
 use Rattle.bt_model.specs.declared.fault.RunFault.{RunFault}
 use Rattle.bt_model.specs.declared.term.Tree.{Tree}
 use Rattle.bt_model.specs.declared.world.Event.{Event}
 use Rattle.bt_model.specs.declared.world.World.{World}
 use Rattle.bt_model.specs.declared.world_fault.WorldFault.{WorldFault}
 use Rattle.bt_model.specs.Drivers.{DriverState}
+use Rattle.bt_model.specs.Limits.{most_file_bytes}
 use Rattle.bt_model.specs.Lines.{line_names}
 use Rattle.bt_model.specs.PrintedTree.{tree_lines}
 use Rattle.bt_model.specs.Run.{Trace, run_over}
 use Rattle.bt_model.specs.Terms.{leaf_ids, node_count, work_of}
 use Rattle.bt_model.specs.WorldFile.{ReadsWorld}
 use Rattle.bt_outside.specs.Moments.{Moments}
+use Rattle.bt_script.specs.declared.stop.Stop.{Stop}
+use Rattle.bt_script.specs.declared.stop.Stop.TheVariants as stop
 use Rattle.bt_trace.specs.Rounds.{live_events, taken}
 use Rattle.bt_trace.specs.Texts.{text_of}
 
@@ -35,7 +42,7 @@ pub data Asked : Type 0 where
   Times : (times : ℕ) → Asked
   UpToFault : (tree : Tree) (world : World) (moments : List ℕ) → Asked
 
--- the bytes that are written, the exit, the drivers behind the run, where a tree was run, and how often the clock was
+-- the bytes that are written, the exit, the drivers after the run, where a tree was run, and how often the clock was
 -- asked
 pub record Output : Type 0 where
   pub bytes : List ℕ
@@ -43,37 +50,53 @@ pub record Output : Type 0 where
   pub drivers : Option (List DriverState)
   pub asked : Asked
 
--- a refusal is one line, and no tree was run
+-- ---- Refusals
+
+-- one line is written, and no tree was run
+abbrev pub line_of : List ℕ → Exit → Output
+line_of line exit = record { bytes = line; exit = exit; drivers = None; asked = Never }
+
+-- a refusal is one line
 abbrev pub refused : List ℕ → Exit → Output
-refused line exit = record { bytes = line ++ codes "\n"; exit = exit; drivers = None; asked = Never }
+refused line exit = line_of (line ++ codes "\n") exit
 
 abbrev pub words_refused : Output
 words_refused = refused (codes "refused words") exit.Words
 
+-- a file that could not be read
+abbrev pub unread : File → Output
+unread file.Tree = refused (codes "refused read tree") exit.Read
+unread file.World = refused (codes "refused read world") exit.Read
+
+-- a file of too many bytes
+abbrev pub too_long : File → Output
+too_long file.Tree = refused (codes "refused tree TooLong") exit.Tree
+too_long file.World = refused (codes "refused world TooLong") exit.World
+
 abbrev pub tree_refused : TreeFault → Output
 tree_refused fault = refused (codes "refused tree " ++ tree_words fault) exit.Tree
 
-abbrev pub tree_too_long : Output
-tree_too_long = refused (codes "refused tree TooLong") exit.Tree
-
 abbrev pub world_refused : WorldFault → Output
 world_refused fault = refused (codes "refused world " ++ world_words fault) exit.World
-
-abbrev pub world_too_long : Output
-world_too_long = refused (codes "refused world TooLong") exit.World
 
 -- a leaf lacks a row, or a driver for its row
 abbrev pub join_refused : JoinFault → Output
 join_refused fault = refused (codes "refused world " ++ join_words fault) exit.World
 
--- a file that could not be read
-abbrev pub unread : File → Output
-unread TreeFile = refused (codes "refused read tree") exit.Read
-unread WorldFile = refused (codes "refused read world") exit.Read
+-- the output of a refusal; out of memory there is none
+abbrev pub refused_as : Refusal → Option Output
+refused_as refusal.Words = Some words_refused
+refused_as (refusal.Unread which) = Some (unread which)
+refused_as (refusal.TooLong which) = Some (too_long which)
+refused_as (refusal.Tree fault) = Some (tree_refused fault)
+refused_as (refusal.World fault) = Some (world_refused fault)
+refused_as (refusal.Join fault) = Some (join_refused fault)
+refused_as refusal.NoMemory = None
 
--- a file of more bytes is too long
-abbrev pub is_too_long : List ℕ → Bool
-is_too_long bytes = nat_lt 1048576 (length bytes)
+-- the refusal of a call that stopped, by what its fault refuses
+abbrev pub stopped_as : {F : Type 0} → (F → Refusal) → Stop F → Refusal
+stopped_as of (stop.Fault fault) = of fault
+stopped_as of stop.NoMemory = refusal.NoMemory
 
 -- ---- Checks
 
@@ -145,6 +168,11 @@ joined_output (Some fault) tree world g = join_refused fault
 abbrev pub lack_of : Tree → World → List DriverState → Option JoinFault
 lack_of tree world drivers = first_lack world.rows drivers (leaf_ids tree.term)
 
+-- the output of a tree and a world on this course, at these moments and with these drivers
+abbrev pub JoinGives : Tree → World → Course → Moments → List DriverState → Output → Type 0
+JoinGives tree world course moments drivers output =
+    output ≡ joined_output (lack_of tree world drivers) tree world (given course moments drivers)
+
 -- a tree with what the world file reads as
 abbrev pub world_output : Result World WorldFault → Tree → Given → Output
 world_output (Ok world) tree g = joined_output (lack_of tree world g.drivers) tree world g
@@ -163,6 +191,10 @@ TreeGives (Err fault) world g output = output ≡ tree_refused fault
 
 -- ---- Commands
 
+-- a file of more bytes is too long
+abbrev pub is_too_long : List ℕ → Bool
+is_too_long bytes = nat_lt most_file_bytes (length bytes)
+
 -- the output of a file that must not be too long, which comes before all else of it
 abbrev pub OrTooLong : List ℕ → Output → Output → Type 0 → Type 0
 OrTooLong bytes refusal output Given = MatchBool (is_too_long bytes) (output ≡ refusal) Given
@@ -170,8 +202,8 @@ OrTooLong bytes refusal output Given = MatchBool (is_too_long bytes) (output ≡
 -- the output of a run over the bytes of both files, with the main tree that is asked for, if one is
 abbrev pub RunGives : Option (List ℕ) → List ℕ → List ℕ → Given → Output → Type 0
 RunGives main tree world g output =
-    OrTooLong tree tree_too_long output
-    (OrTooLong world world_too_long output
+    OrTooLong tree (too_long file.Tree) output
+    (OrTooLong world (too_long file.World) output
     ((read : Result Tree TreeFault) × TreeReads main tree read × TreeGives read world g output))
 
 -- what a tree file, a world file, moments and drivers have for outputs
@@ -185,29 +217,36 @@ RunsOn course main = λ tree world moments drivers. RunGives main tree world (gi
 -- the output of `check` over the bytes of its file
 abbrev pub CheckGives : Option (List ℕ) → List ℕ → Output → Type 0
 CheckGives main tree output =
-    OrTooLong tree tree_too_long output
+    OrTooLong tree (too_long file.Tree) output
     ((read : Result Tree TreeFault) × TreeReads main tree read × (output ≡ check_output read))
 
--- the output of a command over these bytes of the files that it names, these moments and these drivers; a load makes both
--- of its files
-abbrev pub FilesGive : Command → Giving
-FilesGive (Tick _ _ main) = RunsOn course.Script main
-FilesGive (Live _ _ rounds main) = RunsOn (course.Rounds rounds) main
-FilesGive (Load leaves) = λ tree world. RunsOn (course.Load leaves) None (tree_text leaves) (world_text leaves)
-FilesGive (Check _ main) = λ tree world moments drivers output. CheckGives main tree output
+-- what a command is about: the files that it names, and what files, moments and drivers have for its output
+pub record Job : Type 1 where
+  pub tree : Option (List ℕ)
+  pub world : Option (List ℕ)
+  pub gives : Giving
+
+-- the job of each command; a load makes both of its files
+abbrev pub job_of : Command → Job
+job_of (Tick tree world main) = record { tree = Some tree; world = Some world; gives = RunsOn course.Script main }
+job_of (Live tree world rounds main) = record { tree = Some tree; world = Some world; gives = RunsOn (course.Rounds rounds) main }
+job_of (Load leaves) = record {
+  tree = None;
+  world = None;
+  gives = λ tree world. RunsOn (course.Load leaves) None (tree_text leaves) (world_text leaves);
+}
+job_of (Check tree main) = record { tree = Some tree; world = None; gives = λ tree world moments drivers. CheckGives main tree }
 
 -- the files that a command names
 abbrev pub tree_name : Command → Option (List ℕ)
-tree_name (Tick tree world main) = Some tree
-tree_name (Live tree world rounds main) = Some tree
-tree_name (Load leaves) = None
-tree_name (Check tree main) = Some tree
+tree_name command = (job_of command).tree
 
 abbrev pub world_name : Command → Option (List ℕ)
-world_name (Tick tree world main) = Some world
-world_name (Live tree world rounds main) = Some world
-world_name (Load leaves) = None
-world_name (Check tree main) = None
+world_name command = (job_of command).world
+
+-- the output of a command over these bytes of the files that it names, these moments and these drivers
+abbrev pub FilesGive : Command → Giving
+FilesGive command = (job_of command).gives
 
 -- what a file holds that may be named
 abbrev pub held_by : (List ℕ → List ℕ) → Option (List ℕ) → List ℕ

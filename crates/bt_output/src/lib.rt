@@ -1,9 +1,14 @@
-//! The answer to the words of a command line, over a shelf of files, a sink, a clock and drivers.
+//! A command of the command line, over a shelf of files, a sink, a clock and drivers: its files are read
+//! and parsed, a tree is joined with a world and run, and its output is written.
 #![tactic(auto)]
 
-mod answer;
+mod command;
 mod course;
 mod join;
+mod outside;
 mod printing;
+mod reading;
+mod refusal;
+mod tree_file;
 
-pub use answer::answer_words;
+pub use command::run_words;

@@ -1,14 +1,12 @@
-ghost use Rattle.std.specs.Prelude.{◌≡◌, ◌<◌, ◌≤◌, ◌^◌, ◌++◌, IfOk, OnOk, IsErrOf, List, Option};
+ghost use Rattle.std.specs.Prelude.{◌≡◌, ◌<◌, ◌≤◌, ◌^◌, ◌++◌, IfOk, OnOk, IsErrOf, Ok};
 ghost use Rattle.std.specs.List.{concat};
-ghost use Rattle.bt_output.specs.Answers.{AreUncalled, Gave, side};
+ghost use Rattle.bt_output.specs.Answers.{Printed};
 ghost use Rattle.bt_output.specs.Output.{check_output, count_line};
-ghost use Rattle.bt_model.specs.Drivers.{DriverState};
 ghost use Rattle.bt_model.specs.PrintedTree.{tree_lines};
 ghost use Rattle.bt_model.specs.Terms.{node_count};
 ghost use Rattle.bt_model.specs.Trees.{IsValid};
 ghost use Rattle.bt_outside.specs.Appending.{Appended, AppendedFront};
 ghost use Rattle.bt_outside.specs.Counts.{Rose};
-ghost use Rattle.bt_outside.specs.Moments.{Moments};
 
 use bt_build::work;
 use bt_command_line::Exit;
@@ -18,7 +16,7 @@ use bt_script::NoMemory;
 use bt_text::{TextStop, put_bytes, put_number, write_line, write_tree};
 use std::alloc::Global;
 
-// The number of nodes of a term.
+/// The number of nodes of a term.
 fn nodes_of(term: &Term) -> u32
     requires { node_count term.now < 2 ^ 32 }
     ensures { result ≡ node_count term.now }
@@ -30,7 +28,7 @@ fn nodes_of(term: &Term) -> u32
     count
 }
 
-// The last line of a check.
+/// The last line of a check.
 fn count_line(alloc: Global, tree: &Tree) -> Result<Vec<u8>, NoMemory>
     requires { IsValid tree.now }
     ensures { IfOk result (λ line. line.items ≡ count_line tree.now) }
@@ -44,7 +42,8 @@ fn count_line(alloc: Global, tree: &Tree) -> Result<Vec<u8>, NoMemory>
     Ok(line)
 }
 
-// Writes the tree and then its counts.
+/// Writes the tree and then its counts. `TextStop::WriteFault` comes only where the sink's count of
+/// failures rose in this call.
 #[tactic(auto, using(bt_outside::proofs::Appends::appending))]
 fn write_check<K: Sink>(alloc: Global, tree: &Tree, out: &mut K) -> Result<(), TextStop>
     requires { IsValid tree.now }
@@ -64,8 +63,8 @@ fn write_check<K: Sink>(alloc: Global, tree: &Tree, out: &mut K) -> Result<(), T
 /// Prints the tree as it was read.
 pub fn print_tree<K: Sink>(alloc: Global, tree: &Tree, out: &mut K) -> Exit
     requires { IsValid tree.now }
-    ensures gave { (clock : Option Moments) (old new : List DriverState) → AreUncalled old new → Gave (check_output (Ok tree.now)) result
-        (side (K.written out.old) (K.faults out.old) clock old) (side (K.written out.new) (K.faults out.new) clock new) }
+    ensures printed { Printed (check_output (Ok tree.now)) result
+        (K.written out.old) (K.faults out.old) (K.written out.new) (K.faults out.new) }
     ensures count { K.faults out.old ≤ K.faults out.new }
 {
     match write_check(alloc, tree, out) {

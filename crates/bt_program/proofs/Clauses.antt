@@ -7,13 +7,15 @@ use Rattle.bt_elements.specs.Faults.{ElementFaultOf}
 use Rattle.bt_output.specs.declared.course.Course.TheVariants as course
 use Rattle.bt_command_line.specs.declared.exit.Exit.{Exit}
 use Rattle.bt_command_line.specs.declared.exit.Exit.TheVariants as exit
-use Rattle.bt_refusals.specs.declared.tree_file.TreeFault.{TreeFault}
-use Rattle.bt_refusals.specs.declared.tree_file.TreeFault.TheVariants as fault
+use Rattle.bt_refusals.specs.declared.fault.TreeFault.{TreeFault}
+use Rattle.bt_refusals.specs.declared.fault.TreeFault.TheVariants as fault
 use Rattle.bt_output.specs.Answers.{Answers, AreUncalled, AtMoments, CommandAnswered, DriversLeft, FilesAnswered, Gave, IfTold, IsWhole, ReadFailed, Side, ToldIfNamed}
 use Rattle.bt_program.specs.Headline.{EachOutput, IsGiven, UnreadLine, WholeOutput, moments_for}
-use Rattle.bt_output.specs.Output.{CheckGives, CommandGives, FilesGive, Given, Output, RunGives, TreeGives, WorldGives, check_output, given, held_by, is_too_long, joined_output, lack_of, run_exit, tree_name, tree_refused, tree_too_long, unread, words_refused, world_name, world_output, world_too_long}
-use Rattle.bt_refusals.specs.TreeFiles.{TreeReads, element_read}
-use Rattle.bt_command_line.specs.Words.{Command, File, Tick, Live, Load, Check, TreeFile, WorldFile}
+use Rattle.bt_output.specs.Output.{CheckGives, CommandGives, FilesGive, Given, Output, RunGives, TreeGives, WorldGives, check_output, given, held_by, is_too_long, joined_output, lack_of, run_exit, tree_name, too_long, tree_refused, unread, words_refused, world_name, world_output}
+use Rattle.bt_output.specs.TreeFiles.{TreeReads, element_read}
+use Rattle.bt_command_line.specs.Words.{Command, Tick, Live, Load, Check}
+use Rattle.bt_output.specs.declared.refusal.File.{File}
+use Rattle.bt_output.specs.declared.refusal.File.TheVariants as file
 use Rattle.bt_arena.specs.declared.join_fault.JoinFault.{JoinFault}
 use Rattle.bt_load.specs.Texts.{tree_text, world_text}
 use Rattle.bt_model.specs.declared.fault.RunFault.{RunFault}
@@ -58,12 +60,12 @@ one_reading one (Err f) world g x y p q = p ∙ sym q
 
 one_run : OneReading → (main : Option (List ℕ)) (tree world : List ℕ) (g : Given) (x y : Output) → RunGives main tree world g x → RunGives main tree world g y → x ≡ y
 one_run one main tree world g x y p q =
-    one_if (is_too_long tree) x y tree_too_long _ _ p q (λ p1 q1. one_if (is_too_long world) x y world_too_long _ _ p1 q1
+    one_if (is_too_long tree) x y (too_long file.Tree) _ _ p q (λ p1 q1. one_if (is_too_long world) x y (too_long file.World) _ _ p1 q1
     (λ p2 q2. one_reading one q2.0 world g x y (subst (λ (r : Result Tree TreeFault). TreeGives r world g x) (one_tree one main tree p2.0 q2.0 p2.1 q2.1) p2.2) q2.2))
 
 one_check : OneReading → (main : Option (List ℕ)) (tree : List ℕ) (x y : Output) → CheckGives main tree x → CheckGives main tree y → x ≡ y
 one_check one main tree x y p q =
-    one_if (is_too_long tree) x y tree_too_long _ _ p q (λ p1 q1. p1.2 ∙ ap check_output (one_tree one main tree p1.0 q1.0 p1.1 q1.1) ∙ sym q1.2)
+    one_if (is_too_long tree) x y (too_long file.Tree) _ _ p q (λ p1 q1. p1.2 ∙ ap check_output (one_tree one main tree p1.0 q1.0 p1.1 q1.1) ∙ sym q1.2)
 
 -- the files of a command have one output
 one_files : OneReading → (c : Command) (tree world : List ℕ) (moments : Moments) (drivers : List DriverState) (x y : Output) → FilesGive c tree world moments drivers x → FilesGive c tree world moments drivers y → x ≡ y
@@ -234,15 +236,15 @@ exit_of_long false o z P x p k = k p
 
 exit_of_run : (main : Option (List ℕ)) (tree world : List ℕ) (g : Given) (o : Output) → RunGives main tree world g o → IsOfFiles o.exit
 exit_of_run main tree world g o p =
-    exit_of_long (is_too_long tree) o tree_too_long _ tt p
-    (λ p1. exit_of_long (is_too_long world) o world_too_long _ tt p1 (λ p2. exit_of_tree p2.0 world g o p2.2))
+    exit_of_long (is_too_long tree) o (too_long file.Tree) _ tt p
+    (λ p1. exit_of_long (is_too_long world) o (too_long file.World) _ tt p1 (λ p2. exit_of_tree p2.0 world g o p2.2))
 
 exit_of_files : (c : Command) (tree world : List ℕ) (moments : Moments) (drivers : List DriverState) (o : Output) → FilesGive c tree world moments drivers o → IsOfFiles o.exit
 exit_of_files (Tick t w main) tree world moments drivers o p = exit_of_run main tree world (given course.Script moments drivers) o p
 exit_of_files (Live t w rounds main) tree world moments drivers o p = exit_of_run main tree world (given (course.Rounds rounds) moments drivers) o p
 exit_of_files (Load leaves) tree world moments drivers o p = exit_of_run None (tree_text leaves) (world_text leaves) (given (course.Load leaves) moments drivers) o p
 exit_of_files (Check t main) tree world moments drivers o p =
-    exit_of_long (is_too_long tree) o tree_too_long _ tt p (λ p1. same_exit o (check_output p1.0) p1.2 (exit_of_check p1.0))
+    exit_of_long (is_too_long tree) o (too_long file.Tree) _ tt p (λ p1. same_exit o (check_output p1.0) p1.2 (exit_of_check p1.0))
 
 -- the bytes of the answer are those that the shelf tells
 told_files : (h : List ℕ → List ℕ) (c : Command) (tree world : List ℕ) (moments : Moments) (drivers : List DriverState) (o : Output) → ToldIfNamed (Some h) (tree_name c) (λ file. tree ≡ file) → ToldIfNamed (Some h) (world_name c) (λ file. world ≡ file)
@@ -256,16 +258,16 @@ told_files h (Check t main) tree world moments drivers o is_tree is_world p = su
 
 -- no tree was run where a file was not read
 unread_left : (f : File) (a b : Side) → DriversLeft (unread f).drivers a.drivers b.drivers → AreUncalled a.drivers b.drivers
-unread_left TreeFile a b p = p
-unread_left WorldFile a b p = p
+unread_left file.Tree a b p = p
+unread_left file.World a b p = p
 
 not_given : (f : File) → IsGiven (unread f).exit → ⊥
-not_given TreeFile x = x
-not_given WorldFile x = x
+not_given file.Tree x = x
+not_given file.World x = x
 
 not_words : (f : File) → (unread f).exit ≡ exit.Words → ⊥
-not_words TreeFile e = cc
-not_words WorldFile e = cc
+not_words file.Tree e = cc
+not_words file.World e = cc
 
 -- what was given whole, and what a failed read gave
 module _ (c : Command) (result : Exit) (shelf : Type 0) (IsUnread : File → Type 0) (a b : Side) where

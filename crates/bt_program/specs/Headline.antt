@@ -4,7 +4,8 @@ use Rattle.bt_output.specs.Answers.{AreUncalled, IfTold, IsWhole, Side, no_momen
 use Rattle.bt_output.specs.Output.{CommandGives, Output, unread}
 use Rattle.bt_command_line.specs.declared.exit.Exit.{Exit}
 use Rattle.bt_command_line.specs.declared.exit.Exit.TheVariants as exit
-use Rattle.bt_command_line.specs.Words.{Command, File, Live}
+use Rattle.bt_command_line.specs.Words.{Command, Live}
+use Rattle.bt_output.specs.declared.refusal.File.{File}
 use Rattle.bt_outside.specs.Appending.{Appended}
 use Rattle.bt_outside.specs.Moments.{Moments}
 

@@ -1,23 +1,26 @@
 ghost use Rattle.std.specs.Prelude.{◌≡◌, ◌≤◌, ◌⊎◌, None, map};
-ghost use Rattle.bt_output.specs.Answers.{CommandAnswered, Gave, IsWhole, ReadFailed, WordsUnread, side};
+ghost use Rattle.bt_output.specs.Answers.{CommandAnswered, Gave, IsWhole, ReadFailed, side};
 ghost use Rattle.bt_output.specs.Output.{words_refused};
+ghost use Rattle.bt_output.specs.Reads.{WordsUnread};
 ghost use Rattle.bt_loop.specs.Steps.{IsSameRoster};
 ghost use Rattle.bt_program.specs.Headline.{EachOutput, IsGiven, UnreadLine, WholeOutput};
 ghost use Rattle.bt_model.specs.Drivers.{NothingHeld};
 ghost use Rattle.bt_outside.specs.Counts.{Rose};
 ghost use Rattle.bt_command_line.specs.Words.{command_of};
 
+use crate::boxes::Boxes;
 use bt_command_line::Exit;
 use bt_driver::Driver;
 use bt_elements::{element_or_fault, one_element};
-use bt_output::answer_words;
+use bt_output::run_words;
 use bt_outside::{Clock, Shelf, Sink};
 use bt_script::Name;
 use bt_world::laws::worlds_read_one_way;
 use std::alloc::Global;
+use std::mem;
 
-/// Answers the words of the command line: runs the command that they are, over the files of the
-/// shelf, the moments of the clock and the drivers of the roster, and writes its output line by line to the sink.
+/// Runs the command that the words of a command line are, over the files of the shelf, the moments of the
+/// clock and the drivers of the roster, and writes its output line by line to the sink.
 pub fn bt<S: Shelf, K: Sink, C: Clock>(
     alloc: Global,
     words: &[Name],
@@ -35,13 +38,13 @@ pub fn bt<S: Shelf, K: Sink, C: Clock>(
         (side (K.written out.new) (K.faults out.new) (C.moments clock.new) (map (λ b. state b) roster.new.items)) }
 
     // At Done, Words, Tree, World and Fault the whole output of the definition was written, this is
-    // its exit, and the drivers are those behind its run; where no tree was run, none was called. The
+    // its exit, and the drivers are those after its run; where no tree was run, none was called. The
     // clock was asked once a round by a run by the clock that is done, and by no other command.
     ensures whole { IsGiven result → WholeOutput (S.holds shelf.old) (command_of words.now) result
         (side (K.written out.old) (K.faults out.old) (C.moments clock.old) (map (λ b. state b) roster.old.items))
         (side (K.written out.new) (K.faults out.new) (C.moments clock.new) (map (λ b. state b) roster.new.items)) }
 
-    // The output was given, whole or a front of it, or a read failed.
+    // The output was given, whole or a prefix of it, or a read failed.
     ensures each { let old = side (K.written out.old) (K.faults out.old) (C.moments clock.old) (map (λ b. state b) roster.old.items) in
         let new = side (K.written out.new) (K.faults out.new) (C.moments clock.new) (map (λ b. state b) roster.new.items) in
         EachOutput (S.holds shelf.old) (command_of words.now) old (λ o. Gave o result old new
@@ -80,5 +83,10 @@ pub fn bt<S: Shelf, K: Sink, C: Clock>(
     one_element();
     element_or_fault();
     worlds_read_one_way();
-    answer_words(alloc, words, shelf, out, clock, roster)
+    let mut boxes = Boxes {
+        drivers: mem::replace(roster, Vec::new(alloc)),
+    };
+    let exit = run_words(alloc, words, shelf, out, clock, &mut boxes);
+    *roster = boxes.drivers;
+    exit
 }

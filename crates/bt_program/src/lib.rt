@@ -1,7 +1,8 @@
-//! The program over the outside that it is lent: `bt` answers the words of a command line, and each of
+//! The program over the outside that it is lent: `bt` runs the command that words are, and each of
 //! its clauses is a promise that the program makes.
 #![tactic(auto)]
 
+mod boxes;
 mod headline;
 mod roster;
 

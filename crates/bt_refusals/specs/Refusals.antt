@@ -6,8 +6,8 @@ use Rattle.bt_build.specs.declared.fault.BuildFault.{BuildFault}
 use Rattle.bt_build.specs.declared.fault.BuildFault.TheVariants as build
 use Rattle.bt_elements.specs.declared.element.ElementFault.{ElementFault}
 use Rattle.bt_elements.specs.declared.element.ElementFault.TheVariants as element
-use Rattle.bt_refusals.specs.declared.tree_file.TreeFault.{TreeFault}
-use Rattle.bt_refusals.specs.declared.tree_file.TreeFault.TheVariants as fault
+use Rattle.bt_refusals.specs.declared.fault.TreeFault.{TreeFault}
+use Rattle.bt_refusals.specs.declared.fault.TreeFault.TheVariants as fault
 use Rattle.bt_manifest.specs.declared.fault.ManifestFault.{ManifestFault}
 use Rattle.bt_manifest.specs.declared.fault.ManifestFault.TheVariants as manifest
 use Rattle.bt_model.specs.Lines.{quoted}
@@ -19,11 +19,11 @@ use Rattle.bt_model.specs.declared.world_fault.WorldKind.TheVariants as world
 use Rattle.bt_script.specs.declared.fault.ScriptFault.{ScriptFault}
 use Rattle.bt_script.specs.declared.fault.ScriptFault.TheVariants as script
 
--- a fault's name with a number behind it: a place, a uid or a line
+-- a fault's name and a number after it: a place, a uid or a line
 abbrev pub numbered : List ℕ → ℕ → List ℕ
 numbered name number = name ++ codes " " ++ decimal number
 
--- a fault's name with an ID behind it
+-- a fault's name and an ID after it
 abbrev pub named : List ℕ → List ℕ → List ℕ
 named name id = name ++ codes " " ++ quoted id
 

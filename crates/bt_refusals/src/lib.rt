@@ -1,8 +1,8 @@
-//! What a tree file reads as, and the line for each refusal of a tree, a world, or their join.
+//! The line for each refusal of a tree, a world, or their join.
 #![tactic(auto)]
 
+mod fault;
 mod refusal;
-mod tree_file;
 
+pub use fault::TreeFault;
 pub use refusal::{join_refusal, tree_refusal, world_refusal};
-pub use tree_file::{TreeFault, read_tree};

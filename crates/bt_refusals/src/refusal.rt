@@ -1,7 +1,7 @@
 ghost use Rattle.std.specs.Prelude.{◌≡◌, ◌++◌, IfOk, OnOk, codes, decimal};
 ghost use Rattle.bt_refusals.specs.Refusals.{build_words, driver_word, element_words, join_words, kind_word, manifest_words, named, numbered, script_words, tree_words, world_words};
 
-use crate::tree_file::TreeFault;
+use crate::fault::TreeFault;
 use bt_arena::JoinFault;
 use bt_build::BuildFault;
 use bt_elements::ElementFault;
@@ -11,7 +11,7 @@ use bt_script::{Name, NoMemory, ScriptFault};
 use bt_text::{put_bytes, put_number, put_quoted};
 use std::alloc::Global;
 
-// A fault's name with a number behind it.
+/// Puts a fault's name and a number after it.
 fn put_numbered(out: &mut Vec<u8>, name: &[u8], number: u32) -> Result<(), NoMemory>
     ensures { OnOk result (out.new.items ≡ out.old.items ++ numbered name.now number) }
 {
@@ -20,7 +20,7 @@ fn put_numbered(out: &mut Vec<u8>, name: &[u8], number: u32) -> Result<(), NoMem
     put_number(out, u64::from(number))
 }
 
-// A fault's name with an ID behind it.
+/// Puts a fault's name and an ID after it.
 fn put_named(out: &mut Vec<u8>, name: &[u8], id: &Name) -> Result<(), NoMemory>
     ensures { OnOk result (out.new.items ≡ out.old.items ++ named name.now id.now) }
 {
@@ -29,6 +29,7 @@ fn put_named(out: &mut Vec<u8>, name: &[u8], id: &Name) -> Result<(), NoMemory>
     put_quoted(out, id.list())
 }
 
+/// Puts the words of a fault of elements.
 fn put_element_fault(out: &mut Vec<u8>, fault: ElementFault) -> Result<(), NoMemory>
     ensures { OnOk result (out.new.items ≡ out.old.items ++ element_words fault) }
 {
@@ -42,6 +43,7 @@ fn put_element_fault(out: &mut Vec<u8>, fault: ElementFault) -> Result<(), NoMem
     }
 }
 
+/// Puts the words of a fault of node models.
 fn put_manifest_fault(out: &mut Vec<u8>, fault: ManifestFault) -> Result<(), NoMemory>
     ensures { OnOk result (out.new.items ≡ out.old.items ++ manifest_words fault) }
 {
@@ -51,6 +53,7 @@ fn put_manifest_fault(out: &mut Vec<u8>, fault: ManifestFault) -> Result<(), NoM
     }
 }
 
+/// Puts the words of a fault of a script.
 fn put_script_fault(out: &mut Vec<u8>, fault: ScriptFault) -> Result<(), NoMemory>
     ensures { OnOk result (out.new.items ≡ out.old.items ++ script_words fault) }
 {
@@ -63,6 +66,7 @@ fn put_script_fault(out: &mut Vec<u8>, fault: ScriptFault) -> Result<(), NoMemor
     }
 }
 
+/// Puts the words of a script of this node that can't be read.
 fn put_bad_script(out: &mut Vec<u8>, uid: u32, fault: ScriptFault) -> Result<(), NoMemory>
     ensures { OnOk result (out.new.items
         ≡ out.old.items ++ (numbered (codes "BadScript") uid ++ codes " " ++ script_words fault)) }
@@ -72,6 +76,7 @@ fn put_bad_script(out: &mut Vec<u8>, uid: u32, fault: ScriptFault) -> Result<(),
     put_script_fault(out, fault)
 }
 
+/// Puts the words of elements that are no tree.
 fn put_build_fault(out: &mut Vec<u8>, fault: &BuildFault) -> Result<(), NoMemory>
     ensures { OnOk result (out.new.items ≡ out.old.items ++ build_words fault.now) }
 {
@@ -96,6 +101,7 @@ fn put_build_fault(out: &mut Vec<u8>, fault: &BuildFault) -> Result<(), NoMemory
     }
 }
 
+/// Puts the words of a tree file's fault.
 fn put_tree_fault(out: &mut Vec<u8>, fault: &TreeFault) -> Result<(), NoMemory>
     ensures { OnOk result (out.new.items ≡ out.old.items ++ tree_words fault.now) }
 {
@@ -117,6 +123,7 @@ pub fn tree_refusal(alloc: Global, fault: &TreeFault) -> Result<Vec<u8>, NoMemor
     Ok(line)
 }
 
+/// The word for what is wrong with a world script.
 fn kind_word(kind: WorldKind) -> &'static [u8]
     ensures { result.now ≡ kind_word kind }
 {
@@ -142,6 +149,7 @@ pub fn world_refusal(alloc: Global, fault: WorldFault) -> Result<Vec<u8>, NoMemo
     Ok(line)
 }
 
+/// The word for a kind of driver.
 fn driver_word(kind: DriverKind) -> &'static [u8]
     ensures { result.now ≡ driver_word kind }
 {
@@ -153,6 +161,7 @@ fn driver_word(kind: DriverKind) -> &'static [u8]
     }
 }
 
+/// Puts the words of a kind that has no driver.
 fn put_no_driver(out: &mut Vec<u8>, kind: DriverKind) -> Result<(), NoMemory>
     ensures { OnOk result (out.new.items ≡ out.old.items ++ (codes "NoDriver " ++ driver_word kind)) }
 {
@@ -160,6 +169,7 @@ fn put_no_driver(out: &mut Vec<u8>, kind: DriverKind) -> Result<(), NoMemory>
     put_bytes(out, driver_word(kind))
 }
 
+/// Puts the words of what a leaf lacks.
 fn put_join_fault(out: &mut Vec<u8>, fault: &JoinFault) -> Result<(), NoMemory>
     ensures { OnOk result (out.new.items ≡ out.old.items ++ join_words fault.now) }
 {

@@ -1,5 +1,5 @@
--- Runs that were cut off: the first calls of the trace were made, and then all that is held was let go.
-use Rattle.std.proofs.Common.{◌≡◌, ◌⊎◌, inl, inr, ℕ, ◌+◌, List, [], ◌∷◌, ◌++◌, Option, Some, None, Result, Ok, Err, OnErr, length, refl, sym, ap, subst, ◌∙◌, append_assoc, append-nil, arith}
+-- Runs that were cut off: the first calls of the trace were made, and then all that is held was halted.
+use Rattle.std.proofs.Common.{◌≡◌, ◌⊎◌, inl, inr, ℕ, ◌+◌, List, [], ◌∷◌, ◌++◌, Option, Some, None, Result, Ok, Err, length, refl, sym, ap, subst, ◌∙◌, append_assoc, append-nil, arith}
 use Rattle.std.proofs.lemmas.Bool.{cases_eq, cases_lt}
 use Rattle.std.proofs.lemmas.List.{get_or-set_same, get_or-set_other}
 use Rattle.std.proofs.Math.Seq.{set_out}
@@ -16,12 +16,10 @@ use Rattle.bt_model.specs.declared.leaf.Phase.TheVariants as phase
 use Rattle.bt_model.specs.declared.note.Note.{Note}
 use Rattle.bt_model.specs.declared.term.Term.{Term}
 use Rattle.bt_model.specs.declared.term.Tree.{Tree}
-use Rattle.bt_model.specs.declared.world.Event.{Event}
 use Rattle.bt_model.specs.declared.world.World.{World}
 use Rattle.bt_model.specs.Done.{Call}
 use Rattle.bt_model.specs.Drivers.{DriverState, after_call, driver_at, new_driver, roster_called}
-use Rattle.bt_model.specs.Lines.{LineNames}
-use Rattle.bt_model.specs.Run.{RunState, Runner, RunnerCall, Stepped, Trace, before_rest, finish, letting_go, quench_calls, reset_step, root_reset, root_view, run_from, runner_at, runner_calls, state_of, then_rest, told, with_runner}
+use Rattle.bt_model.specs.Run.{RunState, Runner, RunnerCall, Stepped, Trace, before_rest, finish, letting_go, quench_calls, reset_step, root_reset, root_view, runner_at, runner_calls, state_of, then_rest, told, with_runner}
 use Rattle.bt_model.specs.Sound.{begins, begun_calls}
 use Rattle.bt_laws.proofs.TermWork.{resets_make_none}
 use Rattle.bt_arena.specs.declared.block.Block.{Block}
@@ -33,22 +31,13 @@ use Rattle.bt_loop.specs.declared.runs.Runs.{Runs}
 use Rattle.bt_loop.specs.Runs.{arenas_of, nodes_of_runner, roster_over}
 use Rattle.bt_loop.specs.Steps.{EventEnds, IsSameRoster}
 use Rattle.bt_loop.proofs.Rising.{over_same}
-use Rattle.bt_trace.specs.Cuts.{AreHalts, HaveBegunWithin, IsCut, LetGo}
-use Rattle.bt_trace.specs.Going.{Going}
+use Rattle.bt_trace.specs.Cuts.{AreHalts, HaveBegunWithin, IsCut, HaveHalted}
 
-pub on_err : {A E P : Type 0} (r : Result A E) → P → OnErr r P
-on_err (Ok a) p = tt
-on_err (Err e) p = p
-
-pub err_gives : {A E P Q : Type 0} (r : Result A E) → (P → Q) → OnErr r P → OnErr r Q
-err_gives (Ok a) f p = tt
-err_gives (Err e) f p = f p
-
-over_both : (arenas : List (List Node)) (xs ys : List RunnerCall) (ds : List DriverState) → roster_over arenas (xs ++ ys) ds ≡ roster_over arenas ys (roster_over arenas xs ds)
+pub over_both : (arenas : List (List Node)) (xs ys : List RunnerCall) (ds : List DriverState) → roster_over arenas (xs ++ ys) ds ≡ roster_over arenas ys (roster_over arenas xs ds)
 over_both arenas [] ys ds = refl
 over_both arenas (x ∷ xs) ys ds = over_both arenas xs ys _
 
--- ---- Calls that let go
+-- ---- Calls that halt
 
 halts_both : (xs ys : List RunnerCall) → AreHalts xs → AreHalts ys → AreHalts (xs ++ ys)
 halts_both [] ys p q = q
@@ -81,7 +70,7 @@ quench_halts : (runner : ℕ) (rs : List Runner) → AreHalts (quench_calls runn
 quench_halts runner [] = tt
 quench_halts runner (r ∷ rs) = halts_both (runner_calls runner (letting_go 0 r.instances)) (quench_calls (runner + 1) rs) (none_begun runner (letting_go 0 r.instances) (letting_begins 0 r.instances)) (quench_halts (runner + 1) rs)
 
--- a finish lets go alone
+-- a finish halts alone
 told_halts : (answer : Result (Unit {0}) NodeFault) (h : Header) (tree : Tree) (runner : ℕ) (notes : List Note) (calls : List Call) (s after : RunState) → begun_calls calls ≡ 0 → AreHalts (told answer h tree runner notes calls s after).calls
 told_halts (Ok a) h tree runner notes calls s after none = none_begun runner calls none
 told_halts (Err f) h tree runner notes calls s after none = halts_both (runner_calls runner calls) (quench_calls 1 after.runners) (none_begun runner calls none) (quench_halts 1 after.runners)
@@ -97,7 +86,7 @@ finish_halts tree world runner s = reset_halts (runner_at s runner) (header.Fini
 
 -- ---- One event
 
--- what an event leaves of the drivers, whatever is answered: its first calls, and calls that let go
+-- what an event leaves of the drivers, whatever is answered: its first calls, and calls that halt
 record Partly (arenas : List (List Node)) (before after : List DriverState) (d : Stepped) : Type 0 where
   made : List RunnerCall
   unmade : List RunnerCall
@@ -140,7 +129,7 @@ module _ (made : Result (Unit {0}) (Stop RunFault)) (term : Term) (arenas : List
   kept : Partly arenas before after d
   kept = subst (λ (x : List (List Node)). Partly x before after d) same (partly made term before after runs block d ends)
 
-  -- a run is cut off in this event, or behind it
+  -- a run is cut off in this event, or after it
   pub event_cut : (rest : RunState → Trace) → IsCut arenas before after (then_rest d rest)
   event_cut rest =
       let more : (more : List RunnerCall) × (d.calls ++ more ≡ (then_rest d rest).calls) = more_by d.fault d rest in
@@ -153,8 +142,8 @@ module _ (made : Result (Unit {0}) (Stop RunFault)) (term : Term) (arenas : List
         drivers = kept.drivers;
       }
 
-  -- an event that lets go alone
-  pub event_halts : AreHalts d.calls → LetGo arenas before after
+  -- an event that halts alone
+  pub event_halts : AreHalts d.calls → HaveHalted arenas before after
   event_halts are = record {
     halts = kept.made ++ kept.halts;
     are = halts_both kept.made kept.halts (halts_front kept.made kept.unmade (subst AreHalts (sym kept.all) are)) kept.are;
@@ -163,11 +152,11 @@ module _ (made : Result (Unit {0}) (Stop RunFault)) (term : Term) (arenas : List
 
 -- ---- Parts of a run
 
-pub let_go_none : (arenas : List (List Node)) (drivers : List DriverState) → LetGo arenas drivers drivers
-let_go_none arenas drivers = record { halts = []; are = tt; drivers = refl }
+pub halted_none : (arenas : List (List Node)) (drivers : List DriverState) → HaveHalted arenas drivers drivers
+halted_none arenas drivers = record { halts = []; are = tt; drivers = refl }
 
-pub let_go_both : (arenas arenas1 : List (List Node)) (d0 d1 d2 : List DriverState) → arenas1 ≡ arenas → LetGo arenas d0 d1 → LetGo arenas1 d1 d2 → LetGo arenas d0 d2
-let_go_both arenas arenas1 d0 d1 d2 same p q = record {
+pub halted_both : (arenas arenas1 : List (List Node)) (d0 d1 d2 : List DriverState) → arenas1 ≡ arenas → HaveHalted arenas d0 d1 → HaveHalted arenas1 d1 d2 → HaveHalted arenas d0 d2
+halted_both arenas arenas1 d0 d1 d2 same p q = record {
   halts = p.halts ++ q.halts;
   are = halts_both p.halts q.halts p.are q.are;
   drivers = q.drivers ∙ ap (λ (x : List (List Node)). roster_over x q.halts d1) same ∙ ap (roster_over arenas q.halts) p.drivers ∙ sym (over_both arenas p.halts q.halts d0);
@@ -177,21 +166,32 @@ let_go_both arenas arenas1 d0 d1 d2 same p q = record {
 pub cut_none : (arenas : List (List Node)) (drivers : List DriverState) (trace : Trace) → IsCut arenas drivers drivers trace
 cut_none arenas drivers trace = record { made = []; unmade = trace.calls; halts = []; all = refl; are = tt; drivers = refl }
 
--- behind a part of a run
-pub cut_after : (arenas arenas1 : List (List Node)) (names : LineNames) (d0 d1 d2 : List DriverState) (a b : Option (List ℕ)) (whole part : Trace) → arenas1 ≡ arenas → Going arenas names d0 d1 a b whole part → IsCut arenas1 d1 d2 part → IsCut arenas d0 d2 whole
-cut_after arenas arenas1 names d0 d1 d2 a b whole part same p q = record {
-  made = p.made ++ q.made;
+-- after the calls of a part of a run
+pub cut_after : (arenas arenas1 : List (List Node)) (d0 d1 d2 : List DriverState) (whole part : Trace) → arenas1 ≡ arenas → (made : List RunnerCall) → made ++ part.calls ≡ whole.calls → d1 ≡ roster_over arenas made d0 → IsCut arenas1 d1 d2 part → IsCut arenas d0 d2 whole
+cut_after arenas arenas1 d0 d1 d2 whole part same made calls drivers q = record {
+  made = made ++ q.made;
   unmade = q.unmade;
   halts = q.halts;
-  all = append_assoc p.made q.made q.unmade ∙ ap (λ (cs : List RunnerCall). p.made ++ cs) q.all ∙ p.calls;
+  all = append_assoc made q.made q.unmade ∙ ap (λ (cs : List RunnerCall). made ++ cs) q.all ∙ calls;
   are = q.are;
   drivers =
-      q.drivers ∙ ap (λ (x : List (List Node)). roster_over x (q.made ++ q.halts) d1) same ∙ ap (roster_over arenas (q.made ++ q.halts)) p.drivers ∙ sym (over_both arenas p.made (q.made ++ q.halts) d0)
-      ∙ ap (λ (cs : List RunnerCall). roster_over arenas cs d0) (sym (append_assoc p.made q.made q.halts));
+      q.drivers ∙ ap (λ (x : List (List Node)). roster_over x (q.made ++ q.halts) d1) same ∙ ap (roster_over arenas (q.made ++ q.halts)) drivers ∙ sym (over_both arenas made (q.made ++ q.halts) d0)
+      ∙ ap (λ (cs : List RunnerCall). roster_over arenas cs d0) (sym (append_assoc made q.made q.halts));
 }
 
--- before calls that let go
-pub cut_before : (arenas arenas1 : List (List Node)) (d0 d1 d2 : List DriverState) (trace : Trace) → arenas1 ≡ arenas → IsCut arenas d0 d1 trace → LetGo arenas1 d1 d2 → IsCut arenas d0 d2 trace
+-- in the middle of a run, whose first calls were made
+pub cut_here : (arenas : List (List Node)) (before after : List DriverState) (whole rest : Trace) (made : List RunnerCall) → made ++ rest.calls ≡ whole.calls → after ≡ roster_over arenas made before → IsCut arenas before after whole
+cut_here arenas before after whole rest made calls drivers = record {
+  made = made;
+  unmade = rest.calls;
+  halts = [];
+  all = calls;
+  are = tt;
+  drivers = drivers ∙ ap (λ (cs : List RunnerCall). roster_over arenas cs before) (sym (append-nil made));
+}
+
+-- before calls that halt
+pub cut_before : (arenas arenas1 : List (List Node)) (d0 d1 d2 : List DriverState) (trace : Trace) → arenas1 ≡ arenas → IsCut arenas d0 d1 trace → HaveHalted arenas1 d1 d2 → IsCut arenas d0 d2 trace
 cut_before arenas arenas1 d0 d1 d2 trace same p q = record {
   made = p.made;
   unmade = p.unmade;
@@ -203,17 +203,9 @@ cut_before arenas arenas1 d0 d1 d2 trace same p q = record {
       ∙ ap (λ (cs : List RunnerCall). roster_over arenas cs d0) (append_assoc p.made p.halts q.halts);
 }
 
--- the trace under another name
-pub cut_as : (arenas : List (List Node)) (d0 d1 : List DriverState) (trace other : Trace) → trace ≡ other → IsCut arenas d0 d1 trace → IsCut arenas d0 d1 other
-cut_as arenas d0 d1 trace other same p = subst (λ (t : Trace). IsCut arenas d0 d1 t) same p
-
--- no event is left
-pub cut_all : (tree : Tree) (world : World) (events : List Event) (s : RunState) (arenas : List (List Node)) (d0 d1 : List DriverState) → IsCut arenas d0 d1 (run_from tree world (events ++ []) s) → IsCut arenas d0 d1 (run_from tree world events s)
-cut_all tree world events s arenas d0 d1 p = subst (λ (es : List Event). IsCut arenas d0 d1 (run_from tree world es s)) (append-nil events) p
-
 -- ---- Totals
 
--- calls that let go are counted as no start and no running
+-- calls that halt are counted as no start and no running
 module _ (ds : List DriverState) (place instance : ℕ) (left : Instance) where
   abbrev halted : List DriverState
   halted = roster_called ds place phase.Halted instance left

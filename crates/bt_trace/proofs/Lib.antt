@@ -1,7 +1,9 @@
 pub mod Cuts
+pub mod Following
 pub mod Lives
 pub mod Notes
+pub mod Parts
 pub mod Rests
 pub mod Steps
-pub mod Tallies
+pub mod Watching
 pub mod Worlds

@@ -1,123 +1,25 @@
 -- Rounds at the moments of a clock, against the rounds of the definition.
-use Rattle.std.proofs.Common.{◌≡◌, ℕ, zero, suc, ◌+◌, ◌-◌, ◌<◌, ◌≤◌, max, arith, List, [], ◌∷◌, ◌++◌, length, take, drop, replicate, Option, Some, None, IfSome, IsSome, Result, Ok, Err, IfOk, OnOk, refl, sym, ap, subst, ◌∙◌, append_assoc, append-nil}
+use Rattle.std.proofs.Common.{◌≡◌, ℕ, zero, suc, ◌+◌, ◌-◌, ◌≤◌, max, arith, List, [], ◌∷◌, ◌++◌, length, take, drop, replicate, Option, Some, None, IfSome, IsSome, Result, Ok, Err, OnOk, true, false, refl, sym, ap, subst, ◌∙◌, append_assoc, append-nil}
 use Rattle.std.specs.Option.{option_map}
 use Rattle.std.specs.Result.{IsErr}
 use Rattle.std.proofs.lemmas.List.{length-append, length-replicate, take-append-drop, take-append-le, take_at}
 use Rattle.bt_model.specs.declared.fault.RunFault.{RunFault}
 use Rattle.bt_model.specs.declared.term.Tree.{Tree}
 use Rattle.bt_model.specs.declared.world.Event.{Event}
-use Rattle.bt_model.specs.declared.world.What.TheVariants.{Tick}
 use Rattle.bt_model.specs.declared.world.World.{World}
 use Rattle.bt_model.specs.Drivers.{DriverState}
-use Rattle.bt_model.specs.Lines.{LineNames}
-use Rattle.bt_model.specs.Run.{RunState, Stepped, Trace, before_rest, finishes, run_from, step, then_rest}
-use Rattle.bt_outside.specs.Appending.{AppendedFront}
+use Rattle.bt_model.specs.Run.{RunState, Trace}
 use Rattle.bt_outside.specs.Moments.{Moments, after_now}
 use Rattle.bt_text.specs.declared.stop.TextStop.{TextStop}
-use Rattle.bt_arena.specs.declared.nodes.Node.{Node}
+use Rattle.bt_text.specs.declared.stop.TextStop.TheVariants as text_stop
+use Rattle.bt_loop.specs.declared.runs.Runs.{Runs}
 use Rattle.bt_trace.specs.declared.ended.Ended.{Ended}
 use Rattle.bt_trace.specs.declared.ended.Ended.TheVariants.{Done, Faulted}
-use Rattle.bt_trace.specs.Cuts.{IsCut}
-use Rattle.bt_trace.specs.Going.{Goes, Going, HasGiven, RoundsGo}
-use Rattle.bt_trace.specs.Rounds.{AreBegun, AreMoments, events_then, fault_in, live_events, moments_after, nothing_more, round_of, taken, ticks_from}
-use Rattle.bt_trace.specs.Texts.{text_of}
-use Rattle.bt_trace.specs.Traces.{IsRun, ended}
-use Rattle.bt_trace.proofs.Cuts.{cut_after, cut_as}
-use Rattle.bt_trace.proofs.Steps.{going_both, going_front, going_run}
-
--- ---- Events, and what follows them
-
-before_same : (fault : Option RunFault) (d : Stepped) (f g : RunState → Trace) → f d.state ≡ g d.state → before_rest fault d f ≡ before_rest fault d g
-before_same (Some fault) d f g same = refl
-before_same None d f g same = ap (λ (t : Trace). (let all : Trace = record { blocks = d.block ∷ t.blocks; calls = d.calls ++ t.calls; state = t.state; fault = t.fault } in all)) same
-
-module _ (tree : Tree) (world : World) where
-  pub events_both : (events more : List Event) (rest : RunState → Trace) (s : RunState) → events_then tree world (events ++ more) rest s ≡ events_then tree world events (events_then tree world more rest) s
-  events_both [] more rest s = refl
-  events_both (e ∷ events) more rest s = before_same (step tree world e s).fault (step tree world e s) _ _ (events_both events more rest (step tree world e s).state)
-
-  -- the finishes follow the events of a run
-  pub run_is : (events : List Event) (s : RunState) → events_then tree world events (finishes tree world 1 world.runners) s ≡ run_from tree world events s
-  run_is [] s = refl
-  run_is (e ∷ events) s = before_same (step tree world e s).fault (step tree world e s) _ _ (run_is events (step tree world e s).state)
-
-  front_fault : (o : Option RunFault) (d : Stepped) (f g : RunState → Trace) → ((f d.state).fault ≡ None → (g d.state).fault ≡ None) → (before_rest o d f).fault ≡ None → (before_rest o d g).fault ≡ None
-  front_fault (Some fault) d f g then none = none
-  front_fault None d f g then none = then none
-
-  -- events that end in no fault begin with such
-  events_front : (events more : List Event) (s : RunState) → (events_then tree world (events ++ more) nothing_more s).fault ≡ None → (events_then tree world events nothing_more s).fault ≡ None
-  events_front [] more s none = refl
-  events_front (e ∷ events) more s none = front_fault (step tree world e s).fault (step tree world e s) _ _ (events_front events more (step tree world e s).state) none
-
-  -- the tick that comes next
-  pub tick_next : (place at : ℕ) (rest : RunState → Trace) (s : RunState) → place < world.runners →
-      events_then tree world (ticks_from (place + 1) (world.runners - place) at) rest s ≡
-      then_rest (step tree world (record { at = at; what = Tick (place + 1) }) s) (events_then tree world (ticks_from (place + 1 + 1) (world.runners - (place + 1)) at) rest)
-  tick_next place at rest s low =
-      let more : world.runners - place ≡ suc (world.runners - (place + 1)) = omega (arith, low) in
-      ap (λ (others : ℕ). events_then tree world (ticks_from (place + 1) others at) rest s) more
-
-  -- none is left
-  pub ticks_end : (place at : ℕ) (rest : RunState → Trace) (s : RunState) → world.runners ≤ place → events_then tree world (ticks_from (place + 1) (world.runners - place) at) rest s ≡ rest s
-  ticks_end place at rest s all =
-      let none : world.runners - place ≡ 0 = omega (arith, all) in
-      ap (λ (others : ℕ). events_then tree world (ticks_from (place + 1) others at) rest s) none
-
-  -- all are left
-  pub ticks_first : (at : ℕ) (rest : RunState → Trace) (s : RunState) → events_then tree world (round_of world.runners at) rest s ≡ events_then tree world (ticks_from (0 + 1) (world.runners - 0) at) rest s
-  ticks_first at rest s =
-      let all : world.runners ≡ world.runners - 0 = omega arith in
-      ap (λ (others : ℕ). events_then tree world (ticks_from 1 others at) rest s) all
-
-  -- the round that comes next
-  pub round_next : (last moment : ℕ) (later : List ℕ) (rest : RunState → Trace) (s : RunState) →
-      events_then tree world (live_events world last (moment ∷ later)) rest s ≡ events_then tree world (round_of world.runners (max moment last)) (events_then tree world (live_events world (max moment last) later) rest) s
-  round_next last moment later rest s = events_both (round_of world.runners (max moment last)) (live_events world (max moment last) later) rest s
-
-abbrev last_of : ℕ → List ℕ → ℕ
-last_of last [] = last
-last_of last (moment ∷ moments) = last_of (max moment last) moments
-
-live_both : (world : World) (last : ℕ) (xs ys : List ℕ) → live_events world last (xs ++ ys) ≡ live_events world last xs ++ live_events world (last_of last xs) ys
-live_both world last [] ys = refl
-live_both world last (x ∷ xs) ys =
-    let at = max x last in
-    ap (λ (es : List Event). round_of world.runners at ++ es) (live_both world at xs ys)
-    ∙ sym (append_assoc (round_of world.runners at) (live_events world at xs) (live_events world (last_of at xs) ys))
-
--- rounds that end in no fault begin with such
-pub rounds_front : (tree : Tree) (world : World) (last : ℕ) (xs ys : List ℕ) (s : RunState) → fault_in tree world last (xs ++ ys) s ≡ None → fault_in tree world last xs s ≡ None
-rounds_front tree world last xs ys s none =
-    events_front tree world (live_events world last xs) (live_events world (last_of last xs) ys) s
-    (subst (λ (es : List Event). (events_then tree world es nothing_more s).fault ≡ None) (live_both world last xs ys) none)
-
--- ---- The next part of a run
-
-pub going_to : (arenas : List (List Node)) (names : LineNames) (before after : List DriverState) (a b : Option (List ℕ)) (whole part rest : Trace) → part ≡ rest → Going arenas names before after a b whole part → Going arenas names before after a b whole rest
-going_to arenas names before after a b whole part rest same p = subst (Going arenas names before after a b whole) same p
-
-module _ (arenas arenas1 : List (List Node)) (names : LineNames) (d0 d1 : List DriverState) (a b : Option (List ℕ)) (whole part first : Trace)
-    (is : part ≡ first) (same : arenas1 ≡ arenas) (so_far : Going arenas names d0 d1 a b whole part) where
-  -- a front of it was written
-  pub part_front : (c : Option (List ℕ)) → AppendedFront b c (text_of names first.blocks) → AppendedFront a c (text_of names whole.blocks)
-  part_front c p = going_front arenas names d0 d1 d1 a b c whole part part so_far (subst (λ (t : Trace). AppendedFront b c (text_of names t.blocks)) (sym is) p)
-
-  -- it was made, and more is to come
-  pub part_on : (result : Result Ended TextStop) (ending : Ended) (d2 : List DriverState) (c : Option (List ℕ)) (more : Trace) → result ≡ Ok ending → ending ≡ Done → Goes result arenas1 names d1 d2 b c first more → Going arenas names d0 d2 a c whole more
-  part_on (Ok Done) ending d2 c more ok done p =
-      going_both arenas names d0 d1 d2 a b c whole part more so_far
-      (subst (λ (t : Trace). Going arenas names d1 d2 b c t more) (sym is) (subst (λ (x : List (List Node)). Going x names d1 d2 b c first more) same p))
-  part_on (Ok Faulted) ending d2 c more ok done p = cc
-  part_on (Err stopped) ending d2 c more ok done p = cc
-
-  -- it ended the run
-  pub part_last : (result : Result Ended TextStop) (ending : Ended) (d2 : List DriverState) (c : Option (List ℕ)) (more : Trace) → result ≡ Ok ending → ending ≡ Faulted → Goes result arenas1 names d1 d2 b c first more → IsRun arenas names d0 d2 a c Faulted whole
-  part_last (Ok Faulted) ending d2 c more ok faulted p =
-      going_run arenas names d0 d1 d2 a b c whole part part Faulted so_far
-      (subst (λ (t : Trace). IsRun arenas names d1 d2 b c Faulted t) (sym is) (subst (λ (x : List (List Node)). IsRun x names d1 d2 b c Faulted first) same p))
-  part_last (Ok Done) ending d2 c more ok faulted p = cc
-  part_last (Err stopped) ending d2 c more ok faulted p = cc
+use Rattle.bt_trace.specs.Going.{HasGiven, LiveMade, Makes, MakesPart, RoundsMade, Stage, finishes_then, rounds_then, state_at}
+use Rattle.bt_trace.specs.Rounds.{AreBegun, AreMoments, WasAsked, events_then, fault_in, moments_after, nothing_more, round_of, taken}
+use Rattle.bt_trace.specs.Traces.{Setup, ended, state_in}
+use Rattle.bt_trace.proofs.Following.{round_next, rounds_front}
+use Rattle.bt_trace.proofs.Parts.{part_as, part_before, part_next, part_stopped, part_to}
 
 -- ---- A clock
 
@@ -191,71 +93,77 @@ are_all rounds old new given has all = record { many = all; given = by old has }
   by None has = tt
   by (Some m) has = has.told ∙ ap (λ (k : ℕ). taken k m) all
 
--- ---- The next round
-
-module _ (tree : Tree) (world : World) (opened last : ℕ) (given : List ℕ) (arenas : List (List Node)) (names : LineNames) (d0 d1 : List DriverState) (a b : Option (List ℕ)) (s0 s1 : RunState)
-    (so_far : (later : List ℕ) (rest : RunState → Trace) → Going arenas names d0 d1 a b (events_then tree world (live_events world opened (given ++ later)) rest s0) (events_then tree world (live_events world last later) rest s1)) where
-  -- no round is left
-  pub rounds_all : (rest : RunState → Trace) → Going arenas names d0 d1 a b (events_then tree world (live_events world opened given) rest s0) (rest s1)
-  rounds_all rest = subst (λ (ms : List ℕ). Going arenas names d0 d1 a b (events_then tree world (live_events world opened ms) rest s0) (rest s1)) (append-nil given) (so_far [] rest)
-
-  module _ (moment at : ℕ) (is : at ≡ max moment last) (arenas1 : List (List Node)) (same : arenas1 ≡ arenas) where
-    next_is : (later : List ℕ) (rest : RunState → Trace) →
-        events_then tree world (live_events world last (moment ∷ later)) rest s1 ≡ events_then tree world (round_of world.runners at) (events_then tree world (live_events world at later) rest) s1
-    next_is later rest =
-        subst (λ (k : ℕ). events_then tree world (live_events world last (moment ∷ later)) rest s1 ≡ events_then tree world (round_of world.runners k) (events_then tree world (live_events world k later) rest) s1) (sym is)
-        (round_next tree world last moment later rest s1)
-
-    -- a front of it was written
-    pub round_front : (c : Option (List ℕ)) → ((rest : RunState → Trace) → AppendedFront b c (text_of names (events_then tree world (round_of world.runners at) rest s1).blocks)) →
-        (later : List ℕ) (rest : RunState → Trace) → AppendedFront a c (text_of names (events_then tree world (live_events world opened ((given ++ moment ∷ []) ++ later)) rest s0).blocks)
-    round_front c front later rest =
-        subst (λ (ms : List ℕ). AppendedFront a c (text_of names (events_then tree world (live_events world opened ms) rest s0).blocks)) (sym (append_assoc given (moment ∷ []) later))
-        (part_front arenas arenas1 names d0 d1 a b _ _ _ (next_is later rest) same (so_far (moment ∷ later) rest) c (front (events_then tree world (live_events world at later) rest)))
-
-    -- the run was cut off in it
-    pub round_cut : (d2 : List DriverState) → ((rest : RunState → Trace) → IsCut arenas1 d1 d2 (events_then tree world (round_of world.runners at) rest s1)) →
-        (later : List ℕ) (rest : RunState → Trace) → IsCut arenas d0 d2 (events_then tree world (live_events world opened ((given ++ moment ∷ []) ++ later)) rest s0)
-    round_cut d2 cut later rest =
-        subst (λ (ms : List ℕ). IsCut arenas d0 d2 (events_then tree world (live_events world opened ms) rest s0)) (sym (append_assoc given (moment ∷ []) later))
-        (cut_after arenas arenas1 names d0 d1 d2 a b _ _ same (so_far (moment ∷ later) rest) (cut_as arenas1 d1 d2 _ _ (sym (next_is later rest)) (cut (events_then tree world (live_events world at later) rest))))
-
-    -- it was made, and more is to come
-    pub round_on : (result : Result Ended TextStop) (ending : Ended) (d2 : List DriverState) (c : Option (List ℕ)) (s2 : RunState) → result ≡ Ok ending → ending ≡ Done →
-        ((rest : RunState → Trace) → Goes result arenas1 names d1 d2 b c (events_then tree world (round_of world.runners at) rest s1) (rest s2)) →
-        (later : List ℕ) (rest : RunState → Trace) → Going arenas names d0 d2 a c (events_then tree world (live_events world opened ((given ++ moment ∷ []) ++ later)) rest s0) (events_then tree world (live_events world at later) rest s2)
-    round_on result ending d2 c s2 ok done goes later rest =
-        subst (λ (ms : List ℕ). Going arenas names d0 d2 a c (events_then tree world (live_events world opened ms) rest s0) (events_then tree world (live_events world at later) rest s2)) (sym (append_assoc given (moment ∷ []) later))
-        (part_on arenas arenas1 names d0 d1 a b _ _ _ (next_is later rest) same (so_far (moment ∷ later) rest) result ending d2 c _ ok done (goes (events_then tree world (live_events world at later) rest)))
-
-    -- it ended the run
-    pub round_last : (result : Result Ended TextStop) (ending : Ended) (d2 : List DriverState) (c : Option (List ℕ)) (s2 : RunState) → result ≡ Ok ending → ending ≡ Faulted →
-        ((rest : RunState → Trace) → Goes result arenas1 names d1 d2 b c (events_then tree world (round_of world.runners at) rest s1) (rest s2)) →
-        RoundsGo (Ok Faulted) tree world opened (given ++ moment ∷ []) arenas names d0 d2 a c s0 s2
-    round_last result ending d2 c s2 ok faulted goes = (
-      λ later rest.
-          subst (λ (ms : List ℕ). IsRun arenas names d0 d2 a c Faulted (events_then tree world (live_events world opened ms) rest s0)) (sym (append_assoc given (moment ∷ []) later))
-          (part_last arenas arenas1 names d0 d1 a b _ _ _ (next_is later rest) same (so_far (moment ∷ later) rest) result ending d2 c _ ok faulted (goes (events_then tree world (live_events world at later) rest))),
-      (let longer : length (given ++ moment ∷ []) ≡ length given + 1 = length-append given (moment ∷ []) in
-          let many : length given ≡ length (given ++ moment ∷ []) - 1 = omega (arith, longer) in
-          subst (λ (ms : List ℕ). fault_in tree world opened ms s0 ≡ None) (sym (take_at given (moment ∷ []) (length (given ++ moment ∷ []) - 1) many)) (sym (rounds_all nothing_more).fault)),
-    )
-
 -- one moment more
 pub one_more : (given : List ℕ) (moment : ℕ) → length (given ++ moment ∷ []) ≡ length given + 1
 one_more given moment = length-append given (moment ∷ [])
 
--- where an answer says that no block was written, it says nothing else
-pub not_done : (result : Result Ended TextStop) {P : Type 0} → IsErr result → result ≡ Ok Done → P
-not_done (Err stopped) err done = cc
-not_done (Ok ending) err done = cc
+-- ---- The next round
 
-pub stopped_go : (result : Result Ended TextStop) → IsErr result → (tree : Tree) (world : World) (last : ℕ) (given : List ℕ) (arenas : List (List Node)) (names : LineNames) (before after : List DriverState) (old new : Option (List ℕ)) (s now : RunState) →
-    ((later : List ℕ) (rest : RunState → Trace) → AppendedFront old new (text_of names (events_then tree world (live_events world last (given ++ later)) rest s).blocks)) →
-    ((later : List ℕ) (rest : RunState → Trace) → IsCut arenas before after (events_then tree world (live_events world last (given ++ later)) rest s)) →
-    RoundsGo result tree world last given arenas names before after old new s now
-stopped_go (Err stopped) err tree world last given arenas names before after old new s now front cut = λ later rest. (front later rest, cut later rest)
-stopped_go (Ok ending) err tree world last given arenas names before after old new s now front cut = cc
+module _ (of : Setup) (opened last : ℕ) (given : List ℕ) (s0 s1 : Stage) where
+  -- the rounds at these moments were made, and those at any later ones are to come
+  abbrev pub SoFar : Type 0
+  SoFar = (later : List ℕ) → MakesPart of (Ok Done) s0 s1 (λ rest. rounds_then of opened (given ++ later) rest (state_at of s0)) (λ rest. rounds_then of last later rest (state_at of s1))
+
+  -- no round has ended in a fault
+  pub no_fault : SoFar → fault_in of.tree of.world opened given (state_at of s0) ≡ None
+  no_fault so_far =
+      ap (λ (ms : List ℕ). fault_in of.tree of.world opened ms (state_at of s0)) (sym (append-nil given)) ∙ sym ((so_far []).goes nothing_more).fault
+
+  module _ (moment at : ℕ) (is : at ≡ max moment last) where
+    next_is : (later : List ℕ) (rest : RunState → Trace) → rounds_then of last (moment ∷ later) rest (state_at of s1) ≡ events_then of.tree of.world (round_of of.world.runners at) (rounds_then of at later rest) (state_at of s1)
+    next_is later rest =
+        subst (λ (k : ℕ). rounds_then of last (moment ∷ later) rest (state_at of s1) ≡ events_then of.tree of.world (round_of of.world.runners k) (rounds_then of k later rest) (state_at of s1)) (sym is)
+        (round_next of.tree of.world last moment later rest (state_at of s1))
+
+    -- the next round, whatever was answered in it
+    pub round_made : (result : Result Ended TextStop) (s2 : Stage) → SoFar → Makes of result s1 s2 (λ rest. events_then of.tree of.world (round_of of.world.runners at) rest (state_at of s1)) →
+        (later : List ℕ) → MakesPart of result s0 s2 (λ rest. rounds_then of opened ((given ++ moment ∷ []) ++ later) rest (state_at of s0)) (λ rest. rounds_then of at later rest (state_at of s2))
+    round_made result s2 so_far made later =
+        part_as of s0 s2 (λ rest. rounds_then of opened (given ++ moment ∷ later) rest (state_at of s0)) (λ rest. rounds_then of at later rest (state_at of s2)) result
+        (λ rest. rounds_then of opened ((given ++ moment ∷ []) ++ later) rest (state_at of s0))
+        (λ rest. ap (λ (ms : List ℕ). rounds_then of opened ms rest (state_at of s0)) (sym (append_assoc given (moment ∷ []) later)))
+        (part_next of s0 s1 (λ rest. rounds_then of opened (given ++ moment ∷ later) rest (state_at of s0)) (λ rest. rounds_then of last (moment ∷ later) rest (state_at of s1)) result s2
+        (λ rest. events_then of.tree of.world (round_of of.world.runners at) rest (state_at of s1)) (λ rest. rounds_then of at later rest)
+        (so_far (moment ∷ later)) (next_is later) made)
+
+    -- .. and it was the last one
+    pub rounds_ended : (result : Result Ended TextStop) (s2 : Stage) → (result ≡ Ok Done → ⊥) → SoFar → Makes of result s1 s2 (λ rest. events_then of.tree of.world (round_of of.world.runners at) rest (state_at of s1)) →
+        (later : List ℕ) → Makes of result s0 s2 (λ rest. rounds_then of opened ((given ++ moment ∷ []) ++ later) rest (state_at of s0))
+    rounds_ended result s2 over so_far made later =
+        part_to of s0 s2 (λ rest. rounds_then of opened ((given ++ moment ∷ []) ++ later) rest (state_at of s0)) (λ rest. rounds_then of at later rest (state_at of s2)) result
+        (λ rest. rest (state_at of s2)) (λ done. absurd (over done)) (round_made result s2 so_far made later)
+
+    abbrev Round : Result Ended TextStop → Stage → Type 0
+    Round result s2 = Makes of result s1 s2 (λ rest. events_then of.tree of.world (round_of of.world.runners at) rest (state_at of s1))
+
+    -- the answer under another name
+    pub round_on : (result : Result Ended TextStop) (s2 : Stage) → result ≡ Ok Done → SoFar → Round result s2 →
+        (later : List ℕ) → MakesPart of (Ok Done) s0 s2 (λ rest. rounds_then of opened ((given ++ moment ∷ []) ++ later) rest (state_at of s0)) (λ rest. rounds_then of at later rest (state_at of s2))
+    round_on result s2 done so_far made later = round_made (Ok Done) s2 so_far (subst (λ (r : Result Ended TextStop). Round r s2) done made) later
+
+    pub round_over : (result ends : Result Ended TextStop) (s2 : Stage) → result ≡ ends → (ends ≡ Ok Done → ⊥) → SoFar → Round result s2 → (later : List ℕ) → Makes of ends s0 s2 (λ rest. rounds_then of opened ((given ++ moment ∷ []) ++ later) rest (state_at of s0))
+    round_over result ends s2 same over so_far made later = rounds_ended ends s2 over so_far (subst (λ (r : Result Ended TextStop). Round r s2) same made) later
+
+    -- the rounds before it ended in no fault
+    pub before_it : SoFar → fault_in of.tree of.world opened (take (length (given ++ moment ∷ []) - 1) (given ++ moment ∷ [])) (state_at of s0) ≡ None
+    before_it so_far =
+        let longer : length (given ++ moment ∷ []) ≡ length given + 1 = one_more given moment in
+        let many : length given ≡ length (given ++ moment ∷ []) - 1 = omega (arith, longer) in
+        ap (λ (ms : List ℕ). fault_in of.tree of.world opened ms (state_at of s0)) (take_at given (moment ∷ []) (length (given ++ moment ∷ []) - 1) many) ∙ no_fault so_far
+
+  -- memory ran out before the next one
+  pub rounds_stopped : SoFar → (moment : ℕ) (later : List ℕ) → Makes of (Err text_stop.NoMemory) s0 s1 (λ rest. rounds_then of opened ((given ++ moment ∷ []) ++ later) rest (state_at of s0))
+  rounds_stopped so_far moment later =
+      part_as of s0 s1 (λ rest. rounds_then of opened (given ++ moment ∷ later) rest (state_at of s0)) (λ rest. rest (state_at of s1)) (Err text_stop.NoMemory)
+      (λ rest. rounds_then of opened ((given ++ moment ∷ []) ++ later) rest (state_at of s0))
+      (λ rest. ap (λ (ms : List ℕ). rounds_then of opened ms rest (state_at of s0)) (sym (append_assoc given (moment ∷ []) later)))
+      (part_stopped of s0 s1 (λ rest. rounds_then of opened (given ++ moment ∷ later) rest (state_at of s0)) (λ rest. rounds_then of last (moment ∷ later) rest (state_at of s1)) (so_far (moment ∷ later)))
+
+  -- no round is left
+  pub rounds_all : SoFar → (later : List ℕ) → later ≡ [] → Makes of (Ok Done) s0 s1 (λ rest. rounds_then of opened (given ++ later) rest (state_at of s0))
+  rounds_all so_far later none =
+      part_to of s0 s1 (λ rest. rounds_then of opened (given ++ later) rest (state_at of s0)) (λ rest. rounds_then of last later rest (state_at of s1)) (Ok Done) (λ rest. rest (state_at of s1))
+      (λ done rest. ap (λ (ms : List ℕ). rounds_then of last ms rest (state_at of s1)) none) (so_far later)
 
 -- ---- All rounds
 
@@ -263,95 +171,119 @@ is_fault : (o : Option RunFault) → Faulted ≡ ended o → IsSome o
 is_fault (Some fault) is = refl
 is_fault None is = cc
 
-module _ (tree : Tree) (world : World) (last : ℕ) (given : List ℕ) (arenas : List (List Node)) (names : LineNames) (d0 d1 : List DriverState) (a b : Option (List ℕ)) (s now : RunState) where
-  abbrev Live : List ℕ → Trace
-  Live moments = run_from tree world (live_events world last moments) s
+module _ (of : Setup) (rounds : ℕ) (s0 s1 : Stage) (asked left : Option Moments) where
+  abbrev Finishes : (RunState → Trace) → RunState → Trace
+  Finishes rest = finishes_then of.tree of.world 1 of.world.runners rest
 
-  -- a fault in them ends the run, whatever moments would have come
-  pub live_last : (result : Result Ended TextStop) (ending : Ended) → result ≡ Ok ending → ending ≡ Faulted → RoundsGo result tree world last given arenas names d0 d1 a b s now → (later : List ℕ) → IsRun arenas names d0 d1 a b Faulted (Live (given ++ later))
-  live_last (Ok Faulted) ending ok faulted p later = subst (IsRun arenas names d0 d1 a b Faulted) (run_is tree world (live_events world last (given ++ later)) s) (p.0 later (finishes tree world 1 world.runners))
-  live_last (Ok Done) ending ok faulted p later = cc
-  live_last (Err stopped) ending ok faulted p later = cc
+  abbrev Opened : ℕ
+  Opened = s0.underway.runs.last
 
-  -- a front of it was written
-  pub live_front : (result : Result Ended TextStop) (stopped : TextStop) → result ≡ Err stopped → RoundsGo result tree world last given arenas names d0 d1 a b s now → (later : List ℕ) → AppendedFront a b (text_of names (Live (given ++ later)).blocks)
-  live_front (Err e) stopped err p later = subst (λ (t : Trace). AppendedFront a b (text_of names t.blocks)) (run_is tree world (live_events world last (given ++ later)) s) (p later (finishes tree world 1 world.runners)).0
-  live_front (Ok ending) stopped err p later = cc
-
-  -- .. and then it was cut off
-  pub live_cut : (result : Result Ended TextStop) (stopped : TextStop) → result ≡ Err stopped → RoundsGo result tree world last given arenas names d0 d1 a b s now → (later : List ℕ) → IsCut arenas d0 d1 (Live (given ++ later))
-  live_cut (Err e) stopped err p later = subst (IsCut arenas d0 d1) (run_is tree world (live_events world last (given ++ later)) s) (p later (finishes tree world 1 world.runners)).1
-  live_cut (Ok ending) stopped err p later = cc
-
-  -- the finishes follow
-  pub live_on : (result : Result Ended TextStop) (ending : Ended) → result ≡ Ok ending → ending ≡ Done → RoundsGo result tree world last given arenas names d0 d1 a b s now → Going arenas names d0 d1 a b (Live given) (finishes tree world 1 world.runners now)
-  live_on (Ok Done) ending ok done p = subst (λ (t : Trace). Going arenas names d0 d1 a b t (finishes tree world 1 world.runners now)) (run_is tree world (live_events world last given) s) (p (finishes tree world 1 world.runners))
-  live_on (Ok Faulted) ending ok done p = cc
-  live_on (Err stopped) ending ok done p = cc
-
-  -- .. and were written
-  pub live_run : (result : Result Ended TextStop) (ending : Ended) → result ≡ Ok ending → ending ≡ Done → RoundsGo result tree world last given arenas names d0 d1 a b s now →
-      (d2 : List DriverState) (c : Option (List ℕ)) (arenas1 : List (List Node)) → arenas1 ≡ arenas → (ends : Result Ended TextStop) → IfOk ends (λ e. IsRun arenas1 names d1 d2 b c e (finishes tree world 1 world.runners now)) → IfOk ends (λ e. IsRun arenas names d0 d2 a c e (Live given))
-  live_run result ending ok done p d2 c arenas1 same (Ok e) run =
-      going_run arenas names d0 d1 d2 a b c (Live given) (finishes tree world 1 world.runners now) (finishes tree world 1 world.runners now) e (live_on result ending ok done p)
-      (subst (λ (x : List (List Node)). IsRun x names d1 d2 b c e (finishes tree world 1 world.runners now)) same run)
-  live_run result ending ok done p d2 c arenas1 same (Err stopped) run = tt
-
-  -- .. or a front of them
-  pub live_part : (result : Result Ended TextStop) (ending : Ended) → result ≡ Ok ending → ending ≡ Done → RoundsGo result tree world last given arenas names d0 d1 a b s now →
-      (c : Option (List ℕ)) → AppendedFront b c (text_of names (finishes tree world 1 world.runners now).blocks) → AppendedFront a c (text_of names (Live given).blocks)
-  live_part result ending ok done p c front =
-      going_front arenas names d0 d1 d1 a b c (Live given) (finishes tree world 1 world.runners now) (finishes tree world 1 world.runners now) (live_on result ending ok done p) front
+  abbrev Rounds : List ℕ → (RunState → Trace) → Trace
+  Rounds moments rest = rounds_then of Opened moments rest (state_at of s0)
 
   -- the rounds begun, where a fault ended them
-  pub begun_last : (result : Result Ended TextStop) (ending : Ended) → result ≡ Ok ending → ending ≡ Faulted → RoundsGo result tree world last given arenas names d0 d1 a b s now → (later : List ℕ) → AreBegun tree world last (given ++ later) s (length given)
-  begun_last (Ok Faulted) ending ok faulted p later = record {
-    within = omega (arith, length-append given later);
-    before = subst (λ (ms : List ℕ). fault_in tree world last ms s ≡ None) (sym (take-append-le (length given - 1) given later (omega arith))) p.1;
-    ended = λ more. subst (λ (ms : List ℕ). IsSome (fault_in tree world last ms s)) (append-nil given ∙ sym (take_at given later (length given) refl)) (is_fault _ (p.0 [] nothing_more).ends);
+  begun_last : (p : RoundsMade of (Ok Faulted) rounds s0 s1 asked left) (later : List ℕ) → AreBegun of.tree of.world Opened (p.given ++ later) (state_at of s0) (length p.given)
+  begun_last p later = record {
+    within = omega (arith, length-append p.given later);
+    before = ap (λ (ms : List ℕ). fault_in of.tree of.world Opened ms (state_at of s0)) (take-append-le (length p.given - 1) p.given later (omega arith)) ∙ p.before refl;
+    ended = λ more. subst (λ (ms : List ℕ). IsSome (fault_in of.tree of.world Opened ms (state_at of s0))) (append-nil p.given ∙ sym (take_at p.given later (length p.given) refl)) (is_fault _ ((p.made [] (λ done. cc)).goes nothing_more).ends);
   }
-  begun_last (Ok Done) ending ok faulted p later = cc
-  begun_last (Err stopped) ending ok faulted p later = cc
 
   -- .. and where none did
-  pub begun_all : (result : Result Ended TextStop) (ending : Ended) → result ≡ Ok ending → ending ≡ Done → RoundsGo result tree world last given arenas names d0 d1 a b s now → AreBegun tree world last given s (length given)
-  begun_all (Ok Done) ending ok done p = record {
-    within = omega arith;
-    before = rounds_front tree world last (take (length given - 1) given) (drop (length given - 1) given) s (subst (λ (ms : List ℕ). fault_in tree world last ms s ≡ None) (sym (take-append-drop (length given - 1) given)) (sym (p nothing_more).fault));
-    ended = λ more. absurd (omega (arith, more));
+  begun_all : (p : RoundsMade of (Ok Done) rounds s0 s1 asked left) → AreBegun of.tree of.world Opened p.given (state_at of s0) (length p.given)
+  begun_all p =
+      let none : fault_in of.tree of.world Opened p.given (state_at of s0) ≡ None =
+      ap (λ (ms : List ℕ). fault_in of.tree of.world Opened ms (state_at of s0)) (sym (append-nil p.given)) ∙ sym ((p.made [] (λ done. refl)).goes nothing_more).fault in
+      record {
+        within = omega arith;
+        before = rounds_front of.tree of.world Opened (take (length p.given - 1) p.given) (drop (length p.given - 1) p.given) (state_at of s0)
+            (ap (λ (ms : List ℕ). fault_in of.tree of.world Opened ms (state_at of s0)) (take-append-drop (length p.given - 1) p.given) ∙ none);
+        ended = λ more. absurd (omega (arith, more));
+      }
+
+  last_begun : (p : RoundsMade of (Ok Faulted) rounds s0 s1 asked left) (asked' : Option Moments) → HasGiven asked' left p.given → IfSome asked' (λ m. AreBegun of.tree of.world Opened (taken rounds m) (state_at of s0) (length p.given))
+  last_begun p None has = tt
+  last_begun p (Some m) has =
+      subst (λ (ms : List ℕ). AreBegun of.tree of.world Opened ms (state_at of s0) (length p.given)) (are_moments rounds (Some m) left p.given has p.within).given
+      (begun_last p (to_come (rounds - length p.given) left))
+
+  on_any : {P : Type 0} (ends : Result Ended TextStop) → P → OnOk ends P
+  on_any (Ok ending) p = p
+  on_any (Err stopped) p = tt
+
+  all_begun : (p : RoundsMade of (Ok Done) rounds s0 s1 asked left) (ends : Result Ended TextStop) (asked' : Option Moments) → HasGiven asked' left p.given → IfSome asked' (λ m. OnOk ends (AreBegun of.tree of.world Opened (taken rounds m) (state_at of s0) (length p.given)))
+  all_begun p ends None has = tt
+  all_begun p ends (Some m) has =
+      on_any ends (subst (λ (ms : List ℕ). AreBegun of.tree of.world Opened ms (state_at of s0) (length p.given)) (are_all rounds (Some m) left p.given has (p.all refl)).given (begun_all p))
+
+  none_begun : (stopped : TextStop) (asked' : Option Moments) (P : Moments → Type 0) → IfSome asked' (λ m. OnOk {T = Ended} {E = TextStop} (Err stopped) (P m))
+  none_begun stopped None P = tt
+  none_begun stopped (Some m) P = tt
+
+  -- all rounds were made, and then the runners were finished
+  pub live_done : (result : Result Ended TextStop) (s2 : Stage) → RoundsMade of (Ok Done) rounds s0 s1 asked left → Makes of result s1 s2 (λ rest. Finishes rest (state_at of s1)) → LiveMade of result rounds s0 s2 asked left
+  live_done result s2 p q = record {
+    moments = p.given;
+    are = are_all rounds asked left p.given p.told (p.all refl);
+    made =
+        part_next of s0 s1 (λ rest. Rounds p.given (Finishes rest)) (λ rest. Finishes rest (state_at of s1)) result s2 (λ rest. Finishes rest (state_at of s1)) (λ rest. rest)
+        (part_before of s0 s1 (Rounds p.given) (λ rest. rest (state_at of s1)) (Ok Done) Finishes
+        (part_as of s0 s1 (Rounds (p.given ++ [])) (λ rest. rest (state_at of s1)) (Ok Done) (Rounds p.given) (λ rest. ap (λ (ms : List ℕ). Rounds ms rest) (append-nil p.given)) (p.made [] (λ done. refl))))
+        (λ rest. refl) q;
+    asked = record { begun = length p.given; within = p.within; asked = p.told.left; begin = all_begun p result asked p.told; all = λ done. p.all refl };
   }
-  begun_all (Ok Faulted) ending ok done p = cc
-  begun_all (Err stopped) ending ok done p = cc
 
--- ---- Answers
+  rounds_over : (result : Result Ended TextStop) → (result ≡ Ok Done → ⊥) → (p : RoundsMade of result rounds s0 s1 asked left) (later : List ℕ) → Makes of result s0 s1 (λ rest. Rounds (p.given ++ later) (Finishes rest))
+  rounds_over result ends p later =
+      part_to of s0 s1 (λ rest. Rounds (p.given ++ later) (Finishes rest)) (λ rest. Finishes rest (state_at of s1)) result (λ rest. rest (state_at of s1)) (λ done. absurd (ends done))
+      (part_before of s0 s1 (Rounds (p.given ++ later)) (λ rest. rest (state_at of s1)) result Finishes (p.made later (λ done. absurd (ends done))))
 
-pub if_err : (result : Result Ended TextStop) (P : Ended → Type 0) → IsErr result → IfOk result P
-if_err (Err stopped) P err = tt
-if_err (Ok ending) P err = cc
+  -- a fault ended the run in a round
+  pub live_faulted : RoundsMade of (Ok Faulted) rounds s0 s1 asked left → LiveMade of (Ok Faulted) rounds s0 s1 asked left
+  live_faulted p = record {
+    moments = p.given ++ to_come (rounds - length p.given) left;
+    are = are_moments rounds asked left p.given p.told p.within;
+    made = rounds_over (Ok Faulted) (λ done. cc) p (to_come (rounds - length p.given) left);
+    asked = record { begun = length p.given; within = p.within; asked = p.told.left; begin = last_begun p asked p.told; all = λ done. cc };
+  }
 
-on_any : (ends : Result Ended TextStop) {P : Type 0} → P → OnOk ends P
-on_any (Ok ending) p = p
-on_any (Err stopped) p = tt
+  -- .. or it was stopped there
+  live_stopped : (stopped : TextStop) → RoundsMade of (Err stopped) rounds s0 s1 asked left → LiveMade of (Err stopped) rounds s0 s1 asked left
+  live_stopped stopped p = record {
+    moments = p.given ++ to_come (rounds - length p.given) left;
+    are = are_moments rounds asked left p.given p.told p.within;
+    made = rounds_over (Err stopped) (λ done. cc) p (to_come (rounds - length p.given) left);
+    asked = record { begun = length p.given; within = p.within; asked = p.told.left; begin = none_begun stopped asked (λ m. AreBegun of.tree of.world Opened (taken rounds m) (state_at of s0) (length p.given)); all = λ done. cc };
+  }
 
-on_err : (ends : Result Ended TextStop) (P : Type 0) → IsErr ends → OnOk ends P
-on_err (Err stopped) P err = tt
-on_err (Ok ending) P err = cc
+  pub live_over : (ends : Result Ended TextStop) → IsErr ends → RoundsMade of ends rounds s0 s1 asked left → LiveMade of ends rounds s0 s1 asked left
+  live_over (Err stopped) err p = live_stopped stopped p
+  live_over (Ok ending) err p = absurd (let w : false ≡ true = err in cc)
 
-pub none_begun : (ends : Result Ended TextStop) → IsErr ends → (old : Option Moments) (P : Moments → Type 0) → IfSome old (λ m. OnOk ends (P m))
-none_begun ends err None P = tt
-none_begun ends err (Some m) P = on_err ends (P m) err
+-- no round was begun
+pub asked_nothing : (ends : Result Ended TextStop) → IsErr ends → (tree : Tree) (world : World) (rounds last : ℕ) (s : RunState) (old : Option Moments) → WasAsked ends tree world rounds last s old old
+asked_nothing (Ok ending) err tree world rounds last s old = cc
+asked_nothing (Err stopped) err tree world rounds last s old = record {
+  begun = 0;
+  within = omega arith;
+  asked = (given_none old).left;
+  begin = none old;
+  all = λ done. cc;
+} where
+  none : (o : Option Moments) → IfSome o (λ m. OnOk {T = Ended} {E = TextStop} (Err stopped) (AreBegun tree world last (taken rounds m) s 0))
+  none None = tt
+  none (Some m) = tt
 
-module _ (tree : Tree) (world : World) (last : ℕ) (given : List ℕ) (arenas : List (List Node)) (names : LineNames) (d0 d1 : List DriverState) (a b : Option (List ℕ)) (s now : RunState) (rounds : ℕ) (new : Option Moments)
-    (result : Result Ended TextStop) (ending : Ended) (ok : result ≡ Ok ending) (go : RoundsGo result tree world last given arenas names d0 d1 a b s now) where
-  pub last_begun : ending ≡ Faulted → length given ≤ rounds → (old : Option Moments) → HasGiven old new given → IfSome old (λ m. AreBegun tree world last (taken rounds m) s (length given))
-  last_begun faulted within None has = tt
-  last_begun faulted within (Some m) has =
-      subst (λ (ms : List ℕ). AreBegun tree world last ms s (length given)) (are_moments rounds (Some m) new given has within).given
-      (begun_last tree world last given arenas names d0 d1 a b s now result ending ok faulted go (to_come (rounds - length given) new))
+-- rounds whose answer is known
+pub rounds_as : (of : Setup) (result ends : Result Ended TextStop) (rounds : ℕ) (s0 s1 : Stage) (asked left : Option Moments) → result ≡ ends → RoundsMade of result rounds s0 s1 asked left → RoundsMade of ends rounds s0 s1 asked left
+rounds_as of result ends rounds s0 s1 asked left same p = subst (λ (r : Result Ended TextStop). RoundsMade of r rounds s0 s1 asked left) same p
 
-  pub all_begun : ending ≡ Done → length given ≡ rounds → (ends : Result Ended TextStop) → (old : Option Moments) → HasGiven old new given → IfSome old (λ m. OnOk ends (AreBegun tree world last (taken rounds m) s (length given)))
-  all_begun done all ends None has = tt
-  all_begun done all ends (Some m) has =
-      on_any ends
-      (subst (λ (ms : List ℕ). AreBegun tree world last ms s (length given)) (are_all rounds (Some m) new given has all).given
-      (begun_all tree world last given arenas names d0 d1 a b s now result ending ok done go))
+-- the events that were followed are a round
+pub round_is : (of : Setup) (result : Result Ended TextStop) (s1 s2 : Stage) (events : List Event) (at : ℕ) → events ≡ round_of of.world.runners at → Makes of result s1 s2 (λ rest. events_then of.tree of.world events rest (state_at of s1)) →
+    Makes of result s1 s2 (λ rest. events_then of.tree of.world (round_of of.world.runners at) rest (state_at of s1))
+round_is of result s1 s2 events at is made = subst (λ (es : List Event). Makes of result s1 s2 (λ rest. events_then of.tree of.world es rest (state_at of s1))) is made
+
+-- .. of runs under another name
+pub asked_as : (of : Setup) (result : Result Ended TextStop) (rounds : ℕ) (drivers : List DriverState) (a b : Runs) (old new : Option Moments) → a ≡ b → WasAsked result of.tree of.world rounds a.last (state_in of drivers a) old new →
+    WasAsked result of.tree of.world rounds b.last (state_in of drivers b) old new
+asked_as of result rounds drivers a b old new same p = subst (λ (r : Runs). WasAsked result of.tree of.world rounds r.last (state_in of drivers r) old new) same p

@@ -24,6 +24,7 @@ use Rattle.bt_loop.specs.Steps.{EventEnds}
 use Rattle.bt_loop.proofs.Lists.{set_is, within}
 use Rattle.bt_loop.proofs.Resting.{resting_hold_nothing}
 use Rattle.bt_trace.specs.Going.{AreAtRest, Stand}
+use Rattle.bt_trace.specs.Traces.{Setup, state_in}
 
 module _ (tree : Tree) (world : World) (runner : ℕ) (s : RunState) (steady : RunSteady tree.term world.rows s) (before : AreAtRest (runner - 1) s) where
   abbrev Ends : Result (Unit {0}) NodeFault → Done (Unit {0}) Memory → Type 0
@@ -55,7 +56,7 @@ rest_holds_nothing tree world drivers runs are many all rest =
     resting_hold_nothing tree world drivers runs are
     (λ k r at. rest k r (omega (arith, all, within (state_of_runs tree.term drivers runs).runners k r at, length-map runs.runners.items (runner_in tree.term drivers))) at)
 
--- behind a finish of these runs that ended in no fault
+-- after a finish of these runs that ended in no fault
 pub rests_after : (tree : Tree) (world : World) (runner : ℕ) (runs : Runs) {before : List DriverState} → AreRuns tree world before runs → AreAtRest (runner - 1) (state_of_runs tree.term before runs) →
     (made : Result (Unit {0}) (Stop RunFault)) (new : Runs) (block : Block) (after : List DriverState) (d : Stepped) → d ≡ finish tree world runner (state_of_runs tree.term before runs) → made ≡ Ok tt →
     EventEnds made tree.term before after new block d → AreAtRest runner (state_of_runs tree.term after new)
@@ -68,16 +69,16 @@ rests_after tree world runner runs are rest (Err e) new block after d is whole e
 pub none_yet : (tree : Tree) (drivers : List DriverState) (runs : Runs) → AreAtRest 0 (state_of_runs tree.term drivers runs)
 none_yet tree drivers runs = λ k r low at. absurd (omega (arith, low))
 
--- .. and behind the finish of the next one
+-- .. and after the finish of the next one
 pub next_rests : (tree : Tree) (place : ℕ) (d0 d1 : List DriverState) (old new : Runs) → (AreAtRest (place + 1 - 1) (state_of_runs tree.term d0 old) → AreAtRest (place + 1) (state_of_runs tree.term d1 new)) →
     AreAtRest place (state_of_runs tree.term d0 old) → AreAtRest (place + 1) (state_of_runs tree.term d1 new)
 next_rests tree place d0 d1 old new rests rest = rests (let same : place ≡ place + 1 - 1 = omega arith in subst (λ (n : ℕ). AreAtRest n (state_of_runs tree.term d0 old)) same rest)
 
 -- where all have rested that can go on, nothing is held
-pub rest_or_stopped : (tree : Tree) (world : World) (drivers : List DriverState) (runs : Runs) (many : ℕ) → Stand tree world drivers runs → (runs.usable ≡ true → AreAtRest many (state_of_runs tree.term drivers runs)) → length runs.runners.items ≤ many → NothingHeld drivers
-rest_or_stopped tree world drivers runs many stand rest all = by runs.usable refl where
+pub rest_or_stopped : (of : Setup) (drivers : List DriverState) (runs : Runs) (many : ℕ) → Stand of drivers runs → (runs.usable ≡ true → AreAtRest many (state_in of drivers runs)) → length runs.runners.items ≤ many → NothingHeld drivers
+rest_or_stopped of drivers runs many stand rest all = by runs.usable refl where
   by : (usable : Bool) → runs.usable ≡ usable → NothingHeld drivers
-  by true is = rest_holds_nothing tree world drivers runs (stand.on is) many all (rest is)
+  by true is = rest_holds_nothing of.tree of.world drivers runs (stand.on is) many all (rest is)
   by false is = stand.off is
 
 -- runs of the same arenas have as many runners

@@ -8,12 +8,12 @@ use Rattle.bt_model.specs.Run.{RunnerCall, Trace}
 use Rattle.bt_arena.specs.declared.nodes.Node.{Node}
 use Rattle.bt_loop.specs.Runs.{roster_over}
 
--- calls that let go of what is held
+-- calls that halt what is held
 abbrev pub AreHalts : List RunnerCall → Type 0
 AreHalts calls = AllByRecursion (λ (c : RunnerCall). c.call.phase ≡ phase.Halted) calls
 
 -- the drivers had such calls alone
-pub record LetGo (arenas : List (List Node)) (before after : List DriverState) : Type 0 where
+pub record HaveHalted (arenas : List (List Node)) (before after : List DriverState) : Type 0 where
   pub halts : List RunnerCall
   pub are : AreHalts halts
   pub drivers : after ≡ roster_over arenas halts before

@@ -1,6 +1,7 @@
 -- Rounds of ticks at the moments of a clock.
-use Rattle.std.specs.Prelude.{◌≡◌, ℕ, zero, suc, ◌+◌, ◌-◌, ◌<◌, ◌≤◌, max, List, [], ◌∷◌, length, take, Option, None, IfSome, IsSome}
+use Rattle.std.specs.Prelude.{◌≡◌, ℕ, zero, suc, ◌+◌, ◌-◌, ◌<◌, ◌≤◌, max, List, [], ◌∷◌, length, take, Option, None, IfSome, IsSome, Result, Ok, OnOk}
 use Rattle.std.specs.List.{flat_map}
+use Rattle.std.specs.Option.{option_map}
 use Rattle.bt_model.specs.declared.fault.RunFault.{RunFault}
 use Rattle.bt_model.specs.declared.term.Tree.{Tree}
 use Rattle.bt_model.specs.declared.world.Event.{Event}
@@ -8,6 +9,9 @@ use Rattle.bt_model.specs.declared.world.What.TheVariants.{Tick}
 use Rattle.bt_model.specs.declared.world.World.{World}
 use Rattle.bt_model.specs.Run.{RunState, Trace, step, then_rest}
 use Rattle.bt_outside.specs.Moments.{Moments, after_now}
+use Rattle.bt_text.specs.declared.stop.TextStop.{TextStop}
+use Rattle.bt_trace.specs.declared.ended.Ended.{Ended}
+use Rattle.bt_trace.specs.declared.ended.Ended.TheVariants.{Done}
 
 -- ---- Moments
 
@@ -42,7 +46,7 @@ ticks_from runner (suc others) at = record { at = at; what = Tick runner } ∷ t
 abbrev pub round_of : ℕ → ℕ → List Event
 round_of runners at = ticks_from 1 runners at
 
--- a round at each of these moments, of which the first comes behind this one
+-- a round at each of these moments, of which the first follows this one
 abbrev pub live_events : World → ℕ → List ℕ → List Event
 live_events world last moments = flat_map (round_of world.runners) (never_back last moments)
 
@@ -66,3 +70,11 @@ pub record AreBegun (tree : Tree) (world : World) (last : ℕ) (moments : List �
   pub within : begun ≤ length moments
   pub before : fault_in tree world last (take (begun - 1) moments) s ≡ None
   pub ended : begun < length moments → IsSome (fault_in tree world last (take begun moments) s)
+
+-- how often a clock was asked for the moments of so many rounds, with this answer: once for each round that began
+pub record WasAsked (result : Result Ended TextStop) (tree : Tree) (world : World) (rounds last : ℕ) (s : RunState) (old new : Option Moments) : Type 0 where
+  pub begun : ℕ
+  pub within : begun ≤ rounds
+  pub asked : new ≡ option_map (moments_after begun) old
+  pub begin : IfSome old (λ m. OnOk result (AreBegun tree world last (taken rounds m) s begun))
+  pub all : result ≡ Ok Done → begun ≡ rounds

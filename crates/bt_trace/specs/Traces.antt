@@ -1,24 +1,31 @@
 -- What a run leaves, against the definition's trace.
-use Rattle.std.specs.Prelude.{◌≡◌, ℕ, List, [], ◌∷◌, Option, Some, None}
+use Rattle.std.specs.Prelude.{◌≡◌, ℕ, List, [], ◌∷◌, Option, Some, None, Result, IfOk, OnErr}
+use Rattle.std.specs.List.{flat_map}
 use Rattle.bt_model.specs.declared.fault.RunFault.{RunFault}
 use Rattle.bt_model.specs.declared.term.Tree.{Tree}
 use Rattle.bt_model.specs.declared.world.Event.{Event}
 use Rattle.bt_model.specs.declared.world.World.{World}
 use Rattle.bt_model.specs.Drivers.{DriverState, NothingHeld}
-use Rattle.bt_model.specs.Lines.{LineNames, line_names}
-use Rattle.bt_model.specs.Run.{Trace, run_from}
+use Rattle.bt_model.specs.Run.{RunState, Trace, run_from}
 use Rattle.bt_model.specs.Trees.{IsValid}
 use Rattle.bt_model.specs.Worlds.{IsValidWorld}
-use Rattle.bt_outside.specs.Appending.{Appended}
+use Rattle.bt_outside.specs.Appending.{AppendedFront}
+use Rattle.bt_text.specs.declared.stop.TextStop.{TextStop}
 use Rattle.bt_arena.specs.declared.nodes.Node.{Node}
 use Rattle.bt_loop.specs.declared.runs.Runs.{Runs}
 use Rattle.bt_loop.specs.Runs.{AreRuns, roster_over, state_of_runs}
-use Rattle.bt_loop.specs.Steps.{CanCome}
+use Rattle.bt_loop.specs.Steps.{CanCome, IsSameRoster}
 use Rattle.bt_trace.specs.declared.ended.Ended.{Ended}
 use Rattle.bt_trace.specs.declared.ended.Ended.TheVariants.{Done, Faulted}
-use Rattle.bt_trace.specs.Texts.{text_of}
+use Rattle.bt_trace.specs.Cuts.{IsCut}
+use Rattle.bt_trace.specs.Watches.{Watched, WasShown}
 
 -- ---- Premises
+
+-- what is run: a tree in a world
+pub record Setup : Type 0 where
+  pub tree : Tree
+  pub world : World
 
 -- each of these events names a runner or a fact that is there, at no moment before this one and those of the events
 -- before it
@@ -26,27 +33,55 @@ abbrev pub CanAllCome : World → ℕ → List Event → Type 0
 CanAllCome world last [] = Unit {0}
 CanAllCome world last (event ∷ events) = CanCome world last event × CanAllCome world event.at events
 
--- runs of a valid tree in a valid world, which hold nothing, and the names that their lines need
-pub record CanRun (tree : Tree) (world : World) (names : LineNames) (drivers : List DriverState) (runs : Runs) : Type 0 where
-  pub is_valid : IsValid tree
-  pub is_valid_world : IsValidWorld world
-  pub named : names ≡ line_names tree world
-  pub are : AreRuns tree world drivers runs
+-- the moment of the last of these events, or this one where there is none
+abbrev pub last_moment : ℕ → List Event → ℕ
+last_moment last [] = last
+last_moment last (event ∷ events) = last_moment event.at events
+
+-- runs of a valid tree in a valid world, which hold nothing
+pub record CanRun (of : Setup) (drivers : List DriverState) (runs : Runs) : Type 0 where
+  pub is_valid : IsValid of.tree
+  pub is_valid_world : IsValidWorld of.world
+  pub are : AreRuns of.tree of.world drivers runs
   pub none : NothingHeld drivers
 
 -- ---- Ends
 
+-- the state that runs keep
+abbrev pub state_in : Setup → List DriverState → Runs → RunState
+state_in of drivers runs = state_of_runs of.tree.term drivers runs
+
 -- the trace of these events, from the state that runs keep
-abbrev pub trace_of : Tree → World → List DriverState → Runs → List Event → Trace
-trace_of tree world drivers runs events = run_from tree world events (state_of_runs tree.term drivers runs)
+abbrev pub trace_of : Setup → List DriverState → Runs → List Event → Trace
+trace_of of drivers runs events = run_from of.tree of.world events (state_in of drivers runs)
 
 -- how a run ends, by its fault
 abbrev pub ended : Option RunFault → Ended
 ended None = Done
 ended (Some fault) = Faulted
 
--- a run has ended so as its trace does: the text of its blocks was written, and the drivers had its calls, in their order
-pub record IsRun (arenas : List (List Node)) (names : LineNames) (before after : List DriverState) (old new : Option (List ℕ)) (ending : Ended) (trace : Trace) : Type 0 where
+-- what a run finds and what it leaves: the drivers, and who watches it
+pub record Side : Type 0 where
+  pub drivers : List DriverState
+  pub watch : Watched
+
+abbrev pub side : List DriverState → Watched → Side
+side drivers watch = record { drivers = drivers; watch = watch }
+
+-- a run has ended so as its trace does: its blocks were shown, and the drivers had its calls, in their order
+pub record IsRun (arenas : List (List Node)) (old new : Side) (ending : Ended) (trace : Trace) : Type 0 where
   pub ends : ending ≡ ended trace.fault
-  pub written : Appended old new (text_of names trace.blocks)
-  pub drivers : after ≡ roster_over arenas trace.calls before
+  pub shown : WasShown old.watch new.watch trace.blocks
+  pub drivers : new.drivers ≡ roster_over arenas trace.calls old.drivers
+
+-- What a run leaves, by its answer: an end as that of its trace. Whatever is answered, no more was written than the text
+-- of its blocks; and where the run was stopped, the drivers had its first calls.
+pub record Leaves (result : Result Ended TextStop) (arenas : List (List Node)) (old new : Side) (trace : Trace) : Type 0 where
+  pub whole : IfOk result (λ ending. IsRun arenas old new ending trace)
+  pub front : AppendedFront old.watch.written new.watch.written (flat_map old.watch.text trace.blocks)
+  pub cut : OnErr result (IsCut arenas old.drivers new.drivers trace)
+
+-- the same drivers in the same places, of which none holds anything
+pub record AreKept (old new : List DriverState) : Type 0 where
+  pub same : IsSameRoster old new
+  pub none : NothingHeld new

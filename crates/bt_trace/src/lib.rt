@@ -1,8 +1,8 @@
-//! Runs the events of a world, or rounds by a clock: one block for each event, written to a sink, and
-//! then the finish of all runners.
+//! Runs the events of a world, or rounds by a clock, and then the finish of all runners. Each event
+//! leaves a block, which a watcher is shown: one writes the trace, another counts.
 #![tactic(auto)]
 
-mod counting;
+mod counter;
 mod counts;
 mod ended;
 mod events;
@@ -10,9 +10,14 @@ mod finishes;
 mod rounds;
 mod running;
 mod showing;
+mod underway;
+mod watch;
+mod writer;
 
-pub use counting::count_events;
+pub use counter::Counter;
 pub use counts::Counts;
 pub use ended::Ended;
 pub use rounds::run_rounds;
 pub use running::run_events;
+pub use watch::Watch;
+pub use writer::Writer;

@@ -3,14 +3,15 @@ use Rattle.bt_loop.proofs.Growing.{indexed}
 use Rattle.bt_load.proofs.nodes.nodes.Goals as goal
 
 pub overflow_sub-result : goal.overflow_sub-result
-overflow_sub-result c =
-    let r = c.requires.runs in
+overflow_sub-result g c =
+    let r = c.requires in
     let runners = c.args.runs.now.runners.items in
-    let at = indexed runners runners 0 c.index.result.now refl (omega (arith, r.4.fit.many, r.3.some_runner)) c.index.ensures in
-    omega (arith, (r.4.fit.each 0 c.index.result.now at).nodes, c.len.ensures)
+    let at = indexed runners runners 0 c.index.result.now refl (omega (arith, r.2.fit.many, r.1.some_runner)) c.index.ensures in
+    omega (arith, (r.2.fit.each 0 c.index.result.now at).nodes, c.len.ensures)
 
 pub returns : goal.returns
-returns c = λ tree world drivers valid are.
+returns g c =
+    let r = c.requires in
     let runners = c.args.runs.now.runners.items in
-    let at = indexed runners runners 0 c.index.result.now refl (omega (arith, are.fit.many, valid.some_runner)) c.index.ensures in
-    omega (arith, (are.fit.each 0 c.index.result.now at).nodes, c.len.ensures)
+    let at = indexed runners runners 0 c.index.result.now refl (omega (arith, r.2.fit.many, r.1.some_runner)) c.index.ensures in
+    omega (arith, (r.2.fit.each 0 c.index.result.now at).nodes, c.len.ensures)

@@ -1,27 +1,20 @@
-use Rattle.std.proofs.Common.{ℕ, List, subst}
-use Rattle.bt_outside.specs.Appending.{Appended, AppendedFront}
-use Rattle.bt_outside.proofs.Appends.{AppendedFront-nothing, AppendedFront-whole}
+use Rattle.std.proofs.Common.{ap, Err}
+use Rattle.std.proofs.lemmas.Result.{err_from_is_err_and}
+use Rattle.bt_output.proofs.Runs.{line_gave, line_stopped, no_line}
 use Rattle.bt_output.proofs.join.run_summed.Goals as goal
 
-pub returns-in_err-line-clause-front : goal.returns-in_err-line-clause-front
-returns-in_err-line-clause-front g c = λ tree world can come. AppendedFront-nothing _ _
+pub returns-in_err-line-clause-gave : goal.returns-in_err-line-clause-gave
+returns-in_err-line-clause-gave g c =
+    let p = err_from_is_err_and c.from_residual.result c.from_residual.ensures.1 in
+    rw (p.1, p.2) (no_line g.of c.args.runs _ _ c.requires.opening c.args.leaves c.args.events.now c.requires.events _ _ _)
 
-pub returns-in_err-write_line-clause-front : goal.returns-in_err-write_line-clause-front
-returns-in_err-write_line-clause-front g c = λ tree world can come.
-    let p = c.in_ok-line.ensures.whole tree world can come in
-    subst (λ (x : List ℕ). AppendedFront (g.K.Sink.written c.args.out.now) (g.K.Sink.written c.write_line.new.out) x) p.told (rw c.as_slice.ensures.value at c.in_err-write_line.ensures.front)
+pub returns-in_err-write_line-clause-gave : goal.returns-in_err-write_line-clause-gave
+returns-in_err-write_line-clause-gave g c =
+    let p = err_from_is_err_and c.from_residual-in_err-write_line.result c.from_residual-in_err-write_line.ensures.1 in
+    rw (p.1, p.2) (line_stopped g.of c.args.runs _ _ c.requires.opening c.args.leaves c.args.events.now c.requires.events _ c.in_err-write_line.field-0.0 c.in_ok-line.ended c.in_ok-line.line.items _ _ _ _
+    c.in_ok-line.ensures.whole (rw c.as_slice.ensures.value at c.in_err-write_line.ensures.front) (λ e. c.in_err-write_line.ensures.failed (ap Err e)))
 
-pub returns-clause-whole : goal.returns-clause-whole
-returns-clause-whole g c = λ tree world can come.
-    let p = c.in_ok-line.ensures.whole tree world can come in
-    record {
-      ends = p.ends;
-      written = subst (λ (x : List ℕ). Appended (g.K.Sink.written c.args.out.now) (g.K.Sink.written c.write_line.new.out) x) p.told (rw c.as_slice.ensures.value at c.in_ok-write_line.ensures.whole);
-      drivers = p.drivers;
-    }
-
-pub returns-clause-front : goal.returns-clause-front
-returns-clause-front g c = λ tree world can come.
-    let p = c.in_ok-line.ensures.whole tree world can come in
-    AppendedFront-whole (g.K.Sink.written c.args.out.now) (g.K.Sink.written c.write_line.new.out) _
-    (subst (λ (x : List ℕ). Appended (g.K.Sink.written c.args.out.now) (g.K.Sink.written c.write_line.new.out) x) p.told (rw c.as_slice.ensures.value at c.in_ok-write_line.ensures.whole))
+pub returns-clause-gave : goal.returns-clause-gave
+returns-clause-gave g c =
+    line_gave g.of c.args.runs _ _ c.requires.opening c.args.leaves c.args.events.now c.requires.events _ c.in_ok-line.ended c.in_ok-line.line.items _ _ _ _
+    c.in_ok-line.ensures.whole (rw c.as_slice.ensures.value at c.in_ok-write_line.ensures.whole)

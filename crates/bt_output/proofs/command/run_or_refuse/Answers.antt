@@ -1,0 +1,29 @@
+use Rattle.std.proofs.Common.{arith, refl}
+use Rattle.bt_command_line.specs.Commands.{command_seen}
+use Rattle.bt_output.proofs.Files.{exit_answered, refusal_answered}
+use Rattle.bt_output.proofs.command.run_or_refuse.Goals as goal
+
+pub returns-in-Ok-clause-answered : goal.returns-in-Ok-clause-answered
+returns-in-Ok-clause-answered g c =
+    rw c.in-Some.ensures.command (exit_answered (command_seen c.in-Some.command) (g.S.Shelf.holds c.args.outside.now.shelf.now) _ _ c.in-Ok.exit _ _ c.in-Ok.ensures.ends)
+
+pub returns-in-Err-clause-answered : goal.returns-in-Err-clause-answered
+returns-in-Err-clause-answered g c =
+    rw c.in-Some.ensures.command (refusal_answered (command_seen c.in-Some.command) (g.S.Shelf.holds c.args.outside.now.shelf.now) _ _ c.in-Err.refusal _ _ _ _ _ c.in-Err.ensures.ends c.write_refusal.ensures.refused)
+
+pub returns-in-None-clause-answered : goal.returns-in-None-clause-answered
+returns-in-None-clause-answered g c =
+    rw c.in-None.ensures.command (c.write_refusal-in-None.ensures.refused (g.C.Clock.moments c.args.outside.now.clock.now) _ _ (λ place. refl))
+
+pub returns-in-Err-clause-stays : goal.returns-in-Err-clause-stays
+returns-in-Err-clause-stays g c =
+    let s = c.run_command.ensures.stays in
+    record {
+      shelf = s.shelf;
+      out = s.out;
+      clock = s.clock;
+      drivers = s.drivers;
+      kept = s.kept;
+      read_count = s.read_count;
+      count = omega (arith, s.count, c.write_refusal.ensures.count);
+    }

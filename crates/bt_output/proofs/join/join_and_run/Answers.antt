@@ -1,0 +1,24 @@
+use Rattle.std.proofs.Common.{refl}
+use Rattle.std.proofs.lemmas.Result.{err_from_is_err_and}
+use Rattle.bt_output.specs.declared.refusal.Refusal.TheVariants as refusal
+use Rattle.bt_output.specs.Output.{JoinGives}
+use Rattle.bt_output.proofs.Files.{refused_ends}
+use Rattle.bt_output.proofs.Runs.{join_stopped}
+use Rattle.bt_output.proofs.join.join_and_run.Goals as goal
+
+pub returns-in_err-slots-clause-ends : goal.returns-in_err-slots-clause-ends
+returns-in_err-slots-clause-ends g c =
+    let p = err_from_is_err_and c.from_residual.result c.from_residual.ensures.1 in
+    rw (p.1, p.2) (refused_ends (JoinGives g.of.tree g.of.world c.args.course) refusal.NoMemory _ (λ moments. tt))
+
+pub returns-in_err-names-clause-ends : goal.returns-in_err-names-clause-ends
+returns-in_err-names-clause-ends g c =
+    let p = err_from_is_err_and c.from_residual-in_err-names.result c.from_residual-in_err-names.ensures.1 in
+    rw (p.1, p.2) (refused_ends (JoinGives g.of.tree g.of.world c.args.course) refusal.NoMemory _ (λ moments. tt))
+
+pub returns-in_err-runs-clause-ends : goal.returns-in_err-runs-clause-ends
+returns-in_err-runs-clause-ends g c =
+    let p = err_from_is_err_and c.from_residual-in_err-runs.result c.from_residual-in_err-runs.ensures.1 in
+    rw (p.1, p.2) (join_stopped g.of.tree g.of.world c.args.course c.in_err-runs.field-0.0 _ _
+    (record { written = refl; faults = refl; clock = refl; drivers = c.make_runs.ensures.totals })
+    (rw (c.requires.tree, c.requires.world) at c.in_err-runs.ensures.fault))

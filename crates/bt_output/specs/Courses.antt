@@ -1,0 +1,24 @@
+-- What a run gives that was joined.
+use Rattle.std.specs.Prelude.{List, Some}
+use Rattle.bt_arena.specs.declared.nodes.Node.{Node}
+use Rattle.bt_loop.specs.Runs.{roster_over}
+use Rattle.bt_model.specs.Drivers.{DriverState}
+use Rattle.bt_model.specs.Run.{Trace, run_over}
+use Rattle.bt_outside.specs.Moments.{Moments}
+use Rattle.bt_output.specs.declared.course.Course.{Course}
+use Rattle.bt_output.specs.Output.{Given, Output, given, run_exit}
+use Rattle.bt_trace.specs.Traces.{Setup}
+
+-- the output of this trace: the drivers had its calls, in their order
+abbrev pub trace_output : Setup → List (List Node) → Given → Trace → Output
+trace_output of arenas g trace = record {
+  bytes = g.bytes of.tree of.world trace;
+  exit = run_exit trace.fault;
+  drivers = Some (roster_over arenas trace.calls g.drivers);
+  asked = g.asked of.tree of.world trace.fault;
+}
+
+-- the output of a run on this course, at these moments and with these drivers, which were prepared for it
+abbrev pub course_output : Setup → List (List Node) → Course → Moments → List DriverState → Output
+course_output of arenas course moments drivers =
+    trace_output of arenas (given course moments drivers) (run_over of.tree of.world ((given course moments drivers).events of.world))

@@ -1,0 +1,135 @@
+ghost use Rattle.std.specs.Prelude.{◌≡◌, ◌≤◌};
+ghost use Rattle.bt_output.specs.Answers.{IsRefused, IsSpoken, Printed};
+ghost use Rattle.bt_output.specs.Output.{line_of};
+
+use bt_arena::JoinFault;
+use bt_command_line::Exit;
+use bt_model::WorldFault;
+use bt_outside::Sink;
+use bt_refusals::{TreeFault, join_refusal, tree_refusal, world_refusal};
+use bt_script::{NoMemory, Stop};
+use bt_text::{TextStop, write_line};
+use std::alloc::Global;
+
+/// A file that a command names.
+#[derive(Clone, Copy, Debug, PartialEq, Eq)]
+pub enum File {
+    /// The tree file.
+    Tree,
+    /// The world script.
+    World,
+}
+
+/// Why a command has no output of its own.
+#[derive(Debug, Drop)]
+pub enum Refusal {
+    /// The words are no command.
+    Words,
+    /// This file could not be read.
+    Unread(File),
+    /// This file has more bytes than a file may have.
+    TooLong(File),
+    /// The tree file is none.
+    Tree(TreeFault),
+    /// The world file is none.
+    World(WorldFault),
+    /// A leaf of the tree lacks a row in the world, or a driver for its row.
+    Join(JoinFault),
+    /// The program is out of memory.
+    NoMemory,
+}
+
+impl From<NoMemory> for Refusal {
+    ghost use Rattle.bt_output.specs.declared.refusal.Refusal.TheVariants as refusal;
+
+    ghost from_gives = { λ _ refused. refused ≡ refusal.NoMemory };
+
+    fn from(_e: NoMemory) -> Refusal {
+        Refusal::NoMemory
+    }
+}
+
+impl From<Stop<TreeFault>> for Refusal {
+    ghost use Rattle.bt_output.specs.declared.refusal.Refusal.TheVariants as refusal;
+    ghost use Rattle.bt_output.specs.Output.{stopped_as};
+
+    ghost from_gives = { λ stopped refused. refused ≡ stopped_as refusal.Tree stopped };
+
+    fn from(stopped: Stop<TreeFault>) -> Refusal {
+        match stopped {
+            Stop::Fault(fault) => Refusal::Tree(fault),
+            Stop::NoMemory => Refusal::NoMemory,
+        }
+    }
+}
+
+impl From<Stop<WorldFault>> for Refusal {
+    ghost use Rattle.bt_output.specs.declared.refusal.Refusal.TheVariants as refusal;
+    ghost use Rattle.bt_output.specs.Output.{stopped_as};
+
+    ghost from_gives = { λ stopped refused. refused ≡ stopped_as refusal.World stopped };
+
+    fn from(stopped: Stop<WorldFault>) -> Refusal {
+        match stopped {
+            Stop::Fault(fault) => Refusal::World(fault),
+            Stop::NoMemory => Refusal::NoMemory,
+        }
+    }
+}
+
+impl From<Stop<JoinFault>> for Refusal {
+    ghost use Rattle.bt_output.specs.declared.refusal.Refusal.TheVariants as refusal;
+    ghost use Rattle.bt_output.specs.Output.{stopped_as};
+
+    ghost from_gives = { λ stopped refused. refused ≡ stopped_as refusal.Join stopped };
+
+    fn from(stopped: Stop<JoinFault>) -> Refusal {
+        match stopped {
+            Stop::Fault(fault) => Refusal::Join(fault),
+            Stop::NoMemory => Refusal::NoMemory,
+        }
+    }
+}
+
+/// Writes the one line of a command, which ends the program with this exit.
+fn write_last<K: Sink>(line: &[u8], exit: Exit, out: &mut K) -> Exit
+    requires { IsSpoken exit }
+    ensures printed { Printed (line_of line.now exit) result
+        (K.written out.old) (K.faults out.old) (K.written out.new) (K.faults out.new) }
+    ensures count { K.faults out.old ≤ K.faults out.new }
+{
+    match write_line(out, line) {
+        Ok(()) => exit,
+        Err(TextStop::WriteFault) => Exit::Write,
+        Err(TextStop::NoMemory) => Exit::Memory,
+    }
+}
+
+/// Writes the line of a refusal, and gives the exit that goes with it. Where the program is out of
+/// memory it writes none.
+pub fn write_refusal<K: Sink>(alloc: Global, refusal: &Refusal, out: &mut K) -> Exit
+    ensures refused { IsRefused refusal.now result
+        (K.written out.old) (K.faults out.old) (K.written out.new) (K.faults out.new) }
+    ensures count { K.faults out.old ≤ K.faults out.new }
+{
+    match refusal {
+        Refusal::Words => write_last(b"refused words\n", Exit::Words, out),
+        Refusal::Unread(File::Tree) => write_last(b"refused read tree\n", Exit::Read, out),
+        Refusal::Unread(File::World) => write_last(b"refused read world\n", Exit::Read, out),
+        Refusal::TooLong(File::Tree) => write_last(b"refused tree TooLong\n", Exit::Tree, out),
+        Refusal::TooLong(File::World) => write_last(b"refused world TooLong\n", Exit::World, out),
+        Refusal::Tree(fault) => match tree_refusal(alloc, fault) {
+            Ok(line) => write_last(line.as_slice(), Exit::Tree, out),
+            Err(NoMemory) => Exit::Memory,
+        },
+        Refusal::World(fault) => match world_refusal(alloc, *fault) {
+            Ok(line) => write_last(line.as_slice(), Exit::World, out),
+            Err(NoMemory) => Exit::Memory,
+        },
+        Refusal::Join(fault) => match join_refusal(alloc, fault) {
+            Ok(line) => write_last(line.as_slice(), Exit::World, out),
+            Err(NoMemory) => Exit::Memory,
+        },
+        Refusal::NoMemory => Exit::Memory,
+    }
+}
