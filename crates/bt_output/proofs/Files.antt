@@ -106,7 +106,7 @@ module _ (course : Course) (main : Option (List ℕ)) (tree world : List ℕ) (s
   tree_stopped stop.NoMemory a reads = refused_ends (RunsOn course main tree world) refusal.NoMemory a (λ moments. tt)
 
   -- the world script could not be parsed
-  pub world_stopped : (t : Tree) (stopped : Stop WorldFault) (a : Side) → ReadsAs (Ok t) main tree → Gives (Err {World} stopped) (ReadsWorld world) → EndsAt (RunsOn course main tree world) (Err (stopped_as refusal.World stopped)) a a
+  pub world_stopped : (t : Tree) (stopped : Stop WorldFault) (a : Side) → ReadsAs (Ok t) main tree → (let r : Result World (Stop WorldFault) = Err stopped in Gives r (ReadsWorld world)) → EndsAt (RunsOn course main tree world) (Err (stopped_as refusal.World stopped)) a a
   world_stopped t (stop.Fault f) a reads described =
       refused_ends (RunsOn course main tree world) (refusal.World f) a
       (λ moments. run_gives main tree world (given course moments a.drivers) (Ok t) (world_refused f) st sw reads (Err f, described, refl))
@@ -259,10 +259,10 @@ module _ (command : Command) (holds : Option (List ℕ → List ℕ)) (rose : Ty
         (λ moments x. inl x) f.answers;
   })
 
-  refused_answers : (P : Output → Type 0) (o : Option Output) (exit : Exit) (a b : Side) (written : Option (List ℕ)) (faults : ℕ) → IfSome o P → IsUntouched a b
-      → MatchOption o ((exit ≡ exit.Memory) × (written ≡ b.written)) (λ o. Printed o exit b.written b.faults written faults) → Answers P exit a (side written faults b.clock b.drivers)
-  refused_answers P None exit a b written faults is same x = inr (x.0, x.1 ∙ same.written)
-  refused_answers P (Some o) exit a b written faults is same x = inl (o, is, gave_after o exit a b written faults same x)
+  refused_answers : (P : Output → Type 0) (o : Option Output) (end : Exit) (a b : Side) (written : Option (List ℕ)) (faults : ℕ) → IfSome o P → IsUntouched a b
+      → MatchOption o ((end ≡ exit.Memory) × (written ≡ b.written)) (λ o. Printed o end b.written b.faults written faults) → Answers P end a (side written faults b.clock b.drivers)
+  refused_answers P None end a b written faults is same x = inr (x.0, x.1 ∙ same.written)
+  refused_answers P (Some o) end a b written faults is same x = inl (o, is, gave_after o end a b written faults same x)
 
   -- .. with a refusal, whose line was then written
   pub refusal_answered : (r : Refusal) (exit : Exit) (a b : Side) (written : Option (List ℕ)) (faults : ℕ) → Ended (Err r) a b → IsRefused r exit b.written b.faults written faults

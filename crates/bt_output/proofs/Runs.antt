@@ -182,7 +182,7 @@ module _ (of : Setup) (runs : Runs) (before after : List DriverState) (opened : 
       fault_asks moments None e left = let x : Faulted ≡ Done = e in cc
       fault_asks moments (Some f) e left = left
 
-      begun_of : (c : Option Moments) (ending : Ended) (begun : ℕ) → IfSome c (λ m. OnOk (Ok {TextStop} ending) (AreBegun of.tree of.world runs.last (taken rounds m) (state_in of before runs) begun))
+      begun_of : (c : Option Moments) (ending : Ended) (begun : ℕ) → (let r : Result Ended TextStop = Ok ending in IfSome c (λ m. OnOk r (AreBegun of.tree of.world runs.last (taken rounds m) (state_in of before runs) begun)))
           → IfSome c (λ m. AreBegun of.tree of.world runs.last (taken rounds m) (state_in of before runs) begun)
       begun_of None ending begun x = tt
       begun_of (Some m) ending begun x = x
@@ -248,7 +248,7 @@ module _ (of : Setup) (runs : Runs) (before after : List DriverState) (opened : 
 -- ---- Joins
 
 -- a leaf lacks what it needs, or memory ran out
-pub join_stopped : (tree : Tree) (world : World) (course : Course) (stopped : Stop JoinFault) (a b : Side) → IsUntouched a b → Joins (Err {Runs} stopped) (lack_of tree world a.drivers) → EndsAt (JoinGives tree world course) (Err (stopped_as refusal.Join stopped)) a b
+pub join_stopped : (tree : Tree) (world : World) (course : Course) (stopped : Stop JoinFault) (a b : Side) → IsUntouched a b → Joins {A = Runs} (Err stopped) (lack_of tree world a.drivers) → EndsAt (JoinGives tree world course) (Err (stopped_as refusal.Join stopped)) a b
 join_stopped tree world course (stop.Fault f) a b same lacks =
     at_any a.clock (λ moments. Ends (JoinGives tree world course moments a.drivers) (Err (refusal.Join f)) a b)
     (λ moments. (sym (ap (λ (lack : Option JoinFault). joined_output lack tree world (given course moments a.drivers)) lacks), same))

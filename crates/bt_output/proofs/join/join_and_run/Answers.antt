@@ -21,4 +21,4 @@ returns-in_err-runs-clause-ends g c =
     let p = err_from_is_err_and c.from_residual-in_err-runs.result c.from_residual-in_err-runs.ensures.1 in
     rw (p.1, p.2) (join_stopped g.of.tree g.of.world c.args.course c.in_err-runs.field-0.0 _ _
     (record { written = refl; faults = refl; clock = refl; drivers = c.make_runs.ensures.totals })
-    (rw (c.requires.tree, c.requires.world) at c.in_err-runs.ensures.fault))
+    (rw (c.requires.1.1.1.1.0, c.requires.1.1.1.1.1.0) at c.in_err-runs.ensures.fault))
