@@ -1,0 +1,6 @@
+pub mod Answers
+pub mod Guards
+pub mod Reached
+pub mod Rules
+pub mod Dead
+pub mod Steps
