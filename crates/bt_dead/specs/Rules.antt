@@ -1,5 +1,5 @@
 -- What the rule of a node may answer, by what its children may answer.
-use Rattle.std.specs.Prelude.{ℕ, ◌+◌, pos, negsuc, List, [], ◌∷◌, length, codes, Bool, true, false, ◌&&◌, ◌||◌, not, if◌then◌else◌, nat_lt, Option, Some, None}
+use Rattle.std.specs.Prelude.{ℕ, ◌+◌, ◌-◌, pos, negsuc, List, [], ◌∷◌, length, codes, Bool, true, false, ◌&&◌, ◌||◌, not, if◌then◌else◌, nat_lt, Option, Some, None}
 use Rattle.std.specs.List.{list_all, list_any}
 use Rattle.std.specs.Ordering.{int_eq}
 use Rattle.std.specs.Str.{bytes_eq}
@@ -32,9 +32,7 @@ all_skip children = list_all (λ (child : Answers). child.skipped) children
 
 -- whether the last child may be skipped
 abbrev pub last_skips : List Answers → Bool
-last_skips [] = true
-last_skips (child ∷ []) = child.skipped
-last_skips (child ∷ children) = last_skips children
+last_skips children = (answers_at children (length children - 1)).skipped
 
 -- whether some child may answer RUNNING, or the answer after which its round goes on
 abbrev pub some_seen : Answer → List Answers → Bool

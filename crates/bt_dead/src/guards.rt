@@ -1,4 +1,4 @@
-ghost use Rattle.std.specs.Prelude.{◌≡◌};
+ghost use Rattle.std.specs.Prelude.{◌≡◌, ◌&&◌};
 ghost use Rattle.bt_dead.specs.Guards.{answers_after, before_rule, constant_of, with_guard, may_be};
 
 use crate::answers::Answers;
@@ -31,13 +31,7 @@ fn may_be(truth: bool, constant: Option<i64>) -> bool
 {
     match constant {
         None => true,
-        Some(n) => {
-            if truth {
-                n != 0
-            } else {
-                n == 0
-            }
-        }
+        Some(n) => { if truth { n != 0 } else { n == 0 } }
     }
 }
 
@@ -79,5 +73,12 @@ impl Guarding {
         ensures { result ≡ answers_after self rule }
     {
         self.answers.or(rule.only_if(self.goes_on))
+    }
+
+    /// Whether a node visits a child that its rule may visit, where the node is reached or not.
+    pub(crate) fn visits(self, reached: bool, by_rule: bool) -> bool
+        ensures { result ≡ (reached && self.goes_on && by_rule) }
+    {
+        reached && self.goes_on && by_rule
     }
 }

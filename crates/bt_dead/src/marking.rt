@@ -5,7 +5,7 @@ ghost use Rattle.bt_dead.specs.Dead.{dead_nodes, outlook, unmarked};
 
 use crate::answers::Answers;
 use crate::guards::before_rule;
-use crate::reached::{goes_of, may_pass, reaches, selected_of};
+use crate::reached::{goes_of, reaches, selected_of, still_passes};
 use crate::rules::rule_answers;
 use bt_model::{Term, Tree};
 use bt_script::NoMemory;
@@ -28,13 +28,12 @@ fn mark(
     let before = before_rule(&term.guards);
     let selected = selected_of(term.kind, term.ports.list());
     let mut heard = Vec::new(alloc);
-    let mut all_pass = true;
+    let mut passes = true;
     for child in term.children.list() {
-        let comes = reached
-            && before.goes_on
-            && reaches(term.kind, selected, heard.as_slice(), all_pass);
+        let by_rule = reaches(term.kind, selected, heard.as_slice(), passes);
+        let comes = before.visits(reached, by_rule);
         let answers = mark(alloc, child, comes, marks)?;
-        all_pass = all_pass && may_pass(goes_of(term.kind), answers);
+        passes = still_passes(passes, goes_of(term.kind), answers);
         heard.push(answers)?;
     }
     let rule = rule_answers(term.kind, term.ports.list(), selected, heard.as_slice());

@@ -1,4 +1,4 @@
-ghost use Rattle.std.specs.Prelude.{◌≡◌, ◌++◌, List, Some, length, map, option_map};
+ghost use Rattle.std.specs.Prelude.{◌≡◌, ◌&&◌, ◌++◌, ◌≤◌, IfSome, List, Some, length, map, option_map};
 ghost use Rattle.std.specs.Option.{option_copied};
 ghost use Rattle.bt_model.specs.declared.term.Port.{Port};
 ghost use Rattle.bt_model.specs.Boards.{port_of};
@@ -25,10 +25,17 @@ pub(crate) fn answers_at(children: &[Answers], place: usize) -> Answers
 
 /// Whether a child that may answer so may let its round go on, which goes on after SKIPPED and after
 /// this answer.
-pub(crate) fn may_pass(goes: Answer, child: Answers) -> bool
+fn may_pass(goes: Answer, child: Answers) -> bool
     ensures { result ≡ may_pass goes child }
 {
     child.may(goes) || child.skipped
+}
+
+/// Whether some children may let their round go on, and this next one may as well.
+pub(crate) fn still_passes(earlier: bool, goes: Answer, child: Answers) -> bool
+    ensures { result ≡ (earlier && may_pass goes child) }
+{
+    earlier && may_pass(goes, child)
 }
 
 /// The answer after which a round of this kind of node goes on.
@@ -41,16 +48,26 @@ pub(crate) fn goes_of(kind: Kind) -> Answer
     }
 }
 
+/// The port of this name; none where there is no such port.
+fn port_named<'a>(ports: &'a [Port], name: &[u8]) -> Option<&'a Port>
+    ensures { option_copied result ≡ port_of ports.now name.now }
+{
+    for port in ports {
+        if port.name.list() == name {
+            return Some(port);
+        }
+    }
+    None
+}
+
 /// What the port of this name is given; none where there is no such port.
 pub(crate) fn given<'a>(ports: &'a [Port], name: &[u8]) -> Option<&'a PortValue>
     ensures { option_copied result ≡ given_by (port_of ports.now name.now) }
 {
-    for port in ports {
-        if port.name.list() == name {
-            return Some(&port.value);
-        }
+    match port_named(ports, name) {
+        Some(port) => Some(&port.value),
+        None => None,
     }
-    None
 }
 
 /// Whether this is the text of a value, a number in decimal.
@@ -66,7 +83,8 @@ fn has_text(value: &Value, text: &[u8]) -> bool
 /// The place of the first of these cases that has this text, or the place after them; none where
 /// one of them is given a key.
 fn literal_place(cases: &[PortRule], ports: &[Port], text: &[u8]) -> Option<usize>
-    ensures { result ≡ literal_place (map rule_seen cases.now) ports.now text.now }
+    ensures place { result ≡ literal_place (map rule_seen cases.now) ports.now text.now }
+    ensures few { IfSome result (λ place. place ≤ length cases.now) }
 {
     match cases {
         [] => Some(0),
@@ -142,10 +160,10 @@ pub(crate) fn reaches(
     kind: Kind,
     selected: Option<usize>,
     earlier: &[Answers],
-    all_pass: bool,
+    passes: bool,
 ) -> bool
     ensures { (ports : List Port) (later : List Answers) → selected ≡ selected_of kind ports →
-        all_pass ≡ all_pass (goes_of kind) (earlier.now ++ later) (length earlier.now) →
+        passes ≡ all_pass (goes_of kind) (earlier.now ++ later) (length earlier.now) →
         result ≡ reaches kind ports (earlier.now ++ later) (length earlier.now) }
 {
     match kind {
@@ -153,7 +171,7 @@ pub(crate) fn reaches(
         | Kind::SequenceWithMemory
         | Kind::ReactiveSequence
         | Kind::Fallback
-        | Kind::ReactiveFallback => all_pass,
+        | Kind::ReactiveFallback => passes,
         Kind::Switch(_) => may_be_selected(selected, earlier.len()),
         Kind::IfThenElse | Kind::WhileDoElse => {
             branch_reached(answers_at(earlier, 0), earlier.len())

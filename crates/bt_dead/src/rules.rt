@@ -5,7 +5,7 @@ ghost use Rattle.bt_dead.specs.Rules.{all_skip, branch_answers, decorator_answer
 ghost use Rattle.bt_dead.specs.Steps.{selected_of};
 
 use crate::answers::Answers;
-use crate::reached::{answers_at, given, may_be_selected, may_pass};
+use crate::reached::{answers_at, given, may_be_selected, still_passes};
 use bt_model::{Answer, Kind, Port, PortValue};
 use bt_script::Value;
 
@@ -20,17 +20,16 @@ fn all_skip(children: &[Answers]) -> bool
 fn last_skips(children: &[Answers]) -> bool
     ensures { result ≡ last_skips children.now }
 {
-    match children.last() {
-        Some(child) => child.skipped,
-        None => true,
-    }
+    answers_at(children, children.len().saturating_sub(1)).skipped
 }
 
 /// Whether some child may answer RUNNING, or the answer after which its round goes on.
 fn some_seen(goes: Answer, children: &[Answers]) -> bool
     ensures { result ≡ some_seen goes children.now }
 {
-    children.iter().any(|child| child.may(goes) || child.running)
+    children
+        .iter()
+        .any(|child| child.may(goes) || child.running)
 }
 
 /// What the children that a round reaches may answer, and whether all children may let it go on.
@@ -39,12 +38,12 @@ fn round_reached(goes: Answer, children: &[Answers]) -> (Answers, bool)
     ensures passes { result.1 ≡ all_pass goes children.now (length children.now) }
 {
     let mut reached = Answers::none();
-    let mut all_pass = true;
+    let mut passes = true;
     for child in children {
-        reached = reached.or(child.only_if(all_pass));
-        all_pass = all_pass && may_pass(goes, *child);
+        reached = reached.or(child.only_if(passes));
+        passes = still_passes(passes, goes, *child);
     }
-    (reached, all_pass)
+    (reached, passes)
 }
 
 /// What a node may answer that visits its children in a round, which goes on after this answer.
@@ -97,7 +96,7 @@ fn branch_answers(children: &[Answers]) -> Answers
 /// What a Retry or Repeat may answer with this limit, whose child is visited again after this
 /// answer and may answer so.
 fn turned(again: Answer, limit: Option<&PortValue>, child: Answers) -> Answers
-    ensures { result ≡ turned again (option_copied limit) child }
+    ensures { result ≡ turned again (option_copied limit.entry) child }
 {
     match limit {
         Some(PortValue::Lit(Value::Int(limit))) => {
@@ -114,7 +113,7 @@ fn turned(again: Answer, limit: Option<&PortValue>, child: Answers) -> Answers
 
 /// Whether a length is always 0.
 fn is_zero(length: Option<&PortValue>) -> bool
-    ensures { result ≡ is_zero (option_copied length) }
+    ensures { result ≡ is_zero (option_copied length.entry) }
 {
     match length {
         Some(PortValue::Lit(Value::Int(n))) => *n == 0,
@@ -124,7 +123,7 @@ fn is_zero(length: Option<&PortValue>) -> bool
 
 /// Whether a RunOnce with this `then_skip` never skips.
 fn never_skips(then_skip: Option<&PortValue>) -> bool
-    ensures { result ≡ never_skips (option_copied then_skip) }
+    ensures { result ≡ never_skips (option_copied then_skip.entry) }
 {
     match then_skip {
         Some(PortValue::Lit(Value::Int(n))) => *n == 0,

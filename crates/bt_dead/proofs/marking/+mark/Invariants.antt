@@ -16,7 +16,7 @@ invariant-loop-child l =
     record {
       heard : l.heard.items ++ answers_of (map outlook (drop l.child-index l.child-items)) ≡ all;
       many : length l.heard.items ≡ l.child-index;
-      passes : l.all_pass ≡ all_pass (goes_of node.kind) all l.child-index;
+      passes : l.passes ≡ all_pass (goes_of node.kind) all l.child-index;
       marks : l.marks.items ++ marks_below (λ place. l.reached && (before_rule node.guards).goes_on && reaches node.kind node.ports all place) l.child-index (map outlook (drop l.child-index l.child-items))
           ≡ l.fn.marks.items ++ (outlook l.term).marks l.reached;
       count : length l.marks.items + sum (map node_count (drop l.child-index l.child-items)) ≡ length l.fn.marks.items + node_count l.term;
