@@ -4,3 +4,4 @@ pub mod Reached
 pub mod Rules
 pub mod Dead
 pub mod Steps
+pub mod Runs

@@ -1,5 +1,5 @@
 -- What the rule of a node may answer, by what its children may answer.
-use Rattle.std.specs.Prelude.{ℕ, ◌+◌, ◌-◌, pos, negsuc, List, [], ◌∷◌, length, codes, Bool, true, false, ◌&&◌, ◌||◌, not, if◌then◌else◌, nat_lt, Option, Some, None}
+use Rattle.std.specs.Prelude.{ℕ, ◌+◌, ◌-◌, pos, negsuc, List, [], ◌∷◌, length, codes, Bool, false, ◌&&◌, ◌||◌, not, if◌then◌else◌, nat_lt, Option, Some}
 use Rattle.std.specs.List.{list_all, list_any}
 use Rattle.std.specs.Ordering.{int_eq}
 use Rattle.std.specs.Str.{bytes_eq}

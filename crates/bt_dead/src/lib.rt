@@ -3,6 +3,7 @@
 
 mod answers;
 mod guards;
+pub mod laws;
 mod marking;
 mod reached;
 mod rules;
