@@ -30,7 +30,7 @@ use Rattle.bt_dead.specs.Rules.{branch_answers, given, is_zero, never_skips, oth
 use Rattle.bt_dead.proofs.Fits.{Begins, IsBranch, IsLength, IsLimit, MayEnd, MayGoOn, MemoOf, RestsWith}
 use Rattle.bt_dead.proofs.RoundSteps.{reached_has}
 use Rattle.bt_dead.proofs.Rounds.{Gives}
-use Rattle.bt_dead.proofs.Sets.{Has, either_left, either_right, if_so, only_has}
+use Rattle.bt_dead.proofs.Sets.{Has, either_left, either_right, if_so, not_both, only_has}
 use Rattle.bt_dead.proofs.Words.{Children, Goes, answers_here, keep_goes, over_goes, pass_on_goes, reset_goes, visit_goes}
 
 -- ---- Sets
@@ -145,15 +145,9 @@ module _ (is_dead : ℕ → Bool) (rows : List Row) (n : Children is_dead rows) 
 
   third_in : (a : Answer) → (child 0).failure ≡ true → nat_lt 2 (length all) ≡ true → Has a (child 2) → Has a (branch_answers all)
   third_in a is more has = other_in a is (cond_both (nat_lt 2 (length all)) (child 2) (only answer.Failure) (Has a) (λ _. has) (λ none. absurd (not_both more none)))
-    where
-      not_both : {b : Bool} → b ≡ true → b ≡ false → ⊥
-      not_both holds fails = cc
 
   fails_in : (child 0).failure ≡ true → nat_lt 2 (length all) ≡ false → Has answer.Failure (branch_answers all)
   fails_in is none = other_in answer.Failure is (cond_both (nat_lt 2 (length all)) (child 2) (only answer.Failure) (Has answer.Failure) (λ more. absurd (not_both more none)) (λ _. refl))
-    where
-      not_both : {b : Bool} → b ≡ true → b ≡ false → ⊥
-      not_both holds fails = cc
 
   module _ (ports : List Port) (comes : (place : ℕ) → branch_reached (child 0) place ≡ true → n.visits place ≡ true) where
     if_after : (a : Answer) → Has a (child 0) → Fit IfThenElse ports (if_then_else_after (length all) a)
@@ -286,9 +280,6 @@ module _ (is_dead : ℕ → Bool) (rows : List Row) (n : Children is_dead rows) 
       other_stays (Some (Lit (Text t))) a other has = has
       other_stays (Some (Key key)) a other has = either_left a (child 0) (becoming again answer.Running (child 0)) has
       other_stays None a other has = has
-
-      not_both : {b : Bool} → b ≡ true → b ≡ false → ⊥
-      not_both holds fails = cc
 
       again_ends : (g : Option PortValue) → MayEnd g → Has again (child 0) → Has again (turned again g (child 0))
       again_ends (Some (Lit (Int n))) end has = cond_both (int_eq n (negsuc 0)) (becoming again answer.Running (child 0)) (child 0) (Has again) (λ holds. absurd (not_both holds end)) (λ _. has)

@@ -1,6 +1,6 @@
 -- The rule of each kind gives an answer that it may give, and visits no child that is not reached.
 use Rattle.std.proofs.Common.{◌≡◌, ℕ, zero, suc, ◌+◌, ◌<◌, List, [], ◌∷◌, length, Bool, true, false, ◌&&◌, ◌||◌, refl, sym, ap, subst, ◌∙◌, arith}
-use Rattle.std.proofs.lemmas.Bool.{and_from, cond_both}
+use Rattle.std.proofs.lemmas.Bool.{and_from, cond_both, or_left, or_right}
 use Rattle.bt_model.specs.declared.status.Answer.{Answer}
 use Rattle.bt_model.specs.declared.status.Answer.TheVariants as answer
 use Rattle.bt_model.specs.declared.status.RoundEnd.{RoundEnd}
@@ -33,16 +33,8 @@ reached_has reached first (c ∷ cs) (suc place) a comes within has =
 -- a child that may be seen
 seen_here : (goes : Answer) (children : List Answers) (place : ℕ) → place < length children → may goes (answers_at children place) || (answers_at children place).running ≡ true → some_seen goes children ≡ true
 seen_here goes [] place within is = absurd (omega (arith, within))
-seen_here goes (c ∷ cs) zero within is = or_first (may goes c || c.running) (some_seen goes cs) is
-  where
-    or_first : (b d : Bool) → b ≡ true → b || d ≡ true
-    or_first true d e = refl
-    or_first false d e = cc
-seen_here goes (c ∷ cs) (suc place) within is = or_second (may goes c || c.running) (some_seen goes cs) (seen_here goes cs place (omega (arith, within)) is)
-  where
-    or_second : (b d : Bool) → d ≡ true → b || d ≡ true
-    or_second true d e = refl
-    or_second false d e = e
+seen_here goes (c ∷ cs) zero within is = or_left (may goes c || c.running) (some_seen goes cs) is
+seen_here goes (c ∷ cs) (suc place) within is = or_right (may goes c || c.running) (some_seen goes cs) (seen_here goes cs place (omega (arith, within)) is)
 
 -- an answer of a child that ends its round
 stops_without : (goes a : Answer) (set : Answers) → passes goes a ≡ false → Has a set → Has a (without answer.Skipped (without goes set))
@@ -67,19 +59,11 @@ stops_without answer.Skipped answer.Skipped set stop has = cc
 passes_may : (goes a : Answer) (set : Answers) → passes goes a ≡ true → Has a set → may_pass goes set ≡ true
 passes_may goes a set on has = by goes a on has
   where
-    right : (b c : Bool) → c ≡ true → b || c ≡ true
-    right true c e = refl
-    right false c e = e
-
-    left : (b c : Bool) → b ≡ true → b || c ≡ true
-    left true c e = refl
-    left false c e = cc
-
     by : (goes a : Answer) → passes goes a ≡ true → Has a set → may_pass goes set ≡ true
-    by goes answer.Skipped on has = right (may goes set) set.skipped has
-    by answer.Running answer.Running on has = left set.running set.skipped has
-    by answer.Success answer.Success on has = left set.success set.skipped has
-    by answer.Failure answer.Failure on has = left set.failure set.skipped has
+    by goes answer.Skipped on has = or_right (may goes set) set.skipped has
+    by answer.Running answer.Running on has = or_left set.running set.skipped has
+    by answer.Success answer.Success on has = or_left set.success set.skipped has
+    by answer.Failure answer.Failure on has = or_left set.failure set.skipped has
     by answer.Running answer.Success on has = cc
     by answer.Running answer.Failure on has = cc
     by answer.Success answer.Running on has = cc
@@ -111,18 +95,6 @@ unseen_skips answer.Skipped set none has = has
 unseen_skips answer.Running set none has = cc
 unseen_skips answer.Success set none has = cc
 unseen_skips answer.Failure set none has = cc
-
-or_either : (b c : Bool) → b || c ≡ true → (b ≡ true → ⊥) → c ≡ true
-or_either true c e none = absurd (none refl)
-or_either false c e none = e
-
-left_true : (b c : Bool) → b ≡ true → b || c ≡ true
-left_true true c e = refl
-left_true false c e = cc
-
-right_true : (b c : Bool) → c ≡ true → b || c ≡ true
-right_true true c e = refl
-right_true false c e = e
 
 -- ---- Rounds
 
@@ -160,7 +132,7 @@ module _ (goes : Answer) (children : List Answers) where
   runs_here skips place seen within came has = record {
     inside = came.inside;
     passed = came.passed;
-    saw = λ _. seen_here goes children place within (right_true (may goes (answers_at children place)) (answers_at children place).running has);
+    saw = λ _. seen_here goes children place within (or_right (may goes (answers_at children place)) (answers_at children place).running has);
     skipped = λ e. cc;
   }
 
@@ -168,7 +140,7 @@ module _ (goes : Answer) (children : List Answers) where
     saw_next : (place : ℕ) (seen : Bool) (a : Answer) → place < length children → CameTo goes skips children place seen → passes goes a ≡ true → Has a (answers_at children place) → seen || is_seen a ≡ true → some_seen goes children ≡ true
     saw_next place true a within came on has e = came.saw refl
     saw_next place false a within came on has e =
-        seen_here goes children place within (left_true (may goes (answers_at children place)) (answers_at children place).running (goes_seen goes a (answers_at children place) on e has))
+        seen_here goes children place within (or_left (may goes (answers_at children place)) (answers_at children place).running (goes_seen goes a (answers_at children place) on e has))
 
     skipped_next : (place : ℕ) (seen : Bool) (a : Answer) → place < length children → CameTo goes skips children place seen → Has a (answers_at children place) → seen || is_seen a ≡ false → skips (place + 1)
     skipped_next place true a within came has e = cc

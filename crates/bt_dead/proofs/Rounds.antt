@@ -1,6 +1,6 @@
 -- The Sequence and Fallback kinds, and Parallel.
-use Rattle.std.proofs.Common.{◌≡◌, ℕ, zero, suc, ◌+◌, ◌-◌, ◌<◌, List, [], ◌∷◌, length, Bool, true, false, ◌&&◌, nat_eq, refl, sym, ap, subst, ◌∙◌, arith, if◌then◌else◌}
-use Rattle.std.proofs.lemmas.Bool.{and_parts, cond_both}
+use Rattle.std.proofs.Common.{◌≡◌, ℕ, zero, suc, ◌+◌, ◌-◌, ◌<◌, List, [], ◌∷◌, length, Bool, true, false, nat_eq, refl, sym, ap, subst, ◌∙◌, arith, if◌then◌else◌}
+use Rattle.std.proofs.lemmas.Bool.{and_from, and_parts, cond_both}
 use Rattle.bt_model.specs.declared.memory.Counts.{Counts}
 use Rattle.bt_model.specs.declared.memory.Memo.TheVariants.{Nothing, Index, Counts as Counted}
 use Rattle.bt_model.specs.declared.moves.Span.TheVariants as span
@@ -32,12 +32,7 @@ Gives kind ports children g = Has g.answer (rule_answers kind ports children) ×
 skips_more : (children : List Answers) (place : ℕ) → place < length children → SkipsAll children place → (answers_at children place).skipped ≡ true → SkipsAll children (place + 1)
 skips_more children place within before here =
     let next : suc place ≡ place + 1 = omega arith in
-    subst (λ (k : ℕ). SkipsAll children k) next (both (all_skip_before children place) (answers_at children place).skipped before here)
-  where
-    both : (b c : Bool) → b ≡ true → c ≡ true → b && c ≡ true
-    both true true e f = refl
-    both true false e f = cc
-    both false c e f = cc
+    subst (λ (k : ℕ). SkipsAll children k) next (and_from (all_skip_before children place) (answers_at children place).skipped before here)
 
 -- if all before the place after the first are skipped, then so is the first, and all before the place among the others
 skips_parts : (c : Answers) (cs : List Answers) (place : ℕ) → all_skip_before (c ∷ cs) (suc place) ≡ true → (c.skipped ≡ true) × (all_skip_before cs place ≡ true)
@@ -45,23 +40,13 @@ skips_parts c cs zero e = (e, refl)
 skips_parts c cs (suc place) e =
     let parts : (all_skip_before (c ∷ cs) (suc place) ≡ true) × ((answers_at cs place).skipped ≡ true) = and_parts (all_skip_before (c ∷ cs) (suc place)) (answers_at cs place).skipped e in
     let first : (c.skipped ≡ true) × (all_skip_before cs place ≡ true) = skips_parts c cs place parts.0 in
-    (first.0, both (all_skip_before cs place) (answers_at cs place).skipped first.1 parts.1)
-  where
-    both : (b d : Bool) → b ≡ true → d ≡ true → b && d ≡ true
-    both true true e f = refl
-    both true false e f = cc
-    both false d e f = cc
+    (first.0, and_from (all_skip_before cs place) (answers_at cs place).skipped first.1 parts.1)
 
 skips_whole : (children : List Answers) → all_skip_before children (length children) ≡ true → all_skip children ≡ true
 skips_whole [] e = refl
 skips_whole (c ∷ cs) e =
     let parts : (c.skipped ≡ true) × (all_skip_before cs (length cs) ≡ true) = skips_parts c cs (length cs) e in
-    both c.skipped (all_skip cs) parts.0 (skips_whole cs parts.1)
-  where
-    both : (b d : Bool) → b ≡ true → d ≡ true → b && d ≡ true
-    both true true e f = refl
-    both true false e f = cc
-    both false d e f = cc
+    and_from c.skipped (all_skip cs) parts.0 (skips_whole cs parts.1)
 
 last_more : (children : List Answers) (place : ℕ) → place < length children → SkipsLast children place → (answers_at children place).skipped ≡ true → SkipsLast children (place + 1)
 last_more children place within before here = λ past.

@@ -14,6 +14,7 @@ use Rattle.bt_dead.specs.Runs.{IsIdleIn, IsNeverNamed, LeavesHaveRows, named_by,
 use Rattle.bt_dead.proofs.Events.{AllSteady, BlocksLive, between_steady, whole_run_well}
 use Rattle.bt_dead.proofs.Fits.{Stands}
 use Rattle.bt_dead.proofs.Opening.{AreMarked, marked_back, term_opens}
+use Rattle.bt_dead.proofs.Sets.{not_both}
 use Rattle.bt_dead.proofs.Parts.{AllLive, Lives}
 use Rattle.bt_dead.proofs.Statuses.{term_shows}
 
@@ -32,10 +33,7 @@ module _ (is_dead : ℕ → Bool) where
 
   not_named : (uid : ℕ) → is_dead uid ≡ true → (o : Option ℕ) → IfSome o (Lives is_dead) → o ≡ Some uid → ⊥
   not_named uid dead None lives e = cc
-  not_named uid dead (Some k) lives e = let same : k ≡ uid = cc in both (sym (ap is_dead same) ∙ lives) dead
-    where
-      both : {b : Bool} → b ≡ false → b ≡ true → ⊥
-      both no_more holds = cc
+  not_named uid dead (Some k) lives e = let same : k ≡ uid = cc in not_both dead (sym (ap is_dead same) ∙ lives)
 
   notes_unnamed : (uid : ℕ) → is_dead uid ≡ true → (notes : List Note) → AllLive is_dead notes → AllByRecursion (λ note. named_by note ≡ Some uid → ⊥) notes
   notes_unnamed uid dead [] live = tt

@@ -44,7 +44,7 @@ use Rattle.bt_dead.proofs.Parts.{AllLive, Leaves, Left, Lives, behind_left, foll
 use Rattle.bt_dead.proofs.Picks.{cleared_rests, kept_fits, picks, starts_fit}
 use Rattle.bt_dead.proofs.Rounds.{Gives}
 use Rattle.bt_dead.proofs.Seats.{Family}
-use Rattle.bt_dead.proofs.Sets.{Has, either_left, either_right, if_so}
+use Rattle.bt_dead.proofs.Sets.{Has, either_left, either_right, if_so, not_both}
 use Rattle.bt_dead.proofs.Words.{Children, Stand, span_left}
 
 -- an entry of a list where another one was set
@@ -54,9 +54,6 @@ get_set_other (x ∷ xs) zero zero a other = absurd (other refl)
 get_set_other (x ∷ xs) zero (suc p) a other = refl
 get_set_other (x ∷ xs) (suc i) zero a other = refl
 get_set_other (x ∷ xs) (suc i) (suc p) a other = get_set_other xs i p a (λ same. other (ap suc same))
-
-not_both : {b : Bool} → b ≡ true → b ≡ false → ⊥
-not_both holds fails = cc
 
 module _ (is_dead : ℕ → Bool) (uid : ℕ) (lives : Lives is_dead uid) where
   -- a node that is not dead is another one than a dead one
