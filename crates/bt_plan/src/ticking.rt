@@ -1,0 +1,59 @@
+//! The ticks of a modelled run.
+
+use crate::goals::decide;
+use crate::task::Task;
+use crate::verdict::Verdict;
+use bt_arena::Block;
+use bt_driver::Drivers;
+use bt_loop::{Runs, run_event};
+use bt_model::{Event, RunFault, What};
+use bt_script::Stop;
+use std::alloc::Global;
+
+/// How many ticks of a modelled run came before its last one, and what this one decided.
+#[derive(Clone, Copy, Debug, PartialEq, Eq)]
+pub(crate) struct Ticked {
+    pub before: u32,
+    pub verdict: Verdict,
+}
+
+/// Makes the tick that comes after so many.
+fn make_tick<D: Drivers>(
+    alloc: Global,
+    task: &Task,
+    before: u32,
+    runs: &mut Runs,
+    drivers: &mut D,
+    block: &mut Block,
+) -> Result<Verdict, Stop<RunFault>> {
+    let event = Event {
+        at: before as u64 * task.limits.period,
+        what: What::Tick(1),
+    };
+    run_event(alloc, runs, &event, drivers, block)?;
+    Ok(decide(
+        &runs.facts,
+        task.goals.as_slice(),
+        block.notes.list(),
+    ))
+}
+
+/// Makes ticks until one decides, or as many as are allowed.
+pub fn make_ticks<D: Drivers>(
+    alloc: Global,
+    task: &Task,
+    runs: &mut Runs,
+    drivers: &mut D,
+    block: &mut Block,
+) -> Result<Ticked, Stop<RunFault>> {
+    for before in 0..task.limits.ticks {
+        let verdict = make_tick(alloc, task, before, runs, drivers, block)?;
+        if verdict != Verdict::GoesOn {
+            return Ok(Ticked { before, verdict });
+        }
+    }
+    Ok(Ticked {
+        before: task.limits.ticks - 1,
+        verdict: Verdict::GoesOn,
+    })
+}

@@ -1,0 +1,60 @@
+//! A tree and its modelled run.
+
+use crate::task::Task;
+use crate::ticking::{Ticked, make_ticks};
+use bt_arena::{Block, block_for};
+use bt_board::slots_of;
+use bt_driver::Drivers;
+use bt_loop::{Runs, leaves, make_runs, run_finish};
+use bt_model::{RunFault, Tree};
+use bt_script::Stop;
+use std::alloc::Global;
+
+/// A modelled run without a fault: what its last tick decided, with the block of this tick.
+#[derive(Debug, Drop)]
+pub(crate) struct Tried {
+    pub ticked: Ticked,
+    pub block: Block,
+}
+
+/// The runs of a tree whose leaves all have a row and a driver.
+fn begin<D: Drivers>(
+    alloc: Global,
+    tree: &Tree,
+    task: &Task,
+    drivers: &mut D,
+) -> Result<Runs, Stop<RunFault>> {
+    let slots = slots_of(alloc, tree)?;
+    match make_runs(alloc, tree, &slots, &task.world, drivers) {
+        Ok(runs) => Ok(runs),
+        Err(Stop::NoMemory) => Err(Stop::NoMemory),
+        Err(Stop::Fault(_)) => unreachable!(),
+    }
+}
+
+/// Makes the ticks of a modelled run and then finishes it.
+fn make_run<D: Drivers>(
+    alloc: Global,
+    task: &Task,
+    mut runs: Runs,
+    drivers: &mut D,
+) -> Result<Tried, Stop<RunFault>> {
+    let count = leaves(&runs) as u32;
+    let mut block = block_for(alloc, count)?;
+    let mut last = block_for(alloc, count)?;
+    let ticked = make_ticks(alloc, task, &mut runs, drivers, &mut block)?;
+    run_finish(alloc, &mut runs, 1, drivers, &mut last)?;
+    Ok(Tried { ticked, block })
+}
+
+/// Runs a tree in the modelled world. The drivers are prepared anew, and nothing is held in the end,
+/// whatever is answered.
+pub fn run_tree<D: Drivers>(
+    alloc: Global,
+    tree: &Tree,
+    task: &Task,
+    drivers: &mut D,
+) -> Result<Tried, Stop<RunFault>> {
+    let runs = begin(alloc, tree, task, drivers)?;
+    make_run(alloc, task, runs, drivers)
+}
