@@ -58,9 +58,12 @@ pub record Decides (world : World) (limits : Limits) (t : Trial) (verdict : Verd
   pub unbroken : (run_of world limits t).fault ≡ None
   pub last : verdict_after (tree_of world.rows t.tree) world limits.period t.before ≡ Some verdict
 
--- the conditions that failed in the last tick, in breadth-first order
+-- what happened in the last tick, and the conditions that failed in it, in breadth-first order
+abbrev pub last_notes : World → Limits → Trial → List Note
+last_notes world limits t = (next_tick (tree_of world.rows t.tree) world limits.period t.before).block.notes
+
 abbrev pub failed_in : World → Limits → Trial → List Place
-failed_in world limits t = failed t.tree (next_tick (tree_of world.rows t.tree) world limits.period t.before).block.notes
+failed_in world limits t = failed t.tree (last_notes world limits t)
 
 -- ---- From one tree to the next
 

@@ -6,7 +6,7 @@ use Rattle.bt_expand.specs.Forests.{Forest, part_at}
 use Rattle.bt_expand.specs.Numbers.{row_in}
 use Rattle.bt_expand.specs.Planned.{id_of}
 use Rattle.bt_reorder.specs.Conflicts.{Pair, conflicts}
-use Rattle.bt_reorder.specs.Raising.{raised}
+use Rattle.bt_reorder.specs.Raising.{raised as raised_at}
 
 abbrev pub first_conflict : List Row → Forest → Option Pair
 first_conflict rows tree = slice_get (conflicts rows tree) 0
@@ -15,19 +15,19 @@ first_conflict rows tree = slice_get (conflicts rows tree) 0
 abbrev pub AreRaises : List Row → ℕ → ℕ → Forest → Forest → Type 0
 AreRaises rows sequence zero tree after = tree ≡ after
 AreRaises rows sequence (suc raises) tree after =
-    (pair : Pair) × (next : Forest) × (first_conflict rows tree ≡ Some pair) × (raised sequence tree ≡ Some next) × AreRaises rows sequence raises next after
+    (pair : Pair) × (next : Forest) × (first_conflict rows tree ≡ Some pair) × (raised_at sequence tree ≡ Some next) × AreRaises rows sequence raises next after
 
 -- .. and then nothing conflicts
 pub record Settles (rows : List Row) (sequence raises : ℕ) (tree after : Forest) : Type 0 where
-  pub raises : AreRaises rows sequence raises tree after
+  pub raised : AreRaises rows sequence raises tree after
   pub settled : first_conflict rows after ≡ None
 
 -- .. or this is the first conflict, and no raise is left
 pub record Stalls (rows : List Row) (sequence : ℕ) (tree after : Forest) (pair : Pair) : Type 0 where
-  pub many : ℕ
-  pub raises : AreRaises rows sequence many tree after
+  pub raises : ℕ
+  pub raised : AreRaises rows sequence raises tree after
   pub conflict : first_conflict rows after ≡ Some pair
-  pub last : raised sequence after ≡ None
+  pub last : raised_at sequence after ≡ None
 
 -- the ID of the row of a key
 abbrev pub name_at : List Row → Forest → ℕ → List ℕ

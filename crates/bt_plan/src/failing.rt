@@ -1,5 +1,14 @@
 //! The conditions that failed in a tick.
 
+ghost use Rattle.std.specs.Prelude.{◌≡◌, ◌<◌, ◌≤◌, ◌+◌, ◌==◌, ◌^◌, ◌++◌, ℕ, Option, Some, false, length, IfOk, OnOk, slice_get, slice_index_or};
+ghost use Rattle.std.specs.List.{filter};
+ghost use Rattle.std.specs.Option.{option_map_or};
+ghost use Rattle.bt_model.specs.declared.world.World.{World};
+ghost use Rattle.bt_expand.specs.Forests.{Forest, height, size};
+ghost use Rattle.bt_expand.specs.Stands.{Stands, StandsFor};
+ghost use Rattle.bt_plan.specs.Failing.{at_level, breadth_first, failed, has_failed, is_failure_of, levels, places_from, spots_from};
+ghost use Rattle.bt_plan.specs.Marked.{is_marked, marked_place};
+
 use crate::places::{Place, Spot};
 use bt_expand::{Node, Part, PlanTree};
 use bt_model::{Answer, Note};
@@ -8,13 +17,15 @@ use slab::Slab;
 use std::alloc::Global;
 
 /// The number of the node that answered FAILURE by this note.
-fn failure_of(note: &Note) -> Option<u32> {
+fn failure_of(note: &Note) -> Option<u32>
+    ensures { (uid : ℕ) → is_failure_of uid note.now ≡ option_map_or (λ own. own == uid) result false }
+{
     match note {
         Note::Started {
             uid,
             answer: Answer::Failure,
-        }
-        | Note::Ran {
+        } => Some(*uid),
+        Note::Ran {
             uid,
             answer: Answer::Failure,
         } => Some(*uid),
@@ -23,7 +34,11 @@ fn failure_of(note: &Note) -> Option<u32> {
 }
 
 /// Marks the nodes that answered FAILURE, by their number, of so many nodes.
-fn failures(alloc: Global, notes: &[Note], nodes: usize) -> Result<Vec<bool>, NoMemory> {
+fn failures(alloc: Global, notes: &[Note], nodes: usize) -> Result<Vec<bool>, NoMemory>
+    requires { nodes < 2 ^ 32 }
+    ensures many { IfOk result (λ marks. length marks.items ≡ nodes + 1) }
+    ensures marks { IfOk result (λ marks. (uid : ℕ) → uid ≤ nodes → is_marked marks.items uid ≡ has_failed notes.now uid) }
+{
     let mut marks = vec![in alloc; false; nodes + 1]?;
     for note in notes {
         if let Some(uid) = failure_of(note) {
@@ -43,7 +58,10 @@ fn list_spots(
     level: u32,
     levels: usize,
     spots: &mut Vec<Spot>,
-) -> Result<(), NoMemory> {
+) -> Result<(), NoMemory>
+    requires { level + levels < 2 ^ 32 }
+    ensures { (parent : Option ℕ) (f : Forest) → Stands nodes.now parent keys.now f → height f ≤ levels → OnOk result (spots.new.items ≡ spots.old.items ++ spots_from level f) }
+{
     if levels == 0 {
         return Ok(());
     }
@@ -61,28 +79,42 @@ fn list_spots(
     Ok(())
 }
 
+/// A node of this number, where it is a condition and is marked.
+fn marked_place(spot: &Spot, uid: u32, marks: &[bool]) -> Option<Place>
+    requires { uid < length marks.now }
+    ensures { result ≡ marked_place marks.now uid spot.now }
+{
+    match spot.part {
+        Part::Condition(row) if marks[uid as usize] => Some(Place {
+            key: spot.key,
+            uid,
+            row,
+            level: spot.level,
+        }),
+        _ => None,
+    }
+}
+
 /// The conditions among the nodes of a tree in pre-order that are marked.
-fn marked_places(alloc: Global, spots: &[Spot], marks: &[bool]) -> Result<Vec<Place>, NoMemory> {
+fn marked_places(alloc: Global, spots: &[Spot], marks: &[bool]) -> Result<Vec<Place>, NoMemory>
+    requires few { length spots.now + 1 < 2 ^ 32 }
+    requires marks { length marks.now ≡ length spots.now + 1 }
+    ensures { IfOk result (λ places. places.items ≡ filter (λ c. is_marked marks.now c.uid) (places_from 1 spots.now)) }
+{
     let mut places = Vec::new(alloc);
     for (index, spot) in spots.iter().enumerate() {
-        let uid = index as u32 + 1;
-        if let Part::Condition(row) = spot.part {
-            if marks[uid as usize] {
-                places.push(Place {
-                    key: spot.key,
-                    uid,
-                    row,
-                    level: spot.level,
-                })?;
-            }
+        if let Some(place) = marked_place(spot, index as u32 + 1, marks) {
+            places.push(place)?;
         }
     }
     Ok(places)
 }
 
 /// How many levels there are down to the deepest of some conditions.
-fn levels(places: &[Place]) -> usize {
-    let mut deepest = 0;
+fn levels(places: &[Place]) -> usize
+    ensures { result ≡ levels places.now }
+{
+    let mut deepest = 0usize;
     for place in places {
         deepest = deepest.max(place.level as usize + 1);
     }
@@ -90,7 +122,9 @@ fn levels(places: &[Place]) -> usize {
 }
 
 /// Adds the conditions of this level to others.
-fn add_level(places: &[Place], level: usize, ordered: &mut Vec<Place>) -> Result<(), NoMemory> {
+fn add_level(places: &[Place], level: usize, ordered: &mut Vec<Place>) -> Result<(), NoMemory>
+    ensures { OnOk result (ordered.new.items ≡ ordered.old.items ++ at_level places.now level) }
+{
     for place in places {
         if place.level as usize == level {
             ordered.push(*place)?;
@@ -100,7 +134,9 @@ fn add_level(places: &[Place], level: usize, ordered: &mut Vec<Place>) -> Result
 }
 
 /// Conditions in breadth-first order, where they were in pre-order.
-fn breadth_first(alloc: Global, places: &[Place]) -> Result<Vec<Place>, NoMemory> {
+fn breadth_first(alloc: Global, places: &[Place]) -> Result<Vec<Place>, NoMemory>
+    ensures { IfOk result (λ ordered. ordered.items ≡ breadth_first places.now) }
+{
     let mut ordered = Vec::with_capacity(alloc, places.len())?;
     for level in 0..levels(places) {
         add_level(places, level, &mut ordered)?;
@@ -109,7 +145,10 @@ fn breadth_first(alloc: Global, places: &[Place]) -> Result<Vec<Place>, NoMemory
 }
 
 /// The conditions of a plan tree that answered FAILURE by these notes, in breadth-first order.
-pub fn failed(alloc: Global, t: &PlanTree, notes: &[Note]) -> Result<Vec<Place>, NoMemory> {
+pub fn failed(alloc: Global, t: &PlanTree, notes: &[Note]) -> Result<Vec<Place>, NoMemory>
+    requires { (world : World) × (tree : Forest) × StandsFor t.now world tree × (size tree + 1 < 2 ^ 32) }
+    ensures { IfOk result (λ places. (world : World) (tree : Forest) → StandsFor t.now world tree → places.items ≡ failed tree notes.now) }
+{
     let nodes = t.nodes.len();
     let marks = failures(alloc, notes, nodes)?;
     let mut spots = Vec::with_capacity(alloc, nodes)?;

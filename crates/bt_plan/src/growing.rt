@@ -1,16 +1,27 @@
 //! From a tree that failed to the next one.
 
+ghost use Rattle.std.specs.Prelude.{◌≡◌, ◌<◌, ◌≤◌, ◌+◌, ◌^◌, ℕ, IfOk, length};
+ghost use Rattle.bt_model.specs.declared.world.World.{World};
+ghost use Rattle.bt_expand.specs.Forests.{Forest, size, subtrees, times};
+ghost use Rattle.bt_expand.specs.Planned.{id_of};
+ghost use Rattle.bt_expand.specs.Stands.{IsSequenceOf, StandsFor};
+ghost use Rattle.bt_plan.specs.declared.verdict.Verdict.TheVariants.{Fails};
+ghost use Rattle.bt_plan.specs.Failing.{failed, ids_of};
+ghost use Rattle.bt_plan.specs.Grown.{AreConditions, GoesOrEnds, GrowsOrNot, SettlesOrStalls};
+ghost use Rattle.bt_plan.specs.PlanRuns.{Decides, Trial, failed_in, last_notes};
+ghost use Rattle.bt_plan.specs.Settling.{name_at};
+
 use crate::ending::{End, Limits, Step};
 use crate::failing::failed;
 use crate::places::Place;
 use crate::settling::settle;
-use bt_expand::{PlanTree, expand, part_of, row_of, Part};
+use bt_expand::{Part, PlanTree, expand, part_of, row_of};
 use bt_model::{Note, Row, World};
 use bt_script::{Items, Name, NoMemory, Stop};
 use std::alloc::Global;
 
 /// A condition that was expanded, with the key of the new sequence and the row of its action.
-#[derive(Clone, Copy, Debug, PartialEq, Eq)]
+#[derive(Clone, Copy)]
 pub(crate) struct Grown {
     pub place: Place,
     pub sequence: usize,
@@ -18,7 +29,9 @@ pub(crate) struct Grown {
 }
 
 /// The ID of a row.
-fn id_of(alloc: Global, rows: &[Row], row: u32) -> Result<Name, NoMemory> {
+fn id_of(alloc: Global, rows: &[Row], row: u32) -> Result<Name, NoMemory>
+    ensures { IfOk result (λ name. name ≡ id_of rows.now row) }
+{
     match rows.get(row as usize) {
         Some(row) => row.id.copy(alloc),
         None => Ok(Name::of(Vec::new(alloc))),
@@ -26,7 +39,9 @@ fn id_of(alloc: Global, rows: &[Row], row: u32) -> Result<Name, NoMemory> {
 }
 
 /// The IDs of some conditions.
-fn ids_of(alloc: Global, rows: &[Row], places: &[Place]) -> Result<Items<Name>, NoMemory> {
+fn ids_of(alloc: Global, rows: &[Row], places: &[Place]) -> Result<Items<Name>, NoMemory>
+    ensures { IfOk result (λ names. names ≡ ids_of rows.now places.now) }
+{
     let mut names = Vec::with_capacity(alloc, places.len())?;
     for place in places {
         names.push(id_of(alloc, rows, place.row)?)?;
@@ -35,7 +50,9 @@ fn ids_of(alloc: Global, rows: &[Row], places: &[Place]) -> Result<Items<Name>, 
 }
 
 /// The ID of the row of the condition or the action of this key.
-fn name_at(alloc: Global, rows: &[Row], t: &PlanTree, key: usize) -> Result<Name, NoMemory> {
+fn name_at(alloc: Global, rows: &[Row], t: &PlanTree, key: usize) -> Result<Name, NoMemory>
+    ensures { IfOk result (λ name. (world : World) (tree : Forest) → StandsFor t.now world tree → 1 ≤ times key tree → name ≡ name_at rows.now tree key) }
+{
     match part_of(t, key) {
         Some(Part::Sequence(row) | Part::Condition(row) | Part::Action(row)) => {
             id_of(alloc, rows, row)
@@ -49,7 +66,10 @@ fn expand_first(
     alloc: Global,
     t: &mut PlanTree,
     places: &[Place],
-) -> Result<Option<Grown>, NoMemory> {
+) -> Result<Option<Grown>, NoMemory>
+    requires { (world : World) × (tree : Forest) × StandsFor t.old world tree × AreConditions tree places.now }
+    ensures { IfOk result (λ found. (world : World) (tree : Forest) → StandsFor t.old world tree → AreConditions tree places.now → GrowsOrNot t.new world tree places.now found) }
+{
     for place in places {
         match expand(alloc, t, place.key) {
             Ok(sequence) => {
@@ -74,7 +94,10 @@ fn settle_step(
     grown: Grown,
     t: &mut PlanTree,
     steps: &mut Vec<Step>,
-) -> Result<Option<End>, NoMemory> {
+) -> Result<Option<End>, NoMemory>
+    requires { (tree : Forest) × StandsFor t.old world.now tree × IsSequenceOf tree grown.sequence × (size tree < 2 ^ 32) }
+    ensures { IfOk result (λ end. (tree : Forest) → StandsFor t.old world.now tree → IsSequenceOf tree grown.sequence → SettlesOrStalls t.new world.now grown tree steps.old.items steps.new.items end) }
+{
     let settled = settle(t, grown.sequence);
     let rows = world.rows.list();
     if let Some((action, condition)) = settled.conflict {
@@ -100,14 +123,18 @@ pub fn grow(
     notes: &[Note],
     t: &mut PlanTree,
     steps: &mut Vec<Step>,
-) -> Result<Option<End>, NoMemory> {
+) -> Result<Option<End>, NoMemory>
+    requires { (tree : Forest) × StandsFor t.old world.now tree × (subtrees tree ≤ 120) }
+    ensures { IfOk result (λ end. (trial : Trial) → StandsFor t.old world.now trial.tree → Decides world.now limits.now trial Fails → notes.now ≡ last_notes world.now limits.now trial → length steps.old.items ≤ limits.now.expand
+        → GoesOrEnds t.new world.now limits.now (length steps.old.items) trial steps.old.items steps.new.items end) }
+{
     let places = failed(alloc, t, notes)?;
     let Some(grown) = expand_first(alloc, t, places.as_slice())? else {
         return Ok(Some(End::NoTemplate {
             failed: ids_of(alloc, world.rows.list(), places.as_slice())?,
         }));
     };
-    if steps.len() >= limits.expand as usize {
+    if steps.len() == limits.expand as usize {
         return Ok(Some(End::Expansions { n: limits.expand }));
     }
     settle_step(alloc, world, grown, t, steps)

@@ -1,7 +1,7 @@
 use bt_expand::Part;
 
 /// A node of a plan tree: its key, what it is, and how many nodes stand above it.
-#[derive(Clone, Copy, Debug, PartialEq, Eq)]
+#[derive(Clone, Copy)]
 pub(crate) struct Spot {
     pub key: usize,
     pub part: Part,
@@ -9,7 +9,7 @@ pub(crate) struct Spot {
 }
 
 /// A condition of a plan tree.
-#[derive(Clone, Copy, Debug, PartialEq, Eq)]
+#[derive(Clone, Copy)]
 pub(crate) struct Place {
     pub key: usize,
     /// Its number in the behavior tree.

@@ -3,7 +3,7 @@ use bt_domain::Test;
 use bt_model::World;
 
 /// What stays the same in all modelled runs of a plan.
-#[derive(Debug, Drop)]
+#[derive(Drop)]
 pub(crate) struct Task {
     /// The world of a modelled run.
     pub world: World,

@@ -11,7 +11,7 @@ use bt_script::Stop;
 use std::alloc::Global;
 
 /// How many ticks of a modelled run came before its last one, and what this one decided.
-#[derive(Clone, Copy, Debug, PartialEq, Eq)]
+#[derive(Clone, Copy)]
 pub(crate) struct Ticked {
     pub before: u32,
     pub verdict: Verdict,
@@ -48,7 +48,7 @@ pub fn make_ticks<D: Drivers>(
 ) -> Result<Ticked, Stop<RunFault>> {
     for before in 0..task.limits.ticks {
         let verdict = make_tick(alloc, task, before, runs, drivers, block)?;
-        if verdict != Verdict::GoesOn {
+        if !matches!(verdict, Verdict::GoesOn) {
             return Ok(Ticked { before, verdict });
         }
     }

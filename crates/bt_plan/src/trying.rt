@@ -11,7 +11,7 @@ use bt_script::Stop;
 use std::alloc::Global;
 
 /// A modelled run without a fault: what its last tick decided, with the block of this tick.
-#[derive(Debug, Drop)]
+#[derive(Drop)]
 pub(crate) struct Tried {
     pub ticked: Ticked,
     pub block: Block,

@@ -1,5 +1,5 @@
 /// What a tick decides of a modelled run.
-#[derive(Clone, Copy, Debug, PartialEq, Eq)]
+#[derive(Clone, Copy)]
 pub(crate) enum Verdict {
     /// All goals are true.
     Reaches,
