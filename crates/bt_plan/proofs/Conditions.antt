@@ -1,5 +1,5 @@
 -- The conditions of a plan tree, as they are listed.
-use Rattle.std.proofs.Common.{◌≡◌, ◌≢◌, ℕ, zero, suc, ◌+◌, ◌<◌, ◌≤◌, ◌==◌, nat_eq, Bool, true, false, if◌then◌else◌, List, [], ◌∷◌, ◌++◌, length, Option, Some, None, refl, ap, sym, ◌∙◌, subst, arith, inl, inr}
+use Rattle.std.proofs.Common.{◌≡◌, ◌≢◌, ℕ, ◌+◌, ◌≤◌, ◌==◌, nat_eq, Bool, List, [], ◌∷◌, length, Option, Some, refl, ap, ◌∙◌, arith}
 use Rattle.std.specs.Prelude.{option_map}
 use Rattle.std.specs.List.{AllByRecursion, filter, range_with_len}
 use Rattle.std.specs.Option.{option_or}
@@ -9,14 +9,15 @@ use Rattle.bt_expand.specs.declared.node.Part.{Part}
 use Rattle.bt_expand.specs.declared.node.Part.TheVariants.{Goals, Sequence, Fallback, Condition, Action}
 use Rattle.bt_expand.specs.Forests.{Forest, Empty, Tree, node_at, part_at, size, times}
 use Rattle.bt_expand.specs.Stands.{IsConditionOf}
-use Rattle.bt_expand.proofs.Counted.{chosen, none_at, one_of, one_same, skipped, test_other, test_same}
+use Rattle.bt_expand.proofs.Counted.{chosen, none_at, one_same, skipped, test_other, test_same}
 use Rattle.bt_expand.proofs.Expansions.{node_counts, part_node}
 use Rattle.bt_plan.specs.declared.places.Place.{Place}
 use Rattle.bt_plan.specs.declared.places.Spot.{Spot}
-use Rattle.bt_plan.specs.Failing.{at_level, breadth_first, conditions, failed, has_failed, levels, own_place, places_from, spots_from}
+use Rattle.bt_plan.specs.Failing.{at_level, conditions, failed, has_failed, levels, own_place, places_from, spots_from}
 use Rattle.bt_plan.specs.Grown.{AreConditions}
 use Rattle.bt_plan.specs.Marked.{is_marked}
-use Rattle.bt_plan.proofs.Listed.{all_both, all_filter, all_flat, filter_same}
+use Rattle.bt_reorder.proofs.Elements.{all_both, all_filter, all_flat}
+use Rattle.bt_plan.proofs.Listed.{filter_same}
 
 -- ---- Nodes
 
@@ -113,3 +114,10 @@ pub marked_are : (tree : Forest) (notes : List Note) (marks : List Bool) → ((u
 marked_are tree notes marks same =
     filter_same (λ (c : Place). c.uid ≤ size tree) (λ (c : Place). is_marked marks c.uid) (λ (c : Place). has_failed notes c.uid) (conditions tree) (λ (c : Place) few. same c.uid few)
     (numbers_few (size tree) 1 (spots_from 0 tree) (let many = length-spots 0 tree in omega (arith, many)))
+
+-- what is found where the nodes are listed and marked
+pub found_failed : (tree : Forest) (notes : List Note) (nodes : ℕ) → nodes ≡ size tree → (marks : List Bool) → ((uid : ℕ) → uid ≤ nodes → is_marked marks uid ≡ has_failed notes uid) →
+    (spots : List Spot) → spots ≡ spots_from 0 tree → filter (λ (c : Place). is_marked marks c.uid) (places_from 1 spots) ≡ filter (λ (c : Place). has_failed notes c.uid) (conditions tree)
+found_failed tree notes nodes many marks same spots are =
+    ap (λ (l : List Spot). filter (λ (c : Place). is_marked marks c.uid) (places_from 1 l)) are
+    ∙ marked_are tree notes marks (λ (uid : ℕ) low. same uid (omega (arith, low, many)))

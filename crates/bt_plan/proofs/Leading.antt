@@ -1,5 +1,5 @@
 -- One trial and step more.
-use Rattle.std.proofs.Common.{◌≡◌, ℕ, zero, suc, ◌+◌, ◌<◌, List, [], ◌∷◌, ◌++◌, length, refl, ap, sym, ◌∙◌, subst, arith}
+use Rattle.std.proofs.Common.{◌≡◌, ℕ, ◌+◌, ◌<◌, List, [], ◌∷◌, ◌++◌, length, refl, sym, ◌∙◌, arith}
 use Rattle.bt_model.specs.declared.world.World.{World}
 use Rattle.bt_expand.specs.Forests.{Forest}
 use Rattle.bt_plan.specs.declared.ending.Limits.{Limits}
@@ -12,7 +12,7 @@ module _ (world : World) (limits : Limits) where
   lead_on added tree [] [] mid t s after lead same tried few step =
       let end : after ≡ after = refl in
       (same ∙ sym lead, tried, omega (arith, few), (after, step, end))
-  lead_on added tree (u ∷ trials) (r ∷ steps) mid t s after (first, own, room, next, is, rest) same tried few step =
+  lead_on added tree (u ∷ trials) (r ∷ steps) mid t s after (first, own, room, (next, is, rest)) same tried few step =
       (first, own, room, (next, is, lead_on (added + 1) next trials steps mid t s after rest same tried (omega (arith, few)) step))
   lead_on added tree [] (r ∷ steps) mid t s after lead same tried few step = absurd lead
   lead_on added tree (u ∷ trials) [] mid t s after lead same tried few step = absurd lead

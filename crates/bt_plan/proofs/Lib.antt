@@ -1,8 +1,12 @@
 pub mod Conditions
+pub mod Growths
 pub mod Leading
 pub mod Listed
+pub mod Marks
 pub mod Nearer
+pub mod Settlements
+pub mod Settles
+pub mod Spots
 pub mod Subtrees
 pub mod Traces
-pub mod Whence
-pub mod Within
+pub mod Wanted

@@ -1,14 +1,14 @@
 -- Each raise brings a node nearer to the front: fewer nodes stand before it.
-use Rattle.std.proofs.Common.{◌≡◌, ◌≢◌, ℕ, zero, suc, ◌+◌, ◌-◌, ◌<◌, ◌≤◌, ◌==◌, nat_eq, Bool, true, false, if◌then◌else◌, List, [], ◌∷◌, ◌++◌, Option, Some, None, refl, ap, sym, ◌∙◌, subst, arith, ◌⊎◌, inl, inr}
+use Rattle.std.proofs.Common.{◌≡◌, ◌≢◌, ℕ, zero, suc, ◌+◌, ◌-◌, ◌<◌, ◌≤◌, ◌==◌, nat_eq, Bool, true, false, if◌then◌else◌, List, [], ◌∷◌, Option, Some, None, refl, ap, sym, ◌∙◌, subst, arith, inl, inr}
 use Rattle.std.specs.Prelude.{option_map}
 use Rattle.std.specs.List.{find}
 use Rattle.std.specs.Option.{option_or, option_map_or}
 use Rattle.bt_expand.specs.declared.node.Part.{Part}
-use Rattle.bt_expand.specs.Forests.{Forest, Empty, Tree, Ancestor, Place, after_first, ancestors, below_first, changed_below, count, node_at, place_of, size, times, total}
-use Rattle.bt_expand.proofs.Counted.{changed_here, changed_other, chosen, is_other, is_same, one_of, one_other, one_same, only_here, skipped, test_other, test_same, tested, total-changed, unchanged, zero_or}
-use Rattle.bt_expand.proofs.Expansions.{node_counts, node_found}
+use Rattle.bt_expand.specs.Forests.{Forest, Empty, Tree, Ancestor, Place, ancestors, count, place_of, size, times, total}
+use Rattle.bt_expand.proofs.Counted.{changed_here, changed_other, chosen, is_other, is_same, one_of, one_other, one_same, skipped, test_other, test_same, tested, total-changed, unchanged, zero_or}
+use Rattle.bt_expand.proofs.Expansions.{node_found}
 use Rattle.bt_expand.proofs.Places.{place_counts, placed}
-use Rattle.bt_plan.proofs.Whence.{InFirst, InRest, first_place, other_place, top}
+use Rattle.bt_reorder.proofs.Whence.{first_place, other_place}
 use Rattle.bt_reorder.specs.Raising.{can_move, moved_in, raised, swap_at}
 use Rattle.bt_reorder.proofs.Climbed.{moves_some}
 use Rattle.bt_reorder.proofs.Listed.{find-append}
@@ -64,9 +64,37 @@ front_within k (Tree key part below rest) has = elim (tested key k) [
 
 -- ---- Two neighbours change places
 
-swap_nearer : (n k : ℕ) (f : Forest) (p : Place) → ((j : ℕ) → times j f ≤ 1) → place_of k f ≡ Some p → count p.before ≡ suc n → front k (swap_at n f) < front k f
-swap_nearer n k Empty p apart found many = absurd (cc found)
-swap_nearer n k (Tree a x below rest) p apart found many = elim (tested a k) [
+pair_nearer : (k a : ℕ) (x : Part) (below rest : Forest) → a ≢ k → times k below ≡ 0 → (q : Place) → place_of k rest ≡ Some q → count q.before ≡ 0 →
+    front k (Tree a x below rest) ≡ 1 + (size below + front k rest) → front k (swap_at 0 (Tree a x below rest)) < front k (Tree a x below rest)
+pair_nearer k a x below Empty differs lacks q found none own = absurd (cc found)
+pair_nearer k a x below (Tree b y under others) differs lacks q found none own = elim (tested b k) [
+  | inl hit ↦
+      let now = front_here k b y under (Tree a x below others) (is_same b k hit) in
+      omega (arith, now, own)
+  | inr miss ↦
+      let other = is_other b k miss in
+      elim (other_place k b y under others q found other) [
+        | inl i ↦
+            let has = place_counts k under i.q i.found in
+            let now = front_below k b y under (Tree a x below others) other has in
+            let before = front_below k b y under others other has in
+            omega (arith, now, before, own)
+        | inr i ↦ let e = ap (λ (r : Place). count r.before) i.is in absurd (omega (arith, e, none))
+      ]
+]
+
+later_nearer : (n k a : ℕ) (x : Part) (below rest : Forest) → a ≢ k → times k below ≡ 0 → (q : Place) → place_of k rest ≡ Some q → count q.before ≡ n →
+    front k (Tree a x below rest) ≡ 1 + (size below + front k rest) → ((m : ℕ) → count q.before ≡ suc m → front k (swap_at m rest) < front k rest) →
+    front k (swap_at n (Tree a x below rest)) < front k (Tree a x below rest)
+later_nearer zero k a x below rest differs lacks q found many own nearer = pair_nearer k a x below rest differs lacks q found many own
+later_nearer (suc n) k a x below rest differs lacks q found many own nearer =
+    let less = nearer n many in
+    let now = front_rest k a x below (swap_at n rest) differs lacks in
+    omega (arith, less, now, own)
+
+swap_nearer : (n k : ℕ) (f : Forest) (p : Place) → place_of k f ≡ Some p → count p.before ≡ suc n → front k (swap_at n f) < front k f
+swap_nearer n k Empty p found many = absurd (cc found)
+swap_nearer n k (Tree a x below rest) p found many = elim (tested a k) [
   | inl hit ↦ let e = ap (λ (q : Place). count q.before) (first_place k a x below rest p found (is_same a k hit)) in absurd (omega (arith, e, many))
   | inr miss ↦
       let differs = is_other a k miss in
@@ -74,36 +102,10 @@ swap_nearer n k (Tree a x below rest) p apart found many = elim (tested a k) [
         | inl i ↦ let e = ap (λ (q : Place). count q.before) i.is in absurd (omega (arith, e, many))
         | inr i ↦
             let e = ap (λ (q : Place). count q.before) i.is in
-            let own : front k (Tree a x below rest) ≡ 1 + (size below + front k rest) = front_rest k a x below rest differs i.lacks in
-            behind n a x below rest differs i.lacks (λ (j : ℕ). let once = apart j in omega (arith, once)) i.q i.found (omega (arith, e, many)) own
+            later_nearer n k a x below rest differs i.lacks i.q i.found (omega (arith, e, many)) (front_rest k a x below rest differs i.lacks)
+            (λ (m : ℕ) more. swap_nearer m k rest i.q i.found more)
       ]
-] where
-  pair : (a : ℕ) (x : Part) (below rest : Forest) → a ≢ k → times k below ≡ 0 → ((j : ℕ) → times j rest ≤ 1) → (q : Place) → place_of k rest ≡ Some q → count q.before ≡ 0 →
-      front k (Tree a x below rest) ≡ 1 + (size below + front k rest) → front k (swap_at 0 (Tree a x below rest)) < front k (Tree a x below rest)
-  pair a x below Empty differs lacks apart q found none own = absurd (cc found)
-  pair a x below (Tree b y under others) differs lacks apart q found none own = elim (tested b k) [
-    | inl hit ↦
-        let now = front_here k b y under (Tree a x below others) (is_same b k hit) in
-        omega (arith, now, own)
-    | inr miss ↦
-        let other = is_other b k miss in
-        elim (other_place k b y under others q found other) [
-          | inl i ↦
-              let has = place_counts k under i.q i.found in
-              let now = front_below k b y under (Tree a x below others) other has in
-              let before = front_below k b y under others other has in
-              omega (arith, now, before, own)
-          | inr i ↦ let e = ap (λ (r : Place). count r.before) i.is in absurd (omega (arith, e, none))
-        ]
-  ]
-
-  behind : (n a : ℕ) (x : Part) (below rest : Forest) → a ≢ k → times k below ≡ 0 → ((j : ℕ) → times j rest ≤ 1) → (q : Place) → place_of k rest ≡ Some q → count q.before ≡ n →
-      front k (Tree a x below rest) ≡ 1 + (size below + front k rest) → front k (swap_at n (Tree a x below rest)) < front k (Tree a x below rest)
-  behind zero a x below rest differs lacks apart q found many own = pair a x below rest differs lacks apart q found many own
-  behind (suc n) a x below rest differs lacks apart q found many own =
-      let nearer = swap_nearer n k rest q apart found many in
-      let now = front_rest k a x below (swap_at n rest) differs lacks in
-      omega (arith, nearer, now, own)
+]
 
 -- ---- A raise
 
@@ -185,7 +187,7 @@ module _ (k : ℕ) (a : Ancestor) where
                     let some = moves_some _ (count i.q.before) one.1 in
                     let moved : moved_in a (Tree key part below rest) ≡ Tree key part (swap_at (count a.before - 1) below) rest =
                     changed_here a.key change key part below rest (test_same key a.key at) in
-                    let nearer = swap_nearer (count a.before - 1) k below i.q (λ (j : ℕ). let few = apart j in omega (arith, few)) i.found (omega (arith, same, some)) in
+                    let nearer = swap_nearer (count a.before - 1) k below i.q i.found (omega (arith, same, some)) in
                     let still = total-swap (λ key x. one_of key k) (count a.before - 1) below in
                     let after = front_below k key part (swap_at (count a.before - 1) below) rest differs (omega (arith, has, still)) in
                     subst (λ (g : Forest). front k g < front k (Tree key part below rest)) (sym moved) (omega (arith, after, before, nearer))

@@ -1,16 +1,16 @@
 -- An expansion adds one sequence.
-use Rattle.std.proofs.Common.{◌≡◌, ◌≢◌, ℕ, zero, suc, ◌+◌, ◌≤◌, nat_eq, Bool, true, false, List, [], ◌∷◌, ◌++◌, map, Option, Some, None, refl, ap, sym, ◌∙◌, subst, arith}
+use Rattle.std.proofs.Common.{◌≡◌, ℕ, ◌+◌, List, [], ◌∷◌, ◌++◌, map, Some, refl, ap, sym, ◌∙◌, arith}
 use Rattle.bt_model.specs.declared.world.Row.{Row}
 use Rattle.bt_model.specs.declared.world.World.{World}
 use Rattle.bt_expand.specs.declared.node.Part.{Part}
 use Rattle.bt_expand.specs.declared.node.Part.TheVariants.{Goals, Sequence, Fallback, Condition, Action}
 use Rattle.bt_expand.specs.declared.plan_tree.PlanTree.{PlanTree}
 use Rattle.bt_expand.specs.Expansion.{NewKeys, expanded, expanded_below, grown, leaves, new_sequence}
-use Rattle.bt_expand.specs.Forests.{Forest, Empty, Tree, Ancestor, added_by, ancestors, node_at, part_at, subtrees, times, total, tops}
+use Rattle.bt_expand.specs.Forests.{Forest, Ancestor, added_by, part_at, subtrees, tops}
 use Rattle.bt_expand.specs.Rows.{needs_of}
 use Rattle.bt_expand.specs.Stands.{StandsFor}
 use Rattle.bt_expand.proofs.Counted.{total-changed, total-joined, total-wrapped}
-use Rattle.bt_expand.proofs.Expansions.{Stood, node_counts, stood_condition}
+use Rattle.bt_expand.proofs.Expansions.{node_counts, stood_condition}
 
 leaves_none : (keys : List ℕ) (needs : List ℕ) (row : ℕ) → subtrees (leaves keys (map Condition needs ++ Action row ∷ [])) ≡ 0
 leaves_none [] needs row = refl
@@ -37,7 +37,7 @@ expanded_one world t tree st keys key row action is =
     let has = node_counts at.a.key tree (at.a.part, at.below) at.found in
     let all = total-changed (λ k x. added_by x) at.a.key 1 (λ (part : Part). grown part key keys.fallback new) tree (omega (arith, once, has))
     (λ (part : Part) (f : Forest) found.
-        let both : Some (part, f) ≡ Some (at.a.part, at.below) = sym found ∙ at.found in
-        let pair : (part, f) ≡ (at.a.part, at.below) = cc both in
-        grown_one part key keys.fallback new f (tops at.a.before) at.others (ap (λ (n : Part × Forest). tops n.1) pair ∙ at.tops_of) (sequence_one world.rows keys action)) in
+    let both : Some (part, f) ≡ Some (at.a.part, at.below) = sym found ∙ at.found in
+    let pair : (part, f) ≡ (at.a.part, at.below) = cc both in
+    grown_one part key keys.fallback new f (tops at.a.before) at.others (ap (λ (n : Part × Forest). tops n.1) pair ∙ at.tops_of) (sequence_one world.rows keys action)) in
     ap (λ (up : List Ancestor). subtrees (expanded_below up key keys.fallback new tree)) at.above_is ∙ all

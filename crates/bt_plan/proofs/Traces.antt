@@ -6,11 +6,11 @@ use Rattle.bt_model.specs.declared.fault.RunFault.{RunFault}
 use Rattle.bt_model.specs.declared.term.Tree.{Tree}
 use Rattle.bt_model.specs.declared.world.Event.{Event}
 use Rattle.bt_model.specs.declared.world.World.{World}
-use Rattle.bt_model.specs.Run.{RunState, RunnerCall, Stepped, Trace, before_rest, finish, finishes, opening, run_from, step, then_rest}
+use Rattle.bt_model.specs.Run.{RunState, RunnerCall, Stepped, Trace, before_rest, finish, finishes, opening, run_from, then_rest}
 use Rattle.bt_plan.specs.declared.ending.Limits.{Limits}
 use Rattle.bt_plan.specs.declared.verdict.Verdict.{Verdict}
 use Rattle.bt_plan.specs.declared.verdict.Verdict.TheVariants.{Reaches, Fails, GoesOn}
-use Rattle.bt_plan.specs.Modelled.{IsLast, ReachedAt, decided, goals_hold, is_failed_root, modelled, modelled_run, next_tick, state_after, tick_after, ticks, verdict_after, verdict_by, verdict_of}
+use Rattle.bt_plan.specs.Modelled.{IsLast, ReachedAt, decided, goals_hold, is_failed_root, modelled, modelled_run, next_tick, state_after, tick_after, ticks, verdict_after, verdict_by}
 use Rattle.bt_plan.specs.Ticking.{calls_after}
 
 -- ---- A step before the rest
@@ -94,16 +94,14 @@ module _ (tree : Tree) (world : World) (period : ℕ) where
 
   -- the calls of the first ticks are the first calls of more
   pub more_calls : (n m : ℕ) → n ≤ m → (more : List RunnerCall) × (calls_after tree world period m ≡ calls_after tree world period n ++ more)
-  more_calls n m low = elim (cases_eq n m) [
+  more_calls n zero low = let e : zero ≡ n = omega (arith, low) in ([], ap (calls_after tree world period) e ∙ sym (append-nil (calls_after tree world period n)))
+  more_calls n (suc m) low = elim (cases_eq n (suc m)) [
     | inl same ↦ ([], ap (calls_after tree world period) (sym same) ∙ sym (append-nil (calls_after tree world period n)))
-    | inr other ↦ further n m (omega (arith, low, other))
-  ] where
-    further : (n m : ℕ) → n < m → (more : List RunnerCall) × (calls_after tree world period m ≡ calls_after tree world period n ++ more)
-    further n zero low = absurd (omega (arith, low))
-    further n (suc m) low =
-        let before = more_calls n m (omega (arith, low)) in
+    | inr other ↦
+        let before = more_calls n m (omega (arith, low, other)) in
         let own = (next_tick tree world period m).calls in
         (before.0 ++ own, ap (λ (cs : List RunnerCall). cs ++ own) before.1 ∙ append_assoc (calls_after tree world period n) before.0 own)
+  ]
 
 -- ---- Verdicts
 
@@ -144,9 +142,9 @@ module _ (tree : Tree) (world : World) (period : ℕ) where
         reached = reaches_goals _ _ (decided_is n Reaches is);
         not_before = λ k some low. earlier k some (λ j e. own j (omega (arith, low, e)));
       }) where
-    earlier : (k : ℕ) → 1 ≤ k → ((j : ℕ) → suc j ≡ k → verdict_after tree world period j ≡ Some GoesOn) → goals_hold world (state_after tree world period k).facts ≡ false
-    earlier zero some own = absurd (omega (arith, some))
-    earlier (suc j) some own = goes_on_goals _ _ (decided_is j GoesOn (own j refl))
+        earlier : (k : ℕ) → 1 ≤ k → ((j : ℕ) → suc j ≡ k → verdict_after tree world period j ≡ Some GoesOn) → goals_hold world (state_after tree world period k).facts ≡ false
+        earlier zero some own = absurd (omega (arith, some))
+        earlier (suc j) some own = goes_on_goals _ _ (decided_is j GoesOn (own j refl))
 
 -- ---- The last tick
 

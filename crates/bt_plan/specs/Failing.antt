@@ -1,5 +1,5 @@
 -- The conditions that failed in a tick.
-use Rattle.std.specs.Prelude.{ℕ, ◌+◌, ◌==◌, max, Bool, true, false, not, List, [], ◌∷◌, ◌++◌, map, Option}
+use Rattle.std.specs.Prelude.{ℕ, ◌+◌, ◌==◌, max, Bool, false, not, List, [], ◌∷◌, ◌++◌, map, Option}
 use Rattle.std.specs.List.{filter, find, flat_map, list_any, range_with_len}
 use Rattle.bt_model.specs.declared.note.Note.{Note}
 use Rattle.bt_model.specs.declared.note.Note.TheVariants as note

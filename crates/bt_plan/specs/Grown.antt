@@ -2,10 +2,10 @@
 use Rattle.std.specs.Prelude.{◌≡◌, ℕ, ◌+◌, ◌≤◌, List, [], ◌∷◌, ◌++◌, Option, Some, None}
 use Rattle.std.specs.List.{AllByRecursion}
 use Rattle.bt_model.specs.declared.world.World.{World}
-use Rattle.bt_expand.specs.declared.node.Part.{Part}
 use Rattle.bt_expand.specs.declared.plan_tree.PlanTree.{PlanTree}
 use Rattle.bt_expand.specs.Expanded.{Expands}
-use Rattle.bt_expand.specs.Forests.{Forest, part_at, subtrees}
+use Rattle.bt_expand.specs.Expansion.{untried}
+use Rattle.bt_expand.specs.Forests.{Forest, subtrees}
 use Rattle.bt_expand.specs.Planned.{id_of}
 use Rattle.bt_expand.specs.Stands.{IsConditionOf, StandsFor}
 use Rattle.bt_reorder.specs.Conflicts.{Pair}
@@ -17,13 +17,18 @@ use Rattle.bt_plan.specs.declared.ending.Step.{Step}
 use Rattle.bt_plan.specs.declared.growing.Grown.{Grown}
 use Rattle.bt_plan.specs.declared.places.Place.{Place}
 use Rattle.bt_plan.specs.declared.settling.Settled.{Settled}
-use Rattle.bt_plan.specs.Failing.{failed, first_open}
+use Rattle.bt_plan.specs.Failing.{first_open}
 use Rattle.bt_plan.specs.PlanRuns.{Ends, IsStep, Trial}
 use Rattle.bt_plan.specs.Settling.{AreRaises, Settles, Stalls, first_conflict, name_at}
 
 -- conditions of a tree
 abbrev pub AreConditions : Forest → List Place → Type 0
 AreConditions tree places = AllByRecursion (λ (c : Place). IsConditionOf tree c.key) places
+
+-- a condition was expanded, with a sequence of this key, or it has no untried template
+abbrev pub ExpandsOrNot : PlanTree → World → Forest → ℕ → Option ℕ → Type 0
+ExpandsOrNot after world tree key (Some added) = Expands after world tree key added
+ExpandsOrNot after world tree key None = StandsFor after world tree × (untried world.rows key tree ≡ [])
 
 -- the first of some conditions that has an untried template was expanded
 pub record IsGrown (after : PlanTree) (world : World) (tree : Forest) (places : List Place) (g : Grown) : Type 0 where

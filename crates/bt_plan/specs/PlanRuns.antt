@@ -1,8 +1,8 @@
 -- Plan runs: whole trees, each with its modelled run, the steps between them, and one end.
-use Rattle.std.specs.Prelude.{◌≡◌, ℕ, ◌+◌, ◌≤◌, ◌<◌, List, [], ◌∷◌, length, codes, Option, Some, None, slice_get, slice_index_or}
+use Rattle.std.specs.Prelude.{◌≡◌, ℕ, ◌+◌, ◌≤◌, ◌<◌, List, [], ◌∷◌, length, codes, Some, None, slice_get, slice_index_or}
 use Rattle.bt_model.specs.declared.note.Note.{Note}
 use Rattle.bt_model.specs.declared.term.Kind.TheVariants.{ReactiveSequence}
-use Rattle.bt_model.specs.declared.term.Term.{Term, roll-Term}
+use Rattle.bt_model.specs.declared.term.Term.{roll-Term}
 use Rattle.bt_model.specs.declared.term.Tree.{Tree}
 use Rattle.bt_model.specs.declared.world.Row.{Row}
 use Rattle.bt_model.specs.declared.world.World.{World}
@@ -22,7 +22,7 @@ use Rattle.bt_plan.specs.declared.places.Place.{Place}
 use Rattle.bt_plan.specs.declared.verdict.Verdict.{Verdict}
 use Rattle.bt_plan.specs.declared.verdict.Verdict.TheVariants.{Reaches, Fails, GoesOn}
 use Rattle.bt_plan.specs.Failing.{failed, first_open, ids_of}
-use Rattle.bt_plan.specs.Modelled.{IsLast, modelled, modelled_run, next_tick, verdict_after}
+use Rattle.bt_plan.specs.Modelled.{IsLast, modelled_run, next_tick, verdict_after}
 use Rattle.bt_plan.specs.Settling.{Settles, Stalls, name_at}
 
 -- the limits are in their ranges

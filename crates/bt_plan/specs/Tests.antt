@@ -1,5 +1,5 @@
 -- The tests of the goals, as they are kept.
-use Rattle.std.specs.Prelude.{◌≡◌, ℕ, ◌<◌, List, [], ◌∷◌, length, map, Option, Some}
+use Rattle.std.specs.Prelude.{◌≡◌, ℕ, ◌<◌, List, [], ◌∷◌, length, map, Some}
 use Rattle.bt_model.specs.declared.world.World.{World}
 use Rattle.bt_domain.specs.declared.effects.Test.{Test}
 use Rattle.bt_expand.specs.Rows.{test_of}

@@ -1,8 +1,8 @@
 //! The conditions that failed in a tick.
 
-ghost use Rattle.std.specs.Prelude.{◌≡◌, ◌<◌, ◌≤◌, ◌+◌, ◌==◌, ◌^◌, ◌++◌, ℕ, Option, Some, false, length, IfOk, OnOk, slice_get, slice_index_or};
+ghost use Rattle.std.specs.Prelude.{◌≡◌, ◌<◌, ◌≤◌, ◌+◌, ◌==◌, ◌^◌, ◌++◌, ◌||◌, ℕ, Option, Some, false, length, max, IfOk, OnOk, slice_get, slice_index_or};
 ghost use Rattle.std.specs.List.{filter};
-ghost use Rattle.std.specs.Option.{option_map_or};
+ghost use Rattle.std.specs.Option.{option_map_or, option_to_list};
 ghost use Rattle.bt_model.specs.declared.world.World.{World};
 ghost use Rattle.bt_expand.specs.Forests.{Forest, height, size};
 ghost use Rattle.bt_expand.specs.Stands.{Stands, StandsFor};
@@ -33,6 +33,18 @@ fn failure_of(note: &Note) -> Option<u32>
     }
 }
 
+/// Marks the node that answered FAILURE by this note, if one did.
+fn mark_failure(marks: &mut Vec<bool>, note: &Note)
+    ensures many { length marks.new.items ≡ length marks.old.items }
+    ensures marks { (uid : ℕ) → uid < length marks.old.items → is_marked marks.new.items uid ≡ (is_marked marks.old.items uid || is_failure_of uid note.now) }
+{
+    if let Some(uid) = failure_of(note) {
+        if (uid as usize) < marks.len() {
+            marks[uid as usize] = true;
+        }
+    }
+}
+
 /// Marks the nodes that answered FAILURE, by their number, of so many nodes.
 fn failures(alloc: Global, notes: &[Note], nodes: usize) -> Result<Vec<bool>, NoMemory>
     requires { nodes < 2 ^ 32 }
@@ -41,11 +53,7 @@ fn failures(alloc: Global, notes: &[Note], nodes: usize) -> Result<Vec<bool>, No
 {
     let mut marks = vec![in alloc; false; nodes + 1]?;
     for note in notes {
-        if let Some(uid) = failure_of(note) {
-            if let Some(mark) = marks.get_mut(uid as usize) {
-                *mark = true;
-            }
-        }
+        mark_failure(&mut marks, note);
     }
     Ok(marks)
 }
@@ -95,6 +103,22 @@ fn marked_place(spot: &Spot, uid: u32, marks: &[bool]) -> Option<Place>
     }
 }
 
+/// Adds a node of this number to others, where it is a condition and is marked.
+fn add_marked(
+    spot: &Spot,
+    uid: u32,
+    marks: &[bool],
+    places: &mut Vec<Place>,
+) -> Result<(), NoMemory>
+    requires { uid < length marks.now }
+    ensures { OnOk result (places.new.items ≡ places.old.items ++ option_to_list (marked_place marks.now uid spot.now)) }
+{
+    if let Some(place) = marked_place(spot, uid, marks) {
+        places.push(place)?;
+    }
+    Ok(())
+}
+
 /// The conditions among the nodes of a tree in pre-order that are marked.
 fn marked_places(alloc: Global, spots: &[Spot], marks: &[bool]) -> Result<Vec<Place>, NoMemory>
     requires few { length spots.now + 1 < 2 ^ 32 }
@@ -103,11 +127,17 @@ fn marked_places(alloc: Global, spots: &[Spot], marks: &[bool]) -> Result<Vec<Pl
 {
     let mut places = Vec::new(alloc);
     for (index, spot) in spots.iter().enumerate() {
-        if let Some(place) = marked_place(spot, index as u32 + 1, marks) {
-            places.push(place)?;
-        }
+        add_marked(spot, index as u32 + 1, marks, &mut places)?;
     }
     Ok(places)
+}
+
+/// The levels down to this one, where there are so many or more.
+fn deeper(levels: usize, level: u32) -> usize
+    ensures { result ≡ max levels (level + 1) }
+{
+    let own = level as usize + 1;
+    if levels < own { own } else { levels }
 }
 
 /// How many levels there are down to the deepest of some conditions.
@@ -116,7 +146,7 @@ fn levels(places: &[Place]) -> usize
 {
     let mut deepest = 0usize;
     for place in places {
-        deepest = deepest.max(place.level as usize + 1);
+        deepest = deeper(deepest, place.level);
     }
     deepest
 }

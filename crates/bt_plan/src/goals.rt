@@ -3,6 +3,7 @@ ghost use Rattle.std.specs.List.{list_all, list_any};
 ghost use Rattle.std.specs.Ordering.{int_cmp};
 ghost use Rattle.bt_script.specs.Operators.{compares};
 ghost use Rattle.bt_model.specs.Worlds.{IsValidWorld};
+ghost use Rattle.bt_expand.specs.Rows.{test_of};
 ghost use Rattle.bt_plan.specs.Modelled.{decided, holds, is_failed_root};
 ghost use Rattle.bt_plan.specs.Tests.{AreTests, HaveFacts};
 
@@ -13,6 +14,16 @@ use bt_model::{Answer, Note, World};
 use bt_script::{Cmp, NoMemory};
 use std::alloc::Global;
 
+/// The test of the condition of this row, if it has one.
+fn test_at(world: &World, row: u32) -> Option<Test>
+    ensures { result ≡ test_of world.now.rows row }
+{
+    match world.rows.list().get(row as usize) {
+        Some(found) => test_of(&found.sort),
+        None => None,
+    }
+}
+
 /// The tests of a world's goals.
 pub fn goal_tests(alloc: Global, world: &World) -> Result<Vec<Test>, NoMemory>
     requires { IsValidWorld world.now }
@@ -20,10 +31,9 @@ pub fn goal_tests(alloc: Global, world: &World) -> Result<Vec<Test>, NoMemory>
 {
     let mut tests = Vec::new(alloc);
     for goal in world.goals.list() {
-        if let Some(row) = world.rows.list().get(*goal as usize) {
-            if let Some(test) = test_of(&row.sort) {
-                tests.push(test)?;
-            }
+        match test_at(world, *goal) {
+            Some(test) => tests.push(test)?,
+            None => unreachable!(),
         }
     }
     Ok(tests)
@@ -77,6 +87,13 @@ fn is_failed_root(note: &Note) -> bool
     )
 }
 
+/// Whether the root failed by these notes.
+fn has_failed_root(notes: &[Note]) -> bool
+    ensures { result ≡ list_any is_failed_root notes.now }
+{
+    notes.iter().any(|note| is_failed_root(note))
+}
+
 /// What a tick that did not fault decides: the goals first, whatever the root answered, and then a
 /// FAILURE of the root.
 pub fn decide(facts: &FactTable, tests: &[Test], notes: &[Note]) -> Verdict
@@ -85,7 +102,7 @@ pub fn decide(facts: &FactTable, tests: &[Test], notes: &[Note]) -> Verdict
 {
     if all_hold(facts, tests) {
         Verdict::Reaches
-    } else if notes.iter().any(|note| is_failed_root(note)) {
+    } else if has_failed_root(notes) {
         Verdict::Fails
     } else {
         Verdict::GoesOn

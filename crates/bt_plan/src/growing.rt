@@ -1,13 +1,15 @@
 //! From a tree that failed to the next one.
 
 ghost use Rattle.std.specs.Prelude.{◌≡◌, ◌<◌, ◌≤◌, ◌+◌, ◌^◌, ℕ, IfOk, length};
+ghost use Rattle.std.specs.Option.{option_and_then};
 ghost use Rattle.bt_model.specs.declared.world.World.{World};
-ghost use Rattle.bt_expand.specs.Forests.{Forest, size, subtrees, times};
+ghost use Rattle.bt_expand.specs.Forests.{Forest, part_at, size, subtrees, times};
+ghost use Rattle.bt_expand.specs.Numbers.{row_in};
 ghost use Rattle.bt_expand.specs.Planned.{id_of};
-ghost use Rattle.bt_expand.specs.Stands.{IsSequenceOf, StandsFor};
+ghost use Rattle.bt_expand.specs.Stands.{IsConditionOf, IsSequenceOf, StandsFor};
 ghost use Rattle.bt_plan.specs.declared.verdict.Verdict.TheVariants.{Fails};
 ghost use Rattle.bt_plan.specs.Failing.{failed, ids_of};
-ghost use Rattle.bt_plan.specs.Grown.{AreConditions, GoesOrEnds, GrowsOrNot, SettlesOrStalls};
+ghost use Rattle.bt_plan.specs.Grown.{AreConditions, ExpandsOrNot, GoesOrEnds, GrowsOrNot, SettlesOrStalls};
 ghost use Rattle.bt_plan.specs.PlanRuns.{Decides, Trial, failed_in, last_notes};
 ghost use Rattle.bt_plan.specs.Settling.{name_at};
 
@@ -15,7 +17,7 @@ use crate::ending::{End, Limits, Step};
 use crate::failing::failed;
 use crate::places::Place;
 use crate::settling::settle;
-use bt_expand::{Part, PlanTree, expand, part_of, row_of};
+use bt_expand::{ExpandFault, Part, PlanTree, expand, part_of, row_of};
 use bt_model::{Note, Row, World};
 use bt_script::{Items, Name, NoMemory, Stop};
 use std::alloc::Global;
@@ -49,15 +51,45 @@ fn ids_of(alloc: Global, rows: &[Row], places: &[Place]) -> Result<Items<Name>, 
     Ok(Items::of(names))
 }
 
+/// The row of a node, if it has one.
+fn row_in(part: Part) -> Option<u32>
+    ensures { result ≡ row_in part }
+{
+    match part {
+        Part::Sequence(row) | Part::Condition(row) | Part::Action(row) => Some(row),
+        Part::Goals | Part::Fallback => None,
+    }
+}
+
+/// The row of the condition or the action of this key.
+fn row_at(t: &PlanTree, key: usize) -> Option<u32>
+    ensures { (world : World) (tree : Forest) → StandsFor t.now world tree → 1 ≤ times key tree → result ≡ option_and_then row_in (part_at key tree) }
+{
+    match part_of(t, key) {
+        Some(part) => row_in(part),
+        None => None,
+    }
+}
+
 /// The ID of the row of the condition or the action of this key.
 fn name_at(alloc: Global, rows: &[Row], t: &PlanTree, key: usize) -> Result<Name, NoMemory>
     ensures { IfOk result (λ name. (world : World) (tree : Forest) → StandsFor t.now world tree → 1 ≤ times key tree → name ≡ name_at rows.now tree key) }
 {
-    match part_of(t, key) {
-        Some(Part::Sequence(row) | Part::Condition(row) | Part::Action(row)) => {
-            id_of(alloc, rows, row)
-        }
-        _ => Ok(Name::of(Vec::new(alloc))),
+    match row_at(t, key) {
+        Some(row) => id_of(alloc, rows, row),
+        None => Ok(Name::of(Vec::new(alloc))),
+    }
+}
+
+/// Expands a condition, if it has an untried template, and gives the key of the new sequence.
+fn try_expand(alloc: Global, t: &mut PlanTree, key: usize) -> Result<Option<usize>, NoMemory>
+    requires { (world : World) × (tree : Forest) × StandsFor t.old world tree × IsConditionOf tree key }
+    ensures { IfOk result (λ found. (world : World) (tree : Forest) → StandsFor t.old world tree → IsConditionOf tree key → ExpandsOrNot t.new world tree key found) }
+{
+    match expand(alloc, t, key) {
+        Ok(sequence) => Ok(Some(sequence)),
+        Err(Stop::Fault(ExpandFault::NoUntried)) => Ok(None),
+        Err(Stop::NoMemory) => Err(NoMemory),
     }
 }
 
@@ -71,16 +103,16 @@ fn expand_first(
     ensures { IfOk result (λ found. (world : World) (tree : Forest) → StandsFor t.old world tree → AreConditions tree places.now → GrowsOrNot t.new world tree places.now found) }
 {
     for place in places {
-        match expand(alloc, t, place.key) {
-            Ok(sequence) => {
+        let found = try_expand(alloc, t, place.key)?;
+        match found {
+            Some(sequence) => {
                 return Ok(Some(Grown {
                     place: *place,
                     sequence,
                     action: row_of(t, sequence),
                 }));
             }
-            Err(Stop::Fault(_)) => {}
-            Err(Stop::NoMemory) => return Err(NoMemory),
+            None => {}
         }
     }
     Ok(None)
@@ -100,19 +132,21 @@ fn settle_step(
 {
     let settled = settle(t, grown.sequence);
     let rows = world.rows.list();
-    if let Some((action, condition)) = settled.conflict {
-        return Ok(Some(End::NoOrder {
+    match settled.conflict {
+        Some((action, condition)) => Ok(Some(End::NoOrder {
             action: name_at(alloc, rows, t, action)?,
             condition: name_at(alloc, rows, t, condition)?,
-        }));
+        })),
+        None => {
+            steps.push(Step {
+                uid: grown.place.uid,
+                condition: id_of(alloc, rows, grown.place.row)?,
+                action: id_of(alloc, rows, grown.action)?,
+                raises: settled.raises,
+            })?;
+            Ok(None)
+        }
     }
-    steps.push(Step {
-        uid: grown.place.uid,
-        condition: id_of(alloc, rows, grown.place.row)?,
-        action: id_of(alloc, rows, grown.action)?,
-        raises: settled.raises,
-    })?;
-    Ok(None)
 }
 
 /// Makes a step from a tree that failed, by the notes of its last tick, or ends there.
@@ -129,13 +163,16 @@ pub fn grow(
         → GoesOrEnds t.new world.now limits.now (length steps.old.items) trial steps.old.items steps.new.items end) }
 {
     let places = failed(alloc, t, notes)?;
-    let Some(grown) = expand_first(alloc, t, places.as_slice())? else {
-        return Ok(Some(End::NoTemplate {
+    let found = expand_first(alloc, t, places.as_slice())?;
+    match found {
+        None => Ok(Some(End::NoTemplate {
             failed: ids_of(alloc, world.rows.list(), places.as_slice())?,
-        }));
-    };
-    if steps.len() == limits.expand as usize {
-        return Ok(Some(End::Expansions { n: limits.expand }));
+        })),
+        Some(grown) => {
+            if steps.len() == limits.expand as usize {
+                return Ok(Some(End::Expansions { n: limits.expand }));
+            }
+            settle_step(alloc, world, grown, t, steps)
+        }
     }
-    settle_step(alloc, world, grown, t, steps)
 }

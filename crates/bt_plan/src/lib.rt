@@ -7,12 +7,8 @@ mod failing;
 mod goals;
 mod growing;
 mod places;
-mod planning;
 mod settling;
 mod task;
-mod ticking;
-mod trying;
 mod verdict;
 
 pub use ending::{End, Limits, PlanEnd, Step};
-pub use planning::plan;

@@ -23,11 +23,16 @@ pub fn settle(t: &mut PlanTree, sequence: usize) -> Settled
     ensures { (world : World) (tree : Forest) → StandsFor t.old world tree → IsSequenceOf tree sequence → IsSettled t.new world sequence tree result }
 {
     for raises in 0..t.nodes.len() as u32 {
-        let found = conflict(t);
-        if found.is_none() || !raise(t, sequence) {
+        let Some(pair) = conflict(t) else {
             return Settled {
                 raises,
-                conflict: found,
+                conflict: None,
+            };
+        };
+        if !raise(t, sequence) {
+            return Settled {
+                raises,
+                conflict: Some(pair),
             };
         }
     }

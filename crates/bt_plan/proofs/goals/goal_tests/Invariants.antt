@@ -1,5 +1,4 @@
 use Rattle.std.proofs.Common.{◌≡◌, length, map, take, Some}
-use Rattle.bt_model.specs.Worlds.{IsValidWorld}
 use Rattle.bt_domain.specs.declared.effects.Test.{Test}
 use Rattle.bt_expand.specs.Rows.{test_of}
 use Rattle.bt_plan.specs.Tests.{HaveFacts}

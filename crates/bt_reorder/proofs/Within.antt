@@ -1,19 +1,18 @@
 -- Keys of conflicts name nodes of the tree.
-use Rattle.std.proofs.Common.{◌≡◌, ◌≢◌, ℕ, zero, suc, ◌+◌, ◌<◌, ◌≤◌, ◌==◌, nat_eq, Bool, true, false, if◌then◌else◌, List, [], ◌∷◌, ◌++◌, map, Option, Some, None, refl, ap, sym, ◌∙◌, subst, arith, inl, inr}
-use Rattle.std.specs.Prelude.{option_map, slice_get}
+use Rattle.std.proofs.Common.{◌≡◌, ℕ, ◌≤◌, Bool, true, false, if◌then◌else◌, List, [], ◌∷◌, Option, Some, None, refl, ap, sym, subst, arith, inl, inr}
+use Rattle.std.specs.Prelude.{slice_get}
 use Rattle.std.specs.List.{AllByRecursion, filter}
-use Rattle.std.specs.Option.{option_map_or, option_or}
+use Rattle.std.specs.Option.{option_map_or}
 use Rattle.bt_model.specs.declared.world.Row.{Row}
 use Rattle.bt_expand.specs.declared.node.Part.{Part}
 use Rattle.bt_expand.specs.declared.node.Part.TheVariants.{Goals, Sequence, Fallback, Condition, Action}
-use Rattle.bt_expand.specs.Forests.{Forest, Empty, Tree, Ancestor, Place, after_first, ancestors, below_first, is_sequence, place_of, times}
+use Rattle.bt_expand.specs.Forests.{Forest, Empty, Tree, Ancestor, Place, ancestors, is_sequence, place_of, times}
 use Rattle.bt_expand.specs.Rows.{row_threatens}
-use Rattle.bt_expand.proofs.Counted.{is_other, is_same, one_of, one_same, tested}
+use Rattle.bt_expand.proofs.Counted.{is_other, is_same, one_same, tested}
 use Rattle.bt_reorder.specs.declared.conflicts.Head.{Head}
-use Rattle.bt_reorder.specs.Conflicts.{Pair, actions, conflicts, conflicts_of, conflicts_with, first_condition, head_of, heads, heads_before, heads_in, outer_of, own_actions}
-use Rattle.bt_plan.specs.Settling.{first_conflict}
-use Rattle.bt_plan.proofs.Whence.{InFirst, InRest, first_place, other_place}
-use Rattle.bt_plan.proofs.Listed.{all_both, all_filter, all_first, all_flat_of, all_map}
+use Rattle.bt_reorder.specs.Conflicts.{Pair, actions, conflicts, conflicts_with, first_condition, head_of, heads, heads_before, heads_in, outer_of, own_actions}
+use Rattle.bt_reorder.proofs.Whence.{first_place, other_place}
+use Rattle.bt_reorder.proofs.Elements.{all_both, all_filter, all_first, all_flat_of, all_map}
 
 -- the trees before a key are part of the forest
 before_few : (k : ℕ) (f : Forest) (p : Place) (j : ℕ) → place_of k f ≡ Some p → times j p.before ≤ times j f
@@ -120,13 +119,13 @@ module _ (tree : Forest) where
   Are pair = (1 ≤ times pair.0 tree) × (1 ≤ times pair.1 tree)
 
   -- both keys of a conflict
-  pub conflict_within : (rows : List Row) (pair : Pair) → first_conflict rows tree ≡ Some pair → Are pair
+  pub conflict_within : (rows : List Row) (pair : Pair) → slice_get (conflicts rows tree) 0 ≡ Some pair → Are pair
   conflict_within rows pair is =
       all_first Are (conflicts rows tree) pair
       (all_flat_of Is Are (λ (n : Head). conflicts_with rows n (heads_before (outer_of (ancestors n.key tree)))) (actions tree)
       (λ (n : Head) own.
-          let earlier = heads_before (outer_of (ancestors n.key tree)) in
-          all_map Is Are (λ (m : Head). (n.key, m.key)) (filter (λ (m : Head). row_threatens rows n.row m.row) earlier) (λ (m : Head) head. (own, head))
-          (all_filter Is (λ (m : Head). row_threatens rows n.row m.row) earlier (before_within (outer_of (ancestors n.key tree)) (outer_within (ancestors n.key tree) (ancestors_within n.key)))))
+      let earlier = heads_before (outer_of (ancestors n.key tree)) in
+      all_map Is Are (λ (m : Head). (n.key, m.key)) (filter (λ (m : Head). row_threatens rows n.row m.row) earlier) (λ (m : Head) head. (own, head))
+      (all_filter Is (λ (m : Head). row_threatens rows n.row m.row) earlier (before_within (outer_of (ancestors n.key tree)) (outer_within (ancestors n.key tree) (ancestors_within n.key)))))
       (actions_within tree (λ (j : ℕ). omega arith)))
       is
