@@ -22,7 +22,7 @@ use Rattle.bt_plan.specs.declared.places.Place.{Place}
 use Rattle.bt_plan.specs.declared.verdict.Verdict.{Verdict}
 use Rattle.bt_plan.specs.declared.verdict.Verdict.TheVariants.{Reaches, Fails, GoesOn}
 use Rattle.bt_plan.specs.Failing.{failed, first_open, ids_of}
-use Rattle.bt_plan.specs.Modelled.{IsLast, modelled_run, next_tick, verdict_after}
+use Rattle.bt_plan.specs.Modelled.{IsLast, ReachedAt, modelled_run, next_tick, verdict_after}
 use Rattle.bt_plan.specs.Settling.{Settles, Stalls, name_at}
 
 -- the limits are in their ranges
@@ -151,3 +151,8 @@ pub record PlanRun (world : World) (limits : Limits) (planned : PlanEnd) (trials
   pub lead : Lead world limits 0 first trials planned.steps last.tree
   pub tried : IsTried world limits last
   pub ends : Ends world limits (length planned.steps) last planned.end
+
+-- where the goals were reached, the tree's own run shows it
+abbrev pub IsReached : World → Limits → End → Type 0
+IsReached world limits (Reached tree tick) = ReachedAt tree world limits.period tick
+IsReached world limits end = Unit {0}

@@ -6,6 +6,7 @@ mod ending;
 mod failing;
 mod goals;
 mod growing;
+pub mod laws;
 mod places;
 mod settling;
 mod task;
