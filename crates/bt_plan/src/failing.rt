@@ -36,7 +36,8 @@ fn failure_of(note: &Note) -> Option<u32>
 /// Marks the node that answered FAILURE by this note, if one did.
 fn mark_failure(marks: &mut Vec<bool>, note: &Note)
     ensures many { length marks.new.items ≡ length marks.old.items }
-    ensures marks { (uid : ℕ) → uid < length marks.old.items → is_marked marks.new.items uid ≡ (is_marked marks.old.items uid || is_failure_of uid note.now) }
+    ensures marks { (uid : ℕ) → uid < length marks.old.items →
+        is_marked marks.new.items uid ≡ (is_marked marks.old.items uid || is_failure_of uid note.now) }
 {
     if let Some(uid) = failure_of(note) {
         if (uid as usize) < marks.len() {
@@ -68,7 +69,8 @@ fn list_spots(
     spots: &mut Vec<Spot>,
 ) -> Result<(), NoMemory>
     requires { level + levels < 2 ^ 32 }
-    ensures { (parent : Option ℕ) (f : Forest) → Stands nodes.now parent keys.now f → height f ≤ levels → OnOk result (spots.new.items ≡ spots.old.items ++ spots_from level f) }
+    ensures { (parent : Option ℕ) (f : Forest) → Stands nodes.now parent keys.now f → height f ≤ levels →
+        OnOk result (spots.new.items ≡ spots.old.items ++ spots_from level f) }
 {
     if levels == 0 {
         return Ok(());

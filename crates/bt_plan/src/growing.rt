@@ -63,7 +63,8 @@ fn row_in(part: Part) -> Option<u32>
 
 /// The row of the condition or the action of this key.
 fn row_at(t: &PlanTree, key: usize) -> Option<u32>
-    ensures { (world : World) (tree : Forest) → StandsFor t.now world tree → 1 ≤ times key tree → result ≡ option_and_then row_in (part_at key tree) }
+    ensures { (world : World) (tree : Forest) → StandsFor t.now world tree → 1 ≤ times key tree →
+        result ≡ option_and_then row_in (part_at key tree) }
 {
     match part_of(t, key) {
         Some(part) => row_in(part),
@@ -73,7 +74,8 @@ fn row_at(t: &PlanTree, key: usize) -> Option<u32>
 
 /// The ID of the row of the condition or the action of this key.
 fn name_at(alloc: Global, rows: &[Row], t: &PlanTree, key: usize) -> Result<Name, NoMemory>
-    ensures { IfOk result (λ name. (world : World) (tree : Forest) → StandsFor t.now world tree → 1 ≤ times key tree → name ≡ name_at rows.now tree key) }
+    ensures { IfOk result (λ name. (world : World) (tree : Forest) → StandsFor t.now world tree → 1 ≤ times key tree →
+        name ≡ name_at rows.now tree key) }
 {
     match row_at(t, key) {
         Some(row) => id_of(alloc, rows, row),
@@ -84,7 +86,8 @@ fn name_at(alloc: Global, rows: &[Row], t: &PlanTree, key: usize) -> Result<Name
 /// Expands a condition, if it has an untried template, and gives the key of the new sequence.
 fn try_expand(alloc: Global, t: &mut PlanTree, key: usize) -> Result<Option<usize>, NoMemory>
     requires { (world : World) × (tree : Forest) × StandsFor t.old world tree × IsConditionOf tree key }
-    ensures { IfOk result (λ found. (world : World) (tree : Forest) → StandsFor t.old world tree → IsConditionOf tree key → ExpandsOrNot t.new world tree key found) }
+    ensures { IfOk result (λ found. (world : World) (tree : Forest) → StandsFor t.old world tree → IsConditionOf tree key →
+        ExpandsOrNot t.new world tree key found) }
 {
     match expand(alloc, t, key) {
         Ok(sequence) => Ok(Some(sequence)),
@@ -100,7 +103,8 @@ fn expand_first(
     places: &[Place],
 ) -> Result<Option<Grown>, NoMemory>
     requires { (world : World) × (tree : Forest) × StandsFor t.old world tree × AreConditions tree places.now }
-    ensures { IfOk result (λ found. (world : World) (tree : Forest) → StandsFor t.old world tree → AreConditions tree places.now → GrowsOrNot t.new world tree places.now found) }
+    ensures { IfOk result (λ found. (world : World) (tree : Forest) → StandsFor t.old world tree → AreConditions tree places.now →
+        GrowsOrNot t.new world tree places.now found) }
 {
     for place in places {
         let found = try_expand(alloc, t, place.key)?;
@@ -128,7 +132,8 @@ fn settle_step(
     steps: &mut Vec<Step>,
 ) -> Result<Option<End>, NoMemory>
     requires { (tree : Forest) × StandsFor t.old world.now tree × IsSequenceOf tree grown.sequence × (size tree < 2 ^ 32) }
-    ensures { IfOk result (λ end. (tree : Forest) → StandsFor t.old world.now tree → IsSequenceOf tree grown.sequence → SettlesOrStalls t.new world.now grown tree steps.old.items steps.new.items end) }
+    ensures { IfOk result (λ end. (tree : Forest) → StandsFor t.old world.now tree → IsSequenceOf tree grown.sequence →
+        SettlesOrStalls t.new world.now grown tree steps.old.items steps.new.items end) }
 {
     let settled = settle(t, grown.sequence);
     let rows = world.rows.list();
@@ -159,7 +164,8 @@ pub fn grow(
     steps: &mut Vec<Step>,
 ) -> Result<Option<End>, NoMemory>
     requires { (tree : Forest) × StandsFor t.old world.now tree × (subtrees tree ≤ 120) }
-    ensures { IfOk result (λ end. (trial : Trial) → StandsFor t.old world.now trial.tree → Decides world.now limits.now trial Fails → notes.now ≡ last_notes world.now limits.now trial → length steps.old.items ≤ limits.now.expand
+    ensures { IfOk result (λ end. (trial : Trial) → StandsFor t.old world.now trial.tree →
+        Decides world.now limits.now trial Fails → notes.now ≡ last_notes world.now limits.now trial → length steps.old.items ≤ limits.now.expand
         → GoesOrEnds t.new world.now limits.now (length steps.old.items) trial steps.old.items steps.new.items end) }
 {
     let places = failed(alloc, t, notes)?;

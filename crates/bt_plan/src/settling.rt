@@ -20,7 +20,8 @@ pub(crate) struct Settled {
 /// nearer to the front, so there are fewer than the tree has nodes.
 pub fn settle(t: &mut PlanTree, sequence: usize) -> Settled
     requires { (world : World) × (tree : Forest) × StandsFor t.old world tree × IsSequenceOf tree sequence × (size tree < 2 ^ 32) }
-    ensures { (world : World) (tree : Forest) → StandsFor t.old world tree → IsSequenceOf tree sequence → IsSettled t.new world sequence tree result }
+    ensures { (world : World) (tree : Forest) → StandsFor t.old world tree → IsSequenceOf tree sequence →
+        IsSettled t.new world sequence tree result }
 {
     for raises in 0..t.nodes.len() as u32 {
         let Some(pair) = conflict(t) else {
