@@ -1,0 +1,13 @@
+pub mod Conditions
+pub mod Growths
+pub mod Leading
+pub mod Listed
+pub mod Marks
+pub mod Nearer
+pub mod Reaching
+pub mod Settlements
+pub mod Settles
+pub mod Spots
+pub mod Subtrees
+pub mod Traces
+pub mod Wanted

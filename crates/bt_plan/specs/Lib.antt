@@ -1,0 +1,9 @@
+pub mod Failing
+pub mod Grown
+pub mod Lines
+pub mod Marked
+pub mod Modelled
+pub mod PlanRuns
+pub mod Settling
+pub mod Tests
+pub mod Ticking

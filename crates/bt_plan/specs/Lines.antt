@@ -1,0 +1,27 @@
+-- The lines of a plan: one for each step, and one for its end.
+use Rattle.std.specs.Prelude.{ℕ, List, ◌++◌, codes, decimal}
+use Rattle.std.specs.List.{flat_map}
+use Rattle.bt_model.specs.Lines.{LineNames, cause_words}
+use Rattle.bt_plan.specs.declared.ending.End.{End}
+use Rattle.bt_plan.specs.declared.ending.End.TheVariants.{Reached, NoTemplate, NoOrder, Expansions, StillRunning, Faulted}
+use Rattle.bt_plan.specs.declared.ending.Step.{Step}
+
+-- a comment line
+abbrev pub comment : List ℕ → List ℕ
+comment words = codes "<!-- " ++ words ++ codes " -->\n"
+
+abbrev pub step_line : Step → List ℕ
+step_line s = comment (codes "expand " ++ decimal s.uid ++ codes " " ++ s.condition ++ codes " " ++ s.action ++ codes " raises " ++ decimal s.raises)
+
+-- names, each with a blank before it
+abbrev pub listed : List (List ℕ) → List ℕ
+listed names = flat_map (λ (name : List ℕ). codes " " ++ name) names
+
+-- The line of an end. Names are those of the tree whose run faulted.
+abbrev pub end_line : LineNames → End → List ℕ
+end_line names (Reached tree tick) = comment (codes "reached tick " ++ decimal tick)
+end_line names (NoTemplate failed) = comment (codes "no plan NoTemplate" ++ listed failed)
+end_line names (NoOrder action condition) = comment (codes "no plan NoOrder " ++ action ++ codes " " ++ condition)
+end_line names (Expansions n) = comment (codes "no plan Expansions " ++ decimal n)
+end_line names (StillRunning ticks) = comment (codes "no plan StillRunning " ++ decimal ticks)
+end_line names (Faulted uid cause) = comment (codes "no plan Faulted " ++ decimal uid ++ codes " " ++ cause_words names uid cause)

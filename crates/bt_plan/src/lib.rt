@@ -1,0 +1,15 @@
+//! Planning: a tree is run in its modelled world, and grows where it failed, until it reaches the goals.
+#![tactic(auto)]
+
+mod copying;
+mod ending;
+mod failing;
+mod goals;
+mod growing;
+pub mod laws;
+mod places;
+mod settling;
+mod task;
+mod verdict;
+
+pub use ending::{End, Limits, PlanEnd, Step};
