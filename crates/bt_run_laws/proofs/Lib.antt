@@ -1,0 +1,3 @@
+mod DriverTables
+mod Prefixes
+mod RunningLeaves
