@@ -65,7 +65,6 @@ fn run_summed<S: Shelf, K: Sink, C: Clock, D: Drivers>(
 
 /// Runs what was joined, on its course: the trace of its events is written, or the line that sums up a
 /// load.
-#[tactic(auto, using(crate::proofs::Runs::all_come))]
 fn run<S: Shelf, K: Sink, C: Clock, D: Drivers>(
     alloc: Global,
     runs: Runs,

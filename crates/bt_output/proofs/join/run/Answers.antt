@@ -1,7 +1,12 @@
-use Rattle.std.proofs.Common.{ap}
+use Rattle.std.proofs.Common.{ap, rules}
 use Rattle.bt_trace.specs.Texts.{block_text}
-use Rattle.bt_output.proofs.Runs.{rounds_gave, script_gave}
+use Rattle.bt_output.proofs.Runs.{all_come, rounds_gave, script_gave}
 use Rattle.bt_output.proofs.join.run.Goals as goal
+
+pub run_events-requires : goal.run_events-requires
+run_events-requires g c κs within =
+    let can = c.requires.1.1.1.1.0 in
+    (search rules, (search rules, (can, all_come g.of _ c.args.runs c.args.events.now can c.requires.1.1.1.1.1.0 c.requires.1.1.1.1.1.1.0)))
 
 pub returns-in-Script-clause-gave : goal.returns-in-Script-clause-gave
 returns-in-Script-clause-gave g c =
