@@ -1,6 +1,6 @@
 ghost use Rattle.std.specs.Prelude.{◌≡◌, ◌≤◌};
 ghost use Rattle.bt_output.specs.Answers.{IsRefused, IsSpoken, Printed};
-ghost use Rattle.bt_output.specs.Output.{line_of};
+ghost use Rattle.bt_output.specs.Output.{line_of, too_long, unread};
 
 use bt_arena::JoinFault;
 use bt_command_line::Exit;
@@ -105,6 +105,30 @@ fn write_last<K: Sink>(line: &[u8], exit: Exit, out: &mut K) -> Exit
     }
 }
 
+/// Writes the line for this file, which could not be read.
+fn write_unread<K: Sink>(file: File, out: &mut K) -> Exit
+    ensures printed { Printed (unread file) result
+        (K.written out.old) (K.faults out.old) (K.written out.new) (K.faults out.new) }
+    ensures count { K.faults out.old ≤ K.faults out.new }
+{
+    match file {
+        File::Tree => write_last(b"refused read tree\n", Exit::Read, out),
+        File::World => write_last(b"refused read world\n", Exit::Read, out),
+    }
+}
+
+/// Writes the line for this file, which has too many bytes.
+fn write_too_long<K: Sink>(file: File, out: &mut K) -> Exit
+    ensures printed { Printed (too_long file) result
+        (K.written out.old) (K.faults out.old) (K.written out.new) (K.faults out.new) }
+    ensures count { K.faults out.old ≤ K.faults out.new }
+{
+    match file {
+        File::Tree => write_last(b"refused tree TooLong\n", Exit::Tree, out),
+        File::World => write_last(b"refused world TooLong\n", Exit::World, out),
+    }
+}
+
 /// Writes the line of a refusal, and gives the exit that goes with it. Where the program is out of
 /// memory it writes none.
 pub fn write_refusal<K: Sink>(alloc: Global, refusal: &Refusal, out: &mut K) -> Exit
@@ -114,10 +138,8 @@ pub fn write_refusal<K: Sink>(alloc: Global, refusal: &Refusal, out: &mut K) -> 
 {
     match refusal {
         Refusal::Words => write_last(b"refused words\n", Exit::Words, out),
-        Refusal::Unread(File::Tree) => write_last(b"refused read tree\n", Exit::Read, out),
-        Refusal::Unread(File::World) => write_last(b"refused read world\n", Exit::Read, out),
-        Refusal::TooLong(File::Tree) => write_last(b"refused tree TooLong\n", Exit::Tree, out),
-        Refusal::TooLong(File::World) => write_last(b"refused world TooLong\n", Exit::World, out),
+        Refusal::Unread(file) => write_unread(*file, out),
+        Refusal::TooLong(file) => write_too_long(*file, out),
         Refusal::Tree(fault) => match tree_refusal(alloc, fault) {
             Ok(line) => write_last(line.as_slice(), Exit::Tree, out),
             Err(NoMemory) => Exit::Memory,

@@ -1,18 +1,11 @@
-use Rattle.std.proofs.Common.{◌∙◌, ap, sym}
-use Rattle.bt_output.specs.declared.refusal.Refusal.TheVariants as refusal
+use Rattle.std.proofs.Common.{◌∙◌}
 use Rattle.bt_output.proofs.refusal.write_refusal.Goals as goal
 
-pub returns-in-Unread-Tree-clause-refused : goal.returns-in-Unread-Tree-clause-refused
-returns-in-Unread-Tree-clause-refused g c = rw (c.in-Unread-Tree.is ∙ ap refusal.Unread c.in-Unread-Tree.field-0-is) c.write_last-in-Unread-Tree.ensures.printed
+pub returns-in-Unread-clause-refused : goal.returns-in-Unread-clause-refused
+returns-in-Unread-clause-refused g c = rw c.in-Unread.is c.write_unread.ensures.printed
 
-pub returns-in-Unread-World-clause-refused : goal.returns-in-Unread-World-clause-refused
-returns-in-Unread-World-clause-refused g c = rw (c.in-Unread-World.is ∙ ap refusal.Unread c.in-Unread-World.field-0-is) c.write_last-in-Unread-World.ensures.printed
-
-pub returns-in-TooLong-Tree-clause-refused : goal.returns-in-TooLong-Tree-clause-refused
-returns-in-TooLong-Tree-clause-refused g c = rw (c.in-TooLong-Tree.is ∙ ap refusal.TooLong c.in-TooLong-Tree.field-0-is) c.write_last-in-TooLong-Tree.ensures.printed
-
-pub returns-in-TooLong-World-clause-refused : goal.returns-in-TooLong-World-clause-refused
-returns-in-TooLong-World-clause-refused g c = rw (c.in-TooLong-World.is ∙ ap refusal.TooLong c.in-TooLong-World.field-0-is) c.write_last-in-TooLong-World.ensures.printed
+pub returns-in-TooLong-clause-refused : goal.returns-in-TooLong-clause-refused
+returns-in-TooLong-clause-refused g c = rw c.in-TooLong.is c.write_too_long.ensures.printed
 
 pub returns-in-Ok-clause-refused : goal.returns-in-Ok-clause-refused
 returns-in-Ok-clause-refused g c = rw c.in-Tree.is (rw (c.as_slice.ensures.value ∙ c.in-Ok.ensures) at c.write_last-in-Ok.ensures.printed)
