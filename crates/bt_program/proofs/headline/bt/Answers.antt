@@ -2,7 +2,7 @@ use Rattle.bt_program.proofs.Clauses.{complete_of, each_of, no_command_of, read_
 use Rattle.bt_program.proofs.headline.bt.Goals as goal
 
 pub returns-clause-words : goal.returns-clause-words
-returns-clause-words g c = rw (← c.replace.ensures.value) (words_of _ _ _ _ _ _ _ c.run_words-exit.ensures.answered)
+returns-clause-words g c = words_of _ _ _ _ _ _ _ c.run_words-exit.ensures.answered
 
 pub returns-clause-no_command : goal.returns-clause-no_command
 returns-clause-no_command g c = rw (← c.replace.ensures.value) (no_command_of _ _ _ _ _ _ _ c.run_words-exit.ensures.answered)
@@ -17,7 +17,7 @@ pub returns-clause-read : goal.returns-clause-read
 returns-clause-read g c = rw (← c.replace.ensures.value) (read_of _ _ _ _ _ _ _ c.run_words-exit.ensures.answered)
 
 pub returns-clause-write : goal.returns-clause-write
-returns-clause-write g c = rw (← c.replace.ensures.value) (write_of _ _ _ _ _ _ _ c.run_words-exit.ensures.answered)
+returns-clause-write g c = write_of _ _ _ _ _ _ _ c.run_words-exit.ensures.answered
 
 pub returns-clause-complete : goal.returns-clause-complete
 returns-clause-complete g c = rw (← c.replace.ensures.value) (complete_of _ _ _ _ _ _ (record { element = c.one_element.ensures; fault = c.element_or_fault.ensures.once; not_both = c.element_or_fault.ensures.not_both; world = c.worlds_read_one_way.ensures }) _ c.run_words-exit.ensures.answered)
