@@ -10,10 +10,13 @@ DATA = TOP / "viewer" / "tests" / "data"
 STATUSES = ("IDLE", "RUNNING", "SUCCESS", "FAILURE")
 HEADERS = ("tick", "halt", "set", "finish")
 
-# The program that stands in where none is built. It knows the outputs of the stored files: TREE.trace and WORLD.plan.
+# The program that stands in where none is built. It knows the outputs of the stored files: TREE.checked, which a file of
+# version 3 needs, TREE.trace and WORLD.plan.
 STAND_IN = """#!/bin/sh
 case "$1" in
-    check) [ -e "${2%.xml}.refused" ] && cat "${2%.xml}.refused" && exit 3; cat "$2" ;;
+    check)
+        [ -e "${2%.xml}.refused" ] && cat "${2%.xml}.refused" && exit 3
+        if [ -e "${2%.xml}.checked" ]; then cat "${2%.xml}.checked"; else cat "$2"; fi ;;
     tick)
         trace=${2%.xml}.trace
         [ -e "$trace" ] || trace=$PLANNED
