@@ -55,14 +55,14 @@ spelled_first : (s : Stmt) (others : List (List Token)) → length (spelled_stmt
 spelled_first s [] = omega arith
 spelled_first s (o ∷ os) = omega (arith, length-append (spelled_stmt s) (Semicolon ∷ separated (o ∷ os)))
 
-behind_first : (ts : List Token) (front : List Token) (rest : List Token) → ts ≡ front ++ Semicolon ∷ rest → drop (length front + 1) ts ≡ rest
-behind_first ts front rest is = ap (drop (length front + 1)) is ∙ drop-append-add front (Semicolon ∷ rest) 1
+following_first : (ts : List Token) (front : List Token) (rest : List Token) → ts ≡ front ++ Semicolon ∷ rest → drop (length front + 1) ts ≡ rest
+following_first ts front rest is = ap (drop (length front + 1)) is ∙ drop-append-add front (Semicolon ∷ rest) 1
 
 lows : (slots : List (Option Stmt)) (ts : List Placed) → bare ts ≡ separated (map spelled_slot slots) → high_stmt slots ts ≡ None → AllByRecursion IsLow (kept slots)
 lows [] ts written low = tt
 lows (None ∷ []) ts written low = tt
 lows (None ∷ x ∷ xs) ts written low =
-    lows (x ∷ xs) (drop 1 ts) (sym (drop-map (λ (t : Placed). t.token) 1 ts) ∙ behind_first (bare ts) [] (separated (map spelled_slot (x ∷ xs))) written) low
+    lows (x ∷ xs) (drop 1 ts) (sym (drop-map (λ (t : Placed). t.token) 1 ts) ∙ following_first (bare ts) [] (separated (map spelled_slot (x ∷ xs))) written) low
 lows (Some s ∷ []) ts written low =
     let some : 0 < length ts = omega (arith, length-map ts (λ (t : Placed). t.token), ap length written, stmt_spelled s) in
     ((first_low s ts (high_stmt [] (drop (length (spelled_stmt s) + 1) ts)) some (nat_le (height (expr_of s)) 64) refl low).0, tt)
@@ -71,7 +71,7 @@ lows (Some s ∷ x ∷ xs) ts written low =
     let both = first_low s ts (high_stmt (x ∷ xs) (drop (length (spelled_stmt s) + 1) ts)) some (nat_le (height (expr_of s)) 64) refl low in (
       both.0,
       lows (x ∷ xs) (drop (length (spelled_stmt s) + 1) ts)
-          (sym (drop-map (λ (t : Placed). t.token) (length (spelled_stmt s) + 1) ts) ∙ behind_first (bare ts) (spelled_stmt s) (separated (map spelled_slot (x ∷ xs))) written) both.1,
+          (sym (drop-map (λ (t : Placed). t.token) (length (spelled_stmt s) + 1) ts) ∙ following_first (bare ts) (spelled_stmt s) (separated (map spelled_slot (x ∷ xs))) written) both.1,
     )
 
 -- ---- and each can be compiled

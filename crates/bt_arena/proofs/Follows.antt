@@ -5,7 +5,7 @@ use Rattle.bt_script.specs.declared.stop.Stop.{Stop}
 use Rattle.bt_script.specs.declared.stop.Stop.TheVariants as stop
 use Rattle.bt_model.specs.declared.fault.NodeFault.{NodeFault}
 use Rattle.bt_model.specs.declared.note.Note.{Note}
-use Rattle.bt_model.specs.Done.{Call, Done, State, behind, carried, done, follow}
+use Rattle.bt_model.specs.Done.{Call, Done, State, following, carried, done, follow}
 use Rattle.bt_model.specs.Drivers.{DriverState}
 use Rattle.bt_arena.specs.declared.nodes.Kept.{Kept}
 use Rattle.bt_arena.specs.declared.nodes.Node.{Node}
@@ -30,47 +30,47 @@ module _ (nodes : List Node) (moment : ℕ) where
   done_met memory a s n = (record { answer = refl; memory = refl; state = refl; notes = sym (append-nil n); drivers = refl }, refl)
 
   module _ {A M : Type 0} (memory : List Kept → M) (s0 s1 s2 : Scene) (n0 n1 n2 : List Note) (ns : List Note) (cs : List Call) (noted : n1 ≡ n0 ++ ns) (called : s1.drivers ≡ roster_after nodes cs s0.drivers) (d : Done A M) where
-    notes_behind : (l : List Note) → n2 ≡ n1 ++ l → n2 ≡ n0 ++ (ns ++ l)
-    notes_behind l e = e ∙ ap (λ (x : List Note). x ++ l) noted ∙ append_assoc n0 ns l
+    notes_after : (l : List Note) → n2 ≡ n1 ++ l → n2 ≡ n0 ++ (ns ++ l)
+    notes_after l e = e ∙ ap (λ (x : List Note). x ++ l) noted ∙ append_assoc n0 ns l
 
-    drivers_behind : (l : List Call) → s2.drivers ≡ roster_after nodes l s1.drivers → s2.drivers ≡ roster_after nodes (cs ++ l) s0.drivers
-    drivers_behind l e = e ∙ ap (roster_after nodes l) called ∙ sym (after_both nodes cs l s0.drivers)
+    drivers_after : (l : List Call) → s2.drivers ≡ roster_after nodes l s1.drivers → s2.drivers ≡ roster_after nodes (cs ++ l) s0.drivers
+    drivers_after l e = e ∙ ap (roster_after nodes l) called ∙ sym (after_both nodes cs l s0.drivers)
 
-    made_behind : (r : Result A NodeFault) → IsMade nodes moment memory r s1 s2 n1 n2 d → IsMade nodes moment memory r s0 s2 n0 n2 (behind ns cs d)
-    made_behind r m = record { answer = m.answer; memory = m.memory; state = m.state; notes = notes_behind d.notes m.notes; drivers = drivers_behind d.calls m.drivers }
+    made_after : (r : Result A NodeFault) → IsMade nodes moment memory r s1 s2 n1 n2 d → IsMade nodes moment memory r s0 s2 n0 n2 (following ns cs d)
+    made_after r m = record { answer = m.answer; memory = m.memory; state = m.state; notes = notes_after d.notes m.notes; drivers = drivers_after d.calls m.drivers }
 
-    named_behind : length cs ≡ calls_named ns → (ms : List Note) (es : List Call) → length es ≡ calls_named ms → length (cs ++ es) ≡ calls_named (ns ++ ms)
-    named_behind here ms es e = omega (arith, here, e, length-append cs es, named_both ns ms)
+    named_after : length cs ≡ calls_named ns → (ms : List Note) (es : List Call) → length es ≡ calls_named ms → length (cs ++ es) ≡ calls_named (ns ++ ms)
+    named_after here ms es e = omega (arith, here, e, length-append cs es, named_both ns ms)
 
     -- what meets its definition does so too with the notes and calls of an earlier part
-    pub behind_met : length cs ≡ calls_named ns → (r : Result A (Stop NodeFault)) → Meets nodes moment memory r s1 s2 n1 n2 d → Meets nodes moment memory r s0 s2 n0 n2 (behind ns cs d)
-    behind_met named (Ok a) m = (made_behind (Ok a) m.0, named_behind named d.notes d.calls m.1)
-    behind_met named (Err (stop.Fault f)) m = made_behind (Err f) m
-    behind_met named (Err stop.NoMemory) m = record {
+    pub after_met : length cs ≡ calls_named ns → (r : Result A (Stop NodeFault)) → Meets nodes moment memory r s1 s2 n1 n2 d → Meets nodes moment memory r s0 s2 n0 n2 (following ns cs d)
+    after_met named (Ok a) m = (made_after (Ok a) m.0, named_after named d.notes d.calls m.1)
+    after_met named (Err (stop.Fault f)) m = made_after (Err f) m
+    after_met named (Err stop.NoMemory) m = record {
       told = ns ++ m.told;
       untold = m.untold;
       made = cs ++ m.made;
       unmade = m.unmade;
       all_notes = append_assoc ns m.told m.untold ∙ ap (λ (x : List Note). ns ++ x) m.all_notes;
       all_calls = append_assoc cs m.made m.unmade ∙ ap (λ (x : List Call). cs ++ x) m.all_calls;
-      named = named_behind named m.told m.made m.named;
-      notes = notes_behind m.told m.notes;
-      drivers = drivers_behind m.made m.drivers;
+      named = named_after named m.told m.made m.named;
+      notes = notes_after m.told m.notes;
+      drivers = drivers_after m.made m.drivers;
     }
 
   module _ {A M B N : Type 0} (memory : List Kept → M) (memory2 : List Kept → N) (s0 s1 : Scene) (n0 n1 : List Note) (d : Done A M) (place : M → N) (go : A → M → State → Done B N) where
-    goes_on : (a : A) → IsMade nodes moment memory (Ok a) s0 s1 n0 n1 d → follow d place go ≡ behind d.notes d.calls (go a (memory s1.kept) (state_in nodes s1 moment))
+    goes_on : (a : A) → IsMade nodes moment memory (Ok a) s0 s1 n0 n1 d → follow d place go ≡ following d.notes d.calls (go a (memory s1.kept) (state_in nodes s1 moment))
     goes_on a m =
         ap (λ (r : Result A NodeFault). carried r d place go) m.answer
-        ∙ ap (λ (k : M). behind d.notes d.calls (go a k d.state)) m.memory
-        ∙ ap (λ (s : State). behind d.notes d.calls (go a (memory s1.kept) s)) m.state
+        ∙ ap (λ (k : M). following d.notes d.calls (go a k d.state)) m.memory
+        ∙ ap (λ (s : State). following d.notes d.calls (go a (memory s1.kept) s)) m.state
 
     -- a part was made, and the next one goes on from what it has left
     pub followed : (a : A) (r : Result B (Stop NodeFault)) (s2 : Scene) (n2 : List Note) → Meets nodes moment memory (Ok a) s0 s1 n0 n1 d →
         Meets nodes moment memory2 r s1 s2 n1 n2 (go a (memory s1.kept) (state_in nodes s1 moment)) → Meets nodes moment memory2 r s0 s2 n0 n2 (follow d place go)
     followed a r s2 n2 m rest =
         subst (λ (x : Done B N). Meets nodes moment memory2 r s0 s2 n0 n2 x) (sym (goes_on a m.0))
-        (behind_met memory2 s0 s1 s2 n0 n1 n2 d.notes d.calls m.0.notes m.0.drivers (go a (memory s1.kept) (state_in nodes s1 moment)) m.1 r rest)
+        (after_met memory2 s0 s1 s2 n0 n1 n2 d.notes d.calls m.0.notes m.0.drivers (go a (memory s1.kept) (state_in nodes s1 moment)) m.1 r rest)
 
     cut_within : (r : Result A NodeFault) → IsCut nodes s0 s1 n0 n1 d → IsCut nodes s0 s1 n0 n1 (carried r d place go)
     cut_within (Ok a) m = record {

@@ -21,7 +21,7 @@ use Rattle.bt_model.specs.Trees.{CodeFits, Node as TreeNode, NodeFits, ScriptFit
 use Rattle.bt_board.proofs.Standings.{standing_count, standing_here, standing_out}
 use Rattle.bt_arena.specs.declared.nodes.ReadyLeaf.{ReadyLeaf}
 use Rattle.bt_arena.specs.declared.join_fault.JoinFault.{JoinFault}
-use Rattle.bt_arena.specs.Joins.{first_lack, leaf_lacks}
+use Rattle.bt_arena.specs.Joins.{first_missing, leaf_lacks}
 use Rattle.bt_arena.specs.Laying.{CanBeLaid, LeafIs, StandsIn}
 use Rattle.bt_arena.specs.Nodes.{IsFit, LeafStands}
 use Rattle.bt_arena.specs.Resolving.{AreNamed, GuardsAreNamed, names_if_there, names_in_script, port_keys}
@@ -96,7 +96,7 @@ or_none (Some x) y is = absurd (cc)
 
 module _ (tree : Tree) (world : World) (drivers : List DriverState) where
   abbrev Lack : List (List ℕ) → Option JoinFault
-  Lack = first_lack world.rows drivers
+  Lack = first_missing world.rows drivers
 
   lack_left : (xs ys : List (List ℕ)) → Lack (xs ++ ys) ≡ None → Lack xs ≡ None
   lack_left [] ys is = refl

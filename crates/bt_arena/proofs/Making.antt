@@ -45,8 +45,8 @@ module _ (tree : Tree) (world : World) (drivers : List DriverState) where
       counted_here = laid.counted ∙ ap (λ (ids : List (List ℕ)). counted_all world drivers ids next) (append-nil (leaf_ids tree.term))
 
       pub tree_numbered : AreNumbered drivers runner nodes
-      tree_numbered = subst (AreNumbered drivers runner) (sym laid.is) (are_numbered world drivers runner (leaf_ids tree.term) laid.added counts next left are_counts are_next laid.next_ones laid.behind counted_here counts_places)
+      tree_numbered = subst (AreNumbered drivers runner) (sym laid.is) (are_numbered world drivers runner (leaf_ids tree.term) laid.added counts next left are_counts are_next laid.next_ones laid.following counted_here counts_places)
 
       pub tree_served : (place : ℕ) → place < length drivers → served place nodes ≡ leaves_served world.rows drivers place (leaf_ids tree.term)
       tree_served place within = ap (served place) laid.is
-          ∙ served_all world drivers runner (leaf_ids tree.term) laid.added counts next left are_counts are_next laid.next_ones laid.behind counted_here counts_places place within
+          ∙ served_all world drivers runner (leaf_ids tree.term) laid.added counts next left are_counts are_next laid.next_ones laid.following counted_here counts_places place within

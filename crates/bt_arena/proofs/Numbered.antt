@@ -12,7 +12,7 @@ use Rattle.bt_driver.specs.Rules.{rule}
 use Rattle.bt_arena.specs.declared.nodes.Node.{Node}
 use Rattle.bt_arena.specs.declared.nodes.ReadyLeaf.{ReadyLeaf}
 use Rattle.bt_arena.specs.Joins.{is_place, leaves_served, place_by}
-use Rattle.bt_arena.specs.Laying.{AreNext, IsNext, counted_all, driver_of, next_behind}
+use Rattle.bt_arena.specs.Laying.{AreNext, IsNext, counted_all, driver_of, next_after}
 use Rattle.bt_arena.specs.Nodes.{leaf_at, nobody}
 use Rattle.bt_arena.specs.Rosters.{AreNumbered, is_served_at, served}
 use Rattle.bt_arena.specs.Rows.{counted_at}
@@ -42,7 +42,7 @@ served_cons p node nodes =
     sum_by-cons (λ (n : Node). cond (is_served_at p n.leaf) 1 0) node nodes ∙ ap (λ b. cond b 1 0 + served p nodes) (served_is p node.leaf)
 
 -- after some nodes, as many more instances are taken as leaves are served
-pub taken : (nodes : List Node) (next : List ℕ) (p : ℕ) → p < length next → get_or (next_behind nodes next) p 0 ≡ get_or next p 0 + served p nodes
+pub taken : (nodes : List Node) (next : List ℕ) (p : ℕ) → p < length next → get_or (next_after nodes next) p 0 ≡ get_or next p 0 + served p nodes
 taken [] next p within = omega arith
 taken (node ∷ nodes) next p within =
     let further = counted_at (driver_of node.leaf) next in
@@ -96,14 +96,14 @@ module _ (world : World) (drivers : List DriverState) where
 
   module _ (runner : ℕ) (ids : List (List ℕ)) (nodes : List Node) (counts next left : List ℕ)
       (are_counts : counts ≡ counted_all world drivers ids (replicate (length drivers) 0)) (are_next : next ≡ map (λ (count : ℕ). (runner - 1) * count) counts)
-      (next_ones : AreNext drivers next nodes) (behind : left ≡ next_behind nodes next) (all_counted : left ≡ counted_all world drivers ids next) (places : length counts ≡ length drivers) where
+      (next_ones : AreNext drivers next nodes) (following : left ≡ next_after nodes next) (all_counted : left ≡ counted_all world drivers ids next) (places : length counts ≡ length drivers) where
     next_places : length next ≡ length drivers
     next_places = ap length are_next ∙ length-map counts (λ (count : ℕ). (runner - 1) * count) ∙ places
 
     served_same : (p : ℕ) → p < length drivers → served p nodes ≡ leaves_served world.rows drivers p ids
     served_same p within =
         let inside : p < length next = omega (arith, within, next_places) in
-        omega (arith, taken nodes next p inside, counted ids next p inside, ap (λ (xs : List ℕ). get_or xs p 0) behind, ap (λ (xs : List ℕ). get_or xs p 0) all_counted)
+        omega (arith, taken nodes next p inside, counted ids next p inside, ap (λ (xs : List ℕ). get_or xs p 0) following, ap (λ (xs : List ℕ). get_or xs p 0) all_counted)
 
     pub served_all : (p : ℕ) → p < length drivers → served p (nobody ∷ nodes) ≡ leaves_served world.rows drivers p ids
     served_all p within = omega (arith, served_cons p nobody nodes, served_same p within)

@@ -66,15 +66,15 @@ serves_own : (leaf : ReadyLeaf) → is_served_at leaf.driver (Some leaf) ≡ tru
 serves_own leaf = grind (arith, nat_tests)
 
 -- a leaf is counted among the nodes up to any later one
-served_behind : (nodes : List Node) (uid : ℕ) (leaf : ReadyLeaf) (more : ℕ) → leaf_at nodes uid ≡ Some leaf → uid < more → served leaf.driver (take uid nodes) + 1 ≤ served leaf.driver (take more nodes)
-served_behind [] uid leaf more at before = absurd (cc)
-served_behind (n ∷ nodes) uid leaf zero at before = absurd (omega (arith, before))
-served_behind (n ∷ nodes) zero leaf (suc more) at before =
+served_following : (nodes : List Node) (uid : ℕ) (leaf : ReadyLeaf) (more : ℕ) → leaf_at nodes uid ≡ Some leaf → uid < more → served leaf.driver (take uid nodes) + 1 ≤ served leaf.driver (take more nodes)
+served_following [] uid leaf more at before = absurd (cc)
+served_following (n ∷ nodes) uid leaf zero at before = absurd (omega (arith, before))
+served_following (n ∷ nodes) zero leaf (suc more) at before =
     let own : is_served_at leaf.driver n.leaf ≡ true = ap (is_served_at leaf.driver) at ∙ serves_own leaf in
     let one_more : ◌≡◌ {A = ℕ} (cond (is_served_at leaf.driver n.leaf) 1 0) 1 = ap {B = ℕ} (λ b. cond {A = ℕ} b 1 0) own in
     omega (arith, served_cons leaf.driver n (take more nodes), one_more)
-served_behind (n ∷ nodes) (suc uid) leaf (suc more) at before =
-    omega (arith, served_behind nodes uid leaf more at (omega (arith, before)), served_cons leaf.driver n (take uid nodes), served_cons leaf.driver n (take more nodes))
+served_following (n ∷ nodes) (suc uid) leaf (suc more) at before =
+    omega (arith, served_following nodes uid leaf more at (omega (arith, before)), served_cons leaf.driver n (take uid nodes), served_cons leaf.driver n (take more nodes))
 
 served_all : (nodes : List Node) (uid : ℕ) (leaf : ReadyLeaf) → leaf_at nodes uid ≡ Some leaf → served leaf.driver (take uid nodes) + 1 ≤ served leaf.driver nodes
 served_all [] uid leaf at = absurd (cc)
@@ -93,7 +93,7 @@ module _ (drivers : List DriverState) (nodes : List Node) (counts : List ℕ) (r
   apart uid other a b at_a at_b same_driver same_instance before =
       let one = numbered.instance uid a at_a in
       let two = subst (λ p. b.instance ≡ (runner - 1) * served p nodes + served p (take other nodes)) (sym same_driver) (numbered.instance other b at_b) in
-      let more = served_behind nodes uid a other at_a before in
+      let more = served_following nodes uid a other at_a before in
       omega (arith, one, two, more, same_instance)
 
   pub numbered_are_served : AreServed (roster_prepared drivers counts) nodes
@@ -113,7 +113,7 @@ module _ (drivers : List DriverState) (nodes : List Node) (counts : List ℕ) (r
       | inl same ↦ same
       | inr more ↦ elim more [
         | inl before ↦ absurd (apart uid other a b at_a at_b same_driver same_instance before)
-        | inr behind ↦ absurd (apart other uid b a at_b at_a (sym same_driver) (sym same_instance) behind)
+        | inr following ↦ absurd (apart other uid b a at_b at_a (sym same_driver) (sym same_instance) following)
       ]
     ];
   }

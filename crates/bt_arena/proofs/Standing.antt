@@ -14,7 +14,7 @@ use Rattle.bt_model.specs.Terms.{leaf_ids}
 use Rattle.bt_model.specs.Trees.{IsValid, NodeFits, nodes_of}
 use Rattle.bt_board.proofs.Sound.{main_leads, standings_make, standings_sound}
 use Rattle.bt_arena.proofs.Parts.{or_left, or_right}
-use Rattle.bt_arena.specs.Joins.{first_lack}
+use Rattle.bt_arena.specs.Joins.{first_missing}
 use Rattle.bt_arena.specs.Laying.{CanBeLaid, StandsIn}
 
 module _ (tree : Tree) where
@@ -32,9 +32,9 @@ module _ (tree : Tree) where
   has_front [] ys number key has = absurd (cc)
   has_front (x ∷ xs) ys number key has = front_by (nat_eq x.number number && bytes_eq x.key key) (Has xs number key) (Has (xs ++ ys) number key) has (has_front xs ys number key)
 
-  has_behind : (xs ys : List Naming) (number : ℕ) (key : List ℕ) → Has ys number key ≡ true → Has (xs ++ ys) number key ≡ true
-  has_behind [] ys number key has = has
-  has_behind (x ∷ xs) ys number key has = or_right (nat_eq x.number number && bytes_eq x.key key) _ (has_behind xs ys number key has)
+  has_following : (xs ys : List Naming) (number : ℕ) (key : List ℕ) → Has ys number key ≡ true → Has (xs ++ ys) number key ≡ true
+  has_following [] ys number key has = has
+  has_following (x ∷ xs) ys number key has = or_right (nat_eq x.number number && bytes_eq x.key key) _ (has_following xs ys number key has)
 
   -- each of these keys is among the namings made of them
   key_has : (number : ℕ) (scope : Scope) (keys : List (List ℕ)) (key : List ℕ) → Contains keys key → Has (map (named_in number scope) keys) number key ≡ true
@@ -54,7 +54,7 @@ module _ (tree : Tree) where
     All-weaker (Contains (keys_named node)) (λ key. Has all node.number key ≡ true)
         (λ key has. among node.number key (has_front (namings_at node) (flat_map namings_at nodes) node.number key (has_front (map (named_in node.number node.scope) (keys_named node)) _ node.number key (key_has node.number node.scope (keys_named node) key has))))
         (keys_named node) (All-contains_itself (keys_named node)),
-    nodes_have nodes all (λ number key has. among number key (has_behind (namings_at node) (flat_map namings_at nodes) number key has)),
+    nodes_have nodes all (λ number key has. among number key (has_following (namings_at node) (flat_map namings_at nodes) number key has)),
   )
 
   all_stand : (nodes : List Standing) → AllByRecursion (λ node. scope_of tree node.number ≡ node.scope) nodes
@@ -66,9 +66,9 @@ module _ (tree : Tree) where
   pub tree_stands : AllByRecursion (StandsIn tree) (standing tree)
   tree_stands = all_stand (standing tree) (standings_sound tree) (standings_make tree) (nodes_have (standing tree) (namings tree) (λ number key has. has))
 
-  pub can_be_laid : (world : World) (drivers : List DriverState) → IsValid tree → first_lack world.rows drivers (leaf_ids tree.term) ≡ None → CanBeLaid tree world drivers (tree.term ∷ []) 1 0
+  pub can_be_laid : (world : World) (drivers : List DriverState) → IsValid tree → first_missing world.rows drivers (leaf_ids tree.term) ≡ None → CanBeLaid tree world drivers (tree.term ∷ []) 1 0
   can_be_laid world drivers valid none = record {
     stand = subst (λ (s : Scope). AllByRecursion (StandsIn tree) (standing_from tree.term 1 0 s ++ [])) (sym (main_leads tree)) (subst (AllByRecursion (StandsIn tree)) (sym (append-nil (standing tree))) tree_stands);
     fit = subst (AllByRecursion NodeFits) (sym (append-nil (nodes_of tree.term))) valid.fit;
-    joined = ap (first_lack world.rows drivers) (append-nil (leaf_ids tree.term)) ∙ none;
+    joined = ap (first_missing world.rows drivers) (append-nil (leaf_ids tree.term)) ∙ none;
   }

@@ -23,7 +23,7 @@ use Rattle.bt_driver.specs.Rules.{rule}
 use Rattle.bt_arena.specs.declared.nodes.Node.{Node}
 use Rattle.bt_arena.specs.declared.nodes.ReadyLeaf.{ReadyLeaf}
 use Rattle.bt_arena.specs.Joins.{place_by}
-use Rattle.bt_arena.specs.Laying.{AreLaid, AreNext, CanBeLaid, IsNext, counted_all, driver_of, next_behind}
+use Rattle.bt_arena.specs.Laying.{AreLaid, AreNext, CanBeLaid, IsNext, counted_all, driver_of, next_after}
 use Rattle.bt_arena.specs.Nodes.{IsLeafOf, IsNode, LeafStands, is_leaf, node_at}
 use Rattle.bt_arena.specs.Resolving.{view_in}
 use Rattle.bt_arena.specs.Rows.{counted_at}
@@ -48,22 +48,22 @@ set_seam : (xs : List Node) (y z : Node) (ys : List Node) → set (xs ++ y ∷ y
 set_seam [] y z ys = refl
 set_seam (x ∷ xs) y z ys = ap (λ ns. x ∷ ns) (set_seam xs y z ys)
 
-behind_seam : (xs : List Node) (y z : Node) (ys : List Node) (p : ℕ) → length xs < p → node_at (xs ++ y ∷ ys) p ≡ node_at (xs ++ z ∷ ys) p
-behind_seam [] y z ys zero behind = absurd (omega (arith, behind))
-behind_seam [] y z ys (suc p) behind = refl
-behind_seam (x ∷ xs) y z ys zero behind = absurd (omega (arith, behind))
-behind_seam (x ∷ xs) y z ys (suc p) behind = behind_seam xs y z ys p (omega (arith, behind))
+after_seam : (xs : List Node) (y z : Node) (ys : List Node) (p : ℕ) → length xs < p → node_at (xs ++ y ∷ ys) p ≡ node_at (xs ++ z ∷ ys) p
+after_seam [] y z ys zero following = absurd (omega (arith, following))
+after_seam [] y z ys (suc p) following = refl
+after_seam (x ∷ xs) y z ys zero following = absurd (omega (arith, following))
+after_seam (x ∷ xs) y z ys (suc p) following = after_seam xs y z ys p (omega (arith, following))
 
 same_in_front : (a b : List Node) (uid size : ℕ) → AreSame uid size a (a ++ b)
 same_in_front a b uid size p low high within = (omega (arith, within, length-append a b), at_front a b p within)
 
 -- ---- instances
 
-next_both : (xs ys : List Node) (next : List ℕ) → next_behind (xs ++ ys) next ≡ next_behind ys (next_behind xs next)
+next_both : (xs ys : List Node) (next : List ℕ) → next_after (xs ++ ys) next ≡ next_after ys (next_after xs next)
 next_both [] ys next = refl
 next_both (x ∷ xs) ys next = next_both xs ys (counted_at (driver_of x.leaf) next)
 
-are_next_both : (drivers : List DriverState) (xs ys : List Node) (next : List ℕ) → AreNext drivers next xs → AreNext drivers (next_behind xs next) ys → AreNext drivers next (xs ++ ys)
+are_next_both : (drivers : List DriverState) (xs ys : List Node) (next : List ℕ) → AreNext drivers next xs → AreNext drivers (next_after xs next) ys → AreNext drivers next (xs ++ ys)
 are_next_both drivers [] ys next first rest = rest
 are_next_both drivers (x ∷ xs) ys next first rest = (first.0, are_next_both drivers xs ys (counted_at (driver_of x.leaf) next) first.1 rest)
 
@@ -95,7 +95,7 @@ module _ (tree : Tree) (world : World) (drivers : List DriverState) where
   -- ---- the parts
 
   pub nothing_laid : (number : ℕ) (nodes : List Node) (next : List ℕ) → AreLaid tree world drivers [] number nodes nodes next next
-  nothing_laid number nodes next = record { added = []; is = sym (append-nil nodes); size = refl; stand = tt; next_ones = tt; behind = refl; counted = refl }
+  nothing_laid number nodes next = record { added = []; is = sym (append-nil nodes); size = refl; stand = tt; next_ones = tt; following = refl; counted = refl }
 
   -- one term, and then the others
   pub laid_more : (t : Term) (ts : List Term) (number : ℕ) (old mid new : List Node) (next further left : List ℕ) →
@@ -112,8 +112,8 @@ module _ (tree : Tree) (world : World) (drivers : List DriverState) where
           subst (λ (ns : List Node). Stands t ns view (length old)) (sym rest.is) (static t mid (mid ++ rest.added) view (length old) (same_in_front mid rest.added (length old) (meaning t).size) first.stand.0),
           subst (λ n. StandAll ts new view n) (sym far) rest.stand,
         );
-        next_ones = are_next_both drivers first.added rest.added next first.next_ones (subst (λ (n : List ℕ). AreNext drivers n rest.added) first.behind rest.next_ones);
-        behind = rest.behind ∙ ap (next_behind rest.added) first.behind ∙ sym (next_both first.added rest.added next);
+        next_ones = are_next_both drivers first.added rest.added next first.next_ones (subst (λ (n : List ℕ). AreNext drivers n rest.added) first.following rest.next_ones);
+        following = rest.following ∙ ap (next_after rest.added) first.following ∙ sym (next_both first.added rest.added next);
         counted = rest.counted ∙ ap (counted_all world drivers (flat_map (λ ids. ids) (map leaf_ids ts))) (first.counted ∙ ap (λ (ids : List (List ℕ)). counted_all world drivers ids next) (append-nil (leaf_ids t)))
             ∙ sym (counted_both (leaf_ids t) (flat_map (λ ids. ids) (map leaf_ids ts)) next);
       }
@@ -149,7 +149,7 @@ module _ (tree : Tree) (world : World) (drivers : List DriverState) where
     same_below : AreSame (length old + 1) (all_sizes (out-Term t).children) mid whole
     same_below p low high within = (
       omega (arith, within, mid_size, length-append old (sized ∷ below.added)),
-      sym (behind_seam old node sized below.added p (omega (arith, low))) ∙ ap (λ (ns : List Node). node_at ns p) (sym mid_is),
+      sym (after_seam old node sized below.added p (omega (arith, low))) ∙ ap (λ (ns : List Node). node_at ns p) (sym mid_is),
     )
 
     view_inside : view_in tree world (children_scope_number (out-Term t).kind (length old) number) ≡ view_under view (length old) (written (out-Term t))
@@ -182,7 +182,7 @@ module _ (tree : Tree) (world : World) (drivers : List DriverState) where
       size = omega (arith, below.size, sum_by-cons (λ (k : ℕ). k) (node_count t) [], fold_out-Term ℕ (λ node. 1 + sum node.children) t);
       stand = (subst (λ (ns : List Node). Stands t ns view (length old)) (sym closed_is) term_stands, tt);
       next_ones = (is_next, subst (λ (n : List ℕ). AreNext drivers n below.added) counts below.next_ones);
-      behind = below.behind ∙ ap (next_behind below.added) counts;
+      following = below.following ∙ ap (next_after below.added) counts;
       counted = below.counted ∙ ap (counted_all world drivers (flat_map (λ ids. ids) (map leaf_ids (out-Term t).children))) (counts ∙ sym (own_counted number (written (out-Term t)) node.leaf next is_node.leaf is_next))
           ∙ sym (counted_both (own_leaf_id (out-Term t).kind (out-Term t).id) (flat_map (λ ids. ids) (map leaf_ids (out-Term t).children)) next)
           ∙ sym (ap (λ (ids : List (List ℕ)). counted_all world drivers ids next) ids_here);
@@ -212,10 +212,10 @@ module _ (tree : Tree) (world : World) (drivers : List DriverState) where
 pub uids_more : (t : Term) (ts rest : List Term) (us more : List ℕ) (uid last next : ℕ) → more ≡ us ++ last ∷ [] → last ≡ uid → next ≡ uid + node_count t → rest ≡ t ∷ ts →
     more ++ uids_of ts next ≡ us ++ uids_of rest uid
 uids_more t ts rest us more uid last next is_more is_last far is_rest =
-    let behind : next ≡ uid + (meaning t).size = far ∙ ap (λ n. uid + n) (sym (size_is t)) in
+    let following : next ≡ uid + (meaning t).size = far ∙ ap (λ n. uid + n) (sym (size_is t)) in
     ap (λ (l : List ℕ). l ++ uids_of ts next) is_more
     ∙ append_assoc us (last ∷ []) (uids_of ts next)
-    ∙ (λ i. us ++ is_last i ∷ uids_of ts (behind i))
+    ∙ (λ i. us ++ is_last i ∷ uids_of ts (following i))
     ∙ ap (λ (l : List Term). us ++ uids_of l uid) (sym is_rest)
 
 counted_length : (place : Option ℕ) (counts : List ℕ) → length (counted_at place counts) ≡ length counts
@@ -225,9 +225,9 @@ counted_length (Some place) counts = length-set counts place (get_or counts plac
 pub next_length : (place : Option ℕ) (next further : List ℕ) → further ≡ counted_at place next → length further ≡ length next
 next_length place next further counts = ap length counts ∙ counted_length place next
 
-behind_length : (nodes : List Node) (next : List ℕ) → length (next_behind nodes next) ≡ length next
-behind_length [] next = refl
-behind_length (n ∷ nodes) next = behind_length nodes (counted_at (driver_of n.leaf) next) ∙ counted_length (driver_of n.leaf) next
+after_length : (nodes : List Node) (next : List ℕ) → length (next_after nodes next) ≡ length next
+after_length [] next = refl
+after_length (n ∷ nodes) next = after_length nodes (counted_at (driver_of n.leaf) next) ∙ counted_length (driver_of n.leaf) next
 
-pub laid_length : (nodes : List Node) (next left : List ℕ) → left ≡ next_behind nodes next → length left ≡ length next
-laid_length nodes next left behind = ap length behind ∙ behind_length nodes next
+pub laid_length : (nodes : List Node) (next left : List ℕ) → left ≡ next_after nodes next → length left ≡ length next
+laid_length nodes next left following = ap length following ∙ after_length nodes next

@@ -26,9 +26,9 @@ abbrev pub leaf_lacks : List Row → List DriverState → List ℕ → Option Jo
 leaf_lacks rows drivers id = lacks_by (row_of rows id) drivers id
 
 -- what is missing for the first leaf for which something is missing
-abbrev pub first_lack : List Row → List DriverState → List (List ℕ) → Option JoinFault
-first_lack rows drivers [] = None
-first_lack rows drivers (id ∷ ids) = option_or (leaf_lacks rows drivers id) (first_lack rows drivers ids)
+abbrev pub first_missing : List Row → List DriverState → List (List ℕ) → Option JoinFault
+first_missing rows drivers [] = None
+first_missing rows drivers (id ∷ ids) = option_or (leaf_lacks rows drivers id) (first_missing rows drivers ids)
 
 -- the fault comes exactly where something is missing; want of memory (out of memory) may come anywhere
 abbrev pub Joins : {A : Type 0} → Result A (Stop JoinFault) → Option JoinFault → Type 0

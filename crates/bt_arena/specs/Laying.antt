@@ -14,7 +14,7 @@ use Rattle.bt_model.specs.Trees.{Node as TreeNode, NodeFits, nodes_of}
 use Rattle.bt_driver.specs.Rules.{rule}
 use Rattle.bt_arena.specs.declared.nodes.Node.{Node}
 use Rattle.bt_arena.specs.declared.nodes.ReadyLeaf.{ReadyLeaf}
-use Rattle.bt_arena.specs.Joins.{first_lack, place_by}
+use Rattle.bt_arena.specs.Joins.{first_missing, place_by}
 use Rattle.bt_arena.specs.Nodes.{AreCompiled, IsCompiled, LeafStands}
 use Rattle.bt_arena.specs.Resolving.{AreNamed, view_in}
 use Rattle.bt_arena.specs.Rows.{counted_at}
@@ -35,7 +35,7 @@ pub record StandsIn (tree : Tree) (node : Standing) : Type 0 where
 pub record CanBeLaid (tree : Tree) (world : World) (drivers : List DriverState) (ts : List Term) (uid number : ℕ) : Type 0 where
   pub stand : AllByRecursion (StandsIn tree) (standing_all (map standing_from ts) uid number (scope_of tree number))
   pub fit : AllByRecursion NodeFits (flat_map (λ nodes. nodes) (map nodes_of ts))
-  pub joined : first_lack world.rows drivers (flat_map (λ ids. ids) (map leaf_ids ts)) ≡ None
+  pub joined : first_missing world.rows drivers (flat_map (λ ids. ids) (map leaf_ids ts)) ≡ None
 
 -- ---- Nodes
 
@@ -70,9 +70,9 @@ AreNext drivers next [] = Unit {0}
 AreNext drivers next (node ∷ nodes) = IsNext drivers next node.leaf × AreNext drivers (counted_at (driver_of node.leaf) next) nodes
 
 -- the next instances after those of some nodes
-abbrev pub next_behind : List Node → List ℕ → List ℕ
-next_behind [] next = next
-next_behind (node ∷ nodes) next = next_behind nodes (counted_at (driver_of node.leaf) next)
+abbrev pub next_after : List Node → List ℕ → List ℕ
+next_after [] next = next
+next_after (node ∷ nodes) next = next_after nodes (counted_at (driver_of node.leaf) next)
 
 -- the next instances after those of the leaves of these IDs
 abbrev pub counted_all : World → List DriverState → List (List ℕ) → List ℕ → List ℕ
@@ -88,5 +88,5 @@ pub record AreLaid (tree : Tree) (world : World) (drivers : List DriverState) (t
   pub size : length added ≡ sum (map node_count ts)
   pub stand : StandAll ts new (view_in tree world number) (length old)
   pub next_ones : AreNext drivers next added
-  pub behind : left ≡ next_behind added next
+  pub following : left ≡ next_after added next
   pub counted : left ≡ counted_all world drivers (flat_map (λ ids. ids) (map leaf_ids ts)) next

@@ -7,7 +7,7 @@ ghost use Rattle.bt_model.specs.Leaves.{row_of};
 ghost use Rattle.bt_model.specs.Terms.{leaf_ids, own_leaf_id};
 ghost use Rattle.bt_model.specs.Trees.{IsValid};
 ghost use Rattle.bt_model.specs.Worlds.{IsValidWorld};
-ghost use Rattle.bt_arena.specs.Joins.{Joins, first_lack, leaf_lacks, place_by};
+ghost use Rattle.bt_arena.specs.Joins.{Joins, first_missing, leaf_lacks, place_by};
 ghost use Rattle.bt_arena.specs.Laying.{counted_all};
 ghost use Rattle.bt_arena.specs.Nodes.{at_rest as rested};
 ghost use Rattle.bt_arena.specs.Made.{IsArenaOf};
@@ -89,7 +89,7 @@ fn counts_of<D: Drivers>(
     drivers: &D,
 ) -> Result<Vec<u32>, Stop<JoinFault>>
     requires { Finds world.now.rows (get bytes_eq rows.now) }
-    ensures fault { Joins result (first_lack world.now.rows (D.states drivers.now) ids.now) }
+    ensures fault { Joins result (first_missing world.now.rows (D.states drivers.now) ids.now) }
     ensures counts { IfOk result (λ counts. counts.items ≡ counted_all world.now (D.states drivers.now) ids.now (replicate (length (D.states drivers.now)) 0)) }
 {
     let mut counts = vec![in alloc; 0u32; drivers.count()]?;
@@ -139,7 +139,7 @@ fn totals_of<D: Drivers>(
     drivers: &D,
 ) -> Result<Vec<u32>, Stop<JoinFault>>
     requires { Finds world.now.rows (get bytes_eq rows.now) }
-    ensures fault { Joins result (first_lack world.now.rows (D.states drivers.now) (leaf_ids term.now)) }
+    ensures fault { Joins result (first_missing world.now.rows (D.states drivers.now) (leaf_ids term.now)) }
     ensures counts { IfOk result (λ counts. counts.items ≡ counted_all world.now (D.states drivers.now) (leaf_ids term.now) (replicate (length (D.states drivers.now)) 0)) }
 {
     let mut ids = Vec::new(alloc);
@@ -159,7 +159,7 @@ fn arena_with<D: Drivers>(
     requires tree { IsValid setting.now.tree.now }
     requires world { IsValidWorld setting.now.world.now }
     requires found { Finds setting.now.world.now.rows (get bytes_eq setting.now.rows.now) }
-    requires joined { first_lack setting.now.world.now.rows (D.states drivers.now) (leaf_ids setting.now.tree.now.term) ≡ None }
+    requires joined { first_missing setting.now.world.now.rows (D.states drivers.now) (leaf_ids setting.now.tree.now.term) ≡ None }
     requires counts { counts.now ≡ counted_all setting.now.world.now (D.states drivers.now) (leaf_ids setting.now.tree.now.term) (replicate (length (D.states drivers.now)) 0) }
     requires first { 1 ≤ runner }
     ensures { IfOk result (λ arena. IsArenaOf setting.now.tree.now setting.now.world.now (D.states drivers.now) runner arena) }
@@ -194,7 +194,7 @@ pub fn arena_of<D: Drivers>(
     requires world { IsValidWorld world.now }
     requires first { 1 ≤ runner }
     requires last { runner ≤ world.now.runners }
-    ensures fault { Joins result (first_lack world.now.rows (D.states drivers.now) (leaf_ids tree.now.term)) }
+    ensures fault { Joins result (first_missing world.now.rows (D.states drivers.now) (leaf_ids tree.now.term)) }
     ensures arena { IfOk result (λ arena. IsArenaOf tree.now world.now (D.states drivers.now) runner arena) }
 {
     let rows = index_of(alloc, world.rows.list())?;

@@ -6,7 +6,7 @@ ghost use Rattle.bt_model.specs.Boards.{children_scope_number};
 ghost use Rattle.bt_model.specs.Terms.{own_leaf_id};
 ghost use Rattle.bt_model.specs.Trees.{GuardsFit, ScriptFits};
 ghost use Rattle.bt_model.specs.Worlds.{IsValidWorld};
-ghost use Rattle.bt_arena.specs.Joins.{first_lack};
+ghost use Rattle.bt_arena.specs.Joins.{first_missing};
 ghost use Rattle.bt_arena.specs.Laying.{AreLaid, CanBeLaid, IsBareNode, IsNext, driver_of};
 ghost use Rattle.bt_arena.specs.Nodes.{IsFit, IsNode, node_at, nobody as no_node};
 ghost use Rattle.bt_arena.specs.Resolving.{AreNamed, GuardsAreNamed, names_if_there, port_keys, view_in};
@@ -85,7 +85,7 @@ fn node_of<D: Drivers>(
     requires code { AreNamed setting.now.tree.now scope (names_if_there (out-Term term.now).code) }
     requires guards { GuardsAreNamed setting.now.tree.now scope (out-Term term.now).guards }
     requires ports { AreNamed setting.now.tree.now scope (port_keys (out-Term term.now).ports) }
-    requires joined { first_lack setting.now.world.now.rows (D.states drivers.now) (own_leaf_id (out-Term term.now).kind (out-Term term.now).id) ≡ None }
+    requires joined { first_missing setting.now.world.now.rows (D.states drivers.now) (own_leaf_id (out-Term term.now).kind (out-Term term.now).id) ≡ None }
     requires world { IsValidWorld setting.now.world.now }
     requires found { Finds setting.now.world.now.rows (get bytes_eq setting.now.rows.now) }
     requires places { length next.old ≡ length (D.states drivers.now) }

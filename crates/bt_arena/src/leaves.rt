@@ -7,7 +7,7 @@ ghost use Rattle.bt_model.specs.Terms.{own_leaf_id};
 ghost use Rattle.bt_model.specs.Worlds.{IsValidWorld};
 ghost use Rattle.bt_driver.specs.Places.{CanBeReady};
 ghost use Rattle.bt_driver.specs.Rules.{rule};
-ghost use Rattle.bt_arena.specs.Joins.{first_lack};
+ghost use Rattle.bt_arena.specs.Joins.{first_missing};
 ghost use Rattle.bt_arena.specs.Laying.{IsNext, LeafIs, driver_of};
 ghost use Rattle.bt_arena.specs.Nodes.{IsLeafOf};
 ghost use Rattle.bt_arena.specs.Resolving.{AreNamed, port_keys, view_in};
@@ -79,7 +79,7 @@ pub(crate) fn leaf_of<D: Drivers>(
     next: &mut [u32],
 ) -> Result<Option<ReadyLeaf>, NoMemory>
     requires named { AreNamed setting.now.tree.now scope (port_keys (out-Term node.now).ports) }
-    requires joined { first_lack setting.now.world.now.rows (D.states drivers.now) (own_leaf_id (out-Term node.now).kind (out-Term node.now).id) ≡ None }
+    requires joined { first_missing setting.now.world.now.rows (D.states drivers.now) (own_leaf_id (out-Term node.now).kind (out-Term node.now).id) ≡ None }
     requires world { IsValidWorld setting.now.world.now }
     requires found { Finds setting.now.world.now.rows (get bytes_eq setting.now.rows.now) }
     requires places { length next.old ≡ length (D.states drivers.now) }

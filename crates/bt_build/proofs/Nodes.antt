@@ -12,12 +12,12 @@ abbrev Read : Type 0
 Read = Result (List Term × Numbers) BuildFault
 
 -- a reading with some nodes before its own
-abbrev pub behind : List Term → Read → Read
-behind terms rest = go_on (λ r. Ok (terms ++ r.0, r.1)) rest
+abbrev pub following : List Term → Read → Read
+following terms rest = go_on (λ r. Ok (terms ++ r.0, r.1)) rest
 
-behind_first : (terms : List Term) (t : Term) (r : Read) → behind terms (with_first t r) ≡ behind (terms ++ t ∷ []) r
-behind_first terms t (Ok r) = ap (λ (ts : List Term). Ok (ts, r.1)) (sym (append_assoc terms (t ∷ []) r.0))
-behind_first terms t (Err f) = refl
+following_first : (terms : List Term) (t : Term) (r : Read) → following terms (with_first t r) ≡ following (terms ++ t ∷ []) r
+following_first terms t (Ok r) = ap (λ (ts : List Term). Ok (ts, r.1)) (sym (append_assoc terms (t ∷ []) r.0))
+following_first terms t (Err f) = refl
 
 first_of_rest : (reader : Reader) (opened : List (List ℕ)) (es : List Element) (i : ℕ) (e : Element) (n : Numbers) →
     i < length es → e ≡ get_or es i e →
@@ -27,18 +27,18 @@ first_of_rest reader opened es i e n within is_e =
     ∙ ap (λ (x : Element). nodes_by reader opened (x ∷ drop (i + 1) es) n) (sym is_e)
 
 -- one node more
-pub behind_more : (reader : Reader) (opened : List (List ℕ)) (es : List Element) (i : ℕ) (e : Element) (n m : Numbers) (terms : List Term) (t : Term) →
+pub following_more : (reader : Reader) (opened : List (List ℕ)) (es : List Element) (i : ℕ) (e : Element) (n m : Numbers) (terms : List Term) (t : Term) →
     i < length es → e ≡ get_or es i e → reader e opened n ≡ Ok (t, m) →
-    behind terms (nodes_by reader opened (drop i es) n) ≡ behind (terms ++ t ∷ []) (nodes_by reader opened (drop (i + 1) es) m)
-behind_more reader opened es i e n m terms t within is_e h =
-    ap (behind terms) (first_of_rest reader opened es i e n within is_e
+    following terms (nodes_by reader opened (drop i es) n) ≡ following (terms ++ t ∷ []) (nodes_by reader opened (drop (i + 1) es) m)
+following_more reader opened es i e n m terms t within is_e h =
+    ap (following terms) (first_of_rest reader opened es i e n within is_e
     ∙ ap (λ (r : Result (Term × Numbers) BuildFault). go_on (λ r. with_first r.0 (nodes_by reader opened (drop (i + 1) es) r.1)) r) h)
-    ∙ behind_first terms t (nodes_by reader opened (drop (i + 1) es) m)
+    ∙ following_first terms t (nodes_by reader opened (drop (i + 1) es) m)
 
 -- a node that can't be read
-pub behind_fault : (reader : Reader) (opened : List (List ℕ)) (es : List Element) (i : ℕ) (e : Element) (n : Numbers) (terms : List Term) (f : BuildFault) →
+pub after_fault : (reader : Reader) (opened : List (List ℕ)) (es : List Element) (i : ℕ) (e : Element) (n : Numbers) (terms : List Term) (f : BuildFault) →
     i < length es → e ≡ get_or es i e → reader e opened n ≡ Err f →
-    behind terms (nodes_by reader opened (drop i es) n) ≡ Err f
-behind_fault reader opened es i e n terms f within is_e h =
-    ap (behind terms) (first_of_rest reader opened es i e n within is_e
+    following terms (nodes_by reader opened (drop i es) n) ≡ Err f
+after_fault reader opened es i e n terms f within is_e h =
+    ap (following terms) (first_of_rest reader opened es i e n within is_e
     ∙ ap (λ (r : Result (Term × Numbers) BuildFault). go_on (λ r. with_first r.0 (nodes_by reader opened (drop (i + 1) es) r.1)) r) h)

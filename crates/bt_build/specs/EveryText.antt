@@ -30,10 +30,10 @@ at_end s false h = (verdict.Unfinished, record { spot = s; led = refl; ends = h 
 led_on : (s u : Spot) (t : Placed) (ts : List Placed) → step s t.token ≡ Some u → (o : Option Spot) → run (bare ts) u ≡ o → run (bare (t ∷ ts)) s ≡ o
 led_on s u t ts h o k = ap (λ (x : Option Spot). then_spot x (run (bare ts))) h ∙ k
 
-behind : (s u : Spot) (t : Placed) (ts : List Placed) → step s t.token ≡ Some u → Found u ts → Found s (t ∷ ts)
-behind s u t ts h (verdict.Whole, l) = (verdict.Whole, record { spot = l.spot; led = led_on s u t ts h (Some l.spot) l.led; ends = l.ends })
-behind s u t ts h (verdict.Unfinished, l) = (verdict.Unfinished, record { spot = l.spot; led = led_on s u t ts h (Some l.spot) l.led; ends = l.ends })
-behind s u t ts h (verdict.Stuck place, l) = (
+following : (s u : Spot) (t : Placed) (ts : List Placed) → step s t.token ≡ Some u → Found u ts → Found s (t ∷ ts)
+following s u t ts h (verdict.Whole, l) = (verdict.Whole, record { spot = l.spot; led = led_on s u t ts h (Some l.spot) l.led; ends = l.ends })
+following s u t ts h (verdict.Unfinished, l) = (verdict.Unfinished, record { spot = l.spot; led = led_on s u t ts h (Some l.spot) l.led; ends = l.ends })
+following s u t ts h (verdict.Stuck place, l) = (
   verdict.Stuck place,
   record {
     front = t ∷ l.front;
@@ -48,7 +48,7 @@ behind s u t ts h (verdict.Stuck place, l) = (
 
 next : (s : Spot) (t : Placed) (ts : List Placed) → ((u : Spot) → Found u ts) → (o : Option Spot) → step s t.token ≡ o → Found s (t ∷ ts)
 next s t ts rest None h = (verdict.Stuck t.place, record { front = []; token = t.token; rest = ts; spot = s; at = refl; led = refl; stuck = h })
-next s t ts rest (Some u) h = behind s u t ts h (rest u)
+next s t ts rest (Some u) h = following s u t ts h (rest u)
 
 -- some tokens lead to an end, or to a token with which nothing goes on
 found : (s : Spot) (ts : List Placed) → Found s ts

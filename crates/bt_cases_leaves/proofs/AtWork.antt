@@ -83,15 +83,15 @@ same _ _ is = absurd (false≢true is)
 abbrev IsOfKind : List DriverState → DriverKind → Option ℕ → Type 0
 IsOfKind ds kind found = IfSome found (λ place. (place < length ds) × ((driver_at ds place).kind ≡ kind))
 
-behind : (d : DriverState) (ds : List DriverState) (kind : DriverKind) (found : Option ℕ) → IsOfKind ds kind found → IsOfKind (d ∷ ds) kind (option_map (λ place. place + 1) found)
-behind d ds kind None is = tt
-behind d ds kind (Some place) is =
+following : (d : DriverState) (ds : List DriverState) (kind : DriverKind) (found : Option ℕ) → IsOfKind ds kind found → IsOfKind (d ∷ ds) kind (option_map (λ place. place + 1) found)
+following d ds kind None is = tt
+following d ds kind (Some place) is =
     (omega (arith, is.0), ap (λ n. (driver_at (d ∷ ds) n).kind) (add-one place) ∙ is.1)
 
 first : (d : DriverState) (ds : List DriverState) (kind : DriverKind) (b : Bool) → same_kind d.kind kind ≡ b → IsOfKind ds kind (place_of_kind ds kind) →
     IsOfKind (d ∷ ds) kind (if b then Some 0 else option_map (λ place. place + 1) (place_of_kind ds kind))
 first d ds kind true is rest = (omega arith, same d.kind kind is)
-first d ds kind false is rest = behind d ds kind (place_of_kind ds kind) rest
+first d ds kind false is rest = following d ds kind (place_of_kind ds kind) rest
 
 of_kind : (ds : List DriverState) (kind : DriverKind) → IsOfKind ds kind (place_of_kind ds kind)
 of_kind [] kind = tt

@@ -185,7 +185,7 @@ fn go_on<D: Drivers>(
 }
 
 /// Calls `halted` for an instance that is held since `start`.
-fn let_go<D: Drivers>(drivers: &mut D, stage: &mut Stage, instance: u32, start: u64)
+fn release<D: Drivers>(drivers: &mut D, stage: &mut Stage, instance: u32, start: u64)
     requires work { IsAtWork (D.states drivers.old) stage.old.place (kind_of_way (rule stage.old.row).way) stage.old.since.items }
     requires table { length stage.old.facts ≡ stage.old.row.facts }
     requires there { instance < length stage.old.since.items }
@@ -228,7 +228,7 @@ fn halt<D: Drivers>(drivers: &mut D, stage: &mut Stage, instance: u32) -> bool
     match stage.since[instance as usize] {
         None => false,
         Some(start) => {
-            let_go(drivers, stage, instance, start);
+            release(drivers, stage, instance, start);
             true
         }
     }

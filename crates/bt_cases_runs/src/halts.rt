@@ -184,7 +184,7 @@ fn scripts_of_halts_run_from_below(rt: HostRuntime) -> Result<(), Fail> {
 
 /// A leaf with a fault, whose instance is halted by the quench.
 #[test]
-fn a_leaf_that_faults_is_let_go(rt: HostRuntime) -> Result<(), Fail> {
+fn a_leaf_that_faults_is_released(rt: HostRuntime) -> Result<(), Fail> {
     compare_rows(
         &rt,
         rt.alloc(),

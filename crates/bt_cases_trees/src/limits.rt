@@ -35,8 +35,8 @@ fn repeated(alloc: Global, text: &str, times: u32) -> Result<String, AllocError>
 /// This many Inverters inside one another, with these nodes in the last.
 fn inverted(alloc: Global, times: u32, nodes: &str) -> Result<String, AllocError> {
     let before = repeated(alloc, "<Inverter>", times)?;
-    let behind = repeated(alloc, "</Inverter>", times)?;
-    format!(in alloc; "{before}{nodes}{behind}")
+    let following = repeated(alloc, "</Inverter>", times)?;
+    format!(in alloc; "{before}{nodes}{following}")
 }
 
 /// Trees of one file at the limit of depth.

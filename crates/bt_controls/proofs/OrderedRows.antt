@@ -5,7 +5,7 @@ use Rattle.bt_model.specs.declared.memory.Memo.TheVariants.{Index}
 use Rattle.bt_model.specs.declared.status.Answer.{Answer}
 use Rattle.bt_model.specs.declared.status.Answer.TheVariants.{Running, Success, Failure, Skipped}
 use Rattle.bt_model.specs.declared.status.RoundEnd.{RoundEnd}
-use Rattle.bt_model.specs.declared.status.RoundEnd.TheVariants.{AtChild, BehindLast}
+use Rattle.bt_model.specs.declared.status.RoundEnd.TheVariants.{AtChild, AfterLast}
 use Rattle.bt_model.specs.declared.term.Kind.TheVariants.{Fallback, ReactiveFallback, ReactiveSequence, Sequence, SequenceWithMemory}
 use Rattle.bt_model.specs.Rules.Answers.{is_seen}
 use Rattle.bt_model.specs.Rules.Kinds.{rule}
@@ -67,8 +67,8 @@ fallback_row keeps = record { stops = fallback_stops; answer = fallback_answer; 
 record Keeps (keeps : ℕ → Answer → Rule) (goes stop : Answer) (ends : RoundEnd → Rule) : Type 0 where
   stopped : (place : ℕ) → ends (AtChild place stop) ≡ keeps place stop
   running : (place : ℕ) → ends (AtChild place Running) ≡ keeps place Running
-  seen : (place : ℕ) → ends (BehindLast true) ≡ keeps place goes
-  skipped : (place : ℕ) → ends (BehindLast false) ≡ keeps place Skipped
+  seen : (place : ℕ) → ends (AfterLast true) ≡ keeps place goes
+  skipped : (place : ℕ) → ends (AfterLast false) ≡ keeps place Skipped
 
 module _ (keeps : ℕ → Answer → Rule) (ends : RoundEnd → Rule) where
   sequence_at_child : Keeps keeps Success Failure ends → (place : ℕ) (seen : Bool) (a : Answer) → passes Success a ≡ false → ends (AtChild place a) ≡ keeps place (sequence_answer seen (a ∷ []))
@@ -77,7 +77,7 @@ module _ (keeps : ℕ → Answer → Rule) (ends : RoundEnd → Rule) where
   sequence_at_child k place seen Success e = cc
   sequence_at_child k place seen Skipped e = cc
 
-  sequence_at_last : Keeps keeps Success Failure ends → (place : ℕ) (seen : Bool) (a : Answer) → passes Success a ≡ true → ends (BehindLast (seen || is_seen a)) ≡ keeps place (sequence_answer seen (a ∷ []))
+  sequence_at_last : Keeps keeps Success Failure ends → (place : ℕ) (seen : Bool) (a : Answer) → passes Success a ≡ true → ends (AfterLast (seen || is_seen a)) ≡ keeps place (sequence_answer seen (a ∷ []))
   sequence_at_last k place true Success e = k.seen place
   sequence_at_last k place false Success e = k.seen place
   sequence_at_last k place true Skipped e = k.seen place
@@ -91,7 +91,7 @@ module _ (keeps : ℕ → Answer → Rule) (ends : RoundEnd → Rule) where
   fallback_at_child k place seen Failure e = cc
   fallback_at_child k place seen Skipped e = cc
 
-  fallback_at_last : Keeps keeps Failure Success ends → (place : ℕ) (seen : Bool) (a : Answer) → passes Failure a ≡ true → ends (BehindLast (seen || is_seen a)) ≡ keeps place (fallback_answer seen (a ∷ []))
+  fallback_at_last : Keeps keeps Failure Success ends → (place : ℕ) (seen : Bool) (a : Answer) → passes Failure a ≡ true → ends (AfterLast (seen || is_seen a)) ≡ keeps place (fallback_answer seen (a ∷ []))
   fallback_at_last k place true Failure e = k.seen place
   fallback_at_last k place false Failure e = k.seen place
   fallback_at_last k place true Skipped e = k.seen place

@@ -4,7 +4,7 @@ use Rattle.std.proofs.lemmas.Bool.{both_ways, cases_lt, cond_both}
 use Rattle.bt_model.specs.declared.moves.Heard.{Heard}
 use Rattle.bt_model.specs.declared.status.Answer.{Answer}
 use Rattle.bt_model.specs.declared.status.RoundEnd.{RoundEnd}
-use Rattle.bt_model.specs.declared.status.RoundEnd.TheVariants.{AtChild, BehindLast}
+use Rattle.bt_model.specs.declared.status.RoundEnd.TheVariants.{AtChild, AfterLast}
 use Rattle.bt_model.specs.declared.term.Kind.{Kind}
 use Rattle.bt_model.specs.Moves.{hears, hears_answer}
 use Rattle.bt_model.specs.Rules.Answers.{is_seen}
@@ -27,7 +27,7 @@ pub record Tells (row : Row) (goes : Answer) (ends : RoundEnd → Rule) : Type 0
   pub passed : (a : Answer) → passes goes a ≡ true → (l : List Answer) → row.stops (a ∷ l) ≡ row.stops l
   pub stopped : (a : Answer) → passes goes a ≡ false → row.stops (a ∷ []) ≡ true
   pub at_child : (place : ℕ) (seen : Bool) (a : Answer) → passes goes a ≡ false → ends (AtChild place a) ≡ row.keeps place (row.answer seen (a ∷ []))
-  pub at_last : (place : ℕ) (seen : Bool) (a : Answer) → passes goes a ≡ true → ends (BehindLast (seen || is_seen a)) ≡ row.keeps place (row.answer seen (a ∷ []))
+  pub at_last : (place : ℕ) (seen : Bool) (a : Answer) → passes goes a ≡ true → ends (AfterLast (seen || is_seen a)) ≡ row.keeps place (row.answer seen (a ∷ []))
   pub onward : (seen : Bool) (a : Answer) → passes goes a ≡ true → (l : List Answer) → row.answer (seen || is_seen a) l ≡ row.answer seen (a ∷ l)
 
 module _ (kind : Kind) (plain : (place : ℕ) (go : Heard → Rule) → hears kind place go ≡ hears_answer place go)

@@ -9,16 +9,16 @@ use Rattle.bt_model.specs.declared.moves.Span.TheVariants as span
 use Rattle.bt_model.specs.declared.note.Note.{Note}
 use Rattle.bt_model.specs.declared.term.Kind.{Kind}
 use Rattle.bt_model.specs.declared.term.Kind.TheVariants.{Parallel}
-use Rattle.bt_model.specs.Done.{Call, Done, State, behind, carried, done, follow}
-use Rattle.bt_model.specs.Moves.{behind_resets, hears}
+use Rattle.bt_model.specs.Done.{Call, Done, State, following, carried, done, follow}
+use Rattle.bt_model.specs.Moves.{after_resets, hears}
 use Rattle.bt_model.specs.Steps.{Child, Given, Rule, child_at, is_completed, reset, resets, visit, visit_or_pass}
 use Rattle.bt_controls.specs.Visits.{Hears, Told, all_say, place_of, says}
 
 -- ---- One part and the next
 
 module _ {B C M : Type 0} (h : B → M → State → Done C M) where
-  behind_twice : (n n1 : List Note) (c c1 : List Call) (e : Done C M) → behind n c (behind n1 c1 e) ≡ behind (n ++ n1) (c ++ c1) e
-  behind_twice n n1 c c1 e = λ i. record {
+  after_twice : (n n1 : List Note) (c c1 : List Call) (e : Done C M) → following n c (following n1 c1 e) ≡ following (n ++ n1) (c ++ c1) e
+  after_twice n n1 c c1 e = λ i. record {
     answer = e.answer;
     memory = e.memory;
     state = e.state;
@@ -26,10 +26,10 @@ module _ {B C M : Type 0} (h : B → M → State → Done C M) where
     calls = sym (append_assoc c c1 e.calls) i;
   }
 
-  carried_behind : (n : List Note) (c : List Call) (e : Done B M) (r : Result B NodeFault) →
-      carried r (behind n c e) (λ m. m) h ≡ behind n c (carried r e (λ m. m) h)
-  carried_behind n c e (Ok b) = sym (behind_twice n e.notes c e.calls (h b e.memory e.state))
-  carried_behind n c e (Err f) = refl
+  carried_after : (n : List Note) (c : List Call) (e : Done B M) (r : Result B NodeFault) →
+      carried r (following n c e) (λ m. m) h ≡ following n c (carried r e (λ m. m) h)
+  carried_after n c e (Ok b) = sym (after_twice n e.notes c e.calls (h b e.memory e.state))
+  carried_after n c e (Err f) = refl
 
   -- two parts before a third
   follow_twice : {A : Type 0} (d : Done A M) (go : A → M → State → Done B M) →
@@ -37,12 +37,12 @@ module _ {B C M : Type 0} (h : B → M → State → Done C M) where
   follow_twice {A} d go = by_end d.answer
     where
       by_end : (r : Result A NodeFault) → follow (carried r d (λ m. m) go) (λ m. m) h ≡ carried r d (λ m. m) (λ a m s. follow (go a m s) (λ m1. m1) h)
-      by_end (Ok a) = carried_behind d.notes d.calls (go a d.memory d.state) (go a d.memory d.state).answer
+      by_end (Ok a) = carried_after d.notes d.calls (go a d.memory d.state) (go a d.memory d.state).answer
       by_end (Err f) = refl
 
 module _ {A B M : Type 0} (d : Done A M) where
   -- a part that has answered
-  answered_follow : (a : A) (go : A → M → State → Done B M) → d.answer ≡ Ok a → follow d (λ m. m) go ≡ behind d.notes d.calls (go a d.memory d.state)
+  answered_follow : (a : A) (go : A → M → State → Done B M) → d.answer ≡ Ok a → follow d (λ m. m) go ≡ following d.notes d.calls (go a d.memory d.state)
   answered_follow a go is = ap (λ r. carried r d (λ m. m) go) is
 
   -- where two parts have answered, so has the first, and then the second
@@ -63,7 +63,7 @@ resets_none (c ∷ cs) place ms s = resets_none cs (place + 1) ms s
 
 -- resets come first
 resets_first : (span : Span) (rule : Rule) (cs : List Child) (ms : List Memory) (s : State) →
-    behind_resets span rule cs ms s ≡ follow (resets span cs 0 ms s) (λ ms1. ms1) (λ _ ms1 s1. rule cs ms1 s1)
+    after_resets span rule cs ms s ≡ follow (resets span cs 0 ms s) (λ ms1. ms1) (λ _ ms1 s1. rule cs ms1 s1)
 unfolding reset
 resets_first span.None rule cs ms s = ap (λ d. follow d (λ ms1. ms1) (λ _ ms1 s1. rule cs ms1 s1)) (sym (resets_none cs 0 ms s))
 resets_first span.All rule cs ms s = refl
@@ -111,7 +111,7 @@ module _ (kind : Kind) (rest : Rule) (cs : List Child) where
   go_on_alike r h place one other reset_is said_is alike =
       let d : Done Heard (List Memory) = says kind cs place r.memory r.state in
       answered_follow r tt (λ _ ms1 s1. follow (says kind cs place ms1 s1) (λ ms2. ms2) one) reset_is
-      ∙ ap (behind r.notes r.calls) (answered_follow d h one said_is ∙ ap (behind d.notes d.calls) alike ∙ sym (answered_follow d h other said_is))
+      ∙ ap (following r.notes r.calls) (answered_follow d h one said_is ∙ ap (following d.notes d.calls) alike ∙ sym (answered_follow d h other said_is))
       ∙ sym (answered_follow r tt (λ _ ms1 s1. follow (says kind cs place ms1 s1) (λ ms2. ms2) other) reset_is)
 
   -- what is said first, and then the others

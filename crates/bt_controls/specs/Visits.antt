@@ -10,7 +10,7 @@ use Rattle.bt_model.specs.declared.status.Status.{Status}
 use Rattle.bt_model.specs.declared.term.Kind.{Kind}
 use Rattle.bt_model.specs.declared.term.Kind.TheVariants.{Parallel}
 use Rattle.bt_model.specs.Done.{Done, State, done, follow}
-use Rattle.bt_model.specs.Moves.{behind_resets, hears}
+use Rattle.bt_model.specs.Moves.{after_resets, hears}
 use Rattle.bt_model.specs.Steps.{Child, Rule, child_at, is_completed, resets}
 
 -- ---- What a rule hears
@@ -31,7 +31,7 @@ place_of (Passed place) = place
 abbrev pub Hears : Kind → Rule → List Told → Rule → Type 0
 Hears kind rule [] rest = rule ≡ rest
 Hears kind rule (t ∷ more) rest =
-    (go : Heard → Rule) × (rule ≡ behind_resets t.reset (hears kind (place_of t.heard) go)) × Hears kind (go t.heard) more rest
+    (go : Heard → Rule) × (rule ≡ after_resets t.reset (hears kind (place_of t.heard) go)) × Hears kind (go t.heard) more rest
 
 -- the answers of children in order, of which the first has this place
 abbrev pub answers_from : ℕ → List Answer → List Told

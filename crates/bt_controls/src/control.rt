@@ -92,7 +92,7 @@ pub fn goes_to_next(kind: Kind, memo: &mut Memo, n: u32, heard: Heard) -> Option
     ensures same { result ≡ None → memo.new ≡ memo.old }
 {
     match heard {
-        Heard::Answered(place, answer) => next_behind(kind, memo, n, place, answer),
+        Heard::Answered(place, answer) => next_after(kind, memo, n, place, answer),
         _ => None,
     }
 }
@@ -100,7 +100,7 @@ pub fn goes_to_next(kind: Kind, memo: &mut Memo, n: u32, heard: Heard) -> Option
 /// The place of the child that comes next after the answer of the child at this place, where a
 /// Sequence or Fallback kind goes on to it.
 #[inline(always)]
-fn next_behind(kind: Kind, memo: &mut Memo, n: u32, place: u32, answer: Answer) -> Option<u32>
+fn next_after(kind: Kind, memo: &mut Memo, n: u32, place: u32, answer: Answer) -> Option<u32>
     requires there { place < n }
     requires fits { FitsChild kind n memo.old place }
     ensures child { result ≡ next_child kind n (Heard.Answered place answer) }

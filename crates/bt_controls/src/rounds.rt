@@ -84,7 +84,7 @@ pub(crate) fn go_to(
         *memo = kept_at(at, seen);
         visit(at)
     } else {
-        end(memo, goes, manner, RoundEnd::BehindLast { seen })
+        end(memo, goes, manner, RoundEnd::AfterLast { seen })
     }
 }
 
@@ -132,8 +132,8 @@ fn end_kept(memo: &mut Memo, goes: Answer, end: RoundEnd) -> Move
             reset_and_give(Span::None, Answer::Running)
         }
         RoundEnd::AtChild { answer, .. } => over(memo, answer),
-        RoundEnd::BehindLast { seen: true } => over(memo, goes),
-        RoundEnd::BehindLast { seen: false } => over(memo, Answer::Skipped),
+        RoundEnd::AfterLast { seen: true } => over(memo, goes),
+        RoundEnd::AfterLast { seen: false } => over(memo, Answer::Skipped),
     }
 }
 

@@ -18,8 +18,8 @@ use Rattle.bt_model.specs.declared.world.What.{What}
 use Rattle.bt_model.specs.declared.world.What.TheVariants.{Tick, Halt, Change}
 use Rattle.bt_model.specs.declared.world.World.{World}
 use Rattle.bt_model.specs.Done.{Call, Done, State, done}
-use Rattle.bt_model.specs.Leaf.{fresh, let_go}
-use Rattle.bt_model.specs.Run.{RunState, Runner, Stepped, Trace, before_rest, finish, finishes, fresh_runner, letting_go, opening, quench_notes, quenched, quenched_notes, quenched_runner, reset_step, root_reset, root_told, root_view, run_from, run_over, runner_at, settled, state_of, step, step_by, tick_step, ticked, told, with_runner}
+use Rattle.bt_model.specs.Leaf.{fresh, released}
+use Rattle.bt_model.specs.Run.{RunState, Runner, Stepped, Trace, before_rest, finish, finishes, fresh_runner, releases, opening, quench_notes, quenched, quenched_notes, quenched_runner, reset_step, root_reset, root_told, root_view, run_from, run_over, runner_at, settled, state_of, step, step_by, tick_step, ticked, told, with_runner}
 use Rattle.bt_model.specs.Sites.{View, remembered}
 use Rattle.bt_model.specs.Visit.{change, idle, meaning}
 use Rattle.bt_laws.proofs.Entries.{equal_entry, mapped_entry, set_entry}
@@ -27,7 +27,7 @@ use Rattle.bt_dead.specs.Dead.{outlook}
 use Rattle.bt_dead.specs.Runs.{states_from}
 use Rattle.bt_dead.proofs.Fits.{Stands}
 use Rattle.bt_dead.proofs.Keeping.{term_keeps}
-use Rattle.bt_dead.proofs.Parts.{AllLive, Leaves, Left, Lives, behind_left, follow_left, live_both, nothing_left}
+use Rattle.bt_dead.proofs.Parts.{AllLive, Leaves, Left, Lives, after_left, follow_left, live_both, nothing_left}
 use Rattle.bt_dead.proofs.Sets.{Has}
 use Rattle.bt_dead.proofs.Visits.{change_live}
 
@@ -37,10 +37,10 @@ use Rattle.bt_dead.proofs.Visits.{change_live}
 abbrev held_in : List Instance → ℕ → Option Bool
 held_in instances p = option_map (λ (i : Instance). is_some i.since) (slice_get instances p)
 
-let_go_free : (instances : List Instance) (p : ℕ) → held_in (map let_go instances) p ≡ Some true → ⊥
-let_go_free [] p e = cc
-let_go_free (i ∷ instances) zero e = cc
-let_go_free (i ∷ instances) (suc p) e = let_go_free instances p e
+released_free : (instances : List Instance) (p : ℕ) → held_in (map released instances) p ≡ Some true → ⊥
+released_free [] p e = cc
+released_free (i ∷ instances) zero e = cc
+released_free (i ∷ instances) (suc p) e = released_free instances p e
 
 fresh_free : (n p : ℕ) → held_in (replicate n fresh) p ≡ Some true → ⊥
 fresh_free zero p e = cc
@@ -66,18 +66,18 @@ module _ (is_dead : ℕ → Bool) where
       by true e = absurd (none 0 (ap is_dead here ∙ e) (ap Some held))
 
   -- the notes of a quench
-  letting_live : (runner uid : ℕ) (instances : List Instance) → NoneHeld uid instances → AllLive is_dead (quenched_notes runner (letting_go uid instances))
-  letting_live runner uid [] none = tt
-  letting_live runner uid (i ∷ instances) none =
-      let rest : AllLive is_dead (quenched_notes runner (letting_go (uid + 1) instances)) = letting_live runner (uid + 1) instances (none_later uid i instances none) in
-      cond_both (is_some i.since) (record { uid = uid; phase = phase.Halted; left = let_go i } ∷ letting_go (uid + 1) instances) (letting_go (uid + 1) instances) (λ (calls : List Call). AllLive is_dead (quenched_notes runner calls))
+  releases_live : (runner uid : ℕ) (instances : List Instance) → NoneHeld uid instances → AllLive is_dead (quenched_notes runner (releases uid instances))
+  releases_live runner uid [] none = tt
+  releases_live runner uid (i ∷ instances) none =
+      let rest : AllLive is_dead (quenched_notes runner (releases (uid + 1) instances)) = releases_live runner (uid + 1) instances (none_later uid i instances none) in
+      cond_both (is_some i.since) (record { uid = uid; phase = phase.Halted; left = released i } ∷ releases (uid + 1) instances) (releases (uid + 1) instances) (λ (calls : List Call). AllLive is_dead (quenched_notes runner calls))
       (λ held. (first_lives uid i instances none held, rest))
       (λ _. rest)
 
   quench_live : (runner : ℕ) (runners : List Runner) → ((k : ℕ) (r : Runner) → slice_get runners k ≡ Some r → NoneHeld 0 r.instances) → AllLive is_dead (quench_notes runner runners)
   quench_live runner [] none = tt
   quench_live runner (r ∷ runners) none =
-      live_both is_dead (quenched_notes runner (letting_go 0 r.instances)) (quench_notes (runner + 1) runners) (letting_live runner 0 r.instances (none 0 r refl)) (quench_live (runner + 1) runners (λ k q is. none (suc k) q is))
+      live_both is_dead (quenched_notes runner (releases 0 r.instances)) (quench_notes (runner + 1) runners) (releases_live runner 0 r.instances (none 0 r refl)) (quench_live (runner + 1) runners (λ k q is. none (suc k) q is))
 
   module _ (tree : Tree) (world : World) (opens : Stands is_dead world.rows tree.term true 1 (idle tree.term)) where
     -- what holds of a runner between events
@@ -93,7 +93,7 @@ module _ (is_dead : ℕ → Bool) where
 
     quenched_steady : (s : RunState) → AllSteady (quenched tree s)
     quenched_steady s k r is =
-        mapped_entry (λ (x : Runner). IsSteady x.memory x.instances) (quenched_runner tree) s.runners k r (λ x here. record { stands = opens; free = λ p dead held. let_go_free x.instances p held }) is
+        mapped_entry (λ (x : Runner). IsSteady x.memory x.instances) (quenched_runner tree) s.runners k r (λ x here. record { stands = opens; free = λ p dead held. released_free x.instances p held }) is
 
     -- ---- One runner
 
@@ -106,7 +106,7 @@ module _ (is_dead : ℕ → Bool) where
         let K = term_keeps is_dead world.rows tree.term in
         follow_left is_dead (λ a m1. Has a (outlook tree.term).answers × Stands is_dead world.rows tree.term true 1 m1) (λ _ m1. Stands is_dead world.rows tree.term true 1 m1) d (λ m1. m1) (λ a m1 s1. root_told runner a m1 s1) s
         (K.visit view refl 1 m s stands)
-        (λ a is. behind_left is_dead (λ _ m1. Stands is_dead world.rows tree.term true 1 m1) (Root runner a ∷ change 1 (out-Memory d.memory).status (settled (out-Memory d.memory).status)) [] d.state
+        (λ a is. after_left is_dead (λ _ m1. Stands is_dead world.rows tree.term true 1 m1) (Root runner a ∷ change 1 (out-Memory d.memory).status (settled (out-Memory d.memory).status)) [] d.state
         (done a (remembered (settled (out-Memory d.memory).status) (out-Memory d.memory).memo (out-Memory d.memory).children) d.state)
         (tt, change_live is_dead 1 (K.lives 1 d.memory is.1) (out-Memory d.memory).status (settled (out-Memory d.memory).status))
         (nothing_left is_dead (λ _ m1. Stands is_dead world.rows tree.term true 1 m1) a (remembered (settled (out-Memory d.memory).status) (out-Memory d.memory).memo (out-Memory d.memory).children) d.state (K.settles 1 d.memory is.1)))

@@ -2,7 +2,7 @@
 use Rattle.std.proofs.Common.{◌≡◌, ℕ, List, [], ◌∷◌, ◌++◌, Bool, true, false, IfSome, slice_get, Result, Ok, Err, refl, ◌∙◌}
 use Rattle.bt_model.specs.declared.fault.NodeFault.{NodeFault}
 use Rattle.bt_model.specs.declared.note.Note.{Note}
-use Rattle.bt_model.specs.Done.{Call, Done, State, behind, carried, done, follow}
+use Rattle.bt_model.specs.Done.{Call, Done, State, following, carried, done, follow}
 use Rattle.bt_dead.specs.Runs.{named_by}
 
 module _ (is_dead : ℕ → Bool) where
@@ -41,8 +41,8 @@ module _ (is_dead : ℕ → Bool) where
   pub nothing_left : {A M : Type 0} (fits : A → M → Type 0) (a : A) (m : M) (s : State) → fits a m → Leaves fits s (done a m s)
   nothing_left fits a m s fit = record { ends = fit; live = tt; spares = λ p e. refl }
 
-  pub behind_left : {A M : Type 0} (fits : A → M → Type 0) (notes : List Note) (calls : List Call) (s : State) (d : Done A M) → AllLive notes → Leaves fits s d → Leaves fits s (behind notes calls d)
-  behind_left fits notes calls s d live left = record { ends = left.ends; live = live_both notes d.notes live left.live; spares = left.spares }
+  pub after_left : {A M : Type 0} (fits : A → M → Type 0) (notes : List Note) (calls : List Call) (s : State) (d : Done A M) → AllLive notes → Leaves fits s d → Leaves fits s (following notes calls d)
+  after_left fits notes calls s d live left = record { ends = left.ends; live = live_both notes d.notes live left.live; spares = left.spares }
 
   -- what is left, with another memory
   pub left_into :

@@ -4,7 +4,7 @@ use Rattle.std.proofs.lemmas.Bool.{and_from, cond_both, or_left, or_right}
 use Rattle.bt_model.specs.declared.status.Answer.{Answer}
 use Rattle.bt_model.specs.declared.status.Answer.TheVariants as answer
 use Rattle.bt_model.specs.declared.status.RoundEnd.{RoundEnd}
-use Rattle.bt_model.specs.declared.status.RoundEnd.TheVariants.{AtChild, BehindLast}
+use Rattle.bt_model.specs.declared.status.RoundEnd.TheVariants.{AtChild, AfterLast}
 use Rattle.bt_model.specs.declared.world.Row.{Row}
 use Rattle.bt_model.specs.Rules.Answers.{is_seen}
 use Rattle.bt_model.specs.Rules.Sequences.{passes, round, round_after}
@@ -160,7 +160,7 @@ module _ (is_dead : ℕ → Bool) (rows : List Row) (n : Children is_dead rows) 
     (comes : (place : ℕ) → all_pass goes (answers_here is_dead rows n) place ≡ true → n.visits place ≡ true)
     (stops : (place : ℕ) (seen : Bool) (a : Answer) → place < length (answers_here is_dead rows n) → CameTo goes skips (answers_here is_dead rows n) place seen → passes goes a ≡ false →
     Has a (answers_at (answers_here is_dead rows n) place) → Goes is_dead rows n fits (ends (AtChild place a)))
-    (ending : (seen : Bool) → CameTo goes skips (answers_here is_dead rows n) (length (answers_here is_dead rows n)) seen → Goes is_dead rows n fits (ends (BehindLast seen))) where
+    (ending : (seen : Bool) → CameTo goes skips (answers_here is_dead rows n) (length (answers_here is_dead rows n)) seen → Goes is_dead rows n fits (ends (AfterLast seen))) where
   abbrev all : List Answers
   all = answers_here is_dead rows n
 

@@ -6,7 +6,7 @@ use Rattle.bt_model.specs.declared.memory.Memo.TheVariants.{Nothing, Index, Coun
 use Rattle.bt_model.specs.declared.moves.Span.TheVariants as span
 use Rattle.bt_model.specs.declared.status.Answer.{Answer}
 use Rattle.bt_model.specs.declared.status.Answer.TheVariants as answer
-use Rattle.bt_model.specs.declared.status.RoundEnd.TheVariants.{AtChild, BehindLast}
+use Rattle.bt_model.specs.declared.status.RoundEnd.TheVariants.{AtChild, AfterLast}
 use Rattle.bt_model.specs.declared.term.Kind.{Kind}
 use Rattle.bt_model.specs.declared.term.Kind.TheVariants.{SequenceWithMemory, Parallel}
 use Rattle.bt_model.specs.declared.term.Port.{Port}
@@ -74,7 +74,7 @@ module _ (is_dead : ℕ → Bool) (rows : List Row) (n : Children is_dead rows) 
     over_fits answer.Skipped ends has = over_goes is_dead rows n (Gives kind ports all) answer.Skipped (in_set answer.Skipped has, nothing)
 
     -- after the last child
-    pub end_fits : (seen : Bool) → CameTo goes skips all (length all) seen → Fit (sequence_end goes (BehindLast seen))
+    pub end_fits : (seen : Bool) → CameTo goes skips all (length all) seen → Fit (sequence_end goes (AfterLast seen))
     end_fits true came = over_fits goes rests (end_in goes all b came.passed (came.saw refl))
     end_fits false came = over_fits answer.Skipped (λ e. cc) (skip_in goes all b (whole (came.skipped refl)))
 
@@ -98,7 +98,7 @@ module _ (is_dead : ℕ → Bool) (rows : List Row) (n : Children is_dead rows) 
     reactive_stop_fits begins place seen answer.Failure within came stop has = over_fits answer.Failure (λ e. cc) (stop_in goes all b place answer.Failure within came.passed stop has)
     reactive_stop_fits begins place seen answer.Skipped within came stop has = over_fits answer.Skipped (λ e. cc) (stop_in goes all b place answer.Skipped within came.passed stop has)
 
-    pub reactive_last_fits : (seen : Bool) → CameTo goes skips all (length all) seen → Fit (reactive_end goes (BehindLast seen))
+    pub reactive_last_fits : (seen : Bool) → CameTo goes skips all (length all) seen → Fit (reactive_end goes (AfterLast seen))
     reactive_last_fits true came = end_fits true came
     reactive_last_fits false came = end_fits false came
 
@@ -147,7 +147,7 @@ module _ (is_dead : ℕ → Bool) (rows : List Row) (n : Children is_dead rows) 
     memory_stop place seen answer.Success within came stop has = cc
     memory_stop place seen answer.Skipped within came stop has = cc
 
-    memory_last : (seen : Bool) → CameTo answer.Success (SkipsLast all) all (length all) seen → MemoryFit (with_memory_end (BehindLast seen))
+    memory_last : (seen : Bool) → CameTo answer.Success (SkipsLast all) all (length all) seen → MemoryFit (with_memory_end (AfterLast seen))
     memory_last true came = end_fits SequenceWithMemory ports answer.Success (last_skips all) refl tt (λ e. cc) (SkipsLast all) last_whole true came
     memory_last false came = end_fits SequenceWithMemory ports answer.Success (last_skips all) refl tt (λ e. cc) (SkipsLast all) last_whole false came
 

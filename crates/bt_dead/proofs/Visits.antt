@@ -22,7 +22,7 @@ use Rattle.bt_model.specs.declared.term.Term.{Term-F}
 use Rattle.bt_model.specs.declared.term.Term.TheFolds.{map-Term}
 use Rattle.bt_model.specs.declared.world.Row.{Row}
 use Rattle.bt_model.specs.BuiltIns.{has_rule}
-use Rattle.bt_model.specs.Done.{Done, State, behind, done, ends, follow}
+use Rattle.bt_model.specs.Done.{Done, State, following, done, ends, follow}
 use Rattle.bt_model.specs.Leaf.{Answered, leaf_rule}
 use Rattle.bt_model.specs.Leaves.{called, gives, inputs_of, instance_at, leaf_call, phase_of, reply_answer, reply_board, reply_notes, row_of, script_condition, script_node}
 use Rattle.bt_model.specs.Ports.{new_memo, picked}
@@ -40,7 +40,7 @@ use Rattle.bt_dead.proofs.Constants.{IsConstant, script_holds_runs, script_if_th
 use Rattle.bt_dead.proofs.Fits.{About, Begins, HasCode, HasOwnRow, HasState, IsAble, MemoOf, NodeStands, RestsWith, about_of, by_rule, by_visit, may_visit}
 use Rattle.bt_dead.proofs.Guarded.{GoesOn, Guarded, goes_on_left, guards_left, posts_run}
 use Rattle.bt_dead.proofs.KindRules.{PickFits, kind_fits}
-use Rattle.bt_dead.proofs.Parts.{AllLive, Leaves, Left, Lives, behind_left, follow_left, live_both, nothing_left}
+use Rattle.bt_dead.proofs.Parts.{AllLive, Leaves, Left, Lives, after_left, follow_left, live_both, nothing_left}
 use Rattle.bt_dead.proofs.Picks.{cleared_rests, kept_fits, picks, starts_fit}
 use Rattle.bt_dead.proofs.Rounds.{Gives}
 use Rattle.bt_dead.proofs.Seats.{Family}
@@ -119,8 +119,8 @@ module _ (is_dead : ℕ → Bool) (rows : List Row) (F : Family is_dead rows) (n
     ended_left old g ms s has goes kept all =
         let d : Done (Unit {0}) (Unit {0}) = posts here g.answer s in
         follow_left is_dead (λ _ _. Unit {0}) (λ a m1. Has a (by_visit about) × Own true m1) d (λ _. remembered old g.memo ms)
-        (λ _ _ s1. behind (change uid old (status_of g.answer)) [] (done g.answer (remembered (status_of g.answer) g.memo ms) s1)) s (posts_run is_dead here lives g.answer s)
-        (λ _ _. behind_left is_dead (λ a m1. Has a (by_visit about) × Own true m1) (change uid old (status_of g.answer)) [] d.state (done g.answer (remembered (status_of g.answer) g.memo ms) d.state)
+        (λ _ _ s1. following (change uid old (status_of g.answer)) [] (done g.answer (remembered (status_of g.answer) g.memo ms) s1)) s (posts_run is_dead here lives g.answer s)
+        (λ _ _. after_left is_dead (λ a m1. Has a (by_visit about) × Own true m1) (change uid old (status_of g.answer)) [] d.state (done g.answer (remembered (status_of g.answer) g.memo ms) d.state)
         (change_live is_dead uid lives old (status_of g.answer))
         (nothing_left is_dead (λ a m1. Has a (by_visit about) × Own true m1) g.answer (remembered (status_of g.answer) g.memo ms) d.state (has, as_kept true (status_of g.answer) g.memo ms (stands_with (status_of g.answer) g.memo goes kept) all)))
 
@@ -217,7 +217,7 @@ module _ (is_dead : ℕ → Bool) (rows : List Row) (F : Family is_dead rows) (n
 
       begun_left : (b : Bool) (m : Memory) (s : State) → starts node.kind (out-Memory m).memo ≡ b → RestsWith node.kind about.children (out-Memory m).memo → Below true (out-Memory m).children → Visited s (begun b here m s)
       begun_left true m s is rests all =
-          behind_left is_dead (λ a m1. Has a (by_visit about) × Own true m1) (change uid (out-Memory m).status status.Running) [] s
+          after_left is_dead (λ a m1. Has a (by_visit about) × Own true m1) (change uid (out-Memory m).status status.Running) [] s
           (follow (ends (or_bad_port uid (new_memo node.kind here (out-Memory m).memo s)) (out-Memory m).children s) (λ ms. remembered status.Running (out-Memory m).memo ms) (λ memo ms s1. ruled here status.Running memo ms s1)) (change_live is_dead uid lives (out-Memory m).status status.Running)
           (started_by m s (new_memo node.kind here (out-Memory m).memo s) (starts_fit here s about.children node.kind (out-Memory m).memo able.children rests) all)
       begun_left false m s is rests all =
@@ -300,9 +300,9 @@ module _ (is_dead : ℕ → Bool) (rows : List Row) (F : Family is_dead rows) (n
     -- ---- Resets
 
     rests_still : (reached : Bool) (st : Status) (m : Memory) (s : State) → RestsWith node.kind about.children (out-Memory m).memo → Below reached (out-Memory m).children →
-        Leaves is_dead (λ (_ : Unit {0}) m1. Own reached m1) s (behind (change uid st status.Idle) [] (done tt (remembered status.Idle (out-Memory m).memo (out-Memory m).children) s))
+        Leaves is_dead (λ (_ : Unit {0}) m1. Own reached m1) s (following (change uid st status.Idle) [] (done tt (remembered status.Idle (out-Memory m).memo (out-Memory m).children) s))
     rests_still reached st m s kept all =
-        behind_left is_dead (λ (_ : Unit {0}) m1. Own reached m1) (change uid st status.Idle) [] s (done tt (remembered status.Idle (out-Memory m).memo (out-Memory m).children) s) (change_live is_dead uid lives st status.Idle)
+        after_left is_dead (λ (_ : Unit {0}) m1. Own reached m1) (change uid st status.Idle) [] s (done tt (remembered status.Idle (out-Memory m).memo (out-Memory m).children) s) (change_live is_dead uid lives st status.Idle)
         (nothing_left is_dead (λ (_ : Unit {0}) m1. Own reached m1) tt (remembered status.Idle (out-Memory m).memo (out-Memory m).children) s
         (as_kept reached status.Idle (out-Memory m).memo (out-Memory m).children (record { lives = λ e. lives; able = able; state = record { rests = λ e. refl; goes_on = λ e. cc; kept = kept } }) all))
 

@@ -94,14 +94,14 @@ module _ (kind : Kind) (plain : (place : ℕ) (go : Heard → Rule) → hears ki
   is_given : (t : Turns) (a : Answer) → same_answer a again ≡ true → over again ≡ keeps_turns again t (a ∷ []) a
   is_given t a same = is.given t (a ∷ []) ∙ ap (λ (x : Answer). keeps_turns again t (a ∷ []) x) (sym (is.same a same))
 
-  behind : (more : List Answer) (a : Answer) (left : ℕ) (t : Turns) → IsVisit (λ l. is_other again l) (suc left) (a ∷ more) →
+  following : (more : List Answer) (a : Answer) (left : ℕ) (t : Turns) → IsVisit (λ l. is_other again l) (suc left) (a ∷ more) →
       Hears kind (turn_after again t (turn_again again left t) a) (answers_after_resets more) (keeps_turns again t (a ∷ more) (last_answer (a ∷ more)))
-  behind [] a left t visited =
+  following [] a left t visited =
       cond_both (same_answer a again) (turn_again again left t) (pass_on (Turned t) a) (λ rule. rule ≡ keeps_turns again t (a ∷ []) a)
       (λ same. ap (λ (k : ℕ). turn_again again k t) (no_turn left a visited same) ∙ is_given t a same)
       (λ other. other_is_kept again t a other)
-  behind (b ∷ more) a zero t visited = absurd (omega (arith, visited.within))
-  behind (b ∷ more) a (suc left) t visited =
+  following (b ∷ more) a zero t visited = absurd (omega (arith, visited.within))
+  following (b ∷ more) a (suc left) t visited =
       let go : Answer → Rule = λ x. turn_after again (one_more t) (turn_again again left (one_more t)) x in
       let given : Rule = keeps_turns again t (a ∷ b ∷ more) (last_answer (a ∷ b ∷ more)) in
       cond_both (same_answer a again) (turn_again again (suc left) t) (pass_on (Turned t) a) (λ rule. Hears kind rule (answers_after_resets (b ∷ more)) given)
@@ -109,7 +109,7 @@ module _ (kind : Kind) (plain : (place : ℕ) (go : Heard → Rule) → hears ki
         by_answer go,
         ap (λ (rule : Rule). reset span.All rule) (sym (plain 0 (by_answer go))),
         subst (λ rule. Hears kind (go b) (answers_after_resets more) rule) (turn_is_kept again t a (b ∷ more) (last_answer (b ∷ more)) same)
-            (behind more b left (one_more t) (rest_of_visit (λ l. is_other again l) (λ l. is_other again l) (suc left) a b more (passed a same) visited)),
+            (following more b left (one_more t) (rest_of_visit (λ l. is_other again l) (λ l. is_other again l) (suc left) a b more (passed a same) visited)),
       ))
       (λ other. absurd (both_ways (is_other again (a ∷ [])) (visited.goes_on 1 (omega arith) (omega arith)) (stopped a other)))
 
@@ -123,7 +123,7 @@ module _ (kind : Kind) (plain : (place : ℕ) (go : Heard → Rule) → hears ki
         by_answer go,
         sym (plain 0 (by_answer go)),
         subst (λ (o : Option ℕ). Hears kind (turn_after again t (turns_on again o t) a) (answers_after_resets more) given) (sym limited)
-            (behind more a (limit - (t.done + 1)) t (subst (λ (k : ℕ). IsVisit (λ l. is_other again l) k (a ∷ more)) turns_left visited)),
+            (following more a (limit - (t.done + 1)) t (subst (λ (k : ℕ). IsVisit (λ l. is_other again l) k (a ∷ more)) turns_left visited)),
       )
 
   -- without a number

@@ -173,7 +173,7 @@ look_low : (inputs : List Seen) (facts : List ℤ) → length inputs ≡ 8 → (
 look_low inputs facts eight k within =
     elim (cases_lt k 8) [
       | inl low ↦ seen_low k (get_or (sights inputs facts) k seen.Absent) low
-      | inr behind ↦ subst (λ s. IsLow (seen_number k s)) (sym (fact_seen inputs facts k seen.Absent eight behind within)) tt
+      | inr following ↦ subst (λ s. IsLow (seen_number k s)) (sym (fact_seen inputs facts k seen.Absent eight following within)) tt
     ]
 
 -- a compiled expression says of no place but an input's that it has no entry

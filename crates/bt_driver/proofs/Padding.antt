@@ -16,7 +16,7 @@ use Rattle.bt_model.specs.declared.world.Out.{Out}
 use Rattle.bt_model.specs.declared.world.Row.{Row}
 use Rattle.bt_model.specs.declared.world.RowSort.{RowSort}
 use Rattle.bt_model.specs.declared.world.RowSort.TheVariants as sort
-use Rattle.bt_model.specs.Leaf.{answer_by, as_number, completed, completion, decided, effects_of, finished, held, judged, lasting, leaf_rule, let_go, number_of, outcome_at, outputs_of, padded, place_of, replied, rule_by, sights, start_of, test_of, timed_end, truth_of, way_of, with_output}
+use Rattle.bt_model.specs.Leaf.{answer_by, as_number, completed, completion, decided, effects_of, finished, held, judged, lasting, leaf_rule, released, number_of, outcome_at, outputs_of, padded, place_of, replied, rule_by, sights, start_of, test_of, timed_end, truth_of, way_of, with_output}
 
 no_more : (inputs : List Seen) (n : ℕ) → n ≡ 0 → inputs ++ replicate n seen.Absent ≡ inputs
 no_more inputs n none = ap (λ k. inputs ++ replicate k seen.Absent) none ∙ append-nil inputs
@@ -54,19 +54,19 @@ module _ (places : List ℕ → ℕ) (inputs : List Seen) (facts : List ℤ) whe
 
     same_timed_end : (fails : Option Expr) →
         timed_end (option_map (test_of places) fails) (rule_by places row) instance (padded inputs) facts ≡ timed_end (option_map (test_of places) fails) (rule_by places row) instance inputs facts
-    same_timed_end None = same_completion (let_go instance)
+    same_timed_end None = same_completion (released instance)
     same_timed_end (Some fails) = λ i.
-        judged (same_test fails i) instance facts (λ b. same_decided (not b) (let_go instance) i)
+        judged (same_test fails i) instance facts (λ b. same_decided (not b) (released instance) i)
 
     same_answer : (s : RowSort) →
         answer_by (way_of places s) (rule_by places row) since instance (padded inputs) facts now ≡ answer_by (way_of places s) (rule_by places row) since instance inputs facts now
     same_answer (sort.Is fact op value) = refl
-    same_answer (sort.When test) = λ i. judged (same_test test i) instance facts (λ b. replied (if b then Success else Failure) (let_go instance) facts)
+    same_answer (sort.When test) = λ i. judged (same_test test i) instance facts (λ b. replied (if b then Success else Failure) (released instance) facts)
     same_answer (sort.Timed ms fails) = λ i. lasting since ms now instance facts (same_timed_end fails i)
     same_answer (sort.Replay ms outcomes) = λ i.
         lasting since ms now instance facts (same_decided (outcome_at outcomes instance.completions) (completed instance) i)
     same_answer (sort.Gate test) = λ i.
-        judged (same_test test i) instance facts (λ b. if b then same_completion (let_go instance) i else replied Running (held since instance) facts)
+        judged (same_test test i) instance facts (λ b. if b then same_completion (released instance) i else replied Running (held since instance) facts)
 
 pub padding_is_nothing : (names : List Fact) (row : Row) (phase : Phase) (instance : Instance) (inputs : List Seen) (facts : List ℤ) (now : ℕ) →
     leaf_rule names row phase instance (padded inputs) facts now ≡ leaf_rule names row phase instance inputs facts now

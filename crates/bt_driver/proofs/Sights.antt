@@ -16,9 +16,9 @@ input_seen inputs facts k d eight low =
 
 -- a fact, in a place after the inputs
 pub fact_seen : (inputs : List Seen) (facts : List ℤ) (k : ℕ) (d : Seen) → length inputs ≡ 8 → 8 ≤ k → k < 8 + length facts → get_or (sights inputs facts) k d ≡ seen.Int (fact_at facts (k - 8))
-fact_seen inputs facts k d eight behind within =
+fact_seen inputs facts k d eight following within =
     rw (all_given inputs facts eight)
-    (get_or-append_right inputs (map (λ n. seen.Int n) facts) 8 k d eight behind
+    (get_or-append_right inputs (map (λ n. seen.Int n) facts) 8 k d eight following
     ∙ get_or-map (λ n. seen.Int n) facts (k - 8) (pos 0) d (omega arith))
 
 -- how many places are seen

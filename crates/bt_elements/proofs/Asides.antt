@@ -9,9 +9,9 @@ use Rattle.std.specs.Str.{IsUtf8}
 use Rattle.bt_script.proofs.Bools.{both}
 use Rattle.bt_elements.specs.References.{begins_with}
 use Rattle.bt_elements.specs.Marks.{is_not_zero, holds, instruction_end, comment_end}
-use Rattle.bt_elements.specs.Reading.{behind_first}
+use Rattle.bt_elements.specs.Reading.{following_first}
 use Rattle.bt_elements.proofs.Cuts.{cut_within}
-use Rattle.bt_elements.proofs.Fronts.{some_inj}
+use Rattle.bt_elements.proofs.Prefixes.{some_inj}
 
 pub begins_is : (word text : List ℕ) → begins_with word text ≡ true → text ≡ word ++ drop (length word) text
 begins_is word text = (starts_is Decides-eqb text word (begins_with word text) refl).0
@@ -50,29 +50,29 @@ not_true : (b : Bool) → not b ≡ true → b ≡ false
 not_true true h = absurd (cc)
 not_true false h = refl
 
-passed : (word : List ℕ) (c : ℕ) (cs : List ℕ) → begins_with word (c ∷ cs) ≡ false → is_not_zero c ≡ true → behind_first word (c ∷ cs) ≡ behind_first word cs
+passed : (word : List ℕ) (c : ℕ) (cs : List ℕ) → begins_with word (c ∷ cs) ≡ false → is_not_zero c ≡ true → following_first word (c ∷ cs) ≡ following_first word cs
 passed word c cs b z =
-    ap (λ (t : Bool). if t then Some (drop (length word) (c ∷ cs)) else (if c == 0 then None else behind_first word cs)) b
-    ∙ ap (λ (t : Bool). if t then None else behind_first word cs) (not_true (c == 0) z)
+    ap (λ (t : Bool). if t then Some (drop (length word) (c ∷ cs)) else (if c == 0 then None else following_first word cs)) b
+    ∙ ap (λ (t : Bool). if t then None else following_first word cs) (not_true (c == 0) z)
 
-word_again : (word : List ℕ) → IsApart word → ((more : List ℕ) → behind_first word (word ++ more) ≡ Some more) →
-    (body more : List ℕ) → list_all is_not_zero body ≡ true → not (holds word body) ≡ true → behind_first word (body ++ (word ++ more)) ≡ Some more
+word_again : (word : List ℕ) → IsApart word → ((more : List ℕ) → following_first word (word ++ more) ≡ Some more) →
+    (body more : List ℕ) → list_all is_not_zero body ≡ true → not (holds word body) ≡ true → following_first word (body ++ (word ++ more)) ≡ Some more
 word_again word apart here [] more z h = here more
 word_again word apart here (c ∷ cs) more z h =
     let n = neither (begins_with word (c ∷ cs)) (holds word cs) h in
     let t = both (is_not_zero c) (list_all is_not_zero cs) z in
     passed word c (cs ++ (word ++ more)) (apart c cs more n.0) t.0 ∙ word_again word apart here cs more t.1 n.1
 
-instruction_here : (more : List ℕ) → behind_first instruction_end (instruction_end ++ more) ≡ Some more
+instruction_here : (more : List ℕ) → following_first instruction_end (instruction_end ++ more) ≡ Some more
 instruction_here more = refl
 
-comment_here : (more : List ℕ) → behind_first comment_end (comment_end ++ more) ≡ Some more
+comment_here : (more : List ℕ) → following_first comment_end (comment_end ++ more) ≡ Some more
 comment_here more = refl
 
-pub instruction_again : (body more : List ℕ) → list_all is_not_zero body ≡ true → not (holds instruction_end body) ≡ true → behind_first instruction_end (body ++ (instruction_end ++ more)) ≡ Some more
+pub instruction_again : (body more : List ℕ) → list_all is_not_zero body ≡ true → not (holds instruction_end body) ≡ true → following_first instruction_end (body ++ (instruction_end ++ more)) ≡ Some more
 instruction_again = word_again instruction_end instruction_apart instruction_here
 
-pub comment_again : (body more : List ℕ) → list_all is_not_zero body ≡ true → not (holds comment_end body) ≡ true → behind_first comment_end (body ++ (comment_end ++ more)) ≡ Some more
+pub comment_again : (body more : List ℕ) → list_all is_not_zero body ≡ true → not (holds comment_end body) ≡ true → following_first comment_end (body ++ (comment_end ++ more)) ≡ Some more
 comment_again = word_again comment_end comment_apart comment_here
 
 -- what was ignored
@@ -97,8 +97,8 @@ one_passed word c cs rest b z found =
       is = is;
     }
 
-found_if : (word : List ℕ) (c : ℕ) (cs rest : List ℕ) (b z : Bool) → begins_with word (c ∷ cs) ≡ b → (c == 0) ≡ z → (behind_first word cs ≡ Some rest → BodyFound word cs rest) →
-    (if b then Some (drop (length word) (c ∷ cs)) else (if z then None else behind_first word cs)) ≡ Some rest → BodyFound word (c ∷ cs) rest
+found_if : (word : List ℕ) (c : ℕ) (cs rest : List ℕ) (b z : Bool) → begins_with word (c ∷ cs) ≡ b → (c == 0) ≡ z → (following_first word cs ≡ Some rest → BodyFound word cs rest) →
+    (if b then Some (drop (length word) (c ∷ cs)) else (if z then None else following_first word cs)) ≡ Some rest → BodyFound word (c ∷ cs) rest
 found_if word c cs rest true z e f ih h =
     record {
       body = [];
@@ -109,20 +109,20 @@ found_if word c cs rest true z e f ih h =
 found_if word c cs rest false true e f ih h = absurd (cc)
 found_if word c cs rest false false e f ih h = one_passed word c cs rest e f (ih h)
 
-pub body_found : (word bytes rest : List ℕ) → behind_first word bytes ≡ Some rest → BodyFound word bytes rest
+pub body_found : (word bytes rest : List ℕ) → following_first word bytes ≡ Some rest → BodyFound word bytes rest
 body_found word [] rest h = absurd (cc)
 body_found word (c ∷ cs) rest h = found_if word c cs rest (begins_with word (c ∷ cs)) (c == 0) refl refl (body_found word cs rest) h
 
-here_if : (word : List ℕ) (c : ℕ) (cs : List ℕ) → begins_with word (c ∷ cs) ≡ true → behind_first word (c ∷ cs) ≡ Some (drop (length word) (c ∷ cs))
-here_if word c cs h = ap (λ (t : Bool). if t then Some (drop (length word) (c ∷ cs)) else (if c == 0 then None else behind_first word cs)) h
+here_if : (word : List ℕ) (c : ℕ) (cs : List ℕ) → begins_with word (c ∷ cs) ≡ true → following_first word (c ∷ cs) ≡ Some (drop (length word) (c ∷ cs))
+here_if word c cs h = ap (λ (t : Bool). if t then Some (drop (length word) (c ∷ cs)) else (if c == 0 then None else following_first word cs)) h
 
-pub here_found : (word bytes : List ℕ) → 0 < length word → begins_with word bytes ≡ true → behind_first word bytes ≡ Some (drop (length word) bytes)
+pub here_found : (word bytes : List ℕ) → 0 < length word → begins_with word bytes ≡ true → following_first word bytes ≡ Some (drop (length word) bytes)
 here_found word (c ∷ cs) some h = here_if word c cs h
 here_found [] [] some h = absurd (omega arith)
 here_found (w ∷ ws) [] some h = absurd (cc)
 
 -- what follows an ASCII word is a text
-pub behind_utf8 : (word bytes rest : List ℕ) → 0 < length word → list_all is_ascii word ≡ true → IsUtf8 bytes → behind_first word bytes ≡ Some rest → IsUtf8 rest
-behind_utf8 word bytes rest some ascii u h =
+pub after_utf8 : (word bytes rest : List ℕ) → 0 < length word → list_all is_ascii word ≡ true → IsUtf8 bytes → following_first word bytes ≡ Some rest → IsUtf8 rest
+after_utf8 word bytes rest some ascii u h =
     let found = body_found word bytes rest h in
     cut_within found.body word rest some ascii (subst IsUtf8 found.is u)

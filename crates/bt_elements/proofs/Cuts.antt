@@ -15,7 +15,7 @@ use Rattle.bt_elements.specs.Marks.{is_name_rest, is_quote, is_value_byte}
 use Rattle.bt_elements.specs.Elements.{is_text_byte}
 use Rattle.bt_elements.specs.References.{is_plain_byte}
 use Rattle.bt_elements.specs.Reading.{after_white, begins}
-use Rattle.bt_elements.proofs.Fronts.{taken}
+use Rattle.bt_elements.proofs.Prefixes.{taken}
 
 -- bytes that do not pass are ASCII
 abbrev pub StopsAtAscii : (ℕ → Bool) → Type 0
@@ -70,8 +70,8 @@ cut_white bs u =
     let n = prefix_len is_white bs in
     cut_all is_white (take n bs) (drop n bs) white_ascii (taken is_white bs) (subst IsUtf8 (sym (take-append-drop n bs)) u)
 
-pub cut_behind : (c : ℕ) (bs rest : List ℕ) → bs ≡ c ∷ rest → c < 128 → IsUtf8 bs → IsUtf8 rest
-cut_behind c bs rest is small u = cut_first c rest small (subst IsUtf8 is u)
+pub cut_following : (c : ℕ) (bs rest : List ℕ) → bs ≡ c ∷ rest → c < 128 → IsUtf8 bs → IsUtf8 rest
+cut_following c bs rest is small u = cut_first c rest small (subst IsUtf8 is u)
 
 passes_ascii : PassesAscii is_ascii
 passes_ascii c h = grind (arith, nat_tests)

@@ -16,11 +16,11 @@ use Rattle.bt_elements.specs.Marks as written
 use Rattle.bt_elements.specs.Marks.{Start, Empty, End, Instruction, Comment, mark_written}
 use Rattle.bt_elements.specs.Elements.{Piece, piece_written, pieces_written, is_text_byte, IsPiece}
 use Rattle.bt_elements.specs.Reading.{GivesAs, ◌>=>◌, begins, mark_of, mark_at, State, may_stand, step, finished, text_len, read_from, read_rest}
-use Rattle.bt_elements.proofs.Fronts.{taken, left, taken_seam, left_seam}
+use Rattle.bt_elements.proofs.Prefixes.{taken, left, taken_seam, left_seam}
 use Rattle.bt_elements.proofs.Marks.{said, mark_again}
 use Rattle.bt_elements.proofs.Found.{mark_found, mark_shrinks}
 use Rattle.bt_elements.proofs.Nesting.{piece_step, run, run_one}
-use Rattle.bt_elements.proofs.Cuts.{cut_behind}
+use Rattle.bt_elements.proofs.Cuts.{cut_following}
 use Rattle.bt_elements.proofs.Outcomes.{ok_inj}
 
 -- the steps of read_from
@@ -129,8 +129,8 @@ mark_no_text m more = ap (begins is_text_byte) (mark_cons m more)
 pub text_before : (text rest : List ℕ) → list_all is_text_byte text ≡ true → begins is_text_byte rest ≡ false → take (text_len (text ++ rest)) (text ++ rest) ≡ text
 text_before text rest is edge = taken_seam is_text_byte text rest is edge
 
-pub behind_text : (text rest : List ℕ) → list_all is_text_byte text ≡ true → begins is_text_byte rest ≡ false → drop (text_len (text ++ rest)) (text ++ rest) ≡ rest
-behind_text text rest is edge = left_seam is_text_byte text rest is edge
+pub after_text : (text rest : List ℕ) → list_all is_text_byte text ≡ true → begins is_text_byte rest ≡ false → drop (text_len (text ++ rest)) (text ++ rest) ≡ rest
+after_text text rest is edge = left_seam is_text_byte text rest is edge
 
 -- a piece that is written is read
 piece_if : (total at : ℕ) (st : State) (p : Piece) (more : List ℕ) → IsPiece p → at + length (p.text ++ (mark_written p.mark ++ more)) ≡ total → (b : Bool) → may_stand st p.text ≡ b →
@@ -143,7 +143,7 @@ piece_if total at st p more is place true stands =
     let text = text_before p.text rest is.text edge in
     let here : total - length (60 ∷ inner) ≡ at + length p.text = omega (arith, place, length-append p.text rest, ap length (mark_cons p.mark more)) in
     read_marked total st (p.text ++ rest) 60 inner (said p.mark) more (ap (may_stand st) text ∙ stands)
-    (behind_text p.text rest is.text edge ∙ mark_cons p.mark more) (mark_again p.mark more is.mark)
+    (after_text p.text rest is.text edge ∙ mark_cons p.mark more) (mark_again p.mark more is.mark)
     ∙ ap (λ (n : ℕ). step st n (said p.mark) >=> λ next. read_rest total next more) here
 piece_if total at st p more is place false stands =
     let rest = mark_written p.mark ++ more in
@@ -203,9 +203,9 @@ at_once at total st text rest r is edge ends =
     record { pieces = []; text = text; rest = rest; last = st; valid = tt; no_mark = is; edge = edge; is = refl; runs = refl; ends = subst (λ (n : ℕ). Ends n total st text rest r) here ends }
 
 -- reading that goes on after a piece
-behind_piece : (at total : ℕ) (st next : State) (p : Piece) (more : List ℕ) (r : Result Element ElementFault) → IsPiece p → may_stand st p.text ≡ true →
+following_piece : (at total : ℕ) (st next : State) (p : Piece) (more : List ℕ) (r : Result Element ElementFault) → IsPiece p → may_stand st p.text ≡ true →
     step st (at + length p.text) (said p.mark) ≡ Ok next → Found (at + length (piece_written p)) total next more r → Found at total st (piece_written p ++ more) r
-behind_piece at total st next p more r is stands taken_is found =
+following_piece at total st next p more r is stands taken_is found =
     let there : at + length (piece_written p) + length (pieces_written found.pieces) ≡ at + length (pieces_written (p ∷ found.pieces)) =
     omega (arith, length-append (piece_written p) (pieces_written found.pieces)) in
     record {
@@ -231,7 +231,7 @@ mark_read k at total st text m more r is stands form ih (Ok next) e h =
     let p : Piece = record { text = text; mark = m } in
     let is_piece : IsPiece p = record { text = is; mark = form } in
     subst (λ (z : List ℕ). Found at total st z r) (append_assoc text (mark_written m) more)
-    (behind_piece at total st next p more r is_piece stands e (ih next h))
+    (following_piece at total st next p more r is_piece stands e (ih next h))
 
 -- what was read after a `<`
 inner_read : (k at total : ℕ) (st : State) (text inner : List ℕ) (r : Result Element ElementFault) → list_all is_text_byte text ≡ true → may_stand st text ≡ true → at + length (text ++ (60 ∷ inner)) ≡ total →
@@ -319,4 +319,4 @@ step_stops view (stop.Fault fault) total st bytes c inner m more stands is mark 
 pub cut_mark : (bytes marks : List ℕ) (c : ℕ) (inner : List ℕ) → marks ≡ drop (text_len bytes) bytes → marks ≡ c ∷ inner → IsUtf8 marks → IsUtf8 inner
 cut_mark bytes marks c inner is cons u =
     let e : c ≡ 60 = angle c (sym (ap (begins is_text_byte) cons) ∙ ap (begins is_text_byte) is ∙ left is_text_byte bytes) in
-    cut_behind c marks inner cons (omega arith) u
+    cut_following c marks inner cons (omega arith) u

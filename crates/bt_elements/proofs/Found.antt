@@ -12,8 +12,8 @@ use Rattle.bt_elements.specs.declared.mark.Mark.TheVariants as read
 use Rattle.bt_elements.specs.References.{decoded}
 use Rattle.bt_elements.specs.Marks as written
 use Rattle.bt_elements.specs.Marks.{is_name, is_name_first, is_name_rest, is_quote, is_value_byte, Attribute, attribute_written, Opening, opening_written, Start, Empty, End, Instruction, Comment, instruction_end, comment_end, mark_written, pairs_of, IsAttribute, IsOpening, IsMark}
-use Rattle.bt_elements.specs.Reading.{◌>>=◌, after_white, begins, behind, name_of, value_behind, value_of, attribute_of, attribute_begins, attributes_of, front_of, closing, opening_of, end_of, aside_of, behind_first, comment_of, mark_of}
-use Rattle.bt_elements.proofs.Fronts.{some_inj, bind_some, map_some, if_some, eq_from_test, taken, take_one_more, name_taken}
+use Rattle.bt_elements.specs.Reading.{◌>>=◌, after_white, begins, following, name_of, value_after, value_of, attribute_of, attribute_begins, attributes_of, front_of, closing, opening_of, end_of, aside_of, following_first, comment_of, mark_of}
+use Rattle.bt_elements.proofs.Prefixes.{some_inj, bind_some, map_some, if_some, eq_from_test, taken, take_one_more, name_taken}
 use Rattle.bt_elements.proofs.Asides.{body_found}
 use Rattle.bt_elements.proofs.Marks.{front_said, said, from_name, attribute_spread, opening_spread}
 
@@ -24,9 +24,9 @@ name_found bytes r h =
     let e : (take n bytes, drop n bytes) ≡ r = some_inj (take n bytes, drop n bytes) r t.1 in
     (subst (λ (z : List ℕ × List ℕ). is_name z.0 ≡ true) e (name_taken bytes t.0), sym (take-append-drop n bytes) ∙ ap (λ (z : List ℕ × List ℕ). z.0 ++ z.1) e)
 
-behind_found : (c : ℕ) (bytes rest : List ℕ) → behind c bytes ≡ Some rest → bytes ≡ c ∷ rest
-behind_found c [] rest h = absurd (cc)
-behind_found c (b ∷ bs) rest h =
+after_found : (c : ℕ) (bytes rest : List ℕ) → following c bytes ≡ Some rest → bytes ≡ c ∷ rest
+after_found c [] rest h = absurd (cc)
+after_found c (b ∷ bs) rest h =
     let t = if_some (b == c) (Some bs) rest h in
     let e : b ≡ c = eq_from_test b c t.0 in
     let e2 : bs ≡ rest = some_inj bs rest t.1 in
@@ -45,8 +45,8 @@ value_found : (bytes : List ℕ) (r : List ℕ × List ℕ) → value_of bytes �
 value_found [] r h = absurd (cc)
 value_found (c ∷ cs) r h =
     let n = prefix_len (is_value_byte c) cs in
-    let t = if_some (is_quote c) (value_behind c cs) r h in
-    let m = map_some (λ (rest : List ℕ). (decoded (take n cs), rest)) (behind c (drop n cs)) r t.1 in
+    let t = if_some (is_quote c) (value_after c cs) r h in
+    let m = map_some (λ (rest : List ℕ). (decoded (take n cs), rest)) (following c (drop n cs)) r t.1 in
     let e : (decoded (take n cs), m.0) ≡ r = m.2 in
     record {
       quote = c;
@@ -55,7 +55,7 @@ value_found (c ∷ cs) r h =
       in_form = taken (is_value_byte c) cs;
       says = ap (λ (z : List ℕ × List ℕ). z.0) e;
       is = ap (λ (z : List ℕ). c ∷ z)
-          (sym (take-append-drop n cs) ∙ ap (λ (z : List ℕ). take n cs ++ z) (behind_found c (drop n cs) m.0 m.1) ∙ ap (λ (z : List ℕ × List ℕ). take n cs ++ (c ∷ z.1)) e);
+          (sym (take-append-drop n cs) ∙ ap (λ (z : List ℕ). take n cs ++ z) (after_found c (drop n cs) m.0 m.1) ∙ ap (λ (z : List ℕ × List ℕ). take n cs ++ (c ∷ z.1)) e);
     }
 
 -- attribute_of in steps
@@ -66,7 +66,7 @@ abbrev with_equal : List ℕ × List ℕ → List ℕ → Option ((List ℕ × L
 with_equal name equal = value_of (after_white equal) >>= with_value name
 
 abbrev with_name : List ℕ × List ℕ → Option ((List ℕ × List ℕ) × List ℕ)
-with_name name = behind 61 (after_white name.1) >>= with_equal name
+with_name name = following 61 (after_white name.1) >>= with_equal name
 
 assemble : (gap bytes name n1 before w1 equal after w2 value rest : List ℕ) (quote : ℕ) →
     bytes ≡ name ++ n1 → n1 ≡ before ++ w1 → w1 ≡ 61 ∷ equal → equal ≡ after ++ w2 → w2 ≡ quote ∷ (value ++ (quote ∷ rest)) →
@@ -77,7 +77,7 @@ pub attribute_found : (gap bytes : List ℕ) (r : (List ℕ × List ℕ) × List
     (a : Attribute) × IsAttribute a × ((a.name, decoded a.value) ≡ r.0) × (gap ++ bytes ≡ attribute_written a ++ r.1)
 attribute_found gap bytes r w apart h =
     let name = bind_some (name_of bytes) with_name r h in
-    let equal = bind_some (behind 61 (after_white name.0.1)) (with_equal name.0) r name.2 in
+    let equal = bind_some (following 61 (after_white name.0.1)) (with_equal name.0) r name.2 in
     let value = bind_some (value_of (after_white equal.0)) (with_value name.0) r equal.2 in
     let is_r : ((name.0.0, value.0.0), value.0.1) ≡ r = some_inj ((name.0.0, value.0.0), value.0.1) r value.2 in
     let n = name_found bytes name.0 name.1 in
@@ -90,7 +90,7 @@ attribute_found gap bytes r w apart h =
       is,
       ap (λ (z : List ℕ). (name.0.0, z)) v.says ∙ ap (λ (z : (List ℕ × List ℕ) × List ℕ). z.0) is_r,
       assemble gap bytes name.0.0 name.0.1 before (after_white name.0.1) equal.0 after (after_white equal.0) v.value value.0.1 v.quote
-          n.1 (sym (take-append-drop (prefix_len is_white name.0.1) name.0.1)) (behind_found 61 (after_white name.0.1) equal.0 equal.1)
+          n.1 (sym (take-append-drop (prefix_len is_white name.0.1) name.0.1)) (after_found 61 (after_white name.0.1) equal.0 equal.1)
           (sym (take-append-drop (prefix_len is_white equal.0) equal.0)) v.is
           ∙ ap (λ (z : (List ℕ × List ℕ) × List ℕ). gap ++ from_name a z.1) is_r ∙ sym (attribute_spread a r.1),
     )
@@ -195,18 +195,18 @@ front_found bytes r h =
           ∙ sym (opening_spread o (after_white more.0.1)) ∙ ap (λ (z : Front × List ℕ). opening_written o ++ z.1) is_r,
     )
 
-slash_found : (o : Front) (cs : List ℕ) (r : Mark × List ℕ) (c : ℕ) → (if c == 47 then option_map (λ rest. (read.Empty o, rest)) (behind 62 cs) else None) ≡ Some r → (c ∷ cs ≡ 47 ∷ 62 ∷ r.1) × (read.Empty o ≡ r.0)
+slash_found : (o : Front) (cs : List ℕ) (r : Mark × List ℕ) (c : ℕ) → (if c == 47 then option_map (λ rest. (read.Empty o, rest)) (following 62 cs) else None) ≡ Some r → (c ∷ cs ≡ 47 ∷ 62 ∷ r.1) × (read.Empty o ≡ r.0)
 slash_found o cs r c h =
-    let t = if_some (c == 47) (option_map (λ rest. (read.Empty o, rest)) (behind 62 cs)) r h in
-    let m = map_some (λ (rest : List ℕ). (read.Empty o, rest)) (behind 62 cs) r t.1 in
+    let t = if_some (c == 47) (option_map (λ rest. (read.Empty o, rest)) (following 62 cs)) r h in
+    let m = map_some (λ (rest : List ℕ). (read.Empty o, rest)) (following 62 cs) r t.1 in
     let is_r : (read.Empty o, m.0) ≡ r = m.2 in
     let e : c ≡ 47 = eq_from_test c 47 t.0 in
-    let e2 : cs ≡ 62 ∷ m.0 = behind_found 62 cs m.0 m.1 in
+    let e2 : cs ≡ 62 ∷ m.0 = after_found 62 cs m.0 m.1 in
     let e3 : m.0 ≡ r.1 = ap (λ (z : Mark × List ℕ). z.1) is_r in
     (cc, ap (λ (z : Mark × List ℕ). z.0) is_r)
 
 closing_if : {P : Type 0} (o : Front) (c : ℕ) (cs : List ℕ) (r : Mark × List ℕ) (b : Bool) → (c == 62) ≡ b →
-    (if b then Some (read.Start o, cs) else if c == 47 then option_map (λ rest. (read.Empty o, rest)) (behind 62 cs) else None) ≡ Some r →
+    (if b then Some (read.Start o, cs) else if c == 47 then option_map (λ rest. (read.Empty o, rest)) (following 62 cs) else None) ≡ Some r →
     (c ∷ cs ≡ 62 ∷ r.1 → read.Start o ≡ r.0 → P) → (c ∷ cs ≡ 47 ∷ 62 ∷ r.1 → read.Empty o ≡ r.0 → P) → P
 closing_if o c cs r true e h p q =
     let is_r : (read.Start o, cs) ≡ r = some_inj (read.Start o, cs) r h in
@@ -222,7 +222,7 @@ closing_found o [] r h p q = absurd (cc)
 closing_found o (c ∷ cs) r h p q = closing_if o c cs r (c == 62) refl h p q
 
 abbrev then_name : List ℕ × List ℕ → Option (Mark × List ℕ)
-then_name name = option_map (λ rest. (read.End name.0, rest)) (behind 62 (after_white name.1))
+then_name name = option_map (λ rest. (read.End name.0, rest)) (following 62 (after_white name.1))
 
 -- what mark_of gives says which mark stands there
 abbrev pub MarkFound : List ℕ → Mark × List ℕ → Type 0
@@ -234,14 +234,14 @@ end_spread name gap more = sym (ap (λ (z : List ℕ). 60 ∷ 47 ∷ z) (append_
 end_found : (bytes : List ℕ) (r : Mark × List ℕ) → end_of bytes ≡ Some r → MarkFound (47 ∷ bytes) r
 end_found bytes r h =
     let name = bind_some (name_of bytes) then_name r h in
-    let m = map_some (λ (rest : List ℕ). (read.End name.0.0, rest)) (behind 62 (after_white name.0.1)) r name.2 in
+    let m = map_some (λ (rest : List ℕ). (read.End name.0.0, rest)) (following 62 (after_white name.0.1)) r name.2 in
     let is_r : (read.End name.0.0, m.0) ≡ r = m.2 in
     let n = name_found bytes name.0 name.1 in
     let gap = take (prefix_len is_white name.0.1) name.0.1 in (
       End name.0.0 gap,
       (n.0, taken is_white name.0.1),
       ap (λ (z : Mark × List ℕ). z.0) is_r,
-      ap (λ (z : List ℕ). 60 ∷ 47 ∷ z) (n.1 ∙ ap (λ (z : List ℕ). name.0.0 ++ z) (sym (take-append-drop (prefix_len is_white name.0.1) name.0.1) ∙ ap (λ (z : List ℕ). gap ++ z) (behind_found 62 (after_white name.0.1) m.0 m.1)))
+      ap (λ (z : List ℕ). 60 ∷ 47 ∷ z) (n.1 ∙ ap (λ (z : List ℕ). name.0.0 ++ z) (sym (take-append-drop (prefix_len is_white name.0.1) name.0.1) ∙ ap (λ (z : List ℕ). gap ++ z) (after_found 62 (after_white name.0.1) m.0 m.1)))
           ∙ end_spread name.0.0 gap m.0 ∙ ap (λ (z : Mark × List ℕ). mark_written (End name.0.0 gap) ++ z.1) is_r,
     )
 
@@ -269,7 +269,7 @@ aside rest = (read.Aside, rest)
 
 instruction_found : (bytes : List ℕ) (r : Mark × List ℕ) → aside_of instruction_end bytes ≡ Some r → MarkFound (63 ∷ bytes) r
 instruction_found bytes r h =
-    let m = map_some aside (behind_first instruction_end bytes) r h in
+    let m = map_some aside (following_first instruction_end bytes) r h in
     let is_r : aside m.0 ≡ r = m.2 in
     let found = body_found instruction_end bytes m.0 m.1 in (
       Instruction found.body,
@@ -280,16 +280,16 @@ instruction_found bytes r h =
 
 comment_found : (bytes : List ℕ) (r : Mark × List ℕ) → comment_of bytes ≡ Some r → MarkFound (33 ∷ bytes) r
 comment_found bytes r h =
-    let one = bind_some (behind 45 bytes) (λ (x : List ℕ). behind 45 x >>= λ two. aside_of comment_end two) r h in
-    let two = bind_some (behind 45 one.0) (λ (x : List ℕ). aside_of comment_end x) r one.2 in
-    let m = map_some aside (behind_first comment_end two.0) r two.2 in
+    let one = bind_some (following 45 bytes) (λ (x : List ℕ). following 45 x >>= λ two. aside_of comment_end two) r h in
+    let two = bind_some (following 45 one.0) (λ (x : List ℕ). aside_of comment_end x) r one.2 in
+    let m = map_some aside (following_first comment_end two.0) r two.2 in
     let is_r : aside m.0 ≡ r = m.2 in
     let found = body_found comment_end two.0 m.0 m.1 in (
       Comment found.body,
       (found.not_zero, found.first),
       ap (λ (z : Mark × List ℕ). z.0) is_r,
       ap (λ (z : List ℕ). 60 ∷ 33 ∷ z)
-          (behind_found 45 bytes one.0 one.1 ∙ ap (λ (z : List ℕ). 45 ∷ z) (behind_found 45 one.0 two.0 two.1)
+          (after_found 45 bytes one.0 one.1 ∙ ap (λ (z : List ℕ). 45 ∷ z) (after_found 45 one.0 two.0 two.1)
           ∙ ap (λ (z : List ℕ). 45 ∷ 45 ∷ z) (found.is ∙ sym (append_assoc found.body comment_end m.0)))
           ∙ ap (λ (z : Mark × List ℕ). mark_written (Comment found.body) ++ z.1) is_r,
     )

@@ -4,7 +4,7 @@ pub mod Cuts
 pub mod FewNames
 pub mod Files
 pub mod Found
-pub mod Fronts
+pub mod Prefixes
 pub mod Marks
 pub mod Names
 pub mod Nesting

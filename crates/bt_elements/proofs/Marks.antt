@@ -13,7 +13,7 @@ use Rattle.bt_elements.specs.References.{decoded}
 use Rattle.bt_elements.specs.Marks as written
 use Rattle.bt_elements.specs.Marks.{is_name, is_name_first, is_name_rest, is_quote, Attribute, attribute_written, Opening, opening_written, Start, Empty, End, Instruction, Comment, instruction_end, comment_end, mark_written, pairs_of, IsAttribute, IsOpening, IsMark}
 use Rattle.bt_elements.specs.Reading.{begins, attribute_of, attribute_begins, attributes_of, front_of, opening_of, end_of, aside_of, mark_of}
-use Rattle.bt_elements.proofs.Fronts.{white_ends_name, begins_gap, begins_name_not_white, begins_name, name_again, value_again, after_white_again}
+use Rattle.bt_elements.proofs.Prefixes.{white_ends_name, begins_gap, begins_name_not_white, begins_name, name_again, value_again, after_white_again}
 use Rattle.bt_elements.proofs.Asides.{instruction_again, comment_again}
 
 -- what a start or an empty mark says

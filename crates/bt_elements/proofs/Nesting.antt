@@ -17,7 +17,7 @@ use Rattle.bt_elements.specs.declared.element.ElementFault.TheVariants.{Unmatche
 use Rattle.bt_elements.specs.Marks.{Mark, Opening, Start, Empty, End, Instruction, Comment, pairs_of, no_name_twice, is_single}
 use Rattle.bt_elements.specs.Elements.{Tag, Begin, Ending, is_models, joined, tags_step, tags_of, greatest, depth_step, depth_of, Piece, piece_written, tags_of_mark, inside_before, HaveTags}
 use Rattle.bt_elements.specs.Reading.{◌>=>◌, State, inside_of, may_stand, element_of, with_child, attach, opened, begun, close, step}
-use Rattle.bt_elements.proofs.Fronts.{some_inj}
+use Rattle.bt_elements.proofs.Prefixes.{some_inj}
 use Rattle.bt_elements.proofs.Outcomes.{ok_inj, bind_ok, if_ok}
 use Rattle.bt_elements.proofs.Marks.{said, front_said}
 

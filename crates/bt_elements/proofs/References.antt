@@ -14,7 +14,7 @@ use Rattle.bt_elements.specs.References.{begins_with, is_character, numeric, ref
 use Rattle.bt_elements.specs.Marks.{is_not_zero}
 use Rattle.bt_elements.specs.Reading.{begins}
 use Rattle.bt_elements.proofs.Asides.{begins_is}
-use Rattle.bt_elements.proofs.Fronts.{taken, left, some_inj, if_some}
+use Rattle.bt_elements.proofs.Prefixes.{taken, left, some_inj, if_some}
 use Rattle.bt_elements.proofs.Cuts.{cut_front, cut_rest, plain_stops}
 
 le-times : (n base : ℕ) → 1 ≤ base → n ≤ n * base
@@ -42,12 +42,12 @@ decoded_plain (c ∷ cs) more h =
     let t = both (is_plain_byte c) (list_all is_plain_byte cs) h in
     rw t.0 (ap (λ (z : List ℕ). c ∷ z) (decoded_plain cs more t.1))
 
-abbrev pub behind_ampersand : List ℕ → ℕ → Option (ℕ × ℕ) → List ℕ
-behind_ampersand cs c o = elim o [ Some r ↦ encode_utf8 r.0 ++ decoded_from r.1 cs | None ↦ c ∷ decoded_from 0 cs ]
+abbrev pub after_ampersand : List ℕ → ℕ → Option (ℕ × ℕ) → List ℕ
+after_ampersand cs c o = elim o [ Some r ↦ encode_utf8 r.0 ++ decoded_from r.1 cs | None ↦ c ∷ decoded_from 0 cs ]
 
-pub decoded_marked : (c : ℕ) (cs : List ℕ) (o : Option (ℕ × ℕ)) → is_plain_byte c ≡ false → reference_of cs ≡ o → decoded (c ∷ cs) ≡ behind_ampersand cs c o
+pub decoded_marked : (c : ℕ) (cs : List ℕ) (o : Option (ℕ × ℕ)) → is_plain_byte c ≡ false → reference_of cs ≡ o → decoded (c ∷ cs) ≡ after_ampersand cs c o
 decoded_marked c cs o marked is =
-    ap (λ (b : Bool). if b then c ∷ decoded_from 0 cs else behind_ampersand cs c (reference_of cs)) marked ∙ ap (behind_ampersand cs c) is
+    ap (λ (b : Bool). if b then c ∷ decoded_from 0 cs else after_ampersand cs c (reference_of cs)) marked ∙ ap (after_ampersand cs c) is
 
 -- a value that is cut before its first `&`
 pub record PlainCut (rest plain marked : List ℕ) : Type 0 where
@@ -79,11 +79,11 @@ marked_byte : (a : ℕ) → is_plain_byte a ≡ false → a ≡ 38
 marked_byte a h = grind (arith, nat_tests)
 
 -- what does not begin plain begins with an `&`
-pub ampersand : (a : ℕ) (behind marked : List ℕ) → begins is_plain_byte marked ≡ false → marked ≡ a ∷ behind → a ≡ 38
-ampersand a behind marked edge is = marked_byte a (sym (ap (begins is_plain_byte) is) ∙ edge)
+pub ampersand : (a : ℕ) (following marked : List ℕ) → begins is_plain_byte marked ≡ false → marked ≡ a ∷ following → a ≡ 38
+ampersand a following marked edge is = marked_byte a (sym (ap (begins is_plain_byte) is) ∙ edge)
 
-pub ampersand_ascii : (a : ℕ) (behind marked : List ℕ) → begins is_plain_byte marked ≡ false → marked ≡ a ∷ behind → a < 128
-ampersand_ascii a behind marked edge is = let e = ampersand a behind marked edge is in omega arith
+pub ampersand_ascii : (a : ℕ) (following marked : List ℕ) → begins is_plain_byte marked ≡ false → marked ≡ a ∷ following → a < 128
+ampersand_ascii a following marked edge is = let e = ampersand a following marked edge is in omega arith
 
 pub ampersand_utf8 : IsUtf8 (38 ∷ [])
 ampersand_utf8 = subst IsUtf8 (encode_ascii 38 (omega arith)) (IsUtf8-encode 38 refl)
@@ -99,27 +99,27 @@ last_part said rest plain marked value cut none is =
     ap decoded (cut.split ∙ ap (λ (z : List ℕ). plain ++ z) (empty_from marked none)) ∙ decoded_plain plain [] cut.all ∙ append-nil plain in
     ap (λ (z : List ℕ). said ++ z) (sym whole) ∙ is
 
-part_said : (said rest plain marked value : List ℕ) (c : ℕ) (behind : List ℕ) (o : Option (ℕ × ℕ)) → PlainCut rest plain marked → marked ≡ c ∷ behind → reference_of behind ≡ o →
-    said ++ decoded rest ≡ value → (said ++ plain) ++ behind_ampersand behind c o ≡ value
-part_said said rest plain marked value c behind o cut is reference so_far =
+part_said : (said rest plain marked value : List ℕ) (c : ℕ) (following : List ℕ) (o : Option (ℕ × ℕ)) → PlainCut rest plain marked → marked ≡ c ∷ following → reference_of following ≡ o →
+    said ++ decoded rest ≡ value → (said ++ plain) ++ after_ampersand following c o ≡ value
+part_said said rest plain marked value c following o cut is reference so_far =
     let marks : is_plain_byte c ≡ false = sym (ap (begins is_plain_byte) is) ∙ cut.edge in
-    append_assoc said plain (behind_ampersand behind c o)
-    ∙ ap (λ (z : List ℕ). said ++ (plain ++ z)) (sym (decoded_marked c behind o marks reference))
-    ∙ ap (λ (z : List ℕ). said ++ z) (sym (decoded_plain plain (c ∷ behind) cut.all) ∙ ap decoded (ap (λ (z : List ℕ). plain ++ z) (sym is) ∙ sym cut.split)) ∙ so_far
+    append_assoc said plain (after_ampersand following c o)
+    ∙ ap (λ (z : List ℕ). said ++ (plain ++ z)) (sym (decoded_marked c following o marks reference))
+    ∙ ap (λ (z : List ℕ). said ++ z) (sym (decoded_plain plain (c ∷ following) cut.all) ∙ ap decoded (ap (λ (z : List ℕ). plain ++ z) (sym is) ∙ sym cut.split)) ∙ so_far
 
 -- a part that a reference follows
-pub reference_said : (said rest plain marked value : List ℕ) (c : ℕ) (behind : List ℕ) (r : ℕ × ℕ) → PlainCut rest plain marked → marked ≡ c ∷ behind → reference_of behind ≡ Some r →
-    said ++ decoded rest ≡ value → ((said ++ plain) ++ encode_utf8 r.0) ++ decoded (drop r.1 behind) ≡ value
-reference_said said rest plain marked value c behind r cut is reference so_far =
-    append_assoc (said ++ plain) (encode_utf8 r.0) (decoded (drop r.1 behind))
-    ∙ ap (λ (z : List ℕ). (said ++ plain) ++ (encode_utf8 r.0 ++ z)) (sym (decoded_past r.1 behind))
-    ∙ part_said said rest plain marked value c behind (Some r) cut is reference so_far
+pub reference_said : (said rest plain marked value : List ℕ) (c : ℕ) (following : List ℕ) (r : ℕ × ℕ) → PlainCut rest plain marked → marked ≡ c ∷ following → reference_of following ≡ Some r →
+    said ++ decoded rest ≡ value → ((said ++ plain) ++ encode_utf8 r.0) ++ decoded (drop r.1 following) ≡ value
+reference_said said rest plain marked value c following r cut is reference so_far =
+    append_assoc (said ++ plain) (encode_utf8 r.0) (decoded (drop r.1 following))
+    ∙ ap (λ (z : List ℕ). (said ++ plain) ++ (encode_utf8 r.0 ++ z)) (sym (decoded_past r.1 following))
+    ∙ part_said said rest plain marked value c following (Some r) cut is reference so_far
 
 -- a part that an `&` follows which begins no reference
-pub ampersand_said : (said rest plain marked value : List ℕ) (c : ℕ) (behind : List ℕ) → PlainCut rest plain marked → marked ≡ c ∷ behind → reference_of behind ≡ None →
-    said ++ decoded rest ≡ value → ((said ++ plain) ++ c ∷ []) ++ decoded behind ≡ value
-ampersand_said said rest plain marked value c behind cut is reference so_far =
-    append_assoc (said ++ plain) (c ∷ []) (decoded behind) ∙ part_said said rest plain marked value c behind None cut is reference so_far
+pub ampersand_said : (said rest plain marked value : List ℕ) (c : ℕ) (following : List ℕ) → PlainCut rest plain marked → marked ≡ c ∷ following → reference_of following ≡ None →
+    said ++ decoded rest ≡ value → ((said ++ plain) ++ c ∷ []) ++ decoded following ≡ value
+ampersand_said said rest plain marked value c following cut is reference so_far =
+    append_assoc (said ++ plain) (c ∷ []) (decoded following) ∙ part_said said rest plain marked value c following None cut is reference so_far
 
 -- a reference ends with a `;`, and names a scalar value other than 0
 pub record ReferenceEnds (cs : List ℕ) (r : ℕ × ℕ) : Type 0 where
@@ -191,8 +191,8 @@ reference_ends cs r h =
     if_numeric 10 1 cs None r (begins_with (codes "#") cs) h (λ h. absurd (cc))))))))
 
 -- a value goes on after a reference
-pub behind_reference : (cs : List ℕ) (r : ℕ × ℕ) → reference_of cs ≡ Some r → (r.1 ≤ length cs) × (IsUtf8 cs → IsUtf8 (drop r.1 cs)) × IsUtf8 (encode_utf8 r.0)
-behind_reference cs r h =
+pub after_reference : (cs : List ℕ) (r : ℕ × ℕ) → reference_of cs ≡ Some r → (r.1 ≤ length cs) × (IsUtf8 cs → IsUtf8 (drop r.1 cs)) × IsUtf8 (encode_utf8 r.0)
+after_reference cs r h =
     let e = reference_ends cs r h in
     let small : get_or cs e.at 0 < 128 = let i = e.is in omega arith in (
       let w = e.within in let l = e.len in omega arith,

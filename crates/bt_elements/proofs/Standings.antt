@@ -12,7 +12,7 @@ use Rattle.bt_elements.specs.declared.element.ElementFault.TheVariants.{Unmatche
 use Rattle.bt_elements.specs.declared.nest.Open.{Open}
 use Rattle.bt_elements.specs.Marks.{Mark, Opening, Start, Empty, End, Instruction, Comment, pairs_of, no_name_twice}
 use Rattle.bt_elements.specs.Elements.{is_models, Piece, piece_written}
-use Rattle.bt_elements.specs.Faults.{Standing, In, Behind, ended_in, behind_mark, behind_pieces, may_hold, nesting_fault, mark_fault, Marked, next_fault, faultless}
+use Rattle.bt_elements.specs.Faults.{Standing, In, After, ended_in, following_mark, after_pieces, may_hold, nesting_fault, mark_fault, Marked, next_fault, faultless}
 use Rattle.bt_elements.specs.Reading.{◌>=>◌, State, inside_of, may_stand, element_of, attach, opened, begun, step}
 use Rattle.bt_elements.proofs.Marks.{said, front_said}
 use Rattle.bt_elements.proofs.Outcomes.{ok_inj, bind_ok, if_ok}
@@ -24,7 +24,7 @@ names_of stack = map (λ o. o.name) stack
 -- where the next mark stands
 abbrev pub standing : Option Element → List Open → Standing
 standing None stack = In (names_of stack)
-standing (Some e) stack = Behind
+standing (Some e) stack = After
 
 either_way : (a b : Bool) → (a || b) ≡ (b || a)
 either_way true true = refl
@@ -72,7 +72,7 @@ begun_agrees stack done place o =
 
 -- what a mark did, against the fault that it has there and what follows it
 abbrev pub Agrees : Result State ElementFault → Standing → ℕ → Mark → Type 0
-Agrees (Ok next) s place m = (mark_fault s place m ≡ None) × (standing next.done next.stack ≡ behind_mark s m)
+Agrees (Ok next) s place m = (mark_fault s place m ≡ None) × (standing next.done next.stack ≡ following_mark s m)
 Agrees (Err fault) s place m = mark_fault s place m ≡ Some fault
 
 attach_standing : (e : Element) (stack : List Open) → standing (attach e stack).done (attach e stack).stack ≡ ended_in (names_of stack)
@@ -90,13 +90,13 @@ empty_agrees stack place o (Ok x) h = (h.0, attach_standing (element_of x) stack
 empty_agrees stack place o (Err fault) h = h
 
 none_begins : (f : Open → State) (place : ℕ) (m : Mark) (x : Open) (fault : Option ElementFault) (r : Result Open ElementFault) →
-    mark_fault Behind place m ≡ fault → (fault ≡ None → ⊥) → BegunAgrees r x fault → Agrees (r >=> λ x. Ok (f x)) Behind place m
+    mark_fault After place m ≡ fault → (fault ≡ None → ⊥) → BegunAgrees r x fault → Agrees (r >=> λ x. Ok (f x)) After place m
 none_begins f place m x fault (Ok y) is some h = absurd (some h.0)
 none_begins f place m x fault (Err g) is some h = is ∙ h
 
-behind_faulty : (b : Bool) (place : ℕ) → (if b then Some (Unmatched place) else Some (DoubleAttribute place)) ≡ None → ⊥
-behind_faulty true place h = cc
-behind_faulty false place h = cc
+after_faulty : (b : Bool) (place : ℕ) → (if b then Some (Unmatched place) else Some (DoubleAttribute place)) ≡ None → ⊥
+after_faulty true place h = cc
+after_faulty false place h = cc
 
 end_agrees_if : (o : Open) (os : List Open) (place : ℕ) (name gap : List ℕ) (b : Bool) → bytes_eq o.name name ≡ b →
     Agrees (if b then Ok (attach (element_of o) os) else Err (Unmatched place)) (In (names_of (o ∷ os))) place (End name gap)
@@ -110,12 +110,12 @@ not_nil o os h = cc
 pub mark_agrees : (stack : List Open) (done : Option Element) (place : ℕ) (m : Mark) → IsState done stack → Agrees (step (record { stack = stack; done = done }) place (said m)) (standing done stack) place m
 mark_agrees stack None place (Start o) good = start_agrees stack place o (begun (within stack) place (front_said o)) (begun_agrees stack None place o)
 mark_agrees stack (Some e) place (Start o) good =
-    none_begins (λ (x : Open). within (x ∷ stack)) place (Start o) (opened stack place (front_said o)) (mark_fault Behind place (Start o)) (begun (record { stack = stack; done = Some e }) place (front_said o))
-    refl (behind_faulty (no_name_twice (pairs_of o.attributes)) place) (begun_agrees stack (Some e) place o)
+    none_begins (λ (x : Open). within (x ∷ stack)) place (Start o) (opened stack place (front_said o)) (mark_fault After place (Start o)) (begun (record { stack = stack; done = Some e }) place (front_said o))
+    refl (after_faulty (no_name_twice (pairs_of o.attributes)) place) (begun_agrees stack (Some e) place o)
 mark_agrees stack None place (Empty o) good = empty_agrees stack place o (begun (within stack) place (front_said o)) (begun_agrees stack None place o)
 mark_agrees stack (Some e) place (Empty o) good =
-    none_begins (λ (x : Open). attach (element_of x) stack) place (Empty o) (opened stack place (front_said o)) (mark_fault Behind place (Empty o)) (begun (record { stack = stack; done = Some e }) place (front_said o))
-    refl (behind_faulty (no_name_twice (pairs_of o.attributes)) place) (begun_agrees stack (Some e) place o)
+    none_begins (λ (x : Open). attach (element_of x) stack) place (Empty o) (opened stack place (front_said o)) (mark_fault After place (Empty o)) (begun (record { stack = stack; done = Some e }) place (front_said o))
+    refl (after_faulty (no_name_twice (pairs_of o.attributes)) place) (begun_agrees stack (Some e) place o)
 mark_agrees [] None place (End name gap) good = refl
 mark_agrees (o ∷ os) None place (End name gap) good = end_agrees_if o os place name gap (bytes_eq o.name name) refl
 mark_agrees [] (Some e) place (End name gap) good = refl
@@ -128,15 +128,15 @@ mark_agrees stack (Some e) place (Comment body) good = (refl, refl)
 -- what is known after the marks of some pieces were taken
 pub record Passed (at : ℕ) (stack : List Open) (done : Option Element) (ps : List Piece) (last : State) : Type 0 where
   pub good : IsState last.done last.stack
-  pub standing : standing last.done last.stack ≡ behind_pieces (standing done stack) ps
+  pub standing : standing last.done last.stack ≡ after_pieces (standing done stack) ps
 
 none_faulty : (b : Bool) (fault other : Option ElementFault) → b ≡ true → fault ≡ None → is_none (if b then fault else other) ≡ true
 none_faulty b fault other h e = ap (λ (x : Bool). is_none (if x then fault else other)) h ∙ ap is_none e
 
 passed_on : (at end : ℕ) (stack : List Open) (done : Option Element) (p : Piece) (ps : List Piece) (next last : State) →
-    standing next.done next.stack ≡ behind_mark (standing done stack) p.mark → Passed end next.stack next.done ps last → Passed at stack done (p ∷ ps) last
+    standing next.done next.stack ≡ following_mark (standing done stack) p.mark → Passed end next.stack next.done ps last → Passed at stack done (p ∷ ps) last
 passed_on at end stack d p ps next last is passed =
-    record { good = passed.good; standing = passed.standing ∙ ap (λ (s : Standing). behind_pieces s ps) is }
+    record { good = passed.good; standing = passed.standing ∙ ap (λ (s : Standing). after_pieces s ps) is }
 
 -- pieces that were run have no fault
 pub run_faultless : (at : ℕ) (stack : List Open) (done : Option Element) (ps : List Piece) (last : State) → IsState done stack → run at (record { stack = stack; done = done }) ps ≡ Ok last →
@@ -172,7 +172,7 @@ abbrev FaultlessRun : ℕ → List Open → Option Element → List Piece → Ty
 FaultlessRun at stack done ps = (last : State) × (run at (record { stack = stack; done = done }) ps ≡ Ok last) × Passed at stack done ps last
 
 after_mark : (at : ℕ) (stack : List Open) (done : Option Element) (p : Piece) (ps : List Piece) → IsState done stack → may_stand (record { stack = stack; done = done }) p.text ≡ true → mark_fault (standing done stack) (at + length p.text) p.mark ≡ None →
-    ((next : State) → IsState next.done next.stack → standing next.done next.stack ≡ behind_mark (standing done stack) p.mark → FaultlessRun (at + length (piece_written p)) next.stack next.done ps) →
+    ((next : State) → IsState next.done next.stack → standing next.done next.stack ≡ following_mark (standing done stack) p.mark → FaultlessRun (at + length (piece_written p)) next.stack next.done ps) →
     (r : Result State ElementFault) → step (record { stack = stack; done = done }) (at + length p.text) (said p.mark) ≡ r → Agrees r (standing done stack) (at + length p.text) p.mark → FaultlessRun at stack done (p ∷ ps)
 after_mark at stack d p ps good stands none go (Err fault) e agrees = absurd (let k = sym none ∙ agrees in cc)
 after_mark at stack done p ps good stands none go (Ok next) e agrees =
@@ -186,7 +186,7 @@ faultless_run at stack done (p ∷ ps) good h =
     let place = at + length p.text in
     let end = at + length (piece_written p) in
     let s = standing done stack in
-    let t = none_and (next_fault s at p.text (Marked p.mark)) (faultless (behind_mark s p.mark) end ps) h in
+    let t = none_and (next_fault s at p.text (Marked p.mark)) (faultless (following_mark s p.mark) end ps) h in
     let u = if_none (may_hold s p.text) (mark_fault s place p.mark) (StrayText (at + prefix_len is_white p.text)) t.0 in
     after_mark at stack done p ps good (holds_same stack done p.text good ∙ u.0) u.1
     (λ next ok is. faultless_run end next.stack next.done ps ok (ap (λ (z : Standing). faultless z end ps) is ∙ t.1))

@@ -23,14 +23,14 @@ use Rattle.bt_elements.specs.declared.nest.Open.{Open}
 use Rattle.bt_elements.specs.References.{begins_with}
 use Rattle.bt_elements.specs.Marks.{Mark, Start, Empty, End, Instruction, Comment, mark_written, IsMark}
 use Rattle.bt_elements.specs.Elements.{Tag, tags_of, Piece, piece_written, pieces_written, is_text_byte, IsPiece, tags_of_mark, HaveTags, order_mark_len, Spells}
-use Rattle.bt_elements.specs.Faults.{Standing, may_hold, mark_fault, last_fault, Next, Marked, Unmarked, Over, IsNext, fault_behind, next_fault, FirstFault, ElementFaultOf, WhenFault}
+use Rattle.bt_elements.specs.Faults.{Standing, may_hold, mark_fault, last_fault, Next, Marked, Unmarked, Over, IsNext, fault_after, next_fault, FirstFault, ElementFaultOf, WhenFault}
 use Rattle.bt_elements.specs.Reading.{◌>=>◌, begins, mark_of, State, start, may_stand, step, ended_by, text_len, read_rest, read}
 use Rattle.bt_elements.proofs.Asides.{begins_is}
-use Rattle.bt_elements.proofs.Fronts.{some_inj}
+use Rattle.bt_elements.proofs.Prefixes.{some_inj}
 use Rattle.bt_elements.proofs.Marks.{said, mark_again}
 use Rattle.bt_elements.proofs.Found.{mark_found}
 use Rattle.bt_elements.proofs.Nesting.{run, run_aside, run_good, element_runs, IsState}
-use Rattle.bt_elements.proofs.Files.{angle, mark_cons, mark_no_text, text_before, behind_text, read_stray, read_last, read_unmarked, read_marked, pieces_again, Ends, Stray, Last, Bad, Faulty, Found, pieces_found}
+use Rattle.bt_elements.proofs.Files.{angle, mark_cons, mark_no_text, text_before, after_text, read_stray, read_last, read_unmarked, read_marked, pieces_again, Ends, Stray, Last, Bad, Faulty, Found, pieces_found}
 use Rattle.bt_elements.proofs.Standings.{standing, holds_same, Agrees, mark_agrees, run_faultless, faultless_run}
 
 -- the byte order mark and the rest are the file
@@ -88,7 +88,7 @@ alone : (text : List ℕ) → list_all is_text_byte text ≡ true → (take (tex
 alone text is =
     let e = append-nil text in (
       ap (λ (z : List ℕ). take (text_len z) z) (sym e) ∙ text_before text [] is refl,
-      ap (λ (z : List ℕ). drop (text_len z) z) (sym e) ∙ behind_text text [] is refl,
+      ap (λ (z : List ℕ). drop (text_len z) z) (sym e) ∙ after_text text [] is refl,
     )
 
 -- what is spelled is read
@@ -178,9 +178,9 @@ record NextFaulty (at : ℕ) (s : Standing) (text rest : List ℕ) (fault : Elem
   is_next : IsNext rest next
   is : next_fault s at text next ≡ Some fault
 
-hold_fault : (s : Standing) (at : ℕ) (text : List ℕ) (next : Next) (fault : ElementFault) → may_hold s text ≡ true → fault_behind s (at + length text) next ≡ Some fault → next_fault s at text next ≡ Some fault
+hold_fault : (s : Standing) (at : ℕ) (text : List ℕ) (next : Next) (fault : ElementFault) → may_hold s text ≡ true → fault_after s (at + length text) next ≡ Some fault → next_fault s at text next ≡ Some fault
 hold_fault s at text next fault holds is =
-    ap (λ (b : Bool). if b then fault_behind s (at + length text) next else Some (StrayText (at + prefix_len is_white text))) holds ∙ is
+    ap (λ (b : Bool). if b then fault_after s (at + length text) next else Some (StrayText (at + prefix_len is_white text))) holds ∙ is
 
 next_faulty : (at total : ℕ) (st : State) (text rest : List ℕ) (fault : ElementFault) → IsState st.done st.stack → begins is_text_byte rest ≡ false → at + length (text ++ rest) ≡ total →
     Ends at total st text rest (Err fault) → NextFaulty at (standing st.done st.stack) text rest fault
@@ -191,7 +191,7 @@ next_faulty at total st text rest fault good edge place (Stray stands is) =
     record {
       next = next.0;
       is_next = next.1;
-      is = ap (λ (b : Bool). if b then fault_behind s (at + length text) next.0 else Some (StrayText (at + prefix_len is_white text))) (sym (holds_same st.stack st.done text good) ∙ stands)
+      is = ap (λ (b : Bool). if b then fault_after s (at + length text) next.0 else Some (StrayText (at + prefix_len is_white text))) (sym (holds_same st.stack st.done text good) ∙ stands)
           ∙ ap (λ (z : ElementFault). Some z) (sym f);
     }
 next_faulty at total st text rest fault good edge place (Last stands none is) =
@@ -260,31 +260,31 @@ faulty_step (Err f) s place m fault agrees h = ap (λ (z : ElementFault). Err z)
 
 -- what has a fault is read so
 next_read : (at total : ℕ) (st : State) (text rest : List ℕ) (next : Next) (fault : ElementFault) → IsState st.done st.stack → list_all is_text_byte text ≡ true → at + length (text ++ rest) ≡ total → IsNext rest next →
-    may_stand st text ≡ true → fault_behind (standing st.done st.stack) (at + length text) next ≡ Some fault → read_rest total st (text ++ rest) ≡ Err fault
+    may_stand st text ≡ true → fault_after (standing st.done st.stack) (at + length text) next ≡ Some fault → read_rest total st (text ++ rest) ≡ Err fault
 next_read at total st text rest (Marked m) fault good is place next stands wrong =
     let inner = drop 1 (mark_written m ++ next.1.0) in
     let edge = next_edge rest (Marked m) next in
     let cons : rest ≡ 60 ∷ inner = next.1.1 ∙ mark_cons m next.1.0 in
     let here : total - length (60 ∷ inner) ≡ at + length text = omega (arith, place, length-append text rest, ap length cons) in
     let fails = faulty_step (step st (at + length text) (said m)) (standing st.done st.stack) (at + length text) m fault (mark_agrees st.stack st.done (at + length text) m good) wrong in
-    read_marked total st (text ++ rest) 60 inner (said m) next.1.0 (ap (may_stand st) (text_before text rest is edge) ∙ stands) (behind_text text rest is edge ∙ cons) (mark_again m next.1.0 next.0)
+    read_marked total st (text ++ rest) 60 inner (said m) next.1.0 (ap (may_stand st) (text_before text rest is edge) ∙ stands) (after_text text rest is edge ∙ cons) (mark_again m next.1.0 next.0)
     ∙ ap (λ (n : ℕ). step st n (said m) >=> λ x. read_rest total x next.1.0) here ∙ ap (λ (r : Result State ElementFault). r >=> λ x. read_rest total x next.1.0) fails
 next_read at total st text rest Unmarked fault good is place next stands wrong =
     let inner = next.0.0 in
     let edge = next_edge rest Unmarked next in
     let none = unmarked inner (λ m more form e. next.1 m more form (next.0.1 ∙ e)) (mark_of inner) refl in
     let here : total - length (60 ∷ inner) ≡ at + length text = omega (arith, place, length-append text rest, ap length next.0.1) in
-    read_unmarked total st (text ++ rest) 60 inner (ap (may_stand st) (text_before text rest is edge) ∙ stands) (behind_text text rest is edge ∙ next.0.1) none
+    read_unmarked total st (text ++ rest) 60 inner (ap (may_stand st) (text_before text rest is edge) ∙ stands) (after_text text rest is edge ∙ next.0.1) none
     ∙ ap (λ (n : ℕ). Err (BadMark n)) here ∙ ap (λ (z : ElementFault). Err z) (some_inj (BadMark (at + length text)) fault wrong)
 next_read at total st text rest Over fault good is place next stands wrong =
     let edge = next_edge rest Over next in
     let end = no_more st.done st.stack (at + length text) fault wrong in
     let here : total ≡ at + length text = omega (arith, place, length-append text rest, ap length next) in
-    read_last total st (text ++ rest) (ap (may_stand st) (text_before text rest is edge) ∙ stands) (behind_text text rest is edge ∙ next)
+    read_last total st (text ++ rest) (ap (may_stand st) (text_before text rest is edge) ∙ stands) (after_text text rest is edge ∙ next)
     ∙ ap (λ (d : Option Element). ended_by d total) end.0 ∙ ap (λ (n : ℕ). Err (Unmatched n)) here ∙ ap (λ (z : ElementFault). Err z) end.1
 
 text_read : (at total : ℕ) (st : State) (text rest : List ℕ) (next : Next) (fault : ElementFault) → IsState st.done st.stack → list_all is_text_byte text ≡ true → at + length (text ++ rest) ≡ total → IsNext rest next →
-    (b : Bool) → may_stand st text ≡ b → (if b then fault_behind (standing st.done st.stack) (at + length text) next else Some (StrayText (at + prefix_len is_white text))) ≡ Some fault → read_rest total st (text ++ rest) ≡ Err fault
+    (b : Bool) → may_stand st text ≡ b → (if b then fault_after (standing st.done st.stack) (at + length text) next else Some (StrayText (at + prefix_len is_white text))) ≡ Some fault → read_rest total st (text ++ rest) ≡ Err fault
 text_read at total st text rest next fault good is place is_next true stands wrong = next_read at total st text rest next fault good is place is_next stands wrong
 text_read at total st text rest next fault good is place is_next false stands wrong =
     let before = text_before text rest is (next_edge rest next is_next) in
@@ -305,7 +305,7 @@ fault_read bytes fault f =
     let wrong : next_fault (standing st.done st.stack) place f.text f.next ≡ Some fault = ap (λ (s : Standing). next_fault s place f.text f.next) run_to.2.standing ∙ f.is in
     read_pieces bytes f.pieces (f.text ++ f.rest) st f.valid f.written run_to.1
     ∙ text_read place (length bytes) st f.text f.rest f.next fault run_to.2.good f.no_mark there f.is_next (may_stand st f.text) refl
-    (ap (λ (b : Bool). if b then fault_behind (standing st.done st.stack) (place + length f.text) f.next else Some (StrayText (place + prefix_len is_white f.text))) (holds_same st.stack st.done f.text run_to.2.good) ∙ wrong)
+    (ap (λ (b : Bool). if b then fault_after (standing st.done st.stack) (place + length f.text) f.next else Some (StrayText (place + prefix_len is_white f.text))) (holds_same st.stack st.done f.text run_to.2.good) ∙ wrong)
 
 ok_same : (a b : Element) → ◌≡◌ {A = Result Element ElementFault} (Ok a) (Ok b) → a ≡ b
 ok_same a b h = cc

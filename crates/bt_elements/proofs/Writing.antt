@@ -20,7 +20,7 @@ use Rattle.bt_elements.proofs.Asides.{begins_is}
 use Rattle.bt_elements.proofs.Cuts.{cut_all, cut_before, cut_first, cut_order_mark, cut_within, quote_ascii, white_ascii}
 use Rattle.bt_elements.proofs.Marks.{attribute_spread, from_name}
 use Rattle.bt_elements.proofs.Nesting.{tags_of-roll, tags_of_all}
-use Rattle.bt_elements.proofs.References.{ampersand, ampersand_utf8, behind_ampersand, behind_reference, cut_here, decoded_marked, decoded_past, decoded_plain, reference_ends}
+use Rattle.bt_elements.proofs.References.{ampersand, ampersand_utf8, after_ampersand, after_reference, cut_here, decoded_marked, decoded_past, decoded_plain, reference_ends}
 
 -- ---- What a value says has no byte 0
 
@@ -48,14 +48,14 @@ encoded c false h some =
 
 marked_some :
     (c : ℕ) (cs : List ℕ) (o : Option (ℕ × ℕ)) → reference_of cs ≡ o → is_not_zero c ≡ true → ((m : ℕ) → list_all is_not_zero (decoded_from m cs) ≡ true) →
-    list_all is_not_zero (behind_ampersand cs c o) ≡ true
+    list_all is_not_zero (after_ampersand cs c o) ≡ true
 marked_some c cs None is some rest = both_true some (rest 0)
 marked_some c cs (Some r) is some rest =
     list_all-append is_not_zero (encode_utf8 r.0) (decoded_from r.1 cs) ∙ both_true (encoded r.0 (nat_lt r.0 128) refl (reference_ends cs r is).some) (rest r.1)
 
 byte_some :
     (c : ℕ) (cs : List ℕ) (plain : Bool) → is_not_zero c ≡ true → ((m : ℕ) → list_all is_not_zero (decoded_from m cs) ≡ true) →
-    list_all is_not_zero (if plain then c ∷ decoded_from 0 cs else behind_ampersand cs c (reference_of cs)) ≡ true
+    list_all is_not_zero (if plain then c ∷ decoded_from 0 cs else after_ampersand cs c (reference_of cs)) ≡ true
 byte_some c cs true some rest = both_true some (rest 0)
 byte_some c cs false some rest = marked_some c cs (reference_of cs) refl some rest
 
@@ -76,18 +76,18 @@ marked_utf8 k (c ∷ cs) rest short edge u = by_reference (reference_of cs) refl
     is_ampersand : c ≡ 38
     is_ampersand = ampersand c cs (c ∷ cs) edge refl
 
-    behind_utf8 : IsUtf8 cs
-    behind_utf8 = cut_first c cs (let e = is_ampersand in omega arith) u
+    after_utf8 : IsUtf8 cs
+    after_utf8 = cut_first c cs (let e = is_ampersand in omega arith) u
 
     by_reference : (o : Option (ℕ × ℕ)) → reference_of cs ≡ o → IsUtf8 (decoded (c ∷ cs))
     by_reference None is =
         subst IsUtf8 (sym (decoded_marked c cs None edge is))
-        (IsUtf8-append (c ∷ []) (decoded cs) (subst (λ (b : ℕ). IsUtf8 (b ∷ [])) (sym is_ampersand) ampersand_utf8) (rest cs (omega arith) behind_utf8))
+        (IsUtf8-append (c ∷ []) (decoded cs) (subst (λ (b : ℕ). IsUtf8 (b ∷ [])) (sym is_ampersand) ampersand_utf8) (rest cs (omega arith) after_utf8))
     by_reference (Some r) is =
-        let behind = behind_reference cs r is in
+        let following = after_reference cs r is in
         let whole : decoded (c ∷ cs) ≡ encode_utf8 r.0 ++ decoded (drop r.1 cs) =
         decoded_marked c cs (Some r) edge is ∙ ap (λ (z : List ℕ). encode_utf8 r.0 ++ z) (decoded_past r.1 cs) in
-        subst IsUtf8 (sym whole) (IsUtf8-append (encode_utf8 r.0) (decoded (drop r.1 cs)) behind.2 (rest (drop r.1 cs) (omega (arith, length-drop r.1 cs)) (behind.1 behind_utf8)))
+        subst IsUtf8 (sym whole) (IsUtf8-append (encode_utf8 r.0) (decoded (drop r.1 cs)) following.2 (rest (drop r.1 cs) (omega (arith, length-drop r.1 cs)) (following.1 after_utf8)))
 
 decoded_utf8 : (k : ℕ) (cs : List ℕ) → length cs ≤ k → IsUtf8 cs → IsUtf8 (decoded cs)
 decoded_utf8 zero [] short u = IsUtf8-nil
@@ -174,11 +174,11 @@ TagStands (Ending inside name) = Unit {0}
 opening_stands : (o : Opening) (rest : List ℕ) → IsOpening o → begins is_ascii rest ≡ true → IsUtf8 (opening_written o ++ rest) →
     (name_stands o.name ≡ true) × (list_all can_stand (pairs_of o.attributes) ≡ true)
 opening_stands o rest i h u =
-    let behind = o.gap ++ rest in
-    let attributes = flat_map attribute_written o.attributes ++ behind in
+    let following = o.gap ++ rest in
+    let attributes = flat_map attribute_written o.attributes ++ following in
     let spread : opening_written o ++ rest ≡ o.name ++ attributes = simp append_assoc in
-    let name = cut_before o.name attributes (attributes_begin o.attributes behind i.attributes (white_begins o.gap rest i.gap h)) (subst IsUtf8 spread u) in
-    (both_true i.name (is_utf8-from_IsUtf8 o.name name.0), attributes_stand o.attributes behind i.attributes name.1)
+    let name = cut_before o.name attributes (attributes_begin o.attributes following i.attributes (white_begins o.gap rest i.gap h)) (subst IsUtf8 spread u) in
+    (both_true i.name (is_utf8-from_IsUtf8 o.name name.0), attributes_stand o.attributes following i.attributes name.1)
 
 begin_stands : (inside : Bool) (place : ℕ) (o : Opening) (end rest : List ℕ) → IsOpening o → no_name_twice (pairs_of o.attributes) ≡ true → begins is_ascii (end ++ rest) ≡ true →
     IsUtf8 (60 ∷ ((opening_written o ++ end) ++ rest)) → TagStands (Begin inside place o.name (pairs_of o.attributes))
@@ -201,8 +201,8 @@ mark_end (End name gap) = (60 ∷ 47 ∷ (name ++ gap), ap (λ (z : List ℕ). 6
 mark_end (Instruction body) = (60 ∷ 63 ∷ (body ++ 63 ∷ []), ap (λ (z : List ℕ). 60 ∷ 63 ∷ z) (sym (append_assoc body (63 ∷ []) (62 ∷ []))))
 mark_end (Comment body) = (60 ∷ 33 ∷ 45 ∷ 45 ∷ (body ++ 45 ∷ 45 ∷ []), ap (λ (z : List ℕ). 60 ∷ 33 ∷ 45 ∷ 45 ∷ z) (sym (append_assoc body (45 ∷ 45 ∷ []) (62 ∷ []))))
 
-behind_mark : (m : Mark) (rest : List ℕ) → IsUtf8 (mark_written m ++ rest) → IsUtf8 rest
-behind_mark m rest u =
+following_mark : (m : Mark) (rest : List ℕ) → IsUtf8 (mark_written m ++ rest) → IsUtf8 rest
+following_mark m rest u =
     let e = mark_end m in
     cut_within e.0 (62 ∷ []) rest (omega arith) refl (subst IsUtf8 (ap (λ (z : List ℕ). z ++ rest) e.1 ∙ append_assoc e.0 (62 ∷ []) rest) u)
 
@@ -231,7 +231,7 @@ tags_stand at (p ∷ ps) last tags valid h u =
     subst (AllByRecursion TagStands) (sym h.3)
     (all_joined TagStands (tags_of_mark (inside_before tags) (at + length p.text) p.mark) h.0
     (mark_stands (inside_before tags) (at + length p.text) p.mark tail valid.0.mark h.2 marked)
-    (tags_stand (at + length (p.text ++ mark_written p.mark)) ps last h.0 valid.1 h.4 (behind_mark p.mark tail marked)))
+    (tags_stand (at + length (p.text ++ mark_written p.mark)) ps last h.0 valid.1 h.4 (following_mark p.mark tail marked)))
 
 -- ---- The element
 
@@ -262,12 +262,12 @@ whole_stands y inside h =
 element_stands : (e : Element) → Claim e
 element_stands = ind-Element Claim (λ x y is. subst (λ (z : Element-F Element). Claim (roll-Element z)) is (whole_stands y))
 
-behind_order_mark : (bytes : List ℕ) (b : Bool) → begins_with (0xEF ∷ 0xBB ∷ 0xBF ∷ []) bytes ≡ b → IsUtf8 bytes → IsUtf8 (drop (if b then 3 else 0) bytes)
-behind_order_mark bytes true h u = cut_order_mark bytes (drop 3 bytes) (begins_is (0xEF ∷ 0xBB ∷ 0xBF ∷ []) bytes h) u
-behind_order_mark bytes false h u = u
+after_order_mark : (bytes : List ℕ) (b : Bool) → begins_with (0xEF ∷ 0xBB ∷ 0xBF ∷ []) bytes ≡ b → IsUtf8 bytes → IsUtf8 (drop (if b then 3 else 0) bytes)
+after_order_mark bytes true h u = cut_order_mark bytes (drop 3 bytes) (begins_is (0xEF ∷ 0xBB ∷ 0xBF ∷ []) bytes h) u
+after_order_mark bytes false h u = u
 
 -- what some bytes spell can be written
 pub spelled_stands : (bytes : List ℕ) (e : Element) → Spells bytes e → can_be_written e ≡ true
 spelled_stands bytes e s =
-    let rest = behind_order_mark bytes (begins_with (0xEF ∷ 0xBB ∷ 0xBF ∷ []) bytes) refl s.utf8 in
+    let rest = after_order_mark bytes (begins_with (0xEF ∷ 0xBB ∷ 0xBF ∷ []) bytes) refl s.utf8 in
     element_stands e false (tags_stand (order_mark_len bytes) s.pieces s.last (tags_of e false) s.valid s.nested (subst IsUtf8 s.written rest))

@@ -14,34 +14,34 @@ use Rattle.bt_elements.specs.Elements.{is_models, Piece, piece_written, pieces_w
 -- where marks and texts stand: in these elements, which are named the innermost first, or after the document element
 pub data Standing : Type 0 where
   In : (names : List (List ℕ)) → Standing
-  Behind : Standing
+  After : Standing
 
 -- after an element that stands in these
 abbrev pub ended_in : List (List ℕ) → Standing
-ended_in [] = Behind
+ended_in [] = After
 ended_in (name ∷ names) = In (name ∷ names)
 
 -- the standing after a mark that has no fault
-abbrev pub behind_mark : Standing → Mark → Standing
-behind_mark (In names) (Start o) = In (o.name ∷ names)
-behind_mark (In names) (Empty o) = ended_in names
-behind_mark (In names) (End name gap) = ended_in (drop 1 names)
-behind_mark s _ = s
+abbrev pub following_mark : Standing → Mark → Standing
+following_mark (In names) (Start o) = In (o.name ∷ names)
+following_mark (In names) (Empty o) = ended_in names
+following_mark (In names) (End name gap) = ended_in (drop 1 names)
+following_mark s _ = s
 
 -- the standing after these pieces
-abbrev pub behind_pieces : Standing → List Piece → Standing
-behind_pieces s [] = s
-behind_pieces s (p ∷ ps) = behind_pieces (behind_mark s p.mark) ps
+abbrev pub after_pieces : Standing → List Piece → Standing
+after_pieces s [] = s
+after_pieces s (p ∷ ps) = after_pieces (following_mark s p.mark) ps
 
 -- whether text may stand there: white space, and inside of models any text
 abbrev pub may_hold : Standing → List ℕ → Bool
 may_hold (In names) text = list_any is_models names || list_all is_white text
-may_hold Behind text = list_all is_white text
+may_hold After text = list_all is_white text
 
 -- the fault of an element that begins at this place
 abbrev pub nesting_fault : Standing → ℕ → Option ElementFault
 nesting_fault (In names) place = if nat_lt (length names) 258 then None else Some (TooDeep place)
-nesting_fault Behind place = Some (Unmatched place)
+nesting_fault After place = Some (Unmatched place)
 
 -- the fault of an end mark: it names the innermost element
 abbrev pub end_fault : Standing → ℕ → List ℕ → Option ElementFault
@@ -58,7 +58,7 @@ mark_fault s place _ = None
 -- the fault of the file's end
 abbrev pub last_fault : Standing → ℕ → Option ElementFault
 last_fault (In names) place = Some (Unmatched place)
-last_fault Behind place = None
+last_fault After place = None
 
 -- what follows a text: a mark in one of the forms, a `<` that begins none, or the file's end
 pub data Next : Type 0 where
@@ -73,21 +73,21 @@ IsNext rest Unmarked = ((inner : List ℕ) × (rest ≡ 60 ∷ inner)) × ((m : 
 IsNext rest Over = rest ≡ []
 
 -- the fault of what follows a text
-abbrev pub fault_behind : Standing → ℕ → Next → Option ElementFault
-fault_behind s place (Marked m) = mark_fault s place m
-fault_behind s place Unmarked = Some (BadMark place)
-fault_behind s place Over = last_fault s place
+abbrev pub fault_after : Standing → ℕ → Next → Option ElementFault
+fault_after s place (Marked m) = mark_fault s place m
+fault_after s place Unmarked = Some (BadMark place)
+fault_after s place Over = last_fault s place
 
 -- the fault of a text at this offset, or else of what follows it
 abbrev pub next_fault : Standing → ℕ → List ℕ → Next → Option ElementFault
 next_fault s at text next =
-    if may_hold s text then fault_behind s (at + length text) next else Some (StrayText (at + prefix_len is_white text))
+    if may_hold s text then fault_after s (at + length text) next else Some (StrayText (at + prefix_len is_white text))
 
 -- whether none of these pieces, from this offset on, has a fault
 abbrev pub faultless : Standing → ℕ → List Piece → Bool
 faultless s at [] = true
 faultless s at (p ∷ ps) =
-    is_none (next_fault s at p.text (Marked p.mark)) && faultless (behind_mark s p.mark) (at + length (piece_written p)) ps
+    is_none (next_fault s at p.text (Marked p.mark)) && faultless (following_mark s p.mark) (at + length (piece_written p)) ps
 
 -- Pieces without a fault, a text after them, and what stands next, of which one has the fault.
 pub record FirstFault (bytes : List ℕ) (fault : ElementFault) : Type 0 where
@@ -100,7 +100,7 @@ pub record FirstFault (bytes : List ℕ) (fault : ElementFault) : Type 0 where
   pub is_next : IsNext rest next
   pub written : drop (order_mark_len bytes) bytes ≡ pieces_written pieces ++ (text ++ rest)
   pub before : IsTrue (faultless (In []) (order_mark_len bytes) pieces)
-  pub is : next_fault (behind_pieces (In []) pieces) (order_mark_len bytes + length (pieces_written pieces)) text next ≡ Some fault
+  pub is : next_fault (after_pieces (In []) pieces) (order_mark_len bytes + length (pieces_written pieces)) text next ≡ Some fault
 
 -- The fault of the bytes. A file that is not UTF-8 has the length of its longest prefix that is.
 abbrev pub ElementFaultOf : List ℕ → ElementFault → Type 0

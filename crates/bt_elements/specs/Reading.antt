@@ -44,9 +44,9 @@ begins p [] = false
 begins p (b ∷ bs) = p b
 
 -- the bytes after this one
-abbrev pub behind : ℕ → List ℕ → Option (List ℕ)
-behind c [] = None
-behind c (b ∷ bs) = if b == c then Some bs else None
+abbrev pub following : ℕ → List ℕ → Option (List ℕ)
+following c [] = None
+following c (b ∷ bs) = if b == c then Some bs else None
 
 -- the name at the front, and what follows it
 abbrev pub name_of : List ℕ → Option (List ℕ × List ℕ)
@@ -55,21 +55,21 @@ name_of bytes =
     if begins is_name_first bytes then Some (take n bytes, drop n bytes) else None
 
 -- what a value says that comes after this quote, and what follows it
-abbrev pub value_behind : ℕ → List ℕ → Option (List ℕ × List ℕ)
-value_behind quote bytes =
+abbrev pub value_after : ℕ → List ℕ → Option (List ℕ × List ℕ)
+value_after quote bytes =
     let n = prefix_len (is_value_byte quote) bytes in
-    option_map (λ rest. (decoded (take n bytes), rest)) (behind quote (drop n bytes))
+    option_map (λ rest. (decoded (take n bytes), rest)) (following quote (drop n bytes))
 
 -- what the quoted value at the front says, and what follows it
 abbrev pub value_of : List ℕ → Option (List ℕ × List ℕ)
 value_of [] = None
-value_of (c ∷ cs) = if is_quote c then value_behind c cs else None
+value_of (c ∷ cs) = if is_quote c then value_after c cs else None
 
 -- the attribute at the front, and what follows it
 abbrev pub attribute_of : List ℕ → Option ((List ℕ × List ℕ) × List ℕ)
 attribute_of bytes =
     name_of bytes >>= λ name.
-    behind 61 (after_white name.1) >>= λ equal.
+    following 61 (after_white name.1) >>= λ equal.
     value_of (after_white equal) >>= λ value.
     Some ((name.0, value.0), value.1)
 
@@ -97,7 +97,7 @@ abbrev pub closing : Front → List ℕ → Option (Mark × List ℕ)
 closing o [] = None
 closing o (c ∷ cs) =
     if c == 62 then Some (Start o, cs)
-    else if c == 47 then option_map (λ rest. (Empty o, rest)) (behind 62 cs) else None
+    else if c == 47 then option_map (λ rest. (Empty o, rest)) (following 62 cs) else None
 
 -- a start mark or an empty mark, and what follows it
 abbrev pub opening_of : List ℕ → Option (Mark × List ℕ)
@@ -107,22 +107,22 @@ opening_of bytes = front_of bytes >>= λ o. closing o.0 o.1
 abbrev pub end_of : List ℕ → Option (Mark × List ℕ)
 end_of bytes =
     name_of bytes >>= λ name.
-    option_map (λ rest. (End name.0, rest)) (behind 62 (after_white name.1))
+    option_map (λ rest. (End name.0, rest)) (following 62 (after_white name.1))
 
 -- the bytes after the first of these words, before which no byte is 0
-abbrev pub behind_first : List ℕ → List ℕ → Option (List ℕ)
-behind_first word [] = None
-behind_first word (c ∷ cs) =
+abbrev pub following_first : List ℕ → List ℕ → Option (List ℕ)
+following_first word [] = None
+following_first word (c ∷ cs) =
     if begins_with word (c ∷ cs) then Some (drop (length word) (c ∷ cs))
-    else if c == 0 then None else behind_first word cs
+    else if c == 0 then None else following_first word cs
 
 -- an instruction or a comment with this ending, and what follows it
 abbrev pub aside_of : List ℕ → List ℕ → Option (Mark × List ℕ)
-aside_of ending bytes = option_map (λ rest. (Aside, rest)) (behind_first ending bytes)
+aside_of ending bytes = option_map (λ rest. (Aside, rest)) (following_first ending bytes)
 
 -- the mark after a `<!`
 abbrev pub comment_of : List ℕ → Option (Mark × List ℕ)
-comment_of bytes = behind 45 bytes >>= λ one. behind 45 one >>= λ two. aside_of comment_end two
+comment_of bytes = following 45 bytes >>= λ one. following 45 one >>= λ two. aside_of comment_end two
 
 -- the mark after a `<`
 abbrev pub mark_of : List ℕ → Option (Mark × List ℕ)

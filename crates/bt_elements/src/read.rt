@@ -10,7 +10,7 @@ ghost use Rattle.bt_elements.specs.Reading.{GivesAs, mark_at, read};
 use crate::element::{Element, ElementFault, Elements};
 use crate::mark::{Mark, NoMark};
 use crate::nest::Nest;
-use crate::scan::{mark_behind, text_at, white_len};
+use crate::scan::{next_mark, text_at, white_len};
 use bt_script::Stop;
 use std::alloc::Global;
 
@@ -58,7 +58,7 @@ fn utf8_fault(bytes: &[u8]) -> Option<u32>
 }
 
 /// What follows a byte order mark at the front, or all where there is none.
-fn behind_order_mark(bytes: &[u8]) -> &[u8]
+fn after_order_mark(bytes: &[u8]) -> &[u8]
     requires { IsUtf8 bytes.now }
     ensures value { result.now ≡ drop (order_mark_len bytes.now) bytes.now }
     ensures within { length result.now ≤ length bytes.now }
@@ -79,7 +79,7 @@ fn mark_after(alloc: Global, bytes: &[u8], place: u32) -> Result<(Mark, &[u8]), 
     ensures within { IfOk result (λ x. length x.1.now ≤ length bytes.now) }
     ensures utf8 { IfOk result (λ x. IsUtf8 x.1.now) }
 {
-    match mark_behind(alloc, bytes) {
+    match next_mark(alloc, bytes) {
         Ok(found) => Ok(found),
         Err(Stop::Fault(NoMark)) => Err(Stop::Fault(ElementFault::BadMark { place })),
         Err(Stop::NoMemory) => Err(Stop::NoMemory),
@@ -93,7 +93,7 @@ fn document(alloc: Global, bytes: &[u8]) -> Result<Element, Stop<ElementFault>>
     ensures { Gives result (read bytes.now) }
 {
     let mut nest = Nest::new(alloc);
-    let mut rest = behind_order_mark(bytes);
+    let mut rest = after_order_mark(bytes);
     'marks: loop {
         let (text, marks) = text_at(rest);
         if !nest.allows(text) {

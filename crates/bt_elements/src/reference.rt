@@ -15,7 +15,7 @@ fn plain_byte(c: u8) -> bool
 }
 
 /// How many bytes stand before the first `&`.
-#[tactic(auto, using(crate::proofs::Fronts::fronts))]
+#[tactic(auto, using(crate::proofs::Prefixes::prefixes))]
 fn plain_len(bytes: &[u8]) -> usize
     ensures value { result ≡ prefix_len is_plain_byte bytes.now }
     ensures within { result ≤ length bytes.now }
@@ -32,7 +32,7 @@ fn digit(c: u8, base: u32) -> bool
 }
 
 /// How many digits of this base stand at the front.
-#[tactic(auto, using(crate::proofs::Fronts::fronts))]
+#[tactic(auto, using(crate::proofs::Prefixes::prefixes))]
 fn digits_len(bytes: &[u8], base: u32) -> usize
     requires { (2 ≤ base) × (base ≤ 16) }
     ensures value { result ≡ prefix_len (λ c. is_digit c base) bytes.now }
@@ -120,18 +120,18 @@ pub fn decode(alloc: Global, value: &[u8]) -> Result<Name, NoMemory>
     'parts: loop {
         let (plain, marked) = rest.split_at(plain_len(rest));
         said.extend_from_slice(plain)?;
-        let Some((_, behind)) = marked.split_first() else {
+        let Some((_, following)) = marked.split_first() else {
             return Ok(Name::of(said));
         };
-        match reference_at(behind) {
+        match reference_at(following) {
             Some((c, len)) => {
                 push(&mut said, c)?;
-                let (_, more) = behind.split_at(len);
+                let (_, more) = following.split_at(len);
                 rest = more;
             }
             None => {
                 said.push(b'&')?;
-                rest = behind;
+                rest = following;
             }
         }
     }

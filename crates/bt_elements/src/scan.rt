@@ -5,7 +5,7 @@ ghost use Rattle.std.specs.Str.{bytes_eq};
 ghost use Rattle.bt_script.specs.Identifiers as identifiers;
 ghost use Rattle.bt_elements.specs.Marks.{is_name_first, is_name_rest, is_quote, is_value_byte, instruction_end, comment_end, no_name_twice};
 ghost use Rattle.bt_elements.specs.Elements.{is_text_byte};
-ghost use Rattle.bt_elements.specs.Reading.{Scans, after_white, begins, behind, behind_first, name_of, value_behind, value_of, attribute_of, attribute_begins, attributes_of, front_of, closing, opening_of, end_of, aside_of, comment_of, mark_of, text_len};
+ghost use Rattle.bt_elements.specs.Reading.{Scans, after_white, begins, following, following_first, name_of, value_after, value_of, attribute_of, attribute_begins, attributes_of, front_of, closing, opening_of, end_of, aside_of, comment_of, mark_of, text_len};
 
 use crate::mark::{Front, Mark, NoMark};
 use crate::reference::decode;
@@ -53,7 +53,7 @@ pub fn all_white(bytes: &[u8]) -> bool
 }
 
 /// How many bytes of white space stand at the front.
-#[tactic(auto, using(crate::proofs::Fronts::fronts))]
+#[tactic(auto, using(crate::proofs::Prefixes::prefixes))]
 pub fn white_len(bytes: &[u8]) -> usize
     ensures value { result ≡ prefix_len identifiers.is_white bytes.now }
     ensures within { result ≤ length bytes.now }
@@ -62,7 +62,7 @@ pub fn white_len(bytes: &[u8]) -> usize
 }
 
 /// How many bytes at the front may stand in a name.
-#[tactic(auto, using(crate::proofs::Fronts::fronts))]
+#[tactic(auto, using(crate::proofs::Prefixes::prefixes))]
 fn name_len(bytes: &[u8]) -> usize
     ensures value { result ≡ prefix_len is_name_rest bytes.now }
     ensures within { result ≤ length bytes.now }
@@ -71,7 +71,7 @@ fn name_len(bytes: &[u8]) -> usize
 }
 
 /// How many bytes at the front may stand in a value between two such quotes.
-#[tactic(auto, using(crate::proofs::Fronts::fronts))]
+#[tactic(auto, using(crate::proofs::Prefixes::prefixes))]
 fn value_len(quote: u8, bytes: &[u8]) -> usize
     ensures value { result ≡ prefix_len (is_value_byte quote) bytes.now }
     ensures within { result ≤ length bytes.now }
@@ -87,7 +87,7 @@ fn text_byte(c: u8) -> bool
 }
 
 /// How many bytes stand before the first `<`.
-#[tactic(auto, using(crate::proofs::Fronts::fronts))]
+#[tactic(auto, using(crate::proofs::Prefixes::prefixes))]
 fn text_length(bytes: &[u8]) -> usize
     ensures value { result ≡ text_len bytes.now }
     ensures within { result ≤ length bytes.now }
@@ -120,7 +120,7 @@ fn white_at(bytes: &[u8]) -> &[u8]
 fn byte_at(bytes: &[u8], c: u8) -> Result<&[u8], Stop<NoMark>>
     requires utf8 { IsUtf8 bytes.now }
     requires ascii { c < 128 }
-    ensures read { Scans (λ rest. rest.now) result (behind c bytes.now) }
+    ensures read { Scans (λ rest. rest.now) result (following c bytes.now) }
     ensures within { IfOk result (λ rest. length rest.now < length bytes.now) }
     ensures utf8 { IfOk result (λ rest. IsUtf8 rest.now) }
 {
@@ -170,10 +170,10 @@ fn name_at(alloc: Global, bytes: &[u8]) -> Result<(Name, &[u8]), Stop<NoMark>>
 }
 
 /// What the value says that comes after this quote, and what follows it.
-fn value_behind(alloc: Global, quote: u8, bytes: &[u8]) -> Result<(Name, &[u8]), Stop<NoMark>>
+fn value_after(alloc: Global, quote: u8, bytes: &[u8]) -> Result<(Name, &[u8]), Stop<NoMark>>
     requires utf8 { IsUtf8 bytes.now }
     requires ascii { quote < 128 }
-    ensures read { Scans (λ x. (x.0, x.1.now)) result (value_behind quote bytes.now) }
+    ensures read { Scans (λ x. (x.0, x.1.now)) result (value_after quote bytes.now) }
     ensures within { IfOk result (λ x. length x.1.now < length bytes.now) }
     ensures utf8 { IfOk result (λ x. IsUtf8 x.1.now) }
 {
@@ -196,7 +196,7 @@ fn value_at(alloc: Global, bytes: &[u8]) -> Result<(Name, &[u8]), Stop<NoMark>>
     if !quote(*c) {
         return Err(Stop::Fault(NoMark));
     }
-    value_behind(alloc, *c, rest)
+    value_after(alloc, *c, rest)
 }
 
 /// The attribute at the front, and what follows it.
@@ -343,7 +343,7 @@ fn passed_byte(first: u8, c: u8) -> bool
 }
 
 /// How many bytes come before the first 0 or first byte of the ending, where they are few.
-#[tactic(auto, using(crate::proofs::Fronts::fronts))]
+#[tactic(auto, using(crate::proofs::Prefixes::prefixes))]
 fn passed_near(first: u8, bytes: &[u8]) -> usize
     ensures value { result ≡ prefix_len (λ c. not (c == first || c == 0)) bytes.now }
     ensures within { result ≤ length bytes.now }
@@ -379,7 +379,7 @@ fn passed_len(first: u8, bytes: &[u8]) -> usize
 /// The bytes from the first one on that is 0 or with which the ending may begin.
 fn skipped<'a>(bytes: &'a [u8], ending: &[u8]) -> &'a [u8]
     requires { 0 < length ending.now }
-    ensures read { behind_first ending.now result.now ≡ behind_first ending.now bytes.now }
+    ensures read { following_first ending.now result.now ≡ following_first ending.now bytes.now }
     ensures within { length result.now ≤ length bytes.now }
 {
     let (_, rest) = bytes.split_at(passed_len(ending[0], bytes));
@@ -391,7 +391,7 @@ fn ending_at<'a>(bytes: &'a [u8], ending: &[u8]) -> Result<&'a [u8], Stop<NoMark
     requires utf8 { IsUtf8 bytes.now }
     requires some { 0 < length ending.now }
     requires ascii { list_all is_ascii ending.now ≡ true }
-    ensures read { Scans (λ rest. rest.now) result (behind_first ending.now bytes.now) }
+    ensures read { Scans (λ rest. rest.now) result (following_first ending.now bytes.now) }
     ensures within { IfOk result (λ rest. length rest.now ≤ length bytes.now) }
     ensures utf8 { IfOk result (λ rest. IsUtf8 rest.now) }
 {
@@ -399,8 +399,8 @@ fn ending_at<'a>(bytes: &'a [u8], ending: &[u8]) -> Result<&'a [u8], Stop<NoMark
     'body: loop {
         let found = skipped(rest, ending);
         if found.starts_with(ending) {
-            let (_, behind) = found.split_at(ending.len());
-            return Ok(behind);
+            let (_, following) = found.split_at(ending.len());
+            return Ok(following);
         }
         let Some((c, more)) = found.split_first() else {
             return Err(Stop::Fault(NoMark));
@@ -437,7 +437,7 @@ fn comment_at(bytes: &[u8]) -> Result<(Mark, &[u8]), Stop<NoMark>>
 }
 
 /// The mark after its `<`, and what follows it.
-pub fn mark_behind(alloc: Global, bytes: &[u8]) -> Result<(Mark, &[u8]), Stop<NoMark>>
+pub fn next_mark(alloc: Global, bytes: &[u8]) -> Result<(Mark, &[u8]), Stop<NoMark>>
     requires { IsUtf8 bytes.now }
     ensures read { Scans (λ x. (x.0, x.1.now)) result (mark_of bytes.now) }
     ensures within { IfOk result (λ x. length x.1.now ≤ length bytes.now) }

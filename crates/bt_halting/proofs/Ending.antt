@@ -12,7 +12,7 @@ use Rattle.bt_model.specs.declared.status.Status.TheVariants.{Idle, Running}
 use Rattle.bt_model.specs.declared.term.Kind.{Kind}
 use Rattle.bt_model.specs.declared.term.Kind.TheVariants.{Leaf}
 use Rattle.bt_model.specs.declared.term.Term.{Term, out-Term}
-use Rattle.bt_model.specs.Done.{Done, State, behind, done, follow}
+use Rattle.bt_model.specs.Done.{Done, State, following, done, follow}
 use Rattle.bt_model.specs.Drivers.{is_held}
 use Rattle.bt_model.specs.Scripts.{script_if_there}
 use Rattle.bt_model.specs.Sites.{Site, View, remembered, sizes}
@@ -27,7 +27,7 @@ use Rattle.bt_arena.specs.Scenes.{Scene, marks_of, state_in}
 use Rattle.bt_arena.specs.Stands.{Beside, Stands, memories_of, memory_of, written}
 use Rattle.bt_arena.proofs.Opened.{opened}
 use Rattle.bt_arena.specs.Ends.{IsCut, Meets, StaysFit}
-use Rattle.bt_halting.specs.Halts.{leaf_let_go, rests}
+use Rattle.bt_halting.specs.Halts.{leaf_released, rests}
 use Rattle.bt_nodes.specs.Here.{site_at}
 use Rattle.bt_arena.proofs.Follows.{done_met, followed, stopped}
 use Rattle.bt_halting.proofs.Memories.{memory_above}
@@ -43,11 +43,11 @@ module _ (site : Site) (idle : Memory) where
 
   -- the end of a halt, made of its parts
   abbrev pub end_in_parts : Option ReadyLeaf → State → Done (Unit {0}) Memory
-  end_in_parts leaf s = follow (leaf_let_go leaf site.uid s) (λ _. idle) (λ _ _ s1. rested s1)
+  end_in_parts leaf s = follow (leaf_released leaf site.uid s) (λ _. idle) (λ _ _ s1. rested s1)
 
   abbrev halted_by : Kind → State → Done (Unit {0}) Memory
   halted_by k s =
-      behind (halt_notes k site.uid ++ Changed site.uid Running Idle ∷ []) (halt_calls k site.uid s)
+      following (halt_notes k site.uid ++ Changed site.uid Running Idle ∷ []) (halt_calls k site.uid s)
       (follow (script_if_there site site.node.guards.on_halted (halt_state k site.uid s)) (λ _. idle) (λ _ _ s1. done tt idle s1))
 
   no_leaf : (k : Kind) (s : State) → is_leaf k ≡ false → halted_by k s ≡ end_in_parts None s
@@ -76,18 +76,18 @@ module _ (nodes : List Node) (moment : ℕ) (t : Term) (view : View) (uid : ℕ)
   in_parts : (s : State) → halted site idle s ≡ end_in_parts site idle (leaf_at nodes uid) s
   in_parts s = is_in_parts site idle site.node.kind (leaf_at nodes uid) s view (written (out-Term t)) refl (node_of t nodes view uid stands).leaf
 
-  module _ (s0 s1 : Scene) (n0 n1 : List Note) (let_go : Meets nodes moment (λ (k : List Kept). tt) (Ok tt) s0 s1 n0 n1 (leaf_let_go (leaf_at nodes uid) uid (state_in nodes s0 moment))) where
+  module _ (s0 s1 : Scene) (n0 n1 : List Note) (released : Meets nodes moment (λ (k : List Kept). tt) (Ok tt) s0 s1 n0 n1 (leaf_released (leaf_at nodes uid) uid (state_in nodes s0 moment))) where
     abbrev Whole : Result (Unit {0}) (Stop NodeFault) → Scene → List Note → Type 0
     Whole r s n = Meets nodes moment (memory_of t uid) r s0 s n0 n (halted site idle (state_in nodes s0 moment))
 
-    behind_let_go : (r : Result (Unit {0}) (Stop NodeFault)) (s : Scene) (n : List Note) → Meets nodes moment (memory_of t uid) r s1 s n1 n (rested site idle (state_in nodes s1 moment)) → Whole r s n
-    behind_let_go r s n m =
+    after_released : (r : Result (Unit {0}) (Stop NodeFault)) (s : Scene) (n : List Note) → Meets nodes moment (memory_of t uid) r s1 s n1 n (rested site idle (state_in nodes s1 moment)) → Whole r s n
+    after_released r s n m =
         subst (λ (d : Done (Unit {0}) Memory). Meets nodes moment (memory_of t uid) r s0 s n0 n d) (sym (in_parts (state_in nodes s0 moment)))
-        (followed nodes moment (λ (k : List Kept). tt) (memory_of t uid) s0 s1 n0 n1 (leaf_let_go (leaf_at nodes uid) uid (state_in nodes s0 moment)) (λ _. idle) (λ _ _ s2. rested site idle s2) tt r s n let_go m)
+        (followed nodes moment (λ (k : List Kept). tt) (memory_of t uid) s0 s1 n0 n1 (leaf_released (leaf_at nodes uid) uid (state_in nodes s0 moment)) (λ _. idle) (λ _ _ s2. rested site idle s2) tt r s n released m)
 
     -- there is want of memory for the note of the status
     pub not_rested : (s2 : Scene) (n2 : List Note) → s2.drivers ≡ s1.drivers → n2 ≡ n1 → Whole (Err stop.NoMemory) s2 n2
-    not_rested s2 n2 called noted = behind_let_go (Err stop.NoMemory) s2 n2 (nothing_cut nodes s1 s2 n1 n2 (rested site idle (state_in nodes s1 moment)) called noted)
+    not_rested s2 n2 called noted = after_released (Err stop.NoMemory) s2 n2 (nothing_cut nodes s1 s2 n1 n2 (rested site idle (state_in nodes s1 moment)) called noted)
 
     module _ (s2 : Scene) (n2 : List Note) (same_board : s2.board ≡ s1.board) (same_facts : s2.facts ≡ s1.facts) (same_drivers : s2.drivers ≡ s1.drivers) (noted : n2 ≡ n1 ++ Changed uid Running Idle ∷ []) where
       same_state : state_in nodes s1 moment ≡ state_in nodes s2 moment
@@ -96,18 +96,18 @@ module _ (nodes : List Node) (moment : ℕ) (t : Term) (view : View) (uid : ℕ)
       rests_met : Meets nodes moment (λ (k : List Kept). tt) (Ok tt) s1 s2 n1 n2 (rests uid (state_in nodes s1 moment))
       rests_met = (record { answer = refl; memory = refl; state = same_state; notes = noted; drivers = same_drivers }, refl)
 
-      behind_rest : (r : Result (Unit {0}) (Stop NodeFault)) (s : Scene) (n : List Note) → Meets nodes moment (memory_of t uid) r s2 s n2 n (scripted site idle (state_in nodes s2 moment)) → Whole r s n
-      behind_rest r s n m = behind_let_go r s n (followed nodes moment (λ (k : List Kept). tt) (memory_of t uid) s1 s2 n1 n2 (rests uid (state_in nodes s1 moment)) (λ _. idle) (λ _ _ s3. scripted site idle s3) tt r s n rests_met m)
+      after_rest : (r : Result (Unit {0}) (Stop NodeFault)) (s : Scene) (n : List Note) → Meets nodes moment (memory_of t uid) r s2 s n2 n (scripted site idle (state_in nodes s2 moment)) → Whole r s n
+      after_rest r s n m = after_released r s n (followed nodes moment (λ (k : List Kept). tt) (memory_of t uid) s1 s2 n1 n2 (rests uid (state_in nodes s1 moment)) (λ _. idle) (λ _ _ s3. scripted site idle s3) tt r s n rests_met m)
 
       -- the script ran, or ended with a fault or for want of memory
       pub end_met : (r : Result (Unit {0}) (Stop NodeFault)) (s3 : Scene) (n3 : List Note) → idle ≡ memory_of t uid s3.kept →
           Meets nodes moment (λ (k : List Kept). tt) r s2 s3 n2 n3 (script_if_there site site.node.guards.on_halted (state_in nodes s2 moment)) → Whole r s3 n3
       end_met (Ok a) s3 n3 is m =
-          behind_rest (Ok a) s3 n3
+          after_rest (Ok a) s3 n3
           (followed nodes moment (λ (k : List Kept). tt) (memory_of t uid) s2 s3 n2 n3 (script_if_there site site.node.guards.on_halted (state_in nodes s2 moment)) (λ _. idle) (λ _ _ s4. done tt idle s4) tt (Ok a) s3 n3 m
           (subst (λ (k : Memory). Meets {A = Unit {0}} nodes moment (memory_of t uid) (Ok tt) s3 s3 n3 n3 (done tt k (state_in nodes s3 moment))) (sym is) (done_met nodes moment (memory_of t uid) tt s3 n3)))
       end_met (Err e) s3 n3 is m =
-          behind_rest (Err e) s3 n3
+          after_rest (Err e) s3 n3
           (stopped nodes moment (λ (k : List Kept). tt) (memory_of t uid) s2 s3 n2 n3 (script_if_there site site.node.guards.on_halted (state_in nodes s2 moment)) (λ _. idle) (λ _ _ s4. done tt idle s4) e is m)
 
 -- the memory of a node that has come to rest

@@ -9,7 +9,7 @@ use Rattle.bt_model.specs.declared.note.Note.{Note}
 use Rattle.bt_model.specs.declared.status.Status.{Status}
 use Rattle.bt_model.specs.declared.status.Status.TheVariants as status
 use Rattle.bt_model.specs.declared.term.Term.{Term, fold_out-Term, out-Term}
-use Rattle.bt_model.specs.Done.{Done, State, behind, done, follow}
+use Rattle.bt_model.specs.Done.{Done, State, following, done, follow}
 use Rattle.bt_model.specs.Sites.{Meaning, View, children_of, remembered}
 use Rattle.bt_model.specs.Steps.{resets}
 use Rattle.bt_model.specs.Visit.{change, cleared, halt, halted, meaning, meaning_of_node, reset_by}
@@ -52,7 +52,7 @@ module _ (t : Term) (view : View) (uid : ℕ) (kept : List Kept) (s : State) whe
   halt_is = ap (λ (m : Memory). halt (site_at view uid t) m s) (memory_out t uid kept) ∙ simp out-roll-Memory
 
   resting : (st : Status) → st ≢ status.Running → reset_by st (site_at view uid t) (remembered (kept_at kept uid).status (kept_at kept uid).memo ms) s ≡
-      behind (change uid st status.Idle) [] (done tt (remembered status.Idle (kept_at kept uid).memo ms) s)
+      following (change uid st status.Idle) [] (done tt (remembered status.Idle (kept_at kept uid).memo ms) s)
   resting status.Running other = absurd (other refl)
   resting status.Idle other = simp out-roll-Memory
   resting status.Success other = simp out-roll-Memory
@@ -60,7 +60,7 @@ module _ (t : Term) (view : View) (uid : ℕ) (kept : List Kept) (s : State) whe
 
   -- the reset of any other node: it becomes IDLE
   pub reset_of_resting : (kept_at kept uid).status ≢ status.Running → (meaning t).reset view uid (memory_of t uid kept) s ≡
-      behind (change uid (kept_at kept uid).status status.Idle) [] (done tt (remembered status.Idle (kept_at kept uid).memo ms) s)
+      following (change uid (kept_at kept uid).status status.Idle) [] (done tt (remembered status.Idle (kept_at kept uid).memo ms) s)
   reset_of_resting other = reset_is ∙ resting (kept_at kept uid).status other
 
 -- a change of a status names no call

@@ -10,8 +10,8 @@ use Rattle.bt_model.specs.declared.note.Note.{Note}
 use Rattle.bt_model.specs.declared.note.Note.TheVariants.{Quenched}
 use Rattle.bt_model.specs.Done.{Call}
 use Rattle.bt_model.specs.Drivers.{DriverState, instance_at, is_held, roster_halted}
-use Rattle.bt_model.specs.Leaf.{fresh, let_go}
-use Rattle.bt_model.specs.Run.{letting_go, quenched_notes}
+use Rattle.bt_model.specs.Leaf.{fresh, released}
+use Rattle.bt_model.specs.Run.{releases, quenched_notes}
 use Rattle.bt_arena.specs.declared.nodes.Kept.{Kept}
 use Rattle.bt_arena.specs.declared.nodes.Node.{Node}
 use Rattle.bt_arena.specs.declared.nodes.ReadyLeaf.{ReadyLeaf}
@@ -19,23 +19,23 @@ use Rattle.bt_arena.specs.Nodes.{at_rest, kept_at, leaf_at, nobody}
 use Rattle.bt_arena.specs.Rosters.{AreServed, has_driver, instances_of, leaf_instance, leaves_in, roster_after}
 use Rattle.bt_arena.specs.Scenes.{marks_of}
 use Rattle.bt_arena.proofs.Called.{instance_at_uid, instances_called, roster_after_both, roster_after_call}
-use Rattle.bt_halting.specs.Quenches.{letting_one}
+use Rattle.bt_halting.specs.Quenches.{releases_one}
 use Rattle.bt_halting.proofs.Marks.{mark_is}
 
 -- the calls of `halted` for the leaves from this uid on
 abbrev pub calls_left : List Node → ℕ → List DriverState → List Call
-calls_left nodes uid drivers = letting_go uid (drop uid (instances_of nodes drivers))
+calls_left nodes uid drivers = releases uid (drop uid (instances_of nodes drivers))
 
 -- the call of `halted` for an instance
 abbrev call_of : ℕ → Instance → Call
-call_of uid i = record { uid = uid; phase = phase.Halted; left = let_go i }
+call_of uid i = record { uid = uid; phase = phase.Halted; left = released i }
 
 -- ---- One instance
 
-one_held : (uid : ℕ) (i : Instance) → is_held i ≡ true → letting_one uid i ≡ call_of uid i ∷ []
+one_held : (uid : ℕ) (i : Instance) → is_held i ≡ true → releases_one uid i ≡ call_of uid i ∷ []
 one_held uid i held = ap (λ (b : Bool). if b then call_of uid i ∷ [] else []) held
 
-one_free : (uid : ℕ) (i : Instance) → is_held i ≡ false → letting_one uid i ≡ []
+one_free : (uid : ℕ) (i : Instance) → is_held i ≡ false → releases_one uid i ≡ []
 one_free uid i free = ap (λ (b : Bool). if b then call_of uid i ∷ [] else []) free
 
 since_free : (since : Option ℕ) → is_some since ≡ false → None ≡ since
@@ -43,16 +43,16 @@ since_free None free = refl
 since_free (Some n) free = cc
 
 -- an instance that is not held stays as it is
-pub let_go_free : (i : Instance) → is_held i ≡ false → let_go i ≡ i
-let_go_free i free = ap (λ (since : Option ℕ). let x : Instance = record { since = since; completions = i.completions } in x) (since_free i.since free)
+pub released_free : (i : Instance) → is_held i ≡ false → released i ≡ i
+released_free i free = ap (λ (since : Option ℕ). let x : Instance = record { since = since; completions = i.completions } in x) (since_free i.since free)
 
 -- the calls for some instances are that for the first, and those for the others
-letting_by : (uid : ℕ) (i : Instance) (is : List Instance) (b : Bool) → (if b then call_of uid i ∷ letting_go (uid + 1) is else letting_go (uid + 1) is) ≡ (if b then call_of uid i ∷ [] else []) ++ letting_go (uid + 1) is
-letting_by uid i is true = refl
-letting_by uid i is false = refl
+releases_by : (uid : ℕ) (i : Instance) (is : List Instance) (b : Bool) → (if b then call_of uid i ∷ releases (uid + 1) is else releases (uid + 1) is) ≡ (if b then call_of uid i ∷ [] else []) ++ releases (uid + 1) is
+releases_by uid i is true = refl
+releases_by uid i is false = refl
 
-letting_more : (uid : ℕ) (i : Instance) (is : List Instance) → letting_go uid (i ∷ is) ≡ letting_one uid i ++ letting_go (uid + 1) is
-letting_more uid i is = letting_by uid i is (is_some i.since)
+letting_more : (uid : ℕ) (i : Instance) (is : List Instance) → releases uid (i ∷ is) ≡ releases_one uid i ++ releases (uid + 1) is
+letting_more uid i is = releases_by uid i is (is_some i.since)
 
 -- ---- One leaf
 
@@ -62,18 +62,18 @@ module _ (nodes : List Node) (drivers : List DriverState) (uid : ℕ) where
 
   -- a leaf that is not held
   module _ (free : is_held instance_here ≡ false) where
-    pub free_drivers : drivers ≡ roster_after nodes (letting_one uid instance_here) drivers
+    pub free_drivers : drivers ≡ roster_after nodes (releases_one uid instance_here) drivers
     free_drivers = ap (λ (cs : List Call). roster_after nodes cs drivers) (sym (one_free uid instance_here free))
 
-    pub free_instances : instances_of nodes drivers ≡ slice_set (instances_of nodes drivers) uid (let_go instance_here)
+    pub free_instances : instances_of nodes drivers ≡ slice_set (instances_of nodes drivers) uid (released instance_here)
     free_instances =
         sym (set-get_or (instances_of nodes drivers) uid fresh)
-        ∙ ap (slice_set (instances_of nodes drivers) uid) (instance_at_uid nodes drivers uid ∙ sym (let_go_free instance_here free))
+        ∙ ap (slice_set (instances_of nodes drivers) uid) (instance_at_uid nodes drivers uid ∙ sym (released_free instance_here free))
 
-    pub free_notes : (runner : ℕ) (n : List Note) → n ≡ n ++ quenched_notes runner (letting_one uid instance_here)
+    pub free_notes : (runner : ℕ) (n : List Note) → n ≡ n ++ quenched_notes runner (releases_one uid instance_here)
     free_notes runner n = sym (append-nil n) ∙ ap (λ (cs : List Call). n ++ quenched_notes runner cs) (sym (one_free uid instance_here free))
 
-    pub free_length : length (letting_one uid instance_here) ≡ 0
+    pub free_length : length (releases_one uid instance_here) ≡ 0
     free_length = ap length (one_free uid instance_here free)
 
   -- a leaf that is held
@@ -81,22 +81,22 @@ module _ (nodes : List Node) (drivers : List DriverState) (uid : ℕ) where
     same : instance_here ≡ instance_at drivers leaf.driver leaf.instance
     same = ap (leaf_instance drivers) is
 
-    pub held_drivers : drivers1 ≡ roster_after nodes (letting_one uid instance_here) drivers
+    pub held_drivers : drivers1 ≡ roster_after nodes (releases_one uid instance_here) drivers
     held_drivers =
         halted
-        ∙ sym (roster_after_call nodes drivers uid leaf phase.Halted (let_go (instance_at drivers leaf.driver leaf.instance)) served is (call_of uid instance_here) [] refl refl (ap let_go same))
+        ∙ sym (roster_after_call nodes drivers uid leaf phase.Halted (released (instance_at drivers leaf.driver leaf.instance)) served is (call_of uid instance_here) [] refl refl (ap released same))
         ∙ ap (λ (cs : List Call). roster_after nodes cs drivers) (sym (one_held uid instance_here held))
 
-    pub held_instances : instances_of nodes drivers1 ≡ slice_set (instances_of nodes drivers) uid (let_go instance_here)
+    pub held_instances : instances_of nodes drivers1 ≡ slice_set (instances_of nodes drivers) uid (released instance_here)
     held_instances =
         ap (instances_of nodes) halted
-        ∙ instances_called nodes drivers uid leaf phase.Halted (let_go (instance_at drivers leaf.driver leaf.instance)) served is
-        ∙ ap (λ (i : Instance). slice_set (instances_of nodes drivers) uid (let_go i)) (sym same)
+        ∙ instances_called nodes drivers uid leaf phase.Halted (released (instance_at drivers leaf.driver leaf.instance)) served is
+        ∙ ap (λ (i : Instance). slice_set (instances_of nodes drivers) uid (released i)) (sym same)
 
-    pub held_notes : (runner : ℕ) (n n1 : List Note) → n1 ≡ n ++ Quenched runner uid ∷ [] → n1 ≡ n ++ quenched_notes runner (letting_one uid instance_here)
+    pub held_notes : (runner : ℕ) (n n1 : List Note) → n1 ≡ n ++ Quenched runner uid ∷ [] → n1 ≡ n ++ quenched_notes runner (releases_one uid instance_here)
     held_notes runner n n1 noted = noted ∙ ap (λ (cs : List Call). n ++ quenched_notes runner cs) (sym (one_held uid instance_here held))
 
-    pub held_length : length (letting_one uid instance_here) ≡ 1
+    pub held_length : length (releases_one uid instance_here) ≡ 1
     held_length = ap length (one_held uid instance_here held)
 
 -- ---- One round of the loop of a quench
@@ -113,7 +113,7 @@ has_leaf : (drivers : List DriverState) (o : Option ReadyLeaf) → is_held (leaf
 has_leaf drivers None held = cc
 has_leaf drivers (Some leaf) held = refl
 
-module _ (runner : ℕ) (nodes : List Node) (kept : List Kept) (drivers drivers1 : List DriverState) (uid : ℕ) (within : uid < length nodes) (marks : marks_of kept ≡ map is_held (instances_of nodes drivers)) (lets : instances_of nodes drivers1 ≡ slice_set (instances_of nodes drivers) uid (let_go (instance_here nodes drivers uid))) where
+module _ (runner : ℕ) (nodes : List Node) (kept : List Kept) (drivers drivers1 : List DriverState) (uid : ℕ) (within : uid < length nodes) (marks : marks_of kept ≡ map is_held (instances_of nodes drivers)) (lets : instances_of nodes drivers1 ≡ slice_set (instances_of nodes drivers) uid (released (instance_here nodes drivers uid))) where
   abbrev now : List Instance
   now = instances_of nodes drivers
 
@@ -121,54 +121,54 @@ module _ (runner : ℕ) (nodes : List Node) (kept : List Kept) (drivers drivers1
   inside = omega (arith, within, length-map nodes (λ (node : Node). leaf_instance drivers node.leaf))
 
   -- the calls still to come are that of this leaf, and those of the leaves after it
-  pub left_more : calls_left nodes uid drivers ≡ letting_one uid (instance_here nodes drivers uid) ++ calls_left nodes (uid + 1) drivers1
+  pub left_more : calls_left nodes uid drivers ≡ releases_one uid (instance_here nodes drivers uid) ++ calls_left nodes (uid + 1) drivers1
   left_more =
-      ap (letting_go uid) (drop_more now uid fresh inside)
+      ap (releases uid) (drop_more now uid fresh inside)
       ∙ letting_more uid (get_or now uid fresh) (drop (uid + 1) now)
-      ∙ ap (λ (i : Instance). letting_one uid i ++ letting_go (uid + 1) (drop (uid + 1) now)) (instance_at_uid nodes drivers uid)
-      ∙ ap (λ (l : List Instance). letting_one uid (instance_here nodes drivers uid) ++ letting_go (uid + 1) l)
-      (sym (drop-set-lt (uid + 1) now uid (let_go (instance_here nodes drivers uid)) (omega arith)) ∙ ap (drop (uid + 1)) (sym lets))
+      ∙ ap (λ (i : Instance). releases_one uid i ++ releases (uid + 1) (drop (uid + 1) now)) (instance_at_uid nodes drivers uid)
+      ∙ ap (λ (l : List Instance). releases_one uid (instance_here nodes drivers uid) ++ releases (uid + 1) l)
+      (sym (drop-set-lt (uid + 1) now uid (released (instance_here nodes drivers uid)) (omega arith)) ∙ ap (drop (uid + 1)) (sym lets))
 
-  pub drivers_more : drivers1 ≡ roster_after nodes (letting_one uid (instance_here nodes drivers uid)) drivers → roster_after nodes (calls_left nodes (uid + 1) drivers1) drivers1 ≡ roster_after nodes (calls_left nodes uid drivers) drivers
+  pub drivers_more : drivers1 ≡ roster_after nodes (releases_one uid (instance_here nodes drivers uid)) drivers → roster_after nodes (calls_left nodes (uid + 1) drivers1) drivers1 ≡ roster_after nodes (calls_left nodes uid drivers) drivers
   drivers_more called =
       ap (roster_after nodes (calls_left nodes (uid + 1) drivers1)) called
-      ∙ sym (roster_after_both nodes (letting_one uid (instance_here nodes drivers uid)) (calls_left nodes (uid + 1) drivers1) drivers)
+      ∙ sym (roster_after_both nodes (releases_one uid (instance_here nodes drivers uid)) (calls_left nodes (uid + 1) drivers1) drivers)
       ∙ ap (λ (cs : List Call). roster_after nodes cs drivers) (sym left_more)
 
-  pub notes_more : (n n1 : List Note) → n1 ≡ n ++ quenched_notes runner (letting_one uid (instance_here nodes drivers uid)) → n1 ++ quenched_notes runner (calls_left nodes (uid + 1) drivers1) ≡ n ++ quenched_notes runner (calls_left nodes uid drivers)
+  pub notes_more : (n n1 : List Note) → n1 ≡ n ++ quenched_notes runner (releases_one uid (instance_here nodes drivers uid)) → n1 ++ quenched_notes runner (calls_left nodes (uid + 1) drivers1) ≡ n ++ quenched_notes runner (calls_left nodes uid drivers)
   notes_more n n1 noted =
-      let one = letting_one uid (instance_here nodes drivers uid) in
+      let one = releases_one uid (instance_here nodes drivers uid) in
       let rest = calls_left nodes (uid + 1) drivers1 in
       ap (λ (l : List Note). l ++ quenched_notes runner rest) noted
       ∙ append_assoc n (quenched_notes runner one) (quenched_notes runner rest)
       ∙ ap (λ (l : List Note). n ++ l) (sym (notes_both runner one rest) ∙ ap (quenched_notes runner) (sym left_more))
 
-  pub length_more : length (calls_left nodes uid drivers) ≡ length (letting_one uid (instance_here nodes drivers uid)) + length (calls_left nodes (uid + 1) drivers1)
-  length_more = ap length left_more ∙ length-append (letting_one uid (instance_here nodes drivers uid)) (calls_left nodes (uid + 1) drivers1)
+  pub length_more : length (calls_left nodes uid drivers) ≡ length (releases_one uid (instance_here nodes drivers uid)) + length (calls_left nodes (uid + 1) drivers1)
+  length_more = ap length left_more ∙ length-append (releases_one uid (instance_here nodes drivers uid)) (calls_left nodes (uid + 1) drivers1)
 
   -- each instance is halted once
-  pub lets_same : map let_go (instances_of nodes drivers1) ≡ map let_go now
+  pub lets_same : map released (instances_of nodes drivers1) ≡ map released now
   lets_same =
-      ap (map let_go) lets
-      ∙ map-set_same let_go now uid (let_go (instance_here nodes drivers uid)) fresh (ap let_go (sym (instance_at_uid nodes drivers uid)))
+      ap (map released) lets
+      ∙ map-set_same released now uid (released (instance_here nodes drivers uid)) fresh (ap released (sym (instance_at_uid nodes drivers uid)))
 
   -- and its mark is removed
   pub marks_more : marks_of (slice_set kept uid at_rest) ≡ map is_held (instances_of nodes drivers1)
   marks_more =
       map-set (λ (k : Kept). k.held) kept uid at_rest
       ∙ ap (λ (bs : List Bool). slice_set bs uid false) marks
-      ∙ sym (map-set is_held now uid (let_go (instance_here nodes drivers uid)))
+      ∙ sym (map-set is_held now uid (released (instance_here nodes drivers uid)))
       ∙ ap (map is_held) (sym lets)
 
   -- a call has its place in the reserve
   leaf_counts : leaves_in (drop uid nodes) ≡ (if has_driver (leaf_at nodes uid) then 1 else 0) + leaves_in (drop (uid + 1) nodes)
   leaf_counts = sum_by-drop_more (λ (node : Node). cond (has_driver node.leaf) 1 0) nodes uid nobody within
 
-  call_counts : (o : Option ReadyLeaf) → length (letting_one uid (leaf_instance drivers o)) ≤ (if has_driver o then 1 else 0)
+  call_counts : (o : Option ReadyLeaf) → length (releases_one uid (leaf_instance drivers o)) ≤ (if has_driver o then 1 else 0)
   call_counts None = omega arith
   call_counts (Some leaf) = at_most uid (instance_at drivers leaf.driver leaf.instance) (is_some (instance_at drivers leaf.driver leaf.instance).since)
 
-  pub room_more : (reserve reserve1 : ℕ) → leaves_in (drop uid nodes) ≤ reserve → reserve1 + length (letting_one uid (instance_here nodes drivers uid)) ≡ reserve → leaves_in (drop (uid + 1) nodes) ≤ reserve1
+  pub room_more : (reserve reserve1 : ℕ) → leaves_in (drop uid nodes) ≤ reserve → reserve1 + length (releases_one uid (instance_here nodes drivers uid)) ≡ reserve → leaves_in (drop (uid + 1) nodes) ≤ reserve1
   room_more reserve reserve1 room took = omega (arith, room, took, leaf_counts, call_counts (leaf_at nodes uid))
 
 -- a marked leaf has its place in the reserve
@@ -179,9 +179,9 @@ room_here nodes kept drivers uid reserve within marks room held =
     omega (arith, room, sum_by-drop_more (λ (node : Node). cond (has_driver node.leaf) 1 0) nodes uid nobody within, ap one has)
 
 -- instances of which none is held stay as they are
-pub all_free : (is : List Instance) → ((p : ℕ) → is_held (get_or is p fresh) ≡ false) → map let_go is ≡ is
+pub all_free : (is : List Instance) → ((p : ℕ) → is_held (get_or is p fresh) ≡ false) → map released is ≡ is
 all_free [] free = refl
-all_free (i ∷ is) free = λ k. let_go_free i (free 0) k ∷ all_free is (λ p. free (suc p)) k
+all_free (i ∷ is) free = λ k. released_free i (free 0) k ∷ all_free is (λ p. free (suc p)) k
 
 -- ---- Rest
 

@@ -3,7 +3,7 @@ pub mod Ending
 pub mod Halting
 pub mod Leaving
 pub mod Lent
-pub mod Letting
+pub mod Releasing
 pub mod Marks
 pub mod Memories
 pub mod Reaching

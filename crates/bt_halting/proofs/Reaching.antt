@@ -30,7 +30,7 @@ module _ (nodes : List Node) (slots facts : ℕ) where
       let more : sizes (map meaning (map (λ x. x.0) (e ∷ ts))) ≡ (meaning e.0).size + sizes (map meaning (map (λ x. x.0) ts)) = sum_by-cons (λ (c : Meaning). c.size) (meaning e.0) (map meaning (map (λ x. x.0) ts)) in
       elim (cases_lt p (uid + (meaning e.0).size)) [
         | inl first ↦ e.1 view uid stand.0 same_slots same_facts p low first
-        | inr behind ↦ all_reached ts view (uid + (meaning e.0).size) stand.1 same_slots same_facts p behind (omega (arith, high, more))
+        | inr following ↦ all_reached ts view (uid + (meaning e.0).size) stand.1 same_slots same_facts p following (omega (arith, high, more))
       ]
 
   reached : (t : Term) → IsReached t

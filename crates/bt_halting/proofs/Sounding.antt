@@ -92,7 +92,7 @@ module _ (nodes : List Node) (s : Scene) (moment : ℕ) (marks : marks_of s.kept
         subst (λ (size : ℕ). SoundAll (map (λ x. x.0) ts) rows (uid + (meaning e.0).size) (memories_of (map (λ x. x.0) ts) (uid + size) s.kept) (state_in nodes s moment)) (sized e.0) sound.1 in
         elim (cases_lt p (uid + (meaning e.0).size)) [
           | inl first ↦ e.1 view uid stand.0 sound.0 p leaf low first is running
-          | inr behind ↦ all_held ts view (uid + (meaning e.0).size) stand.1 others p leaf behind (omega (arith, high, more)) is running
+          | inr following ↦ all_held ts view (uid + (meaning e.0).size) stand.1 others p leaf following (omega (arith, high, more)) is running
         ]
 
     held_by_rules : (t : Term) → IsHeld t

@@ -86,7 +86,7 @@ running_above nodes before after uid child beside below held = λ p leaf from to
       | inl left ↦ same (beside.below p left)
       | inr right ↦ elim (cases_lt p (child + (node_at nodes child).size)) [
         | inl within ↦ below p leaf right within is running
-        | inr behind ↦ same (beside.above p behind)
+        | inr following ↦ same (beside.above p following)
       ]
     ]
 

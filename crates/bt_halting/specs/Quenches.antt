@@ -4,7 +4,7 @@ use Rattle.bt_model.specs.declared.leaf.Instance.{Instance}
 use Rattle.bt_model.specs.declared.leaf.Phase.TheVariants as phase
 use Rattle.bt_model.specs.declared.term.Tree.{Tree}
 use Rattle.bt_model.specs.Done.{Call}
-use Rattle.bt_model.specs.Leaf.{let_go}
+use Rattle.bt_model.specs.Leaf.{released}
 use Rattle.bt_model.specs.Run.{Runner}
 use Rattle.bt_arena.specs.declared.nodes.Node.{Node}
 use Rattle.bt_arena.specs.Rosters.{instances_of}
@@ -12,8 +12,8 @@ use Rattle.bt_arena.specs.Scenes.{Scene}
 use Rattle.bt_arena.specs.Stands.{memory_of}
 
 -- the call of `halted` for an instance that is held
-abbrev pub letting_one : ℕ → Instance → List Call
-letting_one uid i = if is_some i.since then record { uid = uid; phase = phase.Halted; left = let_go i } ∷ [] else []
+abbrev pub releases_one : ℕ → Instance → List Call
+releases_one uid i = if is_some i.since then record { uid = uid; phase = phase.Halted; left = released i } ∷ [] else []
 
 -- the runner of a tree whose arena this is
 abbrev pub runner_in : Tree → List Node → Scene → Runner

@@ -4,7 +4,7 @@ ghost use Rattle.bt_model.specs.declared.status.Status.TheVariants.{Running};
 ghost use Rattle.bt_model.specs.declared.term.Term.{Term};
 ghost use Rattle.bt_model.specs.declared.term.Tree.{Tree};
 ghost use Rattle.bt_model.specs.Drivers.{is_held};
-ghost use Rattle.bt_model.specs.Run.{letting_go, quenched_notes, quenched_runner};
+ghost use Rattle.bt_model.specs.Run.{releases, quenched_notes, quenched_runner};
 ghost use Rattle.bt_model.specs.Sites.{View};
 ghost use Rattle.bt_model.specs.Visit.{halt as halt_of, meaning};
 ghost use Rattle.bt_arena.specs.Ends.{Meets, StaysFit};
@@ -106,14 +106,14 @@ pub fn quench<D: Drivers>(arena: &mut Arena, drivers: &mut D, notes: &mut Notes)
     requires room { leaves_in arena.old.nodes.items ≤ notes.old.reserve }
     ensures runner { (tree : Tree) (view : View) (board : List (Option Value)) (facts : List ℤ) → Fits tree.term view 1 arena.old.nodes.items (scene arena.old.kept.items board facts (D.states drivers.old)) →
         runner_in tree arena.old.nodes.items (scene arena.new.kept.items board facts (D.states drivers.new)) ≡ quenched_runner tree (runner_in tree arena.old.nodes.items (scene arena.old.kept.items board facts (D.states drivers.old))) }
-    ensures drivers { D.states drivers.new ≡ roster_after arena.old.nodes.items (letting_go 0 (instances_of arena.old.nodes.items (D.states drivers.old))) (D.states drivers.old) }
-    ensures notes { notes.new.list ≡ notes.old.list ++ quenched_notes arena.old.runner (letting_go 0 (instances_of arena.old.nodes.items (D.states drivers.old))) }
+    ensures drivers { D.states drivers.new ≡ roster_after arena.old.nodes.items (releases 0 (instances_of arena.old.nodes.items (D.states drivers.old))) (D.states drivers.old) }
+    ensures notes { notes.new.list ≡ notes.old.list ++ quenched_notes arena.old.runner (releases 0 (instances_of arena.old.nodes.items (D.states drivers.old))) }
     ensures none { (uid : ℕ) → is_held (leaf_instance (D.states drivers.new) (leaf_at arena.old.nodes.items uid)) ≡ false }
     ensures fits { (board : List (Option Value)) (facts : List ℤ) → StaysFit arena.old.nodes.items (scene arena.old.kept.items board facts (D.states drivers.old)) (scene arena.new.kept.items board facts (D.states drivers.new)) }
     ensures nodes { arena.new.nodes.items ≡ arena.old.nodes.items }
     ensures same_runner { arena.new.runner ≡ arena.old.runner }
     ensures frames { arena.new.frames ≡ arena.old.frames }
-    ensures reserve { notes.new.reserve + length (letting_go 0 (instances_of arena.old.nodes.items (D.states drivers.old))) ≡ notes.old.reserve }
+    ensures reserve { notes.new.reserve + length (releases 0 (instances_of arena.old.nodes.items (D.states drivers.old))) ≡ notes.old.reserve }
     ensures full { notes.new.full ≡ notes.old.full }
 {
     quench_nodes(arena.runner, &arena.nodes, &mut arena.kept, drivers, notes)

@@ -11,7 +11,7 @@ ghost use Rattle.bt_arena.specs.Rosters.{AreServed, instances_of};
 ghost use Rattle.bt_arena.specs.Scenes.{Fits, marks_of, scene, state_in};
 ghost use Rattle.bt_arena.specs.Stands.{Beside, memories_of, memory_of};
 ghost use Rattle.bt_arena.specs.Ends.{Meets, StaysFit};
-ghost use Rattle.bt_halting.specs.Halts.{leaf_let_go, rests};
+ghost use Rattle.bt_halting.specs.Halts.{leaf_released, rests};
 ghost use Rattle.bt_nodes.specs.Here.{site_at};
 
 use bt_arena::{Kept, Node, Notes, keep, kept_by, node, set_held};
@@ -35,7 +35,7 @@ fn cleared_memo(memo: Memo) -> Memo
 /// Halts a leaf: calls its driver `halted`, and adds the note. The place of the note is reserved
 /// before the call. For any other node nothing is done. The error is want of memory, and then there
 /// was no call.
-fn let_go<D: Drivers>(
+fn release<D: Drivers>(
     nodes: &[Node],
     kept: &mut [Kept],
     drivers: &mut D,
@@ -48,7 +48,7 @@ fn let_go<D: Drivers>(
     requires held { (leaf : ReadyLeaf) → leaf_at nodes.now uid ≡ Some leaf → (kept_at kept.old uid).held ≡ true }
     ensures ok { OnOk result ((moment : ℕ) (board : List (Option Value)) (facts : List ℤ) →
         Meets nodes.now moment (λ _. tt) (Ok tt) (scene kept.old board facts (D.states drivers.old)) (scene kept.new board facts (D.states drivers.new)) notes.old.list notes.new.list
-        (leaf_let_go (leaf_at nodes.now uid) uid (state_in nodes.now (scene kept.old board facts (D.states drivers.old)) moment))) }
+        (leaf_released (leaf_at nodes.now uid) uid (state_in nodes.now (scene kept.old board facts (D.states drivers.old)) moment))) }
     ensures err { OnErr result (D.states drivers.new ≡ D.states drivers.old) }
     ensures err_notes { OnErr result (notes.new.list ≡ notes.old.list) }
     ensures marks { marks_of kept.new ≡ map is_held (instances_of nodes.now (D.states drivers.new)) }
@@ -123,7 +123,7 @@ pub(crate) fn end_halt<D: Drivers>(
     ensures reserve { notes.old.reserve ≤ notes.new.reserve }
     ensures full { notes.new.full ≡ notes.old.full }
 {
-    let_go(nodes, kept, drivers, uid, notes)?;
+    release(nodes, kept, drivers, uid, notes)?;
     come_to_rest(kept, uid, notes)?;
     script_if_there(alloc, &node(nodes, uid).guards.on_halted, uid, board)
 }

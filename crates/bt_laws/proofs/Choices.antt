@@ -33,8 +33,8 @@ module _ (n : Node) (cases : ℕ) where
       visits n (Switch cases) place (λ a. pass_on (Chosen (Some place)) a) ss
       (λ a ss1 changed. passes_on n (Switch cases) (Chosen (Some place)) a ss1 (runs_alone place a ss ss1 idle changed))
 
-  let_go : (kept : ℕ) (ss ss1 : List Status) → OneRuns kept ss → Rested (span.One kept) ss ss1 → AllIdle ss1
-  let_go kept ss ss1 runs rested = λ k from. ⊎_elim
+  released : (kept : ℕ) (ss ss1 : List Status) → OneRuns kept ss → Rested (span.One kept) ss ss1 → AllIdle ss1
+  released kept ss ss1 runs rested = λ k from. ⊎_elim
       (λ same. rested.away k (eq-eqb k kept same))
       (λ other. rested.stays k (ne_eqb k kept other) ∙ runs.others k other)
       (cases_eq k kept)
@@ -47,7 +47,7 @@ module _ (n : Node) (cases : ℕ) where
       cond_both (nat_eq kept picked) (chosen_branch picked) (reset (span.One kept) (chosen_branch picked)) (λ rule. Goes n (Switch cases) ss rule)
       (λ same. chosen_goes picked ss (subst (λ (k : ℕ). OthersIdle k ss) (eqb-true kept picked same) runs.others))
       (λ _. resets_first n (Switch cases) (span.One kept) (chosen_branch picked) ss
-      (λ ss1 rested. chosen_goes picked ss1 (λ k other. let_go kept ss ss1 runs rested k (omega arith))))
+      (λ ss1 rested. chosen_goes picked ss1 (λ k other. released kept ss ss1 runs rested k (omega arith))))
 
 -- ---- IfThenElse
 

@@ -14,7 +14,7 @@ use Rattle.bt_model.specs.declared.term.Port.{Port}
 use Rattle.bt_model.specs.declared.term.Term.{Term-F}
 use Rattle.bt_model.specs.declared.world.Row.{Row}
 use Rattle.bt_model.specs.Done.{Done, State, done, follow}
-use Rattle.bt_model.specs.Leaf.{let_go}
+use Rattle.bt_model.specs.Leaf.{released}
 use Rattle.bt_model.specs.Leaves.{instance_at, row_of}
 use Rattle.bt_model.specs.Scripts.{script_if_there}
 use Rattle.bt_model.specs.Shapes.{AllIdle, RestingShape, RunningShape, is_running}
@@ -44,11 +44,11 @@ cleared_rests ports row moment kind _ before ss shape idle = idle
 
 -- after a halt the instance of the node is not held
 halt_frees : (kind : Kind) (uid : ℕ) (s : State) → held_at s uid ≡ Some (is_held status.Running kind) → held_at (halt_state kind uid s) uid ≡ Some false
-halt_frees Leaf uid s held = set_here s (halt_state Leaf uid s) uid (let_go (instance_at s uid)) refl true held
+halt_frees Leaf uid s held = set_here s (halt_state Leaf uid s) uid (released (instance_at s uid)) refl true held
 halt_frees _ uid s held = held
 
 halt_within : (kind : Kind) (uid : ℕ) (s : State) → Within uid 1 s (halt_state kind uid s)
-halt_within Leaf uid s = set_within s (halt_state Leaf uid s) uid (let_go (instance_at s uid)) refl refl refl refl (λ dated t e. cc)
+halt_within Leaf uid s = set_within s (halt_state Leaf uid s) uid (released (instance_at s uid)) refl refl refl refl (λ dated t e. cc)
 halt_within _ uid s = within_same uid 1 s
 
 -- ---- The node and its children

@@ -41,7 +41,7 @@ use Rattle.bt_laws.proofs.Starts.{parallel_begins, since_begins, turns_begin}
 -- ---- From RUNNING
 
 begins_where_it_stands : (place : ℕ) (ss : List Status) → StandsAt place ss → StartsAt place ss
-begins_where_it_stands place ss stands = record { before = stands.before; behind = stands.behind }
+begins_where_it_stands place ss stands = record { before = stands.before; following = stands.following }
 
 pub running_begins : (kind : Kind) (ports : List Port) (row : Option Row) (moment : ℕ) (memo : Memo) (ss : List Status) → has_rule kind ≡ true → RunningShape kind ports row moment memo ss → Begins kind ports moment memo ss
 running_begins Sequence ports row moment (Index at true) ss e shape = begins_where_it_stands at ss shape
@@ -81,11 +81,11 @@ rests_idle (Finished (Some a)) RunOnce ss e shape = shape.1
 rests_idle _ kind ss e shape = absurd shape
 
 from_first : (ss : List Status) → AllIdle ss → StartsAt 0 ss
-from_first ss idle = record { before = λ k below. absurd (omega (arith, below)); behind = λ k from. idle k (omega arith) }
+from_first ss idle = record { before = λ k below. absurd (omega (arith, below)); following = λ k from. idle k (omega arith) }
 
 from_index : (old : Memo) (ss : List Status) → RestingShape old SequenceWithMemory ss → StartsAt (index_of old) ss
 from_index Nothing ss shape = from_first ss shape
-from_index (Index at false) ss shape = record { before = shape.1; behind = λ k from. shape.2 k (omega (arith, from)) }
+from_index (Index at false) ss shape = record { before = shape.1; following = λ k from. shape.2 k (omega (arith, from)) }
 from_index (Finished (Some a)) ss shape = absurd shape
 from_index _ ss shape = absurd shape
 

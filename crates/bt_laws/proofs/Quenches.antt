@@ -11,7 +11,7 @@ use Rattle.bt_model.specs.declared.term.Term.TheFolds.{map-Term}
 use Rattle.bt_model.specs.declared.term.Tree.{Tree}
 use Rattle.bt_model.specs.declared.world.Row.{Row}
 use Rattle.bt_model.specs.Done.{State}
-use Rattle.bt_model.specs.Leaf.{let_go}
+use Rattle.bt_model.specs.Leaf.{released}
 use Rattle.bt_model.specs.Run.{Runner, quenched_runner, settled, state_of}
 use Rattle.bt_model.specs.Shapes.{status_at}
 use Rattle.bt_model.specs.Sites.{Meaning, sizes}
@@ -52,12 +52,12 @@ record RestsSound (t : Term) (c : Meaning) (rules : States) : Type 0 where
 
 -- ---- A quench
 
-no_since : (instances : List Instance) (p t : ℕ) → option_map (λ (i : Instance). i.since) (slice_get (map let_go instances) p) ≡ Some (Some t) → ⊥
+no_since : (instances : List Instance) (p t : ℕ) → option_map (λ (i : Instance). i.since) (slice_get (map released instances) p) ≡ Some (Some t) → ⊥
 no_since [] p t e = cc
 no_since (i ∷ instances) zero t e = cc
 no_since (i ∷ instances) (suc p) t e = no_since instances p t e
 
-nothing_held : (instances : List Instance) (p : ℕ) → p < length instances → option_map (λ (i : Instance). is_some i.since) (slice_get (map let_go instances) p) ≡ Some false
+nothing_held : (instances : List Instance) (p : ℕ) → p < length instances → option_map (λ (i : Instance). is_some i.since) (slice_get (map released instances) p) ≡ Some false
 nothing_held [] p within = absurd (omega (arith, within))
 nothing_held (i ∷ instances) zero within = refl
 nothing_held (i ∷ instances) (suc p) within = nothing_held instances p (omega (arith, within))
@@ -107,6 +107,6 @@ pub quench_steady : (tree : Tree) (rows : List Row) (r : Runner) (facts : List �
 quench_steady tree rows r facts at room = record {
   sound = idle_sound tree.term rows 1 (state_of (quenched_runner tree r) facts at) (λ p a b. nothing_held r.instances p (omega (arith, b, room)));
   root = idle_settled tree.term;
-  room = omega (arith, room, length-map r.instances let_go);
+  room = omega (arith, room, length-map r.instances released);
   dated = λ p since e. absurd (no_since r.instances p since e);
 }

@@ -29,7 +29,7 @@ abbrev NoneRuns : List Status → Type 0
 NoneRuns ss = (k : ℕ) → is_running (status_at ss k) ≡ false
 
 idle_rests : (first : ℕ) (ss : List Status) → NoneRunsBefore first ss → IdleFrom first ss → NoneRuns ss
-idle_rests first ss before behind = λ k. ⊎_elim (λ low. before k low) (λ high. ap is_running (behind k high)) (cases_lt k first)
+idle_rests first ss before following = λ k. ⊎_elim (λ low. before k low) (λ high. ap is_running (following k high)) (cases_lt k first)
 
 none_runs : (memo : Memo) (kind : Kind) (ss : List Status) → RestingShape memo kind ss → NoneRuns ss
 none_runs Nothing kind ss shape = λ k. ap is_running (shape k (omega arith))
@@ -39,8 +39,8 @@ none_runs _ kind ss shape = absurd shape
 
 -- ---- Every term
 
-behind : (uid p : ℕ) → (p ≡ uid → ⊥) → uid ≤ p → uid + 1 ≤ p
-behind uid p other low = ⊎_elim (λ below. omega (arith, below)) (λ reached. absurd (other (omega (arith, low, reached)))) (cases_lt uid p)
+following : (uid p : ℕ) → (p ≡ uid → ⊥) → uid ≤ p → uid + 1 ≤ p
+following uid p other low = ⊎_elim (λ below. omega (arith, below)) (λ reached. absurd (other (omega (arith, low, reached)))) (cases_lt uid p)
 
 -- where the rules hold and the node is not RUNNING, none of its instances is held
 abbrev RestsFree : Term → Meaning → States → Type 0
@@ -66,7 +66,7 @@ module _ {X : Type 0} (term : X → Term) (free : (c : X) → RestsFree (term c)
       let shape : RestingShape (out-Memory m).memo node.kind (statuses (out-Memory m).children) = resting_shape (status_in m) node.kind node.ports _ s.moment (out-Memory m).memo (statuses (out-Memory m).children) rests own.shape in
       ⊎_elim
       (λ here. subst (λ (x : ℕ). held_at s x ≡ Some false) (sym here) (own.held ∙ ap Some (rests_free (status_in m) node.kind rests)))
-      (λ other. all_free rows node.children (uid + 1) (out-Memory m).children s sound.1 (none_runs (out-Memory m).memo node.kind (statuses (out-Memory m).children) shape) p (behind uid p other low) (omega (arith, high)))
+      (λ other. all_free rows node.children (uid + 1) (out-Memory m).children s sound.1 (none_runs (out-Memory m).memo node.kind (statuses (out-Memory m).children) shape) p (following uid p other low) (omega (arith, high)))
       (cases_eq p uid)
 
 pub rests_hold_nothing : (t : Term) → RestsFree t (meaning t) (Sound t)

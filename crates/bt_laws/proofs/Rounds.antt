@@ -7,7 +7,7 @@ use Rattle.bt_model.specs.declared.moves.Span.TheVariants as span
 use Rattle.bt_model.specs.declared.status.Answer.{Answer}
 use Rattle.bt_model.specs.declared.status.Answer.TheVariants as answer
 use Rattle.bt_model.specs.declared.status.RoundEnd.{RoundEnd}
-use Rattle.bt_model.specs.declared.status.RoundEnd.TheVariants.{AtChild, BehindLast}
+use Rattle.bt_model.specs.declared.status.RoundEnd.TheVariants.{AtChild, AfterLast}
 use Rattle.bt_model.specs.declared.status.Status.{Status}
 use Rattle.bt_model.specs.declared.status.Status.TheVariants as status
 use Rattle.bt_model.specs.declared.term.Kind.{Kind}
@@ -37,7 +37,7 @@ passed_rests answer.Skipped answer.Running rests e = cc
 module _ (n : Node) (kind : Kind) (goes : Answer) (rests : is_running (status_of goes) ≡ false) (ends : RoundEnd → Rule) (Starts : ℕ → List Status → Type 0)
     (onward : (place : ℕ) (st : Status) (ss ss1 : List Status) → Starts place ss → Changed place st ss ss1 → is_running st ≡ false → Starts (place + 1) ss1)
     (stops : (place : ℕ) (a : Answer) (ss ss1 : List Status) → Starts place ss → Changed place (status_of a) ss ss1 → Goes n kind ss1 (ends (AtChild place a)))
-    (lasts : (seen : Bool) (ss : List Status) → Goes n kind ss (ends (BehindLast seen))) where
+    (lasts : (seen : Bool) (ss : List Status) → Goes n kind ss (ends (AfterLast seen))) where
   pub round_goes : (left place : ℕ) (seen : Bool) (ss : List Status) → Starts place ss → Goes n kind ss (round goes ends left place seen)
   round_goes zero place seen ss starts = lasts seen ss
   round_goes (suc left) place seen ss starts =
@@ -51,7 +51,7 @@ module _ (n : Node) (kind : Kind) (goes : Answer) (rests : is_running (status_of
 -- the children before a place have been visited, and those after it are IDLE
 pub record StartsAt (place : ℕ) (ss : List Status) : Type 0 where
   pub before : NoneRunsBefore place ss
-  pub behind : IdleFrom (place + 1) ss
+  pub following : IdleFrom (place + 1) ss
 
 pub below_other : (k place : ℕ) → k < place + 1 → (k ≡ place → ⊥) → k < place
 below_other k place below other = ⊎_elim (λ less. less) (λ reached. absurd (other (omega (arith, below, reached)))) (cases_lt k place)
@@ -62,19 +62,19 @@ starts_onward place st ss ss1 starts changed rests = record {
       (λ same. ap is_running (ap (status_at ss1) same ∙ changed.here) ∙ rests)
       (λ other. ap is_running (others changed k other) ∙ starts.before k (below_other k place below other))
       (cases_eq k place);
-  behind = λ k from. others changed k (λ same. absurd (omega (arith, same, from))) ∙ starts.behind k (omega (arith, from));
+  following = λ k from. others changed k (λ same. absurd (omega (arith, same, from))) ∙ starts.following k (omega (arith, from));
 }
 
 stands : (place : ℕ) (ss ss1 : List Status) → StartsAt place ss → Changed place status.Running ss ss1 → StandsAt place ss1
 stands place ss ss1 starts changed = record {
   runs = changed.here;
   before = λ k below. ap is_running (others changed k (λ same. absurd (omega (arith, same, below)))) ∙ starts.before k below;
-  behind = λ k from. others changed k (λ same. absurd (omega (arith, same, from))) ∙ starts.behind k from;
+  following = λ k from. others changed k (λ same. absurd (omega (arith, same, from))) ∙ starts.following k from;
 }
 
 module _ (n : Node) (kind : Kind) (goes : Answer) (rests : is_running (status_of goes) ≡ false)
     (fits : (place : ℕ) (ss : List Status) → StandsAt place ss → Fits n kind (record { answer = answer.Running; memo = Index place true }) ss) where
-  sequence_lasts : (seen : Bool) (ss : List Status) → Goes n kind ss (sequence_end goes (BehindLast seen))
+  sequence_lasts : (seen : Bool) (ss : List Status) → Goes n kind ss (sequence_end goes (AfterLast seen))
   sequence_lasts true ss = is_over n kind goes ss rests
   sequence_lasts false ss = is_over n kind answer.Skipped ss refl
 
@@ -128,7 +128,7 @@ alone place ss ss1 runs rested = record {
 
 module _ (n : Node) (kind : Kind) (goes : Answer) (rests : is_running (status_of goes) ≡ false)
     (fits : (place : ℕ) (ss : List Status) → OneRuns place ss → Fits n kind (record { answer = answer.Running; memo = Index place true }) ss) where
-  reactive_lasts : (seen : Bool) (ss : List Status) → Goes n kind ss (reactive_end goes (BehindLast seen))
+  reactive_lasts : (seen : Bool) (ss : List Status) → Goes n kind ss (reactive_end goes (AfterLast seen))
   reactive_lasts true ss = is_over n kind goes ss rests
   reactive_lasts false ss = is_over n kind answer.Skipped ss refl
 

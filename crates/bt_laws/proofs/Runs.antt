@@ -56,12 +56,12 @@ step_last (Change fact value) tree world at s = refl
 -- these events are in order, and none comes before this moment
 pub record InOrderFrom (last : ℕ) (events : List Event) : Type 0 where
   pub in_order : IsNonDecreasingBy (λ (e : Event). e.at) events
-  pub behind : (k : ℕ) (d : Event) → k < length events → last ≤ (slice_index_or events k d).at
+  pub following : (k : ℕ) (d : Event) → k < length events → last ≤ (slice_index_or events k d).at
 
-pub order_behind : (last : ℕ) (e : Event) (events : List Event) → InOrderFrom last (e ∷ events) → InOrderFrom e.at events
-order_behind last e events order = record {
+pub order_after : (last : ℕ) (e : Event) (events : List Event) → InOrderFrom last (e ∷ events) → InOrderFrom e.at events
+order_after last e events order = record {
   in_order = λ i j d low within. order.in_order (suc i) (suc j) d (omega (arith, low)) (omega (arith, within));
-  behind = λ k d within. order.in_order 0 (suc k) d (omega arith) (omega (arith, within));
+  following = λ k d within. order.in_order 0 (suc k) d (omega arith) (omega (arith, within));
 }
 
 module _ (tree : Tree) (world : World) where
@@ -99,10 +99,10 @@ module _ (tree : Tree) (world : World) where
   run_from_steady [] s order steady = finishes_steady world.runners 1 s steady
   run_from_steady (e ∷ events) s order steady =
       let first : Stepped = step tree world e s in
-      let now : Holds first.state = step_steady tree world s steady e.at (order.behind 0 e (omega arith)) e.what in
-      let next : InOrderFrom first.state.last events = subst (λ (last : ℕ). InOrderFrom last events) (sym (step_last e.what tree world e.at s)) (order_behind s.last e events order) in
+      let now : Holds first.state = step_steady tree world s steady e.at (order.following 0 e (omega arith)) e.what in
+      let next : InOrderFrom first.state.last events = subst (λ (last : ℕ). InOrderFrom last events) (sym (step_last e.what tree world e.at s)) (order_after s.last e events order) in
       rest_steady first.fault first (run_from tree world events) now (run_from_steady events first.state next now)
 
   -- a run over events in order ends so
   pub run_steady : (events : List Event) → IsNonDecreasingBy (λ (e : Event). e.at) events → Holds (run_over tree world events).state
-  run_steady events order = run_from_steady events (opening tree world) (record { in_order = order; behind = λ k d within. omega arith }) opening_steady
+  run_steady events order = run_from_steady events (opening tree world) (record { in_order = order; following = λ k d within. omega arith }) opening_steady

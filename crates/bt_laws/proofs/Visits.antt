@@ -13,7 +13,7 @@ use Rattle.bt_model.specs.declared.term.Kind.TheVariants.{RunOnce}
 use Rattle.bt_model.specs.declared.term.Port.{Port}
 use Rattle.bt_model.specs.declared.term.Term.{Term-F}
 use Rattle.bt_model.specs.declared.world.Row.{Row}
-use Rattle.bt_model.specs.Done.{Done, State, behind, done, ends, follow}
+use Rattle.bt_model.specs.Done.{Done, State, following, done, ends, follow}
 use Rattle.bt_model.specs.Leaves.{row_of}
 use Rattle.bt_model.specs.Ports.{new_memo}
 use Rattle.bt_model.specs.Scripts.{goes_on, guards_answer, posts}
@@ -92,7 +92,7 @@ module _ (F : Family) (node : Term-F F.Child) (view : View) (uid : ℕ) where
   ended_leaves old g ms s own all =
       let d : Done (Unit {0}) (Unit {0}) = posts here g.answer s in
       after_scripts F node view uid Holds (Answers F node view uid) (λ _. Unit {0}) (remembered old g.memo ms) s d
-      (λ _ s1. behind (change uid old (status_of g.answer)) [] (done g.answer (remembered (status_of g.answer) g.memo ms) s1)) (posts_leave here g.answer s)
+      (λ _ s1. following (change uid old (status_of g.answer)) [] (done g.answer (remembered (status_of g.answer) g.memo ms) s1)) (posts_leave here g.answer s)
       (λ _ _ still. record {
         sound = as_kept F node view uid None (status_of g.answer) g.memo ms d.state (fields_still still F node view uid None (status_of g.answer) g.memo ms (own, all));
         within = within_same uid size d.state;

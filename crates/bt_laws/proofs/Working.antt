@@ -10,7 +10,7 @@ use Rattle.bt_model.specs.declared.moves.Span.TheVariants as span
 use Rattle.bt_model.specs.declared.status.Answer.{Answer}
 use Rattle.bt_model.specs.declared.status.Answer.TheVariants as answer
 use Rattle.bt_model.specs.declared.status.RoundEnd.{RoundEnd}
-use Rattle.bt_model.specs.declared.status.RoundEnd.TheVariants.{AtChild, BehindLast}
+use Rattle.bt_model.specs.declared.status.RoundEnd.TheVariants.{AtChild, AfterLast}
 use Rattle.bt_model.specs.Rules.Answers.{is_seen, pass_on, same_answer}
 use Rattle.bt_model.specs.Rules.Choices.{chosen_branch, if_then_else, if_then_else_after, only_branch, switch, while_do_else, while_do_else_after}
 use Rattle.bt_model.specs.Rules.Decorators.{as_it_is, child_as, delay, is_late, keep_running, keep_running_after, run_once, run_once_after, since_of, timeout}
@@ -45,7 +45,7 @@ module _ (F : Family) (cs : List F.Child) (L : Labour F cs) (view : View) (uid :
 
   module _ (goes : Answer) (ends : RoundEnd → Rule) (ending : (most : ℕ) (end : RoundEnd) → Costs most (ends end)) where
     pub round_costs : (left place : ℕ) (seen : Bool) → Costs (from place) (round goes ends left place seen)
-    round_costs zero place seen = ending (from place) (BehindLast seen)
+    round_costs zero place seen = ending (from place) (AfterLast seen)
     round_costs (suc left) place seen =
         visit_makes F cs L view uid (from (place + 1)) (from place) place (λ a. round_after goes ends place seen (λ b. round goes ends left (place + 1) b) a) (one_and_rest L.work cs place)
         (λ a. either (from (place + 1)) (passes goes a) (round goes ends left (place + 1) (seen || is_seen a)) (ends (AtChild place a)) (round_costs left (place + 1) (seen || is_seen a)) (ending (from (place + 1)) (AtChild place a)))
@@ -55,22 +55,22 @@ module _ (F : Family) (cs : List F.Child) (L : Labour F cs) (view : View) (uid :
   sequence_ending goes most (AtChild place answer.Success) = over_makes F cs L view uid most answer.Success
   sequence_ending goes most (AtChild place answer.Failure) = over_makes F cs L view uid most answer.Failure
   sequence_ending goes most (AtChild place answer.Skipped) = over_makes F cs L view uid most answer.Skipped
-  sequence_ending goes most (BehindLast true) = over_makes F cs L view uid most goes
-  sequence_ending goes most (BehindLast false) = over_makes F cs L view uid most answer.Skipped
+  sequence_ending goes most (AfterLast true) = over_makes F cs L view uid most goes
+  sequence_ending goes most (AfterLast false) = over_makes F cs L view uid most answer.Skipped
 
   pub memory_ending : (most : ℕ) (end : RoundEnd) → Costs most (with_memory_end end)
   memory_ending most (AtChild place answer.Failure) = reset_makes F cs L view uid most (span.From place) (keep answer.Failure (Index place false)) (keep_makes F cs L view uid most answer.Failure (Index place false))
   memory_ending most (AtChild place answer.Running) = keep_makes F cs L view uid most answer.Running (Index place true)
   memory_ending most (AtChild place answer.Success) = over_makes F cs L view uid most answer.Success
   memory_ending most (AtChild place answer.Skipped) = over_makes F cs L view uid most answer.Skipped
-  memory_ending most (BehindLast seen) = sequence_ending answer.Success most (BehindLast seen)
+  memory_ending most (AfterLast seen) = sequence_ending answer.Success most (AfterLast seen)
 
   pub reactive_ending : (goes : Answer) (most : ℕ) (end : RoundEnd) → Costs most (reactive_end goes end)
   reactive_ending goes most (AtChild place answer.Running) = reset_makes F cs L view uid most (span.AllBut place) (keep answer.Running (Index place true)) (keep_makes F cs L view uid most answer.Running (Index place true))
   reactive_ending goes most (AtChild place answer.Success) = over_makes F cs L view uid most answer.Success
   reactive_ending goes most (AtChild place answer.Failure) = over_makes F cs L view uid most answer.Failure
   reactive_ending goes most (AtChild place answer.Skipped) = over_makes F cs L view uid most answer.Skipped
-  reactive_ending goes most (BehindLast seen) = sequence_ending goes most (BehindLast seen)
+  reactive_ending goes most (AfterLast seen) = sequence_ending goes most (AfterLast seen)
 
   -- ---- Parallel
 
@@ -101,38 +101,38 @@ module _ (F : Family) (cs : List F.Child) (L : Labour F cs) (view : View) (uid :
       (reset_makes F cs L view uid total (span.One kept) (chosen_branch picked) (chosen_costs total picked (share_most L.work cs picked)))
 
   -- the work that is left for a branch after the condition
-  abbrev behind_first : ℕ
-  behind_first = total - share L.work cs 0
+  abbrev following_first : ℕ
+  following_first = total - share L.work cs 0
 
-  branch_below : (place : ℕ) → share L.work cs (place + 1) ≤ behind_first
+  branch_below : (place : ℕ) → share L.work cs (place + 1) ≤ following_first
   branch_below place = omega (arith, first_and_later L.work cs place)
 
-  condition_first : share L.work cs 0 + behind_first ≤ total
+  condition_first : share L.work cs 0 + following_first ≤ total
   condition_first = omega (arith, share_most L.work cs 0)
 
-  judged_costs : (n : ℕ) (a : Answer) → Costs behind_first (if_then_else_after n a)
-  judged_costs n answer.Running = pass_on_makes F cs L view uid behind_first (Chosen None) answer.Running
-  judged_costs n answer.Success = chosen_costs behind_first 1 (branch_below 0)
-  judged_costs n answer.Failure = either behind_first (nat_lt 2 n) (chosen_branch 2) (over answer.Failure) (chosen_costs behind_first 2 (branch_below 1)) (over_makes F cs L view uid behind_first answer.Failure)
-  judged_costs n answer.Skipped = pass_on_makes F cs L view uid behind_first (Chosen None) answer.Skipped
+  judged_costs : (n : ℕ) (a : Answer) → Costs following_first (if_then_else_after n a)
+  judged_costs n answer.Running = pass_on_makes F cs L view uid following_first (Chosen None) answer.Running
+  judged_costs n answer.Success = chosen_costs following_first 1 (branch_below 0)
+  judged_costs n answer.Failure = either following_first (nat_lt 2 n) (chosen_branch 2) (over answer.Failure) (chosen_costs following_first 2 (branch_below 1)) (over_makes F cs L view uid following_first answer.Failure)
+  judged_costs n answer.Skipped = pass_on_makes F cs L view uid following_first (Chosen None) answer.Skipped
 
   pub if_then_else_costs : (n : ℕ) (kept : Option ℕ) → Costs total (if_then_else n kept)
   if_then_else_costs n (Some place) = chosen_costs total place (share_most L.work cs place)
-  if_then_else_costs n None = visit_makes F cs L view uid behind_first total 0 (λ a. if_then_else_after n a) condition_first (judged_costs n)
+  if_then_else_costs n None = visit_makes F cs L view uid following_first total 0 (λ a. if_then_else_after n a) condition_first (judged_costs n)
 
   only_costs : (rest place : ℕ) (memo : Memo) → share L.work cs place ≤ rest → Costs rest (only_branch place memo)
   only_costs rest place memo below =
       reset_makes F cs L view uid rest (span.AllBut place) (visit place (λ a. pass_on memo a))
       (visit_makes F cs L view uid 0 rest place (λ a. pass_on memo a) (omega (arith, below)) (λ a. pass_on_makes F cs L view uid 0 memo a))
 
-  while_after_costs : (n : ℕ) (memo : Memo) (a : Answer) → Costs behind_first (while_do_else_after n memo a)
-  while_after_costs n memo answer.Running = pass_on_makes F cs L view uid behind_first memo answer.Running
-  while_after_costs n memo answer.Success = only_costs behind_first 1 memo (branch_below 0)
-  while_after_costs n memo answer.Failure = either behind_first (nat_lt 2 n) (only_branch 2 memo) (over answer.Failure) (only_costs behind_first 2 memo (branch_below 1)) (over_makes F cs L view uid behind_first answer.Failure)
-  while_after_costs n memo answer.Skipped = pass_on_makes F cs L view uid behind_first memo answer.Skipped
+  while_after_costs : (n : ℕ) (memo : Memo) (a : Answer) → Costs following_first (while_do_else_after n memo a)
+  while_after_costs n memo answer.Running = pass_on_makes F cs L view uid following_first memo answer.Running
+  while_after_costs n memo answer.Success = only_costs following_first 1 memo (branch_below 0)
+  while_after_costs n memo answer.Failure = either following_first (nat_lt 2 n) (only_branch 2 memo) (over answer.Failure) (only_costs following_first 2 memo (branch_below 1)) (over_makes F cs L view uid following_first answer.Failure)
+  while_after_costs n memo answer.Skipped = pass_on_makes F cs L view uid following_first memo answer.Skipped
 
   pub while_costs : (n : ℕ) (memo : Memo) → Costs total (while_do_else n memo)
-  while_costs n memo = visit_makes F cs L view uid behind_first total 0 (λ a. while_do_else_after n memo a) condition_first (while_after_costs n memo)
+  while_costs n memo = visit_makes F cs L view uid following_first total 0 (λ a. while_do_else_after n memo a) condition_first (while_after_costs n memo)
 
   -- ---- Decorators
 

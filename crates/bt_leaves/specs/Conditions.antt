@@ -4,7 +4,7 @@ use Rattle.bt_model.specs.declared.fault.Cause.{Cause}
 use Rattle.bt_model.specs.declared.leaf.Instance.{Instance}
 use Rattle.bt_model.specs.declared.leaf.Reply.{Reply}
 use Rattle.bt_model.specs.declared.leaf.Reply.TheVariants.{Success, Failure, Broken}
-use Rattle.bt_model.specs.Leaf.{let_go}
+use Rattle.bt_model.specs.Leaf.{released}
 
 -- what a condition answers that is true or not, or that has a fault
 abbrev pub reply_by : Result Bool Cause → Reply
@@ -15,4 +15,4 @@ reply_by (Err cause) = Broken cause
 -- a condition is not held after a call, and a fault changes nothing
 abbrev pub left_by : Reply → Instance → Instance
 left_by (Broken cause) instance = instance
-left_by _ instance = let_go instance
+left_by _ instance = released instance

@@ -7,7 +7,7 @@ ghost use Rattle.bt_model.specs.Leaf.{outputs_left};
 ghost use Rattle.bt_driver.specs.Ready.{expr_reach, ready_test};
 ghost use Rattle.bt_leaves.specs.Conditions.{left_by, reply_by};
 
-use crate::instances::let_go;
+use crate::instances::released;
 use crate::ledger::Ledger;
 use bt_driver::{
     Driver, DriverKind, FactTable, Inputs, Outs, ReadyExpr, ReadyRow, ReadySort, Reply, Totals,
@@ -38,7 +38,7 @@ fn left_by(reply: Reply, instance: Instance) -> Instance
 {
     match reply {
         Reply::Broken(_) => instance,
-        Reply::Running | Reply::Success | Reply::Failure => let_go(instance),
+        Reply::Running | Reply::Success | Reply::Failure => released(instance),
     }
 }
 

@@ -1,7 +1,7 @@
 ghost use Rattle.std.specs.Prelude.{◌≡◌, ◌≤◌, length};
 ghost use Rattle.bt_model.specs.declared.leaf.DriverKind.TheVariants as driver;
 
-use crate::instances::{held, let_go};
+use crate::instances::{held, released};
 use crate::ledger::Ledger;
 use bt_driver::{Driver, DriverKind, FactTable, Inputs, Outs, ReadyRow, ReadySort, Reply, Totals};
 use bt_model::{Instance, Phase};
@@ -53,7 +53,7 @@ impl Gate {
             unreachable!()
         };
         match test.is_true(inputs, facts) {
-            Ok(true) => row.complete(before, let_go(before), inputs, facts, outs),
+            Ok(true) => row.complete(before, released(before), inputs, facts, outs),
             Ok(false) => (Reply::Running, held(since, before)),
             Err(cause) => (Reply::Broken(cause), before),
         }

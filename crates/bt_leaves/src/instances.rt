@@ -24,8 +24,8 @@ pub fn held(since: u64, instance: Instance) -> Instance
 }
 
 /// The instance, not held.
-pub fn let_go(instance: Instance) -> Instance
-    ensures { result ≡ leaf.let_go instance }
+pub fn released(instance: Instance) -> Instance
+    ensures { result ≡ leaf.released instance }
 {
     Instance {
         since: None,

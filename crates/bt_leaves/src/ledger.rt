@@ -2,7 +2,7 @@ ghost use Rattle.std.specs.Prelude.{◌≡◌, ◌<◌, ◌^◌, IfOk, OnOk, OnE
 ghost use Rattle.bt_model.specs.Drivers.{after_call, after_halted, counted, held_count, instance_of, is_held, new_driver, prepared};
 ghost use Rattle.bt_model.specs.Leaf as leaf;
 
-use crate::instances::{fresh, let_go};
+use crate::instances::{fresh, released};
 use bt_model::{DriverKind, Instance, Phase, Totals};
 use bt_script::NoMemory;
 use std::alloc::Global;
@@ -146,7 +146,7 @@ impl Ledger {
         requires { instance < length self.old.table }
         ensures { self.new ≡ after_halted self.old instance }
     {
-        let left = let_go(self.instance(instance));
+        let left = released(self.instance(instance));
         self.record_call(Phase::Halted, instance, left);
     }
 }

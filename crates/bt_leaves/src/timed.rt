@@ -1,7 +1,7 @@
 ghost use Rattle.std.specs.Prelude.{◌≡◌, ◌≤◌, length};
 ghost use Rattle.bt_model.specs.declared.leaf.DriverKind.TheVariants as driver;
 
-use crate::instances::{held, let_go};
+use crate::instances::{held, released};
 use crate::ledger::Ledger;
 use bt_driver::{Driver, DriverKind, FactTable, Inputs, Outs, ReadyRow, ReadySort, Reply, Totals};
 use bt_model::{Instance, Phase};
@@ -56,10 +56,10 @@ impl Timed {
             return (Reply::Running, held(since, before));
         }
         match fails {
-            None => row.complete(before, let_go(before), inputs, facts, outs),
+            None => row.complete(before, released(before), inputs, facts, outs),
             Some(test) => match test.is_true(inputs, facts) {
-                Ok(true) => (Reply::Failure, let_go(before)),
-                Ok(false) => row.complete(before, let_go(before), inputs, facts, outs),
+                Ok(true) => (Reply::Failure, released(before)),
+                Ok(false) => row.complete(before, released(before), inputs, facts, outs),
                 Err(cause) => (Reply::Broken(cause), before),
             },
         }

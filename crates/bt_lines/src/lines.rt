@@ -1,7 +1,7 @@
 ghost use Rattle.std.specs.Prelude.{◌≡◌, ◌==◌, ◌≤◌, ◌-◌, ◌||◌, nat_eq, codes, map, length, take, IfOk, bytes_eq};
 ghost use Rattle.std.specs.List.{list_all, slice_split, starts_with, suffix_len, prefix_len, position_or_len};
 ghost use Rattle.bt_model.specs.WorldFile as file;
-ghost use Rattle.bt_model.specs.WorldFile.{is_gap, is_line_byte, without_empty_rest, without_return, behind_gap, before_gap, front_word, behind_word};
+ghost use Rattle.bt_model.specs.WorldFile.{is_gap, is_line_byte, without_empty_rest, without_return, without_gap, before_gap, front_word, after_word};
 
 use std::alloc::{AllocError, Global};
 
@@ -73,7 +73,7 @@ fn word_len(text: &[u8]) -> usize
 
 /// The text without the gap at its front.
 fn after_gap(text: &[u8]) -> &[u8]
-    ensures { result.now ≡ behind_gap text.now }
+    ensures { result.now ≡ without_gap text.now }
 {
     let (_, rest) = text.split_at(gap_len(text));
     rest
@@ -98,16 +98,16 @@ pub fn content(text: &[u8]) -> &[u8]
 }
 
 /// Whether a line with this content is ignored: it is blank, or begins with `#`.
-pub fn is_read_over(content: &[u8]) -> bool
-    ensures { result ≡ file.is_read_over content.now }
+pub fn is_ignored(content: &[u8]) -> bool
+    ensures { result ≡ file.is_ignored content.now }
 {
     content.is_empty() || content.starts_with(b"#".as_slice())
 }
 
 /// The word at the front, and what follows it and the gap after it.
 pub fn cut(text: &[u8]) -> (&[u8], &[u8])
-    ensures front { result.0.now ≡ front_word text.now }
-    ensures rest { result.1.now ≡ behind_word text.now }
+    ensures prefix { result.0.now ≡ front_word text.now }
+    ensures rest { result.1.now ≡ after_word text.now }
 {
     let (word, rest) = text.split_at(word_len(text));
     (word, after_gap(rest))

@@ -29,8 +29,8 @@ module _ (tree : Tree) (before after : List DriverState) (old new other : Runs) 
   told_after q = record { state = q.state; notes = q.notes; drivers = q.drivers; facts = q.facts; last = q.last; arenas = q.arenas; boards = q.boards }
 
   -- a quench after what changed was told
-  pub quenched_behind : other ≡ record old { told = other.told } → IsQuenched tree before after other new m0 m1 → IsQuenched tree before after old new n0 n1
-  quenched_behind same q =
+  pub quenched_after : other ≡ record old { told = other.told } → IsQuenched tree before after other new m0 m1 → IsQuenched tree before after old new n0 n1
+  quenched_after same q =
       told_before (subst (λ (r : Runs). IsQuenched tree before after r new n0 n1) same
       (subst (λ xs. IsQuenched tree before after other new xs n1) same0 (subst (λ xs. IsQuenched tree before after other new m0 xs) same1 q)))
 

@@ -13,8 +13,8 @@ use Rattle.bt_model.specs.declared.term.Tree.{Tree}
 use Rattle.bt_model.specs.declared.world.World.{World}
 use Rattle.bt_model.specs.Done.{Call}
 use Rattle.bt_model.specs.Drivers.{DriverState, NothingHeld, instance_at, is_held}
-use Rattle.bt_model.specs.Leaf.{fresh, let_go}
-use Rattle.bt_model.specs.Run.{Runner, letting_go, quench_calls, quench_notes, quenched_notes, quenched_runner, root_view, runner_calls}
+use Rattle.bt_model.specs.Leaf.{fresh, released}
+use Rattle.bt_model.specs.Run.{Runner, releases, quench_calls, quench_notes, quenched_notes, quenched_runner, root_view, runner_calls}
 use Rattle.bt_model.specs.Visit.{idle}
 use Rattle.bt_arena.specs.declared.nodes.Node.{Node}
 use Rattle.bt_arena.specs.declared.nodes.ReadyLeaf.{ReadyLeaf}
@@ -29,13 +29,13 @@ use Rattle.bt_loop.proofs.Lists.{entry, map_alike, set_is, within}
 use Rattle.bt_loop.proofs.Others.{over_both, over_runner}
 use Rattle.bt_loop.proofs.Putting.{arenas_same, fit_put, nodes_are, runners_put}
 
-let_go_twice : (is : List Instance) → map let_go (map let_go is) ≡ map let_go is
-let_go_twice [] = refl
-let_go_twice (i ∷ is) = ap (λ xs. let_go i ∷ xs) (let_go_twice is)
+released_twice : (is : List Instance) → map released (map released is) ≡ map released is
+released_twice [] = refl
+released_twice (i ∷ is) = ap (λ xs. released i ∷ xs) (released_twice is)
 
 -- a second quench of a runner changes nothing
 pub twice : (tree : Tree) (r : Runner) → quenched_runner tree (quenched_runner tree r) ≡ quenched_runner tree r
-twice tree r = ap (λ (is : List Instance). let one : Runner = record { memory = idle tree.term; board = r.board; instances = is } in one) (let_go_twice r.instances)
+twice tree r = ap (λ (is : List Instance). let one : Runner = record { memory = idle tree.term; board = r.board; instances = is } in one) (released_twice r.instances)
 
 drop_set : {A : Type 0} (xs : List A) (i : ℕ) (y : A) → drop (suc i) (set xs i y) ≡ drop (suc i) xs
 drop_set [] i y = refl
@@ -73,8 +73,8 @@ module _ (tree : Tree) (world : World) (facts : List ℤ) (i : ℕ) (before now 
     (nodes : new.arena.nodes.items ≡ r.arena.nodes.items) (number : new.arena.runner ≡ r.arena.runner)
     (stays : StaysFit r.arena.nodes.items (scene_of r facts now) (scene_of new facts now1))
     (gone : runner_by tree.term r.arena.nodes.items new now1 ≡ quenched_runner tree (runner_in tree.term now r))
-    (called : now1 ≡ roster_after r.arena.nodes.items (letting_go 0 (instances_of r.arena.nodes.items now)) now)
-    (notes1 : noted1 ≡ noted ++ quenched_notes r.arena.runner (letting_go 0 (instances_of r.arena.nodes.items now))) where
+    (called : now1 ≡ roster_after r.arena.nodes.items (releases 0 (instances_of r.arena.nodes.items now)) now)
+    (notes1 : noted1 ≡ noted ++ quenched_notes r.arena.runner (releases 0 (instances_of r.arena.nodes.items now))) where
   abbrev t : Term
   t = tree.term
 
@@ -88,7 +88,7 @@ module _ (tree : Tree) (world : World) (facts : List ℤ) (i : ℕ) (before now 
   here = runner_in t now r
 
   abbrev calls : List Call
-  calls = letting_go 0 (instances_of r.arena.nodes.items now)
+  calls = releases 0 (instances_of r.arena.nodes.items now)
 
   here_is : slice_get all i ≡ Some here
   here_is = slice_get-map (runner_in t now) rs i ∙ ap (option_map (runner_in t now)) is
@@ -159,7 +159,7 @@ module _ (tree : Tree) (world : World) (facts : List ℤ) (place : ℕ) (before 
   pub quenched_state_end : runners_in tree.term now rs ≡ map (quenched_runner tree) (runners_in tree.term before old)
   quenched_state_end = sym stays_same ∙ so_far.state
 
-  free_at : (is : List Instance) (uid : ℕ) → is_held (get_or (map let_go is) uid fresh) ≡ false
+  free_at : (is : List Instance) (uid : ℕ) → is_held (get_or (map released is) uid fresh) ≡ false
   free_at [] uid = refl
   free_at (i ∷ is) zero = refl
   free_at (i ∷ is) (suc uid) = free_at is uid
@@ -195,16 +195,16 @@ one_held true call rest = omega arith
 one_held false call rest = omega arith
 
 one_note : (drivers : List DriverState) (uid : ℕ) (found : Option ReadyLeaf) (rest : List Call) →
-    length (if is_some (leaf_instance drivers found).since then record { uid = uid; phase = phase.Halted; left = let_go (leaf_instance drivers found) } ∷ rest else rest) ≤ cond (has_driver found) 1 0 + length rest
+    length (if is_some (leaf_instance drivers found).since then record { uid = uid; phase = phase.Halted; left = released (leaf_instance drivers found) } ∷ rest else rest) ≤ cond (has_driver found) 1 0 + length rest
 one_note drivers uid None rest = omega arith
-one_note drivers uid (Some leaf) rest = one_held (is_some (instance_at drivers leaf.driver leaf.instance).since) (record { uid = uid; phase = phase.Halted; left = let_go (instance_at drivers leaf.driver leaf.instance) }) rest
+one_note drivers uid (Some leaf) rest = one_held (is_some (instance_at drivers leaf.driver leaf.instance).since) (record { uid = uid; phase = phase.Halted; left = released (instance_at drivers leaf.driver leaf.instance) }) rest
 
 -- a quench makes no more notes than the runner has leaves
-pub few_notes : (drivers : List DriverState) (uid : ℕ) (nodes : List Node) → length (letting_go uid (instances_of nodes drivers)) ≤ leaves_in nodes
+pub few_notes : (drivers : List DriverState) (uid : ℕ) (nodes : List Node) → length (releases uid (instances_of nodes drivers)) ≤ leaves_in nodes
 few_notes drivers uid [] = omega arith
 few_notes drivers uid (n ∷ ns) =
     let counted : leaves_in (n ∷ ns) ≡ cond (has_driver n.leaf) 1 0 + leaves_in ns = sum_by-cons (λ (x : Node). cond (has_driver x.leaf) 1 0) n ns in
-    omega (arith, counted, few_notes drivers (uid + 1) ns, one_note drivers uid n.leaf (letting_go (uid + 1) (instances_of ns drivers)))
+    omega (arith, counted, few_notes drivers (uid + 1) ns, one_note drivers uid n.leaf (releases (uid + 1) (instances_of ns drivers)))
 
 pub room_more : (arenas : List (List Node)) (i : ℕ) (nodes : List Node) → slice_get arenas i ≡ Some nodes → leaves_of (drop i arenas) ≡ leaves_in nodes + leaves_of (drop (i + 1) arenas)
 room_more arenas i nodes is =

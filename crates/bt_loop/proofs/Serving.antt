@@ -50,14 +50,14 @@ served_by_places place (n ∷ nodes) =
     ∙ sym (among_cons place (driver_of n.leaf) places)
 
 -- a node that is served is counted after those before it
-counted_behind : (places : List (Option ℕ)) (uid place : ℕ) → get_or places uid None ≡ Some place → served_among place (take uid places) + 1 ≤ served_among place places
-counted_behind [] uid place at = absurd (cc)
-counted_behind (p ∷ ps) zero place at =
+counted_after : (places : List (Option ℕ)) (uid place : ℕ) → get_or places uid None ≡ Some place → served_among place (take uid places) + 1 ≤ served_among place places
+counted_after [] uid place at = absurd (cc)
+counted_after (p ∷ ps) zero place at =
     let own : is_place place p ≡ true = ap (is_place place) at ∙ grind (arith, nat_tests) in
     let one : ◌≡◌ {A = ℕ} (cond (is_place place p) 1 0) 1 = ap {B = ℕ} (λ b. cond {A = ℕ} b 1 0) own in
     omega (arith, among_cons place p ps, one)
-counted_behind (p ∷ ps) (suc uid) place at =
-    omega (arith, counted_behind ps uid place at, among_cons place p (take uid ps), among_cons place p ps)
+counted_after (p ∷ ps) (suc uid) place at =
+    omega (arith, counted_after ps uid place at, among_cons place p (take uid ps), among_cons place p ps)
 
 -- ---- One arena
 
@@ -189,7 +189,7 @@ module _ (tree : Tree) (world : World) (drivers : List DriverState) where
         let arena = (are k r at).arena in
         let before : k + 1 - 1 ≡ k = omega arith in (
           instance_is (k + 1) r.arena arena uid x leaf ∙ ap (λ n. n * served_among x.driver places + served_among x.driver (take uid places)) before,
-          counted_behind places uid x.driver (sym (place_is (k + 1) r.arena arena uid) ∙ ap driver_of leaf),
+          counted_after places uid x.driver (sym (place_is (k + 1) r.arena arena uid) ∙ ap driver_of leaf),
         )
 
     runner_of : (k : ℕ) (a : List Node) → slice_get (arenas_in runners) k ≡ Some a → (r : ReadyRunner) × (slice_get runners k ≡ Some r) × (nodes_in r ≡ a)
@@ -216,6 +216,6 @@ module _ (tree : Tree) (world : World) (drivers : List DriverState) where
           | inl equal ↦ equal
           | inr apart ↦ elim apart [
             | inl before ↦ absurd (ordered k other s here there before one.1 two_low same)
-            | inr behind ↦ absurd (ordered other k s there here behind two_low one.1 (sym same))
+            | inr following ↦ absurd (ordered other k s there here following two_low one.1 (sym same))
           ]
         ]

@@ -11,7 +11,7 @@ use Rattle.bt_model.specs.declared.status.Answer.{Answer}
 use Rattle.bt_model.specs.declared.status.Status.{Status}
 use Rattle.bt_model.specs.declared.status.Status.TheVariants as status
 use Rattle.bt_model.specs.declared.term.Term.{Term, out-Term}
-use Rattle.bt_model.specs.Done.{Done, State, behind, carried, done, follow}
+use Rattle.bt_model.specs.Done.{Done, State, following, carried, done, follow}
 use Rattle.bt_model.specs.Run.{root_told, settled}
 use Rattle.bt_model.specs.Sites.{View, remembered}
 use Rattle.bt_model.specs.Visit.{change}
@@ -68,7 +68,7 @@ module _ (t : Term) (nodes : List Node) (at runner : ℕ) (answer : Answer) (s1 
   out_is = ap out-Memory (memory_out t 1 s1.kept) ∙ out-roll-Memory opened_to
 
   abbrev told_by : Memory-F Memory → Done Answer Memory
-  told_by o = behind (Root runner answer ∷ change 1 o.status (settled o.status)) [] (done answer (remembered (settled o.status) o.memo o.children) (state_in nodes s1 at))
+  told_by o = following (Root runner answer ∷ change 1 o.status (settled o.status)) [] (done answer (remembered (settled o.status) o.memo o.children) (state_in nodes s1 at))
 
   told_is : told ≡ told_by opened_to
   told_is = ap told_by out_is

@@ -7,7 +7,7 @@ ghost use Rattle.bt_model.specs.Terms.{leaf_ids};
 ghost use Rattle.bt_model.specs.Trees.{IsValid};
 ghost use Rattle.bt_model.specs.Worlds.{IsValidWorld};
 ghost use Rattle.bt_arena.specs.declared.join_fault.JoinFault.{JoinFault as Lack};
-ghost use Rattle.bt_arena.specs.Joins.{Joins, first_lack};
+ghost use Rattle.bt_arena.specs.Joins.{Joins, first_missing};
 ghost use Rattle.bt_loop.specs.Runs.{AreRuns, arenas_of, instances_wanted, roster_over, state_of_runs};
 ghost use Rattle.bt_loop.specs.Served.{calls_made, serving_places};
 ghost use Rattle.bt_loop.specs.Steps.{IsSameRoster};
@@ -38,7 +38,7 @@ pub fn make_runs<D: Drivers>(
     requires slots { slots.now ≡ slot_table tree.now }
     requires world { IsValidWorld world.now }
     requires quiet { NothingHeld (D.states drivers.old) }
-    ensures fault { Joins result (first_lack world.now.rows (D.states drivers.old) (leaf_ids tree.now.term)) }
+    ensures fault { Joins result (first_missing world.now.rows (D.states drivers.old) (leaf_ids tree.now.term)) }
     ensures runs { IfOk result (λ runs. AreRuns tree.now world.now (D.states drivers.new) runs) }
     ensures opening { IfOk result (λ runs. state_of_runs tree.now.term (D.states drivers.new) runs ≡ opening tree.now world.now) }
     ensures prepared { IfOk result (λ runs. D.states drivers.new ≡ roster_prepared (D.states drivers.old) (instances_wanted tree.now world.now (D.states drivers.old))) }
@@ -72,7 +72,7 @@ pub fn runs_of(
     requires slots { slots.now ≡ slot_table tree.now }
     requires world { IsValidWorld world.now }
     requires quiet { NothingHeld (map (λ b. state b) roster.old.items) }
-    ensures fault { Joins result (first_lack world.now.rows (map (λ b. state b) roster.old.items) (leaf_ids tree.now.term)) }
+    ensures fault { Joins result (first_missing world.now.rows (map (λ b. state b) roster.old.items) (leaf_ids tree.now.term)) }
     ensures runs { IfOk result (λ runs. AreRuns tree.now world.now (map (λ b. state b) roster.new.items) runs) }
     ensures opening { IfOk result (λ runs. state_of_runs tree.now.term (map (λ b. state b) roster.new.items) runs ≡ opening tree.now world.now) }
     ensures prepared { IfOk result (λ runs. map (λ b. state b) roster.new.items ≡ roster_prepared (map (λ b. state b) roster.old.items) (instances_wanted tree.now world.now (map (λ b. state b) roster.old.items))) }

@@ -3,7 +3,7 @@ ghost use Rattle.bt_model.specs.Boards.{slot_table};
 ghost use Rattle.bt_model.specs.Terms.{leaf_ids};
 ghost use Rattle.bt_model.specs.Trees.{IsValid};
 ghost use Rattle.bt_model.specs.Worlds.{IsValidWorld};
-ghost use Rattle.bt_arena.specs.Joins.{Joins, first_lack};
+ghost use Rattle.bt_arena.specs.Joins.{Joins, first_missing};
 ghost use Rattle.bt_loop.specs.Opening.{AreOpening, AreOpeningRuns, IsOpening};
 ghost use Rattle.bt_loop.specs.Runs.{boards_in};
 ghost use Rattle.bt_loop.specs.Telling.{boards_told};
@@ -75,7 +75,7 @@ fn runner_of<D: Drivers>(
     requires world { IsValidWorld world.now }
     requires first { 1 ≤ number }
     requires last { number ≤ world.now.runners }
-    ensures fault { Joins result (first_lack world.now.rows (D.states drivers.now) (leaf_ids tree.now.term)) }
+    ensures fault { Joins result (first_missing world.now.rows (D.states drivers.now) (leaf_ids tree.now.term)) }
     ensures runner { IfOk result (λ runner. IsOpening tree.now world.now (D.states drivers.now) number runner) }
 {
     let arena = arena_of(alloc, tree, slots, world, drivers, number)?;
@@ -95,7 +95,7 @@ fn runners_of<D: Drivers>(
     requires tree { IsValid tree.now }
     requires slots { slots.now ≡ slot_table tree.now }
     requires world { IsValidWorld world.now }
-    ensures fault { Joins result (first_lack world.now.rows (D.states drivers.now) (leaf_ids tree.now.term)) }
+    ensures fault { Joins result (first_missing world.now.rows (D.states drivers.now) (leaf_ids tree.now.term)) }
     ensures many { IfOk result (λ runners. length runners.items ≡ world.now.runners) }
     ensures runners { IfOk result (λ runners. AreOpening tree.now world.now (D.states drivers.now) runners.items) }
 {
@@ -119,7 +119,7 @@ pub fn opening_runs<D: Drivers>(
     requires tree { IsValid tree.now }
     requires slots { slots.now ≡ slot_table tree.now }
     requires world { IsValidWorld world.now }
-    ensures fault { Joins result (first_lack world.now.rows (D.states drivers.now) (leaf_ids tree.now.term)) }
+    ensures fault { Joins result (first_missing world.now.rows (D.states drivers.now) (leaf_ids tree.now.term)) }
     ensures runs { IfOk result (AreOpeningRuns tree.now world.now (D.states drivers.now)) }
 {
     let runners = runners_of(alloc, tree, slots, world, drivers)?;

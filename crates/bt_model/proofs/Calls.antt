@@ -13,7 +13,7 @@ use Rattle.bt_model.specs.declared.world.Row.{Row}
 use Rattle.bt_model.specs.declared.world.RowSort.{RowSort}
 use Rattle.bt_model.specs.declared.world.RowSort.TheVariants as sort
 use Rattle.bt_model.specs.declared.world.Set.{Set}
-use Rattle.bt_model.specs.Leaf.{Answered, Rule, Test, Way, Tests, Lasts, Replays, Waits, answer_by, completed, completion, decided, effects_of, fact_at, finished, held, judged, lasting, leaf_rule, let_go, made_by, outcome_at, outputs_of, replied, rule_answer, rule_of, since_after, start_of, timed_end, way_of}
+use Rattle.bt_model.specs.Leaf.{Answered, Rule, Test, Way, Tests, Lasts, Replays, Waits, answer_by, completed, completion, decided, effects_of, fact_at, finished, held, judged, lasting, leaf_rule, released, made_by, outcome_at, outputs_of, replied, rule_answer, rule_of, since_after, start_of, timed_end, way_of}
 use Rattle.bt_model.specs.Shapes.{Lasts as SortLasts}
 
 -- effects leave as many facts as there were
@@ -70,9 +70,9 @@ module _ (way : Way) (rule : Rule) (since : ℕ) (instance : Instance) (inputs :
   judged_keeps (Err cause) go keeps = broken_keeps cause
 
   timed_keeps : (fails : Option Test) → Kept (timed_end fails rule instance inputs facts)
-  timed_keeps None = decided_keeps true (let_go instance) refl
+  timed_keeps None = decided_keeps true (released instance) refl
   timed_keeps (Some fails) =
-      judged_keeps (fails inputs facts) (λ b. decided (not b) rule instance (let_go instance) inputs facts) (λ b. decided_keeps (not b) (let_go instance) refl)
+      judged_keeps (fails inputs facts) (λ b. decided (not b) rule instance (released instance) inputs facts) (λ b. decided_keeps (not b) (released instance) refl)
 
   lasting_keeps : WayLasts way → (ms now : ℕ) (ending : Answered) → Kept ending → Kept (lasting since ms now instance facts ending)
   lasting_keeps lasts ms now ending keeps =
@@ -81,24 +81,24 @@ module _ (way : Way) (rule : Rule) (since : ℕ) (instance : Instance) (inputs :
         | false ↦ keeps
       ]
 
-  tested_keeps : (b : Bool) → Kept (replied (if b then Success else Failure) (let_go instance) facts)
+  tested_keeps : (b : Bool) → Kept (replied (if b then Success else Failure) (released instance) facts)
   tested_keeps true = record { held_while_running = refl; as_many = refl; lasts = λ e. cc; breaks = λ c e. cc }
-  tested_keeps false = failed_keeps (let_go instance) refl
+  tested_keeps false = failed_keeps (released instance) refl
 
-  awaited_keeps : WayLasts way → (b : Bool) → Kept (if b then completion rule instance (let_go instance) inputs facts else replied Running (held since instance) facts)
-  awaited_keeps lasts true = decided_keeps true (let_go instance) refl
+  awaited_keeps : WayLasts way → (b : Bool) → Kept (if b then completion rule instance (released instance) inputs facts else replied Running (held since instance) facts)
+  awaited_keeps lasts true = decided_keeps true (released instance) refl
   awaited_keeps lasts false = running_keeps lasts
 
 answer_keeps : (way : Way) (rule : Rule) (since : ℕ) (instance : Instance) (inputs : List Seen) (facts : List ℤ) (now : ℕ) → Keeps way since instance facts (answer_by way rule since instance inputs facts now)
 answer_keeps (Tests test) rule since instance inputs facts now =
-    judged_keeps (Tests test) rule since instance inputs facts (test inputs facts) (λ b. replied (if b then Success else Failure) (let_go instance) facts) (tested_keeps (Tests test) rule since instance inputs facts)
+    judged_keeps (Tests test) rule since instance inputs facts (test inputs facts) (λ b. replied (if b then Success else Failure) (released instance) facts) (tested_keeps (Tests test) rule since instance inputs facts)
 answer_keeps (Lasts ms fails) rule since instance inputs facts now =
     lasting_keeps (Lasts ms fails) rule since instance inputs facts tt ms now (timed_end fails rule instance inputs facts) (timed_keeps (Lasts ms fails) rule since instance inputs facts fails)
 answer_keeps (Replays ms outcomes) rule since instance inputs facts now =
     lasting_keeps (Replays ms outcomes) rule since instance inputs facts tt ms now (decided (outcome_at outcomes instance.completions) rule instance (completed instance) inputs facts)
     (decided_keeps (Replays ms outcomes) rule since instance inputs facts (outcome_at outcomes instance.completions) (completed instance) refl)
 answer_keeps (Waits test) rule since instance inputs facts now =
-    judged_keeps (Waits test) rule since instance inputs facts (test inputs facts) (λ b. if b then completion rule instance (let_go instance) inputs facts else replied Running (held since instance) facts)
+    judged_keeps (Waits test) rule since instance inputs facts (test inputs facts) (λ b. if b then completion rule instance (released instance) inputs facts else replied Running (held since instance) facts)
     (awaited_keeps (Waits test) rule since instance inputs facts tt)
 
 -- a call by a rule

@@ -6,6 +6,7 @@ use Rattle.std.specs.Ordering.{int_eq}
 use Rattle.std.specs.Str.{bytes_eq}
 use Rattle.bt_script.specs.declared.value.Value.{Value}
 use Rattle.bt_script.specs.declared.value.Value.TheVariants.{Int, Text}
+use Rattle.bt_model.specs.Limits.{longest_duration, most_text_bytes, most_turns}
 use Rattle.bt_model.specs.declared.built_ins.Class.{Class}
 use Rattle.bt_model.specs.declared.built_ins.Class.TheVariants as class
 use Rattle.bt_model.specs.declared.built_ins.PortRule.{PortRule as Row}
@@ -183,12 +184,12 @@ writes name class.SubTree = false
 -- whether a literal is within a range: any value, any number, 1 to 1000 or -1, 0 to 4294967295, or a truth value
 abbrev pub fits : Range → Value → Bool
 fits AnyValue (Int n) = true
-fits AnyValue (Text text) = nat_le (length text) 4096
+fits AnyValue (Text text) = nat_le (length text) most_text_bytes
 fits AnyInt (Int n) = true
 fits AnyInt (Text text) = false
-fits Turns (Int n) = int_eq n (negsuc 0) || int_le (pos 1) n && int_le n (pos 1000)
+fits Turns (Int n) = int_eq n (negsuc 0) || int_le (pos 1) n && int_le n (pos most_turns)
 fits Turns (Text text) = false
-fits Duration (Int n) = int_le (pos 0) n && int_le n (pos 4294967295)
+fits Duration (Int n) = int_le (pos 0) n && int_le n (pos longest_duration)
 fits Duration (Text text) = false
 fits Truth (Int n) = int_eq n (pos 0) || int_eq n (pos 1)
 fits Truth (Text text) = bytes_eq text (codes "true") || bytes_eq text (codes "false")

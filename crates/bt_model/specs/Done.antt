@@ -39,12 +39,12 @@ abbrev pub done : {A M : Type 0} → A → M → State → Done A M
 done a memory state = ends (Ok a) memory state
 
 -- what a part leaves, with these notes and calls before its own
-abbrev pub behind : {A M : Type 0} → List Note → List Call → Done A M → Done A M
-behind notes calls d = record { answer = d.answer; memory = d.memory; state = d.state; notes = notes ++ d.notes; calls = calls ++ d.calls }
+abbrev pub following : {A M : Type 0} → List Note → List Call → Done A M → Done A M
+following notes calls d = record { answer = d.answer; memory = d.memory; state = d.state; notes = notes ++ d.notes; calls = calls ++ d.calls }
 
 -- after a part another goes on with its answer; a fault ends it, and what was done before stands, its memory in its place
 abbrev pub carried : {A M B N : Type 0} → Result A NodeFault → Done A M → (M → N) → (A → M → State → Done B N) → Done B N
-carried (Ok a) d place go = behind d.notes d.calls (go a d.memory d.state)
+carried (Ok a) d place go = following d.notes d.calls (go a d.memory d.state)
 carried (Err f) d place go = record { answer = Err f; memory = place d.memory; state = d.state; notes = d.notes; calls = d.calls }
 
 -- one part and then the next

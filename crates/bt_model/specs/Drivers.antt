@@ -10,7 +10,7 @@ use Rattle.bt_model.specs.declared.leaf.Totals.{Totals}
 use Rattle.bt_model.specs.declared.world.Row.{Row}
 use Rattle.bt_model.specs.declared.world.RowSort.{RowSort}
 use Rattle.bt_model.specs.declared.world.RowSort.TheVariants.{Is, When, Timed, Replay, Gate}
-use Rattle.bt_model.specs.Leaf.{Way, Tests, Lasts, Replays, Waits, Rule, Answered, fresh, let_go, rule_answer}
+use Rattle.bt_model.specs.Leaf.{Way, Tests, Lasts, Replays, Waits, Rule, Answered, fresh, released, rule_answer}
 
 -- ---- Kinds
 
@@ -110,7 +110,7 @@ after_call d phase instance left = record d { table = slice_set d.table instance
 
 -- the driver after the call `halted` of an instance
 abbrev pub after_halted : DriverState → ℕ → DriverState
-after_halted d instance = after_call d phase.Halted instance (let_go (instance_of d instance))
+after_halted d instance = after_call d phase.Halted instance (released (instance_of d instance))
 
 -- what a call of `start` or `running` of an instance leaves by this rule
 abbrev pub driver_answer : DriverState → ℕ → Rule → Phase → List Seen → List ℤ → ℕ → Answered

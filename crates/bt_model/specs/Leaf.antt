@@ -151,8 +151,8 @@ abbrev pub held : ℕ → Instance → Instance
 held since instance = record { since = Some since; completions = instance.completions }
 
 -- an instance that is no longer held; its completions stay
-abbrev pub let_go : Instance → Instance
-let_go instance = record { since = None; completions = instance.completions }
+abbrev pub released : Instance → Instance
+released instance = record { since = None; completions = instance.completions }
 
 -- an instance that has completed once more; completions are counted up to 64
 abbrev pub completed : Instance → Instance
@@ -244,9 +244,9 @@ decided false rule before after inputs facts = replied Failure after facts
 
 -- the end of an action whose time is over
 abbrev pub timed_end : Option Test → Rule → Instance → List Seen → List ℤ → Answered
-timed_end None rule instance inputs facts = completion rule instance (let_go instance) inputs facts
+timed_end None rule instance inputs facts = completion rule instance (released instance) inputs facts
 timed_end (Some fails) rule instance inputs facts =
-    judged (fails inputs facts) instance facts (λ b. decided (not b) rule instance (let_go instance) inputs facts)
+    judged (fails inputs facts) instance facts (λ b. decided (not b) rule instance (released instance) inputs facts)
 
 -- RUNNING until the time is over, and then this end
 abbrev pub lasting : ℕ → ℕ → ℕ → Instance → List ℤ → Answered → Answered
@@ -256,14 +256,14 @@ lasting since ms now instance facts ending =
 -- what a call leaves by the row's way, where the leaf began at this moment
 abbrev pub answer_by : Way → Rule → ℕ → Instance → List Seen → List ℤ → ℕ → Answered
 answer_by (Tests test) rule since instance inputs facts now =
-    judged (test inputs facts) instance facts (λ b. replied (if b then Success else Failure) (let_go instance) facts)
+    judged (test inputs facts) instance facts (λ b. replied (if b then Success else Failure) (released instance) facts)
 answer_by (Lasts ms fails) rule since instance inputs facts now =
     lasting since ms now instance facts (timed_end fails rule instance inputs facts)
 answer_by (Replays ms outcomes) rule since instance inputs facts now =
     lasting since ms now instance facts (decided (outcome_at outcomes instance.completions) rule instance (completed instance) inputs facts)
 answer_by (Waits test) rule since instance inputs facts now =
     judged (test inputs facts) instance facts
-    (λ b. if b then completion rule instance (let_go instance) inputs facts else replied Running (held since instance) facts)
+    (λ b. if b then completion rule instance (released instance) inputs facts else replied Running (held since instance) facts)
 
 -- what a call by a rule leaves
 abbrev pub rule_answer : Rule → Phase → Instance → List Seen → List ℤ → ℕ → Answered

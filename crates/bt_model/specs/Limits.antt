@@ -80,3 +80,15 @@ most_rounds = 100000
 -- the leaves of a load
 abbrev pub most_leaves : ℕ
 most_leaves = 1000
+
+-- the bytes of a text in a script or at a port
+abbrev pub most_text_bytes : ℕ
+most_text_bytes = 4096
+
+-- the attempts of a Retry and the cycles of a Repeat, where there are not endlessly many
+abbrev pub most_turns : ℕ
+most_turns = 1000
+
+-- the longest duration at a port, in milliseconds
+abbrev pub longest_duration : ℕ
+longest_duration = 4294967295

@@ -116,13 +116,13 @@ going hear next memo (Give a) = keep a memo
 going hear next memo (Visit place) = hear place (next memo)
 
 -- the children of a span are reset, if it has any, before what follows
-abbrev pub behind_resets : Span → Rule → Rule
-behind_resets span.None rule = rule
-behind_resets span rule = reset span rule
+abbrev pub after_resets : Span → Rule → Rule
+after_resets span.None rule = rule
+after_resets span rule = reset span rule
 
 -- a move, with the memo that it leaves and what follows it
 abbrev pub makes : (ℕ → (Heard → Rule) → Rule) → (Memo → Heard → Rule) → Memo → Move → Rule
-makes hear next memo move = behind_resets move.reset (going hear next memo move.then)
+makes hear next memo move = after_resets move.reset (going hear next memo move.then)
 
 -- a turn is left to a Retry or Repeat with a limit
 abbrev pub TurnIsLeft : ℕ → Option ℕ → Type 0

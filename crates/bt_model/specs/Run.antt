@@ -24,8 +24,8 @@ use Rattle.bt_model.specs.declared.world.What.{What}
 use Rattle.bt_model.specs.declared.world.What.TheVariants.{Tick, Halt, Change}
 use Rattle.bt_model.specs.declared.world.World.{World}
 use Rattle.bt_model.specs.Boards.{main_scope, opening_board, slots}
-use Rattle.bt_model.specs.Done.{Call, Done, State, behind, done, follow}
-use Rattle.bt_model.specs.Leaf.{fresh, let_go}
+use Rattle.bt_model.specs.Done.{Call, Done, State, following, done, follow}
+use Rattle.bt_model.specs.Leaf.{fresh, released}
 use Rattle.bt_model.specs.Sites.{View, remembered}
 use Rattle.bt_model.specs.Terms.{node_count}
 use Rattle.bt_model.specs.Visit.{change, idle, meaning}
@@ -81,7 +81,7 @@ settled old = old
 -- the end of a tick: the note of its answer, and the root's own end
 abbrev pub root_told : ℕ → Answer → Memory → State → Done Answer Memory
 root_told runner answer m s =
-    behind (Root runner answer ∷ change 1 (out-Memory m).status (settled (out-Memory m).status)) []
+    following (Root runner answer ∷ change 1 (out-Memory m).status (settled (out-Memory m).status)) []
     (done answer (remembered (settled (out-Memory m).status) (out-Memory m).memo (out-Memory m).children) s)
 
 -- a tick visits the root, which has the uid 1
@@ -96,10 +96,10 @@ root_reset tree view m s = (meaning tree.term).reset view 1 m s
 -- ---- Quench
 
 -- the calls of `halted` of all instances that are held, by uid, of instances of which the first has this uid
-abbrev pub letting_go : ℕ → List Instance → List Call
-letting_go uid [] = []
-letting_go uid (i ∷ instances) =
-    if is_some i.since then record { uid = uid; phase = phase.Halted; left = let_go i } ∷ letting_go (uid + 1) instances else letting_go (uid + 1) instances
+abbrev pub releases : ℕ → List Instance → List Call
+releases uid [] = []
+releases uid (i ∷ instances) =
+    if is_some i.since then record { uid = uid; phase = phase.Halted; left = released i } ∷ releases (uid + 1) instances else releases (uid + 1) instances
 
 -- the notes of such calls
 abbrev pub quenched_notes : ℕ → List Call → List Note
@@ -113,16 +113,16 @@ runner_calls runner calls = map (λ (c : Call). let call : RunnerCall = record {
 -- the first has this number
 abbrev pub quench_notes : ℕ → List Runner → List Note
 quench_notes runner [] = []
-quench_notes runner (r ∷ runners) = quenched_notes runner (letting_go 0 r.instances) ++ quench_notes (runner + 1) runners
+quench_notes runner (r ∷ runners) = quenched_notes runner (releases 0 r.instances) ++ quench_notes (runner + 1) runners
 
 -- the calls of a quench, in the same order
 abbrev pub quench_calls : ℕ → List Runner → List RunnerCall
 quench_calls runner [] = []
-quench_calls runner (r ∷ runners) = runner_calls runner (letting_go 0 r.instances) ++ quench_calls (runner + 1) runners
+quench_calls runner (r ∷ runners) = runner_calls runner (releases 0 r.instances) ++ quench_calls (runner + 1) runners
 
 -- all nodes become IDLE and their memos are cleared, and no instance is held; no script runs
 abbrev pub quenched_runner : Tree → Runner → Runner
-quenched_runner tree r = record { memory = idle tree.term; board = r.board; instances = map let_go r.instances }
+quenched_runner tree r = record { memory = idle tree.term; board = r.board; instances = map released r.instances }
 
 -- the state after a quench
 abbrev pub quenched : Tree → RunState → RunState

@@ -63,7 +63,7 @@ NoneRunsBefore place ss = (k : ℕ) → k < place → is_running (status_at ss k
 pub record StandsAt (place : ℕ) (ss : List Status) : Type 0 where
   pub runs : status_at ss place ≡ Running
   pub before : NoneRunsBefore place ss
-  pub behind : IdleFrom (place + 1) ss
+  pub following : IdleFrom (place + 1) ss
 
 -- the child at this place is RUNNING, and the others are IDLE
 pub record OneRuns (place : ℕ) (ss : List Status) : Type 0 where

@@ -4,6 +4,7 @@ use Rattle.bt_script.specs.Numbers.{greatest}
 use Rattle.std.specs.Prelude.{ℕ, ◌+◌, ◌*◌, List, [], ◌∷◌, ◌++◌, sum, negsuc, unsigned_abs, if◌then◌else◌}
 use Rattle.std.specs.Ordering.{int_eq}
 use Rattle.bt_script.specs.declared.value.Value.TheVariants.{Int, Text}
+use Rattle.bt_model.specs.Limits.{most_turns}
 use Rattle.bt_model.specs.declared.term.Port.{Port}
 use Rattle.bt_model.specs.declared.term.PortValue.{PortValue}
 use Rattle.bt_model.specs.declared.term.PortValue.TheVariants.{Lit, Key}
@@ -31,7 +32,7 @@ leaf_ids = fold-Term (List (List ℕ)) (λ node. own_leaf_id node.kind node.id +
 -- how often a Retry or a Repeat visits its child at most in one visit: by its one port, once where it counts nothing,
 -- and 1000 times where a key is read
 abbrev pub turns_given : PortValue → ℕ
-turns_given (Key key) = 1000
+turns_given (Key key) = most_turns
 turns_given (Lit (Int n)) = if int_eq n (negsuc 0) then 1 else unsigned_abs n
 turns_given (Lit (Text text)) = 1
 

@@ -18,8 +18,8 @@ use Rattle.bt_model.specs.declared.term.Kind.{Kind}
 use Rattle.bt_model.specs.declared.term.Kind.TheVariants.{RunOnce, AlwaysSuccess, AlwaysFailure, ScriptNode, ScriptCondition, Leaf}
 use Rattle.bt_model.specs.declared.term.Term.{Term, Term-F, fold-Term}
 use Rattle.bt_model.specs.BuiltIns.{has_rule}
-use Rattle.bt_model.specs.Done.{Call, Done, State, behind, done, ends, follow}
-use Rattle.bt_model.specs.Leaf.{let_go}
+use Rattle.bt_model.specs.Done.{Call, Done, State, following, done, ends, follow}
+use Rattle.bt_model.specs.Leaf.{released}
 use Rattle.bt_model.specs.Leaves.{gives, instance_at, leaf_call, row_of, script_condition, script_node}
 use Rattle.bt_model.specs.Ports.{new_memo, picked}
 use Rattle.bt_model.specs.Rules.Kinds.{rule}
@@ -51,7 +51,7 @@ cleared memo = Nothing
 
 -- a leaf's driver is called `halted`, and its instance is no longer held
 abbrev pub halt_state : Kind → ℕ → State → State
-halt_state Leaf uid s = record s { instances = slice_set s.instances uid (let_go (instance_at s uid)) }
+halt_state Leaf uid s = record s { instances = slice_set s.instances uid (released (instance_at s uid)) }
 halt_state _ uid s = s
 
 -- the note of that call
@@ -61,14 +61,14 @@ halt_notes _ uid = []
 
 -- that call
 abbrev pub halt_calls : Kind → ℕ → State → List Call
-halt_calls Leaf uid s = record { uid = uid; phase = phase.Halted; left = let_go (instance_at s uid) } ∷ []
+halt_calls Leaf uid s = record { uid = uid; phase = phase.Halted; left = released (instance_at s uid) } ∷ []
 halt_calls _ uid s = []
 
 -- the end of a halt: the memo is cleared, a leaf's driver is called, the status becomes IDLE, and then
 -- `_onHalted` runs
 abbrev pub halted : Site → Memory → State → Done (Unit {0}) Memory
 halted site idle s =
-    behind (halt_notes site.node.kind site.uid ++ Changed site.uid Running Idle ∷ []) (halt_calls site.node.kind site.uid s)
+    following (halt_notes site.node.kind site.uid ++ Changed site.uid Running Idle ∷ []) (halt_calls site.node.kind site.uid s)
     (follow (script_if_there site site.node.guards.on_halted (halt_state site.node.kind site.uid s)) (λ _. idle) (λ _ _ s1. done tt idle s1))
 
 -- a halt of a RUNNING node: its children are reset in order first
@@ -81,7 +81,7 @@ halt site m s =
 abbrev pub reset_by : Status → Site → Memory → State → Done (Unit {0}) Memory
 reset_by Running site m s = halt site m s
 reset_by old site m s =
-    behind (change site.uid old Idle) [] (done tt (remembered Idle (out-Memory m).memo (out-Memory m).children) s)
+    following (change site.uid old Idle) [] (done tt (remembered Idle (out-Memory m).memo (out-Memory m).children) s)
 
 -- ---- The rule
 
@@ -112,7 +112,7 @@ node_rule _ site status memo ms s = kind_rule site memo ms s
 abbrev pub ended : Site → Status → Given → List Memory → State → Done Answer Memory
 ended site old g ms s =
     follow (posts site g.answer s) (λ _. remembered old g.memo ms)
-    (λ _ _ s1. behind (change site.uid old (status_of g.answer)) [] (done g.answer (remembered (status_of g.answer) g.memo ms) s1))
+    (λ _ _ s1. following (change site.uid old (status_of g.answer)) [] (done g.answer (remembered (status_of g.answer) g.memo ms) s1))
 
 -- the node's rule from this status and this memo on, and then the end
 abbrev pub ruled : Site → Status → Memo → List Memory → State → Done Answer Memory
@@ -128,7 +128,7 @@ starts kind memo = has_rule kind
 -- the start: the status becomes RUNNING and the memo is new, or a numeric port is bad; then the rule
 abbrev pub started : Site → Memory → State → Done Answer Memory
 started site m s =
-    behind (change site.uid (out-Memory m).status Running) []
+    following (change site.uid (out-Memory m).status Running) []
     (follow (ends (or_bad_port site.uid (new_memo site.node.kind site (out-Memory m).memo s)) (out-Memory m).children s)
     (λ ms. remembered Running (out-Memory m).memo ms) (λ memo ms s1. ruled site Running memo ms s1))
 

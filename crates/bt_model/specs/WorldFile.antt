@@ -53,8 +53,8 @@ abbrev pub is_line_byte : ℕ → Bool
 is_line_byte b = b == 9 || nat_le 32 b && nat_le b 126
 
 -- a text without the gap at its front
-abbrev pub behind_gap : List ℕ → List ℕ
-behind_gap text = drop (prefix_len is_gap text) text
+abbrev pub without_gap : List ℕ → List ℕ
+without_gap text = drop (prefix_len is_gap text) text
 
 -- a text without the gap at its end
 abbrev pub before_gap : List ℕ → List ℕ
@@ -62,28 +62,28 @@ before_gap text = take (length text - suffix_len is_gap text) text
 
 -- what a line holds, without the gaps round it
 abbrev pub content : List ℕ → List ℕ
-content text = before_gap (behind_gap (without_return text))
+content text = before_gap (without_gap (without_return text))
 
 -- the word at the front of a text
 abbrev pub front_word : List ℕ → List ℕ
 front_word text = take (position_or_len is_gap text) text
 
 -- what follows that word and the gap after it
-abbrev pub behind_word : List ℕ → List ℕ
-behind_word text = behind_gap (drop (position_or_len is_gap text) text)
+abbrev pub after_word : List ℕ → List ℕ
+after_word text = without_gap (drop (position_or_len is_gap text) text)
 
 -- what follows so many words
-abbrev pub behind : ℕ → List ℕ → List ℕ
-behind zero text = text
-behind (suc n) text = behind n (behind_word text)
+abbrev pub following : ℕ → List ℕ → List ℕ
+following zero text = text
+following (suc n) text = following n (after_word text)
 
 -- the word of this number, counted from 0, or the empty text where there are fewer
 abbrev pub word : ℕ → List ℕ → List ℕ
-word n text = front_word (behind n text)
+word n text = front_word (following n text)
 
 -- whether there are no more words than this
 abbrev pub ends_after : ℕ → List ℕ → Bool
-ends_after n text = length (behind n text) == 0
+ends_after n text = length (following n text) == 0
 
 -- ---- Rows, names and numbers
 
@@ -180,7 +180,7 @@ sets_line text =
 -- `PORT = EXPR`
 abbrev pub out_line : List ℕ → Option Line
 out_line text =
-    if is_name (word 0 text) && bytes_eq (word 1 text) (codes "=") then Some (OutLine (word 0 text) (behind 2 text)) else None
+    if is_name (word 0 text) && bytes_eq (word 1 text) (codes "=") then Some (OutLine (word 0 text) (following 2 text)) else None
 
 -- `ID is NAME OP INT`, after `is`
 abbrev pub is_line : List ℕ → List ℕ → Option Line
@@ -192,8 +192,8 @@ is_line id text =
 -- `ROW is NAME OP INT`, or `ROW when EXPR`
 abbrev pub condition_line : List ℕ → Option Line
 condition_line text =
-    if bytes_eq (word 1 text) (codes "is") then is_line (word 0 text) (behind 2 text)
-    else if bytes_eq (word 1 text) (codes "when") then option_map (λ head. WhenLine head (behind 2 text)) (head_in (word 0 text))
+    if bytes_eq (word 1 text) (codes "is") then is_line (word 0 text) (following 2 text)
+    else if bytes_eq (word 1 text) (codes "when") then option_map (λ head. WhenLine head (following 2 text)) (head_in (word 0 text))
     else None
 
 -- `MS`, of an action that lasts
@@ -210,9 +210,9 @@ replay_line text head =
 -- `ROW timed MS`, `ROW replay MS OUTCOMES` or `ROW gate EXPR`
 abbrev pub action_line : List ℕ → Option Line
 action_line text =
-    if bytes_eq (word 1 text) (codes "timed") then option_and_then (timed_line (behind 2 text)) (head_in (word 0 text))
-    else if bytes_eq (word 1 text) (codes "replay") then option_and_then (replay_line (behind 2 text)) (head_in (word 0 text))
-    else if bytes_eq (word 1 text) (codes "gate") then option_map (λ head. GateLine head (behind 2 text)) (head_in (word 0 text))
+    if bytes_eq (word 1 text) (codes "timed") then option_and_then (timed_line (following 2 text)) (head_in (word 0 text))
+    else if bytes_eq (word 1 text) (codes "replay") then option_and_then (replay_line (following 2 text)) (head_in (word 0 text))
+    else if bytes_eq (word 1 text) (codes "gate") then option_map (λ head. GateLine head (following 2 text)) (head_in (word 0 text))
     else None
 
 -- what a line about goals, runners and events says, which begins with this word
@@ -240,7 +240,7 @@ line_by kind text =
 
 -- what the content of a line says, if it has one of the forms
 abbrev pub line_in : List ℕ → Option Line
-line_in text = if list_all is_line_byte text then line_by (word 0 text) (behind 1 text) else None
+line_in text = if list_all is_line_byte text then line_by (word 0 text) (following 1 text) else None
 
 -- what a text reads as: an expression without text literals, or none
 abbrev pub ReadsNumeric : List ℕ → Option Expr → Type 0
@@ -472,12 +472,12 @@ AfterForm r None said = said ≡ Err BadLine
 AfterForm r (Some line) said = AfterLine r line said
 
 -- blank lines, and lines that begin with `#`, are ignored
-abbrev pub is_read_over : List ℕ → Bool
-is_read_over text = length text == 0 || starts_with nat_eq text (codes "#")
+abbrev pub is_ignored : List ℕ → Bool
+is_ignored text = length text == 0 || starts_with nat_eq text (codes "#")
 
 -- after the content of a line
 abbrev pub AfterContent : Reading → List ℕ → Result Reading WorldKind → Type 0
-AfterContent r text said = MatchBool (is_read_over text) (said ≡ Ok r) (AfterForm r (line_in text) said)
+AfterContent r text said = MatchBool (is_ignored text) (said ≡ Ok r) (AfterForm r (line_in text) said)
 
 -- after the text of a line
 abbrev pub AfterText : Reading → List ℕ → Result Reading WorldKind → Type 0

@@ -12,7 +12,7 @@ use Rattle.bt_model.specs.declared.status.Answer.{Answer}
 use Rattle.bt_model.specs.declared.status.Status.{Status}
 use Rattle.bt_model.specs.declared.status.Status.TheVariants.{Idle, Running, Success, Failure}
 use Rattle.bt_model.specs.declared.term.Term.{Term-F}
-use Rattle.bt_model.specs.Done.{Done, State, behind, done, follow}
+use Rattle.bt_model.specs.Done.{Done, State, following, done, follow}
 use Rattle.bt_model.specs.Drivers.{DriverState}
 use Rattle.bt_model.specs.Scripts.{posts}
 use Rattle.bt_model.specs.Sites.{Meaning, View, remembered}
@@ -70,7 +70,7 @@ module _ (nodes : List Node) (term : Term-F Meaning) (view : View) (uid : ℕ) (
   end = ended (site_of term view uid) (kept_at kept uid).status (record { answer = answer; memo = memo }) ms before
 
   abbrev end_by : Done (Unit {0}) (Unit {0}) → Done Answer Memory
-  end_by d = follow d (λ _. remembered (kept_at kept uid).status memo ms) (λ _ _ s1. behind (change uid (kept_at kept uid).status (status_of answer)) [] (done answer (remembered (status_of answer) memo ms) s1))
+  end_by d = follow d (λ _. remembered (kept_at kept uid).status memo ms) (λ _ _ s1. following (change uid (kept_at kept uid).status (status_of answer)) [] (done answer (remembered (status_of answer) memo ms) s1))
 
   -- the scripts ran, and the status became that of the answer
   pub ended_met : posts (site_of term view uid) answer before ≡ done tt tt (on_board board1 before) →

@@ -32,9 +32,9 @@ given_means site s (Some (Key key)) = refl
 given_means site s None = refl
 
 -- a bad port is the same fault, whichever memo comes after it
-pub bad_port_behind : (uid : ℕ) (r : Result (Unit {0}) PortId) (memo : Memo) → with_memo (or_bad_port uid r) memo ≡ or_bad_port uid (with_memo r memo)
-bad_port_behind uid (Ok _) memo = refl
-bad_port_behind uid (Err p) memo = refl
+pub bad_port_after : (uid : ℕ) (r : Result (Unit {0}) PortId) (memo : Memo) → with_memo (or_bad_port uid r) memo ≡ or_bad_port uid (with_memo r memo)
+bad_port_after uid (Ok _) memo = refl
+bad_port_after uid (Err p) memo = refl
 
 -- an error leaves no memo to start with
 pub no_memo : {E : Type 0} (r : Result (Unit {0}) E) (memo : Memo) (e : E) → IsErrAnd r (λ x. x ≡ e) → with_memo r memo ≡ Err e

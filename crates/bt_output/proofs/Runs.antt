@@ -21,8 +21,8 @@ use Rattle.bt_model.specs.declared.world.World.{World}
 use Rattle.bt_model.specs.Drivers.{DriverState, NothingHeld, roster_prepared}
 use Rattle.bt_model.specs.Lines.{LineNames, line_names}
 use Rattle.bt_model.specs.Run.{RunState, RunnerCall, Trace, opening, run_from, run_over}
-use Rattle.bt_outside.proofs.Appends.{AppendedFront-nothing}
-use Rattle.bt_outside.specs.Appending.{Appended, AppendedFront}
+use Rattle.bt_outside.proofs.Appends.{AppendedPrefix-nothing}
+use Rattle.bt_outside.specs.Appending.{Appended, AppendedPrefix}
 use Rattle.bt_outside.specs.Counts.{Rose}
 use Rattle.bt_outside.specs.Moments.{Moments}
 use Rattle.bt_output.specs.declared.course.Course.{Course}
@@ -85,7 +85,7 @@ module _ (of : Setup) (arenas : List (List Node)) (g : Given) (trace : Trace) (a
   ending_gave Faulted ends written drivers asking = (ended_exit trace.fault Faulted ends, written, drivers, asking trace.fault ends)
 
   -- .. or was stopped after some of its bytes
-  pub stopped_gave : (stopped : TextStop) → AppendedFront a b (g.bytes of.tree of.world trace) → (stopped ≡ text_stop.WriteFault → Rose fell rose) → GivenBy (exit_of (Err stopped))
+  pub stopped_gave : (stopped : TextStop) → AppendedPrefix a b (g.bytes of.tree of.world trace) → (stopped ≡ text_stop.WriteFault → Rose fell rose) → GivenBy (exit_of (Err stopped))
   stopped_gave text_stop.WriteFault front failed = (failed refl, front)
   stopped_gave text_stop.NoMemory front failed = front
 
@@ -147,7 +147,7 @@ module _ (of : Setup) (runs : Runs) (before after : List DriverState) (opened : 
         (subst (Appended old.written new.written) (lines_are t.blocks ∙ sym bytes) leaves.whole.shown.written) leaves.whole.drivers asking
     wrote course moments t clock asked bytes (Err stopped) leaves failed asking =
         stopped_gave of (arenas_of runs) (given course moments before) t after old.written new.written old.faults new.faults clock asked stopped
-        (subst (AppendedFront old.written new.written) (lines_are t.blocks ∙ sym bytes) leaves.front) (λ e. failed (ap Err e))
+        (subst (AppendedPrefix old.written new.written) (lines_are t.blocks ∙ sym bytes) leaves.front) (λ e. failed (ap Err e))
 
     never : (ran : Result Ended TextStop) (clock : Option Moments) → IfOk ran (λ ending. (fault : Option RunFault) → ending ≡ ended fault → clock ≡ clock)
     never (Ok ending) clock = never_asked clock ending
@@ -232,18 +232,18 @@ module _ (of : Setup) (runs : Runs) (before after : List DriverState) (opened : 
         (subst (Appended a b) (is.told ∙ line_is) written) is.drivers (never_asked clock ending))
 
     -- .. or a prefix of it
-    pub line_stopped : (stopped : TextStop) (ending : Ended) (line : List ℕ) (a b : Option (List ℕ)) (fell rose : ℕ) → IsLoad leaves of.tree (arenas_of runs) (length events) before after line ending load_trace → AppendedFront a b line
+    pub line_stopped : (stopped : TextStop) (ending : Ended) (line : List ℕ) (a b : Option (List ℕ)) (fell rose : ℕ) → IsLoad leaves of.tree (arenas_of runs) (length events) before after line ending load_trace → AppendedPrefix a b line
         → (stopped ≡ text_stop.WriteFault → Rose fell rose)
         → AtMoments clock (λ moments. Gave (course_output of (arenas_of runs) (course.Load leaves) moments before) (exit_of (Err stopped)) (side a fell clock before) (side b rose clock after))
     line_stopped stopped ending line a b fell rose is front failed =
         load_gave (exit_of (Err stopped)) a b fell rose
         (λ moments. stopped_gave of (arenas_of runs) (given (course.Load leaves) moments before) load_trace after a b fell rose clock clock stopped
-        (subst (AppendedFront a b) (is.told ∙ line_is) front) failed)
+        (subst (AppendedPrefix a b) (is.told ∙ line_is) front) failed)
 
     -- .. or there was no memory for it
     pub no_line : (a : Option (List ℕ)) (fell : ℕ)
         → AtMoments clock (λ moments. Gave (course_output of (arenas_of runs) (course.Load leaves) moments before) exit.Memory (side a fell clock before) (side a fell clock after))
-    no_line a fell = load_gave exit.Memory a a fell fell (λ moments. AppendedFront-nothing a (load_line leaves of.tree (length of.world.events) load_trace))
+    no_line a fell = load_gave exit.Memory a a fell fell (λ moments. AppendedPrefix-nothing a (load_line leaves of.tree (length of.world.events) load_trace))
 
 -- ---- Joins
 

@@ -11,7 +11,7 @@ use Rattle.bt_trace.specs.declared.ended.Ended.{Ended}
 use Rattle.bt_trace.specs.declared.ended.Ended.TheVariants.{Done, Faulted}
 use Rattle.bt_text.specs.declared.stop.TextStop.{TextStop}
 use Rattle.bt_text.specs.declared.stop.TextStop.TheVariants as stop
-use Rattle.bt_outside.specs.Appending.{Appended, AppendedFront}
+use Rattle.bt_outside.specs.Appending.{Appended, AppendedPrefix}
 use Rattle.bt_outside.specs.Counts.{Rose}
 use Rattle.bt_outside.specs.Files.{Told}
 use Rattle.bt_outside.specs.Moments.{Moments}
@@ -72,8 +72,8 @@ exit_of (Err stop.NoMemory) = exit.Memory
 -- The output was given: whole; or a prefix of it was written, with Write where the sink's count of failures rose, or
 -- with Memory.
 abbrev pub Gave : Output → Exit → Side → Side → Type 0
-Gave o exit.Write old new = Rose old.faults new.faults × AppendedFront old.written new.written o.bytes
-Gave o exit.Memory old new = AppendedFront old.written new.written o.bytes
+Gave o exit.Write old new = Rose old.faults new.faults × AppendedPrefix old.written new.written o.bytes
+Gave o exit.Memory old new = AppendedPrefix old.written new.written o.bytes
 Gave o other old new = IsWhole o other old new
 
 -- the output was given by a call that has the sink alone: no driver was called, and the clock was not asked

@@ -2,7 +2,7 @@
 use Rattle.std.specs.Prelude.{ℕ, ◌≡◌, List, [], ◌++◌, codes, decimal, length, nat_lt, Bool, Option, Some, None, Result, Ok, Err, MatchBool}
 use Rattle.std.specs.List.{concat}
 use Rattle.bt_arena.specs.declared.join_fault.JoinFault.{JoinFault}
-use Rattle.bt_arena.specs.Joins.{first_lack}
+use Rattle.bt_arena.specs.Joins.{first_missing}
 use Rattle.bt_load.specs.Summaries.{load_line}
 use Rattle.bt_load.specs.Texts.{tree_text, world_text}
 use Rattle.bt_loop.specs.Served.{roster_after_run}
@@ -166,7 +166,7 @@ joined_output (Some fault) tree world g = join_refused fault
 
 -- what the first leaf in pre-order lacks that lacks a row or a driver
 abbrev pub lack_of : Tree → World → List DriverState → Option JoinFault
-lack_of tree world drivers = first_lack world.rows drivers (leaf_ids tree.term)
+lack_of tree world drivers = first_missing world.rows drivers (leaf_ids tree.term)
 
 -- the output of a tree and a world on this course, at these moments and with these drivers
 abbrev pub JoinGives : Tree → World → Course → Moments → List DriverState → Output → Type 0

@@ -5,7 +5,7 @@ ghost use Rattle.bt_output.specs.Output.{check_output, count_line};
 ghost use Rattle.bt_model.specs.PrintedTree.{tree_lines};
 ghost use Rattle.bt_model.specs.Terms.{node_count};
 ghost use Rattle.bt_model.specs.Trees.{IsValid};
-ghost use Rattle.bt_outside.specs.Appending.{Appended, AppendedFront};
+ghost use Rattle.bt_outside.specs.Appending.{Appended, AppendedPrefix};
 ghost use Rattle.bt_outside.specs.Counts.{Rose};
 
 use bt_build::work;
@@ -49,7 +49,7 @@ fn write_check<K: Sink>(alloc: Global, tree: &Tree, out: &mut K) -> Result<(), T
     requires { IsValid tree.now }
     ensures whole { OnOk result (Appended
         (K.written out.old) (K.written out.new) (concat (tree_lines tree.now) ++ count_line tree.now)) }
-    ensures front { AppendedFront
+    ensures prefix { AppendedPrefix
         (K.written out.old) (K.written out.new) (concat (tree_lines tree.now) ++ count_line tree.now) }
     ensures failed { IsErrOf result TextStop.WriteFault → Rose (K.faults out.old) (K.faults out.new) }
     ensures count { K.faults out.old ≤ K.faults out.new }

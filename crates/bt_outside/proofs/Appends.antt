@@ -4,7 +4,7 @@ use Rattle.std.specs.Result.{result_unwrap_or}
 use Rattle.std.proofs.Math.Seq.{take-add}
 use Rattle.std.proofs.lemmas.List.{take-append-drop, take_rest}
 use Rattle.std.specs.Io.KnownBytes.{WriteAppends}
-use Rattle.bt_outside.specs.Appending.{Appended, AppendedFront}
+use Rattle.bt_outside.specs.Appending.{Appended, AppendedPrefix}
 
 -- nothing was appended
 pub Appended-nil : (a : Option (List ℕ)) → Appended a a []
@@ -34,20 +34,20 @@ Appended-more a b c x i n p q =
     subst (λ (z : List ℕ). Appended a c z) (sym (take-add i n x)) (Appended-trans a b c (take i x) (take n (drop i x)) p rest)
 
 -- a prefix of nothing
-pub AppendedFront-nothing : (a : Option (List ℕ)) (x : List ℕ) → AppendedFront a a x
-AppendedFront-nothing a x = record { front = []; rest = x; parts = refl; appended = Appended-nil a }
+pub AppendedPrefix-nothing : (a : Option (List ℕ)) (x : List ℕ) → AppendedPrefix a a x
+AppendedPrefix-nothing a x = record { front = []; rest = x; parts = refl; appended = Appended-nil a }
 
 -- the whole piece is a prefix of it
-pub AppendedFront-whole : (a b : Option (List ℕ)) (x : List ℕ) → Appended a b x → AppendedFront a b x
-AppendedFront-whole a b x p = record { front = x; rest = []; parts = sym (append-nil x); appended = p }
+pub AppendedPrefix-whole : (a b : Option (List ℕ)) (x : List ℕ) → Appended a b x → AppendedPrefix a b x
+AppendedPrefix-whole a b x p = record { front = x; rest = []; parts = sym (append-nil x); appended = p }
 
 -- the first bytes of a piece are a prefix of it
-pub AppendedFront-taken : (a b : Option (List ℕ)) (x : List ℕ) (n : ℕ) → Appended a b (take n x) → AppendedFront a b x
-AppendedFront-taken a b x n p = record { front = take n x; rest = drop n x; parts = sym (take-append-drop n x); appended = p }
+pub AppendedPrefix-taken : (a b : Option (List ℕ)) (x : List ℕ) (n : ℕ) → Appended a b (take n x) → AppendedPrefix a b x
+AppendedPrefix-taken a b x n p = record { front = take n x; rest = drop n x; parts = sym (take-append-drop n x); appended = p }
 
 -- a prefix of a piece is a prefix of a longer one
-pub AppendedFront-longer : (a b : Option (List ℕ)) (x rest : List ℕ) → AppendedFront a b x → AppendedFront a b (x ++ rest)
-AppendedFront-longer a b x rest p =
+pub AppendedPrefix-longer : (a b : Option (List ℕ)) (x rest : List ℕ) → AppendedPrefix a b x → AppendedPrefix a b (x ++ rest)
+AppendedPrefix-longer a b x rest p =
     record {
       front = p.front;
       rest = p.rest ++ rest;
@@ -56,8 +56,8 @@ AppendedFront-longer a b x rest p =
     }
 
 -- a whole piece and then a prefix of another
-pub AppendedFront-after : (a b c : Option (List ℕ)) (x y : List ℕ) → Appended a b x → AppendedFront b c y → AppendedFront a c (x ++ y)
-AppendedFront-after a b c x y p q =
+pub AppendedPrefix-after : (a b c : Option (List ℕ)) (x y : List ℕ) → Appended a b x → AppendedPrefix b c y → AppendedPrefix a c (x ++ y)
+AppendedPrefix-after a b c x y p q =
     record {
       front = x ++ q.front;
       rest = q.rest;
@@ -66,11 +66,11 @@ AppendedFront-after a b c x y p q =
     }
 
 -- the first bytes of a piece, and a prefix of the rest
-pub AppendedFront-more : (a b c : Option (List ℕ)) (x : List ℕ) (n : ℕ)
-    → Appended a b (take n x) → AppendedFront b c (take (length x - n) (drop n x)) → AppendedFront a c x
-AppendedFront-more a b c x n p q =
-    let rest : AppendedFront b c (drop n x) = subst (λ (z : List ℕ). AppendedFront b c z) (take_rest x n) q in
-    subst (λ (z : List ℕ). AppendedFront a c z) (take-append-drop n x) (AppendedFront-after a b c (take n x) (drop n x) p rest)
+pub AppendedPrefix-more : (a b c : Option (List ℕ)) (x : List ℕ) (n : ℕ)
+    → Appended a b (take n x) → AppendedPrefix b c (take (length x - n) (drop n x)) → AppendedPrefix a c x
+AppendedPrefix-more a b c x n p q =
+    let rest : AppendedPrefix b c (drop n x) = subst (λ (z : List ℕ). AppendedPrefix b c z) (take_rest x n) q in
+    subst (λ (z : List ℕ). AppendedPrefix a c z) (take-append-drop n x) (AppendedPrefix-after a b c (take n x) (drop n x) p rest)
 
 -- the facts by which a text is written piece by piece
-pub ruleset appending = (Appended-nil, Appended-trans, AppendedFront-nothing, AppendedFront-whole, AppendedFront-longer, AppendedFront-after)
+pub ruleset appending = (Appended-nil, Appended-trans, AppendedPrefix-nothing, AppendedPrefix-whole, AppendedPrefix-longer, AppendedPrefix-after)

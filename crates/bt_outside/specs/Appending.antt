@@ -7,7 +7,7 @@ Appended None new piece = Unit {0}
 Appended (Some old) new piece = new ≡ Some (old ++ piece)
 
 -- new is old with a prefix of the piece at its end
-pub record AppendedFront (old new : Option (List ℕ)) (piece : List ℕ) : Type 0 where
+pub record AppendedPrefix (old new : Option (List ℕ)) (piece : List ℕ) : Type 0 where
   pub front : List ℕ
   pub rest : List ℕ
   pub parts : piece ≡ front ++ rest

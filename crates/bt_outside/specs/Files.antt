@@ -9,8 +9,8 @@ Told None name P = Unit {0}
 Told (Some holds) name P = P (holds name)
 
 -- these are the first bytes of the file
-abbrev pub IsFront : List ℕ → List ℕ → Type 0
-IsFront front file = front ≡ take (length front) file
+abbrev pub IsPrefix : List ℕ → List ℕ → Type 0
+IsPrefix front file = front ≡ take (length front) file
 
 -- what the first pair of the name holds; a name of no pair has no bytes
 abbrev pub file_of : List (List ℕ × List ℕ) → List ℕ → List ℕ

@@ -1,6 +1,6 @@
 ghost use Rattle.std.specs.Prelude.{◌≡◌, ◌<◌, ◌≤◌, ◌+◌, ◌-◌, ◌^◌, [], OnOk, IsErrOf, IfSome, length};
 ghost use Rattle.bt_outside.specs.Counts.{Rose};
-ghost use Rattle.bt_outside.specs.Files.{IsFront};
+ghost use Rattle.bt_outside.specs.Files.{IsPrefix};
 
 use crate::shelf::{Shelf, ShelfFault};
 use bt_script::Name;
@@ -48,7 +48,7 @@ fn read_turns<F: Read>(file: &mut F, room: &mut Vec<u8>, limit: u64) -> Result<(
     ensures whole { OnOk result (IfSome (F.remaining file.old) (λ bytes. room.new.items ≡ bytes)) }
     ensures past { IsErrOf result ShelfFault.TooLong → length room.new.items ≡ limit + 1 }
     ensures longer { IsErrOf result ShelfFault.TooLong → IfSome (F.remaining file.old) (λ bytes. limit < length bytes) }
-    ensures front { IfSome (F.remaining file.old) (λ bytes. IsFront room.new.items bytes) }
+    ensures prefix { IfSome (F.remaining file.old) (λ bytes. IsPrefix room.new.items bytes) }
 {
     let mut turn = [0; TURN];
     'turns: while room.len() as u64 <= limit {

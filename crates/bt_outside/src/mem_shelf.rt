@@ -1,6 +1,6 @@
 ghost use Rattle.std.specs.Prelude.{◌≡◌, ◌<◌, ◌≤◌, ◌+◌, ◌-◌, ◌^◌, ◌↔◌, [], OnOk, IsErrOf, IsTrue, length};
 ghost use Rattle.bt_outside.specs.Counts.{Rose, next};
-ghost use Rattle.bt_outside.specs.Files.{contents, file_of, IsFront};
+ghost use Rattle.bt_outside.specs.Files.{contents, file_of, IsPrefix};
 ghost use Rattle.bt_outside.specs.MemShelf.{fails_now, after_read};
 
 use crate::shelf::{Shelf, ShelfFault};
@@ -75,7 +75,7 @@ impl Shelf for MemShelf {
         ensures failed { IsErrOf result ShelfFault.Failed → Rose self.old.faults self.new.faults }
         ensures past { IsErrOf result ShelfFault.TooLong → length room.new.items ≡ limit + 1 }
         ensures longer { IsErrOf result ShelfFault.TooLong → limit < length (file_of self.old.files name.now) }
-        ensures front { IsFront room.new.items (file_of self.old.files name.now) }
+        ensures prefix { IsPrefix room.new.items (file_of self.old.files name.now) }
     {
         if self.next_fails() {
             self.faults = self.faults.saturating_add(1);

@@ -1,5 +1,5 @@
 ghost use Rattle.std.specs.Prelude.{◌≡◌, ◌≤◌, [], OnOk, IsErrOf, IsSome, IsNone};
-ghost use Rattle.bt_outside.specs.Appending.{Appended, AppendedFront};
+ghost use Rattle.bt_outside.specs.Appending.{Appended, AppendedPrefix};
 ghost use Rattle.bt_outside.specs.Counts.{Rose, next};
 ghost use Rattle.bt_outside.specs.MemSink.{takes_at, takes_now, after_write};
 
@@ -69,7 +69,7 @@ impl Sink for MemSink {
 
     fn write(&mut self, piece: &[u8]) -> Result<(), SinkFault>
         ensures whole { OnOk result (Appended (Some self.old.written) (Some self.new.written) piece.now) }
-        ensures front { AppendedFront (Some self.old.written) (Some self.new.written) piece.now }
+        ensures prefix { AppendedPrefix (Some self.old.written) (Some self.new.written) piece.now }
         ensures failed { IsErrOf result SinkFault.Failed → Rose self.old.faults self.new.faults }
         ensures count { self.old.faults ≤ self.new.faults }
 

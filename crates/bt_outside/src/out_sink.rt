@@ -1,6 +1,6 @@
 ghost use Rattle.std.specs.Prelude.{◌≡◌, ◌≤◌, [], length, take, Err, IfOk, OnOk, IsErrOf};
 ghost use Rattle.std.specs.Io.KnownBytes.{Keeps};
-ghost use Rattle.bt_outside.specs.Appending.{Appended, AppendedFront};
+ghost use Rattle.bt_outside.specs.Appending.{Appended, AppendedPrefix};
 ghost use Rattle.bt_outside.specs.Counts.{Rose, next};
 ghost use Rattle.bt_outside.specs.OutSink.{written_so_far};
 
@@ -105,7 +105,7 @@ impl<W: Write + Drop> OutSink<W> {
     #[inline(never)]
     fn write_turns(&mut self, piece: &[u8]) -> Result<(), SinkFault>
         ensures whole { OnOk result (Appended (written_so_far self.old) (written_so_far self.new) piece.now) }
-        ensures front { AppendedFront (written_so_far self.old) (written_so_far self.new) piece.now }
+        ensures prefix { AppendedPrefix (written_so_far self.old) (written_so_far self.new) piece.now }
         ensures failed { IsErrOf result SinkFault.Failed → Rose self.old.faults self.new.faults }
         ensures count { self.old.faults ≤ self.new.faults }
         ensures raised { IsErrOf result SinkFault.Failed → self.new.faults ≡ next self.old.faults }
@@ -148,7 +148,7 @@ impl<W: Write + Drop> Sink for OutSink<W> {
     #[inline]
     fn write(&mut self, piece: &[u8]) -> Result<(), SinkFault>
         ensures whole { OnOk result (Appended (written_so_far self.old) (written_so_far self.new) piece.now) }
-        ensures front { AppendedFront (written_so_far self.old) (written_so_far self.new) piece.now }
+        ensures prefix { AppendedPrefix (written_so_far self.old) (written_so_far self.new) piece.now }
         ensures failed { IsErrOf result SinkFault.Failed → Rose self.old.faults self.new.faults }
         ensures count { self.old.faults ≤ self.new.faults }
 

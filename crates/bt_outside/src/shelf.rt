@@ -1,6 +1,6 @@
 ghost use Rattle.std.specs.Prelude.{◌≡◌, ◌<◌, ◌≤◌, ◌+◌, ◌-◌, ◌^◌, List, [], ℕ, Option, Result, Err, OnOk, IsErrOf, length};
 ghost use Rattle.bt_outside.specs.Counts.{Rose, next};
-ghost use Rattle.bt_outside.specs.Files.{Told, IsFront};
+ghost use Rattle.bt_outside.specs.Files.{Told, IsPrefix};
 ghost use Rattle.bt_outside.specs.declared.shelf.ShelfFault.{ShelfFault};
 ghost use Rattle.bt_outside.specs.declared.shelf.ShelfFault.TheVariants as fault;
 
@@ -47,7 +47,7 @@ pub trait Shelf {
         ensures failed { IsErrOf result ShelfFault.Failed → Rose (faults self.old) (faults self.new) }
         ensures past { IsErrOf result ShelfFault.TooLong → length room.new.items ≡ limit + 1 }
         ensures longer { IsErrOf result ShelfFault.TooLong → Told (holds self.old) name.now (λ file. limit < length file) }
-        ensures front { Told (holds self.old) name.now (λ file. IsFront room.new.items file) };
+        ensures prefix { Told (holds self.old) name.now (λ file. IsPrefix room.new.items file) };
 
     /// A read that fails raises the count of failures by one, up to its last value.
     ghost failure_counts: { (old new : Self) → (name : List ℕ) → read_gives old name (Err fault.Failed) new

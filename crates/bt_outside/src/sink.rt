@@ -1,5 +1,5 @@
 ghost use Rattle.std.specs.Prelude.{◌≤◌, ℕ, List, Option, OnOk, IsErrOf};
-ghost use Rattle.bt_outside.specs.Appending.{Appended, AppendedFront};
+ghost use Rattle.bt_outside.specs.Appending.{Appended, AppendedPrefix};
 ghost use Rattle.bt_outside.specs.Counts.{Rose};
 
 /// Why a write failed.
@@ -23,7 +23,7 @@ pub trait Sink {
     /// was written. `SinkFault::Failed` comes only where the count of failures rose in this call.
     fn write(&mut self, piece: &[u8]) -> Result<(), SinkFault>
         ensures whole { OnOk result (Appended (written self.old) (written self.new) piece.now) }
-        ensures front { AppendedFront (written self.old) (written self.new) piece.now }
+        ensures prefix { AppendedPrefix (written self.old) (written self.new) piece.now }
         ensures failed { IsErrOf result SinkFault.Failed → Rose (faults self.old) (faults self.new) }
         ensures count { faults self.old ≤ faults self.new };
 }

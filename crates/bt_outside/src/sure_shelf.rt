@@ -1,5 +1,5 @@
 ghost use Rattle.std.specs.Prelude.{◌≡◌, ◌<◌, ◌≤◌, ◌+◌, ◌-◌, ◌^◌, [], OnOk, IsErrOf, length};
-ghost use Rattle.bt_outside.specs.Files.{contents, file_of, IsFront};
+ghost use Rattle.bt_outside.specs.Files.{contents, file_of, IsPrefix};
 
 use crate::shelf::{Shelf, ShelfFault};
 use bt_script::Name;
@@ -64,7 +64,7 @@ impl Shelf for SureShelf {
         ensures whole { OnOk result (room.new.items ≡ file_of self.old name.now) }
         ensures past { IsErrOf result ShelfFault.TooLong → length room.new.items ≡ limit + 1 }
         ensures longer { IsErrOf result ShelfFault.TooLong → limit < length (file_of self.old name.now) }
-        ensures front { IsFront room.new.items (file_of self.old name.now) }
+        ensures prefix { IsPrefix room.new.items (file_of self.old name.now) }
     {
         let bytes = self.file(name);
         let is_long = bytes.len() as u64 > limit;

@@ -1,5 +1,5 @@
 ghost use Rattle.std.specs.Prelude.{◌≡◌, ◌++◌, [], OnOk, IsErrOf};
-ghost use Rattle.bt_outside.specs.Appending.{AppendedFront};
+ghost use Rattle.bt_outside.specs.Appending.{AppendedPrefix};
 
 use crate::sink::{Sink, SinkFault};
 use std::alloc::Global;
@@ -48,7 +48,7 @@ impl Sink for SureSink {
         ensures whole { OnOk result (self.new ≡ self.old ++ piece.now) }
         ensures sure { ¬ IsErrOf result SinkFault.Failed }
         ensures kept { IsErrOf result SinkFault.NoMemory → self.new ≡ self.old }
-        ensures front { AppendedFront (Some self.old) (Some self.new) piece.now }
+        ensures prefix { AppendedPrefix (Some self.old) (Some self.new) piece.now }
     {
         self.bytes
             .extend_from_slice(piece)

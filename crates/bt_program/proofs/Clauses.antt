@@ -25,10 +25,10 @@ use Rattle.bt_model.specs.declared.world_fault.WorldFault.{WorldFault}
 use Rattle.bt_model.specs.Drivers.{DriverState}
 use Rattle.bt_model.specs.Run.{run_over}
 use Rattle.bt_model.specs.WorldFile.{ReadsWorld}
-use Rattle.bt_outside.specs.Appending.{AppendedFront}
+use Rattle.bt_outside.specs.Appending.{AppendedPrefix}
 use Rattle.bt_outside.specs.Counts.{Rose}
 use Rattle.bt_outside.specs.Moments.{Moments}
-use Rattle.bt_outside.proofs.Appends.{AppendedFront-nothing}
+use Rattle.bt_outside.proofs.Appends.{AppendedPrefix-nothing}
 
 -- each file reads in one way: its bytes spell one element or have one fault, and never both, and they describe one world
 -- or have one fault
@@ -77,7 +77,7 @@ one_files one (Check t main) tree world moments drivers x y p q = one_check one 
 -- nothing was written for want of memory
 nothing_gave : (o : Output) (result : Exit) (a b : Side) → result ≡ exit.Memory → b.written ≡ a.written → Gave o result a b
 nothing_gave o result a b e same =
-    subst (λ (r : Exit). Gave o r a b) (sym e) (subst (λ (z : Option (List ℕ)). AppendedFront a.written z o.bytes) (sym same) (AppendedFront-nothing a.written o.bytes))
+    subst (λ (r : Exit). Gave o r a b) (sym e) (subst (λ (z : Option (List ℕ)). AppendedPrefix a.written z o.bytes) (sym same) (AppendedPrefix-nothing a.written o.bytes))
 
 -- a given exit is that of the output, which was given whole
 whole_given : (o : Output) (result : Exit) (a b : Side) → IsGiven result → Gave o result a b → IsWhole o result a b

@@ -47,7 +47,7 @@ module _ (k key : ℕ) (part : Part) (below rest : Forest) (p : Place) (found : 
         | None ↦ λ inside e.
             elim (place_of k rest) as (λ (o : Option Place). place_of k rest ≡ o → option_map (after_first key part below) o ≡ Some p →
             (InFirst k key part below rest p) ⊎ (InRest k key part below rest p)) [
-              | Some q ↦ λ behind e. inr (record { q = q; found = behind; lacks = no_place_lacks k below inside; is = let w : after_first key part below q ≡ p = cc e in sym w })
-              | None ↦ λ behind e. absurd (cc e)
+              | Some q ↦ λ following e. inr (record { q = q; found = following; lacks = no_place_lacks k below inside; is = let w : after_first key part below q ≡ p = cc e in sym w })
+              | None ↦ λ following e. absurd (cc e)
             ] refl e
       ] refl e

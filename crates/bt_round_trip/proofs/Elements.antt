@@ -220,7 +220,7 @@ record Form (name : List ℕ) (attributes : List Attribute) (blanks before : Lis
   stand : list_all can_stand attributes ≡ true
   single : no_name_twice attributes ≡ true
   white : list_all is_white blanks ≡ true
-  behind : list_all is_white before ≡ true
+  following : list_all is_white before ≡ true
 
 opening_valid : (name : List ℕ) (attributes : List Attribute) (blanks before : List ℕ) → Form name attributes blanks before → IsOpening (opening name attributes)
 opening_valid name attributes blanks before f = record { name = f.named; attributes = attributes_valid attributes f.stand; gap = refl }
@@ -230,7 +230,7 @@ spell_empty name attributes place blanks before f =
     let o = opening name attributes in
     let text = opening_text name attributes in
     let p : Piece = record { text = before ++ blanks; mark = Empty o } in
-    let white = white_both before blanks f.behind f.white in
+    let white = white_both before blanks f.following f.white in
     let line : concat (lines_of (rolled name attributes [] place) blanks) ≡ indented blanks (codes "<" ++ text ++ codes "/>") =
     ap concat (lines_rolled (record { name = name; attributes = attributes; children = []; place = place }) blanks)
     ∙ append-nil (indented blanks (codes "<" ++ text ++ codes "/>")) in
@@ -298,7 +298,7 @@ spell_filled name attributes child children place blanks before f t =
     let texts = texts_of (child ∷ children) (deeper blanks) in
     let p : Piece = record { text = before ++ blanks; mark = Start o } in
     let q : Piece = record { text = 10 ∷ blanks; mark = End name [] } in
-    let white = white_both before blanks f.behind f.white in
+    let white = white_both before blanks f.following f.white in
     let ending = indented blanks (codes "</" ++ name ++ codes ">") in
     let rest = ((text ++ codes ">") ++ codes "\n") ++ (texts ++ ending) in
     let start_line = indented blanks (codes "<" ++ text ++ codes ">") in
@@ -346,24 +346,24 @@ spell_filled name attributes child children place blanks before f t =
           ∙ sym (depth_rolled name attributes (child ∷ children) place);
       nested = λ at inside ps tags h.
           let here = at + length (before ++ blanks) in
-          let behind = at + length first in
+          let following = at + length first in
           let below = inside || is_models name in
-          let inner_tags = tags_of_all (t.placed behind) below in
+          let inner_tags = tags_of_all (t.placed following) below in
           let again = pairs_again attributes f.stand in
-          let end : at + length (pieces_written (p ∷ (t.pieces ++ q ∷ []))) ≡ behind + length inner + length last =
+          let end : at + length (pieces_written (p ∷ (t.pieces ++ q ∷ []))) ≡ following + length inner + length last =
           ap (λ (z : List ℕ). at + length z) all ∙ omega (arith, length-append first (inner ++ (last ++ [])), length-append inner (last ++ []), length-append last []) in
-          let ended : HaveTags (behind + length inner) (q ∷ ps) (Ending below name ∷ tags) = (
+          let ended : HaveTags (following + length inner) (q ∷ ps) (Ending below name ∷ tags) = (
             tags,
             or_true below (list_all is_white (10 ∷ blanks)) f.white,
             refl,
             refl,
             subst (λ (n : ℕ). HaveTags n ps tags) end h,
           ) in
-          let inside_them = t.nested behind below (q ∷ ps) (Ending below name ∷ tags) ended in
+          let inside_them = t.nested following below (q ∷ ps) (Ending below name ∷ tags) ended in
           let cast =
-          subst (λ (z : List Piece). HaveTags behind z ((inner_tags ++ Ending below name ∷ []) ++ tags)) (sym (append_assoc t.pieces (q ∷ []) ps))
-          (subst (λ (z : List Tag). HaveTags behind (t.pieces ++ q ∷ ps) z) (sym (append_assoc inner_tags (Ending below name ∷ []) tags)) inside_them) in
-          subst (λ (z : List Tag). HaveTags at (p ∷ ((t.pieces ++ q ∷ []) ++ ps)) (z ++ tags)) (sym (tags_rolled (record { name = name; attributes = attributes; children = t.placed behind; place = here }) inside)) (
+          subst (λ (z : List Piece). HaveTags following z ((inner_tags ++ Ending below name ∷ []) ++ tags)) (sym (append_assoc t.pieces (q ∷ []) ps))
+          (subst (λ (z : List Tag). HaveTags following (t.pieces ++ q ∷ ps) z) (sym (append_assoc inner_tags (Ending below name ∷ []) tags)) inside_them) in
+          subst (λ (z : List Tag). HaveTags at (p ∷ ((t.pieces ++ q ∷ []) ++ ps)) (z ++ tags)) (sym (tags_rolled (record { name = name; attributes = attributes; children = t.placed following; place = here }) inside)) (
             (inner_tags ++ Ending below name ∷ []) ++ tags,
             or_true inside (list_all is_white (before ++ blanks)) white,
             ap no_name_twice again ∙ f.single,
@@ -400,13 +400,13 @@ spell_node name attributes (e ∷ es) place blanks before f h =
     spell_filled name attributes e.0 (bare es) place blanks before f (all_spelled (e ∷ es) (deeper blanks) h (white_both blanks (codes "  ") f.white refl))
 
 whole_spelled : (y : Element-F ((e : Element) × Spelled e)) → Spelled (roll-Element (parts y))
-whole_spelled y blanks before can white behind =
+whole_spelled y blanks before can white following =
     let written = sym (fold-roll-Element Bool writes_step (parts y)) ∙ can in
     let one = both (name_stands y.name) (list_all can_stand y.attributes && (no_name_twice y.attributes && list_all (λ (child : Bool). child) (map can_be_written (bare y.children)))) written in
     let two = both (list_all can_stand y.attributes) (no_name_twice y.attributes && list_all (λ (child : Bool). child) (map can_be_written (bare y.children))) one.1 in
     let three = both (no_name_twice y.attributes) (list_all (λ (child : Bool). child) (map can_be_written (bare y.children))) two.1 in
     let name = both (is_name y.name) (is_utf8 y.name) one.0 in
-    spell_node y.name y.attributes y.children y.place blanks before (record { named = name.0; spelt = IsUtf8-from_is_utf8 y.name name.1; stand = two.0; single = three.0; white = white; behind = behind }) three.1
+    spell_node y.name y.attributes y.children y.place blanks before (record { named = name.0; spelt = IsUtf8-from_is_utf8 y.name name.1; stand = two.0; single = three.0; white = white; following = following }) three.1
 
 spelled : (e : Element) → Spelled e
 spelled = ind-Element Spelled (λ x y is. subst (λ (z : Element-F Element). Spelled (roll-Element z)) is (whole_spelled y))

@@ -452,9 +452,9 @@ said_same file id a b x y =
     all_same (read_node file x.read.0) (read_node file y.read.0) (reads_same file x.read.0 y.read.0) (children_of y.tree) x.read.1 y.read.1 x.read.2 y.read.2 x.read.3 y.read.3 x.ts y.ts below y.read.4 in
     sym x.is ∙ ap (λ (z : List Term). elements_of z) ts ∙ y.is
 
-there_behind : (id : List ℕ) (front : List Subtree) (t : Subtree) (ts : List Subtree) → bytes_eq id t.0 ≡ true → is_some (lookup (bytes_eq id) (front ++ t ∷ ts)) ≡ true
-there_behind id [] t ts h = ap (λ (b : Bool). is_some (cond b (Some t.1) (lookup (bytes_eq id) ts))) h
-there_behind id (u ∷ front) t ts h = by_first (bytes_eq id u.0) (there_behind id front t ts h)
+there_after : (id : List ℕ) (front : List Subtree) (t : Subtree) (ts : List Subtree) → bytes_eq id t.0 ≡ true → is_some (lookup (bytes_eq id) (front ++ t ∷ ts)) ≡ true
+there_after id [] t ts h = ap (λ (b : Bool). is_some (cond b (Some t.1) (lookup (bytes_eq id) ts))) h
+there_after id (u ∷ front) t ts h = by_first (bytes_eq id u.0) (there_after id front t ts h)
   where
     by_first : (b : Bool) → is_some (lookup (bytes_eq id) (front ++ t ∷ ts)) ≡ true → is_some (cond b (Some u.1) (lookup (bytes_eq id) (front ++ t ∷ ts))) ≡ true
     by_first true rest = refl
@@ -467,7 +467,7 @@ first_said file whole t (Some es) all s is some = ap (λ (x : List Element). Som
 alike_by : (file : File) (whole front ts : List Subtree) → whole ≡ front ++ ts → AllSaid file whole → AllSaid file ts → AllByRecursion (λ t. lookup (bytes_eq t.0) whole ≡ Some t.1) ts
 alike_by file whole front [] is all s = tt
 alike_by file whole front (t ∷ ts) is all s =
-    let some = ap (λ (z : List Subtree). is_some (lookup (bytes_eq t.0) z)) is ∙ there_behind t.0 front t ts ((bytes_eq-Decides t.0 t.0).1 refl) in
+    let some = ap (λ (z : List Subtree). is_some (lookup (bytes_eq t.0) z)) is ∙ there_after t.0 front t ts ((bytes_eq-Decides t.0 t.0).1 refl) in
     (first_said file whole t (lookup (bytes_eq t.0) whole) all s.0 refl some, alike_by file whole (front ++ t ∷ []) ts (is ∙ sym (append_assoc front (t ∷ []) ts)) all s.1)
 
 -- ---- The file

@@ -70,11 +70,11 @@ abbrev pub opened_in : List Term → List Subtree
 opened_in ts = flat_map (λ (c : Said). c.opened) (map said ts)
 
 -- the numbers after a term, and after several terms
-abbrev pub behind : Numbers → Term → Numbers
-behind n t = record { nodes = n.nodes + node_count t; scopes = n.scopes + scope_count t }
+abbrev pub following : Numbers → Term → Numbers
+following n t = record { nodes = n.nodes + node_count t; scopes = n.scopes + scope_count t }
 
-abbrev behind_all : Numbers → List Term → Numbers
-behind_all n ts = record { nodes = n.nodes + sum (map node_count ts); scopes = n.scopes + sum (map scope_count ts) }
+abbrev after_all : Numbers → List Term → Numbers
+after_all n ts = record { nodes = n.nodes + sum (map node_count ts); scopes = n.scopes + sum (map scope_count ts) }
 
 -- the file of these trees, which has no models and is of version 4
 abbrev pub plain_file : Trees → File
@@ -99,7 +99,7 @@ record AllGiven (trees : Trees) (left : ℕ) (opened : List (List ℕ)) (n : Num
 
 abbrev pub ReadsBack : Trees → Term → Type 0
 ReadsBack trees t = (left : ℕ) (opened : List (List ℕ)) (n : Numbers) (e : Element) → Given trees left opened n t → unplaced e ≡ unplaced (said t).node →
-    read_node (plain_file trees) left e opened n ≡ Ok (t, behind n t)
+    read_node (plain_file trees) left e opened n ≡ Ok (t, following n t)
 
 abbrev bare : {trees : Trees} → List ((t : Term) × ReadsBack trees t) → List Term
 bare ts = map (λ t. t.0) ts
@@ -129,7 +129,7 @@ first_given trees left opened n t ts g = record {
   known = (both_parts (Known trees) (said t).opened (opened_in ts) g.known).0;
 }
 
-rest_given : (trees : Trees) (left : ℕ) (opened : List (List ℕ)) (n : Numbers) (t : Term) (ts : List Term) → AllGiven trees left opened n (t ∷ ts) → AllGiven trees left opened (behind n t) ts
+rest_given : (trees : Trees) (left : ℕ) (opened : List (List ℕ)) (n : Numbers) (t : Term) (ts : List Term) → AllGiven trees left opened n (t ∷ ts) → AllGiven trees left opened (following n t) ts
 rest_given trees left opened n t ts g = record {
   depth = omega (arith, g.depth);
   nodes = omega (arith, g.nodes, summed node_count t ts);
@@ -144,14 +144,14 @@ pub heads_same : (x y : Element) (xs ys : List Element) → ◌≡◌ {A = List 
 heads_same x y xs ys h = (let e : x ≡ y = cc in e, let e : xs ≡ ys = cc in e)
 
 nodes_read : (trees : Trees) (left : ℕ) (opened : List (List ℕ)) (n : Numbers) (ts : List ((t : Term) × ReadsBack trees t)) (es : List Element) → AllGiven trees left opened n (bare ts) →
-    map unplaced es ≡ map unplaced (elements_of (bare ts)) → nodes_by (read_node (plain_file trees) left) opened es n ≡ Ok (bare ts, behind_all n (bare ts))
+    map unplaced es ≡ map unplaced (elements_of (bare ts)) → nodes_by (read_node (plain_file trees) left) opened es n ≡ Ok (bare ts, after_all n (bare ts))
 nodes_read trees left opened n [] [] g h = ap (λ (m : Numbers). Ok ([], m)) (same_numbers n.nodes n.scopes (n.nodes + 0) (n.scopes + 0) (omega arith) (omega arith))
 nodes_read trees left opened n [] (e ∷ es) g h = absurd (cc)
 nodes_read trees left opened n (t ∷ ts) [] g h = absurd (cc)
 nodes_read trees left opened n (t ∷ ts) (e ∷ es) g h =
     let same = heads_same (unplaced e) (unplaced (said t.0).node) (map unplaced es) (map unplaced (elements_of (bare ts))) h in
     let reader = read_node (plain_file trees) left in
-    let next = behind n t.0 in
+    let next = following n t.0 in
     ap (λ (r : Result (Term × Numbers) BuildFault). go_on (λ r. with_first r.0 (nodes_by reader opened es r.1)) r) (t.1 left opened n e (first_given trees left opened n t.0 (bare ts) g) same.0)
     ∙ ap (with_first t.0) (nodes_read trees left opened next ts es (rest_given trees left opened n t.0 (bare ts) g) same.1)
     ∙ ap (λ (m : Numbers). Ok (t.0 ∷ bare ts, m))
@@ -213,8 +213,8 @@ children_given trees left opened n x g =
     }
 
 -- the numbers after the children are those after the node
-numbers_behind : (n : Numbers) (x : Term-F Term) → behind_all (below_numbers x.kind n) x.children ≡ behind n (roll-Term x)
-numbers_behind n x =
+numbers_after : (n : Numbers) (x : Term-F Term) → after_all (below_numbers x.kind n) x.children ≡ following n (roll-Term x)
+numbers_after n x =
     let m = below_numbers x.kind n in
     same_numbers (m.nodes + sum (map node_count x.children)) (m.scopes + sum (map scope_count x.children)) (n.nodes + node_count (roll-Term x)) (n.scopes + scope_count (roll-Term x))
     (omega (arith, nodes_below x.kind n, fold-roll-Term ℕ (λ node. 1 + sum node.children) x))
@@ -242,23 +242,23 @@ record NodeGiven (trees : Trees) (left : ℕ) (opened : List (List ℕ)) (n : Nu
   fits : NodeFits (counted x (length x.children))
   parts : HasParts e (element_name x.kind x.id) (node_attributes x) (written_below x.kind (elements_of x.children))
   below : (es : List Element) → map unplaced es ≡ map unplaced (elements_of x.children) →
-      nodes_by (read_node (plain_file trees) left) (below_opened x.kind x.id opened) es (below_numbers x.kind n) ≡ Ok (x.children, behind_all (below_numbers x.kind n) x.children)
+      nodes_by (read_node (plain_file trees) left) (below_opened x.kind x.id opened) es (below_numbers x.kind n) ≡ Ok (x.children, after_all (below_numbers x.kind n) x.children)
 
 elements_count : (ts : List Term) → length (elements_of ts) ≡ length ts
 elements_count ts = length-map (map said ts) (λ (c : Said). c.node) ∙ length-map ts said
 
 -- what a whole node is read as
 node_made : (trees : Trees) (left : ℕ) (opened : List (List ℕ)) (n : Numbers) (e : Element) (x : Term-F Term) (es : List Element) → NodeGiven trees left opened n e x → map unplaced es ≡ map unplaced (elements_of x.children) →
-    node_of [] (read_node (plain_file trees) left) (plain_head x.kind x.id) (attributes_of e) (below_opened x.kind x.id opened) es (below_numbers x.kind n) (n.nodes + 1) ≡ Ok (roll-Term x, behind n (roll-Term x))
+    node_of [] (read_node (plain_file trees) left) (plain_head x.kind x.id) (attributes_of e) (below_opened x.kind x.id opened) es (below_numbers x.kind n) (n.nodes + 1) ≡ Ok (roll-Term x, following n (roll-Term x))
 node_made trees left opened n e x es g h =
     let below = read_node (plain_file trees) left in
     let head = plain_head x.kind x.id in
     let m = below_numbers x.kind n in
     ap (λ (A : Attributes). node_of [] below head A (below_opened x.kind x.id opened) es m (n.nodes + 1)) g.parts.attributes
-    ∙ node_read below head (node_attributes x) (below_opened x.kind x.id opened) es m (behind_all m x.children) (n.nodes + 1) (content_of x) x.children
+    ∙ node_read below head (node_attributes x) (below_opened x.kind x.id opened) es m (after_all m x.children) (n.nodes + 1) (content_of x) x.children
     (content_reads (n.nodes + 1) x (length x.children) g.fits) (g.below es h)
-    ∙ ap (λ (t : Term). Ok (t, behind_all m x.children)) (term_again x (length x.children) g.fits)
-    ∙ ap (λ (k : Numbers). Ok (roll-Term x, k)) (numbers_behind n x)
+    ∙ ap (λ (t : Term). Ok (t, after_all m x.children)) (term_again x (length x.children) g.fits)
+    ∙ ap (λ (k : Numbers). Ok (roll-Term x, k)) (numbers_after n x)
 
 few : (n : Numbers) (x : Term-F Term) → n.nodes + node_count (roll-Term x) ≤ 4096 → n.nodes < 4096
 few n x h = omega (arith, h, fold-roll-Term ℕ (λ node. 1 + sum node.children) x)
@@ -282,7 +282,7 @@ head_is trees left opened n e x g =
         ∙ ap (λ (es : List Element). length es) (plain_below x.kind (elements_of x.children) (ap is_subtree leaf)) ∙ elements_count x.children
 
 plain_reads : (trees : Trees) (left : ℕ) (opened : List (List ℕ)) (n : Numbers) (e : Element) (x : Term-F Term) → NodeGiven trees left opened n e x → is_subtree x.kind ≡ false →
-    node_by (plain_file trees) (read_node (plain_file trees) left) (plain_head x.kind x.id) e opened n ≡ Ok (roll-Term x, behind n (roll-Term x))
+    node_by (plain_file trees) (read_node (plain_file trees) left) (plain_head x.kind x.id) e opened n ≡ Ok (roll-Term x, following n (roll-Term x))
 plain_reads trees left opened n e x g plain =
     let file = plain_file trees in
     let below = read_node file left in
@@ -317,7 +317,7 @@ subtree_given trees left opened n e x g subtree =
     }
 
 subtree_reads : (trees : Trees) (left : ℕ) (opened : List (List ℕ)) (n : Numbers) (e : Element) (x : Term-F Term) → NodeGiven trees left opened n e x → x.kind ≡ SubTree →
-    node_by (plain_file trees) (read_node (plain_file trees) left) (plain_head x.kind x.id) e opened n ≡ Ok (roll-Term x, behind n (roll-Term x))
+    node_by (plain_file trees) (read_node (plain_file trees) left) (plain_head x.kind x.id) e opened n ≡ Ok (roll-Term x, following n (roll-Term x))
 subtree_reads trees left opened n e x g subtree =
     let file = plain_file trees in
     let below = read_node file left in
@@ -335,12 +335,12 @@ subtree_reads trees left opened n e x g subtree =
     ∙ node_made trees left opened n e x roots g s.known.2
 
 node_reads : (trees : Trees) (left : ℕ) (opened : List (List ℕ)) (n : Numbers) (e : Element) (x : Term-F Term) → NodeGiven trees left opened n e x → (x.kind ≡ SubTree) ⊎ (is_subtree x.kind ≡ false) →
-    node_by (plain_file trees) (read_node (plain_file trees) left) (plain_head x.kind x.id) e opened n ≡ Ok (roll-Term x, behind n (roll-Term x))
+    node_by (plain_file trees) (read_node (plain_file trees) left) (plain_head x.kind x.id) e opened n ≡ Ok (roll-Term x, following n (roll-Term x))
 node_reads trees left opened n e x g (inl subtree) = subtree_reads trees left opened n e x g subtree
 node_reads trees left opened n e x g (inr plain) = plain_reads trees left opened n e x g plain
 
 level_reads : (trees : Trees) (left : ℕ) (opened : List (List ℕ)) (n : Numbers) (e : Element) (x : Term-F Term) → NodeGiven trees left opened n e x →
-    read_node (plain_file trees) (suc left) e opened n ≡ Ok (roll-Term x, behind n (roll-Term x))
+    read_node (plain_file trees) (suc left) e opened n ≡ Ok (roll-Term x, following n (roll-Term x))
 level_reads trees left opened n e x g =
     let file = plain_file trees in
     let level : suc left - 1 ≡ left = omega arith in

@@ -11,7 +11,7 @@ use Rattle.std.specs.Str.Parse.{AllDigits, digits_value}
 use Rattle.bt_script.proofs.Bools.{both}
 use Rattle.bt_elements.specs.Marks.{is_not_zero, is_value_byte}
 use Rattle.bt_elements.specs.References.{begins_with, is_character, numeric, reference_of, decoded_from, decoded}
-use Rattle.bt_elements.proofs.Fronts.{eq_from_test, span_seam, taken_seam, left_seam}
+use Rattle.bt_elements.proofs.Prefixes.{eq_from_test, span_seam, taken_seam, left_seam}
 use Rattle.bt_elements.proofs.References.{decoded_past}
 use Rattle.bt_model.specs.PrintedTree.{escaped_byte}
 
@@ -83,8 +83,8 @@ decoded_reference cs c n is ascii =
 
 -- ---- Bytes
 
-behind_decimal : (ds rest : List ℕ) → drop (1 + length ds + 1) (35 ∷ (ds ++ 59 ∷ rest)) ≡ rest
-behind_decimal ds rest =
+after_decimal : (ds rest : List ℕ) → drop (1 + length ds + 1) (35 ∷ (ds ++ 59 ∷ rest)) ≡ rest
+after_decimal ds rest =
     let front = 35 ∷ (ds ++ 59 ∷ []) in
     let len : 1 + length ds + 1 ≡ length front = omega (arith, length-append ds (59 ∷ [])) in
     ap (λ (z : List ℕ). drop (1 + length ds + 1) (35 ∷ z)) (sym (append_assoc ds (59 ∷ []) rest))
@@ -99,7 +99,7 @@ control_says c rest some low =
     let told = decimal_is_IsNumeral c small in
     ap (λ (z : List ℕ). decoded (38 ∷ 35 ∷ z)) (append_assoc (decimal c) (59 ∷ []) rest)
     ∙ decoded_reference (35 ∷ (decimal c ++ 59 ∷ rest)) c (1 + length (decimal c) + 1) (reference_decimal (decimal c) rest c told.0.0 told.0.1 told.1 is) ascii
-    ∙ ap (λ (z : List ℕ). c ∷ decoded z) (behind_decimal (decimal c) rest)
+    ∙ ap (λ (z : List ℕ). c ∷ decoded z) (after_decimal (decimal c) rest)
 
 plain_says : (c : ℕ) (rest : List ℕ) → (c == 38) ≡ false → decoded (c ∷ rest) ≡ c ∷ decoded rest
 plain_says c rest h =

@@ -10,7 +10,7 @@ use Rattle.bt_model.specs.declared.world.Event.{Event}
 use Rattle.bt_model.specs.declared.world.World.{World}
 use Rattle.bt_model.specs.Run.{RunState, RunnerCall, Stepped, Trace, before_rest, finishes, opening, run_from, run_over, step}
 use Rattle.bt_laws.proofs.Events.{step_steady}
-use Rattle.bt_laws.proofs.Runs.{Holds, InOrderFrom, finishes_steady, opening_steady, order_behind, rest_steady, step_last}
+use Rattle.bt_laws.proofs.Runs.{Holds, InOrderFrom, finishes_steady, opening_steady, order_after, rest_steady, step_last}
 use Rattle.bt_run_laws.specs.Prefixes.{after_events, after_finishes, events_from, goes_on, joined}
 
 -- ---- The rules
@@ -20,8 +20,8 @@ module _ (tree : Tree) (world : World) where
   events_steady [] s order steady = steady
   events_steady (e ∷ events) s order steady =
       let first : Stepped = step tree world e s in
-      let now : Holds tree world first.state = step_steady tree world s steady e.at (order.behind 0 e (omega arith)) e.what in
-      let next : InOrderFrom first.state.last events = subst (λ (last : ℕ). InOrderFrom last events) (sym (step_last e.what tree world e.at s)) (order_behind s.last e events order) in
+      let now : Holds tree world first.state = step_steady tree world s steady e.at (order.following 0 e (omega arith)) e.what in
+      let next : InOrderFrom first.state.last events = subst (λ (last : ℕ). InOrderFrom last events) (sym (step_last e.what tree world e.at s)) (order_after s.last e events order) in
       rest_steady tree world first.fault first (events_from tree world events) now (events_steady events first.state next now)
 
   -- what holds after one part and after another holds after both
@@ -30,7 +30,7 @@ module _ (tree : Tree) (world : World) where
   joined_steady (Some f) first rest now then_ = now
 
   whole_steady : (events : List Event) → IsNonDecreasingBy (λ (e : Event). e.at) events → Holds tree world (after_events tree world events).state
-  whole_steady events order = events_steady events (opening tree world) (record { in_order = order; behind = λ k d within. omega arith }) (opening_steady tree world)
+  whole_steady events order = events_steady events (opening tree world) (record { in_order = order; following = λ k d within. omega arith }) (opening_steady tree world)
 
   pub prefix_steady : (before after : List Event) → IsNonDecreasingBy (λ (e : Event). e.at) (before ++ after) → Holds tree world (after_events tree world before).state
   prefix_steady before after order =
@@ -49,10 +49,10 @@ module _ (tree : Tree) (world : World) where
   abbrev before_part : Block → List RunnerCall → Trace → Trace
   before_part block calls t = record { blocks = block ∷ t.blocks; calls = calls ++ t.calls; state = t.state; fault = t.fault }
 
-  joined_behind : (block : Block) (calls : List RunnerCall) (fault : Option RunFault) (first rest : Trace) →
+  joined_after : (block : Block) (calls : List RunnerCall) (fault : Option RunFault) (first rest : Trace) →
       before_part block calls (joined fault first rest) ≡ joined fault (before_part block calls first) rest
-  joined_behind block calls (Some f) first rest = refl
-  joined_behind block calls None first rest = λ i. record {
+  joined_after block calls (Some f) first rest = refl
+  joined_after block calls None first rest = λ i. record {
     blocks = block ∷ (first.blocks ++ rest.blocks);
     calls = sym (append_assoc calls first.calls rest.calls) i;
     state = rest.state;
@@ -69,7 +69,7 @@ module _ (tree : Tree) (world : World) where
       step_through first (Some f) is = refl
       step_through first None is =
           ap (before_part first.block first.calls) is
-          ∙ joined_behind first.block first.calls (events_from tree world before first.state).fault (events_from tree world before first.state) (run_from tree world after (events_from tree world before first.state).state)
+          ∙ joined_after first.block first.calls (events_from tree world before first.state).fault (events_from tree world before first.state) (run_from tree world after (events_from tree world before first.state).state)
 
   pub run_through : (before after : List Event) → run_over tree world (before ++ after) ≡ goes_on (after_events tree world before) (run_from tree world after)
   run_through before after = through before after (opening tree world)

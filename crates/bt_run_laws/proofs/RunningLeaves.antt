@@ -58,8 +58,8 @@ said : (b : Bool) → Some b ≡ Some true → b ≡ true
 said true e = refl
 said false e = cc
 
-behind : (uid p : ℕ) → (p ≡ uid → ⊥) → uid ≤ p → uid + 1 ≤ p
-behind uid p other low = ⊎_elim (λ below. omega (arith, below)) (λ reached. absurd (other (omega (arith, low, reached)))) (cases_lt uid p)
+following : (uid p : ℕ) → (p ≡ uid → ⊥) → uid ≤ p → uid + 1 ≤ p
+following uid p other low = ⊎_elim (λ below. omega (arith, below)) (λ reached. absurd (other (omega (arith, low, reached)))) (cases_lt uid p)
 
 -- ---- What is held runs
 
@@ -90,7 +90,7 @@ module _ {X : Type 0} (term : X → Term) (runs : (c : X) → HeldRuns (term c) 
         running_of (status_in m) (λ rests. not_both (held_at s p) held (rests_hold_nothing (above term node) rows uid m s sound rests p low high_above)),
         ⊎_elim
             (λ here. inl (leaf_of (status_in m) node.kind (said (is_held (status_in m) node.kind) (sym own.held ∙ ap (held_at s) (sym here) ∙ held)), here))
-            (λ other. inr (in_one rows node.children (uid + 1) (out-Memory m).children s parts.1 p (behind uid p other low) (omega (arith, high)) held))
+            (λ other. inr (in_one rows node.children (uid + 1) (out-Memory m).children s parts.1 p (following uid p other low) (omega (arith, high)) held))
             (cases_eq p uid),
       )
 

@@ -219,10 +219,10 @@ infix-step : (op : BinOp) (a b : Expr) (left place tight : ℕ) (rest : List Tok
 infix-step op a b left place tight rest again fb le tl fit ends =
     let ts = spelled b ++ rest in
     let next : next_of place (Operator op ∷ ts) ≡ Infix op ts = ap (λ (t : Bool). cond t (Infix op ts) Ends) (le-yes place (level op) (omega arith)) in
-    let behind : tight < level op + 1 = omega arith in
+    let following : tight < level op + 1 = omega arith in
     ap (λ (n : Next). cond (nat_le (height a) (suc left)) (go_on again (climb left) left a (Operator op ∷ ts) n) None) next
     ∙ wide-low (height a) left (then_found (climb left (level op + 1) ts) (λ x. again (roll-Expr (Binary op a x))))
-    ∙ ap (λ (o : Option Found). cond (nat_le (height a) left) (then_found o (λ x. again (roll-Expr (Binary op a x)))) None) (fb left (level op + 1) rest fit (Stops-tighter tight (level op + 1) rest behind ends))
+    ∙ ap (λ (o : Option Found). cond (nat_le (height a) left) (then_found o (λ x. again (roll-Expr (Binary op a x)))) None) (fb left (level op + 1) rest fit (Stops-tighter tight (level op + 1) rest following ends))
     ∙ ap (λ (o : Option Found). cond (nat_le (height a) left) o None) (then-cond (nat_le (height b) left) b rest (λ x. again (roll-Expr (Binary op a x))))
     ∙ two-low (height a) (height b) left (again (roll-Expr (Binary op a b)) rest)
     ∙ low-by_parts (roll-Expr (Binary op a b)) (max (height a) (height b)) left (again (roll-Expr (Binary op a b)) rest) (height_is (Binary op a b))

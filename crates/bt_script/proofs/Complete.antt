@@ -12,10 +12,10 @@ use Rattle.bt_script.specs.declared.token.Token.TheVariants.{Number, Text, Word,
 use Rattle.bt_script.specs.declared.check.Opened.{Opened}
 use Rattle.bt_script.specs.declared.check.Opened.TheVariants.{Paren, Choice, Whole}
 use Rattle.bt_script.specs.declared.check.Stage.{Stage}
-use Rattle.bt_script.specs.declared.check.Stage.TheVariants.{Blank, Start, Named, Before, Behind}
+use Rattle.bt_script.specs.declared.check.Stage.TheVariants.{Blank, Start, Named, Before, After}
 use Rattle.bt_script.specs.Grammar.{level, unary_sign, spelled, fits}
 use Rattle.bt_script.specs.Reading.{Begins}
-use Rattle.bt_script.specs.Spots.{Spot, after_minus, operand_step, closing_step, semicolon_step, behind_step, then_spot, run, step}
+use Rattle.bt_script.specs.Spots.{Spot, after_minus, operand_step, closing_step, semicolon_step, after_step, then_spot, run, step}
 use Rattle.std.proofs.lemmas.Bool.Decides.{nat_tests}
 use Rattle.std.specs.Cmp.Derive.{both_true}
 use Rattle.bt_script.proofs.Bools.{both}
@@ -160,11 +160,11 @@ operand-group a fit place = ap (λ (f : ℕ → Bool). f place) (fits_is (Group 
 
 -- a prefix of what begins it begins it too
 pub begins-fewer : (X : Type 0) (Is : List Token → X → Type 0) (ts us : List Token) → Begins Is (ts ++ us) → Begins Is ts
-begins-fewer X Is ts us b = record { behind = us ++ b.behind; whole = b.whole; is = subst (λ (vs : List Token). Is vs b.whole) (append_assoc ts us b.behind) b.is }
+begins-fewer X Is ts us b = record { following = us ++ b.following; whole = b.whole; is = subst (λ (vs : List Token). Is vs b.whole) (append_assoc ts us b.following) b.is }
 
 -- whole tokens begin themselves
 pub begins-whole : (X : Type 0) (Is : List Token → X → Type 0) (ts : List Token) (x : X) → Is ts x → Begins Is ts
-begins-whole X Is ts x is = record { behind = []; whole = x; is = subst (λ (vs : List Token). Is vs x) (sym (append-nil ts)) is }
+begins-whole X Is ts x is = record { following = []; whole = x; is = subst (λ (vs : List Token). Is vs x) (sym (append-nil ts)) is }
 
 module _ (X : Type 0) (Is : List Token → X → Type 0) (Bare : Type 0) where
   -- after these tokens any expression ends the whole
@@ -302,7 +302,7 @@ module _ (X : Type 0) (Is : List Token → X → Type 0) (Bare : Type 0) where
     At Start os ts = (os ≡ []) × Later ts
     At Named os ts = (os ≡ []) × Named_at ts
     At Before os ts = Inside os ts
-    At Behind os ts = Past os ts
+    At After os ts = Past os ts
 
     abbrev pub Moves : Option Spot → List Token → Type 0
     Moves None ts = Unit {0}
@@ -343,7 +343,7 @@ module _ (X : Type 0) (Is : List Token → X → Type 0) (Bare : Type 0) where
     colon-moves (Paren ∷ os) ts p = tt
     colon-moves (Choice ∷ os) ts p = past-colon os ts p
 
-    close-moves : (os : List Opened) (ts : List Token) → Past os ts → Moves (closing_step Paren Behind os) (ts ++ Close ∷ [])
+    close-moves : (os : List Opened) (ts : List Token) → Past os ts → Moves (closing_step Paren After os) (ts ++ Close ∷ [])
     close-moves [] ts p = tt
     close-moves (Whole ∷ os) ts p = tt
     close-moves (Paren ∷ os) ts p = past-close os ts p
@@ -354,21 +354,21 @@ module _ (X : Type 0) (Is : List Token → X → Type 0) (Bare : Type 0) where
     semicolon-moves (o ∷ os) ts ends p = tt
 
     -- a token after an operand
-    pub behind-moves : (os : List Opened) (ts : List Token) (t : Token) → ((us : List Token) → Past [] us → Later (us ++ Semicolon ∷ [])) → Past os ts → Moves (behind_step os t) (ts ++ t ∷ [])
-    behind-moves os ts (Number n) ends p = tt
-    behind-moves os ts (Text n) ends p = tt
-    behind-moves os ts (Word name) ends p = tt
-    behind-moves os ts (Operator op) ends p = past-operator os ts op p
-    behind-moves os ts Bang ends p = tt
-    behind-moves os ts Tilde ends p = tt
-    behind-moves os ts Question ends p = past-question os ts p
-    behind-moves os ts Colon ends p = colon-moves os ts p
-    behind-moves os ts Open ends p = tt
-    behind-moves os ts Close ends p = close-moves os ts p
-    behind-moves os ts Semicolon ends p = semicolon-moves os ts ends p
-    behind-moves os ts Creates ends p = tt
-    behind-moves os ts Assigns ends p = tt
-    behind-moves os ts (Changes op) ends p = tt
+    pub following-moves : (os : List Opened) (ts : List Token) (t : Token) → ((us : List Token) → Past [] us → Later (us ++ Semicolon ∷ [])) → Past os ts → Moves (after_step os t) (ts ++ t ∷ [])
+    following-moves os ts (Number n) ends p = tt
+    following-moves os ts (Text n) ends p = tt
+    following-moves os ts (Word name) ends p = tt
+    following-moves os ts (Operator op) ends p = past-operator os ts op p
+    following-moves os ts Bang ends p = tt
+    following-moves os ts Tilde ends p = tt
+    following-moves os ts Question ends p = past-question os ts p
+    following-moves os ts Colon ends p = colon-moves os ts p
+    following-moves os ts Open ends p = tt
+    following-moves os ts Close ends p = close-moves os ts p
+    following-moves os ts Semicolon ends p = semicolon-moves os ts ends p
+    following-moves os ts Creates ends p = tt
+    following-moves os ts Assigns ends p = tt
+    following-moves os ts (Changes op) ends p = tt
 
     moves-run : ((s : Spot) (ts : List Token) (t : Token) → At s.0 s.1 ts → Moves (step s t) (ts ++ t ∷ [])) →
         (o : Option Spot) (front ts : List Token) → Moves o front → Moves (then_spot o (run ts)) (front ++ ts)

@@ -9,7 +9,7 @@ use Rattle.bt_script.specs.declared.syntax.Script.{Script}
 use Rattle.bt_script.specs.declared.token.Token.{Token}
 use Rattle.bt_script.specs.declared.token.Placed.{Placed}
 use Rattle.bt_script.specs.Grammar.{kept, IsExpr, IsStmts}
-use Rattle.bt_script.specs.Reading.{bare, tokens_of, token_fault, high_expr, high_stmt, Begins, StuckAt, Unfinished, FaultBehind, Faulty, Reads, Nested, ReadsExpr, ReadsScript, ExprFault, StmtsFault}
+use Rattle.bt_script.specs.Reading.{bare, tokens_of, token_fault, high_expr, high_stmt, Begins, StuckAt, Unfinished, FaultAfter, Faulty, Reads, Nested, ReadsExpr, ReadsScript, ExprFault, StmtsFault}
 use Rattle.bt_script.proofs.Climbing.{finds-alone}
 use Rattle.bt_script.proofs.Alone.{stmts-alone}
 use Rattle.bt_script.proofs.Complete.{begins-fewer, begins-whole}
@@ -60,7 +60,7 @@ module _ (X : Type 0) (Is : List Token → X → Type 0) (high : X → List Plac
 
   data Kind (text : List ℕ) (fault : ScriptFault) : Type 0 where
     long : 4096 < length text → fault ≡ TooLong → Kind text fault
-    token : length text ≤ 4096 → FaultBehind Is text fault → Kind text fault
+    token : length text ≤ 4096 → FaultAfter Is text fault → Kind text fault
     stuck : (place : ℕ) → length text ≤ 4096 → fault ≡ Syntax place → StuckAt Is (tokens_of text) place → Kind text fault
     end : (place : ℕ) → length text ≤ 4096 → fault ≡ Syntax place → token_fault text ≡ None → Unfinished Is (tokens_of text) → place ≡ length text → Kind text fault
     nested : (place : ℕ) → length text ≤ 4096 → fault ≡ TooNested place → Nested Is high text place → Kind text fault

@@ -11,16 +11,16 @@ use Rattle.bt_script.specs.Tokens.{digit_value, read_on, token_at, read_then, re
 use Rattle.bt_script.specs.declared.fault.ScriptFault.{ScriptFault}
 use Rattle.bt_script.specs.declared.token.Token.{Token}
 
-pub ruleset fronts = prefix_len-le-length
+pub ruleset prefixes = prefix_len-le-length
 
 front-step : (p : ℕ → Bool) (b : Bool) (c : ℕ) (cs : List ℕ) → p c ≡ b → list_all p (take (prefix_len p cs) cs) ≡ true → list_all p (take (cond b (1 + prefix_len p cs) 0) (c ∷ cs)) ≡ true
 front-step p true c cs is all = rw (one-add (prefix_len p cs)) (ap (λ (b : Bool). b && list_all p (take (prefix_len p cs) cs)) is ∙ all)
 front-step p false c cs is all = refl
 
 -- each byte of the longest prefix that passes does pass
-pub list_all-front : (p : ℕ → Bool) (bs : List ℕ) → list_all p (take (prefix_len p bs) bs) ≡ true
-list_all-front p [] = refl
-list_all-front p (c ∷ cs) = front-step p (p c) c cs refl (list_all-front p cs)
+pub list_all-prefix : (p : ℕ → Bool) (bs : List ℕ) → list_all p (take (prefix_len p bs) bs) ≡ true
+list_all-prefix p [] = refl
+list_all-prefix p (c ∷ cs) = front-step p (p c) c cs refl (list_all-prefix p cs)
 
 le-times : (n base : ℕ) → 1 ≤ base → n ≤ n * base
 le-times n base h = grind arith
@@ -46,10 +46,10 @@ read_front place len c cs t black is some all =
     let f : ℕ → Tokens = λ n. read_tokens (place + 1) (n - 1) cs in
     let small : len - 1 ≤ length cs = omega arith in
     let e : place + 1 + (len - 1) ≡ place + len = omega arith in
-    let behind : f len ≡ read_tokens (place + len) 0 (drop (len - 1) cs) = read_past (place + 1) (len - 1) cs small ∙ ap (λ (p : ℕ). read_tokens p 0 (drop (len - 1) cs)) e in
+    let following : f len ≡ read_tokens (place + len) 0 (drop (len - 1) cs) = read_past (place + 1) (len - 1) cs small ∙ ap (λ (p : ℕ). read_tokens p 0 (drop (len - 1) cs)) e in
     ap (λ (b : Bool). cond b (read_tokens (place + 1) 0 cs) (read_then place (token_at place (c ∷ cs)) f)) black
     ∙ ap (λ (r : Result (Token × ℕ) ScriptFault). read_then place r f) is
-    ∙ ap (λ (x : Tokens). let y : Tokens = record { tokens = (record { token = t; place = place }) ∷ x.tokens; fault = x.fault } in y) behind
+    ∙ ap (λ (x : Tokens). let y : Tokens = record { tokens = (record { token = t; place = place }) ∷ x.tokens; fault = x.fault } in y) following
 
 -- one more token
 pub read_one : (text : List ℕ) (at len : ℕ) (t : Token) →

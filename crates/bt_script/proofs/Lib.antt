@@ -4,7 +4,7 @@ pub mod Building
 pub mod Climbing
 pub mod Complete
 pub mod Exclusive
-pub mod Fronts
+pub mod Prefixes
 pub mod Identifiers
 pub mod Lexing
 pub mod Machine

@@ -13,7 +13,7 @@ use Rattle.bt_script.specs.declared.token.Placed.{Placed}
 use Rattle.bt_script.specs.declared.check.Opened.{Opened}
 use Rattle.bt_script.specs.declared.check.Opened.TheVariants.{Paren, Choice, Whole}
 use Rattle.bt_script.specs.declared.check.Stage.{Stage}
-use Rattle.bt_script.specs.declared.check.Stage.TheVariants.{Blank, Start, Named, Before, Behind}
+use Rattle.bt_script.specs.declared.check.Stage.TheVariants.{Blank, Start, Named, Before, After}
 use Rattle.bt_script.specs.Grammar.{changes, spelled, spelled_stmt, spelled_slot, separated, kept, fits, fits_stmt, IsExpr, IsStmts}
 use Rattle.bt_script.specs.Reading.{bare, Begins}
 use Rattle.bt_script.specs.Spots.{Spot, LeadsNowhere, step, start_step, closing_step, change_step, then_spot, run, may_end, ends_at, only_whole, nothing_open}
@@ -52,7 +52,7 @@ run-push ts t s at next led is =
 
 -- an expression leads from before an operand to after one
 abbrev Runs : Expr → Type 0
-Runs e = (opened : List Opened) (rest : List Token) → run (spelled e ++ rest) (Before, opened) ≡ run rest (Behind, opened)
+Runs e = (opened : List Opened) (rest : List Token) → run (spelled e ++ rest) (Before, opened) ≡ run rest (After, opened)
 
 runs_at : (y : Expr-F ((e : Expr) × Runs e)) → Runs (roll-Expr (map-Expr ((e : Expr) × Runs e) Expr (λ e. e.0) y))
 runs_at (Num n) opened rest = ap (λ (ts : List Token). run (ts ++ rest) (Before, opened)) (spelled_is (Num n))
@@ -84,7 +84,7 @@ abbrev pub fine : Option Spot → Bool
 fine None = false
 fine (Some s) = may_end s
 
-named-more : (ts : List Token) → fine (run ts (Behind, [])) ≡ true → fine (run ts (Named, [])) ≡ true
+named-more : (ts : List Token) → fine (run ts (After, [])) ≡ true → fine (run ts (Named, [])) ≡ true
 named-more [] h = refl
 named-more (Number n ∷ ts) h = h
 named-more (Text t ∷ ts) h = h
@@ -131,23 +131,23 @@ start-more stage (Creates ∷ ts) h = h
 start-more stage (Assigns ∷ ts) h = h
 start-more stage (Changes op ∷ ts) h = h
 
-expr-fine : (e : Expr) (rest : List Token) → fine (run rest (Behind, [])) ≡ true → fine (run (spelled e ++ rest) (Before, [])) ≡ true
+expr-fine : (e : Expr) (rest : List Token) → fine (run rest (After, [])) ≡ true → fine (run (spelled e ++ rest) (Before, [])) ≡ true
 expr-fine e rest h = ap fine (runs e [] rest) ∙ h
 
 change-fine : (b : Bool) (ts : List Token) → b ≡ true → fine (run ts (Before, [])) ≡ true → fine (then_spot (change_step b []) (run ts)) ≡ true
 change-fine true ts h k = k
 change-fine false ts h k = absurd (cc)
 
-stmt-fine : (stage : Stage) (s : Stmt) (rest : List Token) → fits_stmt s ≡ true → fine (run rest (Behind, [])) ≡ true → fine (from_start stage (spelled_stmt s ++ rest)) ≡ true
+stmt-fine : (stage : Stage) (s : Stmt) (rest : List Token) → fits_stmt s ≡ true → fine (run rest (After, [])) ≡ true → fine (from_start stage (spelled_stmt s ++ rest)) ≡ true
 stmt-fine stage (Create name e) rest fit h = expr-fine e rest h
 stmt-fine stage (Assign name e) rest fit h = expr-fine e rest h
 stmt-fine stage (Change op name e) rest fit h = change-fine (changes op) (spelled e ++ rest) (both (changes op) (fits e 0) fit).0 (expr-fine e rest h)
 stmt-fine stage (Plain e) rest fit h = start-more stage (spelled e ++ rest) (expr-fine e rest h)
 
-start-fine : (s : Stmt) (rest : List Token) → fits_stmt s ≡ true → fine (run rest (Behind, [])) ≡ true → fine (run (spelled_stmt s ++ rest) (Start, [])) ≡ true
+start-fine : (s : Stmt) (rest : List Token) → fits_stmt s ≡ true → fine (run rest (After, [])) ≡ true → fine (run (spelled_stmt s ++ rest) (Start, [])) ≡ true
 start-fine s rest fit h = ap fine (from_start-Start (spelled_stmt s ++ rest)) ∙ stmt-fine Start s rest fit h
 
-blank-fine : (s : Stmt) (rest : List Token) → fits_stmt s ≡ true → fine (run rest (Behind, [])) ≡ true → fine (run (spelled_stmt s ++ rest) (Blank, [])) ≡ true
+blank-fine : (s : Stmt) (rest : List Token) → fits_stmt s ≡ true → fine (run rest (After, [])) ≡ true → fine (run (spelled_stmt s ++ rest) (Blank, [])) ≡ true
 blank-fine s rest fit h = ap fine (from_start-Blank (spelled_stmt s ++ rest)) ∙ stmt-fine Blank s rest fit h
 
 no-rest : (ts : List Token) (s : Spot) → fine (run (ts ++ []) s) ≡ true → fine (run ts s) ≡ true
@@ -186,8 +186,8 @@ pub nothing-begins : {X : Type 0} (Is : List Token → X → Type 0) (start spot
     run front start ≡ Some spot → step spot t ≡ None → Begins Is (front ++ t ∷ []) → ⊥
 nothing-begins Is start spot front t all led stuck b =
     let one : run (front ++ t ∷ []) start ≡ None = run-append front (t ∷ []) start ∙ ap (λ (o : Option Spot). then_spot o (run (t ∷ []))) led ∙ ap (λ (o : Option Spot). then_spot o (run [])) stuck in
-    let whole : run ((front ++ t ∷ []) ++ b.behind) start ≡ None = run-append (front ++ t ∷ []) b.behind start ∙ ap (λ (o : Option Spot). then_spot o (run b.behind)) one in
-    let e : false ≡ true = ap fine (sym whole) ∙ all ((front ++ t ∷ []) ++ b.behind) b.whole b.is in
+    let whole : run ((front ++ t ∷ []) ++ b.following) start ≡ None = run-append (front ++ t ∷ []) b.following start ∙ ap (λ (o : Option Spot). then_spot o (run b.following)) one in
+    let e : false ≡ true = ap fine (sym whole) ∙ all ((front ++ t ∷ []) ++ b.following) b.whole b.is in
     cc
 
 placed-at : (ts : List Placed) (i : ℕ) (p : Placed) → i < length ts → p ≡ get_or ts i p → drop i ts ≡ p ∷ drop (i + 1) ts
@@ -246,4 +246,4 @@ ends-reverse Blank os = refl
 ends-reverse Start os = nothing-reverse os
 ends-reverse Named os = nothing-reverse os
 ends-reverse Before os = refl
-ends-reverse Behind os = only-reverse os
+ends-reverse After os = only-reverse os

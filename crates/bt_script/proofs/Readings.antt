@@ -12,7 +12,7 @@ use Rattle.bt_script.specs.Grammar.{kept, IsExpr, IsStmts}
 use Rattle.bt_script.specs.Reading.{bare, tokens_of, token_fault, high_stmt, high_expr, ReadsScript, StmtsFault, ExprFault}
 use Rattle.bt_script.specs.Spots.{Checked, refused}
 use Rattle.bt_script.proofs.Machine.{stmts-fine, alone-fine}
-use Rattle.bt_script.proofs.Fronts.{script-begins, script-whole, expr-begins, expr-whole}
+use Rattle.bt_script.proofs.Prefixes.{script-begins, script-whole, expr-begins, expr-whole}
 use Rattle.bt_script.proofs.Verdicts.{refused-faulty, accepted}
 
 abbrev Slots : Type 0

@@ -11,7 +11,7 @@ use Rattle.bt_script.specs.declared.check.Verdict.TheVariants as verdict
 use Rattle.std.specs.Char.{is_ascii_digit, is_ascii_hexdigit}
 use Rattle.bt_script.specs.Identifiers.{is_white, is_identifier_start}
 use Rattle.bt_script.specs.Tokens.{Tokens, number_in, word_at, decimal_end, hex_end, within, ended, decimal_at, hex_at, starts_hex, text_at, two_sign, one_sign, single, longest, sign_at, unquoted_at, token_at, read_then, read_tokens}
-use Rattle.bt_script.specs.Reading.{bare, tokens_of, token_fault, Begins, StuckAt, Unfinished, FaultBehind, Faulty}
+use Rattle.bt_script.specs.Reading.{bare, tokens_of, token_fault, Begins, StuckAt, Unfinished, FaultAfter, Faulty}
 use Rattle.bt_script.specs.Spots.{Spot, run, LeadsNowhere, Leads, Checked, refused}
 use Rattle.bt_script.proofs.Machine.{fine, nothing-begins}
 
@@ -95,9 +95,9 @@ token-lexical place (c ∷ cs) =
     either (is_identifier_start c) (Ok (word_at (c ∷ cs))) (cond (c == 39) (text_at place cs) (unquoted_at place (c ∷ cs))) tt
     (either (c == 39) (text_at place cs) (unquoted_at place (c ∷ cs)) (text-lexical place cs) (unquoted-lexical place (c ∷ cs)))
 
-then-lexical : (place : ℕ) (r : Result (Token × ℕ) ScriptFault) (behind : ℕ → Tokens) → LexicalAt r → ((len : ℕ) → LexicalEnd (behind len).fault) → LexicalEnd (read_then place r behind).fault
-then-lexical place (Err fault) behind h k = h
-then-lexical place (Ok found) behind h k = k found.1
+then-lexical : (place : ℕ) (r : Result (Token × ℕ) ScriptFault) (following : ℕ → Tokens) → LexicalAt r → ((len : ℕ) → LexicalEnd (following len).fault) → LexicalEnd (read_then place r following).fault
+then-lexical place (Err fault) following h k = h
+then-lexical place (Ok found) following h k = k found.1
 
 blank-lexical : (b : Bool) (x y : Tokens) → LexicalEnd x.fault → LexicalEnd y.fault → LexicalEnd (cond b x y).fault
 blank-lexical true x y h k = h
@@ -133,25 +133,25 @@ module _ (X : Type 0) (Is : List Token → X → Type 0) (high : X → List Plac
     open_end = λ x is. (let e : false ≡ true = sym l.ends ∙ ap fine (sym l.led) ∙ all (bare ts) x is in absurd (cc));
   }
 
-  token-faulty : (text : List ℕ) (fault : ScriptFault) → length text ≤ 4096 → Lexical fault → FaultBehind Is text fault → Faulty Is high text fault
+  token-faulty : (text : List ℕ) (fault : ScriptFault) → length text ≤ 4096 → Lexical fault → FaultAfter Is text fault → Faulty Is high text fault
   token-faulty text TooLong short h b = absurd h
   token-faulty text (TooNested place) short h b = absurd h
   token-faulty text (Syntax place) short h b = (short, inl b)
   token-faulty text (RealNumber place) short h b = (short, b)
   token-faulty text (NumberTooWide place) short h b = (short, b)
 
-  behind-faulty : (text : List ℕ) (end : Bool) (fault f : ScriptFault) → length text ≤ 4096 → Leads start (tokens_of text) end → token_fault text ≡ Some fault →
+  following-faulty : (text : List ℕ) (end : Bool) (fault f : ScriptFault) → length text ≤ 4096 → Leads start (tokens_of text) end → token_fault text ≡ Some fault →
       ◌≡◌ {A = Option ScriptFault} (Some fault) (Some f) → Faulty Is high text f
-  behind-faulty text end fault f short l is h =
+  following-faulty text end fault f short l is h =
       let lexical : LexicalEnd (Some fault) = subst LexicalEnd is (read-lexical 0 0 text) in
       subst (Faulty Is high text) (some-fault h) (token-faulty text fault short lexical (record { begins = begins (bare (tokens_of text)) l.spot l.led; found = is }))
 
   by-fault : (text : List ℕ) (v : Verdict) (o : Option ScriptFault) (f : ScriptFault) → length text ≤ 4096 → Checked start (tokens_of text) v → token_fault text ≡ o → refused v o (length text) ≡ Some f → Faulty Is high text f
   by-fault text (verdict.Stuck place) o f short l is h = subst (Faulty Is high text) (some-fault h) (short, inr (inl (stuck-fault (tokens_of text) place l)))
   by-fault text verdict.Whole None f short l is h = absurd (cc)
-  by-fault text verdict.Whole (Some fault) f short l is h = behind-faulty text true fault f short l is h
+  by-fault text verdict.Whole (Some fault) f short l is h = following-faulty text true fault f short l is h
   by-fault text verdict.Unfinished None f short l is h = subst (Faulty Is high text) (some-fault h) (short, inr (inr (is, unfinished (tokens_of text) l, refl)))
-  by-fault text verdict.Unfinished (Some fault) f short l is h = behind-faulty text false fault f short l is h
+  by-fault text verdict.Unfinished (Some fault) f short l is h = following-faulty text false fault f short l is h
 
   -- what is refused has this fault
   pub refused-faulty : (text : List ℕ) (v : Verdict) (f : ScriptFault) → length text ≤ 4096 → Checked start (tokens_of text) v → refused v (token_fault text) (length text) ≡ Some f → Faulty Is high text f

@@ -42,9 +42,9 @@ high_stmt (Some s ∷ slots) ts =
 
 -- with some tokens after these they are whole
 pub record Begins {X : Type 0} (Is : List Token → X → Type 0) (ts : List Token) : Type 0 where
-  pub behind : List Token
+  pub following : List Token
   pub whole : X
-  pub is : Is (ts ++ behind) whole
+  pub is : Is (ts ++ following) whole
 
 -- the token at this place is the first with which nothing goes on
 pub record StuckAt {X : Type 0} (Is : List Token → X → Type 0) (ts : List Placed) (place : ℕ) : Type 0 where
@@ -61,7 +61,7 @@ pub record Unfinished {X : Type 0} (Is : List Token → X → Type 0) (ts : List
   pub open_end : (x : X) → Is (bare ts) x → ⊥
 
 -- tokens that begin something, and then a fault of a token
-pub record FaultBehind {X : Type 0} (Is : List Token → X → Type 0) (text : List ℕ) (fault : ScriptFault) : Type 0 where
+pub record FaultAfter {X : Type 0} (Is : List Token → X → Type 0) (text : List ℕ) (fault : ScriptFault) : Type 0 where
   pub begins : Begins Is (bare (tokens_of text))
   pub found : token_fault text ≡ Some fault
 
@@ -87,9 +87,9 @@ pub record Nested {X : Type 0} (Is : List Token → X → Type 0) (high : X → 
 -- the text has this fault
 abbrev pub Faulty : {X : Type 0} → (List Token → X → Type 0) → (X → List Placed → Option ℕ) → List ℕ → ScriptFault → Type 0
 Faulty Is high text TooLong = 4096 < length text
-Faulty Is high text (Syntax place) = (length text ≤ 4096) × (FaultBehind Is text (Syntax place) ⊎ GrammarFault Is text place)
-Faulty Is high text (RealNumber place) = (length text ≤ 4096) × FaultBehind Is text (RealNumber place)
-Faulty Is high text (NumberTooWide place) = (length text ≤ 4096) × FaultBehind Is text (NumberTooWide place)
+Faulty Is high text (Syntax place) = (length text ≤ 4096) × (FaultAfter Is text (Syntax place) ⊎ GrammarFault Is text place)
+Faulty Is high text (RealNumber place) = (length text ≤ 4096) × FaultAfter Is text (RealNumber place)
+Faulty Is high text (NumberTooWide place) = (length text ≤ 4096) × FaultAfter Is text (NumberTooWide place)
 Faulty Is high text (TooNested place) = (length text ≤ 4096) × Nested Is high text place
 
 -- the text reads as this expression

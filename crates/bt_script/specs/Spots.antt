@@ -9,7 +9,7 @@ use Rattle.bt_script.specs.declared.token.Placed.{Placed}
 use Rattle.bt_script.specs.declared.check.Opened.{Opened}
 use Rattle.bt_script.specs.declared.check.Opened.TheVariants.{Paren, Choice, Whole}
 use Rattle.bt_script.specs.declared.check.Stage.{Stage}
-use Rattle.bt_script.specs.declared.check.Stage.TheVariants.{Blank, Start, Named, Before, Behind}
+use Rattle.bt_script.specs.declared.check.Stage.TheVariants.{Blank, Start, Named, Before, After}
 use Rattle.bt_script.specs.declared.check.Verdict.{Verdict}
 use Rattle.bt_script.specs.declared.check.Verdict.TheVariants as verdict
 use Rattle.bt_script.specs.declared.fault.ScriptFault.{ScriptFault}
@@ -33,8 +33,8 @@ after_minus op s = None
 
 -- a token where an operand may stand; a name leads to the given stage
 abbrev pub operand_step : Stage → List Opened → Token → Option Spot
-operand_step word_stage opened (Number n) = Some (Behind, opened)
-operand_step word_stage opened (Text t) = Some (Behind, opened)
+operand_step word_stage opened (Number n) = Some (After, opened)
+operand_step word_stage opened (Text t) = Some (After, opened)
 operand_step word_stage opened (Word name) = Some (word_stage, opened)
 operand_step word_stage opened (Operator op) = after_minus op (Some (Before, opened))
 operand_step word_stage opened Bang = Some (Before, opened)
@@ -55,13 +55,13 @@ semicolon_step [] = Some (Start, [])
 semicolon_step opened = None
 
 -- a token after an operand
-abbrev pub behind_step : List Opened → Token → Option Spot
-behind_step opened (Operator op) = Some (Before, opened)
-behind_step opened Question = Some (Before, Choice ∷ opened)
-behind_step opened Colon = closing_step Choice Before opened
-behind_step opened Close = closing_step Paren Behind opened
-behind_step opened Semicolon = semicolon_step opened
-behind_step opened t = None
+abbrev pub after_step : List Opened → Token → Option Spot
+after_step opened (Operator op) = Some (Before, opened)
+after_step opened Question = Some (Before, Choice ∷ opened)
+after_step opened Colon = closing_step Choice Before opened
+after_step opened Close = closing_step Paren After opened
+after_step opened Semicolon = semicolon_step opened
+after_step opened t = None
 
 -- a token at the start of a statement
 abbrev pub start_step : Stage → List Opened → Token → Option Spot
@@ -78,15 +78,15 @@ abbrev pub named_step : List Opened → Token → Option Spot
 named_step opened Creates = Some (Before, opened)
 named_step opened Assigns = Some (Before, opened)
 named_step opened (Changes op) = change_step (changes op) opened
-named_step opened t = behind_step opened t
+named_step opened t = after_step opened t
 
 -- a token in any stage
 abbrev pub stage_step : Stage → List Opened → Token → Option Spot
 stage_step Blank opened t = start_step Blank opened t
 stage_step Start opened t = start_step Start opened t
 stage_step Named opened t = named_step opened t
-stage_step Before opened t = operand_step Behind opened t
-stage_step Behind opened t = behind_step opened t
+stage_step Before opened t = operand_step After opened t
+stage_step After opened t = after_step opened t
 
 -- a token at a spot
 abbrev pub step : Spot → Token → Option Spot
@@ -119,7 +119,7 @@ ends_at Blank opened = false
 ends_at Start opened = nothing_open opened
 ends_at Named opened = nothing_open opened
 ends_at Before opened = false
-ends_at Behind opened = only_whole opened
+ends_at After opened = only_whole opened
 
 -- whether a text may end at a spot
 abbrev pub may_end : Spot → Bool

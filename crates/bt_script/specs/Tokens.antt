@@ -154,8 +154,8 @@ pub record Tokens : Type 0 where
 
 -- a token before those that are read after it, or the fault with which reading ends
 abbrev pub read_then : ℕ → Result (Token × ℕ) ScriptFault → (ℕ → Tokens) → Tokens
-read_then place (Err fault) behind = record { tokens = []; fault = Some fault }
-read_then place (Ok found) behind = record { tokens = (record { token = found.0; place = place }) ∷ (behind found.1).tokens; fault = (behind found.1).fault }
+read_then place (Err fault) following = record { tokens = []; fault = Some fault }
+read_then place (Ok found) following = record { tokens = (record { token = found.0; place = place }) ∷ (following found.1).tokens; fault = (following found.1).fault }
 
 -- the tokens of some bytes, of which the first few belong to a token before them
 abbrev pub read_tokens : ℕ → ℕ → List ℕ → Tokens

@@ -1,6 +1,6 @@
 ghost use Rattle.std.specs.Prelude.{◌≡◌, ◌<◌, IfOk, length, reverse};
 ghost use Rattle.bt_script.specs.Grammar.{changes};
-ghost use Rattle.bt_script.specs.Spots.{spot_of, operand_step, behind_step, closing_step, named_step, stage_step, ends_at, Checked};
+ghost use Rattle.bt_script.specs.Spots.{spot_of, operand_step, after_step, closing_step, named_step, stage_step, ends_at, Checked};
 
 use crate::stop::NoMemory;
 use crate::syntax::BinOp;
@@ -29,7 +29,7 @@ pub enum Stage {
     /// Where an operand must stand.
     Before,
     /// After an operand.
-    Behind,
+    After,
 }
 
 /// Whether some tokens are a whole text.
@@ -44,7 +44,7 @@ pub enum Verdict {
 
 /// The stage after a token where an operand may stand; a word leads to `word_stage`. None where the
 /// token begins no operand. `NoMemory` where `opened` cannot grow, as below.
-fn behind_start_of_operand(
+fn after_start_of_operand(
     token: &Token,
     word_stage: Stage,
     opened: &mut Vec<Opened>,
@@ -52,8 +52,8 @@ fn behind_start_of_operand(
     ensures { IfOk result (λ stage. spot_of stage opened.new.items ≡ operand_step word_stage (reverse opened.old.items) token.now) }
 {
     match token {
-        Token::Number(_) => Ok(Some(Stage::Behind)),
-        Token::Text(_) => Ok(Some(Stage::Behind)),
+        Token::Number(_) => Ok(Some(Stage::After)),
+        Token::Text(_) => Ok(Some(Stage::After)),
         Token::Word(_) => Ok(Some(word_stage)),
         Token::Operator(BinOp::Sub) => Ok(Some(Stage::Before)),
         Token::Bang => Ok(Some(Stage::Before)),
@@ -77,8 +77,8 @@ fn closed(opened: &mut Vec<Opened>, wanted: Opened, stage: Stage) -> Option<Stag
 }
 
 /// The stage after a token that comes after an operand. None where it may not stand there.
-fn behind_operand(token: &Token, opened: &mut Vec<Opened>) -> Result<Option<Stage>, NoMemory>
-    ensures { IfOk result (λ stage. spot_of stage opened.new.items ≡ behind_step (reverse opened.old.items) token.now) }
+fn after_operand(token: &Token, opened: &mut Vec<Opened>) -> Result<Option<Stage>, NoMemory>
+    ensures { IfOk result (λ stage. spot_of stage opened.new.items ≡ after_step (reverse opened.old.items) token.now) }
 {
     match token {
         Token::Operator(_) => Ok(Some(Stage::Before)),
@@ -87,7 +87,7 @@ fn behind_operand(token: &Token, opened: &mut Vec<Opened>) -> Result<Option<Stag
             Ok(Some(Stage::Before))
         }
         Token::Colon => Ok(closed(opened, Opened::Choice, Stage::Before)),
-        Token::Close => Ok(closed(opened, Opened::Paren, Stage::Behind)),
+        Token::Close => Ok(closed(opened, Opened::Paren, Stage::After)),
         Token::Semicolon => Ok(if opened.is_empty() {
             Some(Stage::Start)
         } else {
@@ -112,7 +112,7 @@ fn may_change(op: BinOp) -> bool
 
 /// The stage after a token that comes after the name with which a statement begins. None where it may not
 /// stand there.
-fn behind_name(token: &Token, opened: &mut Vec<Opened>) -> Result<Option<Stage>, NoMemory>
+fn after_name(token: &Token, opened: &mut Vec<Opened>) -> Result<Option<Stage>, NoMemory>
     ensures { IfOk result (λ stage. spot_of stage opened.new.items ≡ named_step (reverse opened.old.items) token.now) }
 {
     match token {
@@ -123,7 +123,7 @@ fn behind_name(token: &Token, opened: &mut Vec<Opened>) -> Result<Option<Stage>,
         } else {
             None
         }),
-        _ => behind_operand(token, opened),
+        _ => after_operand(token, opened),
     }
 }
 
@@ -133,10 +133,10 @@ fn step(token: &Token, stage: Stage, opened: &mut Vec<Opened>) -> Result<Option<
 {
     match (stage, token) {
         (Stage::Blank | Stage::Start, Token::Semicolon) => Ok(Some(stage)),
-        (Stage::Blank | Stage::Start, _) => behind_start_of_operand(token, Stage::Named, opened),
-        (Stage::Named, _) => behind_name(token, opened),
-        (Stage::Before, _) => behind_start_of_operand(token, Stage::Behind, opened),
-        (Stage::Behind, _) => behind_operand(token, opened),
+        (Stage::Blank | Stage::Start, _) => after_start_of_operand(token, Stage::Named, opened),
+        (Stage::Named, _) => after_name(token, opened),
+        (Stage::Before, _) => after_start_of_operand(token, Stage::After, opened),
+        (Stage::After, _) => after_operand(token, opened),
     }
 }
 
@@ -147,7 +147,7 @@ fn may_end(stage: Stage, opened: &[Opened]) -> bool
     match stage {
         Stage::Blank => false,
         Stage::Before => false,
-        Stage::Behind => match opened {
+        Stage::After => match opened {
             [] => true,
             [Opened::Whole] => true,
             _ => false,

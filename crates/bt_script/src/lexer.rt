@@ -28,7 +28,7 @@ fn value(c: u8) -> u8
 }
 
 /// How many bytes at the front may be in an identifier.
-#[tactic(auto, using(crate::proofs::Lexing::fronts))]
+#[tactic(auto, using(crate::proofs::Lexing::prefixes))]
 fn rest_len(bytes: &[u8]) -> usize
     ensures value { result ≡ prefix_len identifiers.is_identifier_continue bytes.now }
     ensures within { result ≤ length bytes.now }
@@ -40,7 +40,7 @@ fn rest_len(bytes: &[u8]) -> usize
 }
 
 /// How many bytes at the front are decimal digits.
-#[tactic(auto, using(crate::proofs::Lexing::fronts))]
+#[tactic(auto, using(crate::proofs::Lexing::prefixes))]
 fn digits_len(bytes: &[u8]) -> usize
     ensures value { result ≡ prefix_len is_ascii_digit bytes.now }
     ensures within { result ≤ length bytes.now }
@@ -49,7 +49,7 @@ fn digits_len(bytes: &[u8]) -> usize
 }
 
 /// How many bytes at the front are hexadecimal digits.
-#[tactic(auto, using(crate::proofs::Lexing::fronts))]
+#[tactic(auto, using(crate::proofs::Lexing::prefixes))]
 fn hex_len(bytes: &[u8]) -> usize
     ensures value { result ≡ prefix_len is_ascii_hexdigit bytes.now }
     ensures within { result ≤ length bytes.now }
@@ -142,7 +142,7 @@ fn sign(bytes: &[u8], place: u32) -> Result<(Token, usize), ScriptFault>
 }
 
 /// The fault of decimal digits that these bytes follow, if any.
-fn fault_behind_decimal(bytes: &[u8], place: u32) -> Option<ScriptFault>
+fn fault_after_decimal(bytes: &[u8], place: u32) -> Option<ScriptFault>
     ensures { result ≡ decimal_end place bytes.now }
 {
     let c = *bytes.first()?;
@@ -156,7 +156,7 @@ fn fault_behind_decimal(bytes: &[u8], place: u32) -> Option<ScriptFault>
 }
 
 /// The fault of hexadecimal digits that these bytes follow, if any.
-fn fault_behind_hex(bytes: &[u8], place: u32) -> Option<ScriptFault>
+fn fault_after_hex(bytes: &[u8], place: u32) -> Option<ScriptFault>
     ensures { result ≡ hex_end place bytes.now }
 {
     let c = *bytes.first()?;
@@ -173,8 +173,8 @@ fn decimal(bytes: &[u8], place: u32) -> Result<(Token, usize), ScriptFault>
     ensures len { IfOk result (λ found. found.1 ≤ length bytes.now) }
 {
     let len = digits_len(bytes);
-    let (digits, behind) = bytes.split_at(len);
-    if let Some(fault) = fault_behind_decimal(behind, place) {
+    let (digits, following) = bytes.split_at(len);
+    if let Some(fault) = fault_after_decimal(following, place) {
         return Err(fault);
     }
     match number(digits, 10) {
@@ -194,8 +194,8 @@ fn hexadecimal(bytes: &[u8], place: u32) -> Result<(Token, usize), ScriptFault>
     if len == 0 {
         return Err(ScriptFault::Syntax { place });
     }
-    let (digits, behind) = bytes.split_at(len);
-    if let Some(fault) = fault_behind_hex(behind, place) {
+    let (digits, following) = bytes.split_at(len);
+    if let Some(fault) = fault_after_hex(following, place) {
         return Err(fault);
     }
     match number(digits, 16) {
@@ -230,7 +230,7 @@ fn word(alloc: Global, word: &[u8]) -> Result<Token, NoMemory>
 }
 
 /// How many bytes stand before the first single quote.
-#[tactic(auto, using(crate::proofs::Lexing::fronts))]
+#[tactic(auto, using(crate::proofs::Lexing::prefixes))]
 fn quote_place(bytes: &[u8]) -> usize
     ensures value { result ≡ position_or_len (λ c. c == 39) bytes.now }
     ensures within { result ≤ length bytes.now }
@@ -248,12 +248,12 @@ fn quoted(alloc: Global, text: &[u8], at: usize) -> Result<(Token, usize), Stop<
     ensures value { Gives result (text_at at (drop (at + 1) text.now)) }
     ensures len { IfOk result (λ found. (0 < found.1) × (at + found.1 ≤ length text.now)) }
 {
-    let behind = &text[at + 1..];
-    let len = quote_place(behind);
-    if len == behind.len() {
+    let following = &text[at + 1..];
+    let len = quote_place(following);
+    if len == following.len() {
         return Err(Stop::Fault(ScriptFault::Syntax { place: at as u32 }));
     }
-    let body = Txt::of(Vec::from_slice(alloc, &behind[..len])?);
+    let body = Txt::of(Vec::from_slice(alloc, &following[..len])?);
     Ok((Token::Text(body), len + 2))
 }
 

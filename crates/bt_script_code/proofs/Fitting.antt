@@ -11,7 +11,7 @@ use Rattle.bt_script_code.specs.declared.instr.Instr.{Instr}
 use Rattle.bt_script_code.specs.declared.instr.Instr.TheVariants as instr
 use Rattle.bt_script_code.specs.Postfixes.{operator, with_number, applied, between, operation, choice_code, code_step, code_of}
 use Rattle.bt_script_code.specs.Rooms.{fits_step, fits_from, fits}
-use Rattle.bt_script_code.proofs.Standing.{behind}
+use Rattle.bt_script_code.proofs.Standing.{following}
 
 module _ (room : ℕ) where
   -- Above this many values, the code needs at most so many places more, and leaves one value.
@@ -19,7 +19,7 @@ module _ (room : ℕ) where
   Needs most code = (rest : List Instr) (above : ℕ) → above + most ≤ room → fits_from room rest 0 (above + 1) ≡ true → fits_from room (code ++ rest) 0 above ≡ true
 
   past : (a b : List Instr) (n : ℕ) → fits_from room (a ++ b) (length a + n) ≡ fits_from room b n
-  past = behind (fits_step room) _ _
+  past = following (fits_step room) _ _
 
   -- a code at other heights that are equal
   at_height : (code : List Instr) (place a b : ℕ) → a ≡ b → fits_from room code place a ≡ true → fits_from room code place b ≡ true

@@ -17,7 +17,7 @@ use Rattle.bt_script_code.specs.declared.instr.Instr.{Instr}
 use Rattle.bt_script_code.specs.declared.instr.Instr.TheVariants as instr
 use Rattle.bt_script_code.specs.Postfixes.{operator, with_number, applied, between, operation, choice_code, code_step, code_of}
 use Rattle.bt_script_code.specs.Running.{put, binary_put, told, Step, next, either_step, step_of, does, gives_from, code_value}
-use Rattle.bt_script_code.proofs.Standing.{behind}
+use Rattle.bt_script_code.proofs.Standing.{following}
 
 -- both operands, and then the operator
 abbrev in_turn : BinOp → List Instr → List Instr → List Instr
@@ -33,7 +33,7 @@ module _ (look : ℕ → Result Value ExecFault) where
 
   -- a place behind a code
   past : (a b : List Instr) (n : ℕ) → gives (a ++ b) (length a + n) ≡ gives b n
-  past = behind (does look) _ _
+  past = following (does look) _ _
 
   -- what is found is put on top
   found : (r : Result Value ExecFault) (rest : List Instr) (stack : List Value) → (next (put r stack) >>= λ s. gives rest s.0 s.1) ≡ (r >>= λ v. gives rest 0 (v ∷ stack))

@@ -10,11 +10,11 @@ use Rattle.bt_script_code.specs.Running.{instr_reach, code_reach, instr_texts, c
 
 module _ {R : Type 0} (makes : Instr → (ℕ → R) → R) (end past : R) where
   -- a place behind the first of two codes
-  pub behind : (a b : List Instr) (n : ℕ) → at_place makes end past (a ++ b) (length a + n) ≡ at_place makes end past b n
-  behind [] b n = let e : length {A = Instr} [] + n ≡ n = omega arith in ap (at_place makes end past b) e
-  behind (i ∷ a) b n =
+  pub following : (a b : List Instr) (n : ℕ) → at_place makes end past (a ++ b) (length a + n) ≡ at_place makes end past b n
+  following [] b n = let e : length {A = Instr} [] + n ≡ n = omega arith in ap (at_place makes end past b) e
+  following (i ∷ a) b n =
       let e : length (i ∷ a) + n ≡ suc (length a + n) = omega arith in
-      ap (at_place makes end past ((i ∷ a) ++ b)) e ∙ behind a b n
+      ap (at_place makes end past ((i ∷ a) ++ b)) e ∙ following a b n
 
   -- what the instruction at a place makes of those behind it
   pub opens : (code : List Instr) (place : ℕ) (i : Instr) → slice_get code place ≡ Some i → at_place makes end past code place ≡ makes i (λ n. at_place makes end past code (place + 1 + n))

@@ -12,9 +12,9 @@ use Rattle.bt_model.specs.declared.term.Kind.TheVariants.{SubTree}
 use Rattle.bt_model.specs.declared.term.Term.{Term, out-Term, fold_out-Term}
 use Rattle.bt_model.specs.declared.term.Tree.{Tree}
 use Rattle.bt_model.specs.PrintedTree.{Attribute, Lines, Printed, WrittenTree, deeper, element_lines, element_name, node_attributes, opened_by, printed, printed_node, root_attributes, tree_element, tree_lines, trees_of, with_tree, with_trees, written_below}
-use Rattle.bt_outside.specs.Appending.{Appended, AppendedFront}
-use Rattle.bt_outside.proofs.Appends.{Appended-trans, AppendedFront-after, AppendedFront-longer}
-use Rattle.bt_text.proofs.Lines.{Appended-map_more, AppendedFront-map_next}
+use Rattle.bt_outside.specs.Appending.{Appended, AppendedPrefix}
+use Rattle.bt_outside.proofs.Appends.{Appended-trans, AppendedPrefix-after, AppendedPrefix-longer}
+use Rattle.bt_text.proofs.Lines.{Appended-map_more, AppendedPrefix-map_next}
 use Rattle.bt_text.specs.declared.tree.WrittenTree.{WrittenTree as Written}
 use Rattle.bt_text.specs.Trees.{end_mark, node_mark, start_mark, written}
 
@@ -128,10 +128,10 @@ pub Appended-element_empty :
 Appended-element_empty f name attributes blanks xs a b h p = subst (Appended a b) (sym (text_empty f name attributes blanks xs h)) p
 
 -- a prefix of the one mark of an element with nothing in it was written
-pub AppendedFront-element_empty :
+pub AppendedPrefix-element_empty :
     {X : Type 0} (f : X → Lines) (name : List ℕ) (attributes : List Attribute) (blanks : List ℕ) (xs : List X) (a b : Option (List ℕ)) → length xs ≡ 0 →
-    AppendedFront a b (start_mark blanks name attributes (codes "/>")) → AppendedFront a b (concat (element_lines name attributes (map f xs) blanks))
-AppendedFront-element_empty f name attributes blanks xs a b h p = subst (AppendedFront a b) (sym (text_empty f name attributes blanks xs h)) p
+    AppendedPrefix a b (start_mark blanks name attributes (codes "/>")) → AppendedPrefix a b (concat (element_lines name attributes (map f xs) blanks))
+AppendedPrefix-element_empty f name attributes blanks xs a b h p = subst (AppendedPrefix a b) (sym (text_empty f name attributes blanks xs h)) p
 
 -- an element was written, mark by mark
 pub Appended-element :
@@ -145,35 +145,35 @@ Appended-element f name attributes blanks xs a b c d h p q r =
     (Appended-trans a b d start (nodes ++ end_mark blanks name) p (Appended-trans b c d nodes (end_mark blanks name) q r))
 
 -- a prefix of the start mark of an element was written
-pub AppendedFront-element_start :
+pub AppendedPrefix-element_start :
     {X : Type 0} (f : X → Lines) (name : List ℕ) (attributes : List Attribute) (blanks : List ℕ) (xs : List X) (a b : Option (List ℕ)) → 0 < length xs →
-    AppendedFront a b (start_mark blanks name attributes (codes ">")) → AppendedFront a b (concat (element_lines name attributes (map f xs) blanks))
-AppendedFront-element_start f name attributes blanks xs a b h p =
+    AppendedPrefix a b (start_mark blanks name attributes (codes ">")) → AppendedPrefix a b (concat (element_lines name attributes (map f xs) blanks))
+AppendedPrefix-element_start f name attributes blanks xs a b h p =
     let nodes = concat (map (λ x. concat (f x (deeper blanks))) xs) in
     let start = start_mark blanks name attributes (codes ">") in
-    subst (AppendedFront a b) (sym (text_filled f name attributes blanks xs h)) (AppendedFront-longer a b start (nodes ++ end_mark blanks name) p)
+    subst (AppendedPrefix a b) (sym (text_filled f name attributes blanks xs h)) (AppendedPrefix-longer a b start (nodes ++ end_mark blanks name) p)
 
 -- the start mark of an element was written, and a prefix of what is in it
-pub AppendedFront-element_below :
+pub AppendedPrefix-element_below :
     {X : Type 0} (f : X → Lines) (name : List ℕ) (attributes : List Attribute) (blanks : List ℕ) (xs : List X) (a b c : Option (List ℕ)) → 0 < length xs →
-    Appended a b (start_mark blanks name attributes (codes ">")) → AppendedFront b c (concat (map (λ x. concat (f x (deeper blanks))) xs)) →
-    AppendedFront a c (concat (element_lines name attributes (map f xs) blanks))
-AppendedFront-element_below f name attributes blanks xs a b c h p q =
+    Appended a b (start_mark blanks name attributes (codes ">")) → AppendedPrefix b c (concat (map (λ x. concat (f x (deeper blanks))) xs)) →
+    AppendedPrefix a c (concat (element_lines name attributes (map f xs) blanks))
+AppendedPrefix-element_below f name attributes blanks xs a b c h p q =
     let nodes = concat (map (λ x. concat (f x (deeper blanks))) xs) in
     let start = start_mark blanks name attributes (codes ">") in
-    subst (AppendedFront a c) (sym (text_filled f name attributes blanks xs h))
-    (AppendedFront-after a b c start (nodes ++ end_mark blanks name) p (AppendedFront-longer b c nodes (end_mark blanks name) q))
+    subst (AppendedPrefix a c) (sym (text_filled f name attributes blanks xs h))
+    (AppendedPrefix-after a b c start (nodes ++ end_mark blanks name) p (AppendedPrefix-longer b c nodes (end_mark blanks name) q))
 
 -- an element was written without its end mark, and a prefix of this
-pub AppendedFront-element_end :
+pub AppendedPrefix-element_end :
     {X : Type 0} (f : X → Lines) (name : List ℕ) (attributes : List Attribute) (blanks : List ℕ) (xs : List X) (a b c d : Option (List ℕ)) → 0 < length xs →
     Appended a b (start_mark blanks name attributes (codes ">")) → Appended b c (concat (map (λ x. concat (f x (deeper blanks))) xs)) →
-    AppendedFront c d (end_mark blanks name) → AppendedFront a d (concat (element_lines name attributes (map f xs) blanks))
-AppendedFront-element_end f name attributes blanks xs a b c d h p q r =
+    AppendedPrefix c d (end_mark blanks name) → AppendedPrefix a d (concat (element_lines name attributes (map f xs) blanks))
+AppendedPrefix-element_end f name attributes blanks xs a b c d h p q r =
     let nodes = concat (map (λ x. concat (f x (deeper blanks))) xs) in
     let start = start_mark blanks name attributes (codes ">") in
-    subst (AppendedFront a d) (sym (text_filled f name attributes blanks xs h))
-    (AppendedFront-after a b d start (nodes ++ end_mark blanks name) p (AppendedFront-after b c d nodes (end_mark blanks name) q r))
+    subst (AppendedPrefix a d) (sym (text_filled f name attributes blanks xs h))
+    (AppendedPrefix-after a b d start (nodes ++ end_mark blanks name) p (AppendedPrefix-after b c d nodes (end_mark blanks name) q r))
 
 -- ---- Items, one after the other
 
@@ -184,10 +184,10 @@ pub Appended-item :
 Appended-item f xs i x a b c h e p q = Appended-map_more f xs i x a b c h p (subst (λ y. Appended b c (f y)) e q)
 
 -- the items before a place were written, and a prefix of the next
-pub AppendedFront-item :
+pub AppendedPrefix-item :
     {X : Type 0} (f : X → List ℕ) (xs : List X) (i : ℕ) (x : X) (a b c : Option (List ℕ)) → i < length xs → x ≡ get_or xs i x →
-    Appended a b (concat (map f (take i xs))) → AppendedFront b c (f x) → AppendedFront a c (concat (map f xs))
-AppendedFront-item f xs i x a b c h e p q = AppendedFront-map_next f xs i x a b c h p (subst (λ y. AppendedFront b c (f y)) e q)
+    Appended a b (concat (map f (take i xs))) → AppendedPrefix b c (f x) → AppendedPrefix a c (concat (map f xs))
+AppendedPrefix-item f xs i x a b c h e p q = AppendedPrefix-map_next f xs i x a b c h p (subst (λ y. AppendedPrefix b c (f y)) e q)
 
 -- all items were written
 pub Appended-all :
@@ -226,10 +226,10 @@ pub Appended-node_empty :
 Appended-node_empty t nodes blanks a b h e p = subst (Appended a b) (node_empty t nodes blanks h e) p
 
 -- a prefix of the one mark of a node with nothing in it was written
-pub AppendedFront-node_empty :
+pub AppendedPrefix-node_empty :
     (t : Term) (nodes : List Term) (blanks : List ℕ) (a b : Option (List ℕ)) → nodes ≡ written_below (out-Term t).kind (out-Term t).children → length nodes ≡ 0 →
-    AppendedFront a b (node_mark blanks t (codes "/>")) → AppendedFront a b (concat ((printed t).lines blanks))
-AppendedFront-node_empty t nodes blanks a b h e p = subst (AppendedFront a b) (node_empty t nodes blanks h e) p
+    AppendedPrefix a b (node_mark blanks t (codes "/>")) → AppendedPrefix a b (concat ((printed t).lines blanks))
+AppendedPrefix-node_empty t nodes blanks a b h e p = subst (AppendedPrefix a b) (node_empty t nodes blanks h e) p
 
 -- a node was written, mark by mark
 pub Appended-node :
@@ -242,33 +242,33 @@ Appended-node t nodes blanks a b c d e h p q r =
     (Appended-element (λ n. (printed n).lines) (element_name node.kind node.id) (node_attributes node) blanks nodes a b c d h p q r)
 
 -- a prefix of the start mark of a node was written
-pub AppendedFront-node_start :
+pub AppendedPrefix-node_start :
     (t : Term) (nodes : List Term) (blanks : List ℕ) (a b : Option (List ℕ)) → nodes ≡ written_below (out-Term t).kind (out-Term t).children → 0 < length nodes →
-    AppendedFront a b (node_mark blanks t (codes ">")) → AppendedFront a b (concat ((printed t).lines blanks))
-AppendedFront-node_start t nodes blanks a b e h p =
+    AppendedPrefix a b (node_mark blanks t (codes ">")) → AppendedPrefix a b (concat ((printed t).lines blanks))
+AppendedPrefix-node_start t nodes blanks a b e h p =
     let node = out-Term t in
-    subst (λ (ls : Lines). AppendedFront a b (concat (ls blanks))) (sym (lines_of_node t nodes e))
-    (AppendedFront-element_start (λ n. (printed n).lines) (element_name node.kind node.id) (node_attributes node) blanks nodes a b h p)
+    subst (λ (ls : Lines). AppendedPrefix a b (concat (ls blanks))) (sym (lines_of_node t nodes e))
+    (AppendedPrefix-element_start (λ n. (printed n).lines) (element_name node.kind node.id) (node_attributes node) blanks nodes a b h p)
 
 -- the start mark of a node was written, and a prefix of what is in it
-pub AppendedFront-node_below :
+pub AppendedPrefix-node_below :
     (t : Term) (nodes : List Term) (blanks : List ℕ) (a b c : Option (List ℕ)) → nodes ≡ written_below (out-Term t).kind (out-Term t).children → 0 < length nodes →
-    Appended a b (node_mark blanks t (codes ">")) → AppendedFront b c (concat (map (λ n. concat ((printed n).lines (deeper blanks))) nodes)) →
-    AppendedFront a c (concat ((printed t).lines blanks))
-AppendedFront-node_below t nodes blanks a b c e h p q =
+    Appended a b (node_mark blanks t (codes ">")) → AppendedPrefix b c (concat (map (λ n. concat ((printed n).lines (deeper blanks))) nodes)) →
+    AppendedPrefix a c (concat ((printed t).lines blanks))
+AppendedPrefix-node_below t nodes blanks a b c e h p q =
     let node = out-Term t in
-    subst (λ (ls : Lines). AppendedFront a c (concat (ls blanks))) (sym (lines_of_node t nodes e))
-    (AppendedFront-element_below (λ n. (printed n).lines) (element_name node.kind node.id) (node_attributes node) blanks nodes a b c h p q)
+    subst (λ (ls : Lines). AppendedPrefix a c (concat (ls blanks))) (sym (lines_of_node t nodes e))
+    (AppendedPrefix-element_below (λ n. (printed n).lines) (element_name node.kind node.id) (node_attributes node) blanks nodes a b c h p q)
 
 -- a node was written without its end mark, and a prefix of this
-pub AppendedFront-node_end :
+pub AppendedPrefix-node_end :
     (t : Term) (nodes : List Term) (blanks : List ℕ) (a b c d : Option (List ℕ)) → nodes ≡ written_below (out-Term t).kind (out-Term t).children → 0 < length nodes →
     Appended a b (node_mark blanks t (codes ">")) → Appended b c (concat (map (λ n. concat ((printed n).lines (deeper blanks))) nodes)) →
-    AppendedFront c d (end_mark blanks (element_name (out-Term t).kind (out-Term t).id)) → AppendedFront a d (concat ((printed t).lines blanks))
-AppendedFront-node_end t nodes blanks a b c d e h p q r =
+    AppendedPrefix c d (end_mark blanks (element_name (out-Term t).kind (out-Term t).id)) → AppendedPrefix a d (concat ((printed t).lines blanks))
+AppendedPrefix-node_end t nodes blanks a b c d e h p q r =
     let node = out-Term t in
-    subst (λ (ls : Lines). AppendedFront a d (concat (ls blanks))) (sym (lines_of_node t nodes e))
-    (AppendedFront-element_end (λ n. (printed n).lines) (element_name node.kind node.id) (node_attributes node) blanks nodes a b c d h p q r)
+    subst (λ (ls : Lines). AppendedPrefix a d (concat (ls blanks))) (sym (lines_of_node t nodes e))
+    (AppendedPrefix-element_end (λ n. (printed n).lines) (element_name node.kind node.id) (node_attributes node) blanks nodes a b c d h p q r)
 
 -- ---- The file
 

@@ -3,7 +3,7 @@ ghost use Rattle.std.specs.List.{concat};
 ghost use Rattle.bt_arena.specs.Blocks.{seen};
 ghost use Rattle.bt_model.specs.Lines.{entry_line, fact_line, lines_of, note_line};
 ghost use Rattle.bt_text.specs.Notes.{is_long};
-ghost use Rattle.bt_outside.specs.Appending.{Appended, AppendedFront};
+ghost use Rattle.bt_outside.specs.Appending.{Appended, AppendedPrefix};
 ghost use Rattle.bt_outside.specs.Counts.{Rose};
 
 use crate::label::Labels;
@@ -31,7 +31,7 @@ pub fn write_block<K: Sink>(
 ) -> Result<(), TextStop>
     ensures whole { OnOk result
         (Appended (K.written out.old) (K.written out.new) (concat (lines_of names.now (seen block.now)))) }
-    ensures front { AppendedFront (K.written out.old) (K.written out.new) (concat (lines_of names.now (seen block.now))) }
+    ensures prefix { AppendedPrefix (K.written out.old) (K.written out.new) (concat (lines_of names.now (seen block.now))) }
     ensures failed { IsErrOf result TextStop.WriteFault → Rose (K.faults out.old) (K.faults out.new) }
     ensures count { K.faults out.old ≤ K.faults out.new }
 {
@@ -49,7 +49,7 @@ pub fn write_block<K: Sink>(
 #[inline(always)]
 pub fn write_line<K: Sink>(out: &mut K, line: &[u8]) -> Result<(), TextStop>
     ensures whole { OnOk result (Appended (K.written out.old) (K.written out.new) line.now) }
-    ensures front { AppendedFront (K.written out.old) (K.written out.new) line.now }
+    ensures prefix { AppendedPrefix (K.written out.old) (K.written out.new) line.now }
     ensures failed { IsErrOf result TextStop.WriteFault → Rose (K.faults out.old) (K.faults out.new) }
     ensures count { K.faults out.old ≤ K.faults out.new }
 {
@@ -68,7 +68,7 @@ fn write_notes<K: Sink>(
 ) -> Result<(), TextStop>
     ensures whole { OnOk result
         (Appended (K.written out.old) (K.written out.new) (concat (map (note_line names.now) notes.now))) }
-    ensures front { AppendedFront (K.written out.old) (K.written out.new) (concat (map (note_line names.now) notes.now)) }
+    ensures prefix { AppendedPrefix (K.written out.old) (K.written out.new) (concat (map (note_line names.now) notes.now)) }
     ensures failed { IsErrOf result TextStop.WriteFault → Rose (K.faults out.old) (K.faults out.new) }
     ensures count { K.faults out.old ≤ K.faults out.new }
 {
@@ -92,7 +92,7 @@ fn write_note<K: Sink>(
     labels: &Labels,
 ) -> Result<(), TextStop>
     ensures whole { OnOk result (Appended (K.written out.old) (K.written out.new) (note_line names.now note.now)) }
-    ensures front { AppendedFront (K.written out.old) (K.written out.new) (note_line names.now note.now) }
+    ensures prefix { AppendedPrefix (K.written out.old) (K.written out.new) (note_line names.now note.now) }
     ensures failed { IsErrOf result TextStop.WriteFault → Rose (K.faults out.old) (K.faults out.new) }
     ensures count { K.faults out.old ≤ K.faults out.new }
 {
@@ -115,7 +115,7 @@ fn write_long<K: Sink>(
 ) -> Result<(), TextStop>
     requires { IsTrue (is_long note.now) }
     ensures whole { OnOk result (Appended (K.written out.old) (K.written out.new) (note_line names.now note.now)) }
-    ensures front { AppendedFront (K.written out.old) (K.written out.new) (note_line names.now note.now) }
+    ensures prefix { AppendedPrefix (K.written out.old) (K.written out.new) (note_line names.now note.now) }
     ensures failed { IsErrOf result TextStop.WriteFault → Rose (K.faults out.old) (K.faults out.new) }
     ensures count { K.faults out.old ≤ K.faults out.new }
 {
@@ -135,7 +135,7 @@ fn write_facts<K: Sink>(
 ) -> Result<(), TextStop>
     ensures whole { OnOk result
         (Appended (K.written out.old) (K.written out.new) (concat (map (fact_line names.now) facts.now))) }
-    ensures front { AppendedFront (K.written out.old) (K.written out.new) (concat (map (fact_line names.now) facts.now)) }
+    ensures prefix { AppendedPrefix (K.written out.old) (K.written out.new) (concat (map (fact_line names.now) facts.now)) }
     ensures failed { IsErrOf result TextStop.WriteFault → Rose (K.faults out.old) (K.faults out.new) }
     ensures count { K.faults out.old ≤ K.faults out.new }
 {
@@ -158,7 +158,7 @@ fn write_entries<K: Sink>(
 ) -> Result<(), TextStop>
     ensures whole { OnOk result
         (Appended (K.written out.old) (K.written out.new) (concat (map (entry_line names.now) entries.now))) }
-    ensures front { AppendedFront (K.written out.old) (K.written out.new) (concat (map (entry_line names.now) entries.now)) }
+    ensures prefix { AppendedPrefix (K.written out.old) (K.written out.new) (concat (map (entry_line names.now) entries.now)) }
     ensures failed { IsErrOf result TextStop.WriteFault → Rose (K.faults out.old) (K.faults out.new) }
     ensures count { K.faults out.old ≤ K.faults out.new }
 {

@@ -98,7 +98,7 @@ impl ShortLine {
 #[inline(always)]
 fn copy_in(bytes: &mut [u8], start: usize, piece: &[u8])
     requires { start + length piece.now ≤ length bytes.old }
-    ensures front { take (start + length piece.now) bytes.new ≡ take start bytes.old ++ piece.now }
+    ensures prefix { take (start + length piece.now) bytes.new ≡ take start bytes.old ++ piece.now }
     ensures len { length bytes.new ≡ length bytes.old }
 {
     bytes[start..start + piece.len()].copy_from_slice(piece);

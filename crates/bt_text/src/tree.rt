@@ -3,7 +3,7 @@ ghost use Rattle.std.specs.List.{concat, list_any};
 ghost use Rattle.std.specs.Str.{bytes_eq};
 ghost use Rattle.bt_model.specs.PrintedTree.{opened_by, printed, tree_element, tree_lines, trees_of, with_tree, with_trees, written_below};
 ghost use Rattle.bt_model.specs.declared.term.Term.{out-Term};
-ghost use Rattle.bt_outside.specs.Appending.{Appended, AppendedFront};
+ghost use Rattle.bt_outside.specs.Appending.{Appended, AppendedPrefix};
 ghost use Rattle.bt_outside.specs.Counts.{Rose};
 ghost use Rattle.bt_text.specs.Trees.{end_mark, node_mark, start_mark, written};
 
@@ -104,7 +104,7 @@ fn write_node_line<K: Sink>(
     ending: &[u8],
 ) -> Result<(), TextStop>
     ensures whole { OnOk result (Appended (K.written out.old) (K.written out.new) (node_mark blanks.now term.now ending.now)) }
-    ensures front { AppendedFront (K.written out.old) (K.written out.new) (node_mark blanks.now term.now ending.now) }
+    ensures prefix { AppendedPrefix (K.written out.old) (K.written out.new) (node_mark blanks.now term.now ending.now) }
     ensures failed { IsErrOf result TextStop.WriteFault → Rose (K.faults out.old) (K.faults out.new) }
     ensures count { K.faults out.old ≤ K.faults out.new }
 {
@@ -124,7 +124,7 @@ fn write_mark<K: Sink>(
 ) -> Result<(), TextStop>
     ensures whole { OnOk result (Appended (K.written out.old) (K.written out.new)
         (start_mark blanks.now name.now (map (λ a. (a.0.now, a.1.now)) attributes.now) ending.now)) }
-    ensures front { AppendedFront (K.written out.old) (K.written out.new)
+    ensures prefix { AppendedPrefix (K.written out.old) (K.written out.new)
         (start_mark blanks.now name.now (map (λ a. (a.0.now, a.1.now)) attributes.now) ending.now) }
     ensures failed { IsErrOf result TextStop.WriteFault → Rose (K.faults out.old) (K.faults out.new) }
     ensures count { K.faults out.old ≤ K.faults out.new }
@@ -141,7 +141,7 @@ fn write_end<K: Sink>(
     name: &[u8],
 ) -> Result<(), TextStop>
     ensures whole { OnOk result (Appended (K.written out.old) (K.written out.new) (end_mark blanks.now name.now)) }
-    ensures front { AppendedFront (K.written out.old) (K.written out.new) (end_mark blanks.now name.now) }
+    ensures prefix { AppendedPrefix (K.written out.old) (K.written out.new) (end_mark blanks.now name.now) }
     ensures failed { IsErrOf result TextStop.WriteFault → Rose (K.faults out.old) (K.faults out.new) }
     ensures count { K.faults out.old ≤ K.faults out.new }
 {
@@ -159,7 +159,7 @@ fn write_node<K: Sink>(
 ) -> Result<(), TextStop>
     ensures whole { OnOk result
         (Appended (K.written out.old) (K.written out.new) (concat ((printed term.now).lines blanks.now))) }
-    ensures front { AppendedFront (K.written out.old) (K.written out.new) (concat ((printed term.now).lines blanks.now)) }
+    ensures prefix { AppendedPrefix (K.written out.old) (K.written out.new) (concat ((printed term.now).lines blanks.now)) }
     ensures failed { IsErrOf result TextStop.WriteFault → Rose (K.faults out.old) (K.faults out.new) }
     ensures count { K.faults out.old ≤ K.faults out.new }
 {
@@ -188,7 +188,7 @@ fn write_written<K: Sink>(
 ) -> Result<(), TextStop>
     ensures whole { OnOk result (Appended (K.written out.old) (K.written out.new)
         (concat (tree_element (id.now, map (λ node. (printed node).lines) nodes.now) (codes "  ")))) }
-    ensures front { AppendedFront (K.written out.old) (K.written out.new)
+    ensures prefix { AppendedPrefix (K.written out.old) (K.written out.new)
         (concat (tree_element (id.now, map (λ node. (printed node).lines) nodes.now) (codes "  "))) }
     ensures failed { IsErrOf result TextStop.WriteFault → Rose (K.faults out.old) (K.faults out.new) }
     ensures count { K.faults out.old ≤ K.faults out.new }
@@ -212,7 +212,7 @@ fn write_written<K: Sink>(
 #[tactic(auto, using(bt_outside::proofs::Appends::appending))]
 pub fn write_tree<K: Sink>(alloc: Global, out: &mut K, tree: &Tree) -> Result<(), TextStop>
     ensures whole { OnOk result (Appended (K.written out.old) (K.written out.new) (concat (tree_lines tree.now))) }
-    ensures front { AppendedFront (K.written out.old) (K.written out.new) (concat (tree_lines tree.now)) }
+    ensures prefix { AppendedPrefix (K.written out.old) (K.written out.new) (concat (tree_lines tree.now)) }
     ensures failed { IsErrOf result TextStop.WriteFault → Rose (K.faults out.old) (K.faults out.new) }
     ensures count { K.faults out.old ≤ K.faults out.new }
 {

@@ -21,8 +21,8 @@ use Rattle.bt_laws.proofs.Seats.{Seat, first_seat, later_seat}
 -- ---- Places
 
 -- the uid of a later child, counted from the second child on
-uid_behind : (c : Term) (cs : List Term) (place uid : ℕ) → uid_of cs (uid + (meaning c).size) place ≡ uid_of (c ∷ cs) uid (suc place)
-uid_behind c cs place uid = omega (arith, sizes_cons c (take place cs))
+uid_following : (c : Term) (cs : List Term) (place uid : ℕ) → uid_of cs (uid + (meaning c).size) place ≡ uid_of (c ∷ cs) uid (suc place)
+uid_following c cs place uid = omega (arith, sizes_cons c (take place cs))
 
 -- the nodes of a child are among those of all children
 pub child_inside : (ts : List Term) (place uid : ℕ) (t : Term) → place < length ts →
@@ -31,7 +31,7 @@ child_inside [] place uid t within = absurd (omega (arith, within))
 child_inside (c ∷ cs) zero uid t within = (omega arith, omega (arith, sizes_cons c cs))
 child_inside (c ∷ cs) (suc place) uid t within =
     let more = child_inside cs place (uid + (meaning c).size) t (omega (arith, within)) in
-    let same = uid_behind c cs place uid in
+    let same = uid_following c cs place uid in
     (omega (arith, more.0, same), omega (arith, more.1, same, sizes_cons c cs))
 
 -- the child that a node sees at a place
@@ -45,13 +45,13 @@ child_seen view (c ∷ cs) zero uid first t within =
 child_seen view (c ∷ cs) (suc place) uid first t within =
     let index : first + 1 + place ≡ first + suc place = omega arith in
     child_seen view cs place (uid + (meaning c).size) (first + 1) t (omega (arith, within))
-    ∙ (λ i. child_of view (meaning (get_or cs place t)) (uid_behind c cs place uid i) (index i))
+    ∙ (λ i. child_of view (meaning (get_or cs place t)) (uid_following c cs place uid i) (index i))
 
 -- the uids of children by their places
 uids_at : (ts : List Term) (place uid : ℕ) → place < length ts → get_or (uids_of ts uid) place 0 ≡ uid_of ts uid place
 uids_at [] place uid within = absurd (omega (arith, within))
 uids_at (c ∷ cs) zero uid within = omega arith
-uids_at (c ∷ cs) (suc place) uid within = uids_at cs place (uid + (meaning c).size) (omega (arith, within)) ∙ uid_behind c cs place uid
+uids_at (c ∷ cs) (suc place) uid within = uids_at cs place (uid + (meaning c).size) (omega (arith, within)) ∙ uid_following c cs place uid
 
 uids_many : (ts : List Term) (uid : ℕ) → length (uids_of ts uid) ≡ length ts
 uids_many [] uid = refl
@@ -69,7 +69,7 @@ pub child_stands : (nodes : List Node) (view : View) (ts : List Term) (place uid
 child_stands nodes view [] place uid t within stand = absurd (omega (arith, within))
 child_stands nodes view (c ∷ cs) zero uid t within stand = subst (λ (u : ℕ). Stands c nodes view u) (let e : uid ≡ uid + 0 = omega arith in e) stand.0
 child_stands nodes view (c ∷ cs) (suc place) uid t within stand =
-    subst (λ (u : ℕ). Stands (get_or cs place t) nodes view u) (uid_behind c cs place uid) (child_stands nodes view cs place (uid + (meaning c).size) t (omega (arith, within)) stand.1)
+    subst (λ (u : ℕ). Stands (get_or cs place t) nodes view u) (uid_following c cs place uid) (child_stands nodes view cs place (uid + (meaning c).size) t (omega (arith, within)) stand.1)
 
 -- ---- Sizes in an arena
 
@@ -121,5 +121,5 @@ module _ (keeps : (t : Term) → Keeps (meaning t) (Sound t)) where
   seat_at rows [] place uid t within = absurd (omega (arith, within))
   seat_at rows (c ∷ cs) zero uid t within = subst (λ (u : ℕ). Seat terms rows (c ∷ cs) uid zero c u) (let e : uid ≡ uid + 0 = omega arith in e) (first_seat terms rows c cs uid)
   seat_at rows (c ∷ cs) (suc place) uid t within =
-      subst (λ (u : ℕ). Seat terms rows (c ∷ cs) uid (suc place) (get_or cs place t) u) (uid_behind c cs place uid)
+      subst (λ (u : ℕ). Seat terms rows (c ∷ cs) uid (suc place) (get_or cs place t) u) (uid_following c cs place uid)
       (later_seat terms rows c cs uid (get_or cs place t) place (uid_of cs (uid + (meaning c).size) place) (seat_at rows cs place (uid + (meaning c).size) t (omega (arith, within))))

@@ -23,7 +23,7 @@ use Rattle.bt_model.specs.declared.term.Kind.TheVariants.{AlwaysSuccess, AlwaysF
 use Rattle.bt_model.specs.declared.term.Term.{Term, Term-F, fold_out-Term, out-Term}
 use Rattle.bt_model.specs.declared.term.Term.TheFolds.{map-Term}
 use Rattle.bt_model.specs.BuiltIns.{class_of, has_rule, of_parent}
-use Rattle.bt_model.specs.Done.{Done, State, behind, done, ends, follow}
+use Rattle.bt_model.specs.Done.{Done, State, following, done, ends, follow}
 use Rattle.bt_model.specs.Drivers.{DriverState, instance_at}
 use Rattle.bt_model.specs.Leaves.{row_of}
 use Rattle.bt_model.specs.Moves.{FitsStart, rest, visits_left}
@@ -66,7 +66,7 @@ use Rattle.bt_tick.proofs.Children.{beside_both, beside_more, beside_same, terms
 use Rattle.bt_tick.proofs.Bounds.{begins_less, visits_few}
 use Rattle.bt_tick.proofs.Held.{leaf_kind, sound_opened}
 use Rattle.bt_tick.proofs.Moving.{as_many_kept, back_of, ends_so, kind_is, node_fits, node_there, number_is, size_is}
-use Rattle.bt_tick.proofs.Passing.{comes_both, comes_same, met_behind, none_told, part_made}
+use Rattle.bt_tick.proofs.Passing.{comes_both, comes_same, met_after, none_told, part_made}
 use Rattle.bt_tick.proofs.Starting.{begins_so, picks_so}
 
 -- ---- Kinds
@@ -149,9 +149,9 @@ module _ (nodes : List Node) (moment : ℕ) (term : Term) (view : View) (uid : �
   pub begins_kept : begun false site (memory_in term uid s) now ≡ ruled_in nodes moment term view uid s
   begins_kept = ap (λ (r : Memory-F Memory). ruled site r.status r.memo r.children now) memory_parts
 
-  pub starts_with : started_in nodes moment term view uid s ≡ behind (change uid st status.Running) []
+  pub starts_with : started_in nodes moment term view uid s ≡ following (change uid st status.Running) []
       (follow (ends (or_bad_port uid (new_memo (kind_of term) site memo now)) ms now) (λ ms1. remembered status.Running memo ms1) (λ memo1 ms1 s1. ruled site status.Running memo1 ms1 s1))
-  starts_with = ap (λ (r : Memory-F Memory). behind (change uid r.status status.Running) []
+  starts_with = ap (λ (r : Memory-F Memory). following (change uid r.status status.Running) []
       (follow (ends (or_bad_port uid (new_memo (kind_of term) site r.memo now)) r.children now) (λ ms1. remembered status.Running r.memo ms1) (λ memo1 ms1 s1. ruled site status.Running memo1 ms1 s1))) memory_parts
 
   -- ---- The rule
@@ -361,7 +361,7 @@ goes_after nodes moment term view uid (Ok t) s0 s1 s2 n0 n1 n2 d e k beside stay
   stays = λ t v u fits. goes.stays t v u (stays t v u fits);
 }
 goes_after nodes moment term view uid (Err x) s0 s1 s2 n0 n1 n2 d e k beside stays goes = record {
-  ends = met_behind nodes moment (memory_of term uid) s0 s1 s2 n0 n1 n2 d e (Err x) k goes.ends;
+  ends = met_after nodes moment (memory_of term uid) s0 s1 s2 n0 n1 n2 d e (Err x) k goes.ends;
   beside = beside_both beside goes.beside (omega arith) (omega arith) (omega arith) (omega arith);
   stays = λ t v u fits. goes.stays t v u (stays t v u fits);
 }
@@ -371,31 +371,31 @@ module _ (nodes : List Node) (moment : ℕ) (term : Term) (view : View) (uid : �
   abbrev before : Scene
   before = scene kept board facts drivers
 
-  abbrev behind_script : Scene
-  behind_script = scene kept board1 facts drivers
+  abbrev after_script : Scene
+  after_script = scene kept board1 facts drivers
 
-  pub script_stays : StaysFit nodes before behind_script
+  pub script_stays : StaysFit nodes before after_script
   script_stays = λ t v u fits. record { stands = fits.stands; few = fits.few; marks = fits.marks; leaves = fits.leaves; slots = slots ∙ fits.slots; facts = fits.facts }
 
-  pub script_beside : Beside uid (meaning term).size before.kept behind_script.kept
+  pub script_beside : Beside uid (meaning term).size before.kept after_script.kept
   script_beside = beside_same uid (meaning term).size kept
 
   module _ {A : Type 0} (d : Done A (Unit {0})) (go : A → Unit {0} → State → Done Answer Memory) (is : visit_in nodes moment term view uid before ≡ follow d (λ _. memory_in term uid before) go) where
     -- a script of the node ended with a fault or for want of memory
-    pub script_ends : (e : Stop NodeFault) → Settles {A = A} (Err e) (state_in nodes behind_script moment) d → Goes nodes moment term view uid (Err e) before behind_script n n (visit_in nodes moment term view uid before)
+    pub script_ends : (e : Stop NodeFault) → Settles {A = A} (Err e) (state_in nodes after_script moment) d → Goes nodes moment term view uid (Err e) before after_script n n (visit_in nodes moment term view uid before)
     script_ends e k = record {
-      ends = subst (λ (x : Done Answer Memory). Meets {A = Answer} nodes moment (memory_of term uid) (Err e) before behind_script n n x) (sym is) (script_stopped nodes moment term view uid before behind_script n refl refl d go e k);
+      ends = subst (λ (x : Done Answer Memory). Meets {A = Answer} nodes moment (memory_of term uid) (Err e) before after_script n n x) (sym is) (script_stopped nodes moment term view uid before after_script n refl refl d go e k);
       beside = script_beside;
       stays = script_stays;
     }
 
     -- a script of the node ran, and this comes after it
-    pub script_goes : (a : A) → Settles (Ok a) (state_in nodes behind_script moment) d → (e : Done Answer Memory) → go a tt (state_in nodes behind_script moment) ≡ e →
-        (r : Result Turn (Stop NodeFault)) (s2 : Scene) (n2 : List Note) → Goes nodes moment term view uid r behind_script s2 n n2 e → Goes nodes moment term view uid r before s2 n n2 (visit_in nodes moment term view uid before)
+    pub script_goes : (a : A) → Settles (Ok a) (state_in nodes after_script moment) d → (e : Done Answer Memory) → go a tt (state_in nodes after_script moment) ≡ e →
+        (r : Result Turn (Stop NodeFault)) (s2 : Scene) (n2 : List Note) → Goes nodes moment term view uid r after_script s2 n n2 e → Goes nodes moment term view uid r before s2 n n2 (visit_in nodes moment term view uid before)
     script_goes a k e is_next r s2 n2 goes =
-        goes_after nodes moment term view uid r before behind_script s2 n n n2 (visit_in nodes moment term view uid before) e
-        (subst (λ (x : Done Answer Memory). Comes nodes before behind_script n n x e) (sym is)
-        (subst (λ (x : Done Answer Memory). Comes nodes before behind_script n n (follow d (λ _. memory_in term uid before) go) x) is_next (script_made nodes moment term view uid before behind_script n refl refl d go a k)))
+        goes_after nodes moment term view uid r before after_script s2 n n n2 (visit_in nodes moment term view uid before) e
+        (subst (λ (x : Done Answer Memory). Comes nodes before after_script n n x e) (sym is)
+        (subst (λ (x : Done Answer Memory). Comes nodes before after_script n n (follow d (λ _. memory_in term uid before) go) x) is_next (script_made nodes moment term view uid before after_script n refl refl d go a k)))
         script_beside script_stays goes
 
 -- ---- A RUNNING node that does not go on
@@ -546,11 +546,11 @@ module _ (keeps : (t : Term) → Keeps (meaning t) (Sound t)) (nodes : List Node
 
   -- the start reads the memo after the change of status
   started_as : (r : Result Memo NodeFault) → r ≡ starting (kept_at kept1 uid).memo →
-      started_in nodes moment term view uid s0 ≡ behind (Changed uid old.status status.Running ∷ []) [] (after_start r)
+      started_in nodes moment term view uid s0 ≡ following (Changed uid old.status status.Running ∷ []) [] (after_start r)
   started_as r is =
       starts_with nodes moment term view uid s0
-      ∙ ap (λ (ns : List Note). behind ns [] (after_start (starting old.memo))) (changes uid old.status rests)
-      ∙ ap (λ (x : Result Memo NodeFault). behind (Changed uid old.status status.Running ∷ []) [] (after_start x)) (sym (is ∙ memo_read))
+      ∙ ap (λ (ns : List Note). following ns [] (after_start (starting old.memo))) (changes uid old.status rests)
+      ∙ ap (λ (x : Result Memo NodeFault). following (Changed uid old.status status.Running ∷ []) [] (after_start x)) (sym (is ∙ memo_read))
 
   module _ (kept2 : List Kept) (memo : Memo) (is2 : kept2 ≡ slice_set kept1 uid (record (kept_at kept1 uid) { memo = memo })) where
     abbrev s2 : Scene
@@ -599,7 +599,7 @@ module _ (keeps : (t : Term) → Keeps (meaning t) (Sound t)) (nodes : List Node
       record {
         told = Changed uid old.status status.Running ∷ [];
         made = [];
-        all = started_as (Ok memo) is ∙ (λ i. behind (Changed uid old.status status.Running ∷ []) [] (ruled (site_at view uid term) (sym here2 i).status (sym here2 i).memo (sym children2 i) (state_in nodes s0 moment)));
+        all = started_as (Ok memo) is ∙ (λ i. following (Changed uid old.status status.Running ∷ []) [] (ruled (site_at view uid term) (sym here2 i).status (sym here2 i).memo (sym children2 i) (state_in nodes s0 moment)));
         named = refl;
         notes = noted;
         drivers = refl;

@@ -8,7 +8,7 @@ use Rattle.bt_model.specs.declared.moves.Heard.TheVariants.{Answered}
 use Rattle.bt_model.specs.declared.note.Note.{Note}
 use Rattle.bt_model.specs.declared.status.Answer.{Answer}
 use Rattle.bt_model.specs.declared.term.Term.{Term, out-Term}
-use Rattle.bt_model.specs.Done.{Call, Done, behind}
+use Rattle.bt_model.specs.Done.{Call, Done, following}
 use Rattle.bt_model.specs.Moves.{after}
 use Rattle.bt_model.specs.Sites.{View, placed, remembered}
 use Rattle.bt_model.specs.Visit.{meaning}
@@ -22,27 +22,27 @@ use Rattle.bt_arena.proofs.Opened.{memory_out, size_out}
 use Rattle.bt_arena.specs.Ends.{Meets, StaysFit}
 use Rattle.bt_arena.proofs.Follows.{stopped}
 use Rattle.bt_arena.specs.declared.frame.Frame.{Frame}
-use Rattle.bt_tick.specs.Turns.{AllLeave, Comes, StackIs, Waiting, WaitsFor, child_of_waiting, children_in, goes_behind, kind_of, number, resume, ruled_by}
+use Rattle.bt_tick.specs.Turns.{AllLeave, Comes, StackIs, Waiting, WaitsFor, child_of_waiting, children_in, goes_following, kind_of, number, resume, ruled_by}
 use Rattle.bt_tick.proofs.Children.{beside_both, child_inside}
-use Rattle.bt_tick.proofs.Passing.{follow_behind}
+use Rattle.bt_tick.proofs.Passing.{follow_after}
 
 -- ---- What comes after notes and calls
 
 module _ (ns : List Note) (cs : List Call) where
   -- what a waiting visit does after its child
-  pub waiting_behind : (w : Waiting) (d : Done Answer Memory) → goes_behind w (behind ns cs d) ≡ behind ns cs (goes_behind w d)
-  waiting_behind w d =
-      follow_behind ns cs (placed w.frame.place (children_in w.term w.frame.uid w.kept) d)
+  pub waiting_after : (w : Waiting) (d : Done Answer Memory) → goes_following w (following ns cs d) ≡ following ns cs (goes_following w d)
+  waiting_after w d =
+      follow_after ns cs (placed w.frame.place (children_in w.term w.frame.uid w.kept) d)
       (λ ms1. remembered (kept_at w.kept w.frame.uid).status (kept_at w.kept w.frame.uid).memo ms1)
       (λ a ms1 s1. ruled_by w.term w.view w.frame.uid (kept_at w.kept w.frame.uid).status (kept_at w.kept w.frame.uid).memo (after (kind_of w.term) (number w.term) w.frame.memo (Answered w.frame.place a)) ms1 s1)
 
-  pub resume_behind : (ws : List Waiting) (d : Done Answer Memory) → resume ws (behind ns cs d) ≡ behind ns cs (resume ws d)
-  resume_behind [] d = refl
-  resume_behind (w ∷ ws) d = ap (resume ws) (waiting_behind w d) ∙ resume_behind ws (goes_behind w d)
+  pub resume_after : (ws : List Waiting) (d : Done Answer Memory) → resume ws (following ns cs d) ≡ following ns cs (resume ws d)
+  resume_after [] d = refl
+  resume_after (w ∷ ws) d = ap (resume ws) (waiting_after w d) ∙ resume_after ws (goes_following w d)
 
-  leave_behind : (ws : List Waiting) (d : Done Answer Memory) → AllLeave ws (behind ns cs d) → AllLeave ws d
-  leave_behind [] d k = tt
-  leave_behind (w ∷ ws) d k = (k.0, leave_behind ws (goes_behind w d) (subst (λ (x : Done Answer Memory). AllLeave ws x) (waiting_behind w d) k.1))
+  leave_after : (ws : List Waiting) (d : Done Answer Memory) → AllLeave ws (following ns cs d) → AllLeave ws d
+  leave_after [] d k = tt
+  leave_after (w ∷ ws) d k = (k.0, leave_after ws (goes_following w d) (subst (λ (x : Done Answer Memory). AllLeave ws x) (waiting_after w d) k.1))
 
 module _ {nodes : List Node} {s0 s1 : Scene} {n0 n1 : List Note} {d e : Done Answer Memory} (k : Comes nodes s0 s1 n0 n1 d e) where
   -- what is still to come of a part is still to come of the whole
@@ -50,14 +50,14 @@ module _ {nodes : List Node} {s0 s1 : Scene} {n0 n1 : List Note} {d e : Done Ans
   resume_comes ws = record {
     told = k.told;
     made = k.made;
-    all = ap (resume ws) k.all ∙ resume_behind k.told k.made ws e;
+    all = ap (resume ws) k.all ∙ resume_after k.told k.made ws e;
     named = k.named;
     notes = k.notes;
     drivers = k.drivers;
   }
 
   pub leave_comes : (ws : List Waiting) → AllLeave ws d → AllLeave ws e
-  leave_comes ws all = leave_behind k.told k.made ws e (subst (λ (x : Done Answer Memory). AllLeave ws x) k.all all)
+  leave_comes ws all = leave_after k.told k.made ws e (subst (λ (x : Done Answer Memory). AllLeave ws x) k.all all)
 
 -- ---- Scenes that change
 
@@ -129,7 +129,7 @@ module _ (nodes : List Node) (moment : ℕ) (root : Term) (first : ℕ) where
   placed_stops memory place ms stop.NoMemory s0 s1 n0 n1 d m = record { told = m.told; untold = m.untold; made = m.made; unmade = m.unmade; all_notes = m.all_notes; all_calls = m.all_calls; named = m.named; notes = m.notes; drivers = m.drivers }
 
   waiting_stops : (e : Stop NodeFault) (s0 s1 : Scene) (n0 n1 : List Note) (w : Waiting) (term : Term) (view : View) (uid : ℕ) (d : Done Answer Memory) → WaitsFor nodes moment s1 w term view uid →
-      Meets nodes moment (memory_of term uid) (Err e) s0 s1 n0 n1 d → Meets {A = Answer} nodes moment (memory_of w.term w.frame.uid) (Err e) s0 s1 n0 n1 (goes_behind w d)
+      Meets nodes moment (memory_of term uid) (Err e) s0 s1 n0 n1 d → Meets {A = Answer} nodes moment (memory_of w.term w.frame.uid) (Err e) s0 s1 n0 n1 (goes_following w d)
   waiting_stops e s0 s1 n0 n1 w term view uid d k m =
       stopped nodes moment (λ (kept : List Kept). slice_set (children_in w.term w.frame.uid w.kept) w.frame.place (memory_of term uid kept)) (memory_of w.term w.frame.uid) s0 s1 n0 n1
       (placed w.frame.place (children_in w.term w.frame.uid w.kept) d)
@@ -144,4 +144,4 @@ module _ (nodes : List Node) (moment : ℕ) (root : Term) (first : ℕ) where
       subst (λ (t : Term). Meets {A = Answer} nodes moment (memory_of t first) (Err e) s0 s1 n0 n1 d) k.1
       (subst (λ (u : ℕ). Meets {A = Answer} nodes moment (memory_of term u) (Err e) s0 s1 n0 n1 d) k.2 m)
   all_stops e s0 s1 n0 n1 stack (w ∷ ws) term view uid d (below, is, waits, more) m =
-      all_stops e s0 s1 n0 n1 below ws w.term w.view w.frame.uid (goes_behind w d) more (waiting_stops e s0 s1 n0 n1 w term view uid d waits m)
+      all_stops e s0 s1 n0 n1 below ws w.term w.view w.frame.uid (goes_following w d) more (waiting_stops e s0 s1 n0 n1 w term view uid d waits m)

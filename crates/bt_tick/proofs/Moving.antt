@@ -22,7 +22,7 @@ use Rattle.bt_model.specs.declared.term.Term.{Term, out-Term}
 use Rattle.bt_model.specs.BuiltIns.{has_rule, takes}
 use Rattle.bt_model.specs.Done.{Done, State, done, follow}
 use Rattle.bt_model.specs.Drivers.{is_held}
-use Rattle.bt_model.specs.Moves.{Fits as FitsMoves, GoesOn, after, behind_resets, going, hears, makes, next_place, rest}
+use Rattle.bt_model.specs.Moves.{Fits as FitsMoves, GoesOn, after, after_resets, going, hears, makes, next_place, rest}
 use Rattle.bt_model.specs.Sites.{View, child_of, children_of, remembered}
 use Rattle.bt_model.specs.Steps.{Child, Rule, child_at, keep, reset, resets, visit, visit_or_pass}
 use Rattle.bt_model.specs.Sound.{Dated, fault_of}
@@ -52,7 +52,7 @@ use Rattle.bt_tick.specs.Machine as turn
 use Rattle.bt_nodes.specs.Here.{site_at}
 use Rattle.bt_tick.specs.Turns.{CanGoOn, ChildrenSound, Comes, Goes, GoesOnBy, GoesTo, TurnDoes, children_in, goes_by, kind_of, memory_in, number, passes_over, ruled_by, turn_to, turn_with, turned}
 use Rattle.bt_tick.proofs.Children.{beside_both, beside_more, child_seen, terms}
-use Rattle.bt_tick.proofs.Passing.{comes_both, follow_follow, met_behind, met_comes, part_made}
+use Rattle.bt_tick.proofs.Passing.{comes_both, follow_follow, met_after, met_comes, part_made}
 
 -- ---- The node
 
@@ -95,18 +95,18 @@ none_reset nodes moment term view uid s n which is =
     (done_met nodes moment (children_in term uid) tt s n)
 
 module _ (term : Term) (view : View) (uid : ℕ) (st : Status) (memo : Memo) (rule : Rule) (ms : List Memory) (s : State) where
-  abbrev behind_all : Span → Done Answer Memory
-  behind_all span =
+  abbrev after_all : Span → Done Answer Memory
+  after_all span =
       follow (resets span (children_of (site_at view uid term)) 0 ms s) (λ ms1. remembered st memo ms1) (λ _ ms1 s1. ruled_by term view uid st memo rule ms1 s1)
 
-  reset_opened : (span : Span) → ruled_by term view uid st memo (reset span rule) ms s ≡ behind_all span
+  reset_opened : (span : Span) → ruled_by term view uid st memo (reset span rule) ms s ≡ after_all span
   unfolding reset
   reset_opened span =
       follow_follow (resets span (children_of (site_at view uid term)) 0 ms s) (λ ms1. ms1) (λ _ ms1 s1. rule (children_of (site_at view uid term)) ms1 s1)
       (λ ms1. remembered st memo ms1) (λ g ms1 s1. ended (site_at view uid term) st g ms1 s1)
 
   -- of a rule after resets, the resets come first
-  pub resets_first : (span : Span) → ruled_by term view uid st memo (behind_resets span rule) ms s ≡ behind_all span
+  pub resets_first : (span : Span) → ruled_by term view uid st memo (after_resets span rule) ms s ≡ after_all span
   resets_first span.None = ap (λ (d : Done (Unit {0}) (List Memory)). follow d (λ ms1. remembered st memo ms1) (λ _ ms1 s1. ruled_by term view uid st memo rule ms1 s1)) (sym (none_resets (children_of (site_at view uid term)) 0 ms s))
   resets_first span.All = reset_opened span.All
   resets_first (span.From first) = reset_opened (span.From first)
@@ -119,8 +119,8 @@ module _ (term : Term) (uid : ℕ) (a b : List Kept) (beside : Beside (uid + 1) 
   node_kept : kept_at b uid ≡ kept_at a uid
   node_kept = beside.below uid (omega arith)
 
-  memory_behind : remembered (kept_at a uid).status (kept_at a uid).memo (children_in term uid b) ≡ memory_of term uid b
-  memory_behind = (λ i. remembered (sym node_kept i).status (sym node_kept i).memo (children_in term uid b)) ∙ sym (memory_out term uid b)
+  memory_after : remembered (kept_at a uid).status (kept_at a uid).memo (children_in term uid b) ≡ memory_of term uid b
+  memory_after = (λ i. remembered (sym node_kept i).status (sym node_kept i).memo (children_in term uid b)) ∙ sym (memory_out term uid b)
 
 -- ---- A move
 
@@ -137,8 +137,8 @@ module _ (keeps : (t : Term) → Keeps (meaning t) (Sound t)) (nodes : List Node
     resets_here = resets span (children_of (site_at view uid term)) 0 (children_in term uid s.kept) (state_in nodes s moment)
 
     -- after the resets the node can go on
-    pub can_behind : Meets nodes moment (children_in term uid) (Ok tt) s s1 n0 n1 resets_here → CanGoOn nodes moment term view uid s1
-    can_behind m =
+    pub can_after : Meets nodes moment (children_in term uid) (Ok tt) s s1 n0 n1 resets_here → CanGoOn nodes moment term view uid s1
+    can_after m =
         let left = resets_left span in
         let all : ChildrenSound term view uid resets_here.memory resets_here.state = subst (λ (r : Result (Unit {0}) NodeFault). SoundAll (terms keeps) view.rows (out-Term term).children (fault_of r) (uid + 1) resets_here.memory resets_here.state) m.0.answer left.sound in
         record {
@@ -149,9 +149,9 @@ module _ (keeps : (t : Term) → Keeps (meaning t) (Sound t)) (nodes : List Node
 
     module _ (rule : Rule) where
       abbrev first : Done Answer Memory
-      first = goes_by nodes moment term view uid s (behind_resets span rule)
+      first = goes_by nodes moment term view uid s (after_resets span rule)
 
-      first_is : first ≡ behind_all term view uid (kept_at s.kept uid).status (kept_at s.kept uid).memo rule (children_in term uid s.kept) (state_in nodes s moment) span
+      first_is : first ≡ after_all term view uid (kept_at s.kept uid).status (kept_at s.kept uid).memo rule (children_in term uid s.kept) (state_in nodes s moment) span
       first_is = resets_first term view uid (kept_at s.kept uid).status (kept_at s.kept uid).memo rule (children_in term uid s.kept) (state_in nodes s moment) span
 
       -- the resets were made, and the rule is still to come
@@ -159,7 +159,7 @@ module _ (keeps : (t : Term) → Keeps (meaning t) (Sound t)) (nodes : List Node
       resets_made m =
           let same = node_kept term uid s.kept s1.kept beside in
           subst (λ (d : Done Answer Memory). Comes nodes s s1 n0 n1 d (goes_by nodes moment term view uid s1 rule)) (sym first_is)
-          (subst (λ (k : Kept). Comes nodes s s1 n0 n1 (behind_all term view uid (kept_at s.kept uid).status (kept_at s.kept uid).memo rule (children_in term uid s.kept) (state_in nodes s moment) span)
+          (subst (λ (k : Kept). Comes nodes s s1 n0 n1 (after_all term view uid (kept_at s.kept uid).status (kept_at s.kept uid).memo rule (children_in term uid s.kept) (state_in nodes s moment) span)
           (ruled_by term view uid k.status k.memo rule (children_in term uid s1.kept) (state_in nodes s1 moment))) (sym same)
           (part_made nodes moment (children_in term uid) s s1 n0 n1 resets_here (λ ms1. remembered (kept_at s.kept uid).status (kept_at s.kept uid).memo ms1)
           (λ _ ms1 x. ruled_by term view uid (kept_at s.kept uid).status (kept_at s.kept uid).memo rule ms1 x) tt m))
@@ -169,7 +169,7 @@ module _ (keeps : (t : Term) → Keeps (meaning t) (Sound t)) (nodes : List Node
       resets_stopped e m =
           subst (λ (d : Done Answer Memory). Meets {A = Answer} nodes moment (memory_of term uid) (Err e) s s1 n0 n1 d) (sym first_is)
           (stopped nodes moment (children_in term uid) (memory_of term uid) s s1 n0 n1 resets_here (λ ms1. remembered (kept_at s.kept uid).status (kept_at s.kept uid).memo ms1)
-          (λ _ ms1 x. ruled_by term view uid (kept_at s.kept uid).status (kept_at s.kept uid).memo rule ms1 x) e (memory_behind term uid s.kept s1.kept beside) m)
+          (λ _ ms1 x. ruled_by term view uid (kept_at s.kept uid).status (kept_at s.kept uid).memo rule ms1 x) e (memory_after term uid s.kept s1.kept beside) m)
 
 -- ---- What comes after the resets
 
@@ -264,7 +264,7 @@ ends_so nodes moment term view uid s s1 s2 n0 n1 n2 d e (Ok a) k m = record {
   does = refl;
   comes = comes_both nodes s s1 s2 n0 n1 n2 d e (done a (memory_in term uid s2) (state_in nodes s2 moment)) k (met_comes nodes moment (memory_of term uid) a s1 s2 n1 n2 e m);
 }
-ends_so nodes moment term view uid s s1 s2 n0 n1 n2 d e (Err x) k m = met_behind nodes moment (memory_of term uid) s s1 s2 n0 n1 n2 d e (Err x) k m
+ends_so nodes moment term view uid s s1 s2 n0 n1 n2 d e (Err x) k m = met_after nodes moment (memory_of term uid) s s1 s2 n0 n1 n2 d e (Err x) k m
 
 -- where a node that goes on ended with this, so did the turn
 pub next_with : (nodes : List Node) (moment : ℕ) (term : Term) (view : View) (uid : ℕ) (frame : Frame) (r : Result Next (Stop NodeFault)) (e : Stop NodeFault) (s s1 : Scene) (n0 n1 : List Note) (d : Done Answer Memory) →
@@ -309,7 +309,7 @@ module _ (keeps : (t : Term) → Keeps (meaning t) (Sound t)) (nodes : List Node
       abbrev pub still : Then → Rule
       still then = going (hears (kind_of term)) (after (kind_of term) (number term)) memo then
 
-      pub moves_so : rest (kind_of term) (number term) moment step.memo step.heard ≡ behind_resets go.reset (still go.then)
+      pub moves_so : rest (kind_of term) (number term) moment step.memo step.heard ≡ after_resets go.reset (still go.then)
       moves_so =
           subst (λ (kd : Kind). rest kd (number term) moment step.memo step.heard ≡ makes (hears kd) (after kd (number term)) memo go) here_kind
           (subst (λ (n : ℕ). rest here.kind n moment step.memo step.heard ≡ makes (hears here.kind) (after here.kind n) memo go) here_number moves)
@@ -323,7 +323,7 @@ module _ (keeps : (t : Term) → Keeps (meaning t) (Sound t)) (nodes : List Node
       pub visit_there : (place : ℕ) → go.then ≡ then_.Visit place → GoesOn (kind_of term) (number term) step.memo (next_place step.heard) memo (then_.Visit place)
       visit_there place visits = subst (λ (x : Then). GoesOn (kind_of term) (number term) step.memo (next_place step.heard) memo x) visits onward_so
 
-      next_so : next ≡ goes_by nodes moment term view step.uid s (behind_resets go.reset (still go.then))
+      next_so : next ≡ goes_by nodes moment term view step.uid s (after_resets go.reset (still go.then))
       next_so = k.next_is ∙ ap (λ (r : Rule). goes_by nodes moment term view step.uid s r) moves_so
 
       module _ (s1 : Scene) (n0 n1 : List Note) (stays : StaysFit nodes s s1) (beside_code : Beside (step.uid + 1) ((node_at nodes step.uid).size - 1) s.kept s1.kept) where
@@ -376,7 +376,7 @@ module _ (keeps : (t : Term) → Keeps (meaning t) (Sound t)) (nodes : List Node
               (record {
                 ends = record {
                   next = goes_by nodes moment term view step.uid s1 (still (then_.Visit place));
-                  does = turns nodes moment term view step.uid s1 (can_behind keeps nodes moment term view step.uid s k.can go.reset s1 n0 n1 stays beside m) (record { uid = step.uid; memo = memo; place = place; child = child }) refl k.ruled
+                  does = turns nodes moment term view step.uid s1 (can_after keeps nodes moment term view step.uid s k.can go.reset s1 n0 n1 stays beside m) (record { uid = step.uid; memo = memo; place = place; child = child }) refl k.ruled
                       (next_place step.heard) step.memo (visit_there place visits) is_child b passes;
                   comes = comes_so (then_.Visit place) visits;
                 };

@@ -4,20 +4,20 @@ use Rattle.std.specs.Prelude.{IsErrAnd}
 use Rattle.bt_script.specs.declared.stop.Stop.{Stop}
 use Rattle.bt_model.specs.declared.fault.NodeFault.{NodeFault}
 use Rattle.bt_model.specs.declared.note.Note.{Note}
-use Rattle.bt_model.specs.Done.{Call, Done, State, behind, carried, done, follow}
+use Rattle.bt_model.specs.Done.{Call, Done, State, following, carried, done, follow}
 use Rattle.bt_arena.specs.declared.nodes.Kept.{Kept}
 use Rattle.bt_arena.specs.declared.nodes.Node.{Node}
 use Rattle.bt_arena.specs.Rosters.{roster_after}
 use Rattle.bt_arena.specs.Scenes.{Scene, state_in}
 use Rattle.bt_arena.specs.Ends.{IsCut, Meets}
-use Rattle.bt_arena.proofs.Follows.{after_both, behind_met, named_both}
+use Rattle.bt_arena.proofs.Follows.{after_both, after_met, named_both}
 use Rattle.bt_nodes.proofs.Following.{stops_with}
 use Rattle.bt_tick.specs.Turns.{Comes}
 
 -- ---- Parts one after the other
 
-behind_twice : {A M : Type 0} (ns ms : List Note) (cs es : List Call) (d : Done A M) → behind (ns ++ ms) (cs ++ es) d ≡ behind ns cs (behind ms es d)
-behind_twice ns ms cs es d = λ i. record {
+after_twice : {A M : Type 0} (ns ms : List Note) (cs es : List Call) (d : Done A M) → following (ns ++ ms) (cs ++ es) d ≡ following ns cs (following ms es d)
+after_twice ns ms cs es d = λ i. record {
   answer = d.answer;
   memory = d.memory;
   state = d.state;
@@ -26,17 +26,17 @@ behind_twice ns ms cs es d = λ i. record {
 }
 
 module _ {A M B N : Type 0} (ns : List Note) (cs : List Call) (d : Done A M) (place : M → N) (go : A → M → State → Done B N) where
-  carried_behind : (r : Result A NodeFault) → carried r (behind ns cs d) place go ≡ behind ns cs (carried r d place go)
-  carried_behind (Ok a) = behind_twice ns d.notes cs d.calls (go a d.memory d.state)
-  carried_behind (Err f) = refl
+  carried_after : (r : Result A NodeFault) → carried r (following ns cs d) place go ≡ following ns cs (carried r d place go)
+  carried_after (Ok a) = after_twice ns d.notes cs d.calls (go a d.memory d.state)
+  carried_after (Err f) = refl
 
   -- what comes after some notes and calls still comes after them
-  pub follow_behind : follow (behind ns cs d) place go ≡ behind ns cs (follow d place go)
-  follow_behind = carried_behind d.answer
+  pub follow_after : follow (following ns cs d) place go ≡ following ns cs (follow d place go)
+  follow_after = carried_after d.answer
 
 module _ {A M B N C O : Type 0} (d : Done A M) (place : M → N) (go : A → M → State → Done B N) (place2 : N → O) (go2 : B → N → State → Done C O) where
   carried_follow : (r : Result A NodeFault) → follow (carried r d place go) place2 go2 ≡ carried r d (λ m. place2 (place m)) (λ a m s. follow (go a m s) place2 go2)
-  carried_follow (Ok a) = follow_behind d.notes d.calls (go a d.memory d.state) place2 go2
+  carried_follow (Ok a) = follow_after d.notes d.calls (go a d.memory d.state) place2 go2
   carried_follow (Err f) = refl
 
   -- two parts after a third
@@ -54,18 +54,18 @@ module _ {A M : Type 0} (nodes : List Node) where
   comes_both s0 s1 s2 n0 n1 n2 d e f k l = record {
     told = k.told ++ l.told;
     made = k.made ++ l.made;
-    all = k.all ∙ ap (λ (x : Done A M). behind k.told k.made x) l.all ∙ sym (behind_twice k.told l.told k.made l.made f);
+    all = k.all ∙ ap (λ (x : Done A M). following k.told k.made x) l.all ∙ sym (after_twice k.told l.told k.made l.made f);
     named = omega (arith, k.named, l.named, length-append k.made l.made, named_both k.told l.told);
     notes = l.notes ∙ ap (λ (x : List Note). x ++ l.told) k.notes ∙ append_assoc n0 k.told l.told;
     drivers = l.drivers ∙ ap (roster_after nodes l.made) k.drivers ∙ sym (after_both nodes k.made l.made s0.drivers);
   }
 
   -- if the rest meets its definition, so does the whole
-  pub met_behind : (moment : ℕ) (memory : List Kept → M) (s0 s1 s2 : Scene) (n0 n1 n2 : List Note) (d e : Done A M) (r : Result A (Stop NodeFault)) →
+  pub met_after : (moment : ℕ) (memory : List Kept → M) (s0 s1 s2 : Scene) (n0 n1 n2 : List Note) (d e : Done A M) (r : Result A (Stop NodeFault)) →
       Comes nodes s0 s1 n0 n1 d e → Meets nodes moment memory r s1 s2 n1 n2 e → Meets nodes moment memory r s0 s2 n0 n2 d
-  met_behind moment memory s0 s1 s2 n0 n1 n2 d e r k m =
+  met_after moment memory s0 s1 s2 n0 n1 n2 d e r k m =
       subst (λ (x : Done A M). Meets nodes moment memory r s0 s2 n0 n2 x) (sym k.all)
-      (behind_met nodes moment memory s0 s1 s2 n0 n1 n2 k.told k.made k.notes k.drivers e k.named r m)
+      (after_met nodes moment memory s0 s1 s2 n0 n1 n2 k.told k.made k.notes k.drivers e k.named r m)
 
 module _ {A M B N : Type 0} (nodes : List Node) (moment : ℕ) (memory : List Kept → M) (s0 s1 : Scene) (n0 n1 : List Note) (d : Done A M) (place : M → N) (go : A → M → State → Done B N) where
   -- a part was made, and what comes after it is still to come
@@ -75,8 +75,8 @@ module _ {A M B N : Type 0} (nodes : List Node) (moment : ℕ) (memory : List Ke
     made = d.calls;
     all =
         ap (λ (r : Result A NodeFault). carried r d place go) m.0.answer
-        ∙ ap (λ (k : M). behind d.notes d.calls (go a k d.state)) m.0.memory
-        ∙ ap (λ (s : State). behind d.notes d.calls (go a (memory s1.kept) s)) m.0.state;
+        ∙ ap (λ (k : M). following d.notes d.calls (go a k d.state)) m.0.memory
+        ∙ ap (λ (s : State). following d.notes d.calls (go a (memory s1.kept) s)) m.0.state;
     named = m.1;
     notes = m.0.notes;
     drivers = m.0.drivers;

@@ -32,10 +32,10 @@ use Rattle.bt_tick.specs.Machine.{Step}
 use Rattle.bt_tick.specs.Machine.{Turn}
 use Rattle.bt_tick.specs.Machine as turn
 use Rattle.bt_nodes.specs.Here.{site_at}
-use Rattle.bt_tick.specs.Turns.{AllLeave, CanGoOn, CanVisit, ChildLeaves, ChildrenSound, Comes, Goes, Going, GoesOnBy, StackIs, Waiting, WaitsBy, WaitsFor, child_of_waiting, children_in, goes_behind, kind_of, memory_in, number, resume, ruled_by, visit_in}
+use Rattle.bt_tick.specs.Turns.{AllLeave, CanGoOn, CanVisit, ChildLeaves, ChildrenSound, Comes, Goes, Going, GoesOnBy, StackIs, Waiting, WaitsBy, WaitsFor, child_of_waiting, children_in, goes_following, kind_of, memory_in, number, resume, ruled_by, visit_in}
 use Rattle.bt_tick.proofs.Children.{beside_same, child_seen, child_stands, seat_at, terms}
 use Rattle.bt_tick.proofs.Frames.{all_stops, children_now, leave_comes, node_kept, resume_comes, stack_stays}
-use Rattle.bt_tick.proofs.Passing.{comes_both, comes_same, follow_follow, met_behind, none_told}
+use Rattle.bt_tick.proofs.Passing.{comes_both, comes_same, follow_follow, met_after, none_told}
 
 none_from_push : {X : Type 0} (xs : List X) (x : X) → [] ≡ xs ++ x ∷ [] → ⊥
 none_from_push [] x is = cc
@@ -85,7 +85,7 @@ module _ (keeps : (t : Term) → Keeps (meaning t) (Sound t)) (nodes : List Node
         ∙ ap (λ (m : Memory). placed frame.place ms ((meaning child).visit below frame.child m (state_in nodes s moment))) child_memory
 
     -- what is still to come is the visit of the child, followed by what comes after it
-    pub waits_as : next ≡ goes_behind now_waiting (visit_in nodes moment child below frame.child s)
+    pub waits_as : next ≡ goes_following now_waiting (visit_in nodes moment child below frame.child s)
     waits_as =
         k.next_is
         ∙ visit_opened term view frame.uid (kept_at s.kept frame.uid).status (kept_at s.kept frame.uid).memo frame.place (λ a. after (kind_of term) (number term) frame.memo (Answered frame.place a)) ms (state_in nodes s moment)
@@ -155,7 +155,7 @@ module _ (keeps : (t : Term) → Keeps (meaning t) (Sound t)) (nodes : List Node
             dated = leaves.within.dated k.dated;
           }
 
-      pub goes_on_by : GoesOnBy nodes moment w.term w.view w.frame.uid heard_of s (goes_behind w answered)
+      pub goes_on_by : GoesOnBy nodes moment w.term w.view w.frame.uid heard_of s (goes_following w answered)
       goes_on_by = record {
         here = refl;
         can = children_sound;
@@ -190,7 +190,7 @@ module _ (keeps : (t : Term) → Keeps (meaning t) (Sound t)) (nodes : List Node
       by [] stands comes =
           let d : Done Answer Memory = done a (memory_of root first s.kept) (state_in nodes s moment) in
           let is : g.next ≡ d = g.does ∙ (λ i. done a (memory_of (stands.1 i) (stands.2 i) s.kept) (state_in nodes s moment)) in
-          met_behind nodes moment (memory_of root first) s0 s s n0 n n whole d (Ok a) (subst (λ (x : Done Answer Memory). Comes nodes s0 s n0 n whole x) is comes)
+          met_after nodes moment (memory_of root first) s0 s s n0 n n whole d (Ok a) (subst (λ (x : Done Answer Memory). Comes nodes s0 s n0 n whole x) is comes)
           (done_met nodes moment (memory_of root first) a s n)
       by (w ∷ ws) (under, is, waits, more) comes = absurd (none_from_push under w.frame is)
 
@@ -214,7 +214,7 @@ module _ (keeps : (t : Term) → Keeps (meaning t) (Sound t)) (nodes : List Node
     pub stops : {t : Turn} (g : Going nodes moment root first t stack s0 s n0 n whole) (s1 : Scene) (n1 : List Note) (e : Stop NodeFault) →
         Goes nodes moment g.term g.view g.uid (Err e) s s1 n n1 g.next → Meets {A = Answer} nodes moment (memory_of root first) (Err e) s0 s1 n0 n1 whole
     stops g s1 n1 e goes =
-        met_behind nodes moment (memory_of root first) s0 s s1 n0 n n1 whole (resume g.waiting g.next) (Err e) g.comes
+        met_after nodes moment (memory_of root first) s0 s s1 n0 n n1 whole (resume g.waiting g.next) (Err e) g.comes
         (all_stops nodes moment root first e s s1 n n1 stack g.waiting g.term g.view g.uid g.next
         (stack_stays nodes moment root first s s1 stack g.waiting g.term g.view g.uid g.stands goes.beside goes.stays) goes.ends)
 
@@ -258,11 +258,11 @@ module _ (keeps : (t : Term) → Keeps (meaning t) (Sound t)) (nodes : List Node
             term = w.term;
             view = w.view;
             uid = w.frame.uid;
-            next = goes_behind w d;
+            next = goes_following w d;
             does = step;
             stands = subst (λ (fs : List Frame). StackIs nodes moment s root first fs ws w.term w.view w.frame.uid) (sym same.0) more;
-            leaves = subst (λ (x : Done Answer Memory). AllLeave ws (goes_behind w x)) g.does leaves.1;
-            comes = subst (λ (x : Done Answer Memory). Comes nodes s0 s n0 n whole (resume ws (goes_behind w x))) g.does comes;
+            leaves = subst (λ (x : Done Answer Memory). AllLeave ws (goes_following w x)) g.does leaves.1;
+            comes = subst (λ (x : Done Answer Memory). Comes nodes s0 s n0 n whole (resume ws (goes_following w x))) g.does comes;
           })
 
   -- ---- The turns, as the loop makes them
@@ -332,7 +332,7 @@ module _ (keeps : (t : Term) → Keeps (meaning t) (Sound t)) (nodes : List Node
 
     -- want of memory for the stack
     pub cut_here : {t : Turn} → Going nodes moment root first t stack s0 s n0 n whole → Meets {A = Answer} nodes moment (memory_of root first) (Err stop.NoMemory) s0 s n0 n whole
-    cut_here g = met_behind nodes moment (memory_of root first) s0 s s n0 n n whole (resume g.waiting g.next) (Err stop.NoMemory) g.comes (none_told nodes s n (resume g.waiting g.next))
+    cut_here g = met_after nodes moment (memory_of root first) s0 s s n0 n n whole (resume g.waiting g.next) (Err stop.NoMemory) g.comes (none_told nodes s n (resume g.waiting g.next))
 
     pub back_made : {t : Turn} {a : Answer} (frame : Frame) (stack1 : List Frame) (step : Step) → t ≡ turn.Back a → stack ≡ stack1 ++ frame ∷ [] →
         step ≡ record { uid = frame.uid; memo = frame.memo; heard = Answered frame.place a } → Going nodes moment root first t stack s0 s n0 n whole → Going nodes moment root first (turn.GoOn step) stack1 s0 s n0 n whole

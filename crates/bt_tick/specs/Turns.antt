@@ -14,7 +14,7 @@ use Rattle.bt_model.specs.declared.term.Kind.{Kind}
 use Rattle.bt_model.specs.declared.term.Kind.TheVariants.{Parallel, Switch, Leaf, ScriptNode, ScriptCondition, AlwaysSuccess, AlwaysFailure}
 use Rattle.bt_model.specs.declared.term.Term.{Term, out-Term}
 use Rattle.bt_model.specs.BuiltIns.{has_rule}
-use Rattle.bt_model.specs.Done.{Call, Done, State, behind, done, follow}
+use Rattle.bt_model.specs.Done.{Call, Done, State, following, done, follow}
 use Rattle.bt_model.specs.Moves.{Fits as FitsMoves, FitsStart, after, next_place, rest, visits_left}
 use Rattle.bt_model.specs.Sites.{View, children_of, placed, remembered}
 use Rattle.bt_model.specs.Sound.{Dated, Leaves, Sound, Sounds, held_at, is_held}
@@ -47,7 +47,7 @@ use Rattle.bt_tick.specs.Machine as turn
 pub record Comes {A M : Type 0} (nodes : List Node) (before after : Scene) (old new : List Note) (whole rest : Done A M) : Type 0 where
   pub told : List Note
   pub made : List Call
-  pub all : whole ≡ behind told made rest
+  pub all : whole ≡ following told made rest
   pub named : length made ≡ calls_named told
   pub notes : new ≡ old ++ told
   pub drivers : after.drivers ≡ roster_after nodes made before.drivers
@@ -227,8 +227,8 @@ abbrev pub child_of_waiting : Waiting → Term
 child_of_waiting w = slice_index_or (out-Term w.term).children w.frame.place w.term
 
 -- what a waiting visit still does after the visit of its child
-abbrev pub goes_behind : Waiting → Done Answer Memory → Done Answer Memory
-goes_behind w d =
+abbrev pub goes_following : Waiting → Done Answer Memory → Done Answer Memory
+goes_following w d =
     follow (placed w.frame.place (children_in w.term w.frame.uid w.kept) d)
     (λ ms1. remembered (kept_at w.kept w.frame.uid).status (kept_at w.kept w.frame.uid).memo ms1)
     (λ a ms1 s1. ruled_by w.term w.view w.frame.uid (kept_at w.kept w.frame.uid).status (kept_at w.kept w.frame.uid).memo
@@ -237,7 +237,7 @@ goes_behind w d =
 -- what all waiting visits still do, the topmost first
 abbrev pub resume : List Waiting → Done Answer Memory → Done Answer Memory
 resume [] d = d
-resume (w ∷ ws) d = resume ws (goes_behind w d)
+resume (w ∷ ws) d = resume ws (goes_following w d)
 
 -- what the visit of a child leaves, from the time when it was entered
 abbrev pub ChildLeaves : Waiting → Done Answer Memory → Type 0
@@ -247,7 +247,7 @@ ChildLeaves w d =
 
 abbrev pub AllLeave : List Waiting → Done Answer Memory → Type 0
 AllLeave [] d = Unit {0}
-AllLeave (w ∷ ws) d = ChildLeaves w d × AllLeave ws (goes_behind w d)
+AllLeave (w ∷ ws) d = ChildLeaves w d × AllLeave ws (goes_following w d)
 
 -- a visit waits for the term that stands at this uid
 pub record WaitsFor (nodes : List Node) (moment : ℕ) (s : Scene) (w : Waiting) (term : Term) (view : View) (uid : ℕ) : Type 0 where

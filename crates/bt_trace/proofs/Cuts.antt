@@ -19,7 +19,7 @@ use Rattle.bt_model.specs.declared.term.Tree.{Tree}
 use Rattle.bt_model.specs.declared.world.World.{World}
 use Rattle.bt_model.specs.Done.{Call}
 use Rattle.bt_model.specs.Drivers.{DriverState, after_call, driver_at, new_driver, roster_called}
-use Rattle.bt_model.specs.Run.{RunState, Runner, RunnerCall, Stepped, Trace, before_rest, finish, letting_go, quench_calls, reset_step, root_reset, root_view, runner_at, runner_calls, state_of, then_rest, told, with_runner}
+use Rattle.bt_model.specs.Run.{RunState, Runner, RunnerCall, Stepped, Trace, before_rest, finish, releases, quench_calls, reset_step, root_reset, root_view, runner_at, runner_calls, state_of, then_rest, told, with_runner}
 use Rattle.bt_model.specs.Sound.{begins, begun_calls}
 use Rattle.bt_laws.proofs.TermWork.{resets_make_none}
 use Rattle.bt_arena.specs.declared.block.Block.{Block}
@@ -56,19 +56,19 @@ none_begun runner (c ∷ calls) e = (halted_by c.phase (omega (arith, e)), none_
   halted_by phase.Start z = cc
   halted_by phase.Running z = cc
 
-letting_by : (uid : ℕ) (since : Option ℕ) (i : Instance) (is : List Instance) → i.since ≡ since → begun_calls (letting_go (uid + 1) is) ≡ 0 → begun_calls (letting_go uid (i ∷ is)) ≡ 0
-letting_by uid (Some t) i is e rest =
-    let more : 0 + begun_calls (letting_go (uid + 1) is) ≡ 0 = omega (arith, rest) in
-    ap (λ (o : Option ℕ). begun_calls (letting_go uid (record { since = o; completions = i.completions } ∷ is))) e ∙ more
-letting_by uid None i is e rest = ap (λ (o : Option ℕ). begun_calls (letting_go uid (record { since = o; completions = i.completions } ∷ is))) e ∙ rest
+releases_by : (uid : ℕ) (since : Option ℕ) (i : Instance) (is : List Instance) → i.since ≡ since → begun_calls (releases (uid + 1) is) ≡ 0 → begun_calls (releases uid (i ∷ is)) ≡ 0
+releases_by uid (Some t) i is e rest =
+    let more : 0 + begun_calls (releases (uid + 1) is) ≡ 0 = omega (arith, rest) in
+    ap (λ (o : Option ℕ). begun_calls (releases uid (record { since = o; completions = i.completions } ∷ is))) e ∙ more
+releases_by uid None i is e rest = ap (λ (o : Option ℕ). begun_calls (releases uid (record { since = o; completions = i.completions } ∷ is))) e ∙ rest
 
-letting_begins : (uid : ℕ) (is : List Instance) → begun_calls (letting_go uid is) ≡ 0
-letting_begins uid [] = refl
-letting_begins uid (i ∷ is) = letting_by uid i.since i is refl (letting_begins (uid + 1) is)
+releases_begin : (uid : ℕ) (is : List Instance) → begun_calls (releases uid is) ≡ 0
+releases_begin uid [] = refl
+releases_begin uid (i ∷ is) = releases_by uid i.since i is refl (releases_begin (uid + 1) is)
 
 quench_halts : (runner : ℕ) (rs : List Runner) → AreHalts (quench_calls runner rs)
 quench_halts runner [] = tt
-quench_halts runner (r ∷ rs) = halts_both (runner_calls runner (letting_go 0 r.instances)) (quench_calls (runner + 1) rs) (none_begun runner (letting_go 0 r.instances) (letting_begins 0 r.instances)) (quench_halts (runner + 1) rs)
+quench_halts runner (r ∷ rs) = halts_both (runner_calls runner (releases 0 r.instances)) (quench_calls (runner + 1) rs) (none_begun runner (releases 0 r.instances) (releases_begin 0 r.instances)) (quench_halts (runner + 1) rs)
 
 -- a finish halts alone
 told_halts : (answer : Result (Unit {0}) NodeFault) (h : Header) (tree : Tree) (runner : ℕ) (notes : List Note) (calls : List Call) (s after : RunState) → begun_calls calls ≡ 0 → AreHalts (told answer h tree runner notes calls s after).calls

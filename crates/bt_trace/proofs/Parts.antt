@@ -9,9 +9,9 @@ use Rattle.bt_model.specs.declared.world.Event.{Event}
 use Rattle.bt_model.specs.declared.world.World.{World}
 use Rattle.bt_model.specs.Drivers.{DriverState}
 use Rattle.bt_model.specs.Run.{RunnerCall, RunState, Trace}
-use Rattle.bt_outside.specs.Appending.{AppendedFront}
+use Rattle.bt_outside.specs.Appending.{AppendedPrefix}
 use Rattle.bt_outside.specs.Counts.{Rose}
-use Rattle.bt_outside.proofs.Appends.{AppendedFront-nothing}
+use Rattle.bt_outside.proofs.Appends.{AppendedPrefix-nothing}
 use Rattle.bt_text.specs.declared.stop.TextStop.{TextStop}
 use Rattle.bt_text.specs.declared.stop.TextStop.TheVariants as text_stop
 use Rattle.bt_arena.specs.declared.nodes.Node.{Node}
@@ -57,7 +57,7 @@ module _ (arenas : List (List Node)) (a b c : Side) (whole part rest : Trace) (p
   -- .. or a stop in it
   pub going_stop : WasStopped arenas b c part → WasStopped arenas a c whole
   going_stop q = record {
-    front = subst (λ (bs : List Block). AppendedFront a.watch.written c.watch.written (flat_map a.watch.text bs)) p.blocks (front_after a.watch b.watch c.watch p.told part.blocks p.shown q.front);
+    front = subst (λ (bs : List Block). AppendedPrefix a.watch.written c.watch.written (flat_map a.watch.text bs)) p.blocks (front_after a.watch b.watch c.watch p.told part.blocks p.shown q.front);
     cut = cut_after arenas arenas a.drivers b.drivers c.drivers whole part refl p.made p.calls p.drivers q.cut;
   }
 
@@ -72,7 +72,7 @@ module _ (arenas : List (List Node)) (a b c : Side) (whole part rest : Trace) (p
   -- the run was stopped here
   pub going_here : WasStopped arenas a b whole
   going_here = record {
-    front = subst (λ (bs : List Block). AppendedFront a.watch.written b.watch.written (flat_map a.watch.text bs)) p.blocks (front_of a.watch b.watch p.told part.blocks p.shown);
+    front = subst (λ (bs : List Block). AppendedPrefix a.watch.written b.watch.written (flat_map a.watch.text bs)) p.blocks (front_of a.watch b.watch p.told part.blocks p.shown);
     cut = cut_here arenas a.drivers b.drivers whole part p.made p.calls p.drivers;
   }
 
@@ -303,7 +303,7 @@ leaves_halted stopped arenas arenas1 a b drivers whole same p halts = record {
 -- nothing was made
 pub leaves_nothing : (ends : Result Ended TextStop) → IsErr ends → (arenas : List (List Node)) (a : Side) (whole : Trace) → Leaves ends arenas a a whole
 leaves_nothing (Ok ending) err arenas a whole = cc
-leaves_nothing (Err stopped) err arenas a whole = record { whole = tt; front = AppendedFront-nothing a.watch.written (flat_map a.watch.text whole.blocks); cut = cut_none arenas a.drivers whole }
+leaves_nothing (Err stopped) err arenas a whole = record { whole = tt; front = AppendedPrefix-nothing a.watch.written (flat_map a.watch.text whole.blocks); cut = cut_none arenas a.drivers whole }
 
 -- runs before their first event can go on
 pub begun : (of : Setup) (drivers : List DriverState) (runs : Runs) (u : Underway) → CanRun of drivers runs → u.runs ≡ runs → HaveRoom (arenas_of runs) u.block.notes → CanGoOn of drivers u

@@ -15,8 +15,8 @@ use Rattle.bt_model.specs.declared.world.World.{World}
 use Rattle.bt_model.specs.Done.{Call}
 use Rattle.bt_model.specs.Drivers.{DriverState, NothingHeld}
 use Rattle.bt_model.specs.Run.{RunState, Runner, Stepped, Trace, before_rest, reset_step, runner_at, step_by, then_rest, tick_step, told}
-use Rattle.bt_outside.specs.Appending.{AppendedFront}
-use Rattle.bt_outside.proofs.Appends.{AppendedFront-longer, AppendedFront-nothing}
+use Rattle.bt_outside.specs.Appending.{AppendedPrefix}
+use Rattle.bt_outside.proofs.Appends.{AppendedPrefix-longer, AppendedPrefix-nothing}
 use Rattle.bt_text.specs.declared.stop.TextStop.{TextStop}
 use Rattle.bt_text.specs.declared.stop.TextStop.TheVariants as text_stop
 use Rattle.bt_arena.specs.declared.block.Block.{Block}
@@ -60,9 +60,9 @@ module _ (arenas : List (List Node)) (old new : Side) (d : Stepped) (rest : RunS
 
 -- the text of a step's block, whether or not a fault ends the run there
 front_by : (text : Shown → List ℕ) (fault : Option RunFault) (d : Stepped) (rest : RunState → Trace) (a b : Option (List ℕ)) →
-    AppendedFront a b (text d.block) → AppendedFront a b (flat_map text (before_rest fault d rest).blocks)
-front_by text None d rest a b p = AppendedFront-longer a b (text d.block) (flat_map text (rest d.state).blocks) p
-front_by text (Some fault) d rest a b p = AppendedFront-longer a b (text d.block) [] p
+    AppendedPrefix a b (text d.block) → AppendedPrefix a b (flat_map text (before_rest fault d rest).blocks)
+front_by text None d rest a b p = AppendedPrefix-longer a b (text d.block) (flat_map text (rest d.state).blocks) p
+front_by text (Some fault) d rest a b p = AppendedPrefix-longer a b (text d.block) [] p
 
 module _ (of : Setup) (old new : Stage) (block : Block) (d : Stepped) (same : arenas_at new ≡ arenas_at old) where
   abbrev Ends : Result (Unit {0}) (Stop RunFault) → Type 0
@@ -77,8 +77,8 @@ module _ (of : Setup) (old new : Stage) (block : Block) (d : Stepped) (same : ar
   shown_as : Is → WasShown old.watch new.watch (seen block ∷ []) → WasShown old.watch new.watch (d.block ∷ [])
   shown_as is shown = subst (λ (x : Shown). WasShown old.watch new.watch (x ∷ [])) is.shown shown
 
-  front_as : Is → (rest : RunState → Trace) → AppendedFront old.watch.written new.watch.written (old.watch.text (seen block)) → AppendedFront old.watch.written new.watch.written (flat_map old.watch.text (then_rest d rest).blocks)
-  front_as is rest front = front_by old.watch.text d.fault d rest _ _ (subst (λ (x : Shown). AppendedFront old.watch.written new.watch.written (old.watch.text x)) is.shown front)
+  front_as : Is → (rest : RunState → Trace) → AppendedPrefix old.watch.written new.watch.written (old.watch.text (seen block)) → AppendedPrefix old.watch.written new.watch.written (flat_map old.watch.text (then_rest d rest).blocks)
+  front_as is rest front = front_by old.watch.text d.fault d rest _ _ (subst (λ (x : Shown). AppendedPrefix old.watch.written new.watch.written (old.watch.text x)) is.shown front)
 
   -- an event and its block
   pub event_goes : (made : Result (Unit {0}) (Stop RunFault)) (result : Result Ended TextStop) → Ends made → Shows made result old.watch new.watch (seen block) → (rest : RunState → Trace) →
@@ -93,7 +93,7 @@ module _ (of : Setup) (old new : Stage) (block : Block) (d : Stepped) (same : ar
   event_goes (Err stop.NoMemory) (Ok Done) ends shown rest = absurd shown
   event_goes (Err stop.NoMemory) (Ok Faulted) ends shown rest = absurd shown
   event_goes (Err stop.NoMemory) (Err text_stop.NoMemory) ends shown rest = record {
-    front = subst (λ (x : Watched). AppendedFront old.watch.written x.written (flat_map old.watch.text (then_rest d rest).blocks)) (sym shown) (AppendedFront-nothing old.watch.written _);
+    front = subst (λ (x : Watched). AppendedPrefix old.watch.written x.written (flat_map old.watch.text (then_rest d rest).blocks)) (sym shown) (AppendedPrefix-nothing old.watch.written _);
     cut = event_cut (Err stop.NoMemory) of.tree.term (arenas_at old) old.drivers new.drivers new.underway.runs same block d ends rest;
   }
   event_goes (Err stop.NoMemory) (Err text_stop.WriteFault) ends shown rest = absurd shown

@@ -4,8 +4,8 @@ use Rattle.std.specs.List.{flat_map}
 use Rattle.std.proofs.lemmas.Grind.{flat_map-append}
 use Rattle.bt_model.specs.declared.block.Block.{Block}
 use Rattle.bt_model.specs.declared.note.Note.{Note}
-use Rattle.bt_outside.specs.Appending.{Appended, AppendedFront}
-use Rattle.bt_outside.proofs.Appends.{Appended-nil, Appended-trans, AppendedFront-after, AppendedFront-longer, AppendedFront-whole}
+use Rattle.bt_outside.specs.Appending.{Appended, AppendedPrefix}
+use Rattle.bt_outside.proofs.Appends.{Appended-nil, Appended-trans, AppendedPrefix-after, AppendedPrefix-longer, AppendedPrefix-whole}
 use Rattle.bt_trace.specs.declared.counts.Counts.{Counts}
 use Rattle.bt_trace.specs.Counts.{counts_in, notes_in}
 use Rattle.bt_trace.specs.Watches.{Counted, WasShown, Watched}
@@ -37,14 +37,14 @@ module _ (a b c : Watched) (xs ys : List Block) (p : WasShown a b xs) where
   }
 
   -- some blocks, and then a prefix of the text of others
-  pub front_after : AppendedFront b.written c.written (flat_map b.text ys) → AppendedFront a.written c.written (flat_map a.text (xs ++ ys))
-  front_after q = subst (AppendedFront a.written c.written) text_both (AppendedFront-after a.written b.written c.written (flat_map a.text xs) (flat_map b.text ys) p.written q)
+  pub front_after : AppendedPrefix b.written c.written (flat_map b.text ys) → AppendedPrefix a.written c.written (flat_map a.text (xs ++ ys))
+  front_after q = subst (AppendedPrefix a.written c.written) text_both (AppendedPrefix-after a.written b.written c.written (flat_map a.text xs) (flat_map b.text ys) p.written q)
 
 -- the text of some blocks is a prefix of that of more
-pub front_of : (a b : Watched) (xs ys : List Block) → WasShown a b xs → AppendedFront a.written b.written (flat_map a.text (xs ++ ys))
+pub front_of : (a b : Watched) (xs ys : List Block) → WasShown a b xs → AppendedPrefix a.written b.written (flat_map a.text (xs ++ ys))
 front_of a b xs ys p =
-    subst (AppendedFront a.written b.written) (sym (flat_map-append a.text xs ys))
-    (AppendedFront-longer a.written b.written (flat_map a.text xs) (flat_map a.text ys) (AppendedFront-whole a.written b.written (flat_map a.text xs) p.written))
+    subst (AppendedPrefix a.written b.written) (sym (flat_map-append a.text xs ys))
+    (AppendedPrefix-longer a.written b.written (flat_map a.text xs) (flat_map a.text ys) (AppendedPrefix-whole a.written b.written (flat_map a.text xs) p.written))
 
-pub front_all : (a b : Watched) (xs : List Block) → WasShown a b xs → AppendedFront a.written b.written (flat_map a.text xs)
-front_all a b xs p = AppendedFront-whole a.written b.written (flat_map a.text xs) p.written
+pub front_all : (a b : Watched) (xs : List Block) → WasShown a b xs → AppendedPrefix a.written b.written (flat_map a.text xs)
+front_all a b xs p = AppendedPrefix-whole a.written b.written (flat_map a.text xs) p.written

@@ -10,9 +10,9 @@ use Rattle.bt_trace.specs.Traces.{CanAllCome}
 
 all_can_come : (world : World) (last : ℕ) (events : List Event) → All (IsValidEvent world.facts world.runners) events → IsNonDecreasingBy (λ (e : Event). e.at) events →
     ((k : ℕ) (d : Event) → k < length events → last ≤ (slice_index_or events k d).at) → CanAllCome world last events
-all_can_come world last [] valid order behind = tt
-all_can_come world last (e ∷ events) valid order behind = (
-  ((valid 0 e (omega arith)).1, behind 0 e (omega arith)),
+all_can_come world last [] valid order following = tt
+all_can_come world last (e ∷ events) valid order following = (
+  ((valid 0 e (omega arith)).1, following 0 e (omega arith)),
   all_can_come world e.at events (λ k d within. valid (suc k) d (omega (arith, within))) (λ i j d low within. order (suc i) (suc j) d (omega (arith, low)) (omega (arith, within))) (λ k d within. order 0 (suc k) d (omega arith) (omega (arith, within))),
 )
 

@@ -12,7 +12,7 @@ use Rattle.bt_model.specs.declared.world.World.{World}
 use Rattle.bt_model.specs.Drivers.{DriverState, NothingHeld}
 use Rattle.bt_model.specs.Run.{Runner, RunnerCall, RunState, Trace, finish, then_rest}
 use Rattle.bt_model.specs.Shapes.{is_running}
-use Rattle.bt_outside.specs.Appending.{AppendedFront}
+use Rattle.bt_outside.specs.Appending.{AppendedPrefix}
 use Rattle.bt_outside.specs.Moments.{Moments}
 use Rattle.bt_text.specs.declared.stop.TextStop.{TextStop}
 use Rattle.bt_text.specs.declared.stop.TextStop.TheVariants as text_stop
@@ -68,7 +68,7 @@ pub record Going (arenas : List (List Node)) (old new : Side) (whole rest : Trac
 
 -- a run was stopped: no more was written than its text, and the drivers had its first calls
 pub record WasStopped (arenas : List (List Node)) (old new : Side) (trace : Trace) : Type 0 where
-  pub front : AppendedFront old.watch.written new.watch.written (flat_map old.watch.text trace.blocks)
+  pub front : AppendedPrefix old.watch.written new.watch.written (flat_map old.watch.text trace.blocks)
   pub cut : IsCut arenas old.drivers new.drivers trace
 
 -- a part of a run goes on with its rest, or the run has ended in a fault, or it was stopped
@@ -103,8 +103,8 @@ Makes of result old new whole = MakesPart of result old new whole (λ rest. rest
 abbrev pub Shows : Result (Unit {0}) (Stop RunFault) → Result Ended TextStop → Watched → Watched → Block → Type 0
 Shows (Ok done) (Ok Done) old new block = WasShown old new (block ∷ [])
 Shows (Err (stop.Fault fault)) (Ok Faulted) old new block = WasShown old new (block ∷ [])
-Shows (Ok done) (Err stopped) old new block = AppendedFront old.written new.written (old.text block)
-Shows (Err (stop.Fault fault)) (Err stopped) old new block = AppendedFront old.written new.written (old.text block)
+Shows (Ok done) (Err stopped) old new block = AppendedPrefix old.written new.written (old.text block)
+Shows (Err (stop.Fault fault)) (Err stopped) old new block = AppendedPrefix old.written new.written (old.text block)
 Shows (Err stop.NoMemory) (Err text_stop.NoMemory) old new block = new ≡ old
 Shows _ _ old new block = ⊥
 

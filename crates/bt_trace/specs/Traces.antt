@@ -9,7 +9,7 @@ use Rattle.bt_model.specs.Drivers.{DriverState, NothingHeld}
 use Rattle.bt_model.specs.Run.{RunState, Trace, run_from}
 use Rattle.bt_model.specs.Trees.{IsValid}
 use Rattle.bt_model.specs.Worlds.{IsValidWorld}
-use Rattle.bt_outside.specs.Appending.{AppendedFront}
+use Rattle.bt_outside.specs.Appending.{AppendedPrefix}
 use Rattle.bt_text.specs.declared.stop.TextStop.{TextStop}
 use Rattle.bt_arena.specs.declared.nodes.Node.{Node}
 use Rattle.bt_loop.specs.declared.runs.Runs.{Runs}
@@ -78,7 +78,7 @@ pub record IsRun (arenas : List (List Node)) (old new : Side) (ending : Ended) (
 -- of its blocks; and where the run was stopped, the drivers had its first calls.
 pub record Leaves (result : Result Ended TextStop) (arenas : List (List Node)) (old new : Side) (trace : Trace) : Type 0 where
   pub whole : IfOk result (λ ending. IsRun arenas old new ending trace)
-  pub front : AppendedFront old.watch.written new.watch.written (flat_map old.watch.text trace.blocks)
+  pub front : AppendedPrefix old.watch.written new.watch.written (flat_map old.watch.text trace.blocks)
   pub cut : OnErr result (IsCut arenas old.drivers new.drivers trace)
 
 -- the same drivers in the same places, of which none holds anything

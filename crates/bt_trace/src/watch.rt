@@ -1,5 +1,5 @@
 ghost use Rattle.std.specs.Prelude.{◌∷◌, [], OnOk};
-ghost use Rattle.bt_outside.specs.Appending.{AppendedFront};
+ghost use Rattle.bt_outside.specs.Appending.{AppendedPrefix};
 ghost use Rattle.bt_arena.specs.Blocks.{seen};
 ghost use Rattle.bt_trace.specs.Watches.{StaysWatcher, WasShown, Watched};
 
@@ -17,6 +17,6 @@ pub trait Watch {
     /// call, and `TextStop::NoMemory` where it is out of memory.
     fn show(&mut self, alloc: Global, block: &Block) -> Result<(), TextStop>
         ensures shown { OnOk result (WasShown (state self.old) (state self.new) (seen block.now ∷ [])) }
-        ensures front { AppendedFront (state self.old).written (state self.new).written ((state self.old).text (seen block.now)) }
+        ensures prefix { AppendedPrefix (state self.old).written (state self.new).written ((state self.old).text (seen block.now)) }
         ensures watcher { StaysWatcher result (state self.old) (state self.new) };
 }

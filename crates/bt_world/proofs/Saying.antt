@@ -9,7 +9,7 @@ use Rattle.bt_script.specs.declared.syntax.Expr.{Expr}
 use Rattle.bt_model.specs.declared.world.Row.{Row}
 use Rattle.bt_model.specs.declared.world.RowSort.{RowSort}
 use Rattle.bt_model.specs.declared.world_fault.WorldKind.{WorldKind}
-use Rattle.bt_model.specs.WorldFile.{Line, TimedLine, ReplayLine, AfterForm, AfterLine, Reading, behind, ends_after, is_ms, outcomes_in, replay_line, timed_line, with_action, word, ReadsNumeric, SaysOf, closed, ranged, with_head}
+use Rattle.bt_model.specs.WorldFile.{Line, TimedLine, ReplayLine, AfterForm, AfterLine, Reading, following, ends_after, is_ms, outcomes_in, replay_line, timed_line, with_action, word, ReadsNumeric, SaysOf, closed, ranged, with_head}
 use Rattle.bt_model.specs.Numbers.{is_canonical, number_in}
 use Rattle.bt_model.specs.WorldFile as file
 use Rattle.bt_lines.specs.Ranges.{Passes}
@@ -68,16 +68,16 @@ lasts result left r now line z ms head sort form after is said_line passes =
     (λ said k. subst (λ (o : Option Line). AfterForm r o said) (sym said_line)
     (after z said (k ∙ ap (λ (n : ℕ). with_head head with_action (sort n) now) passes.1 ∙ ap (λ (q : Reading). with_head head with_action (sort (nat_abs z)) q) is ∙ ranged_is (is_ms z) (with_head head with_action (sort (nat_abs z)) (closed r)) passes.0)))
 
-ends_is : (text rest : List ℕ) (n : ℕ) → rest ≡ behind n text → (length rest == 0) ≡ true → ends_after n text ≡ true
+ends_is : (text rest : List ℕ) (n : ℕ) → rest ≡ following n text → (length rest == 0) ≡ true → ends_after n text ≡ true
 ends_is text rest n is h = ap (λ (bs : List ℕ). length bs == 0) (sym is) ∙ h
 
-pub timed_is : (text w rest : List ℕ) (head : file.Head) → w ≡ word 0 text → rest ≡ behind 1 text → (length rest == 0) ≡ true → is_canonical w ≡ true → timed_line text head ≡ Some (TimedLine head (signed_digits_value 10 w))
+pub timed_is : (text w rest : List ℕ) (head : file.Head) → w ≡ word 0 text → rest ≡ following 1 text → (length rest == 0) ≡ true → is_canonical w ≡ true → timed_line text head ≡ Some (TimedLine head (signed_digits_value 10 w))
 timed_is text w rest head is is_rest none canonical =
     ap (λ (t : Bool). if t then option_map (TimedLine head) (number_in (word 0 text)) else None) (ends_is text rest 1 is_rest none)
     ∙ ap (option_map (TimedLine head)) (number_is w text is canonical)
 
 pub replay_is :
-    (text w letters rest : List ℕ) (head : file.Head) → w ≡ word 0 text → letters ≡ word 1 text → rest ≡ behind 2 text → (length rest == 0) ≡ true → is_canonical w ≡ true →
+    (text w letters rest : List ℕ) (head : file.Head) → w ≡ word 0 text → letters ≡ word 1 text → rest ≡ following 2 text → (length rest == 0) ≡ true → is_canonical w ≡ true →
     (nat_lt 0 (length letters) && nat_le (length letters) 64 && list_all (λ b. b == 83 || b == 70) letters) ≡ true →
     replay_line text head ≡ Some (ReplayLine head (signed_digits_value 10 w) (map (λ b. b == 83) letters))
 replay_is text w letters rest head is is_letters is_rest none canonical all =

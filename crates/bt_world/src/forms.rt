@@ -8,7 +8,7 @@ use crate::additions::{read_effect, read_fails, read_need, read_out};
 use crate::events::{
     read_change, read_fact, read_goal, read_halt, read_moment, read_runners, read_tick,
 };
-use bt_lines::{content, cut, is, is_line, is_read_over};
+use bt_lines::{content, cut, is, is_line, is_ignored};
 use bt_model::WorldKind;
 use bt_script::Stop;
 use bt_world_draft::Reading;
@@ -20,7 +20,7 @@ pub fn read_text(alloc: Global, reading: &mut Reading, text: &[u8]) -> Result<()
     ensures { Leaves result reading.new (AfterText reading.old text.now) }
 {
     let text = content(text);
-    if is_read_over(text) {
+    if is_ignored(text) {
         return Ok(());
     }
     if !is_line(text) {

@@ -31,7 +31,7 @@ fn world_of(alloc: Global, lines: &[&[u8]]) -> Result<World, Stop<WorldFault>>
     ensures { Gives result (LinesRead (map (λ text. text.now) lines.now)) }
 {
     match lines {
-        [first, rest @ ..] if is(trimmed(first), "bt-world 1") => world_behind(alloc, rest),
+        [first, rest @ ..] if is(trimmed(first), "bt-world 1") => world_following(alloc, rest),
         _ => Err(Stop::Fault(WorldFault {
             line: 1,
             kind: WorldKind::Header,
@@ -40,7 +40,7 @@ fn world_of(alloc: Global, lines: &[&[u8]]) -> Result<World, Stop<WorldFault>>
 }
 
 /// The world of the lines after the header, or the first faulty line.
-fn world_behind(alloc: Global, lines: &[&[u8]]) -> Result<World, Stop<WorldFault>>
+fn world_following(alloc: Global, lines: &[&[u8]]) -> Result<World, Stop<WorldFault>>
     requires { length lines.now ≤ 1048577 }
     ensures { Gives result (LinesMake (map (λ text. text.now) lines.now)) }
 {

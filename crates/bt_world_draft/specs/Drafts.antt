@@ -1,6 +1,7 @@
 -- A row that is not finished.
 use Rattle.std.specs.Prelude.{◌≡◌, ◌<◌, ◌||◌, ℕ, Bool, true, false, nat_lt, List, [], length, bytes_eq, Option, IfSome, Result, Ok, Err}
 use Rattle.std.specs.List.{list_any}
+use Rattle.bt_model.specs.Limits.{most_ports, most_rows}
 use Rattle.bt_model.specs.Worlds.{ids_of_rows}
 use Rattle.bt_script.specs.declared.stop.Stop.{Stop}
 use Rattle.bt_script.specs.declared.stop.Stop.TheVariants as stop
@@ -18,14 +19,14 @@ row_of d = record { id = d.id; ports = d.ports; sort = d.sort; needs = d.needs.i
 -- there is room for the row that is open
 pub record HasRoom (rows : List Row) (draft : Option Draft) : Type 0 where
   pub free : IfSome draft (λ d. list_any (bytes_eq d.id) (ids_of_rows rows) ≡ false)
-  pub room : IfSome draft (λ d. length rows < 1024)
+  pub room : IfSome draft (λ d. length rows < most_rows)
 
 -- the ID and the ports of a row whose names are known and whose ports are not too many, or else the fault
 abbrev pub Allowed : Result (List ℕ × List (List ℕ)) (Stop WorldKind) → List ℕ → List (List ℕ) → RowSort → Reading → Type 0
-Allowed (Ok head) id ports sort r = (head.0 ≡ id) × (head.1 ≡ ports) × (knows_sort ports r.facts sort ≡ true) × (nat_lt 8 (length ports) ≡ false)
+Allowed (Ok head) id ports sort r = (head.0 ≡ id) × (head.1 ≡ ports) × (knows_sort ports r.facts sort ≡ true) × (nat_lt most_ports (length ports) ≡ false)
 Allowed (Err stop.NoMemory) id ports sort r = Unit {0}
 Allowed (Err (stop.Fault NoName)) id ports sort r = knows_sort ports r.facts sort ≡ false
-Allowed (Err (stop.Fault TooMany)) id ports sort r = (knows_sort ports r.facts sort ≡ true) × (nat_lt 8 (length ports) ≡ true)
+Allowed (Err (stop.Fault TooMany)) id ports sort r = (knows_sort ports r.facts sort ≡ true) × (nat_lt most_ports (length ports) ≡ true)
 Allowed (Err (stop.Fault kind)) id ports sort r = ⊥
 
 -- whether the ID is taken, or one of the ports stands twice

@@ -6,7 +6,7 @@ use Rattle.bt_script.proofs.Exclusive.{one-expr}
 use Rattle.bt_model.specs.declared.world.World.{World}
 use Rattle.bt_model.specs.declared.world_fault.WorldFault.{WorldFault}
 use Rattle.bt_model.specs.declared.world_fault.WorldKind.{WorldKind}
-use Rattle.bt_model.specs.WorldFile.{Line, FactLine, IsLine, WhenLine, TimedLine, ReplayLine, GateLine, FailsLine, NeedsLine, SetsLine, OutLine, GoalLine, RunnersLine, AtLine, TickLine, HaltLine, SetLine, AfterForm, AfterLine, AfterLines, AfterText, GoesOn, LinesMake, LinesRead, Reading, ReadsNumeric, ReadsWorld, SaysOf, by_expr, content, is_read_over, line_in, lines_in, no_header, nothing_read, without_return, world_after}
+use Rattle.bt_model.specs.WorldFile.{Line, FactLine, IsLine, WhenLine, TimedLine, ReplayLine, GateLine, FailsLine, NeedsLine, SetsLine, OutLine, GoalLine, RunnersLine, AtLine, TickLine, HaltLine, SetLine, AfterForm, AfterLine, AfterLines, AfterText, GoesOn, LinesMake, LinesRead, Reading, ReadsNumeric, ReadsWorld, SaysOf, by_expr, content, is_ignored, line_in, lines_in, no_header, nothing_read, without_return, world_after}
 
 one_numeric : (text : List ℕ) (a b : Option Expr) → ReadsNumeric text a → ReadsNumeric text b → a ≡ b
 one_numeric text None None h k = refl
@@ -40,7 +40,7 @@ one_form r None a b h k = h ∙ sym k
 one_form r (Some line) a b h k = one_line r line a b h k
 
 one_text : (r : Reading) (text : List ℕ) (a b : Result Reading WorldKind) → AfterText r text a → AfterText r text b → a ≡ b
-one_text r text a b = by (is_read_over (content text))
+one_text r text a b = by (is_ignored (content text))
   where
     by : (t : Bool) → MatchBool t (a ≡ Ok r) (AfterForm r (line_in (content text)) a) → MatchBool t (b ≡ Ok r) (AfterForm r (line_in (content text)) b) → a ≡ b
     by true h k = h ∙ sym k

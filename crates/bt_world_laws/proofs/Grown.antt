@@ -22,18 +22,18 @@ use Rattle.bt_model.specs.Numbers.{is_int}
 
 -- ---- Lists
 
-pub all-front : {X : Type 0} (P : X → Type 0) (xs ys : List X) → All P (xs ++ ys) → All P xs
-all-front P [] ys h = All-nil P
-all-front P (x ∷ xs) ys h = All-cons P x xs (All-head P x (xs ++ ys) h) (all-front P xs ys (All-tail P x (xs ++ ys) h))
+pub all-prefix : {X : Type 0} (P : X → Type 0) (xs ys : List X) → All P (xs ++ ys) → All P xs
+all-prefix P [] ys h = All-nil P
+all-prefix P (x ∷ xs) ys h = All-cons P x xs (All-head P x (xs ++ ys) h) (all-prefix P xs ys (All-tail P x (xs ++ ys) h))
 
 pub all-last : {X : Type 0} (P : X → Type 0) (xs : List X) (x : X) → All P (xs ++ x ∷ []) → P x
 all-last P [] x h = All-head P x [] h
 all-last P (y ∷ ys) x h = all-last P ys x (All-tail P y (ys ++ x ∷ []) h)
 
-pub get-front : {X : Type 0} (xs ys : List X) (n : ℕ) (x : X) → slice_get xs n ≡ Some x → slice_get (xs ++ ys) n ≡ Some x
-get-front [] ys n x h = absurd (cc)
-get-front (y ∷ xs) ys zero x h = h
-get-front (y ∷ xs) ys (suc n) x h = get-front xs ys n x h
+pub get-prefix : {X : Type 0} (xs ys : List X) (n : ℕ) (x : X) → slice_get xs n ≡ Some x → slice_get (xs ++ ys) n ≡ Some x
+get-prefix [] ys n x h = absurd (cc)
+get-prefix (y ∷ xs) ys zero x h = h
+get-prefix (y ∷ xs) ys (suc n) x h = get-prefix xs ys n x h
 
 pub names-push : (most : ℕ) (names : List (List ℕ)) (name : List ℕ) → AreNames most names → is_name name ≡ true → list_any (bytes_eq name) names ≡ false → length names < most → AreNames most (names ++ name ∷ [])
 names-push most names name h named free room = record {
@@ -142,7 +142,7 @@ row_among facts rows others row kept h = record {
 pub kept_more : (rows : List Row) (row : Row) → Kept rows (rows ++ row ∷ [])
 kept_more rows row n h =
     subst (λ (bs : List Bool). slice_get bs n ≡ Some true) (sym (map-append (λ r. is_comparison r.sort) rows (row ∷ [])))
-    (get-front (comparisons rows) (is_comparison row.sort ∷ []) n true h)
+    (get-prefix (comparisons rows) (is_comparison row.sort ∷ []) n true h)
 
 kept_last : (rows : List Row) (old new : Row) → is_comparison old.sort ≡ is_comparison new.sort → Kept (rows ++ old ∷ []) (rows ++ new ∷ [])
 kept_last rows old new same n h =
@@ -184,7 +184,7 @@ world_with_last w rows old new is h id same valid =
     with_rows (record w { rows = before }) all given
     (subst (AreNames 1024) (map-append (λ r. r.id) rows (old ∷ []) ∙ ap (λ (n : List ℕ). ids_of_rows rows ++ n ∷ []) (sym id) ∙ sym (map-append (λ r. r.id) rows (new ∷ []))) given.ids)
     (All-push (IsValidRow w.facts all) rows new
-    (All-weaker (IsValidRow w.facts before) (IsValidRow w.facts all) (λ r. row_among w.facts before all r kept) rows (all-front (IsValidRow w.facts before) rows (old ∷ []) given.rows))
+    (All-weaker (IsValidRow w.facts before) (IsValidRow w.facts all) (λ r. row_among w.facts before all r kept) rows (all-prefix (IsValidRow w.facts before) rows (old ∷ []) given.rows))
     (row_among w.facts before all new kept (valid (all-last (IsValidRow w.facts before) rows old given.rows))))
     kept
 

@@ -16,7 +16,7 @@ use Rattle.bt_model.specs.declared.world_fault.WorldFault.{WorldFault}
 use Rattle.bt_model.specs.declared.world_fault.WorldKind.{WorldKind}
 use Rattle.bt_model.specs.Worlds.{IsComparisonIn, IsValidEvent, IsValidRow, IsValidWorld}
 use Rattle.bt_model.specs.Numbers.{in_range, is_int}
-use Rattle.bt_model.specs.WorldFile.{Line, FactLine, IsLine, WhenLine, TimedLine, ReplayLine, GateLine, FailsLine, NeedsLine, SetsLine, OutLine, GoalLine, RunnersLine, AtLine, TickLine, HaltLine, SetLine, AfterForm, AfterLine, AfterLines, AfterText, GoesOn, LinesMake, LinesRead, Reading, ReadsNumeric, ReadsWorld, SaysOf, by_expr, closed, comparison_number, content, fact_number, is_ms, is_read_over, is_runner, line_in, lines_in, no_header, nothing_read, plain_row, row_with_effect, row_with_fails, row_with_need, row_with_out, runners_of, with_action, with_row, without_return, world_after, world_of}
+use Rattle.bt_model.specs.WorldFile.{Line, FactLine, IsLine, WhenLine, TimedLine, ReplayLine, GateLine, FailsLine, NeedsLine, SetsLine, OutLine, GoalLine, RunnersLine, AtLine, TickLine, HaltLine, SetLine, AfterForm, AfterLine, AfterLines, AfterText, GoesOn, LinesMake, LinesRead, Reading, ReadsNumeric, ReadsWorld, SaysOf, by_expr, closed, comparison_number, content, fact_number, is_ms, is_ignored, is_runner, line_in, lines_in, no_header, nothing_read, plain_row, row_with_effect, row_with_fails, row_with_need, row_with_out, runners_of, with_action, with_row, without_return, world_after, world_of}
 use Rattle.bt_world_laws.proofs.WellFormed.{AreWell, WellFormed, line_well}
 use Rattle.bt_world_laws.proofs.Grown.{kept_more}
 use Rattle.bt_world_laws.proofs.Sound.{Sound, Stays, comparison_there, fact_there, ms_most, no_names, no_numbers, runner_within, sound_closed, stays_event, stays_fact, stays_goal, stays_moment, stays_numbered, stays_placed, stays_ranged, stays_runners, valid_expr}
@@ -81,7 +81,7 @@ stays_form r None said w h k = subst Stays (sym k) tt
 stays_form r (Some line) said w h k = stays_line r line said w h k
 
 stays_text : (r : Reading) (text : List ℕ) (said : Result Reading WorldKind) → Sound r → AfterText r text said → Stays said
-stays_text r text said h = by (is_read_over (content text))
+stays_text r text said h = by (is_ignored (content text))
   where
     by : (b : Bool) → MatchBool b (said ≡ Ok r) (AfterForm r (line_in (content text)) said) → Stays said
     by true k = subst Stays (sym k) h

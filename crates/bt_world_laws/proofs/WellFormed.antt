@@ -8,7 +8,7 @@ use Rattle.bt_script.proofs.Bools.{both}
 use Rattle.bt_script.specs.declared.syntax.Cmp.{Cmp}
 use Rattle.bt_model.specs.declared.world.How.{How}
 use Rattle.bt_model.specs.Worlds.{is_name}
-use Rattle.bt_model.specs.WorldFile.{Line, FactLine, IsLine, WhenLine, TimedLine, ReplayLine, GateLine, FailsLine, NeedsLine, SetsLine, OutLine, GoalLine, RunnersLine, AtLine, TickLine, HaltLine, SetLine, Head, head_with, head_of, head_in, comparison_in, outcomes_in, name_line, number_line, named_number, how_in, sets_line, out_line, is_line, condition_line, timed_line, replay_line, action_line, event_line, line_by, line_in, word, behind, ends_after, is_line_byte}
+use Rattle.bt_model.specs.WorldFile.{Line, FactLine, IsLine, WhenLine, TimedLine, ReplayLine, GateLine, FailsLine, NeedsLine, SetsLine, OutLine, GoalLine, RunnersLine, AtLine, TickLine, HaltLine, SetLine, Head, head_with, head_of, head_in, comparison_in, outcomes_in, name_line, number_line, named_number, how_in, sets_line, out_line, is_line, condition_line, timed_line, replay_line, action_line, event_line, line_by, line_in, word, following, ends_after, is_line_byte}
 use Rattle.bt_model.specs.Numbers.{number_in}
 
 pub record NamedHead (head : Head) : Type 0 where
@@ -100,7 +100,7 @@ sets_well text =
 
 out_well : (text : List ℕ) → AreWell WellFormed (out_line text)
 out_well text =
-    pick WellFormed (is_name (word 0 text) && bytes_eq (word 1 text) (codes "=")) (Some (OutLine (word 0 text) (behind 2 text))) None
+    pick WellFormed (is_name (word 0 text) && bytes_eq (word 1 text) (codes "=")) (Some (OutLine (word 0 text) (following 2 text))) None
     (λ k. (both (is_name (word 0 text)) (bytes_eq (word 1 text) (codes "=")) k).0) tt
 
 is_well : (id text : List ℕ) → AreWell WellFormed (is_line id text)
@@ -118,9 +118,9 @@ is_well id text =
 
 condition_well : (text : List ℕ) → AreWell WellFormed (condition_line text)
 condition_well text =
-    pick WellFormed (bytes_eq (word 1 text) (codes "is")) (is_line (word 0 text) (behind 2 text)) _ (λ k. is_well (word 0 text) (behind 2 text))
-    (pick WellFormed (bytes_eq (word 1 text) (codes "when")) (option_map (λ head. WhenLine head (behind 2 text)) (head_in (word 0 text))) None
-    (λ k. mapped_by NamedHead WellFormed (λ head. WhenLine head (behind 2 text)) (head_in (word 0 text)) (head_well (word 0 text)) (λ head h. h)) tt)
+    pick WellFormed (bytes_eq (word 1 text) (codes "is")) (is_line (word 0 text) (following 2 text)) _ (λ k. is_well (word 0 text) (following 2 text))
+    (pick WellFormed (bytes_eq (word 1 text) (codes "when")) (option_map (λ head. WhenLine head (following 2 text)) (head_in (word 0 text))) None
+    (λ k. mapped_by NamedHead WellFormed (λ head. WhenLine head (following 2 text)) (head_in (word 0 text)) (head_well (word 0 text)) (λ head h. h)) tt)
 
 replay_well : (text : List ℕ) (head : Head) → NamedHead head → AreWell WellFormed (replay_line text head)
 replay_well text head h =
@@ -134,12 +134,12 @@ replay_well text head h =
 
 action_well : (text : List ℕ) → AreWell WellFormed (action_line text)
 action_well text =
-    pick WellFormed (bytes_eq (word 1 text) (codes "timed")) (option_and_then (timed_line (behind 2 text)) (head_in (word 0 text))) _
-    (λ k. chained NamedHead WellFormed (timed_line (behind 2 text)) (head_in (word 0 text)) (head_well (word 0 text)) (λ head h. number_well (TimedLine head) (behind 2 text) (λ z. h)))
-    (pick WellFormed (bytes_eq (word 1 text) (codes "replay")) (option_and_then (replay_line (behind 2 text)) (head_in (word 0 text))) _
-    (λ k. chained NamedHead WellFormed (replay_line (behind 2 text)) (head_in (word 0 text)) (head_well (word 0 text)) (λ head h. replay_well (behind 2 text) head h))
-    (pick WellFormed (bytes_eq (word 1 text) (codes "gate")) (option_map (λ head. GateLine head (behind 2 text)) (head_in (word 0 text))) None
-    (λ k. mapped_by NamedHead WellFormed (λ head. GateLine head (behind 2 text)) (head_in (word 0 text)) (head_well (word 0 text)) (λ head h. h)) tt))
+    pick WellFormed (bytes_eq (word 1 text) (codes "timed")) (option_and_then (timed_line (following 2 text)) (head_in (word 0 text))) _
+    (λ k. chained NamedHead WellFormed (timed_line (following 2 text)) (head_in (word 0 text)) (head_well (word 0 text)) (λ head h. number_well (TimedLine head) (following 2 text) (λ z. h)))
+    (pick WellFormed (bytes_eq (word 1 text) (codes "replay")) (option_and_then (replay_line (following 2 text)) (head_in (word 0 text))) _
+    (λ k. chained NamedHead WellFormed (replay_line (following 2 text)) (head_in (word 0 text)) (head_well (word 0 text)) (λ head h. replay_well (following 2 text) head h))
+    (pick WellFormed (bytes_eq (word 1 text) (codes "gate")) (option_map (λ head. GateLine head (following 2 text)) (head_in (word 0 text))) None
+    (λ k. mapped_by NamedHead WellFormed (λ head. GateLine head (following 2 text)) (head_in (word 0 text)) (head_well (word 0 text)) (λ head h. h)) tt))
 
 event_well : (kind text : List ℕ) → AreWell WellFormed (event_line kind text)
 event_well kind text =
@@ -162,4 +162,4 @@ by_well kind text =
 
 -- what a line says is well formed
 pub line_well : (text : List ℕ) → AreWell WellFormed (line_in text)
-line_well text = pick WellFormed (list_all is_line_byte text) (line_by (word 0 text) (behind 1 text)) None (λ k. by_well (word 0 text) (behind 1 text)) tt
+line_well text = pick WellFormed (list_all is_line_byte text) (line_by (word 0 text) (following 1 text)) None (λ k. by_well (word 0 text) (following 1 text)) tt

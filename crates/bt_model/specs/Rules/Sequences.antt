@@ -6,7 +6,7 @@ use Rattle.bt_model.specs.declared.moves.Span.TheVariants.{From, AllBut}
 use Rattle.bt_model.specs.declared.status.Answer.{Answer}
 use Rattle.bt_model.specs.declared.status.Answer.TheVariants.{Running, Success, Failure, Skipped}
 use Rattle.bt_model.specs.declared.status.RoundEnd.{RoundEnd}
-use Rattle.bt_model.specs.declared.status.RoundEnd.TheVariants.{AtChild, BehindLast}
+use Rattle.bt_model.specs.declared.status.RoundEnd.TheVariants.{AtChild, AfterLast}
 use Rattle.bt_model.specs.Rules.Answers.{same_answer, is_seen}
 use Rattle.bt_model.specs.Steps.{Rule, keep, over, reset, visit}
 
@@ -24,7 +24,7 @@ round_after goes ends place seen others a =
 -- a round of the children that are left, of which the first has this place; `seen` says whether a child
 -- has answered other than SKIPPED, and `ends` what follows the round
 abbrev pub round : Answer → (RoundEnd → Rule) → ℕ → ℕ → Bool → Rule
-round goes ends zero place seen = ends (BehindLast seen)
+round goes ends zero place seen = ends (AfterLast seen)
 round goes ends (suc left) place seen =
     visit place (λ a. round_after goes ends place seen (λ b. round goes ends left (place + 1) b) a)
 
@@ -34,8 +34,8 @@ round goes ends (suc left) place seen =
 abbrev pub sequence_end : Answer → RoundEnd → Rule
 sequence_end goes (AtChild place Running) = keep Running (Index place true)
 sequence_end goes (AtChild place a) = over a
-sequence_end goes (BehindLast true) = over goes
-sequence_end goes (BehindLast false) = over Skipped
+sequence_end goes (AfterLast true) = over goes
+sequence_end goes (AfterLast false) = over Skipped
 
 -- SequenceWithMemory: on FAILURE only the children from the index on are reset, and the index is kept for
 -- the next start

@@ -106,5 +106,5 @@ lay_terms-loop-term-preserved g t c =
       uids = uids_more c.term-item.result (drop (i + 1) c.args.terms.now) (drop i c.args.terms.now) c.loop-term.uids.items c.push.new.self.items (length c.loop-term.nodes.items) c.in_ok-narrow.field-0 (length c.lay_term.new.nodes.items)
           c.in_ok-push.ensures.items (c.in_ok-narrow.ensures ∙ omega (arith, c.len.ensures)) far here
           ∙ c.loop-term.invariant.uids;
-      places = laid_length laid.added c.loop-term.next c.lay_term.new.next laid.behind ∙ c.loop-term.invariant.places;
+      places = laid_length laid.added c.loop-term.next c.lay_term.new.next laid.following ∙ c.loop-term.invariant.places;
     }

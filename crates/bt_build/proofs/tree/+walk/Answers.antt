@@ -7,7 +7,7 @@ use Rattle.bt_build.specs.declared.fault.BuildFault.{BuildFault}
 use Rattle.bt_build.specs.declared.tree.Numbers.{Numbers}
 use Rattle.bt_build.specs.Reads.{node_of, nodes_by, read_node}
 use Rattle.bt_build.specs.Seen.{file_seen, ids_seen}
-use Rattle.bt_build.proofs.Nodes.{behind_more, behind_fault}
+use Rattle.bt_build.proofs.Nodes.{following_more, after_fault}
 use Rattle.bt_build.proofs.Walk.{passed, read_some, node_plain, node_opened, node_fault}
 use Rattle.bt_build.proofs.tree.+walk.Goals as goal
 
@@ -57,7 +57,7 @@ nodes_by-loop-element-preserved t c =
     let below = read_node (file_seen c.args.file.now) c.args.left in
     let opened = ids_seen c.args.opened.now in
     let within : c.loop-element.element-index < length c.args.elements.now = omega arith in
-    let more = behind_more below opened c.args.elements.now c.loop-element.element-index c.element-item.result c.loop-element.so_far c.in_ok-term.next c.loop-element.terms.items c.in_ok-term.term within c.element-item.is c.in_ok-term.ensures in
+    let more = following_more below opened c.args.elements.now c.loop-element.element-index c.element-item.result c.loop-element.so_far c.in_ok-term.next c.loop-element.terms.items c.in_ok-term.term within c.element-item.is c.in_ok-term.ensures in
     rw c.in_ok-push.ensures.items (sym more ∙ c.loop-element.invariant)
 
 pub nodes_by-returns-in_err-term : goal.nodes_by-returns-in_err-term
@@ -70,4 +70,4 @@ nodes_by-returns-in_err-term t c =
     (below c.element-item.result opened c.loop-element.so_far)
     (nodes_by below opened c.args.elements.now c.args.numbers)
     c.in_err-term.ensures
-    (λ f h. sym c.loop-element.invariant ∙ behind_fault below opened c.args.elements.now c.loop-element.element-index c.element-item.result c.loop-element.so_far c.loop-element.terms.items f within c.element-item.is h))
+    (λ f h. sym c.loop-element.invariant ∙ after_fault below opened c.args.elements.now c.loop-element.element-index c.element-item.result c.loop-element.so_far c.loop-element.terms.items f within c.element-item.is h))

@@ -1,12 +1,12 @@
 use Rattle.std.proofs.Common.{◌≡◌, ◌+◌, ◌*◌, drop}
 use Rattle.bt_build.specs.Reads.{nodes_by, read_node}
 use Rattle.bt_build.specs.Seen.{file_seen, ids_seen}
-use Rattle.bt_build.proofs.Nodes.{behind}
+use Rattle.bt_build.proofs.Nodes.{following}
 use Rattle.bt_build.proofs.tree.+walk.Given as goal
 
 abbrev pub invariant-nodes_by-loop-element : goal.invariant-nodes_by-loop-element
 invariant-nodes_by-loop-element l =
-    behind l.terms.items (nodes_by (read_node (file_seen l.file) l.left) (ids_seen l.opened) (drop l.element-index l.elements) l.so_far)
+    following l.terms.items (nodes_by (read_node (file_seen l.file) l.left) (ids_seen l.opened) (drop l.element-index l.elements) l.so_far)
     ≡ nodes_by (read_node (file_seen l.file) l.left) (ids_seen l.opened) l.elements l.fn.numbers
 
 abbrev pub decreases-read_node : goal.decreases-read_node

@@ -1,7 +1,7 @@
 use Rattle.std.proofs.Common.{◌≡◌, ℕ, List, true, take, ap, sym, ◌∙◌, subst}
 use Rattle.std.specs.Char.{is_digit}
 use Rattle.std.specs.List.{list_all, prefix_len}
-use Rattle.bt_elements.proofs.Fronts.{taken}
+use Rattle.bt_elements.proofs.Prefixes.{taken}
 use Rattle.bt_elements.proofs.reference.numeric.Goals as goal
 
 pub numbered-requires-clause-digits : goal.numbered-requires-clause-digits

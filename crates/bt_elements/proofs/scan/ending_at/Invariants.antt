@@ -1,10 +1,10 @@
 use Rattle.std.proofs.Common.{◌≡◌, ◌≤◌, length}
-use Rattle.bt_elements.specs.Reading.{behind_first}
+use Rattle.bt_elements.specs.Reading.{following_first}
 use Rattle.bt_elements.proofs.scan.ending_at.Given as goal
 
 abbrev pub invariant-body : goal.invariant-body
 invariant-body l = record {
-  read : behind_first l.ending l.rest ≡ behind_first l.ending l.bytes;
+  read : following_first l.ending l.rest ≡ following_first l.ending l.bytes;
   within : length l.rest ≤ length l.bytes;
 }
 

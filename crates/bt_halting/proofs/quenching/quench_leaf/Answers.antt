@@ -6,7 +6,7 @@ use Rattle.bt_arena.specs.declared.nodes.ReadyLeaf.{ReadyLeaf}
 use Rattle.bt_arena.specs.Noted.{Noted}
 use Rattle.bt_arena.specs.Rosters.{leaf_instance}
 use Rattle.bt_halting.proofs.Leaving.{free_drivers, free_instances, free_length, free_notes, held_drivers, held_instances, held_length, held_notes}
-use Rattle.bt_halting.proofs.Letting.{let_go_serves, marked_is_held}
+use Rattle.bt_halting.proofs.Releasing.{released_serves, marked_is_held}
 use Rattle.bt_halting.proofs.Marks.{mark_is}
 use Rattle.bt_halting.proofs.quenching.quench_leaf.Goals as goal
 
@@ -24,7 +24,7 @@ returns-then-kept_by-clause-instances g c =
 
 pub returns-then-kept_by-clause-leaves : goal.returns-then-kept_by-clause-leaves
 returns-then-kept_by-clause-leaves g c =
-    let_go_serves c.args.nodes.now c.args.kept.now _ c.args.uid c.in-Some.leaf (ap (λ (n : Node). n.leaf) (sym c.node.ensures) ∙ c.in-Some.is) c.requires.leaves _ c.halted.ensures
+    released_serves c.args.nodes.now c.args.kept.now _ c.args.uid c.in-Some.leaf (ap (λ (n : Node). n.leaf) (sym c.node.ensures) ∙ c.in-Some.is) c.requires.leaves _ c.halted.ensures
 
 pub returns-then-kept_by-clause-notes : goal.returns-then-kept_by-clause-notes
 returns-then-kept_by-clause-notes g c =

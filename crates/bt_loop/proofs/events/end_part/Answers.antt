@@ -1,5 +1,5 @@
 use Rattle.std.proofs.Common.{refl, ap}
-use Rattle.bt_loop.proofs.Endings.{quenched_behind, still_fit}
+use Rattle.bt_loop.proofs.Endings.{quenched_after, still_fit}
 use Rattle.bt_loop.proofs.events.end_part.Goals as goal
 
 pub stop-requires-clause-fit : goal.stop-requires-clause-fit
@@ -9,5 +9,5 @@ stop-requires-clause-fit g c =
 
 pub returns-in-Err-clause-closes : goal.returns-in-Err-clause-closes
 returns-in-Err-clause-closes g c = λ tree world fit.
-    quenched_behind tree _ _ c.args.runs.now c.stop.new.runs c.tell.new.runs _ _ c.tell.new.block.notes.list c.stop.new.notes.list (ap (λ n. n.list) c.in-Err.ensures.notes) refl c.in-Err.ensures.runs
+    quenched_after tree _ _ c.args.runs.now c.stop.new.runs c.tell.new.runs _ _ c.tell.new.block.notes.list c.stop.new.notes.list (ap (λ n. n.list) c.in-Err.ensures.notes) refl c.in-Err.ensures.runs
     (c.stop.ensures.quenched tree world (still_fit tree world (g.D.Drivers.states c.args.drivers.now) c.args.runs.now c.tell.new.runs c.in-Err.ensures.runs fit))

@@ -1,6 +1,6 @@
 use Rattle.std.proofs.Common.{◌≡◌, ◌<◌, None, length}
 use Rattle.bt_model.specs.Terms.{leaf_ids}
-use Rattle.bt_arena.specs.Joins.{first_lack}
+use Rattle.bt_arena.specs.Joins.{first_missing}
 use Rattle.bt_loop.specs.Opening.{AreOpening}
 use Rattle.bt_loop.proofs.openings.runners_of.Given as goal
 
@@ -9,5 +9,5 @@ abbrev pub invariant-loop-before : goal.invariant-loop-before
 invariant-loop-before g l = record {
   many : length l.runners.items ≡ l.before;
   runners : AreOpening l.tree l.world (g.D.Drivers.states l.drivers) l.runners.items;
-  joined : 0 < l.before → first_lack l.world.rows (g.D.Drivers.states l.drivers) (leaf_ids l.tree.term) ≡ None;
+  joined : 0 < l.before → first_missing l.world.rows (g.D.Drivers.states l.drivers) (leaf_ids l.tree.term) ≡ None;
 }

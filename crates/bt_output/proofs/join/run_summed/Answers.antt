@@ -13,7 +13,7 @@ pub returns-in_err-write_line-clause-gave : goal.returns-in_err-write_line-claus
 returns-in_err-write_line-clause-gave g c =
     let p = err_from_is_err_and c.from_residual-in_err-write_line.result c.from_residual-in_err-write_line.ensures.1 in
     rw (p.1, p.2) (line_stopped g.of c.args.runs _ _ c.requires.1.1.1.1.1.0 c.args.leaves c.args.events.now c.requires.1.1.1.1.1.1 _ c.in_err-write_line.field-0.0 c.in_ok-line.ended c.in_ok-line.line.items _ _ _ _
-    c.in_ok-line.ensures.whole (rw c.as_slice.ensures.value at c.in_err-write_line.ensures.front) (λ e. c.in_err-write_line.ensures.failed (ap Err e)))
+    c.in_ok-line.ensures.whole (rw c.as_slice.ensures.value at c.in_err-write_line.ensures.prefix) (λ e. c.in_err-write_line.ensures.failed (ap Err e)))
 
 pub returns-clause-gave : goal.returns-clause-gave
 returns-clause-gave g c =

@@ -1,20 +1,20 @@
 use Rattle.std.proofs.Common.{ℕ, ◌<◌, ◌∙◌, arith, length, subst}
 use Rattle.bt_script.specs.declared.value.Value.{Value}
-use Rattle.bt_outside.specs.Appending.{Appended, AppendedFront}
+use Rattle.bt_outside.specs.Appending.{Appended, AppendedPrefix}
 use Rattle.bt_model.specs.Lines.{entry_line}
-use Rattle.bt_text.proofs.Lines.{Appended-map_more, AppendedFront-map_next, AppendedFront-map_some, alone}
+use Rattle.bt_text.proofs.Lines.{Appended-map_more, AppendedPrefix-map_next, AppendedPrefix-map_some, alone}
 use Rattle.bt_text.proofs.block.write_entries.Goals as goal
 
-pub returns-in_err-put_entry-clause-front : goal.returns-in_err-put_entry-clause-front
-returns-in_err-put_entry-clause-front g c =
-    AppendedFront-map_some (entry_line c.args.names.now) c.args.entries.now c.loop-entry.entry-index _ _ c.loop-entry.invariant.text
+pub returns-in_err-put_entry-clause-prefix : goal.returns-in_err-put_entry-clause-prefix
+returns-in_err-put_entry-clause-prefix g c =
+    AppendedPrefix-map_some (entry_line c.args.names.now) c.args.entries.now c.loop-entry.entry-index _ _ c.loop-entry.invariant.text
 
-pub returns-in_err-write_line-clause-front : goal.returns-in_err-write_line-clause-front
-returns-in_err-write_line-clause-front g c =
+pub returns-in_err-write_line-clause-prefix : goal.returns-in_err-write_line-clause-prefix
+returns-in_err-write_line-clause-prefix g c =
     let within : c.loop-entry.entry-index < length c.args.entries.now = omega arith in
-    let front = rw (c.as_slice.ensures.value ∙ alone _ c.clear.ensures.items c.in_ok-put_entry.ensures) at c.in_err-write_line.ensures.front in
-    let here = subst (λ (entry : ℕ × ℕ × Value). AppendedFront (g.K.Sink.written c.loop-entry.out) (g.K.Sink.written c.write_line.new.out) (entry_line c.args.names.now entry)) c.entry-item.is front in
-    AppendedFront-map_next (entry_line c.args.names.now) c.args.entries.now c.loop-entry.entry-index c.entry-item.result _ _ _ within
+    let front = rw (c.as_slice.ensures.value ∙ alone _ c.clear.ensures.items c.in_ok-put_entry.ensures) at c.in_err-write_line.ensures.prefix in
+    let here = subst (λ (entry : ℕ × ℕ × Value). AppendedPrefix (g.K.Sink.written c.loop-entry.out) (g.K.Sink.written c.write_line.new.out) (entry_line c.args.names.now entry)) c.entry-item.is front in
+    AppendedPrefix-map_next (entry_line c.args.names.now) c.args.entries.now c.loop-entry.entry-index c.entry-item.result _ _ _ within
     c.loop-entry.invariant.text here
 
 pub loop-entry-preserved : goal.loop-entry-preserved

@@ -1,13 +1,13 @@
 use Rattle.std.proofs.Common.{◌<◌, arith, length}
 use Rattle.bt_model.specs.Lines.{note_line}
-use Rattle.bt_text.proofs.Lines.{Appended-map_more, AppendedFront-map_next}
+use Rattle.bt_text.proofs.Lines.{Appended-map_more, AppendedPrefix-map_next}
 use Rattle.bt_text.proofs.block.write_notes.Goals as goal
 
-pub returns-in_err-write_note-clause-front : goal.returns-in_err-write_note-clause-front
-returns-in_err-write_note-clause-front g c =
+pub returns-in_err-write_note-clause-prefix : goal.returns-in_err-write_note-clause-prefix
+returns-in_err-write_note-clause-prefix g c =
     let within : c.loop-note.note-index < length c.args.notes.now = omega arith in
-    AppendedFront-map_next (note_line c.args.names.now) c.args.notes.now c.loop-note.note-index _ _ _ _ within c.loop-note.invariant.text
-    c.in_err-write_note.ensures.front
+    AppendedPrefix-map_next (note_line c.args.names.now) c.args.notes.now c.loop-note.note-index _ _ _ _ within c.loop-note.invariant.text
+    c.in_err-write_note.ensures.prefix
 
 pub loop-note-preserved : goal.loop-note-preserved
 loop-note-preserved g c =

@@ -1,7 +1,7 @@
 use Rattle.std.proofs.Common.{Bool, List, Ok, Err, map, ◌==◌, refl, sym, ap, subst, ◌∙◌, ◌≡◌}
 use Rattle.std.specs.Prelude.{option_map}
 use Rattle.std.specs.Str.Parse.{signed_digits_value}
-use Rattle.bt_model.specs.WorldFile.{ReplayLine, behind_word, front_word, replay_line, with_action}
+use Rattle.bt_model.specs.WorldFile.{ReplayLine, after_word, front_word, replay_line, with_action}
 use Rattle.bt_model.specs.declared.world.RowSort.TheVariants.{Replay}
 use Rattle.bt_world_draft.specs.Drafts.{DraftSays, row_of}
 use Rattle.bt_lines.specs.Heads.{seen_head}
@@ -18,7 +18,7 @@ returns-in-Ok c =
     let letters = c.cut-2.result.0.now in
     let list : List Bool = map (λ b. b == 83) letters in
     let same : c.of-outcomes.result ≡ list = c.of-outcomes.ensures ∙ c.in_ok-outcomes.ensures in
-    let line = replay_is text w letters c.cut-2.result.1.now head c.cut.ensures.front (c.cut-2.ensures.front ∙ ap front_word c.cut.ensures.rest) (c.cut-2.ensures.rest ∙ ap behind_word c.cut.ensures.rest)
+    let line = replay_is text w letters c.cut-2.result.1.now head c.cut.ensures.prefix (c.cut-2.ensures.prefix ∙ ap front_word c.cut.ensures.rest) (c.cut-2.ensures.rest ∙ ap after_word c.cut.ensures.rest)
     (sym c.is_empty.ensures ∙ c.if-not-is_empty.false) (sym c.is_canonical.ensures ∙ c.if-not-is_canonical.false) (sym c.are_outcomes.ensures ∙ c.if-not-are_outcomes.false) in
     let left = c.open_action.new.self in
     of_head r left (replay_line text) head c.args.row.now c.open_action.result (ap (option_map seen_head) (sym c.in-Some.is) ∙ c.in_ok-head.ensures)
@@ -37,7 +37,7 @@ returns-in-Err c =
     let letters = c.cut-2.result.0.now in
     let list : List Bool = map (λ b. b == 83) letters in
     let same : c.of-outcomes.result ≡ list = c.of-outcomes.ensures ∙ c.in_ok-outcomes.ensures in
-    let line = replay_is text w letters c.cut-2.result.1.now head c.cut.ensures.front (c.cut-2.ensures.front ∙ ap front_word c.cut.ensures.rest) (c.cut-2.ensures.rest ∙ ap behind_word c.cut.ensures.rest)
+    let line = replay_is text w letters c.cut-2.result.1.now head c.cut.ensures.prefix (c.cut-2.ensures.prefix ∙ ap front_word c.cut.ensures.rest) (c.cut-2.ensures.rest ∙ ap after_word c.cut.ensures.rest)
     (sym c.is_empty.ensures ∙ c.if-not-is_empty.false) (sym c.is_canonical.ensures ∙ c.if-not-is_canonical.false) (sym c.are_outcomes.ensures ∙ c.if-not-are_outcomes.false) in
     of_head {A = Unit {0}} r now (replay_line text) head c.args.row.now (Err c.in-Err.stop) (ap (option_map seen_head) (sym c.in-Some.is) ∙ c.in_ok-head.ensures)
     (lasts {A = Unit {0}} (Err c.in-Err.stop) now r now (replay_line text head) (signed_digits_value 10 w) c.in-Some-ms.ms head (λ n. Replay n list) (λ x. ReplayLine head x list) (λ x said k. k)

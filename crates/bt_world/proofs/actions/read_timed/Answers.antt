@@ -16,7 +16,7 @@ returns-in-Ok c =
     let left = c.open_action.new.self in
     let head = seen_head c.in-Some.head in
     let w = c.cut.result.0.now in
-    let line = timed_is text w c.cut.result.1.now head c.cut.ensures.front c.cut.ensures.rest (sym c.is_empty.ensures ∙ c.if-not-is_empty.false) (sym c.is_canonical.ensures ∙ c.if-not-is_canonical.false) in
+    let line = timed_is text w c.cut.result.1.now head c.cut.ensures.prefix c.cut.ensures.rest (sym c.is_empty.ensures ∙ c.if-not-is_empty.false) (sym c.is_canonical.ensures ∙ c.if-not-is_canonical.false) in
     of_head r left (timed_line text) head c.args.row.now c.open_action.result (ap (option_map seen_head) (sym c.in-Some.is) ∙ c.in_ok-head.ensures)
     (lasts c.open_action.result left r now (timed_line text head) (signed_digits_value 10 w) c.in-Some-ms.ms head (λ n. Timed n None) (TimedLine head) (λ x said k. k)
     c.in_ok-close.ensures line c.in-Some-ms.ensures
@@ -29,7 +29,7 @@ returns-in-Err c =
     let now = c.close.new.self in
     let head = seen_head c.in-Some.head in
     let w = c.cut.result.0.now in
-    let line = timed_is text w c.cut.result.1.now head c.cut.ensures.front c.cut.ensures.rest (sym c.is_empty.ensures ∙ c.if-not-is_empty.false) (sym c.is_canonical.ensures ∙ c.if-not-is_canonical.false) in
+    let line = timed_is text w c.cut.result.1.now head c.cut.ensures.prefix c.cut.ensures.rest (sym c.is_empty.ensures ∙ c.if-not-is_empty.false) (sym c.is_canonical.ensures ∙ c.if-not-is_canonical.false) in
     of_head {A = Unit {0}} r now (timed_line text) head c.args.row.now (Err c.in-Err.stop) (ap (option_map seen_head) (sym c.in-Some.is) ∙ c.in_ok-head.ensures)
     (lasts {A = Unit {0}} (Err c.in-Err.stop) now r now (timed_line text head) (signed_digits_value 10 w) c.in-Some-ms.ms head (λ n. Timed n None) (TimedLine head) (λ x said k. k)
     c.in_ok-close.ensures line c.in-Some-ms.ensures

@@ -1,9 +1,9 @@
 use Rattle.std.proofs.Common.{arith, sym, subst, ◌∙◌, ◌≤◌}
 use Rattle.std.proofs.lemmas.Grind.{common_steps}
-use Rattle.bt_outside.specs.Appending.{AppendedFront}
+use Rattle.bt_outside.specs.Appending.{AppendedPrefix}
 use Rattle.bt_outside.specs.Counts.{Rose}
 use Rattle.bt_outside.specs.OutSink.{written_so_far}
-use Rattle.bt_outside.proofs.Appends.{Appended-more, AppendedFront-taken}
+use Rattle.bt_outside.proofs.Appends.{Appended-more, AppendedPrefix-taken}
 use Rattle.bt_outside.proofs.out_sink.OutSink.write_turns.Goals as goal
 
 pub turns-preserved : goal.turns-preserved
@@ -14,11 +14,11 @@ turns-preserved g c =
       calm = c.turn-taken.ensures.calm ∙ c.turns.invariant.calm;
     }
 
-pub returns-then-taken-eq0-clause-front : goal.returns-then-taken-eq0-clause-front
-returns-then-taken-eq0-clause-front g c =
+pub returns-then-taken-eq0-clause-prefix : goal.returns-then-taken-eq0-clause-prefix
+returns-then-taken-eq0-clause-prefix g c =
     let taken = Appended-more _ _ _ c.args.piece.now c.turns.at c.turn-taken.result c.turns.invariant.text c.turn-taken.ensures.text in
-    subst (λ text. AppendedFront (written_so_far c.args.self.now) text c.args.piece.now) (sym c.fail.ensures.written)
-    (AppendedFront-taken _ _ c.args.piece.now _ taken)
+    subst (λ text. AppendedPrefix (written_so_far c.args.self.now) text c.args.piece.now) (sym c.fail.ensures.written)
+    (AppendedPrefix-taken _ _ c.args.piece.now _ taken)
 
 pub returns-then-taken-eq0-clause-failed : goal.returns-then-taken-eq0-clause-failed
 returns-then-taken-eq0-clause-failed g c =

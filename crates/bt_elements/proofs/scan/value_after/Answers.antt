@@ -1,6 +1,6 @@
 use Rattle.bt_elements.specs.Marks.{is_value_byte}
 use Rattle.bt_elements.proofs.Cuts.{front_cut, rest_cut, value_stops}
-use Rattle.bt_elements.proofs.scan.value_behind.Goals as goal
+use Rattle.bt_elements.proofs.scan.value_after.Goals as goal
 
 pub byte_at-requires-clause-utf8 : goal.byte_at-requires-clause-utf8
 byte_at-requires-clause-utf8 c =

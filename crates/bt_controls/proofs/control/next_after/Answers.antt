@@ -1,5 +1,5 @@
 use Rattle.bt_controls.specs.declared.rounds.Manner.TheVariants.{Keeps, Restarts, Remembers}
-use Rattle.bt_controls.proofs.control.next_behind.Goals as goal
+use Rattle.bt_controls.proofs.control.next_after.Goals as goal
 
 pub returns-in-Sequence-clause-next : goal.returns-in-Sequence-clause-next
 returns-in-Sequence-clause-next c = rw c.in-Sequence.is (c.next_in_round.ensures.next Keeps)

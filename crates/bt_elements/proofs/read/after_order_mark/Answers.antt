@@ -2,7 +2,7 @@ use Rattle.std.proofs.Common.{◌≡◌, true, List, ℕ, ◌∷◌, [], ap, sym
 use Rattle.bt_elements.specs.References.{begins_with}
 use Rattle.bt_elements.proofs.Asides.{begins_is}
 use Rattle.bt_elements.proofs.Cuts.{cut_order_mark}
-use Rattle.bt_elements.proofs.read.behind_order_mark.Goals as goal
+use Rattle.bt_elements.proofs.read.after_order_mark.Goals as goal
 
 pub returns-then-starts_with-clause-utf8 : goal.returns-then-starts_with-clause-utf8
 returns-then-starts_with-clause-utf8 c =

@@ -7,7 +7,7 @@ use Rattle.bt_model.specs.declared.note.Note.{Note}
 use Rattle.bt_model.specs.declared.note.Note.TheVariants.{Halted}
 use Rattle.bt_model.specs.Done.{State}
 use Rattle.bt_model.specs.Drivers.{DriverState, instance_at, is_held, roster_halted}
-use Rattle.bt_model.specs.Leaf.{fresh, let_go}
+use Rattle.bt_model.specs.Leaf.{fresh, released}
 use Rattle.bt_arena.specs.declared.nodes.Kept.{Kept}
 use Rattle.bt_arena.specs.declared.nodes.Node.{Node}
 use Rattle.bt_arena.specs.declared.nodes.ReadyLeaf.{ReadyLeaf}
@@ -16,7 +16,7 @@ use Rattle.bt_arena.specs.Rosters.{AreServed, instances_of, leaf_instance}
 use Rattle.bt_arena.specs.Scenes.{marks_of, scene, state_in}
 use Rattle.bt_arena.proofs.Called.{instance_at_uid, instances_called, marks_called, roster_after_call, served_after}
 use Rattle.bt_arena.specs.Ends.{Meets}
-use Rattle.bt_halting.specs.Halts.{leaf_let_go}
+use Rattle.bt_halting.specs.Halts.{leaf_released}
 use Rattle.bt_halting.proofs.Marks.{mark_is}
 
 some_since : (since : Option ℕ) → is_some since ≡ true → IsSome since
@@ -35,32 +35,32 @@ module _ (nodes : List Node) (kept : List Kept) (drivers : List DriverState) (ui
 
   module _ (served : AreServed drivers nodes) (drivers1 : List DriverState) (halted : drivers1 ≡ roster_halted drivers leaf.driver leaf.instance) where
     -- the call is that of the definition
-    pub let_go_met : (moment : ℕ) (kept1 : List Kept) (board : List (Option Value)) (facts : List ℤ) (n n1 : List Note) → n1 ≡ n ++ Halted uid ∷ [] →
+    pub released_met : (moment : ℕ) (kept1 : List Kept) (board : List (Option Value)) (facts : List ℤ) (n n1 : List Note) → n1 ≡ n ++ Halted uid ∷ [] →
         Meets nodes moment (λ (k : List Kept). tt) (Ok tt) (scene kept board facts drivers) (scene kept1 board facts drivers1) n n1
-        (leaf_let_go (leaf_at nodes uid) uid (state_in nodes (scene kept board facts drivers) moment))
-    let_go_met moment kept1 board facts n n1 noted =
+        (leaf_released (leaf_at nodes uid) uid (state_in nodes (scene kept board facts drivers) moment))
+    released_met moment kept1 board facts n n1 noted =
         let s0 = scene kept board facts drivers in
         let s1 = scene kept1 board facts drivers1 in
-        let left : Instance = let_go (instance_at drivers leaf.driver leaf.instance) in
-        let lets : slice_set (instances_of nodes drivers) uid (let_go (get_or (instances_of nodes drivers) uid fresh)) ≡ instances_of nodes drivers1 =
-        ap (λ (i : Instance). slice_set (instances_of nodes drivers) uid (let_go i)) here ∙ sym (instances_called nodes drivers uid leaf phase.Halted left served is) ∙ ap (instances_of nodes) (sym halted) in
-        subst (λ (o : Option ReadyLeaf). Meets nodes moment (λ (k : List Kept). tt) (Ok tt) s0 s1 n n1 (leaf_let_go o uid (state_in nodes s0 moment))) (sym is) (
+        let left : Instance = released (instance_at drivers leaf.driver leaf.instance) in
+        let lets : slice_set (instances_of nodes drivers) uid (released (get_or (instances_of nodes drivers) uid fresh)) ≡ instances_of nodes drivers1 =
+        ap (λ (i : Instance). slice_set (instances_of nodes drivers) uid (released i)) here ∙ sym (instances_called nodes drivers uid leaf phase.Halted left served is) ∙ ap (instances_of nodes) (sym halted) in
+        subst (λ (o : Option ReadyLeaf). Meets nodes moment (λ (k : List Kept). tt) (Ok tt) s0 s1 n n1 (leaf_released o uid (state_in nodes s0 moment))) (sym is) (
           record {
             answer = refl;
             memory = refl;
             state = ap (λ (is : List Instance). let s : State = record { board = board; facts = facts; instances = is; moment = moment } in s) lets;
             notes = noted;
-            drivers = halted ∙ sym (roster_after_call nodes drivers uid leaf phase.Halted left served is (record { uid = uid; phase = phase.Halted; left = let_go (get_or (instances_of nodes drivers) uid fresh) }) [] refl refl (ap let_go here));
+            drivers = halted ∙ sym (roster_after_call nodes drivers uid leaf phase.Halted left served is (record { uid = uid; phase = phase.Halted; left = released (get_or (instances_of nodes drivers) uid fresh) }) [] refl refl (ap released here));
           },
           refl,
         )
 
     -- and the marks are right again after the leaf's mark is removed
-    pub let_go_marks : (kept1 : List Kept) → kept1 ≡ slice_set kept uid (record (kept_at kept uid) { held = false }) → marks_of kept ≡ map is_held (instances_of nodes drivers) → marks_of kept1 ≡ map is_held (instances_of nodes drivers1)
-    let_go_marks kept1 unmarked marks =
+    pub released_marks : (kept1 : List Kept) → kept1 ≡ slice_set kept uid (record (kept_at kept uid) { held = false }) → marks_of kept ≡ map is_held (instances_of nodes drivers) → marks_of kept1 ≡ map is_held (instances_of nodes drivers1)
+    released_marks kept1 unmarked marks =
         ap marks_of unmarked
-        ∙ marks_called nodes drivers uid leaf phase.Halted (let_go (instance_at drivers leaf.driver leaf.instance)) served is kept (record (kept_at kept uid) { held = false }) marks refl
+        ∙ marks_called nodes drivers uid leaf phase.Halted (released (instance_at drivers leaf.driver leaf.instance)) served is kept (record (kept_at kept uid) { held = false }) marks refl
         ∙ ap (λ (ds : List DriverState). map is_held (instances_of nodes ds)) (sym halted)
 
-    pub let_go_serves : AreServed drivers1 nodes
-    let_go_serves = subst (λ (ds : List DriverState). AreServed ds nodes) (sym halted) (served_after nodes drivers leaf.driver phase.Halted leaf.instance (let_go (instance_at drivers leaf.driver leaf.instance)) served)
+    pub released_serves : AreServed drivers1 nodes
+    released_serves = subst (λ (ds : List DriverState). AreServed ds nodes) (sym halted) (served_after nodes drivers leaf.driver phase.Halted leaf.instance (released (instance_at drivers leaf.driver leaf.instance)) served)

@@ -5,7 +5,7 @@ use Rattle.bt_model.specs.Leaf as leaf
 use Rattle.bt_driver.specs.Rules.{rule}
 use Rattle.bt_cases_leaves.specs.Stages.{IsAtWork}
 use Rattle.bt_cases_leaves.proofs.AtWork.{after}
-use Rattle.bt_cases_leaves.proofs.leaves.let_go.Goals as goal
+use Rattle.bt_cases_leaves.proofs.leaves.release.Goals as goal
 
 pub returns-clause-work : goal.returns-clause-work
 returns-clause-work g c =
@@ -13,4 +13,4 @@ returns-clause-work g c =
     let ds = g.D.Drivers.states c.args.drivers.now in
     let kind = kind_of_way (rule stage.row).way in
     subst (λ (drivers : List DriverState). IsAtWork drivers stage.place kind (set stage.since.items c.args.instance None)) (sym c.halted.ensures)
-    (after ds stage.place kind stage.since.items c.requires.work c.args.instance phase.Halted (leaf.let_go (instance_at ds stage.place c.args.instance)) None refl)
+    (after ds stage.place kind stage.since.items c.requires.work c.args.instance phase.Halted (leaf.released (instance_at ds stage.place c.args.instance)) None refl)

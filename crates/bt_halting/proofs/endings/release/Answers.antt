@@ -3,8 +3,8 @@ use Rattle.bt_model.specs.declared.note.Note.TheVariants.{Halted}
 use Rattle.bt_arena.specs.declared.nodes.Node.{Node}
 use Rattle.bt_arena.specs.Nodes.{leaf_at}
 use Rattle.bt_arena.specs.Noted.{Noted}
-use Rattle.bt_halting.proofs.Letting.{let_go_marks, let_go_met, let_go_serves, marked_is_held}
-use Rattle.bt_halting.proofs.endings.let_go.Goals as goal
+use Rattle.bt_halting.proofs.Releasing.{released_marks, released_met, released_serves, marked_is_held}
+use Rattle.bt_halting.proofs.endings.release.Goals as goal
 
 pub halted-requires-clause-held : goal.halted-requires-clause-held
 halted-requires-clause-held g c =
@@ -14,12 +14,12 @@ halted-requires-clause-held g c =
 pub returns-in_ok-room-in-Some-clause-ok : goal.returns-in_ok-room-in-Some-clause-ok
 returns-in_ok-room-in-Some-clause-ok g c = λ moment board facts.
     let noted = ap (λ (n : Noted). n.list) c.push_reserved.ensures ∙ ap (λ (n : Noted). n.list ++ Halted c.args.uid ∷ []) c.in_ok-room-in-Some.ensures.ok in
-    let_go_met _ c.args.kept.now _ _ _ (ap (λ (n : Node). n.leaf) (sym c.node.ensures) ∙ c.in-Some.is) c.requires.leaves _ c.halted.ensures moment _ board facts _ _ noted
+    released_met _ c.args.kept.now _ _ _ (ap (λ (n : Node). n.leaf) (sym c.node.ensures) ∙ c.in-Some.is) c.requires.leaves _ c.halted.ensures moment _ board facts _ _ noted
 
 pub returns-in_ok-room-in-Some-clause-marks : goal.returns-in_ok-room-in-Some-clause-marks
 returns-in_ok-room-in-Some-clause-marks g c =
-    let_go_marks _ c.args.kept.now _ _ _ (ap (λ (n : Node). n.leaf) (sym c.node.ensures) ∙ c.in-Some.is) c.requires.leaves _ c.halted.ensures _ c.set_held.ensures c.requires.marks
+    released_marks _ c.args.kept.now _ _ _ (ap (λ (n : Node). n.leaf) (sym c.node.ensures) ∙ c.in-Some.is) c.requires.leaves _ c.halted.ensures _ c.set_held.ensures c.requires.marks
 
 pub returns-in_ok-room-in-Some-clause-leaves : goal.returns-in_ok-room-in-Some-clause-leaves
 returns-in_ok-room-in-Some-clause-leaves g c =
-    let_go_serves _ c.args.kept.now _ _ _ (ap (λ (n : Node). n.leaf) (sym c.node.ensures) ∙ c.in-Some.is) c.requires.leaves _ c.halted.ensures
+    released_serves _ c.args.kept.now _ _ _ (ap (λ (n : Node). n.leaf) (sym c.node.ensures) ∙ c.in-Some.is) c.requires.leaves _ c.halted.ensures

@@ -13,7 +13,7 @@ use Rattle.bt_elements.specs.References.{decoded}
 use Rattle.bt_elements.specs.Marks.{is_name, is_name_first, is_name_rest, is_quote, is_value_byte}
 use Rattle.bt_elements.specs.Reading.{◌>>=◌, after_white, begins, name_of, value_of}
 
-pub ruleset fronts = prefix_len-le-length
+pub ruleset prefixes = prefix_len-le-length
 
 pub some_inj : {A : Type 0} (x y : A) → Some x ≡ Some y → x ≡ y
 some_inj x y h = cc

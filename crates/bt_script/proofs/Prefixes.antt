@@ -12,7 +12,7 @@ use Rattle.bt_script.specs.declared.token.Token.TheVariants.{Number, Text, Word,
 use Rattle.bt_script.specs.declared.check.Opened.{Opened}
 use Rattle.bt_script.specs.declared.check.Opened.TheVariants.{Paren, Choice, Whole}
 use Rattle.bt_script.specs.declared.check.Stage.{Stage}
-use Rattle.bt_script.specs.declared.check.Stage.TheVariants.{Blank, Start, Named, Before, Behind}
+use Rattle.bt_script.specs.declared.check.Stage.TheVariants.{Blank, Start, Named, Before, After}
 use Rattle.bt_script.specs.Grammar.{changes, spelled, spelled_stmt, spelled_slot, separated, kept, fits, fits_stmt, IsExpr, IsStmts}
 use Rattle.bt_script.specs.Reading.{Begins}
 use Rattle.bt_script.specs.Spots.{Spot, change_step, operand_step, stage_step, only_whole, run, may_end, ends_at}
@@ -176,38 +176,38 @@ change-moves : (ts : List Token) (op : BinOp) (b : Bool) → changes op ≡ b �
 change-moves ts op true is n = sign-inside ts (Changes op) n (Change op n.name) (λ e. refl) (λ e h. both_true is h)
 change-moves ts op false is n = tt
 
-behind-script : (os : List Opened) (ts : List Token) (t : Token) → Complete.Past Slots IsStmts (Unit {0}) os ts → MovesScript (stage_step Behind os t) (ts ++ t ∷ [])
-behind-script os ts t p = Complete.behind-moves Slots IsStmts (Unit {0}) Opening Later NamedAt os ts t later-of p
+following-script : (os : List Opened) (ts : List Token) (t : Token) → Complete.Past Slots IsStmts (Unit {0}) os ts → MovesScript (stage_step After os t) (ts ++ t ∷ [])
+following-script os ts t p = Complete.following-moves Slots IsStmts (Unit {0}) Opening Later NamedAt os ts t later-of p
 
 named-moves : (ts : List Token) (t : Token) → NamedAt ts → MovesScript (stage_step Named [] t) (ts ++ t ∷ [])
 named-moves ts Creates n = sign-inside ts Creates n (Create n.name) (λ e. refl) (λ e h. h)
 named-moves ts Assigns n = sign-inside ts Assigns n (Assign n.name) (λ e. refl) (λ e h. h)
 named-moves ts (Changes op) n = change-moves ts op (changes op) refl n
-named-moves ts (Number m) n = behind-script [] ts (Number m) (named-past ts n)
-named-moves ts (Text m) n = behind-script [] ts (Text m) (named-past ts n)
-named-moves ts (Word m) n = behind-script [] ts (Word m) (named-past ts n)
-named-moves ts (Operator op) n = behind-script [] ts (Operator op) (named-past ts n)
-named-moves ts Bang n = behind-script [] ts Bang (named-past ts n)
-named-moves ts Tilde n = behind-script [] ts Tilde (named-past ts n)
-named-moves ts Question n = behind-script [] ts Question (named-past ts n)
-named-moves ts Colon n = behind-script [] ts Colon (named-past ts n)
-named-moves ts Open n = behind-script [] ts Open (named-past ts n)
-named-moves ts Close n = behind-script [] ts Close (named-past ts n)
-named-moves ts Semicolon n = behind-script [] ts Semicolon (named-past ts n)
+named-moves ts (Number m) n = following-script [] ts (Number m) (named-past ts n)
+named-moves ts (Text m) n = following-script [] ts (Text m) (named-past ts n)
+named-moves ts (Word m) n = following-script [] ts (Word m) (named-past ts n)
+named-moves ts (Operator op) n = following-script [] ts (Operator op) (named-past ts n)
+named-moves ts Bang n = following-script [] ts Bang (named-past ts n)
+named-moves ts Tilde n = following-script [] ts Tilde (named-past ts n)
+named-moves ts Question n = following-script [] ts Question (named-past ts n)
+named-moves ts Colon n = following-script [] ts Colon (named-past ts n)
+named-moves ts Open n = following-script [] ts Open (named-past ts n)
+named-moves ts Close n = following-script [] ts Close (named-past ts n)
+named-moves ts Semicolon n = following-script [] ts Semicolon (named-past ts n)
 
 stage-moves : (stage : Stage) (os : List Opened) (ts : List Token) (t : Token) → AtScript stage os ts → MovesScript (stage_step stage os t) (ts ++ t ∷ [])
 stage-moves Blank os ts t a = subst (λ (us : List Opened). MovesScript (stage_step Blank us t) (ts ++ t ∷ [])) (sym a.0) (blank-moves ts t a.1)
 stage-moves Start os ts t a = subst (λ (us : List Opened). MovesScript (stage_step Start us t) (ts ++ t ∷ [])) (sym a.0) (start-moves ts t a.1)
 stage-moves Named os ts t a = subst (λ (us : List Opened). MovesScript (stage_step Named us t) (ts ++ t ∷ [])) (sym a.0) (named-moves ts t a.1)
-stage-moves Before os ts t a = Complete.operand-moves Slots IsStmts (Unit {0}) Opening Later NamedAt Behind os ts t a (λ name e. Complete.name-past Slots IsStmts (Unit {0}) os ts name a)
-stage-moves Behind os ts t a = behind-script os ts t a
+stage-moves Before os ts t a = Complete.operand-moves Slots IsStmts (Unit {0}) Opening Later NamedAt After os ts t a (λ name e. Complete.name-past Slots IsStmts (Unit {0}) os ts name a)
+stage-moves After os ts t a = following-script os ts t a
 
 at-begins : (stage : Stage) (os : List Opened) (ts : List Token) → AtScript stage os ts → Begins IsStmts ts
 at-begins Blank os ts a = Complete.inside-begins Slots IsStmts (Unit {0}) [] ts (plain-inside ts a.1)
 at-begins Start os ts a = Complete.inside-begins Slots IsStmts (Unit {0}) [] ts (plain-inside ts a.1.opening)
 at-begins Named os ts a = Complete.past-begins Slots IsStmts (Unit {0}) [] ts (named-past ts a.1)
 at-begins Before os ts a = Complete.inside-begins Slots IsStmts (Unit {0}) os ts a
-at-begins Behind os ts a = Complete.past-begins Slots IsStmts (Unit {0}) os ts a
+at-begins After os ts a = Complete.past-begins Slots IsStmts (Unit {0}) os ts a
 
 later-script : (ts : List Token) → Later ts → (slots : Slots) × IsStmts ts slots
 later-script ts l = (
@@ -219,18 +219,18 @@ later-script ts l = (
   },
 )
 
-behind-whole : (os : List Opened) (ts : List Token) → Complete.Past Slots IsStmts (Unit {0}) os ts → only_whole os ≡ true → (slots : Slots) × IsStmts ts slots
-behind-whole [] ts p h = Complete.past-whole Slots IsStmts (Unit {0}) ts p
-behind-whole (Whole ∷ os) ts p h = Complete.alone-whole Slots IsStmts (Unit {0}) os ts p
-behind-whole (Paren ∷ os) ts p h = absurd (cc)
-behind-whole (Choice ∷ os) ts p h = absurd (cc)
+following-whole : (os : List Opened) (ts : List Token) → Complete.Past Slots IsStmts (Unit {0}) os ts → only_whole os ≡ true → (slots : Slots) × IsStmts ts slots
+following-whole [] ts p h = Complete.past-whole Slots IsStmts (Unit {0}) ts p
+following-whole (Whole ∷ os) ts p h = Complete.alone-whole Slots IsStmts (Unit {0}) os ts p
+following-whole (Paren ∷ os) ts p h = absurd (cc)
+following-whole (Choice ∷ os) ts p h = absurd (cc)
 
 at-whole : (stage : Stage) (os : List Opened) (ts : List Token) → AtScript stage os ts → ends_at stage os ≡ true → (slots : Slots) × IsStmts ts slots
 at-whole Blank os ts a h = absurd (cc)
 at-whole Start os ts a h = later-script ts a.1
 at-whole Named os ts a h = Complete.past-whole Slots IsStmts (Unit {0}) ts (named-past ts a.1)
 at-whole Before os ts a h = absurd (cc)
-at-whole Behind os ts a h = behind-whole os ts a h
+at-whole After os ts a h = following-whole os ts a h
 
 script-at : (ts : List Token) (spot : Spot) → run ts (Blank, []) ≡ Some spot → AtScript spot.0 spot.1 ts
 script-at ts spot led = Complete.led-at Slots IsStmts (Unit {0}) Opening Later NamedAt (λ s us t a. stage-moves s.0 s.1 us t a) (Blank, []) spot ts (refl, record { slots = []; is = refl; fit = refl }) led
@@ -254,8 +254,8 @@ expr-moves : (stage : Stage) (os : List Opened) (ts : List Token) (t : Token) �
 expr-moves Blank os ts t a = absurd a.1
 expr-moves Start os ts t a = absurd a.1
 expr-moves Named os ts t a = absurd a.1
-expr-moves Before os ts t a = Complete.operand-moves Expr IsExpr ⊥ (λ us. ⊥) (λ us. ⊥) (λ us. ⊥) Behind os ts t a (λ name e. Complete.name-past Expr IsExpr ⊥ os ts name a)
-expr-moves Behind os ts t a = Complete.behind-moves Expr IsExpr ⊥ (λ us. ⊥) (λ us. ⊥) (λ us. ⊥) os ts t (λ us p. p.inner.0) a
+expr-moves Before os ts t a = Complete.operand-moves Expr IsExpr ⊥ (λ us. ⊥) (λ us. ⊥) (λ us. ⊥) After os ts t a (λ name e. Complete.name-past Expr IsExpr ⊥ os ts name a)
+expr-moves After os ts t a = Complete.following-moves Expr IsExpr ⊥ (λ us. ⊥) (λ us. ⊥) (λ us. ⊥) os ts t (λ us p. p.inner.0) a
 
 expr-at : (ts : List Token) (spot : Spot) → run ts (Before, Whole ∷ []) ≡ Some spot → AtExpr spot.0 spot.1 ts
 expr-at ts spot led =
@@ -267,20 +267,20 @@ expr-begins-at Blank os ts a = absurd a.1
 expr-begins-at Start os ts a = absurd a.1
 expr-begins-at Named os ts a = absurd a.1
 expr-begins-at Before os ts a = Complete.inside-begins Expr IsExpr ⊥ os ts a
-expr-begins-at Behind os ts a = Complete.past-begins Expr IsExpr ⊥ os ts a
+expr-begins-at After os ts a = Complete.past-begins Expr IsExpr ⊥ os ts a
 
-expr-behind : (os : List Opened) (ts : List Token) → Complete.Past Expr IsExpr ⊥ os ts → only_whole os ≡ true → (e : Expr) × IsExpr ts e
-expr-behind [] ts p h = Complete.past-whole Expr IsExpr ⊥ ts p
-expr-behind (Whole ∷ os) ts p h = Complete.alone-whole Expr IsExpr ⊥ os ts p
-expr-behind (Paren ∷ os) ts p h = absurd (cc)
-expr-behind (Choice ∷ os) ts p h = absurd (cc)
+expr-following : (os : List Opened) (ts : List Token) → Complete.Past Expr IsExpr ⊥ os ts → only_whole os ≡ true → (e : Expr) × IsExpr ts e
+expr-following [] ts p h = Complete.past-whole Expr IsExpr ⊥ ts p
+expr-following (Whole ∷ os) ts p h = Complete.alone-whole Expr IsExpr ⊥ os ts p
+expr-following (Paren ∷ os) ts p h = absurd (cc)
+expr-following (Choice ∷ os) ts p h = absurd (cc)
 
 expr-whole-at : (stage : Stage) (os : List Opened) (ts : List Token) → AtExpr stage os ts → ends_at stage os ≡ true → (e : Expr) × IsExpr ts e
 expr-whole-at Blank os ts a h = absurd a.1
 expr-whole-at Start os ts a h = absurd a.1
 expr-whole-at Named os ts a h = absurd a.1
 expr-whole-at Before os ts a h = absurd (cc)
-expr-whole-at Behind os ts a h = expr-behind os ts a h
+expr-whole-at After os ts a h = expr-following os ts a h
 
 -- tokens that lead somewhere begin an expression
 pub expr-begins : (ts : List Token) (spot : Spot) → run ts (Before, Whole ∷ []) ≡ Some spot → Begins IsExpr ts
