@@ -16,7 +16,7 @@ invariant_of-result c =
     ∙ ap (λ z. z ++ code_of names c.args.e.now) (c.in_ok-begin.ensures ∙ ap (λ z. z ++ begun c.args.op) (c.in_ok-put.ensures ∙ ap (λ z. z ++ front) c.new-code.ensures.items))
     ∙ append_assoc front (begun c.args.op) (code_of names c.args.e.now) in
     let same : c.of.result ≡ between c.args.op front (code_of names c.args.e.now) =
-    c.of.ensures ∙ c.in_ok-end.ensures prefix (code_of names c.args.e.now) (omega arith) made in
+    c.of.ensures ∙ c.in_ok-end.ensures front (code_of names c.args.e.now) (omega arith) made in
     record {
       room = subst (λ code. fits 65 code ≡ true) (sym same) (change_fits 65 names c.args.op c.args.slot c.args.e.now (omega arith) (omega (arith, c.requires)));
       low = λ low. subst (λ code. fits 8 code ≡ true) (sym same) (change_fits 8 names c.args.op c.args.slot c.args.e.now (omega arith) (omega (arith, c.is_low.ensures low)));
