@@ -106,6 +106,16 @@ fn int_on<B: Cells, const N: usize>(
     Ok(stack.numbers.take())
 }
 
+/// `int_of` where 65 places may be wanted, which is seldom.
+#[inline(never)]
+fn high_int_of<B: Cells>(code: &Postfix, cells: &B) -> Result<i64, Stop<ExecFault>>
+    requires { code_reach code.now.instrs ≤ length (B.entries cells.now) }
+    ensures leaves { Leaves result (code_value (entry_of (B.entries cells.now)) code.now.instrs) Int }
+    ensures answered { code_texts code.now.instrs ≡ 0 → All HoldsNoText (B.entries cells.now) → IsAnswered result }
+{
+    int_on(code, cells, &mut [0; 65])
+}
+
 /// The number that a code gives over entries, or its first fault. It gives up where a text is met.
 #[inline(always)]
 fn int_of<B: Cells>(code: &Postfix, cells: &B) -> Result<i64, Stop<ExecFault>>
@@ -113,10 +123,10 @@ fn int_of<B: Cells>(code: &Postfix, cells: &B) -> Result<i64, Stop<ExecFault>>
     ensures leaves { Leaves result (code_value (entry_of (B.entries cells.now)) code.now.instrs) Int }
     ensures answered { code_texts code.now.instrs ≡ 0 → All HoldsNoText (B.entries cells.now) → IsAnswered result }
 {
-    if code.is_low {
-        return int_on(code, cells, &mut [0; 8]);
+    if !code.is_low {
+        return high_int_of(code, cells);
     }
-    int_on(code, cells, &mut [0; 65])
+    int_on(code, cells, &mut [0; 8])
 }
 
 /// Writes the number to a slot that has an entry, and gives it.
@@ -153,17 +163,14 @@ pub fn step_int<B: Cells>(stmt: &StmtCode, cells: &mut B) -> Result<i64, Stop<Ex
     ensures slots { length (B.entries cells.new) ≡ length (B.entries cells.old) }
     ensures left { All HoldsNoText (B.entries cells.old) → All HoldsNoText (B.entries cells.new) }
 {
+    let n = int_of(stmt.postfix(), cells)?;
     match stmt {
-        StmtCode::Create(slot, code) => {
-            let n = int_of(code, cells)?;
+        StmtCode::Create(slot, _) => {
             cells.put_int(*slot, n);
             Ok(n)
         }
-        StmtCode::Assign(slot, code) => {
-            let n = int_of(code, cells)?;
-            assign_int(*slot, n, cells)
-        }
-        StmtCode::Plain(code) => int_of(code, cells),
+        StmtCode::Assign(slot, _) => assign_int(*slot, n, cells),
+        StmtCode::Plain(_) => Ok(n),
     }
 }
 

@@ -86,6 +86,7 @@ pub fn binary_ints(op: BinOp, x: i64, y: i64) -> Result<i64, ExecFault>
         BinOp::Add => x.checked_add(y).ok_or(ExecFault::Overflow),
         BinOp::Sub => x.checked_sub(y).ok_or(ExecFault::Overflow),
         BinOp::Mul => x.checked_mul(y).ok_or(ExecFault::Overflow),
+        BinOp::Compare(cmp) => Ok(as_number(holds(cmp, x.cmp(&y)))),
         _ => any_ints(op, x, y),
     }
 }
