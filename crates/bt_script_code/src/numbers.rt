@@ -103,6 +103,16 @@ fn number_on<L: Looks, const N: usize>(
     }
 }
 
+/// `number` where 65 places may be wanted, which is seldom.
+#[inline(never)]
+fn high_number<L: Looks>(code: &Postfix, looks: &L) -> Result<i64, ExecFault>
+    requires reach { code_reach code.now.instrs ≤ length (L.sights looks.now) }
+    requires textless { code_texts code.now.instrs ≡ 0 }
+    ensures { int_value result ≡ code_value (look_of (L.sights looks.now)) code.now.instrs }
+{
+    number_on(code, looks, &mut [0; 65])
+}
+
 /// The number that an expression without text literals gives over the looks, or its first fault. A
 /// text that is looked at is `Mixed`. It takes no memory.
 #[tactic(auto, unfolding(crate::specs::Codes::formula))]
@@ -111,8 +121,8 @@ pub fn number<L: Looks>(code: &ExprCode, looks: &L) -> Result<i64, ExecFault>
     requires textless { (formula code.now).texts ≡ 0 }
     ensures { int_value result ≡ (formula code.now).value (look_of (L.sights looks.now)) }
 {
-    if code.postfix.is_low {
-        return number_on(&code.postfix, looks, &mut [0; 8]);
+    if !code.postfix.is_low {
+        return high_number(&code.postfix, looks);
     }
-    number_on(&code.postfix, looks, &mut [0; 65])
+    number_on(&code.postfix, looks, &mut [0; 8])
 }
