@@ -1,5 +1,5 @@
 -- The parts of a run follow one another: each is a part of the whole, with what is still to come.
-use Rattle.std.proofs.Common.{◌≡◌, inl, inr, ◌≤◌, ◌<◌, ◌+◌, ◌-◌, ◌^◌, ℕ, List, [], ◌++◌, None, Result, Ok, Err, length, true, false, refl, sym, ap, subst, ◌∙◌, append_assoc, append-nil, arith}
+use Rattle.std.proofs.Common.{◌≡◌, inl, inr, ◌≤◌, ◌<◌, ◌-◌, ◌^◌, ℕ, List, [], ◌++◌, None, Result, Ok, Err, length, true, false, refl, sym, ap, subst, ◌∙◌, append_assoc, append-nil, arith}
 use Rattle.std.specs.List.{flat_map}
 use Rattle.std.specs.Result.{IsErr, IsErrAnd}
 use Rattle.std.proofs.lemmas.Bool.{cases_lt}
