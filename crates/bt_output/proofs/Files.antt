@@ -1,5 +1,5 @@
 -- What the files of a command give, and what a command comes to.
-use Rattle.std.proofs.Common.{◌≡◌, ◌∙◌, ℕ, ◌<◌, ◌≤◌, List, [], Bool, true, false, ◌⊎◌, inl, inr, Option, Some, None, length, refl, sym, subst, arith, MatchBool, Result, Ok, Err}
+use Rattle.std.proofs.Common.{◌≡◌, ◌∙◌, ℕ, ◌<◌, ◌≤◌, List, [], Bool, true, false, inl, inr, Option, Some, None, length, refl, sym, subst, arith, MatchBool, Result, Ok, Err}
 use Rattle.std.specs.Prelude.{IfSome, MatchOption}
 use Rattle.std.proofs.lemmas.Grind.{common_steps}
 use Rattle.bt_command_line.specs.declared.exit.Exit.{Exit}
@@ -15,7 +15,6 @@ use Rattle.bt_model.specs.WorldFile.{ReadsWorld}
 use Rattle.bt_outside.specs.Counts.{Rose}
 use Rattle.bt_outside.specs.Files.{Told}
 use Rattle.bt_outside.specs.Moments.{Moments}
-use Rattle.bt_outside.specs.declared.shelf.ShelfFault.TheVariants as shelf_fault
 use Rattle.bt_outside.proofs.Rises.{Rose-after}
 use Rattle.bt_output.specs.declared.course.Course.{Course}
 use Rattle.bt_output.specs.declared.course.Course.TheVariants as course
@@ -24,10 +23,10 @@ use Rattle.bt_output.specs.declared.refusal.File.{File}
 use Rattle.bt_output.specs.declared.refusal.File.TheVariants as file
 use Rattle.bt_output.specs.declared.refusal.Refusal.{Refusal}
 use Rattle.bt_output.specs.declared.refusal.Refusal.TheVariants as refusal
-use Rattle.bt_output.specs.Answers.{Answers, AreUncalled, AtMoments, CommandAnswered, Gave, IfTold, IsRefused, Printed, ReadFailed, Side, ToldIfNamed, no_moments, side}
-use Rattle.bt_output.specs.Ends.{CommandEnds, Ends, EndsAt, FilesEnd, IsUntouched, ReadStopped}
-use Rattle.bt_output.specs.Output.{FilesGive, Given, Giving, JoinGives, Output, PrintGives, Prints, RunGives, RunsOn, TreeGives, given, is_too_long, print_output, refused_as, stopped_as, too_long, tree_name, tree_refused, unread, words_refused, world_name, world_refused}
-use Rattle.bt_output.specs.Reads.{IsLong, IsUnread, Reading, Unread, WasRead}
+use Rattle.bt_output.specs.Answers.{Answers, AtMoments, CommandAnswered, Gave, IfTold, IsRefused, Printed, Side, ToldIfNamed, no_moments, side}
+use Rattle.bt_output.specs.Ends.{CommandEnds, Ends, EndsAt, FilesEnd, IsUntouched}
+use Rattle.bt_output.specs.Output.{FilesGive, Given, Giving, JoinGives, Output, PrintGives, Prints, RunGives, RunsOn, TreeGives, given, is_too_long, print_output, refused_as, stopped_as, too_long, tree_name, tree_refused, unread, world_name, world_refused}
+use Rattle.bt_output.specs.Reads.{IsUnread, Reading, Unread, WasRead}
 use Rattle.bt_output.specs.TreeFiles.{ReadsAs, TreeReads}
 use Rattle.bt_refusals.specs.declared.fault.TreeFault.{TreeFault}
 use Rattle.bt_world.specs.Readings.{Gives}
