@@ -1,5 +1,5 @@
 -- The ends of a text.
-use Rattle.std.proofs.Common.{◌≡◌, ◌≤◌, ℕ, List, [], ◌∷◌, ◌++◌, Bool, true, false, ◌||◌, length, refl, ap, sym, ◌∙◌, subst, append_assoc, arith}
+use Rattle.std.proofs.Common.{◌≡◌, ◌≤◌, ℕ, List, [], ◌∷◌, ◌++◌, Bool, true, false, ◌||◌, length, refl, ap, sym, ◌∙◌, append_assoc, arith}
 use Rattle.bt_patterns.specs.Patterns.{some_end}
 
 -- this is an end of the text

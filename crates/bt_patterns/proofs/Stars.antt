@@ -2,8 +2,8 @@
 use Rattle.std.proofs.Common.{◌≡◌, ℕ, List, [], ◌∷◌, ◌++◌, Bool, true, false, ◌&&◌, nat_eq, refl, ap, sym, ◌∙◌, subst, arith}
 use Rattle.std.specs.Prelude.{if◌then◌else◌}
 use Rattle.std.proofs.lemmas.Bool.Decides.{nat_tests}
-use Rattle.bt_patterns.specs.Patterns.{Matches, begins, filled, first, is_empty, is_star, matches, others, some_end}
-use Rattle.bt_patterns.proofs.Ends.{End, some_end-after, some_end-found}
+use Rattle.bt_patterns.specs.Patterns.{Matches, begins, filled, first, is_star, matches, others, some_end}
+use Rattle.bt_patterns.proofs.Ends.{some_end-after, some_end-found}
 
 left_half : (a b : Bool) → (a && b) ≡ true → a ≡ true
 left_half true b h = refl

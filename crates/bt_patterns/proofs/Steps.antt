@@ -6,7 +6,7 @@ use Rattle.std.specs.List.{list_all}
 use Rattle.std.proofs.Math.Nat.{mul-le-mul_left, mul-suc}
 use Rattle.std.proofs.lemmas.Bool.Decides.{nat_tests}
 use Rattle.bt_patterns.specs.Patterns.{Left, begins, is_empty, is_star, matches, past_byte, past_more, past_star, some_end}
-use Rattle.bt_patterns.proofs.Ends.{End, End-trans, End-within, some_end-after, some_end-found}
+use Rattle.bt_patterns.proofs.Ends.{End-trans, End-within, some_end-after, some_end-found}
 use Rattle.bt_patterns.proofs.Stars.{begun}
 
 -- whether the pattern from the point of return on matches an end of the text after the first byte there

@@ -1,5 +1,4 @@
 -- What is left of a pattern and of a text, as two lists.
-use Rattle.std.specs.Prelude.{List}
 use Rattle.bt_patterns.specs.declared.matching.Left.{Left}
 use Rattle.bt_patterns.specs.Patterns as patterns
 

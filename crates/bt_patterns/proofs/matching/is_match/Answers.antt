@@ -1,4 +1,4 @@
-use Rattle.std.proofs.Common.{◌≡◌, length, option_map, sym, ◌∙◌, true≢false}
+use Rattle.std.proofs.Common.{length, option_map, sym, ◌∙◌, true≢false}
 use Rattle.bt_patterns.specs.Patterns.{matches}
 use Rattle.bt_patterns.specs.Places.{place_of}
 use Rattle.bt_patterns.proofs.Stars.{complete, sound}

@@ -1,0 +1,3 @@
+mod Eaches
+mod Replacing
+mod Texts

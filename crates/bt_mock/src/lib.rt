@@ -1,0 +1,14 @@
+//! Mocks: a tree tested with its leaves replaced, by rules in a JSON file.
+#![tactic(auto)]
+
+mod fault;
+mod limits;
+mod nodes;
+mod reading;
+mod rules;
+mod substituting;
+
+pub use fault::MockFault;
+pub use reading::read_rules;
+pub use rules::{Configuration, ReturnStatus, Rule, Rules};
+pub use substituting::substitute;
