@@ -5,6 +5,7 @@ ghost use Rattle.std.specs.Option.{option_copied};
 ghost use Rattle.bt_model.specs.declared.term.Term.{out-Term, roll-Term};
 ghost use Rattle.bt_mock.specs.Substitutions.{always, always_id, always_kind, answering, by_id, by_name, by_rule, configuration_of, delay_port, delayed, leaf, only_post, rule_of, with_children};
 
+use crate::names::name_of;
 use crate::rules::{Configuration, ReturnStatus, Rule, Rules};
 use bt_copies::{copy_guards, copy_ports, copy_script_if_there};
 use bt_model::{Guards, Kind, Port, PortValue, Term};
@@ -37,13 +38,6 @@ fn configuration_of<'c>(
         }
     }
     None
-}
-
-/// The name with this text.
-fn name_of(alloc: Global, text: &str) -> Result<Name, NoMemory>
-    ensures { IfOk result (λ name. name ≡ text.now) }
-{
-    Ok(Name::of(Vec::from_slice(alloc, text.as_bytes())?))
 }
 
 /// No guards but a `_post`, where there is a script.
@@ -209,7 +203,8 @@ pub fn with_children(alloc: Global, node: &Term, children: Items<Term>) -> Resul
 
 /// What takes the place of a node without children by its rule; without one it stays.
 pub fn by_rule(alloc: Global, rules: &Rules, path: &[u8], node: &Term) -> Result<Term, NoMemory>
-    ensures { IfOk result (λ term. term ≡ by_rule rules.now.configurations (rule_of rules.now.rules path.now) (with_children (out-Term node.now) [])) }
+    ensures { IfOk result (λ term. term ≡ by_rule rules.now.configurations (rule_of rules.now.rules path.now)
+        (with_children (out-Term node.now) [])) }
 {
     match rule_of(rules.rules.list(), path) {
         Some(rule) => by_name(alloc, rules.configurations.list(), &rule.replacement, node),

@@ -1,4 +1,4 @@
-ghost use Rattle.std.specs.Prelude.{◌≡◌, [], IfOk, None, Some, option_map};
+ghost use Rattle.std.specs.Prelude.{◌≡◌, [], None, Some, option_map};
 ghost use Rattle.serde_json.specs.Find.{as_object, get_member};
 ghost use Rattle.serde_json.specs.View.{members_view, view};
 ghost use Rattle.bt_script.specs.Stops.{Gives};
@@ -7,9 +7,10 @@ ghost use Rattle.bt_mock.specs.RuleFiles.{configuration_in, delay_in, document_i
 ghost use Rattle.bt_mock.specs.Seen.{draft_seen, members_seen};
 
 use crate::fault::MockFault;
+use crate::names::name_of;
 use crate::rules::{Configuration, ReturnStatus, Rule, Rules};
 use bt_build::script;
-use bt_script::{Items, Name, NoMemory, Stop};
+use bt_script::{Items, Name, Stop};
 use serde_json::{Map, Value};
 use std::alloc::Global;
 
@@ -19,13 +20,6 @@ struct Draft<'v> {
     return_status: ReturnStatus,
     async_delay: u32,
     post_script: Option<&'v str>,
-}
-
-/// The name with these bytes.
-fn name_of(alloc: Global, text: &str) -> Result<Name, NoMemory>
-    ensures { IfOk result (λ name. name ≡ text.now) }
-{
-    Ok(Name::of(Vec::from_slice(alloc, text.as_bytes())?))
 }
 
 /// The status that a text names.

@@ -55,7 +55,9 @@ fn children_replaced(
     node: &Term,
     above: &[u8],
 ) -> Result<Items<Term>, NoMemory>
-    ensures { IfOk result (λ all. all ≡ map (λ term. replaced rules.now term (inside (out-Term node.now).kind (out-Term node.now).name above.now)) (out-Term node.now).children) }
+    ensures { IfOk result (λ all. all ≡ map
+        (λ term. replaced rules.now term (inside (out-Term node.now).kind (out-Term node.now).name above.now))
+        (out-Term node.now).children) }
 {
     match node.kind {
         Kind::SubTree => {
