@@ -1,3 +1,4 @@
 mod Eaches
 mod Replacing
 mod Texts
+mod Ordered
