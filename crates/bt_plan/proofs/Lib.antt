@@ -4,6 +4,7 @@ pub mod Leading
 pub mod Listed
 pub mod Marks
 pub mod Nearer
+pub mod Planned
 pub mod Reaching
 pub mod Settlements
 pub mod Settles
