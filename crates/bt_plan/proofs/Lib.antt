@@ -1,5 +1,6 @@
 pub mod Conditions
 pub mod Growths
+pub mod Joined
 pub mod Leading
 pub mod Listed
 pub mod Marks
@@ -10,5 +11,8 @@ pub mod Settlements
 pub mod Settles
 pub mod Spots
 pub mod Subtrees
+pub mod Ticks
 pub mod Traces
+pub mod Trials
 pub mod Wanted
+pub mod Worlds

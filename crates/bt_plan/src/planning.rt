@@ -21,7 +21,8 @@ use bt_model::World;
 use bt_script::{Items, NoMemory, Stop};
 use std::alloc::Global;
 
-/// Runs the tree as it stands, and makes a step or ends.
+/// Runs the tree as it stands, and makes a step or ends. The error is want of memory. In the end no
+/// driver holds anything, whatever is answered.
 fn go_on<D: Drivers>(
     alloc: Global,
     world: &World,
@@ -35,7 +36,8 @@ fn go_on<D: Drivers>(
     requires quiet { NothingHeld (D.states drivers.old) }
     requires tree { (tree : Forest) × StandsFor t.old world.now tree × (subtrees tree ≡ length steps.old.items) }
     requires few { length steps.old.items ≤ task.now.limits.expand }
-    ensures goes { (tree : Forest) → StandsFor t.old world.now tree → GoesFrom result tree t.new world.now task.now.limits steps.old.items steps.new.items (D.states drivers.old) (D.states drivers.new) }
+    ensures goes { (tree : Forest) → StandsFor t.old world.now tree →
+        GoesFrom result tree t.new world.now task.now.limits steps.old.items steps.new.items (D.states drivers.old) (D.states drivers.new) }
     ensures none { NothingHeld (D.states drivers.new) }
     ensures roster { IsSameRoster (D.states drivers.old) (D.states drivers.new) }
 {
@@ -69,7 +71,8 @@ fn go_on<D: Drivers>(
     }
 }
 
-/// Makes steps from the first tree on until one ends.
+/// Makes steps from the first tree on until the plan run ends. The error is want of memory. In the end
+/// no driver holds anything, whatever is answered.
 fn make_steps<D: Drivers>(
     alloc: Global,
     world: &World,
@@ -102,8 +105,8 @@ fn make_steps<D: Drivers>(
 /// goals alone. Each tree is run in the modelled world: one runner, from the opening facts on, ticked
 /// once each period, with the drivers prepared anew. Where it reaches the goals, planning ends. Where
 /// it fails, the first condition that failed, in breadth-first order, and has an untried template is
-/// expanded, and the new sequence is raised until nothing conflicts. Whatever is answered, no driver
-/// holds anything then.
+/// expanded, and the new sequence is raised until nothing conflicts. The error is want of memory. In
+/// the end no driver holds anything, whatever is answered.
 pub fn plan<D: Drivers>(
     alloc: Global,
     world: &World,

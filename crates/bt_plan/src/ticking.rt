@@ -1,11 +1,11 @@
 //! The ticks of a modelled run.
 
-ghost use Rattle.std.specs.Prelude.{◌≡◌, ◌<◌, OnErr};
-ghost use Rattle.bt_model.specs.declared.term.Tree.{Tree};
-ghost use Rattle.bt_model.specs.declared.world.World.{World};
+ghost use Rattle.std.specs.Prelude.{◌≡◌, ◌<◌, ◌+◌, OnErr, true, false};
 ghost use Rattle.bt_model.specs.Drivers.{NothingHeld};
 ghost use Rattle.bt_loop.specs.Runs.{arenas_of};
 ghost use Rattle.bt_loop.specs.Steps.{HaveRoom, IsSameRoster};
+ghost use Rattle.bt_trace.specs.Traces.{Setup};
+ghost use Rattle.bt_plan.specs.declared.verdict.Verdict.TheVariants.{GoesOn};
 ghost use Rattle.bt_plan.specs.Ticked.{IsAfter, IsTaskOf, TickEnds, TicksEnd};
 
 use crate::goals::decide;
@@ -25,7 +25,8 @@ pub(crate) struct Ticked {
     pub verdict: Verdict,
 }
 
-/// Makes the tick that comes after so many.
+/// Makes the tick that comes after so many. The error is the fault of a node, or want of memory; after
+/// either no driver holds anything.
 fn make_tick<D: Drivers>(
     alloc: Global,
     task: &Task,
@@ -34,11 +35,12 @@ fn make_tick<D: Drivers>(
     drivers: &mut D,
     block: &mut Block,
 ) -> Result<Verdict, Stop<RunFault>>
-    requires run { (tree : Tree) × (world : World) × IsTaskOf world task.now × IsAfter tree world task.now.limits.period before (D.states drivers.old) runs.old }
+    ghost of: { Setup }
+    requires task { IsTaskOf of.world task.now }
+    requires run { IsAfter of task.now.limits.period before (D.states drivers.old) runs.old }
     requires allowed { before < task.now.limits.ticks }
     requires room { HaveRoom (arenas_of runs.old) block.old.notes }
-    ensures ends { (tree : Tree) (world : World) → IsTaskOf world task.now → IsAfter tree world task.now.limits.period before (D.states drivers.old) runs.old →
-        TickEnds result tree world task.now.limits.period before (D.states drivers.old) (D.states drivers.new) runs.new block.new }
+    ensures ends { TickEnds result of task.now.limits.period before (D.states drivers.old) (D.states drivers.new) runs.new block.new }
     ensures none { OnErr result (NothingHeld (D.states drivers.new)) }
     ensures arenas { arenas_of runs.new ≡ arenas_of runs.old }
     ensures room { block.new.notes.full ≡ block.old.notes.full }
@@ -56,7 +58,20 @@ fn make_tick<D: Drivers>(
     ))
 }
 
-/// Makes ticks until one decides, or as many as are allowed.
+/// Whether the tick after so many, which decided so, is the last one of its run.
+fn is_last(verdict: Verdict, before: u32, ticks: u32) -> bool
+    requires { before < ticks }
+    ensures last { result ≡ true → verdict ≡ GoesOn → before + 1 ≡ ticks }
+    ensures on { result ≡ false → (verdict ≡ GoesOn) × (before + 1 < ticks) }
+{
+    match verdict {
+        Verdict::GoesOn => before + 1 == ticks,
+        Verdict::Reaches | Verdict::Fails => true,
+    }
+}
+
+/// Makes ticks until one decides, or as many as are allowed. The error is the fault of a node, or want
+/// of memory; after either no driver holds anything.
 pub fn make_ticks<D: Drivers>(
     alloc: Global,
     task: &Task,
@@ -64,10 +79,11 @@ pub fn make_ticks<D: Drivers>(
     drivers: &mut D,
     block: &mut Block,
 ) -> Result<Ticked, Stop<RunFault>>
-    requires run { (tree : Tree) × (world : World) × IsTaskOf world task.now × IsAfter tree world task.now.limits.period 0 (D.states drivers.old) runs.old }
+    ghost of: { Setup }
+    requires task { IsTaskOf of.world task.now }
+    requires run { IsAfter of task.now.limits.period 0 (D.states drivers.old) runs.old }
     requires room { HaveRoom (arenas_of runs.old) block.old.notes }
-    ensures ends { (tree : Tree) (world : World) → IsTaskOf world task.now → IsAfter tree world task.now.limits.period 0 (D.states drivers.old) runs.old →
-        TicksEnd result tree world task.now.limits (D.states drivers.old) (D.states drivers.new) runs.new block.new }
+    ensures ends { TicksEnd result of task.now.limits (D.states drivers.old) (D.states drivers.new) runs.new block.new }
     ensures none { OnErr result (NothingHeld (D.states drivers.new)) }
     ensures arenas { arenas_of runs.new ≡ arenas_of runs.old }
     ensures room { block.new.notes.full ≡ block.old.notes.full }
@@ -75,12 +91,9 @@ pub fn make_ticks<D: Drivers>(
 {
     for before in 0..task.limits.ticks {
         let verdict = make_tick(alloc, task, before, runs, drivers, block)?;
-        if !matches!(verdict, Verdict::GoesOn) {
+        if is_last(verdict, before, task.limits.ticks) {
             return Ok(Ticked { before, verdict });
         }
     }
-    Ok(Ticked {
-        before: task.limits.ticks - 1,
-        verdict: Verdict::GoesOn,
-    })
+    unreachable!()
 }

@@ -1,14 +1,17 @@
 //! A tree and its modelled run.
 
-ghost use Rattle.std.specs.Prelude.{◌≡◌, IfOk};
+ghost use Rattle.std.specs.Prelude.{◌≡◌, IfOk, List};
 ghost use Rattle.bt_model.specs.declared.world.World.{World};
-ghost use Rattle.bt_model.specs.Drivers.{NothingHeld, driver_at, roster_prepared};
+ghost use Rattle.bt_model.specs.Drivers.{NothingHeld};
+ghost use Rattle.bt_model.specs.Run.{RunnerCall};
 ghost use Rattle.bt_model.specs.Trees.{IsValid};
-ghost use Rattle.bt_loop.specs.Runs.{instances_wanted};
+ghost use Rattle.bt_loop.specs.Runs.{arenas_of, roster_over};
+ghost use Rattle.bt_loop.specs.Served.{roster_after_run};
 ghost use Rattle.bt_loop.specs.Steps.{IsSameRoster};
+ghost use Rattle.bt_trace.specs.Traces.{Setup};
 ghost use Rattle.bt_plan.specs.Answers.{AreServed};
 ghost use Rattle.bt_plan.specs.Modelled.{modelled};
-ghost use Rattle.bt_plan.specs.Ticked.{IsPlannedFor, IsTaskOf, RunEnds};
+ghost use Rattle.bt_plan.specs.Ticked.{HaveSameTotals, IsAfter, IsPlannedFor, IsTaskOf, RunEnds};
 
 use crate::task::Task;
 use crate::ticking::{Ticked, make_ticks};
@@ -17,7 +20,7 @@ use bt_board::slots_of;
 use bt_driver::Drivers;
 use bt_loop::{Runs, leaves, make_runs, run_finish};
 use bt_model::{RunFault, Tree};
-use bt_script::Stop;
+use bt_script::{NoMemory, Stop};
 use std::alloc::Global;
 
 /// A modelled run without a fault: what its last tick decided, with the block of this tick.
@@ -27,28 +30,52 @@ pub(crate) struct Tried {
     pub block: Block,
 }
 
-/// The runs of a tree whose leaves all have a row and a driver.
+/// The runs of a tree in the modelled world, before the first tick. All its leaves have a row and a
+/// driver, so the error is want of memory.
 fn begin<D: Drivers>(
     alloc: Global,
     tree: &Tree,
     task: &Task,
     drivers: &mut D,
-) -> Result<Runs, Stop<RunFault>> {
+) -> Result<Runs, NoMemory>
+    ghost world: { World }
+    requires task { IsTaskOf world task.now }
+    requires served { AreServed world (D.states drivers.old) }
+    requires planned { IsPlannedFor world tree.now }
+    requires tree { IsValid tree.now }
+    requires quiet { NothingHeld (D.states drivers.old) }
+    ensures runs { IfOk result (λ runs. IsAfter (record { tree = tree.now; world = world }) task.now.limits.period 0 (D.states drivers.new) runs) }
+    ensures prepared { IfOk result (λ runs. (calls : List RunnerCall) →
+        roster_over (arenas_of runs) calls (D.states drivers.new) ≡ roster_after_run tree.now (modelled world) (D.states drivers.old) calls) }
+    ensures none { NothingHeld (D.states drivers.new) }
+    ensures roster { IsSameRoster (D.states drivers.old) (D.states drivers.new) }
+    ensures totals { HaveSameTotals (D.states drivers.old) (D.states drivers.new) }
+{
     let slots = slots_of(alloc, tree)?;
     match make_runs(alloc, tree, &slots, &task.world, drivers) {
         Ok(runs) => Ok(runs),
-        Err(Stop::NoMemory) => Err(Stop::NoMemory),
+        Err(Stop::NoMemory) => Err(NoMemory),
         Err(Stop::Fault(_)) => unreachable!(),
     }
 }
 
-/// Makes the ticks of a modelled run and then finishes it.
+/// Makes the ticks of a modelled run and then finishes it. The error is the fault of a node, or want of
+/// memory. In the end no driver holds anything, whatever is answered.
 fn make_run<D: Drivers>(
     alloc: Global,
     task: &Task,
     mut runs: Runs,
     drivers: &mut D,
-) -> Result<Tried, Stop<RunFault>> {
+) -> Result<Tried, Stop<RunFault>>
+    ghost of: { Setup }
+    requires task { IsTaskOf of.world task.now }
+    requires tree { IsValid of.tree }
+    requires run { IsAfter of task.now.limits.period 0 (D.states drivers.old) runs }
+    requires quiet { NothingHeld (D.states drivers.old) }
+    ensures ends { RunEnds result of task.now.limits (λ calls. roster_over (arenas_of runs) calls (D.states drivers.old)) (D.states drivers.old) (D.states drivers.new) }
+    ensures none { NothingHeld (D.states drivers.new) }
+    ensures roster { IsSameRoster (D.states drivers.old) (D.states drivers.new) }
+{
     let count = leaves(&runs) as u32;
     let mut block = block_for(alloc, count)?;
     let mut last = block_for(alloc, count)?;
@@ -57,18 +84,22 @@ fn make_run<D: Drivers>(
     Ok(Tried { ticked, block })
 }
 
-/// Runs a tree in the modelled world. The drivers are prepared anew, and nothing is held in the end,
-/// whatever is answered.
+/// Runs a tree in the modelled world, with the drivers prepared anew. The error is the fault of a node,
+/// or want of memory. In the end no driver holds anything, whatever is answered.
 pub fn run_tree<D: Drivers>(
     alloc: Global,
     tree: &Tree,
     task: &Task,
     drivers: &mut D,
 ) -> Result<Tried, Stop<RunFault>>
-    requires task { (world : World) × IsTaskOf world task.now × AreServed world (D.states drivers.old) × IsPlannedFor world tree.now }
+    ghost world: { World }
+    requires task { IsTaskOf world task.now }
+    requires served { AreServed world (D.states drivers.old) }
+    requires planned { IsPlannedFor world tree.now }
     requires tree { IsValid tree.now }
     requires quiet { NothingHeld (D.states drivers.old) }
-    ensures ends { (world : World) → IsTaskOf world task.now → AreServed world (D.states drivers.old) → IsPlannedFor world tree.now → RunEnds result tree.now world task.now.limits (D.states drivers.old) (D.states drivers.new) }
+    ensures ends { RunEnds result (record { tree = tree.now; world = world }) task.now.limits
+        (λ calls. roster_after_run tree.now (modelled world) (D.states drivers.old) calls) (D.states drivers.old) (D.states drivers.new) }
     ensures none { NothingHeld (D.states drivers.new) }
     ensures roster { IsSameRoster (D.states drivers.old) (D.states drivers.new) }
 {
