@@ -16,12 +16,11 @@ use Rattle.bt_model.specs.Run.{RunnerCall, RunState, Stepped, Trace, before_rest
 use Rattle.bt_arena.specs.declared.block.Block.{Block}
 use Rattle.bt_arena.specs.declared.nodes.Node.{Node}
 use Rattle.bt_loop.specs.declared.runs.Runs.{Runs}
-use Rattle.bt_loop.specs.Runs.{AreRuns, arenas_of, leaves_of, roster_over, state_of_runs}
+use Rattle.bt_loop.specs.Runs.{AreRuns, Setup, arenas_of, leaves_of, roster_over, state_of_runs}
 use Rattle.bt_loop.specs.Steps.{EventEnds, HaveRoom, IsSameRoster}
 use Rattle.bt_loop.proofs.Rising.{roster_both, same_roster}
 use Rattle.bt_trace.specs.Cuts.{IsCut}
 use Rattle.bt_trace.specs.Rounds.{nothing_more}
-use Rattle.bt_trace.specs.Traces.{Setup}
 use Rattle.bt_trace.proofs.Cuts.{cut_after, event_cut, over_both}
 use Rattle.bt_trace.proofs.Steps.{last_is}
 use Rattle.bt_domain.specs.declared.effects.Test.{Test}

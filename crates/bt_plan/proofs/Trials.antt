@@ -22,7 +22,7 @@ use Rattle.bt_model.specs.Drivers.{DriverState, driver_at}
 use Rattle.bt_model.specs.Run.{RunState, Runner, RunnerCall, Stepped, Trace, before_rest, finish, opening, reset_step, run_from, runner_at, step, step_by, tick_step, told}
 use Rattle.bt_loop.specs.Served.{roster_after_run}
 use Rattle.bt_trace.specs.Cuts.{HaveBegunWithin}
-use Rattle.bt_trace.specs.Traces.{Setup}
+use Rattle.bt_loop.specs.Runs.{Setup}
 use Rattle.bt_expand.specs.declared.plan_tree.PlanTree.{PlanTree}
 use Rattle.bt_expand.specs.Forests.{Forest}
 use Rattle.bt_expand.specs.Planned.{IsPlanned, plain_node}

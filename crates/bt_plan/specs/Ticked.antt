@@ -11,9 +11,8 @@ use Rattle.bt_model.specs.Run.{RunnerCall}
 use Rattle.bt_model.specs.Worlds.{IsValidWorld}
 use Rattle.bt_arena.specs.declared.block.Block.{Block}
 use Rattle.bt_loop.specs.declared.runs.Runs.{Runs}
-use Rattle.bt_loop.specs.Runs.{AreRuns, arenas_of, roster_over, state_of_runs}
+use Rattle.bt_loop.specs.Runs.{AreRuns, Setup, arenas_of, roster_over, state_of_runs}
 use Rattle.bt_trace.specs.Cuts.{HaveBegunWithin, IsCut}
-use Rattle.bt_trace.specs.Traces.{Setup}
 use Rattle.bt_expand.specs.declared.plan_tree.PlanTree.{PlanTree}
 use Rattle.bt_expand.specs.Forests.{Forest}
 use Rattle.bt_expand.specs.Stands.{PartsFit}

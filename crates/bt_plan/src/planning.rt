@@ -1,4 +1,5 @@
 ghost use Rattle.std.specs.Prelude.{◌≡◌, ◌≢◌, ◌≤◌, [], IfOk, OnErr, length};
+ghost use Rattle.bt_model.specs.declared.world.World.{World as Modelled};
 ghost use Rattle.bt_model.specs.Drivers.{NothingHeld};
 ghost use Rattle.bt_model.specs.Worlds.{IsValidWorld};
 ghost use Rattle.bt_expand.specs.Forests.{Forest, subtrees};
@@ -31,6 +32,8 @@ fn go_on<D: Drivers>(
     steps: &mut Vec<Step>,
     drivers: &mut D,
 ) -> Result<Option<End>, NoMemory>
+    ghost of: { Modelled }
+    requires same { world.now ≡ of }
     requires task { IsTaskOf world.now task.now }
     requires served { AreServed world.now (D.states drivers.old) }
     requires quiet { NothingHeld (D.states drivers.old) }
@@ -90,7 +93,7 @@ fn make_steps<D: Drivers>(
     ensures roster { IsSameRoster (D.states drivers.old) (D.states drivers.new) }
 {
     let mut steps = Vec::new(alloc);
-    for _ in 0..=task.limits.expand {
+    for _ in 0..task.limits.expand + 1 {
         if let Some(end) = go_on(alloc, world, task, &mut t, &mut steps, drivers)? {
             return Ok(PlanEnd {
                 steps: Items::of(steps),

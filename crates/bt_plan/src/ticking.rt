@@ -2,9 +2,8 @@
 
 ghost use Rattle.std.specs.Prelude.{◌≡◌, ◌<◌, ◌+◌, OnErr, true, false};
 ghost use Rattle.bt_model.specs.Drivers.{NothingHeld};
-ghost use Rattle.bt_loop.specs.Runs.{arenas_of};
+ghost use Rattle.bt_loop.specs.Runs.{Setup, arenas_of};
 ghost use Rattle.bt_loop.specs.Steps.{HaveRoom, IsSameRoster};
-ghost use Rattle.bt_trace.specs.Traces.{Setup};
 ghost use Rattle.bt_plan.specs.declared.verdict.Verdict.TheVariants.{GoesOn};
 ghost use Rattle.bt_plan.specs.Ticked.{IsAfter, IsTaskOf, TickEnds, TicksEnd};
 

@@ -1,14 +1,12 @@
 //! A tree and its modelled run.
 
 ghost use Rattle.std.specs.Prelude.{◌≡◌, IfOk, List};
-ghost use Rattle.bt_model.specs.declared.world.World.{World};
 ghost use Rattle.bt_model.specs.Drivers.{NothingHeld};
 ghost use Rattle.bt_model.specs.Run.{RunnerCall};
 ghost use Rattle.bt_model.specs.Trees.{IsValid};
-ghost use Rattle.bt_loop.specs.Runs.{arenas_of, roster_over};
+ghost use Rattle.bt_loop.specs.Runs.{Setup, arenas_of, roster_over};
 ghost use Rattle.bt_loop.specs.Served.{roster_after_run};
 ghost use Rattle.bt_loop.specs.Steps.{IsSameRoster};
-ghost use Rattle.bt_trace.specs.Traces.{Setup};
 ghost use Rattle.bt_plan.specs.Answers.{AreServed};
 ghost use Rattle.bt_plan.specs.Modelled.{modelled};
 ghost use Rattle.bt_plan.specs.Ticked.{HaveSameTotals, IsAfter, IsPlannedFor, IsTaskOf, RunEnds};
@@ -38,15 +36,16 @@ fn begin<D: Drivers>(
     task: &Task,
     drivers: &mut D,
 ) -> Result<Runs, NoMemory>
-    ghost world: { World }
-    requires task { IsTaskOf world task.now }
-    requires served { AreServed world (D.states drivers.old) }
-    requires planned { IsPlannedFor world tree.now }
-    requires tree { IsValid tree.now }
+    ghost of: { Setup }
+    requires same { tree.now ≡ of.tree }
+    requires task { IsTaskOf of.world task.now }
+    requires served { AreServed of.world (D.states drivers.old) }
+    requires planned { IsPlannedFor of.world of.tree }
+    requires tree { IsValid of.tree }
     requires quiet { NothingHeld (D.states drivers.old) }
-    ensures runs { IfOk result (λ runs. IsAfter (record { tree = tree.now; world = world }) task.now.limits.period 0 (D.states drivers.new) runs) }
+    ensures runs { IfOk result (λ runs. IsAfter of task.now.limits.period 0 (D.states drivers.new) runs) }
     ensures prepared { IfOk result (λ runs. (calls : List RunnerCall) →
-        roster_over (arenas_of runs) calls (D.states drivers.new) ≡ roster_after_run tree.now (modelled world) (D.states drivers.old) calls) }
+        roster_over (arenas_of runs) calls (D.states drivers.new) ≡ roster_after_run of.tree (modelled of.world) (D.states drivers.old) calls) }
     ensures none { NothingHeld (D.states drivers.new) }
     ensures roster { IsSameRoster (D.states drivers.old) (D.states drivers.new) }
     ensures totals { HaveSameTotals (D.states drivers.old) (D.states drivers.new) }
@@ -92,14 +91,15 @@ pub fn run_tree<D: Drivers>(
     task: &Task,
     drivers: &mut D,
 ) -> Result<Tried, Stop<RunFault>>
-    ghost world: { World }
-    requires task { IsTaskOf world task.now }
-    requires served { AreServed world (D.states drivers.old) }
-    requires planned { IsPlannedFor world tree.now }
-    requires tree { IsValid tree.now }
+    ghost of: { Setup }
+    requires same { tree.now ≡ of.tree }
+    requires task { IsTaskOf of.world task.now }
+    requires served { AreServed of.world (D.states drivers.old) }
+    requires planned { IsPlannedFor of.world of.tree }
+    requires tree { IsValid of.tree }
     requires quiet { NothingHeld (D.states drivers.old) }
-    ensures ends { RunEnds result (record { tree = tree.now; world = world }) task.now.limits
-        (λ calls. roster_after_run tree.now (modelled world) (D.states drivers.old) calls) (D.states drivers.old) (D.states drivers.new) }
+    ensures ends { RunEnds result of task.now.limits
+        (λ calls. roster_after_run of.tree (modelled of.world) (D.states drivers.old) calls) (D.states drivers.old) (D.states drivers.new) }
     ensures none { NothingHeld (D.states drivers.new) }
     ensures roster { IsSameRoster (D.states drivers.old) (D.states drivers.new) }
 {
