@@ -1,9 +1,11 @@
 -- The leaves of a planned tree all have a row, and a driver where each row has one.
-use Rattle.std.proofs.Common.{◌≡◌, ◌≢◌, ℕ, zero, suc, ◌+◌, ◌<◌, Bool, true, false, List, [], ◌∷◌, ◌++◌, length, get_or, map, Option, Some, None, refl, sym, ap, subst, ◌∙◌, arith}
+use Rattle.std.proofs.Common.{◌≡◌, ◌≢◌, ℕ, zero, suc, ◌+◌, ◌<◌, Bool, true, false, List, [], ◌∷◌, ◌++◌, length, get_or, map, Option, Some, None, Result, Ok, Err, refl, sym, ap, subst, ◌∙◌, arith}
 use Rattle.std.specs.Prelude.{bytes_eq, codes, cond, if◌then◌else◌, option_map, slice_get}
 use Rattle.std.specs.List.{All, find, flat_map}
 use Rattle.std.specs.Option.{option_map_or, option_or}
 use Rattle.std.proofs.lemmas.Slice.Eq.{bytes_eq-Decides}
+use Rattle.bt_script.specs.declared.stop.Stop.{Stop}
+use Rattle.bt_script.specs.declared.stop.Stop.TheVariants as stop
 use Rattle.bt_model.specs.declared.leaf.DriverKind.{DriverKind}
 use Rattle.bt_model.specs.declared.leaf.DriverKind.TheVariants as driver
 use Rattle.bt_model.specs.declared.term.Term.{Term, Term-F, fold-roll-Term, roll-Term}
@@ -14,7 +16,7 @@ use Rattle.bt_model.specs.declared.world.World.{World}
 use Rattle.bt_model.specs.Drivers.{DriverState, driver_at, kind_of_row, place_of_kind, same_kind}
 use Rattle.bt_model.specs.Terms.{leaf_ids, own_leaf_id}
 use Rattle.bt_arena.specs.declared.join_fault.JoinFault.{JoinFault}
-use Rattle.bt_arena.specs.Joins.{first_missing, lacks_by, lacks_driver, leaf_lacks}
+use Rattle.bt_arena.specs.Joins.{Joins, first_missing, lacks_by, lacks_driver, leaf_lacks}
 use Rattle.bt_loop.specs.Steps.{IsSameRoster}
 use Rattle.bt_expand.specs.declared.node.Part.{Part}
 use Rattle.bt_expand.specs.declared.node.Part.TheVariants.{Goals, Sequence, Fallback, Condition, Action}
@@ -34,17 +36,22 @@ has_driver (Some place) kind some = refl
 has_driver None kind some = absurd (some refl)
 
 module _ (drivers : List DriverState) where
+  abbrev IsFound : List Row → List ℕ → Type 0
+  IsFound rows id = lacks_by (find (λ (r : Row). bytes_eq r.id id) rows) drivers id ≡ None
+
+  not_first : (r : Row) (rows : List Row) (id : List ℕ) (row : ℕ) → ((k : ℕ) → k < length rows → id_of rows k ≡ id → IsFound rows id) → row < length (r ∷ rows) → id_of (r ∷ rows) row ≡ id → bytes_eq r.id id ≡ false → IsFound rows id
+  not_first r rows id zero others low is e = absurd (let same : bytes_eq r.id id ≡ true = (bytes_eq-Decides r.id id).1 is in let w : true ≡ false = sym same ∙ e in cc)
+  not_first r rows id (suc k) others low is e = others k (omega (arith, low)) is
+
   -- a row of this ID is found among some that have a driver each
-  is_found : (rows : List Row) (id : List ℕ) (row : ℕ) → row < length rows → id_of rows row ≡ id → All (λ (r : Row). place_of_kind drivers (kind_of_row r) ≢ None) rows → lacks_by (find (λ (r : Row). bytes_eq r.id id) rows) drivers id ≡ None
+  is_found : (rows : List Row) (id : List ℕ) (row : ℕ) → row < length rows → id_of rows row ≡ id → All (λ (r : Row). place_of_kind drivers (kind_of_row r) ≢ None) rows → IsFound rows id
   is_found [] id row low is served = absurd (omega (arith, low))
   is_found (r ∷ rows) id row low is served =
+      let others : (k : ℕ) → k < length rows → id_of rows k ≡ id → IsFound rows id = λ k below e. is_found rows id k below e (λ i d within. served (suc i) d (omega (arith, within))) in
       elim (bytes_eq r.id id) as (λ (b : Bool). bytes_eq r.id id ≡ b → lacks_by (cond b (Some r) (find (λ (x : Row). bytes_eq x.id id) rows)) drivers id ≡ None) [
         | true ↦ λ e. has_driver (place_of_kind drivers (kind_of_row r)) (kind_of_row r) (served 0 r (omega arith))
-        | false ↦ λ e. further row low is e
-      ] refl where
-    further : (k : ℕ) → k < length (r ∷ rows) → id_of (r ∷ rows) k ≡ id → bytes_eq r.id id ≡ false → lacks_by (find (λ (x : Row). bytes_eq x.id id) rows) drivers id ≡ None
-    further zero low is e = absurd (let same : bytes_eq r.id id ≡ true = (bytes_eq-Decides r.id id).1 is in let w : true ≡ false = sym same ∙ e in cc)
-    further (suc k) low is e = is_found rows id k (omega (arith, low)) is (λ i d within. served (suc i) d (omega (arith, within)))
+        | false ↦ λ e. not_first r rows id row others low is e
+      ] refl
 
   module _ (rows : List Row) (served : All (λ (r : Row). place_of_kind drivers (kind_of_row r) ≢ None) rows) where
     abbrev missing : List (List ℕ) → Option JoinFault
@@ -90,6 +97,14 @@ module _ (drivers : List DriverState) where
 -- nothing is missing for the leaves of a planned tree
 pub none_missing : (world : World) (drivers : List DriverState) (tree : Planned) → AreServed world drivers → IsPlannedFor world tree → first_missing world.rows drivers (leaf_ids tree.term) ≡ None
 none_missing world drivers tree served (f, is, fits) = ap (λ (t : Planned). first_missing world.rows drivers (leaf_ids t.term)) is ∙ first_there drivers world.rows served f fits
+
+-- so no run lacks anything
+pub lacks_nothing : {A : Type 0} (r : Result A (Stop JoinFault)) (lack : Option JoinFault) (e : Stop JoinFault) (fault : JoinFault) → r ≡ Err e → e ≡ stop.Fault fault → lack ≡ None → Joins r lack → ⊥
+lacks_nothing (Ok a) lack e fault was is none joins = cc was
+lacks_nothing (Err (stop.Fault f)) lack e fault was is none joins = let w : None ≡ Some f = sym none ∙ joins in cc w
+lacks_nothing (Err stop.NoMemory) lack e fault was is none joins =
+    let same : stop.NoMemory ≡ e = cc was in
+    let w : stop.NoMemory ≡ stop.Fault fault = same ∙ is in cc w
 
 -- ---- The drivers after a run
 

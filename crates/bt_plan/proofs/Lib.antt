@@ -1,4 +1,5 @@
 pub mod Conditions
+pub mod Finishing
 pub mod Growths
 pub mod Joined
 pub mod Leading
@@ -7,6 +8,7 @@ pub mod Marks
 pub mod Nearer
 pub mod Planned
 pub mod Reaching
+pub mod Resting
 pub mod Settlements
 pub mod Settles
 pub mod Spots

@@ -122,7 +122,7 @@ module _ (world : World) (limits : Limits) (t : PlanTree) (steps : List Step) (b
   pub plan_cut : (e : NoMemory) → Goes (Err e) → IsPlanCut world limits before after
   plan_cut e (inl same) = record {
     trials = p.done;
-    begins = record { first = p.first; is_first = p.is_first; done = p.done; steps = steps; tree = p.tree; lead = p.lead; last = inl refl };
+    begins = inr (record { first = p.first; is_first = p.is_first; done = p.done; steps = steps; tree = p.tree; lead = p.lead; last = inl refl });
     within = λ place.
         let now_is : (driver_at now place).totals ≡ (driver_at (drivers_after world limits p.done before) place).totals = ap (λ (ds : List DriverState). (driver_at ds place).totals) p.drivers in
         let e = same place ∙ now_is in
@@ -130,7 +130,7 @@ module _ (world : World) (limits : Limits) (t : PlanTree) (steps : List Step) (b
   }
   plan_cut e (inr (trial, same, tried, within)) = record {
     trials = p.done ++ trial ∷ [];
-    begins = record { first = p.first; is_first = p.is_first; done = p.done; steps = steps; tree = p.tree; lead = p.lead; last = inr (trial, same, tried, refl) };
+    begins = inr (record { first = p.first; is_first = p.is_first; done = p.done; steps = steps; tree = p.tree; lead = p.lead; last = inr (trial, same, tried, refl) });
     within =
         let whole : drivers_after world limits (trial ∷ []) now ≡ drivers_after world limits (p.done ++ trial ∷ []) before =
         ap (drivers_after world limits (trial ∷ [])) p.drivers ∙ sym (drivers_both world limits p.done (trial ∷ []) before) in
@@ -139,3 +139,7 @@ module _ (world : World) (limits : Limits) (t : PlanTree) (steps : List Step) (b
           runnings = λ few. (within place).runnings ((p.roster.totals place).runnings few).1;
         });
   }
+
+-- memory was wanting before the first trial
+pub nothing_planned : (world : World) (limits : Limits) (drivers : List DriverState) → IsPlanCut world limits drivers drivers
+nothing_planned world limits drivers = record { trials = []; begins = inl refl; within = λ place. record { starts = λ few. omega arith; runnings = λ few. omega arith } }

@@ -1,5 +1,6 @@
 -- One tick of a modelled run, as runs go, and all its ticks in order.
-use Rattle.std.proofs.Common.{◌≡◌, inl, inr, ℕ, suc, ℤ, Bool, false, ◌+◌, ◌*◌, ◌≤◌, ◌<◌, List, [], ◌∷◌, ◌++◌, Option, Some, None, Result, Ok, Err, length, map, refl, sym, ap, subst, ◌∙◌, append_assoc, append-nil, arith, mul-le}
+use Rattle.std.proofs.Common.{◌≡◌, inl, inr, ℕ, suc, ℤ, Bool, false, ◌+◌, ◌*◌, ◌≤◌, ◌<◌, List, [], ◌∷◌, ◌++◌, Option, Some, None, Result, Ok, Err, length, map, refl, sym, ap, subst, ◌∙◌, append_assoc, append-nil, arith}
+use Rattle.std.proofs.lemmas.Nat.{mul-le}
 use Rattle.std.specs.List.{list_all, list_any}
 use Rattle.std.specs.Option.{option_map_or}
 use Rattle.std.specs.Result.{IsErrAnd}
@@ -53,11 +54,11 @@ tests_hold rows facts tests goals are =
 
 -- ---- One tick
 
-nothing_follows : (d : Stepped) → (then_rest d nothing_more).calls ≡ d.calls
+pub nothing_follows : (d : Stepped) → (then_rest d nothing_more).calls ≡ d.calls
 nothing_follows d = elim d.fault as (λ (o : Option RunFault). (before_rest o d nothing_more).calls ≡ d.calls) [ None ↦ append-nil d.calls | Some f ↦ refl ]
 
 -- a trace that was cut off, as one that begins with its calls
-cut_as : (arenas : List (List Node)) (before after : List DriverState) (part whole : Trace) (more : List RunnerCall) → part.calls ++ more ≡ whole.calls → IsCut arenas before after part → IsCut arenas before after whole
+pub cut_as : (arenas : List (List Node)) (before after : List DriverState) (part whole : Trace) (more : List RunnerCall) → part.calls ++ more ≡ whole.calls → IsCut arenas before after part → IsCut arenas before after whole
 cut_as arenas before after part whole more is cut = record {
   made = cut.made;
   unmade = cut.unmade ++ more;
@@ -130,24 +131,26 @@ pub record SoFar (of : Setup) (limits : Limits) (n : ℕ) (opened runs : Runs) (
   pub drivers : now ≡ roster_over (arenas_of opened) (calls_after of.tree of.world limits.period n) before
   pub roster : IsSameRoster before now
 
--- the calls of a whole run are those of its ticks, and then others
-last_calls : (of : Setup) (limits : Limits) (m : ℕ) → IsLast of.tree of.world limits m → (more : List RunnerCall) × ((modelled_run of.tree of.world limits.period (m + 1)).calls ≡ calls_after of.tree of.world limits.period (m + 1) ++ more)
-last_calls of limits m last = by (next_tick of.tree of.world limits.period m).fault refl where
-  abbrev calls : List RunnerCall
-  calls = calls_after of.tree of.world limits.period (m + 1)
+module _ (of : Setup) (limits : Limits) (m : ℕ) (last : IsLast of.tree of.world limits m) where
+  abbrev all_calls : List RunnerCall
+  all_calls = calls_after of.tree of.world limits.period (m + 1)
 
-  before : (k : ℕ) → k < m → (next_tick of.tree of.world limits.period k).fault ≡ None
-  before k low = decided_none of.tree of.world limits.period k GoesOn (last.before k low)
+  not_before : (k : ℕ) → k < m → (next_tick of.tree of.world limits.period k).fault ≡ None
+  not_before k low = decided_none of.tree of.world limits.period k GoesOn (last.before k low)
 
-  by : (o : Option RunFault) → (next_tick of.tree of.world limits.period m).fault ≡ o → (more : List RunnerCall) × ((modelled_run of.tree of.world limits.period (m + 1)).calls ≡ calls ++ more)
-  by (Some fault) is = ([], (broke of.tree of.world limits.period m fault before is).calls_are ∙ sym (append-nil calls))
-  by None is = (
+  calls_by : (o : Option RunFault) → (next_tick of.tree of.world limits.period m).fault ≡ o → (more : List RunnerCall) × ((modelled_run of.tree of.world limits.period (m + 1)).calls ≡ all_calls ++ more)
+  calls_by (Some fault) is = ([], (broke of.tree of.world limits.period m fault not_before is).calls_are ∙ sym (append-nil all_calls))
+  calls_by None is = (
     _,
     (ran of.tree of.world limits.period (m + 1) (λ k low. elim (cases_eq k m) [
       | inl e ↦ ap (λ (j : ℕ). (next_tick of.tree of.world limits.period j).fault) e ∙ is
-      | inr e ↦ before k (omega (arith, low, e))
+      | inr e ↦ not_before k (omega (arith, low, e))
     ])).calls_are,
   )
+
+  -- the calls of a whole run are those of its ticks, and then others
+  last_calls : (more : List RunnerCall) × ((modelled_run of.tree of.world limits.period (m + 1)).calls ≡ all_calls ++ more)
+  last_calls = calls_by (next_tick of.tree of.world limits.period m).fault refl
 
 module _ (of : Setup) (limits : Limits) (opened : Runs) (before : List DriverState) where
   pub none_yet : AreInRange limits → IsAfter of limits.period 0 before opened → SoFar of limits 0 opened opened before before
@@ -222,13 +225,15 @@ module _ (of : Setup) (limits : Limits) (opened : Runs) (before : List DriverSta
               (cut_after (arenas_of new) (arenas_of new) before now after part (alone next) refl (calls n) refl drivers cut),
         )
 
+    stops_as : (e : Stop RunFault) (block : Block) → TickEnds (Err e) of limits.period n now after new block → TicksEnd (Err e) of limits before after new block
+    stops_as (stop.Fault fault) block f = let both = faulted fault f in (n, both.0, both.1)
+    stops_as stop.NoMemory block cut = cut_off cut
+
+    -- the ticks were stopped in this one, with its error handed on
     pub stopped : (ends : Result Verdict (Stop RunFault)) (then : Result Ticked (Stop RunFault)) (e : Stop RunFault) (block : Block) → ends ≡ Err e → IsErrAnd then (λ f. f ≡ e) → TickEnds ends of limits.period n now after new block →
         TicksEnd then of limits before after new block
     stopped (Ok v) then e block was handed m = cc was
     stopped (Err x) (Ok t) e block was handed m = absurd handed
     stopped (Err x) (Err f) e block was handed m =
         let is : x ≡ e = cc was in
-        subst (λ (y : Stop RunFault). TicksEnd (Err y) of limits before after new block) (is ∙ sym handed) (by x m) where
-      by : (y : Stop RunFault) → TickEnds (Err y) of limits.period n now after new block → TicksEnd (Err y) of limits before after new block
-      by (stop.Fault fault) f = (n, faulted fault f)
-      by stop.NoMemory cut = cut_off cut
+        subst (λ (y : Stop RunFault). TicksEnd (Err y) of limits before after new block) (is ∙ sym handed) (stops_as x block m)

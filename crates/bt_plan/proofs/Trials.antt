@@ -25,7 +25,7 @@ use Rattle.bt_trace.specs.Cuts.{HaveBegunWithin}
 use Rattle.bt_loop.specs.Runs.{Setup}
 use Rattle.bt_expand.specs.declared.plan_tree.PlanTree.{PlanTree}
 use Rattle.bt_expand.specs.Forests.{Forest}
-use Rattle.bt_expand.specs.Planned.{IsPlanned, plain_node}
+use Rattle.bt_expand.specs.Planned.{IsPlanned, plain_node, terms_of}
 use Rattle.bt_expand.specs.Stands.{PartsFit, StandsFor}
 use Rattle.bt_plan.specs.declared.ending.End.{End}
 use Rattle.bt_plan.specs.declared.ending.End.TheVariants.{Reached, StillRunning, Faulted}
@@ -96,7 +96,7 @@ module _ (tree : Planned) (world : World) (fault : RunFault) where
 -- a planned tree is that of its plan tree
 pub planned_is : (world : World) (f : Forest) (tree : Planned) → IsPlanned world.rows f tree → tree ≡ tree_of world.rows f
 planned_is world f tree p =
-    let term : slice_index_or _ 0 (roll-Term (plain_node ReactiveSequence (codes "ReactiveSequence") [])) ≡ tree.term =
+    let term : slice_index_or (terms_of world.rows f) 0 (roll-Term (plain_node ReactiveSequence (codes "ReactiveSequence") [])) ≡ tree.term =
     ap (λ (terms : List Term). slice_index_or terms 0 (roll-Term (plain_node ReactiveSequence (codes "ReactiveSequence") []))) p.term in
     (λ i. record { main = p.main i; term = sym term i })
 
@@ -133,7 +133,7 @@ module _ (world : World) (limits : Limits) (f : Forest) (tree : Planned) (planne
 
   -- memory was wanting in the run
   pub goes_cut : (t : PlanTree) (steps now : List Step) (e : NoMemory) → Ends (Err stop.NoMemory) tree → GoesFrom (Err e) f t world limits steps now before after
-  goes_cut t steps now e ends = elim ends_of (Err stop.NoMemory) ends [
+  goes_cut t steps now e ends = elim (ends_of (Err stop.NoMemory) ends) [
     | inl same ↦ inl same
     | inr cut ↦ inr (trial_of cut.0, refl, cut.1, cut.2)
   ]

@@ -47,5 +47,5 @@ pub record IsPlan (world : World) (limits : Limits) (before after : List DriverS
 -- no driver was asked to start and to go on more often than by the modelled runs with which a plan run begins
 pub record IsPlanCut (world : World) (limits : Limits) (before after : List DriverState) : Type 0 where
   pub trials : List Trial
-  pub begins : Begins world limits trials
+  pub begins : (trials ≡ []) ⊎ Begins world limits trials
   pub within : HaveBegunWithin before after (drivers_after world limits trials before)
