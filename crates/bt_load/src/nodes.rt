@@ -2,8 +2,7 @@ ghost use Rattle.std.specs.Prelude.{◌≡◌, List};
 ghost use Rattle.bt_model.specs.Drivers.{DriverState};
 ghost use Rattle.bt_model.specs.Terms.{node_count};
 ghost use Rattle.bt_model.specs.Worlds.{IsValidWorld};
-ghost use Rattle.bt_loop.specs.Runs.{AreRuns};
-ghost use Rattle.bt_trace.specs.Traces.{Setup};
+ghost use Rattle.bt_loop.specs.Runs.{AreRuns, Setup};
 
 use bt_loop::Runs;
 

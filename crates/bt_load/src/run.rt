@@ -1,6 +1,6 @@
 ghost use Rattle.std.specs.Prelude.{IfOk, length};
-ghost use Rattle.bt_loop.specs.Runs.{arenas_of};
-ghost use Rattle.bt_trace.specs.Traces.{AreKept, CanAllCome, CanRun, Setup, trace_of};
+ghost use Rattle.bt_loop.specs.Runs.{Setup, arenas_of};
+ghost use Rattle.bt_trace.specs.Traces.{AreKept, CanAllCome, CanRun, trace_of};
 ghost use Rattle.bt_load.specs.Summaries.{IsLoad};
 
 use crate::nodes::nodes;

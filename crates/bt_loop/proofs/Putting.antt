@@ -23,10 +23,11 @@ use Rattle.bt_arena.specs.Rosters.{AreServed, instances_of, roster_after}
 use Rattle.bt_arena.specs.Scenes.{Fits, Scene, scene, state_in}
 use Rattle.bt_arena.specs.Stands.{memory_of}
 use Rattle.bt_laws.proofs.Events.{steady_moves}
-use Rattle.bt_loop.specs.declared.parts.Part.{Part}
+use Rattle.bt_loop.specs.declared.parts.Turn.{Turn}
 use Rattle.bt_loop.specs.declared.runs.ReadyRunner.{ReadyRunner}
-use Rattle.bt_loop.specs.Parts.{AreReady, CanAct, PartEnds, PartMade, part_of, scene_of, state_of_all, state_of_runner}
-use Rattle.bt_loop.specs.Runs.{AreApart, HeldAreTheirs, RunnerFits, RunnersFit, arenas_in, nodes_of_runner, roster_over, runner_in, runners_in}
+use Rattle.bt_loop.specs.declared.runs.Runs.{Runs}
+use Rattle.bt_loop.specs.Parts.{CanAct, MeetsPart, PartEnds, PartMade, part_of, scene_of, state_of_all, state_of_runner, turn_part}
+use Rattle.bt_loop.specs.Runs.{AreApart, AreRuns, HeldAreTheirs, RunnerFits, RunnersFit, Setup, arenas_in, arenas_of, nodes_of_runner, roster_over, runner_in, runners_in, state_of_runs}
 use Rattle.bt_loop.proofs.Lists.{set_alike, set_is}
 use Rattle.bt_loop.proofs.Others.{Apart, held_after, other_fits, other_instances, over_runner}
 
@@ -38,14 +39,14 @@ calls_of nodes moment memory (Err (stop.Fault f)) before after old new d m = (d.
 calls_of nodes moment memory (Err stop.NoMemory) before after old new d m = (m.made, m.drivers)
 
 -- between events each runner can make its part
-pub can_act : (tree : Tree) (world : World) (last at : ℕ) (facts : List ℤ) (drivers : List DriverState) (runners : List ReadyRunner) → AreReady tree world last at facts drivers runners →
-    (k : ℕ) (r : ReadyRunner) → slice_get runners k ≡ Some r → CanAct tree world at facts drivers r
-can_act tree world last at facts drivers runners ready k r is =
-    let now : Steady tree.term world.rows (runner_in tree.term drivers r).memory (state_of (runner_in tree.term drivers r) facts last) =
-    ready.steady k (runner_in tree.term drivers r) (slice_get-map (runner_in tree.term drivers) runners k ∙ ap (option_map (runner_in tree.term drivers)) is) in
-    let then : Steady tree.term world.rows (runner_in tree.term drivers r).memory (state_of (runner_in tree.term drivers r) facts at) =
-    steady_moves tree.term world.rows (runner_in tree.term drivers r).memory (state_of (runner_in tree.term drivers r) facts last) (state_of (runner_in tree.term drivers r) facts at) refl ready.ahead now in
-    record { fits = (ready.fit.each k r is).fits; sound = then.sound; dated = then.dated }
+pub can_act : (tree : Tree) (world : World) (at : ℕ) (drivers : List DriverState) (runs : Runs) → AreRuns tree world drivers runs → runs.last ≤ at →
+    (k : ℕ) (r : ReadyRunner) → slice_get runs.runners.items k ≡ Some r → CanAct tree world at runs.facts drivers r
+can_act tree world at drivers runs are ahead k r is =
+    let now : Steady tree.term world.rows (runner_in tree.term drivers r).memory (state_of (runner_in tree.term drivers r) runs.facts runs.last) =
+    are.steady k (runner_in tree.term drivers r) (slice_get-map (runner_in tree.term drivers) runs.runners.items k ∙ ap (option_map (runner_in tree.term drivers)) is) in
+    let then : Steady tree.term world.rows (runner_in tree.term drivers r).memory (state_of (runner_in tree.term drivers r) runs.facts at) =
+    steady_moves tree.term world.rows (runner_in tree.term drivers r).memory (state_of (runner_in tree.term drivers r) runs.facts runs.last) (state_of (runner_in tree.term drivers r) runs.facts at) refl ahead now in
+    record { fits = (are.fit.each k r is).fits; sound = then.sound; dated = then.dated }
 
 module _ (tree : Tree) (world : World) (runners : List ReadyRunner) (facts : List ℤ) (drivers : List DriverState) (fit : RunnersFit tree world facts drivers runners)
     (i : ℕ) (r : ReadyRunner) (is : slice_get runners i ≡ Some r) where
@@ -151,16 +152,20 @@ module _ (tree : Tree) (world : World) (runners : List ReadyRunner) (facts : Lis
     }
 
 -- a runner's part, among all runners
-pub part_among : (tree : Tree) (world : World) (last at : ℕ) (facts : List ℤ) (drivers : List DriverState) (runners : List ReadyRunner) (ready : AreReady tree world last at facts drivers runners) (part : Part)
-    (number : ℕ) (first : 1 ≤ number) (r : ReadyRunner) (is : slice_get runners (number - 1) ≡ Some r) (new : ReadyRunner) (facts1 : List ℤ) (drivers1 : List DriverState) (nodes : new.arena.nodes.items ≡ r.arena.nodes.items)
-    (result : Result (Unit {0}) (Stop NodeFault)) (old told : List Note) →
-    Meets r.arena.nodes.items at (memory_of tree.term 1) result (scene_of r facts drivers) (scene_of new facts1 drivers1) old told (part_of part tree world r.arena.runner (memory_of tree.term 1 r.arena.kept.items) (state_of_runner r facts drivers at)) →
-    (x : Runner) → runner_at (state_of_all tree.term drivers runners facts last) number ≡ Some x →
-    PartEnds result tree.term number at (state_of_all tree.term drivers runners facts last) (arenas_in runners) drivers drivers1 (set runners (number - 1) new) facts1 old told (part_of part tree world number x.memory (state_of x facts at))
-part_among tree world last at facts drivers runners ready part number first r is new facts1 drivers1 nodes result old told m x is_x =
-    let number_is : r.arena.runner ≡ number = omega (arith, (ready.fit.each (number - 1) r is).numbered, first) in
-    let found : Some (runner_in tree.term drivers r) ≡ Some x = sym (slice_get-map (runner_in tree.term drivers) runners (number - 1) ∙ ap (option_map (runner_in tree.term drivers)) is) ∙ is_x in
-    let same : runner_in tree.term drivers r ≡ x = cc in
-    subst (λ (y : Runner). PartEnds result tree.term number at (state_of_all tree.term drivers runners facts last) (arenas_in runners) drivers drivers1 (set runners (number - 1) new) facts1 old told (part_of part tree world number y.memory (state_of y facts at))) same
-    (ends tree world runners facts drivers ready.fit (number - 1) r is number last at refl new facts1 drivers1 nodes old told _ result
-    (subst (λ (n : ℕ). Meets r.arena.nodes.items at (memory_of tree.term 1) result (scene_of r facts drivers) (scene_of new facts1 drivers1) old told (part_of part tree world n (memory_of tree.term 1 r.arena.kept.items) (state_of_runner r facts drivers at))) number_is m))
+pub part_among : (of : Setup) (turn : Turn) (drivers : List DriverState) (runs : Runs) (are : AreRuns of.tree of.world drivers runs) (first : 1 ≤ turn.runner) (r : ReadyRunner) (is : slice_get runs.runners.items (turn.runner - 1) ≡ Some r)
+    (new : ReadyRunner) (facts1 : List ℤ) (drivers1 : List DriverState) (nodes : new.arena.nodes.items ≡ r.arena.nodes.items) (result : Result (Unit {0}) (Stop NodeFault)) (old told : List Note) →
+    MeetsPart of turn.part turn.at result r (scene_of r runs.facts drivers) (scene_of new facts1 drivers1) old told →
+    (x : Runner) → runner_at (state_of_runs of.tree.term drivers runs) turn.runner ≡ Some x →
+    PartEnds result of.tree.term turn.runner turn.at (state_of_runs of.tree.term drivers runs) (arenas_of runs) drivers drivers1 (set runs.runners.items (turn.runner - 1) new) facts1 old told (turn_part of turn (state_of_runs of.tree.term drivers runs) x)
+part_among of turn drivers runs are first r is new facts1 drivers1 nodes result old told m x is_x =
+    let t = of.tree.term in
+    let number = turn.runner in
+    let at = turn.at in
+    let runners = runs.runners.items in
+    let facts = runs.facts in
+    let number_is : r.arena.runner ≡ number = omega (arith, (are.fit.each (number - 1) r is).numbered, first) in
+    let found : Some (runner_in t drivers r) ≡ Some x = sym (slice_get-map (runner_in t drivers) runners (number - 1) ∙ ap (option_map (runner_in t drivers)) is) ∙ is_x in
+    let same : runner_in t drivers r ≡ x = cc in
+    subst (λ (y : Runner). PartEnds result t number at (state_of_runs t drivers runs) (arenas_of runs) drivers drivers1 (set runners (number - 1) new) facts1 old told (part_of turn.part of.tree of.world number y.memory (state_of y facts at))) same
+    (ends of.tree of.world runners facts drivers are.fit (number - 1) r is number runs.last at refl new facts1 drivers1 nodes old told _ result
+    (subst (λ (n : ℕ). Meets r.arena.nodes.items at (memory_of t 1) result (scene_of r facts drivers) (scene_of new facts1 drivers1) old told (part_of turn.part of.tree of.world n (memory_of t 1 r.arena.kept.items) (state_of_runner r facts drivers at))) number_is m))

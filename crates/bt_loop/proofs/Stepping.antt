@@ -30,7 +30,7 @@ use Rattle.bt_arena.specs.Rosters.{instances_of}
 use Rattle.bt_loop.specs.declared.runs.ReadyRunner.{ReadyRunner}
 use Rattle.bt_loop.specs.declared.runs.Runs.{Runs}
 use Rattle.bt_loop.specs.declared.runs.Told.{Told}
-use Rattle.bt_loop.specs.Ending.{CanTell, Closing, IsQuenched, IsTelling, StayRuns}
+use Rattle.bt_loop.specs.Ending.{CanTell, Closing, IsQuenched, IsTelling}
 use Rattle.bt_loop.specs.Parts.{PartEnds, PartMade, state_of_all}
 use Rattle.bt_loop.specs.Runs.{AreRuns, RunnersFit, arenas_in, arenas_of, boards_in, nth_board, roster_over, runner_in, runners_in, state_of_runs}
 use Rattle.bt_loop.specs.Steps.{EventEnds, IsCutOff}
@@ -111,6 +111,13 @@ module _ (header : Header) (tree : Tree) (number : ℕ) (notes : List Note) (cal
   more_calls : (r : Result (Unit {0}) NodeFault) → (more : List RunnerCall) × (runner_calls number calls ++ more ≡ (told r header tree number notes calls s after).calls)
   more_calls (Ok a) = ([], append-nil (runner_calls number calls))
   more_calls (Err f) = (quench_calls 1 after.runners, refl)
+
+-- what holds of runs after an event that was made, apart from the rules of states
+pub record StayRuns (tree : Tree) (world : World) (drivers : List DriverState) (runs : Runs) : Type 0 where
+  pub usable : runs.usable ≡ true
+  pub fit : RunnersFit tree world runs.facts drivers runs.runners.items
+  pub told : runs.told.facts.items ≡ runs.facts
+  pub told_entries : boards_told runs.told.boards.items ≡ boards_in runs.runners.items
 
 -- ---- The event
 

@@ -16,22 +16,23 @@ use Rattle.bt_model.specs.declared.world.What.TheVariants.{Tick, Halt, Change}
 use Rattle.bt_model.specs.declared.world.World.{World}
 use Rattle.bt_model.specs.Done.{Call}
 use Rattle.bt_model.specs.Drivers.{DriverState}
-use Rattle.bt_model.specs.Run.{RunState, Runner, Stepped, change_step, changed_from, finish, quench_calls, quench_notes, reset_step, root_view, runner_at, state_of, step_by, tick_step, ticked, told}
+use Rattle.bt_model.specs.Run.{RunState, Runner, Stepped, change_step, changed_from, quench_calls, quench_notes, reset_step, root_view, runner_at, runner_step, state_of, tick_step, ticked, told}
 use Rattle.bt_model.specs.Sound.{RunSteady}
 use Rattle.bt_model.specs.Worlds.{IsValidWhat}
-use Rattle.bt_laws.proofs.Events.{step_steady}
+use Rattle.bt_laws.proofs.Events.{reset_steady, step_steady}
 use Rattle.bt_arena.specs.declared.block.Block.{Block}
 use Rattle.bt_arena.specs.Rosters.{instances_of}
+use Rattle.bt_loop.specs.declared.parts.Part.{Part}
 use Rattle.bt_loop.specs.declared.parts.Part.TheVariants as part
 use Rattle.bt_loop.specs.declared.runs.ReadyRunner.{ReadyRunner}
 use Rattle.bt_loop.specs.declared.runs.Runs.{Runs}
 use Rattle.bt_loop.specs.declared.runs.Told.{Told}
-use Rattle.bt_loop.specs.Ending.{IsQuenched, StayRuns, part_step}
-use Rattle.bt_loop.specs.Parts.{ending_of}
+use Rattle.bt_loop.specs.Ending.{IsQuenched}
+use Rattle.bt_loop.specs.Parts.{ending_of, header_by, part_of, step_by_part}
 use Rattle.bt_loop.specs.Runs.{AreRuns, RunnersFit, arenas_of, roster_over, runners_in, state_of_runs}
 use Rattle.bt_loop.specs.Steps.{EventEnds, IsCutOff}
 use Rattle.bt_loop.specs.Telling.{boards_told}
-use Rattle.bt_loop.proofs.Stepping.{instances_are, same_boards}
+use Rattle.bt_loop.proofs.Stepping.{StayRuns, instances_are, same_boards}
 
 -- ---- Steps
 
@@ -39,17 +40,21 @@ told_alike : {A : Type 0} (r : Result A NodeFault) (h : Header) (tree : Tree) (n
 told_alike (Ok a) h tree number notes calls s after = refl
 told_alike (Err f) h tree number notes calls s after = refl
 
-module _ (tree : Tree) (world : World) (number at : ℕ) (s : RunState) (r : Runner) (is : runner_at s number ≡ Some r) where
-  pub tick_is : part_step part.Tick (header.Tick number at) tree world number at s r ≡ step_by (Tick number) tree world at s
-  tick_is =
-      told_alike (ticked tree (root_view tree world) number r.memory (state_of r s.facts at)).answer (header.Tick number at) tree number _ _ s _
-      ∙ ap (λ o. tick_step o tree world number at s) (sym is)
+-- the step of a runner's part
+abbrev pub part_step : Part → Tree → World → ℕ → ℕ → RunState → Runner → Stepped
+part_step p tree world number at s r = runner_step (header_by p number at) tree number at s (part_of p tree world number r.memory (state_of r s.facts at))
 
-  pub halt_is : part_step part.Reset (header.Halt number at) tree world number at s r ≡ step_by (Halt number) tree world at s
-  halt_is = ap (λ o. reset_step o (header.Halt number at) tree world number at s) (sym is)
+pub part_is : (p : Part) (tree : Tree) (world : World) (number at : ℕ) (s : RunState) (r : Runner) → runner_at s number ≡ Some r → part_step p tree world number at s r ≡ step_by_part p tree world number at s
+part_is part.Tick tree world number at s r is =
+    told_alike (ticked tree (root_view tree world) number r.memory (state_of r s.facts at)).answer (header.Tick number at) tree number _ _ s _
+    ∙ ap (λ o. tick_step o tree world number at s) (sym is)
+part_is part.Halt tree world number at s r is = ap (λ o. reset_step o (header.Halt number at) tree world number at s) (sym is)
+part_is part.Finish tree world number at s r is = ap (λ o. reset_step o (header.Finish number at) tree world number at s) (sym is)
 
-pub finish_is : (tree : Tree) (world : World) (number : ℕ) (s : RunState) (r : Runner) → runner_at s number ≡ Some r → part_step part.Reset (header.Finish number s.last) tree world number s.last s r ≡ finish tree world number s
-finish_is tree world number s r is = ap (λ o. reset_step o (header.Finish number s.last) tree world number s.last s) (sym is)
+pub part_steady : (p : Part) (tree : Tree) (world : World) (number at : ℕ) (s : RunState) → RunSteady tree.term world.rows s → s.last ≤ at → RunSteady tree.term world.rows (step_by_part p tree world number at s).state
+part_steady part.Tick tree world number at s steady ahead = step_steady tree world s steady at ahead (Tick number)
+part_steady part.Halt tree world number at s steady ahead = step_steady tree world s steady at ahead (Halt number)
+part_steady part.Finish tree world number at s steady ahead = reset_steady tree world s steady at ahead (header.Finish number at) number (runner_at s number) refl
 
 -- ---- What holds between events
 
@@ -96,26 +101,6 @@ runner_of_halt world what number is valid = subst (IsValidWhat world.facts world
 -- a value of a valid event is one of 64 bits
 pub value_is : (world : World) (what : What) (fact : ℕ) (value : ℤ) → what ≡ Change fact value → IsValidWhat world.facts world.runners what → cast_signed w64 (cast_unsigned w64 value) ≡ value
 value_is world what fact value is valid = to_z-of_z w64 value (fits_from_int value (subst (IsValidWhat world.facts world.runners) is valid).1)
-
-module _ (tree : Tree) (world : World) (before after : List DriverState) (runs new : Runs) (block : Block) (result : Result (Unit {0}) (Stop RunFault)) (are : AreRuns tree world before runs) (at : ℕ) (ahead : runs.last ≤ at) (what : What) where
-  abbrev s : RunState
-  s = state_of_runs tree.term before runs
-
-  -- what the definition's step says of this event
-  pub steps_as : (d : Stepped) → d ≡ step_by what tree world at s → EventEnds result tree.term before after new block d → EventEnds result tree.term before after new block (step_by what tree world at s)
-  steps_as d is ends = subst (λ (x : Stepped). EventEnds result tree.term before after new block x) is ends
-
-  pub runs_as : (d : Stepped) → d ≡ step_by what tree world at s → EventEnds result tree.term before after new block d → OnOk result (StayRuns tree world after new) → OnOk result (AreRuns tree world after new)
-  runs_as d is ends stay = steady_after result tree world before after new block (step_by what tree world at s) (steps_as d is ends) (step_steady tree world s are.steady at ahead what) stay
-
-pub tick_as : (tree : Tree) (world : World) (number at : ℕ) (s : RunState) (r : Runner) (what : What) → runner_at s number ≡ Some r → what ≡ Tick number → part_step part.Tick (header.Tick number at) tree world number at s r ≡ step_by what tree world at s
-tick_as tree world number at s r what is is_what = tick_is tree world number at s r is ∙ ap (λ w. step_by w tree world at s) (sym is_what)
-
-pub halt_as : (tree : Tree) (world : World) (number at : ℕ) (s : RunState) (r : Runner) (what : What) → runner_at s number ≡ Some r → what ≡ Halt number → part_step part.Reset (header.Halt number at) tree world number at s r ≡ step_by what tree world at s
-halt_as tree world number at s r what is is_what = halt_is tree world number at s r is ∙ ap (λ w. step_by w tree world at s) (sym is_what)
-
-pub change_as : (tree : Tree) (world : World) (fact : ℕ) (value : ℤ) (at : ℕ) (s : RunState) (what : What) → what ≡ Change fact value → change_step fact value at s ≡ step_by what tree world at s
-change_as tree world fact value at s what is_what = ap (λ w. step_by w tree world at s) (sym is_what)
 
 -- ---- A fact that has changed
 

@@ -1,28 +1,20 @@
 -- How an event ends, after the part of its runner.
-use Rattle.std.specs.Prelude.{◌≡◌, ◌-◌, ◌≤◌, ◌<◌, ◌^◌, ℕ, ℤ, List, [], ◌++◌, ◌∷◌, length, map, slice_set, slice_index_or, Option, true, Result, Ok, Err}
+use Rattle.std.specs.Prelude.{◌≡◌, ◌-◌, ◌≤◌, ◌<◌, ◌^◌, ℕ, ℤ, List, [], ◌++◌, ◌∷◌, length, map, slice_set, slice_index_or, Option, Result, Ok, Err}
 use Rattle.bt_script.specs.declared.stop.Stop.{Stop}
 use Rattle.bt_script.specs.declared.stop.Stop.TheVariants as stop
 use Rattle.bt_script.specs.declared.value.Value.{Value}
-use Rattle.bt_model.specs.declared.block.Header.{Header}
 use Rattle.bt_model.specs.declared.fault.NodeFault.{NodeFault}
 use Rattle.bt_model.specs.declared.fault.RunFault.{RunFault}
 use Rattle.bt_model.specs.declared.note.Note.{Note}
 use Rattle.bt_model.specs.declared.note.Note.TheVariants.{Faulted}
 use Rattle.bt_model.specs.declared.term.Tree.{Tree}
-use Rattle.bt_model.specs.declared.world.World.{World}
 use Rattle.bt_model.specs.Drivers.{DriverState}
-use Rattle.bt_model.specs.Run.{RunState, Runner, Stepped, changed_entries, changed_from, quench_calls, quench_notes, quenched_runner, runner_step, state_of}
+use Rattle.bt_model.specs.Run.{changed_entries, changed_from, quench_calls, quench_notes, quenched_runner}
 use Rattle.bt_arena.specs.declared.block.Block.{Block}
-use Rattle.bt_loop.specs.declared.parts.Part.{Part}
 use Rattle.bt_loop.specs.declared.runs.Runs.{Runs}
 use Rattle.bt_loop.specs.declared.runs.Told.{Told}
-use Rattle.bt_loop.specs.Parts.{part_of}
-use Rattle.bt_loop.specs.Runs.{RunnersFit, arenas_of, boards_in, nth_board, roster_over, runners_in}
+use Rattle.bt_loop.specs.Runs.{arenas_of, boards_in, nth_board, roster_over, runners_in}
 use Rattle.bt_loop.specs.Telling.{boards_told, entries_told}
-
--- the step of a runner's part
-abbrev pub part_step : Part → Header → Tree → World → ℕ → ℕ → RunState → Runner → Stepped
-part_step part header tree world number at s r = runner_step header tree number at s (part_of part tree world number r.memory (state_of r s.facts at))
 
 -- all runners were quenched, and the notes of this come after these notes
 pub record IsQuenched (tree : Tree) (before after : List DriverState) (old new : Runs) (told noted : List Note) : Type 0 where
@@ -65,15 +57,3 @@ Closing (Err (stop.Fault f)) (Err (stop.Fault g)) tree number before after old n
 Closing (Err (stop.Fault f)) (Err stop.NoMemory) tree number before after old new begun block = IsQuenched tree before after old new (begun.notes.list ++ Faulted number f.uid f.cause ∷ []) block.notes.list
 Closing (Err stop.NoMemory) (Err stop.NoMemory) tree number before after old new begun block = IsQuenched tree before after old new begun.notes.list block.notes.list
 Closing _ _ tree number before after old new begun block = ⊥
-
--- an event ends so for each tree in each world that the runs fit
-abbrev pub Closes : Result (Unit {0}) (Stop NodeFault) → Result (Unit {0}) (Stop RunFault) → ℕ → List DriverState → List DriverState → Runs → Runs → Block → Block → Type 0
-Closes ended result number before after old new begun block =
-    (tree : Tree) (world : World) → RunnersFit tree world old.facts before old.runners.items → Closing ended result tree number before after old new begun block
-
--- what holds of runs after an event that was made, apart from the rules of states
-pub record StayRuns (tree : Tree) (world : World) (drivers : List DriverState) (runs : Runs) : Type 0 where
-  pub usable : runs.usable ≡ true
-  pub fit : RunnersFit tree world runs.facts drivers runs.runners.items
-  pub told : runs.told.facts.items ≡ runs.facts
-  pub told_entries : boards_told runs.told.boards.items ≡ boards_in runs.runners.items

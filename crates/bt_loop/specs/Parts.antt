@@ -2,24 +2,30 @@
 use Rattle.std.specs.Prelude.{◌≡◌, ◌≤◌, ℕ, ℤ, List, ◌++◌, length, None, Result, Ok, Err}
 use Rattle.bt_script.specs.declared.stop.Stop.{Stop}
 use Rattle.bt_script.specs.declared.stop.Stop.TheVariants as stop
+use Rattle.bt_model.specs.declared.block.Header.{Header}
+use Rattle.bt_model.specs.declared.block.Header.TheVariants as header
 use Rattle.bt_model.specs.declared.fault.NodeFault.{NodeFault}
 use Rattle.bt_model.specs.declared.memory.Memory.{Memory}
 use Rattle.bt_model.specs.declared.note.Note.{Note}
 use Rattle.bt_model.specs.declared.term.Term.{Term}
 use Rattle.bt_model.specs.declared.term.Tree.{Tree}
+use Rattle.bt_model.specs.declared.world.What.TheVariants as what
 use Rattle.bt_model.specs.declared.world.World.{World}
 use Rattle.bt_model.specs.Done.{Call, Done, State}
 use Rattle.bt_model.specs.Drivers.{DriverState}
-use Rattle.bt_model.specs.Run.{RunState, root_reset, root_view, runner_calls, ticked, with_runner}
-use Rattle.bt_model.specs.Sound.{Dated, RunSteady, Sound}
+use Rattle.bt_model.specs.Run.{RunState, Runner, Stepped, reset_step, root_reset, root_view, runner_at, runner_calls, state_of, step_by, ticked, with_runner}
+use Rattle.bt_model.specs.Sound.{Dated, Sound}
 use Rattle.bt_arena.specs.declared.nodes.Node.{Node}
+use Rattle.bt_arena.specs.Ends.{Meets}
 use Rattle.bt_arena.specs.Noted.{calls_named}
 use Rattle.bt_arena.specs.Scenes.{Fits, Scene, scene, state_in}
 use Rattle.bt_arena.specs.Stands.{memory_of}
 use Rattle.bt_loop.specs.declared.parts.Part.{Part}
-use Rattle.bt_loop.specs.declared.parts.Part.TheVariants.{Tick, Reset}
+use Rattle.bt_loop.specs.declared.parts.Part.TheVariants.{Tick, Halt, Finish}
+use Rattle.bt_loop.specs.declared.parts.Turn.{Turn}
 use Rattle.bt_loop.specs.declared.runs.ReadyRunner.{ReadyRunner}
-use Rattle.bt_loop.specs.Runs.{RunnersFit, roster_over, runners_in}
+use Rattle.bt_loop.specs.declared.runs.Runs.{Runs}
+use Rattle.bt_loop.specs.Runs.{AreRuns, Setup, roster_over, runners_in}
 
 -- ---- What a part does
 
@@ -33,7 +39,30 @@ unanswered d = record { answer = ending_of d.answer; memory = d.memory; state = 
 
 abbrev pub part_of : Part → Tree → World → ℕ → Memory → State → Done (Unit {0}) Memory
 part_of Tick tree world runner m s = unanswered (ticked tree (root_view tree world) runner m s)
-part_of Reset tree world runner m s = root_reset tree (root_view tree world) m s
+part_of Halt tree world runner m s = root_reset tree (root_view tree world) m s
+part_of Finish tree world runner m s = root_reset tree (root_view tree world) m s
+
+-- the part of a turn, of a runner in this state
+abbrev pub turn_part : Setup → Turn → RunState → Runner → Done (Unit {0}) Memory
+turn_part of turn s r = part_of turn.part of.tree of.world turn.runner r.memory (state_of r s.facts turn.at)
+
+-- the header of the block that tells a part
+abbrev pub header_by : Part → ℕ → ℕ → Header
+header_by Tick runner at = header.Tick runner at
+header_by Halt runner at = header.Halt runner at
+header_by Finish runner at = header.Finish runner at
+
+abbrev pub turn_header : Turn → Header
+turn_header turn = header_by turn.part turn.runner turn.at
+
+-- the definition's step in which a runner has this part
+abbrev pub step_by_part : Part → Tree → World → ℕ → ℕ → RunState → Stepped
+step_by_part Tick tree world runner at s = step_by (what.Tick runner) tree world at s
+step_by_part Halt tree world runner at s = step_by (what.Halt runner) tree world at s
+step_by_part Finish tree world runner at s = reset_step (runner_at s runner) (header.Finish runner at) tree world runner at s
+
+abbrev pub turn_step : Setup → Turn → RunState → Stepped
+turn_step of turn s = step_by_part turn.part of.tree of.world turn.runner turn.at s
 
 -- ---- One runner
 
@@ -49,6 +78,12 @@ pub record CanAct (tree : Tree) (world : World) (at : ℕ) (facts : List ℤ) (d
   pub sound : Sound tree.term world.rows None 1 (memory_of tree.term 1 r.arena.kept.items) (state_of_runner r facts drivers at)
   pub dated : Dated (state_of_runner r facts drivers at)
 
+-- a runner made this part as the definition does, or it was stopped in it
+abbrev pub MeetsPart : Setup → Part → ℕ → Result (Unit {0}) (Stop NodeFault) → ReadyRunner → Scene → Scene → List Note → List Note → Type 0
+MeetsPart of part at result r old new told noted =
+    Meets r.arena.nodes.items at (memory_of of.tree.term 1) result old new told noted
+    (part_of part of.tree of.world r.arena.runner (memory_of of.tree.term 1 old.kept) (state_in r.arena.nodes.items old at))
+
 -- what no event changes of a runner
 pub record StaysRunner (old new : ReadyRunner) : Type 0 where
   pub nodes : new.arena.nodes.items ≡ old.arena.nodes.items
@@ -56,14 +91,15 @@ pub record StaysRunner (old new : ReadyRunner) : Type 0 where
 
 -- ---- All runners
 
+-- runs can take a turn: its runner is there, and its time is not before the last event
+pub record CanTake (of : Setup) (turn : Turn) (drivers : List DriverState) (runs : Runs) : Type 0 where
+  pub are : AreRuns of.tree of.world drivers runs
+  pub first : 1 ≤ turn.runner
+  pub last : turn.runner ≤ of.world.runners
+  pub ahead : runs.last ≤ turn.at
+
 abbrev pub state_of_all : Term → List DriverState → List ReadyRunner → List ℤ → ℕ → RunState
 state_of_all term drivers runners facts last = record { runners = runners_in term drivers runners; facts = facts; last = last }
-
--- what holds of runners before a part at the time `at`, where the last event was at the time `last`
-pub record AreReady (tree : Tree) (world : World) (last at : ℕ) (facts : List ℤ) (drivers : List DriverState) (runners : List ReadyRunner) : Type 0 where
-  pub fit : RunnersFit tree world facts drivers runners
-  pub steady : RunSteady tree.term world.rows (state_of_all tree.term drivers runners facts last)
-  pub ahead : last ≤ at
 
 -- a part was made to its end, with no fault or with this one
 pub record PartMade (term : Term) (number at : ℕ) (s : RunState) (arenas : List (List Node)) (before after : List DriverState) (runners : List ReadyRunner) (facts : List ℤ) (old new : List Note) (ending : Result (Unit {0}) NodeFault) (d : Done (Unit {0}) Memory) : Type 0 where

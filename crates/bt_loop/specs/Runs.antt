@@ -20,6 +20,11 @@ use Rattle.bt_loop.specs.declared.runs.Runs.{Runs}
 use Rattle.bt_loop.specs.Telling.{boards_told}
 use Rattle.bt_script.specs.declared.value.Value.{Value}
 
+-- what is run: a tree in a world
+pub record Setup : Type 0 where
+  pub tree : Tree
+  pub world : World
+
 -- ---- States
 
 -- what a runner keeps: the memory of its nodes, its blackboard, and its leaves' instances, which the drivers have
@@ -97,6 +102,9 @@ pub record RunnersFit (tree : Tree) (world : World) (facts : List ℤ) (drivers 
   pub many_facts : length facts ≡ length world.facts
   pub few_facts : length world.facts < 2 ^ 32
   pub few_slots : length (slots tree) < 2 ^ 32
+
+abbrev pub RunsFit : Setup → List DriverState → Runs → Type 0
+RunsFit of drivers runs = RunnersFit of.tree of.world runs.facts drivers runs.runners.items
 
 -- what holds of the runs of a tree in a world between events, as long as none has ended with a fault or for want of
 -- memory

@@ -1,5 +1,5 @@
 -- What an event leaves of runs, compared with the definition's step.
-use Rattle.std.specs.Prelude.{◌≡◌, ◌≤◌, ◌+◌, ◌<◌, ◌^◌, ◌⊎◌, ℕ, List, ◌++◌, length, map, Some, None, Result, Ok, Err}
+use Rattle.std.specs.Prelude.{◌≡◌, ◌≤◌, ◌+◌, ◌<◌, ◌^◌, ◌⊎◌, ℕ, List, ◌++◌, length, map, Some, None, false, Result, Ok, Err, OnOk, OnErr}
 use Rattle.bt_script.specs.declared.stop.Stop.{Stop}
 use Rattle.bt_script.specs.declared.stop.Stop.TheVariants as stop
 use Rattle.bt_model.specs.declared.fault.RunFault.{RunFault}
@@ -8,8 +8,8 @@ use Rattle.bt_model.specs.declared.note.Note.{Note}
 use Rattle.bt_model.specs.declared.term.Term.{Term}
 use Rattle.bt_model.specs.declared.world.Event.{Event}
 use Rattle.bt_model.specs.declared.world.World.{World}
-use Rattle.bt_model.specs.Drivers.{DriverState, driver_at}
-use Rattle.bt_model.specs.Run.{Runner, RunnerCall, Stepped, quench_calls, quench_notes}
+use Rattle.bt_model.specs.Drivers.{DriverState, NothingHeld, driver_at}
+use Rattle.bt_model.specs.Run.{RunState, Runner, RunnerCall, Stepped, quench_calls, quench_notes, quenched}
 use Rattle.bt_model.specs.Worlds.{IsValidWhat}
 use Rattle.bt_arena.specs.declared.block.Block.{Block}
 use Rattle.bt_arena.specs.declared.nodes.Node.{Node}
@@ -17,7 +17,7 @@ use Rattle.bt_arena.specs.Blocks.{seen}
 use Rattle.bt_arena.specs.Noted.{Noted, calls_named}
 use Rattle.bt_arena.specs.Rosters.{instances_of}
 use Rattle.bt_loop.specs.declared.runs.Runs.{Runs}
-use Rattle.bt_loop.specs.Runs.{arenas_of, leaves_of, roster_over, state_of_runs}
+use Rattle.bt_loop.specs.Runs.{AreRuns, Setup, arenas_of, leaves_of, roster_over, state_of_runs}
 
 -- ---- Premises
 
@@ -84,3 +84,30 @@ pub record IsSameRoster (old new : List DriverState) : Type 0 where
   pub kind : (place : ℕ) → (driver_at new place).kind ≡ (driver_at old place).kind
   pub mark : (place : ℕ) → (driver_at new place).mark ≡ (driver_at old place).mark
   pub totals : (place : ℕ) → HasRisen (driver_at old place).totals (driver_at new place).totals
+
+-- ---- What an event leaves
+
+-- what an event finds, and what it leaves: the drivers, the runs, and the block that tells it
+pub record EventSide : Type 0 where
+  pub drivers : List DriverState
+  pub runs : Runs
+  pub block : Block
+
+abbrev pub event_side : List DriverState → Runs → Block → EventSide
+event_side drivers runs block = record { drivers = drivers; runs = runs; block = block }
+
+-- the state that the runs keep
+abbrev pub kept_state : Setup → EventSide → RunState
+kept_state of side = state_of_runs of.tree.term side.drivers side.runs
+
+-- What an event leaves, of which `d` is the definition's step: the next event finds runs of the tree in the world. After
+-- a fault or want of memory all runners are quenched, nothing is held, and no further event may come.
+pub record EventLeft (of : Setup) (result : Result (Unit {0}) (Stop RunFault)) (old new : EventSide) (d : Stepped) : Type 0 where
+  pub step : EventEnds result of.tree.term old.drivers new.drivers new.runs new.block d
+  pub runs : OnOk result (AreRuns of.tree of.world new.drivers new.runs)
+  pub quenched : OnErr result (kept_state of new ≡ quenched of.tree (kept_state of new))
+  pub none : OnErr result (NothingHeld new.drivers)
+  pub usable : OnErr result (new.runs.usable ≡ false)
+  pub arenas : arenas_of new.runs ≡ arenas_of old.runs
+  pub room : new.block.notes.full ≡ old.block.notes.full
+  pub roster : IsSameRoster old.drivers new.drivers

@@ -6,7 +6,7 @@ ghost use Rattle.bt_model.specs.Trees.{IsValid};
 ghost use Rattle.bt_model.specs.Worlds.{IsValidWorld};
 ghost use Rattle.bt_arena.specs.Rosters.{served};
 ghost use Rattle.bt_loop.specs.Opening.{AreOpeningRuns};
-ghost use Rattle.bt_loop.specs.Runs.{AreRuns, arenas_of, instances_wanted, leaves_of};
+ghost use Rattle.bt_loop.specs.Runs.{AreRuns, Setup, arenas_of, instances_wanted, leaves_of};
 
 use crate::runs::Runs;
 use bt_arena::{Node, leaf_count, leaves_at};
@@ -16,7 +16,10 @@ use std::alloc::Global;
 
 /// How many leaves all runners have together: a block needs room for one note more.
 pub fn leaves(runs: &Runs) -> usize
-    requires { (tree : Tree) × (world : World) × (drivers : List DriverState) × IsValid tree × IsValidWorld world × AreRuns tree world drivers runs.now }
+    ghost of: { Setup }
+    requires tree { IsValid of.tree }
+    requires world { IsValidWorld of.world }
+    requires runs { (drivers : List DriverState) × AreRuns of.tree of.world drivers runs.now }
     ensures { result ≡ leaves_of (arenas_of runs.now) }
 {
     let mut count = 0usize;
@@ -37,7 +40,8 @@ fn counts_of<D: Drivers>(
     requires nodes { length nodes.now < 2 ^ 16 }
     requires runners { runners < 2 ^ 16 }
     ensures many { IfOk result (λ counts. length counts.items ≡ length (D.states drivers.now)) }
-    ensures counts { IfOk result (λ counts. (place : ℕ) → place < length (D.states drivers.now) → slice_index_or counts.items place 0 ≡ runners * served place nodes.now) }
+    ensures counts { IfOk result (λ counts. (place : ℕ) → place < length (D.states drivers.now) →
+        slice_index_or counts.items place 0 ≡ runners * served place nodes.now) }
 {
     let mut counts = Vec::new(alloc);
     for place in 0..drivers.count() {
@@ -48,7 +52,8 @@ fn counts_of<D: Drivers>(
 
 /// For each driver, how many instances the runners of these runs need of it, or want of memory.
 pub fn wanted<D: Drivers>(alloc: Global, runs: &Runs, drivers: &D) -> Result<Vec<u32>, NoMemory>
-    requires { (tree : Tree) × (world : World) × IsValid tree × IsValidWorld world × AreOpeningRuns tree world (D.states drivers.now) runs.now }
+    requires { (tree : Tree) × (world : World) × IsValid tree × IsValidWorld world
+        × AreOpeningRuns tree world (D.states drivers.now) runs.now }
     ensures { (tree : Tree) (world : World) → AreOpeningRuns tree world (D.states drivers.now) runs.now →
         IfOk result (λ counts. counts.items ≡ instances_wanted tree world (D.states drivers.now)) }
 {

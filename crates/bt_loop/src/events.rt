@@ -1,17 +1,14 @@
-ghost use Rattle.std.specs.Prelude.{◌≡◌, ◌≤◌, ◌<◌, ◌+◌, ◌++◌, ◌∷◌, [], ℕ, List, OnOk, OnErr, Some, Ok, Err, false, length, map};
+ghost use Rattle.std.specs.Prelude.{◌≡◌, ◌≤◌, ◌<◌, ◌+◌, [], OnOk, OnErr, Ok, Err, false, length, map};
 ghost use Rattle.bt_script.specs.declared.stop.Stop.TheVariants as stop;
-ghost use Rattle.bt_model.specs.declared.block.Header.{Header};
-ghost use Rattle.bt_model.specs.declared.note.Note.{Note};
-ghost use Rattle.bt_model.specs.declared.term.Tree.{Tree};
-ghost use Rattle.bt_model.specs.declared.world.World.{World};
 ghost use Rattle.bt_model.specs.Drivers.{NothingHeld};
-ghost use Rattle.bt_model.specs.Run.{Runner, change_step, finish as finish_step, quenched, runner_at, step};
-ghost use Rattle.bt_loop.specs.Ending.{CanTell, Closes, IsQuenched, IsTelling, StayRuns, part_step};
-ghost use Rattle.bt_loop.specs.Runs.{AreRuns, RunnersFit, arenas_of, boards_in, leaves_of, state_of_runs};
-ghost use Rattle.bt_loop.specs.Steps.{CanCome, EventEnds, HaveRoom, IsSameRoster};
+ghost use Rattle.bt_model.specs.Run.{change_step, finish as finish_step, step};
+ghost use Rattle.bt_loop.specs.Ending.{CanTell, Closing, IsQuenched, IsTelling};
+ghost use Rattle.bt_loop.specs.Parts.{CanTake, turn_step};
+ghost use Rattle.bt_loop.specs.Runs.{AreRuns, RunsFit, Setup, arenas_of, boards_in, leaves_of};
+ghost use Rattle.bt_loop.specs.Steps.{CanCome, EventLeft, HaveRoom, event_side, kept_state};
 
 use crate::boxed::Roster;
-use crate::parts::{Part, make_part_of};
+use crate::parts::{Part, Turn, make_part_of};
 use crate::quenching::quench_all;
 use crate::runs::Runs;
 use crate::telling::{tell_facts_in, tell_part};
@@ -25,7 +22,8 @@ use std::mem;
 /// Begins a block: it has this header and nothing else, and its reserve is restored.
 fn begin(block: &mut Block, header: Header)
     ensures header { block.new.header ≡ header }
-    ensures notes { block.new.notes ≡ record { list = []; reserve = block.old.notes.full; full = block.old.notes.full } }
+    ensures notes { let room = block.old.notes.full in
+        block.new.notes ≡ record { list = []; reserve = room; full = room } }
     ensures facts { block.new.facts.items ≡ [] }
     ensures entries { block.new.entries.items ≡ [] }
 {
@@ -37,9 +35,11 @@ fn begin(block: &mut Block, header: Header)
 
 /// Ends runs: quenches all runners, and no further event may come. It allocates no memory.
 fn stop<D: Drivers>(runs: &mut Runs, drivers: &mut D, notes: &mut Notes)
-    requires fit { (tree : Tree) × (world : World) × RunnersFit tree world runs.old.facts (D.states drivers.old) runs.old.runners.items }
+    requires fit { (of : Setup) × RunsFit of (D.states drivers.old) runs.old }
     requires room { leaves_of (arenas_of runs.old) ≤ notes.old.reserve }
-    ensures quenched { (tree : Tree) (world : World) → RunnersFit tree world runs.old.facts (D.states drivers.old) runs.old.runners.items → IsQuenched tree (D.states drivers.old) (D.states drivers.new) runs.old runs.new notes.old.list notes.new.list }
+    ensures quenched { (of : Setup) → RunsFit of (D.states drivers.old) runs.old →
+        let before = D.states drivers.old in
+        IsQuenched of.tree before (D.states drivers.new) runs.old runs.new notes.old.list notes.new.list }
     ensures none { NothingHeld (D.states drivers.new) }
     ensures usable { runs.new.usable ≡ false }
     ensures told { runs.new.told ≡ runs.old.told }
@@ -56,7 +56,8 @@ fn stop<D: Drivers>(runs: &mut Runs, drivers: &mut D, notes: &mut Notes)
 /// memory.
 fn tell(alloc: Global, number: u8, runs: &mut Runs, block: &mut Block) -> Result<(), NoMemory>
     requires can { CanTell number runs.old }
-    ensures told { OnOk result (IsTelling number runs.old.facts (boards_in runs.old.runners.items) runs.old.told runs.new.told block.old block.new) }
+    ensures told { let boards = boards_in runs.old.runners.items in
+        OnOk result (IsTelling number runs.old.facts boards runs.old.told runs.new.told block.old block.new) }
     ensures runs { runs.new ≡ record runs.old { told = runs.new.told } }
     ensures notes { block.new.notes ≡ block.old.notes }
 {
@@ -74,9 +75,12 @@ fn end_part<D: Drivers>(
     block: &mut Block,
 ) -> Result<(), Stop<RunFault>>
     requires can { CanTell number runs.old }
-    requires fit { (tree : Tree) × (world : World) × RunnersFit tree world runs.old.facts (D.states drivers.old) runs.old.runners.items }
+    requires fit { (of : Setup) × RunsFit of (D.states drivers.old) runs.old }
     requires room { leaves_of (arenas_of runs.old) ≤ block.old.notes.reserve }
-    ensures closes { Closes (Ok tt) result number (D.states drivers.old) (D.states drivers.new) runs.old runs.new block.old block.new }
+    ensures closes { (of : Setup) → RunsFit of (D.states drivers.old) runs.old →
+        let before = D.states drivers.old in
+        let after = D.states drivers.new in
+        Closing (Ok tt) result of.tree number before after runs.old runs.new block.old block.new }
     ensures none { OnErr result (NothingHeld (D.states drivers.new)) }
     ensures usable { OnErr result (runs.new.usable ≡ false) }
     ensures full { block.new.notes.full ≡ block.old.notes.full }
@@ -101,9 +105,12 @@ fn end_at_fault<D: Drivers>(
     block: &mut Block,
 ) -> Result<(), Stop<RunFault>>
     requires can { CanTell number runs.old }
-    requires fit { (tree : Tree) × (world : World) × RunnersFit tree world runs.old.facts (D.states drivers.old) runs.old.runners.items }
+    requires fit { (of : Setup) × RunsFit of (D.states drivers.old) runs.old }
     requires room { leaves_of (arenas_of runs.old) + 1 ≤ block.old.notes.reserve }
-    ensures closes { Closes (Err (stop.Fault fault)) result number (D.states drivers.old) (D.states drivers.new) runs.old runs.new block.old block.new }
+    ensures closes { (of : Setup) → RunsFit of (D.states drivers.old) runs.old →
+        let before = D.states drivers.old in
+        let after = D.states drivers.new in
+        Closing (Err (stop.Fault fault)) result of.tree number before after runs.old runs.new block.old block.new }
     ensures none { NothingHeld (D.states drivers.new) }
     ensures usable { runs.new.usable ≡ false }
     ensures full { block.new.notes.full ≡ block.old.notes.full }
@@ -134,9 +141,12 @@ fn end_event<D: Drivers>(
     block: &mut Block,
 ) -> Result<(), Stop<RunFault>>
     requires can { CanTell number runs.old }
-    requires fit { (tree : Tree) × (world : World) × RunnersFit tree world runs.old.facts (D.states drivers.old) runs.old.runners.items }
+    requires fit { (of : Setup) × RunsFit of (D.states drivers.old) runs.old }
     requires room { leaves_of (arenas_of runs.old) + 1 ≤ block.old.notes.reserve }
-    ensures closes { Closes ended result number (D.states drivers.old) (D.states drivers.new) runs.old runs.new block.old block.new }
+    ensures closes { (of : Setup) → RunsFit of (D.states drivers.old) runs.old →
+        let before = D.states drivers.old in
+        let after = D.states drivers.new in
+        Closing ended result of.tree number before after runs.old runs.new block.old block.new }
     ensures none { OnErr result (NothingHeld (D.states drivers.new)) }
     ensures usable { OnErr result (runs.new.usable ≡ false) }
     ensures full { block.new.notes.full ≡ block.old.notes.full }
@@ -151,46 +161,25 @@ fn end_event<D: Drivers>(
     }
 }
 
-/// Makes an event of one runner at the time `at` in milliseconds: its part, and the end of the
-/// event. The error is the fault of a node, or want of memory; after either all runners are
-/// quenched.
+/// Makes an event of one runner: its part, and the end of the event. The error is the fault of a
+/// node, or want of memory; after either all runners are quenched.
 fn run_part<D: Drivers>(
     alloc: Global,
-    part: Part,
-    header: Header,
-    number: u8,
-    at: u64,
+    turn: Turn,
     runs: &mut Runs,
     drivers: &mut D,
     block: &mut Block,
 ) -> Result<(), Stop<RunFault>>
-    requires first { 1 ≤ number }
-    requires runs { (tree : Tree) × (world : World) × AreRuns tree world (D.states drivers.old) runs.old × (number ≤ world.runners) }
-    requires ahead { runs.old.last ≤ at }
+    requires runs { (of : Setup) × CanTake of turn (D.states drivers.old) runs.old }
     requires room { HaveRoom (arenas_of runs.old) block.old.notes }
-    ensures step { (tree : Tree) (world : World) → AreRuns tree world (D.states drivers.old) runs.old → (r : Runner) → runner_at (state_of_runs tree.term (D.states drivers.old) runs.old) number ≡ Some r →
-        EventEnds result tree.term (D.states drivers.old) (D.states drivers.new) runs.new block.new (part_step part header tree world number at (state_of_runs tree.term (D.states drivers.old) runs.old) r) }
-    ensures runs { (tree : Tree) (world : World) → AreRuns tree world (D.states drivers.old) runs.old → OnOk result (StayRuns tree world (D.states drivers.new) runs.new) }
-    ensures quenched { (tree : Tree) (world : World) → AreRuns tree world (D.states drivers.old) runs.old → OnErr result (state_of_runs tree.term (D.states drivers.new) runs.new ≡ quenched tree (state_of_runs tree.term (D.states drivers.new) runs.new)) }
-    ensures none { OnErr result (NothingHeld (D.states drivers.new)) }
-    ensures usable { OnErr result (runs.new.usable ≡ false) }
-    ensures arenas { arenas_of runs.new ≡ arenas_of runs.old }
-    ensures room { block.new.notes.full ≡ block.old.notes.full }
-    ensures roster { IsSameRoster (D.states drivers.old) (D.states drivers.new) }
+    ensures { (of : Setup) → CanTake of turn (D.states drivers.old) runs.old →
+        let old = event_side (D.states drivers.old) runs.old block.old in
+        let new = event_side (D.states drivers.new) runs.new block.new in
+        EventLeft of result old new (turn_step of turn (kept_state of old)) }
 {
-    begin(block, header);
-    runs.last = at;
-    let ended = make_part_of(
-        alloc,
-        part,
-        number,
-        &mut runs.runners,
-        &mut runs.facts,
-        drivers,
-        at,
-        &mut block.notes,
-    );
-    end_event(alloc, number, ended, runs, drivers, block)
+    begin(block, turn.header());
+    let ended = make_part_of(alloc, turn, runs, drivers, &mut block.notes);
+    end_event(alloc, turn.runner, ended, runs, drivers, block)
 }
 
 /// Gives a fact a value at the time `at` in milliseconds, and adds it to the block where it has
@@ -204,17 +193,13 @@ fn change_fact<D: Drivers>(
     block: &mut Block,
 ) -> Result<(), Stop<RunFault>>
     requires there { fact < length runs.old.facts }
-    requires runs { (tree : Tree) × (world : World) × AreRuns tree world (D.states drivers.old) runs.old }
+    requires runs { (of : Setup) × AreRuns of.tree of.world (D.states drivers.old) runs.old }
+    requires ahead { runs.old.last ≤ at }
     requires room { HaveRoom (arenas_of runs.old) block.old.notes }
-    ensures step { (tree : Tree) (world : World) → AreRuns tree world (D.states drivers.old) runs.old →
-        EventEnds result tree.term (D.states drivers.old) (D.states drivers.new) runs.new block.new (change_step fact value at (state_of_runs tree.term (D.states drivers.old) runs.old)) }
-    ensures runs { (tree : Tree) (world : World) → AreRuns tree world (D.states drivers.old) runs.old → OnOk result (StayRuns tree world (D.states drivers.new) runs.new) }
-    ensures quenched { (tree : Tree) (world : World) → AreRuns tree world (D.states drivers.old) runs.old → OnErr result (state_of_runs tree.term (D.states drivers.new) runs.new ≡ quenched tree (state_of_runs tree.term (D.states drivers.new) runs.new)) }
-    ensures none { OnErr result (NothingHeld (D.states drivers.new)) }
-    ensures usable { OnErr result (runs.new.usable ≡ false) }
-    ensures arenas { arenas_of runs.new ≡ arenas_of runs.old }
-    ensures room { block.new.notes.full ≡ block.old.notes.full }
-    ensures roster { IsSameRoster (D.states drivers.old) (D.states drivers.new) }
+    ensures { (of : Setup) → AreRuns of.tree of.world (D.states drivers.old) runs.old →
+        let old = event_side (D.states drivers.old) runs.old block.old in
+        let new = event_side (D.states drivers.new) runs.new block.new in
+        EventLeft of result old new (change_step fact value at (kept_state of old)) }
 {
     begin(block, Header::Change { fact, value, at });
     runs.last = at;
@@ -228,6 +213,36 @@ fn change_fact<D: Drivers>(
     }
 }
 
+/// Makes an event of runs. The error is the fault of a node, or want of memory; after either all
+/// runners are quenched, and no further event may come.
+fn handle_event<D: Drivers>(
+    alloc: Global,
+    runs: &mut Runs,
+    event: &Event,
+    drivers: &mut D,
+    block: &mut Block,
+) -> Result<(), Stop<RunFault>>
+    requires runs { (of : Setup) × AreRuns of.tree of.world (D.states drivers.old) runs.old × CanCome of.world runs.old.last event.now }
+    requires room { HaveRoom (arenas_of runs.old) block.old.notes }
+    ensures { (of : Setup) → AreRuns of.tree of.world (D.states drivers.old) runs.old → CanCome of.world runs.old.last event.now →
+        let old = event_side (D.states drivers.old) runs.old block.old in
+        let new = event_side (D.states drivers.new) runs.new block.new in
+        EventLeft of result old new (step of.tree of.world event.now (kept_state of old)) }
+{
+    let at = event.at;
+    match event.what {
+        What::Tick(runner) => {
+            let part = Part::Tick;
+            run_part(alloc, Turn { part, runner, at }, runs, drivers, block)
+        }
+        What::Halt(runner) => {
+            let part = Part::Halt;
+            run_part(alloc, Turn { part, runner, at }, runs, drivers, block)
+        }
+        What::Change { fact, value } => change_fact(fact, value, at, runs, drivers, block),
+    }
+}
+
 /// Makes an event of runs over any drivers. The error is the fault of a node, or want of memory;
 /// after either all runners are quenched, and no further event may come.
 pub fn run_event<D: Drivers>(
@@ -237,42 +252,15 @@ pub fn run_event<D: Drivers>(
     drivers: &mut D,
     block: &mut Block,
 ) -> Result<(), Stop<RunFault>>
-    requires runs { (tree : Tree) × (world : World) × AreRuns tree world (D.states drivers.old) runs.old × CanCome world runs.old.last event.now }
+    ghost of: { Setup }
+    requires runs { AreRuns of.tree of.world (D.states drivers.old) runs.old }
+    requires come { CanCome of.world runs.old.last event.now }
     requires room { HaveRoom (arenas_of runs.old) block.old.notes }
-    ensures step { (tree : Tree) (world : World) → AreRuns tree world (D.states drivers.old) runs.old → CanCome world runs.old.last event.now →
-        EventEnds result tree.term (D.states drivers.old) (D.states drivers.new) runs.new block.new (step tree world event.now (state_of_runs tree.term (D.states drivers.old) runs.old)) }
-    ensures runs { (tree : Tree) (world : World) → AreRuns tree world (D.states drivers.old) runs.old → CanCome world runs.old.last event.now → OnOk result (AreRuns tree world (D.states drivers.new) runs.new) }
-    ensures quenched { (tree : Tree) (world : World) → AreRuns tree world (D.states drivers.old) runs.old → OnErr result (state_of_runs tree.term (D.states drivers.new) runs.new ≡ quenched tree (state_of_runs tree.term (D.states drivers.new) runs.new)) }
-    ensures none { OnErr result (NothingHeld (D.states drivers.new)) }
-    ensures usable { OnErr result (runs.new.usable ≡ false) }
-    ensures arenas { arenas_of runs.new ≡ arenas_of runs.old }
-    ensures room { block.new.notes.full ≡ block.old.notes.full }
-    ensures roster { IsSameRoster (D.states drivers.old) (D.states drivers.new) }
+    ensures { let old = event_side (D.states drivers.old) runs.old block.old in
+        let new = event_side (D.states drivers.new) runs.new block.new in
+        EventLeft of result old new (step of.tree of.world event.now (kept_state of old)) }
 {
-    let at = event.at;
-    match event.what {
-        What::Tick(runner) => run_part(
-            alloc,
-            Part::Tick,
-            Header::Tick { runner, at },
-            runner,
-            at,
-            runs,
-            drivers,
-            block,
-        ),
-        What::Halt(runner) => run_part(
-            alloc,
-            Part::Reset,
-            Header::Halt { runner, at },
-            runner,
-            at,
-            runs,
-            drivers,
-            block,
-        ),
-        What::Change { fact, value } => change_fact(fact, value, at, runs, drivers, block),
-    }
+    handle_event(alloc, runs, event, drivers, block)
 }
 
 /// Finishes a runner of runs over any drivers, at the time of the last event: its root is reset.
@@ -285,30 +273,21 @@ pub fn run_finish<D: Drivers>(
     drivers: &mut D,
     block: &mut Block,
 ) -> Result<(), Stop<RunFault>>
-    requires runs { (tree : Tree) × (world : World) × AreRuns tree world (D.states drivers.old) runs.old × (runner ≤ world.runners) }
+    ghost of: { Setup }
+    requires runs { AreRuns of.tree of.world (D.states drivers.old) runs.old }
     requires first { 1 ≤ runner }
+    requires last { runner ≤ of.world.runners }
     requires room { HaveRoom (arenas_of runs.old) block.old.notes }
-    ensures step { (tree : Tree) (world : World) → AreRuns tree world (D.states drivers.old) runs.old → runner ≤ world.runners →
-        EventEnds result tree.term (D.states drivers.old) (D.states drivers.new) runs.new block.new (finish_step tree world runner (state_of_runs tree.term (D.states drivers.old) runs.old)) }
-    ensures runs { (tree : Tree) (world : World) → AreRuns tree world (D.states drivers.old) runs.old → runner ≤ world.runners → OnOk result (AreRuns tree world (D.states drivers.new) runs.new) }
-    ensures quenched { (tree : Tree) (world : World) → AreRuns tree world (D.states drivers.old) runs.old → OnErr result (state_of_runs tree.term (D.states drivers.new) runs.new ≡ quenched tree (state_of_runs tree.term (D.states drivers.new) runs.new)) }
-    ensures none { OnErr result (NothingHeld (D.states drivers.new)) }
-    ensures usable { OnErr result (runs.new.usable ≡ false) }
-    ensures arenas { arenas_of runs.new ≡ arenas_of runs.old }
-    ensures room { block.new.notes.full ≡ block.old.notes.full }
-    ensures roster { IsSameRoster (D.states drivers.old) (D.states drivers.new) }
+    ensures { let old = event_side (D.states drivers.old) runs.old block.old in
+        let new = event_side (D.states drivers.new) runs.new block.new in
+        EventLeft of result old new (finish_step of.tree of.world runner (kept_state of old)) }
 {
-    let at = runs.last;
-    run_part(
-        alloc,
-        Part::Reset,
-        Header::Finish { runner, at },
+    let turn = Turn {
+        part: Part::Finish,
         runner,
-        at,
-        runs,
-        drivers,
-        block,
-    )
+        at: runs.last,
+    };
+    run_part(alloc, turn, runs, drivers, block)
 }
 
 /// Makes an event of runs: the block then has its header, what happened, and the facts and entries
@@ -320,22 +299,18 @@ pub fn event(
     roster: &mut Vec<Box<dyn Driver>>,
     block: &mut Block,
 ) -> Result<(), Stop<RunFault>>
-    requires runs { (tree : Tree) × (world : World) × AreRuns tree world (map (λ b. state b) roster.old.items) runs.old × CanCome world runs.old.last event.now }
+    ghost of: { Setup }
+    requires runs { AreRuns of.tree of.world (map (λ b. state b) roster.old.items) runs.old }
+    requires come { CanCome of.world runs.old.last event.now }
     requires room { HaveRoom (arenas_of runs.old) block.old.notes }
-    ensures step { (tree : Tree) (world : World) → AreRuns tree world (map (λ b. state b) roster.old.items) runs.old → CanCome world runs.old.last event.now →
-        EventEnds result tree.term (map (λ b. state b) roster.old.items) (map (λ b. state b) roster.new.items) runs.new block.new (step tree world event.now (state_of_runs tree.term (map (λ b. state b) roster.old.items) runs.old)) }
-    ensures runs { (tree : Tree) (world : World) → AreRuns tree world (map (λ b. state b) roster.old.items) runs.old → CanCome world runs.old.last event.now → OnOk result (AreRuns tree world (map (λ b. state b) roster.new.items) runs.new) }
-    ensures quenched { (tree : Tree) (world : World) → AreRuns tree world (map (λ b. state b) roster.old.items) runs.old → OnErr result (state_of_runs tree.term (map (λ b. state b) roster.new.items) runs.new ≡ quenched tree (state_of_runs tree.term (map (λ b. state b) roster.new.items) runs.new)) }
-    ensures none { OnErr result (NothingHeld (map (λ b. state b) roster.new.items)) }
-    ensures usable { OnErr result (runs.new.usable ≡ false) }
-    ensures arenas { arenas_of runs.new ≡ arenas_of runs.old }
-    ensures room { block.new.notes.full ≡ block.old.notes.full }
-    ensures roster { IsSameRoster (map (λ b. state b) roster.old.items) (map (λ b. state b) roster.new.items) }
+    ensures { let old = event_side (map (λ b. state b) roster.old.items) runs.old block.old in
+        let new = event_side (map (λ b. state b) roster.new.items) runs.new block.new in
+        EventLeft of result old new (step of.tree of.world event.now (kept_state of old)) }
 {
     let mut held = Roster {
         drivers: mem::replace(roster, Vec::new(alloc)),
     };
-    let ended = run_event(alloc, runs, event, &mut held, block);
+    let ended = handle_event(alloc, runs, event, &mut held, block);
     *roster = held.drivers;
     ended
 }
@@ -349,23 +324,24 @@ pub fn finish(
     roster: &mut Vec<Box<dyn Driver>>,
     block: &mut Block,
 ) -> Result<(), Stop<RunFault>>
-    requires runs { (tree : Tree) × (world : World) × AreRuns tree world (map (λ b. state b) roster.old.items) runs.old × (runner ≤ world.runners) }
+    ghost of: { Setup }
+    requires runs { AreRuns of.tree of.world (map (λ b. state b) roster.old.items) runs.old }
     requires first { 1 ≤ runner }
+    requires last { runner ≤ of.world.runners }
     requires room { HaveRoom (arenas_of runs.old) block.old.notes }
-    ensures step { (tree : Tree) (world : World) → AreRuns tree world (map (λ b. state b) roster.old.items) runs.old → runner ≤ world.runners →
-        EventEnds result tree.term (map (λ b. state b) roster.old.items) (map (λ b. state b) roster.new.items) runs.new block.new (finish_step tree world runner (state_of_runs tree.term (map (λ b. state b) roster.old.items) runs.old)) }
-    ensures runs { (tree : Tree) (world : World) → AreRuns tree world (map (λ b. state b) roster.old.items) runs.old → runner ≤ world.runners → OnOk result (AreRuns tree world (map (λ b. state b) roster.new.items) runs.new) }
-    ensures quenched { (tree : Tree) (world : World) → AreRuns tree world (map (λ b. state b) roster.old.items) runs.old → OnErr result (state_of_runs tree.term (map (λ b. state b) roster.new.items) runs.new ≡ quenched tree (state_of_runs tree.term (map (λ b. state b) roster.new.items) runs.new)) }
-    ensures none { OnErr result (NothingHeld (map (λ b. state b) roster.new.items)) }
-    ensures usable { OnErr result (runs.new.usable ≡ false) }
-    ensures arenas { arenas_of runs.new ≡ arenas_of runs.old }
-    ensures room { block.new.notes.full ≡ block.old.notes.full }
-    ensures roster { IsSameRoster (map (λ b. state b) roster.old.items) (map (λ b. state b) roster.new.items) }
+    ensures { let old = event_side (map (λ b. state b) roster.old.items) runs.old block.old in
+        let new = event_side (map (λ b. state b) roster.new.items) runs.new block.new in
+        EventLeft of result old new (finish_step of.tree of.world runner (kept_state of old)) }
 {
+    let turn = Turn {
+        part: Part::Finish,
+        runner,
+        at: runs.last,
+    };
     let mut held = Roster {
         drivers: mem::replace(roster, Vec::new(alloc)),
     };
-    let ended = run_finish(alloc, runs, runner, &mut held, block);
+    let ended = run_part(alloc, turn, runs, &mut held, block);
     *roster = held.drivers;
     ended
 }

@@ -11,6 +11,7 @@ ghost use Rattle.bt_loop.specs.Runs.{AreRuns, state_of_runs};
 /// Between events, where no runner's root is RUNNING, no driver holds an instance.
 pub fn runs_at_rest_hold_nothing()
     ensures { (tree : Tree) (world : World) (drivers : List DriverState) (runs : Runs) → AreRuns tree world drivers runs →
-        ((k : ℕ) (r : Runner) → slice_get (state_of_runs tree.term drivers runs).runners k ≡ Some r → is_running (out-Memory r.memory).status ≡ false) →
+        let runners = (state_of_runs tree.term drivers runs).runners in
+        ((k : ℕ) (r : Runner) → slice_get runners k ≡ Some r → is_running (out-Memory r.memory).status ≡ false) →
         NothingHeld drivers }
 {}

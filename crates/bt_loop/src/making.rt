@@ -40,15 +40,23 @@ pub fn make_runs<D: Drivers>(
     requires quiet { NothingHeld (D.states drivers.old) }
     ensures fault { Joins result (first_missing world.now.rows (D.states drivers.old) (leaf_ids tree.now.term)) }
     ensures runs { IfOk result (λ runs. AreRuns tree.now world.now (D.states drivers.new) runs) }
-    ensures opening { IfOk result (λ runs. state_of_runs tree.now.term (D.states drivers.new) runs ≡ opening tree.now world.now) }
-    ensures prepared { IfOk result (λ runs. D.states drivers.new ≡ roster_prepared (D.states drivers.old) (instances_wanted tree.now world.now (D.states drivers.old))) }
-    ensures calls { IfOk result (λ runs. (calls : List RunnerCall) (now : List DriverState) →
-        roster_over (arenas_of runs) calls now ≡ calls_made world.now.runners (serving_places tree.now world.now (D.states drivers.old)) calls now) }
-    ensures faulted { (fault : Lack) → result ≡ Err (stop.Fault fault) → D.states drivers.new ≡ D.states drivers.old }
-    ensures cut { OnErr result ((done : ℕ) × (D.states drivers.new ≡ roster_prepared (D.states drivers.old) (take done (instances_wanted tree.now world.now (D.states drivers.old))))) }
+    ensures opening { let after = D.states drivers.new in
+        IfOk result (λ runs. state_of_runs tree.now.term after runs ≡ opening tree.now world.now) }
+    ensures prepared { let before = D.states drivers.old in
+        let wanted = instances_wanted tree.now world.now before in
+        IfOk result (λ runs. D.states drivers.new ≡ roster_prepared before wanted) }
+    ensures calls { let places = serving_places tree.now world.now (D.states drivers.old) in
+        IfOk result (λ runs. (calls : List RunnerCall) (now : List DriverState) →
+        roster_over (arenas_of runs) calls now ≡ calls_made world.now.runners places calls now) }
+    ensures faulted { let before = D.states drivers.old in
+        (fault : Lack) → result ≡ Err (stop.Fault fault) → D.states drivers.new ≡ before }
+    ensures cut { let before = D.states drivers.old in
+        let wanted = instances_wanted tree.now world.now before in
+        OnErr result ((done : ℕ) × (D.states drivers.new ≡ roster_prepared before (take done wanted))) }
     ensures none { NothingHeld (D.states drivers.new) }
     ensures roster { IsSameRoster (D.states drivers.old) (D.states drivers.new) }
-    ensures totals { (place : ℕ) → (driver_at (D.states drivers.new) place).totals ≡ (driver_at (D.states drivers.old) place).totals }
+    ensures totals { let before = D.states drivers.old in
+        (place : ℕ) → (driver_at (D.states drivers.new) place).totals ≡ (driver_at before place).totals }
 {
     let runs = opening_runs(alloc, tree, slots, world, drivers)?;
     let counts = wanted(alloc, &runs, drivers)?;
@@ -74,15 +82,23 @@ pub fn runs_of(
     requires quiet { NothingHeld (map (λ b. state b) roster.old.items) }
     ensures fault { Joins result (first_missing world.now.rows (map (λ b. state b) roster.old.items) (leaf_ids tree.now.term)) }
     ensures runs { IfOk result (λ runs. AreRuns tree.now world.now (map (λ b. state b) roster.new.items) runs) }
-    ensures opening { IfOk result (λ runs. state_of_runs tree.now.term (map (λ b. state b) roster.new.items) runs ≡ opening tree.now world.now) }
-    ensures prepared { IfOk result (λ runs. map (λ b. state b) roster.new.items ≡ roster_prepared (map (λ b. state b) roster.old.items) (instances_wanted tree.now world.now (map (λ b. state b) roster.old.items))) }
-    ensures calls { IfOk result (λ runs. (calls : List RunnerCall) (now : List DriverState) →
-        roster_over (arenas_of runs) calls now ≡ calls_made world.now.runners (serving_places tree.now world.now (map (λ b. state b) roster.old.items)) calls now) }
-    ensures faulted { (fault : Lack) → result ≡ Err (stop.Fault fault) → map (λ b. state b) roster.new.items ≡ map (λ b. state b) roster.old.items }
-    ensures cut { OnErr result ((done : ℕ) × (map (λ b. state b) roster.new.items ≡ roster_prepared (map (λ b. state b) roster.old.items) (take done (instances_wanted tree.now world.now (map (λ b. state b) roster.old.items))))) }
+    ensures opening { let after = map (λ b. state b) roster.new.items in
+        IfOk result (λ runs. state_of_runs tree.now.term after runs ≡ opening tree.now world.now) }
+    ensures prepared { let before = map (λ b. state b) roster.old.items in
+        let wanted = instances_wanted tree.now world.now before in
+        IfOk result (λ runs. map (λ b. state b) roster.new.items ≡ roster_prepared before wanted) }
+    ensures calls { let places = serving_places tree.now world.now (map (λ b. state b) roster.old.items) in
+        IfOk result (λ runs. (calls : List RunnerCall) (now : List DriverState) →
+        roster_over (arenas_of runs) calls now ≡ calls_made world.now.runners places calls now) }
+    ensures faulted { let before = map (λ b. state b) roster.old.items in
+        (fault : Lack) → result ≡ Err (stop.Fault fault) → map (λ b. state b) roster.new.items ≡ before }
+    ensures cut { let before = map (λ b. state b) roster.old.items in
+        let wanted = instances_wanted tree.now world.now before in
+        OnErr result ((done : ℕ) × (map (λ b. state b) roster.new.items ≡ roster_prepared before (take done wanted))) }
     ensures none { NothingHeld (map (λ b. state b) roster.new.items) }
     ensures roster { IsSameRoster (map (λ b. state b) roster.old.items) (map (λ b. state b) roster.new.items) }
-    ensures totals { (place : ℕ) → (driver_at (map (λ b. state b) roster.new.items) place).totals ≡ (driver_at (map (λ b. state b) roster.old.items) place).totals }
+    ensures totals { let before = map (λ b. state b) roster.old.items in
+        (place : ℕ) → (driver_at (map (λ b. state b) roster.new.items) place).totals ≡ (driver_at before place).totals }
 {
     let mut held = Roster {
         drivers: mem::replace(roster, Vec::new(alloc)),

@@ -1,33 +1,57 @@
 ghost use Rattle.std.specs.Prelude.{◌≡◌, ◌≤◌, ◌<◌, ◌++◌, ◌∷◌, [], ℕ, ℤ, List, OnOk, OnErr, Some, length, slice_get, slice_set};
 ghost use Rattle.bt_model.specs.declared.note.Note.{Note as NoteOf};
 ghost use Rattle.bt_model.specs.declared.note.Note.TheVariants.{Root};
-ghost use Rattle.bt_model.specs.declared.term.Tree.{Tree};
-ghost use Rattle.bt_model.specs.declared.world.World.{World};
-ghost use Rattle.bt_model.specs.Run.{Runner, runner_at, settled, state_of};
+ghost use Rattle.bt_model.specs.Run.{Runner, runner_at, settled};
 ghost use Rattle.bt_model.specs.Visit.{change};
-ghost use Rattle.bt_arena.specs.Ends.{Meets, StaysFit};
+ghost use Rattle.bt_arena.specs.Ends.{StaysFit};
 ghost use Rattle.bt_arena.specs.Nodes.{kept_at};
 ghost use Rattle.bt_arena.specs.Noted.{calls_named};
-ghost use Rattle.bt_arena.specs.Stands.{memory_of};
-ghost use Rattle.bt_loop.specs.Parts.{AreReady, CanAct, PartEnds, StaysRunner, part_of, scene_of, state_of_all, state_of_runner};
-ghost use Rattle.bt_loop.specs.Runs.{RunnersFit, arenas_in};
+ghost use Rattle.bt_loop.specs.Parts.{CanAct, CanTake, MeetsPart, PartEnds, StaysRunner, scene_of, turn_header, turn_part};
+ghost use Rattle.bt_loop.specs.Runs.{RunsFit, Setup, arenas_of, state_of_runs};
 
-use crate::runs::ReadyRunner;
+use crate::runs::{ReadyRunner, Runs};
 use bt_arena::{Kept, Notes};
 use bt_driver::{Drivers, FactTable};
 use bt_halting::reset;
-use bt_model::{Answer, NodeFault, Note, Status};
+use bt_model::{Answer, Header, NodeFault, Note, Status};
 use bt_script::{NoMemory, Stop};
 use bt_tick::tick;
 use std::alloc::Global;
 
-/// What a runner does in an event.
+/// What a runner does in an event, or at the end of a run.
 #[derive(Clone, Copy, Debug, PartialEq, Eq)]
 pub enum Part {
     /// Its root is visited.
     Tick,
     /// Its root is reset.
-    Reset,
+    Halt,
+    /// Its root is reset, after the last event.
+    Finish,
+}
+
+/// A runner's part, at the time `at` in milliseconds.
+#[derive(Clone, Copy, Debug, PartialEq, Eq)]
+pub struct Turn {
+    pub part: Part,
+    pub runner: u8,
+    pub at: u64,
+}
+
+impl Turn {
+    ghost use Rattle.std.specs.Prelude.{◌≡◌};
+    ghost use Rattle.bt_loop.specs.Parts.{turn_header};
+
+    /// The header of the block that tells it.
+    pub fn header(self) -> Header
+        ensures { result ≡ turn_header self }
+    {
+        let Turn { part, runner, at } = self;
+        match part {
+            Part::Tick => Header::Tick { runner, at },
+            Part::Halt => Header::Halt { runner, at },
+            Part::Finish => Header::Finish { runner, at },
+        }
+    }
 }
 
 /// The status of a root after its tick: IDLE where it has succeeded or failed.
@@ -44,8 +68,10 @@ fn at_end(status: Status) -> Status
 /// then the root is unchanged.
 fn settle_root(kept: &mut Vec<Kept>, notes: &mut Notes) -> Result<(), NoMemory>
     requires { 1 < length kept.old.items }
-    ensures kept { OnOk result (kept.new.items ≡ slice_set kept.old.items 1 (record (kept_at kept.old.items 1) { status = settled (kept_at kept.old.items 1).status })) }
-    ensures notes { OnOk result (notes.new.list ≡ notes.old.list ++ change 1 (kept_at kept.old.items 1).status (settled (kept_at kept.old.items 1).status)) }
+    ensures kept { let root = kept_at kept.old.items 1 in
+        OnOk result (kept.new.items ≡ slice_set kept.old.items 1 (record root { status = settled root.status })) }
+    ensures notes { let root = kept_at kept.old.items 1 in
+        OnOk result (notes.new.list ≡ notes.old.list ++ change 1 root.status (settled root.status)) }
     ensures err { OnErr result (kept.new.items ≡ kept.old.items) }
     ensures err_notes { OnErr result (notes.new.list ≡ notes.old.list) }
     ensures reserve { notes.new.reserve ≡ notes.old.reserve }
@@ -69,10 +95,15 @@ fn end_tick(
     notes: &mut Notes,
 ) -> Result<(), NoMemory>
     requires { 1 < length kept.old.items }
-    ensures kept { OnOk result (kept.new.items ≡ slice_set kept.old.items 1 (record (kept_at kept.old.items 1) { status = settled (kept_at kept.old.items 1).status })) }
-    ensures notes { OnOk result (notes.new.list ≡ notes.old.list ++ Root runner answer ∷ change 1 (kept_at kept.old.items 1).status (settled (kept_at kept.old.items 1).status)) }
+    ensures kept { let root = kept_at kept.old.items 1 in
+        OnOk result (kept.new.items ≡ slice_set kept.old.items 1 (record root { status = settled root.status })) }
+    ensures notes { let root = kept_at kept.old.items 1 in
+        OnOk result (notes.new.list ≡ notes.old.list ++ Root runner answer ∷ change 1 root.status (settled root.status)) }
     ensures err { OnErr result (kept.new.items ≡ kept.old.items) }
-    ensures err_notes { OnErr result ((told : List NoteOf) × (untold : List NoteOf) × (told ++ untold ≡ Root runner answer ∷ change 1 (kept_at kept.old.items 1).status (settled (kept_at kept.old.items 1).status)) × (calls_named told ≡ 0) × (notes.new.list ≡ notes.old.list ++ told)) }
+    ensures err_notes { let root = kept_at kept.old.items 1 in
+        OnErr result ((told : List NoteOf) × (untold : List NoteOf)
+        × (told ++ untold ≡ Root runner answer ∷ change 1 root.status (settled root.status))
+        × (calls_named told ≡ 0) × (notes.new.list ≡ notes.old.list ++ told)) }
     ensures reserve { notes.new.reserve ≡ notes.old.reserve }
     ensures full { notes.new.full ≡ notes.old.full }
 {
@@ -92,11 +123,14 @@ fn tick_root<D: Drivers>(
     at: u64,
     notes: &mut Notes,
 ) -> Result<(), Stop<NodeFault>>
-    requires can { (tree : Tree) × (world : World) × CanAct tree world at facts.old (D.states drivers.old) runner.old }
-    ensures part { (tree : Tree) (world : World) → CanAct tree world at facts.old (D.states drivers.old) runner.old →
-        Meets runner.old.arena.nodes.items at (memory_of tree.term 1) result (scene_of runner.old facts.old (D.states drivers.old)) (scene_of runner.new facts.new (D.states drivers.new)) notes.old.list notes.new.list
-        (part_of Part.Tick tree world runner.old.arena.runner (memory_of tree.term 1 runner.old.arena.kept.items) (state_of_runner runner.old facts.old (D.states drivers.old) at)) }
-    ensures fits { StaysFit runner.old.arena.nodes.items (scene_of runner.old facts.old (D.states drivers.old)) (scene_of runner.new facts.new (D.states drivers.new)) }
+    requires can { (of : Setup) × CanAct of.tree of.world at facts.old (D.states drivers.old) runner.old }
+    ensures part { (of : Setup) → CanAct of.tree of.world at facts.old (D.states drivers.old) runner.old →
+        let old = scene_of runner.old facts.old (D.states drivers.old) in
+        let new = scene_of runner.new facts.new (D.states drivers.new) in
+        MeetsPart of Part.Tick at result runner.old old new notes.old.list notes.new.list }
+    ensures fits { let old = scene_of runner.old facts.old (D.states drivers.old) in
+        let new = scene_of runner.new facts.new (D.states drivers.new) in
+        StaysFit runner.old.arena.nodes.items old new }
     ensures stays { StaysRunner runner.old runner.new }
     ensures reserve { notes.old.reserve ≤ notes.new.reserve }
     ensures full { notes.new.full ≡ notes.old.full }
@@ -115,18 +149,23 @@ fn tick_root<D: Drivers>(
     Ok(())
 }
 
-/// Resets a runner's root. The error is the fault of a node, or want of memory.
+/// Resets a runner's root, which changes no fact. The error is the fault of a node, or want of
+/// memory.
 fn reset_root<D: Drivers>(
     alloc: Global,
     runner: &mut ReadyRunner,
     drivers: &mut D,
     notes: &mut Notes,
 ) -> Result<(), Stop<NodeFault>>
-    requires can { (tree : Tree) × (world : World) × (at : ℕ) × (facts : List ℤ) × CanAct tree world at facts (D.states drivers.old) runner.old }
-    ensures part { (tree : Tree) (world : World) (at : ℕ) (facts : List ℤ) → CanAct tree world at facts (D.states drivers.old) runner.old →
-        Meets runner.old.arena.nodes.items at (memory_of tree.term 1) result (scene_of runner.old facts (D.states drivers.old)) (scene_of runner.new facts (D.states drivers.new)) notes.old.list notes.new.list
-        (part_of Part.Reset tree world runner.old.arena.runner (memory_of tree.term 1 runner.old.arena.kept.items) (state_of_runner runner.old facts (D.states drivers.old) at)) }
-    ensures fits { (facts : List ℤ) → StaysFit runner.old.arena.nodes.items (scene_of runner.old facts (D.states drivers.old)) (scene_of runner.new facts (D.states drivers.new)) }
+    requires can { (of : Setup) × (at : ℕ) × (facts : List ℤ) × CanAct of.tree of.world at facts (D.states drivers.old) runner.old }
+    ensures part { (of : Setup) (at : ℕ) (facts : List ℤ) → CanAct of.tree of.world at facts (D.states drivers.old) runner.old →
+        let old = scene_of runner.old facts (D.states drivers.old) in
+        let new = scene_of runner.new facts (D.states drivers.new) in
+        MeetsPart of Part.Halt at result runner.old old new notes.old.list notes.new.list }
+    ensures fits { (facts : List ℤ) →
+        let old = scene_of runner.old facts (D.states drivers.old) in
+        let new = scene_of runner.new facts (D.states drivers.new) in
+        StaysFit runner.old.arena.nodes.items old new }
     ensures stays { StaysRunner runner.old runner.new }
     ensures reserve { notes.old.reserve ≤ notes.new.reserve }
     ensures full { notes.new.full ≡ notes.old.full }
@@ -141,56 +180,55 @@ fn reset_root<D: Drivers>(
     )
 }
 
-/// Makes a runner's part of an event at the time `at` in milliseconds. The error is the fault of a
-/// node, or want of memory.
+/// Makes a runner's part of a turn. The error is the fault of a node, or want of memory.
 fn make_part<D: Drivers>(
     alloc: Global,
-    part: Part,
+    turn: Turn,
     runner: &mut ReadyRunner,
     facts: &mut FactTable,
     drivers: &mut D,
-    at: u64,
     notes: &mut Notes,
 ) -> Result<(), Stop<NodeFault>>
-    requires can { (tree : Tree) × (world : World) × CanAct tree world at facts.old (D.states drivers.old) runner.old }
-    ensures part { (tree : Tree) (world : World) → CanAct tree world at facts.old (D.states drivers.old) runner.old →
-        Meets runner.old.arena.nodes.items at (memory_of tree.term 1) result (scene_of runner.old facts.old (D.states drivers.old)) (scene_of runner.new facts.new (D.states drivers.new)) notes.old.list notes.new.list
-        (part_of part tree world runner.old.arena.runner (memory_of tree.term 1 runner.old.arena.kept.items) (state_of_runner runner.old facts.old (D.states drivers.old) at)) }
-    ensures fits { StaysFit runner.old.arena.nodes.items (scene_of runner.old facts.old (D.states drivers.old)) (scene_of runner.new facts.new (D.states drivers.new)) }
+    requires can { (of : Setup) × CanAct of.tree of.world turn.at facts.old (D.states drivers.old) runner.old }
+    ensures part { (of : Setup) → CanAct of.tree of.world turn.at facts.old (D.states drivers.old) runner.old →
+        let old = scene_of runner.old facts.old (D.states drivers.old) in
+        let new = scene_of runner.new facts.new (D.states drivers.new) in
+        MeetsPart of turn.part turn.at result runner.old old new notes.old.list notes.new.list }
+    ensures fits { let old = scene_of runner.old facts.old (D.states drivers.old) in
+        let new = scene_of runner.new facts.new (D.states drivers.new) in
+        StaysFit runner.old.arena.nodes.items old new }
     ensures stays { StaysRunner runner.old runner.new }
     ensures reserve { notes.old.reserve ≤ notes.new.reserve }
     ensures full { notes.new.full ≡ notes.old.full }
 {
-    match part {
-        Part::Tick => tick_root(alloc, runner, facts, drivers, at, notes),
-        Part::Reset => reset_root(alloc, runner, drivers, notes),
+    match turn.part {
+        Part::Tick => tick_root(alloc, runner, facts, drivers, turn.at, notes),
+        Part::Halt | Part::Finish => reset_root(alloc, runner, drivers, notes),
     }
 }
 
-/// Makes the part of the runner of this number, among all runners, at the time `at` in
-/// milliseconds. The error is the fault of a node, or want of memory.
+/// Makes the part of a runner of these runs, whose last time is then that of the turn. The error is
+/// the fault of a node, or want of memory.
 pub fn make_part_of<D: Drivers>(
     alloc: Global,
-    part: Part,
-    number: u8,
-    runners: &mut Vec<ReadyRunner>,
-    facts: &mut FactTable,
+    turn: Turn,
+    runs: &mut Runs,
     drivers: &mut D,
-    at: u64,
     notes: &mut Notes,
 ) -> Result<(), Stop<NodeFault>>
-    requires first { 1 ≤ number }
-    requires last { number ≤ length runners.old.items }
-    requires ready { (tree : Tree) × (world : World) × (last : ℕ) × AreReady tree world last at facts.old (D.states drivers.old) runners.old.items }
-    ensures part { (tree : Tree) (world : World) (last : ℕ) → AreReady tree world last at facts.old (D.states drivers.old) runners.old.items →
-        (r : Runner) → runner_at (state_of_all tree.term (D.states drivers.old) runners.old.items facts.old last) number ≡ Some r →
-        PartEnds result tree.term number at (state_of_all tree.term (D.states drivers.old) runners.old.items facts.old last) (arenas_in runners.old.items) (D.states drivers.old) (D.states drivers.new) runners.new.items facts.new notes.old.list notes.new.list
-        (part_of part tree world number r.memory (state_of r facts.old at)) }
-    ensures fit { (tree : Tree) (world : World) → RunnersFit tree world facts.old (D.states drivers.old) runners.old.items → RunnersFit tree world facts.new (D.states drivers.new) runners.new.items }
-    ensures arenas { arenas_in runners.new.items ≡ arenas_in runners.old.items }
+    requires { (of : Setup) × CanTake of turn (D.states drivers.old) runs.old }
+    ensures part { (of : Setup) → CanTake of turn (D.states drivers.old) runs.old →
+        let s = state_of_runs of.tree.term (D.states drivers.old) runs.old in
+        (r : Runner) → runner_at s turn.runner ≡ Some r →
+        PartEnds result of.tree.term turn.runner turn.at s (arenas_of runs.old) (D.states drivers.old) (D.states drivers.new)
+        runs.new.runners.items runs.new.facts notes.old.list notes.new.list (turn_part of turn s r) }
+    ensures fit { (of : Setup) → CanTake of turn (D.states drivers.old) runs.old → RunsFit of (D.states drivers.new) runs.new }
+    ensures kept { runs.new ≡ record runs.old { runners = runs.new.runners; facts = runs.new.facts; last = turn.at } }
+    ensures arenas { arenas_of runs.new ≡ arenas_of runs.old }
     ensures reserve { notes.old.reserve ≤ notes.new.reserve }
     ensures full { notes.new.full ≡ notes.old.full }
 {
-    let runner = &mut runners[number as usize - 1];
-    make_part(alloc, part, runner, facts, drivers, at, notes)
+    runs.last = turn.at;
+    let runner = &mut runs.runners[turn.runner as usize - 1];
+    make_part(alloc, turn, runner, &mut runs.facts, drivers, notes)
 }

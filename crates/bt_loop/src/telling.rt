@@ -18,7 +18,8 @@ fn tell_fact(
     value: &i64,
     changes: &mut Vec<(u32, i64)>,
 ) -> Result<(), NoMemory>
-    ensures changes { OnOk result ((rest : List (ℕ × ℤ)) → changes.new.items ++ rest ≡ changes.old.items ++ with_fact fact told.old value.now rest) }
+    ensures changes { OnOk result ((rest : List (ℕ × ℤ)) →
+        changes.new.items ++ rest ≡ changes.old.items ++ with_fact fact told.old value.now rest) }
     ensures told { OnOk result (told.new ≡ value.now) }
 {
     if *told != *value {
@@ -67,7 +68,8 @@ fn tell_entry(
     entry: &Option<Value>,
     changes: &mut Vec<(u8, u32, Value)>,
 ) -> Result<(), NoMemory>
-    ensures changes { OnOk result ((rest : List (ℕ × ℕ × Content)) → changes.new.items ++ rest ≡ changes.old.items ++ with_change runner slot told.old entry.now rest) }
+    ensures changes { OnOk result ((rest : List (ℕ × ℕ × Content)) →
+        changes.new.items ++ rest ≡ changes.old.items ++ with_change runner slot told.old entry.now rest) }
     ensures told { OnOk result (told.new ≡ entry.now) }
 {
     match entry {
@@ -115,7 +117,8 @@ fn tell_board(
     requires last { number ≤ length told.old }
     requires same { length (entries_told told.old number) ≡ length board.now }
     requires few { length board.now < 2 ^ 32 }
-    ensures changes { OnOk result (changes.new.items ≡ changes.old.items ++ changed_entries number 0 (entries_told told.old number) board.now) }
+    ensures changes { let before = entries_told told.old number in
+        OnOk result (changes.new.items ≡ changes.old.items ++ changed_entries number 0 before board.now) }
     ensures told { OnOk result (boards_told told.new ≡ slice_set (boards_told told.old) (number - 1) board.now) }
 {
     tell_entries(
@@ -132,7 +135,8 @@ fn tell_board(
 pub fn tell_facts_in(told: &mut Told, facts: &FactTable, block: &mut Block) -> Result<(), NoMemory>
     requires same { length told.old.facts.items ≡ length facts.now }
     requires few { length facts.now < 2 ^ 32 }
-    ensures facts { OnOk result (block.new.facts.items ≡ block.old.facts.items ++ changed_from 0 told.old.facts.items facts.now) }
+    ensures facts { let before = told.old.facts.items in
+        OnOk result (block.new.facts.items ≡ block.old.facts.items ++ changed_from 0 before facts.now) }
     ensures told { OnOk result (told.new.facts.items ≡ facts.now) }
     ensures boards { told.new.boards ≡ told.old.boards }
     ensures rest { block.new ≡ record block.old { facts = block.new.facts } }
@@ -156,10 +160,13 @@ pub fn tell_part(
     requires few_facts { length facts.now < 2 ^ 32 }
     requires same { length (entries_told told.old.boards.items number) ≡ length board.now }
     requires few { length board.now < 2 ^ 32 }
-    ensures facts { OnOk result (block.new.facts.items ≡ block.old.facts.items ++ changed_from 0 told.old.facts.items facts.now) }
-    ensures entries { OnOk result (block.new.entries.items ≡ block.old.entries.items ++ changed_entries number 0 (entries_told told.old.boards.items number) board.now) }
+    ensures facts { let before = told.old.facts.items in
+        OnOk result (block.new.facts.items ≡ block.old.facts.items ++ changed_from 0 before facts.now) }
+    ensures entries { let before = entries_told told.old.boards.items number in
+        OnOk result (block.new.entries.items ≡ block.old.entries.items ++ changed_entries number 0 before board.now) }
     ensures told { OnOk result (told.new.facts.items ≡ facts.now) }
-    ensures boards { OnOk result (boards_told told.new.boards.items ≡ slice_set (boards_told told.old.boards.items) (number - 1) board.now) }
+    ensures boards { let before = boards_told told.old.boards.items in
+        OnOk result (boards_told told.new.boards.items ≡ slice_set before (number - 1) board.now) }
     ensures header { block.new.header ≡ block.old.header }
     ensures notes { block.new.notes ≡ block.old.notes }
 {

@@ -9,7 +9,7 @@ use Rattle.bt_command_line.specs.declared.exit.Exit.{Exit}
 use Rattle.bt_command_line.specs.declared.exit.Exit.TheVariants as exit
 use Rattle.bt_load.specs.Summaries.{IsLoad, load_line}
 use Rattle.bt_loop.specs.declared.runs.Runs.{Runs}
-use Rattle.bt_loop.specs.Runs.{arenas_of, instances_wanted, roster_over}
+use Rattle.bt_loop.specs.Runs.{Setup, arenas_of, instances_wanted, roster_over}
 use Rattle.bt_loop.specs.Served.{calls_made, roster_after_run, serving_places}
 use Rattle.bt_loop.specs.Steps.{IsSameRoster}
 use Rattle.bt_loop.proofs.Rising.{roster_both, same_roster}
@@ -42,7 +42,7 @@ use Rattle.bt_trace.specs.declared.ended.Ended.{Ended}
 use Rattle.bt_trace.specs.declared.ended.Ended.TheVariants.{Done, Faulted}
 use Rattle.bt_trace.specs.Rounds.{AreBegun, AreMoments, WasAsked, live_events, moments_after, taken}
 use Rattle.bt_trace.specs.Texts.{block_text, text_of}
-use Rattle.bt_trace.specs.Traces.{AreKept, CanAllCome, CanRun, Leaves, Setup, ended, side as stage, state_in, trace_of}
+use Rattle.bt_trace.specs.Traces.{AreKept, CanAllCome, CanRun, Leaves, ended, side as stage, state_in, trace_of}
 use Rattle.bt_trace.specs.Watches.{Watched}
 use Rattle.bt_trace.proofs.Worlds.{events_of_world}
 

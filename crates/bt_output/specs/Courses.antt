@@ -1,13 +1,12 @@
 -- What a run gives that was joined.
 use Rattle.std.specs.Prelude.{List, Some}
 use Rattle.bt_arena.specs.declared.nodes.Node.{Node}
-use Rattle.bt_loop.specs.Runs.{roster_over}
+use Rattle.bt_loop.specs.Runs.{Setup, roster_over}
 use Rattle.bt_model.specs.Drivers.{DriverState}
 use Rattle.bt_model.specs.Run.{Trace, run_over}
 use Rattle.bt_outside.specs.Moments.{Moments}
 use Rattle.bt_output.specs.declared.course.Course.{Course}
 use Rattle.bt_output.specs.Output.{Given, Output, given, run_exit}
-use Rattle.bt_trace.specs.Traces.{Setup}
 
 -- the output of this trace: the drivers had its calls, in their order
 abbrev pub trace_output : Setup → List (List Node) → Given → Trace → Output

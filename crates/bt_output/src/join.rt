@@ -1,5 +1,5 @@
 ghost use Rattle.std.specs.Prelude.{◌≡◌};
-ghost use Rattle.bt_loop.specs.Runs.{arenas_of};
+ghost use Rattle.bt_loop.specs.Runs.{Setup, arenas_of};
 ghost use Rattle.bt_model.specs.Drivers.{NothingHeld};
 ghost use Rattle.bt_model.specs.Lines.{line_names};
 ghost use Rattle.bt_model.specs.Run.{opening};
@@ -11,7 +11,7 @@ ghost use Rattle.bt_output.specs.Ends.{EndsAt};
 ghost use Rattle.bt_output.specs.declared.course.Course.TheVariants as course;
 ghost use Rattle.bt_output.specs.Lent.{Stays, seen};
 ghost use Rattle.bt_output.specs.Output.{JoinGives};
-ghost use Rattle.bt_trace.specs.Traces.{CanRun, Setup, state_in};
+ghost use Rattle.bt_trace.specs.Traces.{CanRun, state_in};
 
 use crate::course::Course;
 use crate::outside::Outside;

@@ -13,11 +13,12 @@ use Rattle.bt_outside.specs.Moments.{Moments, after_now}
 use Rattle.bt_text.specs.declared.stop.TextStop.{TextStop}
 use Rattle.bt_text.specs.declared.stop.TextStop.TheVariants as text_stop
 use Rattle.bt_loop.specs.declared.runs.Runs.{Runs}
+use Rattle.bt_loop.specs.Runs.{Setup}
 use Rattle.bt_trace.specs.declared.ended.Ended.{Ended}
 use Rattle.bt_trace.specs.declared.ended.Ended.TheVariants.{Done, Faulted}
 use Rattle.bt_trace.specs.Going.{HasGiven, LiveMade, Makes, MakesPart, RoundsMade, Stage, finishes_then, rounds_then, state_at}
 use Rattle.bt_trace.specs.Rounds.{AreBegun, AreMoments, WasAsked, events_then, fault_in, moments_after, nothing_more, round_of, taken}
-use Rattle.bt_trace.specs.Traces.{Setup, ended, state_in}
+use Rattle.bt_trace.specs.Traces.{ended, state_in}
 use Rattle.bt_trace.proofs.Following.{round_next, rounds_front}
 use Rattle.bt_trace.proofs.Parts.{part_as, part_before, part_next, part_stopped, part_to}
 

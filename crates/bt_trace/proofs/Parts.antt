@@ -16,7 +16,7 @@ use Rattle.bt_text.specs.declared.stop.TextStop.{TextStop}
 use Rattle.bt_text.specs.declared.stop.TextStop.TheVariants as text_stop
 use Rattle.bt_arena.specs.declared.nodes.Node.{Node}
 use Rattle.bt_loop.specs.declared.runs.Runs.{Runs}
-use Rattle.bt_loop.specs.Runs.{AreRuns, arenas_of, leaves_of as leaf_count, roster_over}
+use Rattle.bt_loop.specs.Runs.{AreRuns, Setup, arenas_of, leaves_of as leaf_count, roster_over}
 use Rattle.bt_loop.specs.Steps.{HaveRoom}
 use Rattle.bt_loop.proofs.Rising.{roster_both, same_roster}
 use Rattle.bt_trace.specs.declared.ended.Ended.{Ended}
@@ -25,7 +25,7 @@ use Rattle.bt_trace.specs.declared.underway.Underway.{Underway}
 use Rattle.bt_trace.specs.Cuts.{HaveHalted}
 use Rattle.bt_trace.specs.Going.{CanGoOn, Goes, Going, Makes, MakesPart, Stage, Stand, WasStopped, arenas_at, side_of, state_at}
 use Rattle.bt_trace.specs.Rounds.{nothing_more}
-use Rattle.bt_trace.specs.Traces.{CanAllCome, CanRun, IsRun, Leaves, Setup, Side, ended, side}
+use Rattle.bt_trace.specs.Traces.{CanAllCome, CanRun, IsRun, Leaves, Side, ended, side}
 use Rattle.bt_trace.specs.Watches.{StaysWatcher, WasShown, Watched}
 use Rattle.bt_trace.proofs.Cuts.{cut_after, cut_before, cut_here, cut_none, over_both}
 use Rattle.bt_trace.proofs.Rests.{same_many}

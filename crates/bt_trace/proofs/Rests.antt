@@ -19,12 +19,12 @@ use Rattle.bt_laws.proofs.Keeping.{term_keeps}
 use Rattle.bt_arena.specs.declared.block.Block.{Block}
 use Rattle.bt_loop.specs.declared.runs.ReadyRunner.{ReadyRunner}
 use Rattle.bt_loop.specs.declared.runs.Runs.{Runs}
-use Rattle.bt_loop.specs.Runs.{AreRuns, arenas_of, runner_in, state_of_runs}
+use Rattle.bt_loop.specs.Runs.{AreRuns, Setup, arenas_of, runner_in, state_of_runs}
 use Rattle.bt_loop.specs.Steps.{EventEnds}
 use Rattle.bt_loop.proofs.Lists.{set_is, within}
 use Rattle.bt_loop.proofs.Resting.{resting_hold_nothing}
 use Rattle.bt_trace.specs.Going.{AreAtRest, Stand}
-use Rattle.bt_trace.specs.Traces.{Setup, state_in}
+use Rattle.bt_trace.specs.Traces.{state_in}
 
 module _ (tree : Tree) (world : World) (runner : ℕ) (s : RunState) (steady : RunSteady tree.term world.rows s) (before : AreAtRest (runner - 1) s) where
   abbrev Ends : Result (Unit {0}) NodeFault → Done (Unit {0}) Memory → Type 0

@@ -23,12 +23,12 @@ use Rattle.bt_arena.specs.declared.block.Block.{Block}
 use Rattle.bt_arena.specs.declared.nodes.Node.{Node}
 use Rattle.bt_arena.specs.Blocks.{seen}
 use Rattle.bt_loop.specs.declared.runs.Runs.{Runs}
-use Rattle.bt_loop.specs.Runs.{AreRuns, roster_over}
-use Rattle.bt_loop.specs.Steps.{EventEnds, IsSameRoster, IsStep}
+use Rattle.bt_loop.specs.Runs.{AreRuns, Setup, roster_over}
+use Rattle.bt_loop.specs.Steps.{EventEnds, EventLeft, EventSide, IsStep, event_side}
 use Rattle.bt_trace.specs.declared.ended.Ended.{Ended}
 use Rattle.bt_trace.specs.declared.ended.Ended.TheVariants.{Done, Faulted}
 use Rattle.bt_trace.specs.Going.{Goes, Going, Makes, Shows, Stage, Stand, arenas_at, side_of, state_at}
-use Rattle.bt_trace.specs.Traces.{IsRun, Setup, Side, ended}
+use Rattle.bt_trace.specs.Traces.{IsRun, Side, ended}
 use Rattle.bt_trace.specs.Watches.{StaysWatcher, WasShown, Watched}
 use Rattle.bt_trace.proofs.Cuts.{event_cut}
 use Rattle.bt_trace.proofs.Parts.{runs_of_stand}
@@ -124,20 +124,21 @@ usable_of : (of : Setup) (made : Result (Unit {0}) (Stop RunFault)) (drivers : L
 usable_of of (Ok done) drivers runs is are = are.usable
 usable_of of (Err e) drivers runs is are = cc
 
+-- what an event finds of a run, and what it leaves
+abbrev pub event_side_of : Stage → EventSide
+event_side_of s = event_side s.drivers s.underway.runs s.underway.block
+
 -- what an event leaves that was made and shown
-pub event_makes : (of : Setup) (old new : Stage) (block : Block) (d : Stepped) (made : Result (Unit {0}) (Stop RunFault)) (result : Result Ended TextStop) →
-    arenas_at new ≡ arenas_at old → EventEnds made of.tree.term old.drivers new.drivers new.underway.runs block d → Shows made result old.watch new.watch (seen block) →
-    OnOk made (AreRuns of.tree of.world new.drivers new.underway.runs) → OnErr made (NothingHeld new.drivers) → OnErr made (new.underway.runs.usable ≡ false) →
-    new.underway.block.notes.full ≡ old.underway.block.notes.full → IsSameRoster old.drivers new.drivers → StaysWatcher result old.watch new.watch →
-    Makes of result old new (λ rest. then_rest d rest)
-event_makes of old new block d made result same ends shows are none off room roster watcher = record {
-  goes = event_goes of old new block d same made result ends shows;
-  stand = stands of made new.drivers new.underway.runs are none off;
-  on = λ done. usable_of of made new.drivers new.underway.runs (made_whole made result old.watch new.watch (seen block) shows done) are;
-  off = λ faulted. made_fault made result old.watch new.watch (seen block) shows faulted off;
-  arenas = same;
-  room = room;
-  roster = roster;
+pub event_makes : (of : Setup) (old new : Stage) (d : Stepped) (made : Result (Unit {0}) (Stop RunFault)) (result : Result Ended TextStop) →
+    EventLeft of made (event_side_of old) (event_side_of new) d → Shows made result old.watch new.watch (seen new.underway.block) → StaysWatcher result old.watch new.watch → Makes of result old new (λ rest. then_rest d rest)
+event_makes of old new d made result left shows watcher = record {
+  goes = event_goes of old new new.underway.block d left.arenas made result left.step shows;
+  stand = stands of made new.drivers new.underway.runs left.runs left.none left.usable;
+  on = λ done. usable_of of made new.drivers new.underway.runs (made_whole made result old.watch new.watch (seen new.underway.block) shows done) left.runs;
+  off = λ faulted. made_fault made result old.watch new.watch (seen new.underway.block) shows faulted left.usable;
+  arenas = left.arenas;
+  room = left.room;
+  roster = left.roster;
   watcher = watcher;
 }
 

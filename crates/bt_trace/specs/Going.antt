@@ -18,14 +18,14 @@ use Rattle.bt_text.specs.declared.stop.TextStop.{TextStop}
 use Rattle.bt_text.specs.declared.stop.TextStop.TheVariants as text_stop
 use Rattle.bt_arena.specs.declared.nodes.Node.{Node}
 use Rattle.bt_loop.specs.declared.runs.Runs.{Runs}
-use Rattle.bt_loop.specs.Runs.{AreRuns, arenas_of, roster_over}
+use Rattle.bt_loop.specs.Runs.{AreRuns, Setup, arenas_of, roster_over}
 use Rattle.bt_loop.specs.Steps.{HaveRoom, IsSameRoster}
 use Rattle.bt_trace.specs.declared.ended.Ended.{Ended}
 use Rattle.bt_trace.specs.declared.ended.Ended.TheVariants.{Done, Faulted}
 use Rattle.bt_trace.specs.declared.underway.Underway.{Underway}
 use Rattle.bt_trace.specs.Cuts.{IsCut}
 use Rattle.bt_trace.specs.Rounds.{AreMoments, WasAsked, events_then, fault_in, live_events, moments_after, taken}
-use Rattle.bt_trace.specs.Traces.{IsRun, Setup, Side, side, state_in}
+use Rattle.bt_trace.specs.Traces.{IsRun, Side, side, state_in}
 use Rattle.bt_trace.specs.Watches.{StaysWatcher, WasShown, Watched}
 
 -- ---- Before a part

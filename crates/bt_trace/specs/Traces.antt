@@ -2,7 +2,6 @@
 use Rattle.std.specs.Prelude.{◌≡◌, ℕ, List, [], ◌∷◌, Option, Some, None, Result, IfOk, OnErr}
 use Rattle.std.specs.List.{flat_map}
 use Rattle.bt_model.specs.declared.fault.RunFault.{RunFault}
-use Rattle.bt_model.specs.declared.term.Tree.{Tree}
 use Rattle.bt_model.specs.declared.world.Event.{Event}
 use Rattle.bt_model.specs.declared.world.World.{World}
 use Rattle.bt_model.specs.Drivers.{DriverState, NothingHeld}
@@ -13,7 +12,7 @@ use Rattle.bt_outside.specs.Appending.{AppendedPrefix}
 use Rattle.bt_text.specs.declared.stop.TextStop.{TextStop}
 use Rattle.bt_arena.specs.declared.nodes.Node.{Node}
 use Rattle.bt_loop.specs.declared.runs.Runs.{Runs}
-use Rattle.bt_loop.specs.Runs.{AreRuns, roster_over, state_of_runs}
+use Rattle.bt_loop.specs.Runs.{AreRuns, Setup, roster_over, state_of_runs}
 use Rattle.bt_loop.specs.Steps.{CanCome, IsSameRoster}
 use Rattle.bt_trace.specs.declared.ended.Ended.{Ended}
 use Rattle.bt_trace.specs.declared.ended.Ended.TheVariants.{Done, Faulted}
@@ -21,11 +20,6 @@ use Rattle.bt_trace.specs.Cuts.{IsCut}
 use Rattle.bt_trace.specs.Watches.{Watched, WasShown}
 
 -- ---- Premises
-
--- what is run: a tree in a world
-pub record Setup : Type 0 where
-  pub tree : Tree
-  pub world : World
 
 -- each of these events names a runner or a fact that is there, at no moment before this one and those of the events
 -- before it

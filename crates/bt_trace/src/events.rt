@@ -1,9 +1,10 @@
 ghost use Rattle.std.specs.Prelude.{◌≡◌, Ok};
 ghost use Rattle.bt_model.specs.Run.{step, then_rest};
+ghost use Rattle.bt_loop.specs.Runs.{Setup};
 ghost use Rattle.bt_loop.specs.Steps.{CanCome};
 ghost use Rattle.bt_trace.specs.Going.{CanGoOn, Makes, stage, state_at};
 ghost use Rattle.bt_trace.specs.Rounds.{events_then};
-ghost use Rattle.bt_trace.specs.Traces.{CanAllCome, Setup, last_moment};
+ghost use Rattle.bt_trace.specs.Traces.{CanAllCome, last_moment};
 
 use crate::ended::Ended;
 use crate::showing::show_event;

@@ -1,11 +1,11 @@
 ghost use Rattle.std.specs.Prelude.{◌≡◌, ◌≤◌, ◌<◌, ◌-◌, ◌^◌, Ok, OnOk, length};
 ghost use Rattle.bt_model.specs.Drivers.{NothingHeld};
 ghost use Rattle.bt_model.specs.Run.{finish as finish_step, then_rest};
-ghost use Rattle.bt_loop.specs.Runs.{arenas_of};
+ghost use Rattle.bt_loop.specs.Runs.{Setup, arenas_of};
 ghost use Rattle.bt_loop.specs.Steps.{HaveRoom};
 ghost use Rattle.bt_trace.specs.Cuts.{HaveHalted};
 ghost use Rattle.bt_trace.specs.Going.{AreAtRest, CanGoOn, Makes, Stand, finishes_then, stage, state_at};
-ghost use Rattle.bt_trace.specs.Traces.{AreKept, Setup};
+ghost use Rattle.bt_trace.specs.Traces.{AreKept};
 
 use crate::ended::Ended;
 use crate::showing::show_event;

@@ -1,9 +1,9 @@
 ghost use Rattle.std.specs.Prelude.{◌≡◌, List, ℕ, OnOk};
 ghost use Rattle.bt_model.specs.Drivers.{NothingHeld};
-ghost use Rattle.bt_loop.specs.Runs.{arenas_of};
+ghost use Rattle.bt_loop.specs.Runs.{Setup, arenas_of};
 ghost use Rattle.bt_trace.specs.Going.{CanGoOn, LiveMade, RoundsMade, stage};
 ghost use Rattle.bt_trace.specs.Rounds.{AreMoments, WasAsked, live_events, round_of};
-ghost use Rattle.bt_trace.specs.Traces.{AreKept, CanRun, Leaves, Setup, side, state_in, trace_of};
+ghost use Rattle.bt_trace.specs.Traces.{AreKept, CanRun, Leaves, side, state_in, trace_of};
 ghost use Rattle.bt_trace.specs.Watches.{StaysWatcher};
 
 use crate::ended::Ended;

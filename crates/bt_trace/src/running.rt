@@ -1,9 +1,9 @@
 ghost use Rattle.std.specs.Prelude.{OnOk};
 ghost use Rattle.bt_model.specs.Drivers.{NothingHeld};
-ghost use Rattle.bt_loop.specs.Runs.{arenas_of};
+ghost use Rattle.bt_loop.specs.Runs.{Setup, arenas_of};
 ghost use Rattle.bt_trace.specs.Going.{CanGoOn, Makes, finishes_then, stage, state_at};
 ghost use Rattle.bt_trace.specs.Rounds.{events_then};
-ghost use Rattle.bt_trace.specs.Traces.{AreKept, CanAllCome, CanRun, Leaves, Setup, side, trace_of};
+ghost use Rattle.bt_trace.specs.Traces.{AreKept, CanAllCome, CanRun, Leaves, side, trace_of};
 ghost use Rattle.bt_trace.specs.Watches.{StaysWatcher};
 
 use crate::ended::Ended;

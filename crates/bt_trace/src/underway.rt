@@ -1,8 +1,8 @@
 ghost use Rattle.std.specs.Prelude.{◌≡◌, IfOk, List};
 ghost use Rattle.bt_model.specs.Drivers.{DriverState};
-ghost use Rattle.bt_loop.specs.Runs.{arenas_of};
+ghost use Rattle.bt_loop.specs.Runs.{Setup, arenas_of};
 ghost use Rattle.bt_loop.specs.Steps.{HaveRoom};
-ghost use Rattle.bt_trace.specs.Traces.{CanRun, Setup};
+ghost use Rattle.bt_trace.specs.Traces.{CanRun};
 
 use bt_arena::{Block, block_for};
 use bt_loop::{Runs, leaves};

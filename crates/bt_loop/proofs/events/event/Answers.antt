@@ -1,16 +1,10 @@
 use Rattle.bt_loop.proofs.events.event.Goals as goal
 
-pub run_event-ended-requires-clause-runs : goal.run_event-ended-requires-clause-runs
-run_event-ended-requires-clause-runs g c = rw c.replace.ensures.value c.requires.runs
+pub handle_event-ended-requires-clause-runs : goal.handle_event-ended-requires-clause-runs
+handle_event-ended-requires-clause-runs g c = (g.of, rw c.replace.ensures.value c.requires.0, c.requires.1.0)
 
-pub returns-clause-step : goal.returns-clause-step
-returns-clause-step g c = rw (← c.replace.ensures.value) c.run_event-ended.ensures.step
+pub handle_event-ended-requires-clause-room : goal.handle_event-ended-requires-clause-room
+handle_event-ended-requires-clause-room g c = c.requires.1.1
 
-pub returns-clause-runs : goal.returns-clause-runs
-returns-clause-runs g c = rw (← c.replace.ensures.value) c.run_event-ended.ensures.runs
-
-pub returns-clause-quenched : goal.returns-clause-quenched
-returns-clause-quenched g c = rw (← c.replace.ensures.value) c.run_event-ended.ensures.quenched
-
-pub returns-clause-roster : goal.returns-clause-roster
-returns-clause-roster g c = rw (← c.replace.ensures.value) c.run_event-ended.ensures.roster
+pub returns : goal.returns
+returns g c = rw (← c.replace.ensures.value) (c.handle_event-ended.ensures g.of (rw c.replace.ensures.value c.requires.0) c.requires.1.0)

@@ -1,16 +1,15 @@
+use Rattle.std.proofs.Common.{arith}
 use Rattle.bt_loop.proofs.events.finish.Goals as goal
 
-pub run_finish-ended-requires-clause-runs : goal.run_finish-ended-requires-clause-runs
-run_finish-ended-requires-clause-runs g c = rw c.replace.ensures.value c.requires.runs
+pub run_part-ended-requires-clause-runs : goal.run_part-ended-requires-clause-runs
+run_part-ended-requires-clause-runs g c =
+    let r = c.requires in
+    (g.of, record { are = rw c.replace.ensures.value r.0; first = r.1.0; last = r.1.1.0; ahead = omega arith })
 
-pub returns-clause-step : goal.returns-clause-step
-returns-clause-step g c = rw (← c.replace.ensures.value) c.run_finish-ended.ensures.step
+pub run_part-ended-requires-clause-room : goal.run_part-ended-requires-clause-room
+run_part-ended-requires-clause-room g c = c.requires.1.1.1
 
-pub returns-clause-runs : goal.returns-clause-runs
-returns-clause-runs g c = rw (← c.replace.ensures.value) c.run_finish-ended.ensures.runs
-
-pub returns-clause-quenched : goal.returns-clause-quenched
-returns-clause-quenched g c = rw (← c.replace.ensures.value) c.run_finish-ended.ensures.quenched
-
-pub returns-clause-roster : goal.returns-clause-roster
-returns-clause-roster g c = rw (← c.replace.ensures.value) c.run_finish-ended.ensures.roster
+pub returns : goal.returns
+returns g c =
+    let r = c.requires in
+    rw (← c.replace.ensures.value) (c.run_part-ended.ensures g.of (record { are = rw c.replace.ensures.value r.0; first = r.1.0; last = r.1.1.0; ahead = omega arith }))

@@ -1,73 +1,66 @@
-use Rattle.std.proofs.Common.{refl, sym, ap, subst, ◌∙◌, arith}
+use Rattle.std.proofs.Common.{◌≤◌, length, sym, ap, subst, ◌∙◌, arith}
+use Rattle.bt_model.specs.Run.{Stepped}
 use Rattle.bt_arena.specs.declared.block.Block.{Block}
 use Rattle.bt_loop.specs.declared.runs.Runs.{Runs}
-use Rattle.bt_loop.specs.Steps.{IsSameRoster}
+use Rattle.bt_loop.specs.Parts.{turn_header}
+use Rattle.bt_loop.specs.Runs.{state_of_runs}
+use Rattle.bt_loop.specs.Steps.{EventEnds, IsSameRoster}
 use Rattle.bt_loop.proofs.Rising.{over_same, roster_both}
 use Rattle.bt_loop.proofs.Stepping.{can_tell, closing_keeps, from_none, part_calls, runner_there, stay_runs, steps, stop_quenched}
+use Rattle.bt_loop.proofs.Whole.{part_is, part_steady, steady_after}
 use Rattle.bt_loop.proofs.events.run_part.Goals as goal
-
-pub make_part_of-ended-requires-clause-ready : goal.make_part_of-ended-requires-clause-ready
-make_part_of-ended-requires-clause-ready g c =
-    let r = c.requires.runs in
-    (r.0, r.1, c.args.runs.now.last, record { fit = r.2.fit; steady = r.2.steady; ahead = c.requires.ahead })
 
 pub end_event-requires-clause-can : goal.end_event-requires-clause-can
 end_event-requires-clause-can g c =
-    let r = c.requires.runs in
-    let runs1 : Runs = record { runners = c.make_part_of-ended.new.runners; facts = c.make_part_of-ended.new.facts; told = c.args.runs.now.told; last = c.args.at; usable = c.args.runs.now.usable } in
-    can_tell r.0 r.1 c.args.number (g.D.Drivers.states c.args.drivers.now) (g.D.Drivers.states c.make_part_of-ended.new.drivers) c.args.runs.now runs1 r.2 (c.make_part_of-ended.ensures.fit r.0 r.1 r.2.fit) refl c.requires.first r.3
+    let of = c.requires.runs.0 in
+    let can = c.requires.runs.1 in
+    let m = c.make_part_of-ended in
+    can_tell of.tree of.world c.args.turn.runner (g.D.Drivers.states c.args.drivers.now) (g.D.Drivers.states m.new.drivers) c.args.runs.now m.new.runs can.are (m.ensures.fit of can)
+    (ap (λ (x : Runs). x.told) m.ensures.kept) can.first can.last
 
 pub end_event-requires-clause-fit : goal.end_event-requires-clause-fit
-end_event-requires-clause-fit g c =
-    let r = c.requires.runs in
-    (r.0, r.1, c.make_part_of-ended.ensures.fit r.0 r.1 r.2.fit)
+end_event-requires-clause-fit g c = (c.requires.runs.0, c.make_part_of-ended.ensures.fit c.requires.runs.0 c.requires.runs.1)
 
-pub returns-clause-step : goal.returns-clause-step
-returns-clause-step g c = λ tree world are x is.
-    let r = c.requires.runs in
+pub returns : goal.returns
+returns g c = λ of can.
+    let tree = of.tree in
+    let world = of.world in
+    let number = c.args.turn.runner in
+    let at = c.args.turn.at in
+    let are = can.are in
+    let m = c.make_part_of-ended in
+    let e = c.end_event in
     let before = g.D.Drivers.states c.args.drivers.now in
-    let mid = g.D.Drivers.states c.make_part_of-ended.new.drivers in
-    let after = g.D.Drivers.states c.end_event.new.drivers in
-    let runs1 : Runs = record { runners = c.make_part_of-ended.new.runners; facts = c.make_part_of-ended.new.facts; told = c.args.runs.now.told; last = c.args.at; usable = c.args.runs.now.usable } in
-    let block1 : Block = record c.begin.new.block { notes = c.make_part_of-ended.new.notes } in
-    let part = c.make_part_of-ended.ensures.part tree world c.args.runs.now.last (record { fit = are.fit; steady = are.steady; ahead = c.requires.ahead }) x is in
-    steps tree c.args.header c.args.number c.args.at c.args.runs.now runs1 c.end_event.new.runs before mid after block1 c.end_event.new.block c.requires.first (omega (arith, r.3, r.2.fit.many)) are.told are.told_entries
-    c.make_part_of-ended.ensures.arenas refl refl c.begin.ensures.header c.begin.ensures.facts c.begin.ensures.entries _ c.make_part_of-ended.result c.end_event.result
-    (from_none c.make_part_of-ended.result tree.term c.args.number c.args.at _ _ before mid _ _ c.begin.new.block.notes.list c.make_part_of-ended.new.notes.list _ (ap (λ n. n.list) c.begin.ensures.notes) part)
-    (c.end_event.ensures.closes tree world (c.make_part_of-ended.ensures.fit tree world are.fit))
-
-pub returns-clause-runs : goal.returns-clause-runs
-returns-clause-runs g c = λ tree world are.
-    let r = c.requires.runs in
-    let before = g.D.Drivers.states c.args.drivers.now in
-    let mid = g.D.Drivers.states c.make_part_of-ended.new.drivers in
-    let after = g.D.Drivers.states c.end_event.new.drivers in
-    let runs1 : Runs = record { runners = c.make_part_of-ended.new.runners; facts = c.make_part_of-ended.new.facts; told = c.args.runs.now.told; last = c.args.at; usable = c.args.runs.now.usable } in
-    let block1 : Block = record c.begin.new.block { notes = c.make_part_of-ended.new.notes } in
-    let x = runner_there tree.term before c.args.runs.now c.args.number c.requires.first (omega (arith, r.3, r.2.fit.many)) in
-    let part = c.make_part_of-ended.ensures.part tree world c.args.runs.now.last (record { fit = are.fit; steady = are.steady; ahead = c.requires.ahead }) x.0 x.1 in
-    let fit = c.make_part_of-ended.ensures.fit tree world are.fit in
-    stay_runs tree c.args.header c.args.number c.args.at c.args.runs.now runs1 c.end_event.new.runs before mid after block1 c.end_event.new.block c.requires.first (omega (arith, r.3, r.2.fit.many)) are.told are.told_entries
-    c.make_part_of-ended.ensures.arenas refl refl c.begin.ensures.header c.begin.ensures.facts c.begin.ensures.entries _ world are.usable fit c.make_part_of-ended.result c.end_event.result
-    (from_none c.make_part_of-ended.result tree.term c.args.number c.args.at _ _ before mid _ _ c.begin.new.block.notes.list c.make_part_of-ended.new.notes.list _ (ap (λ n. n.list) c.begin.ensures.notes) part)
-    (c.end_event.ensures.closes tree world fit)
-
-pub returns-clause-quenched : goal.returns-clause-quenched
-returns-clause-quenched g c = λ tree world are. stop_quenched _ c.end_event.result tree c.args.number _ _ _ _ _ _ (c.end_event.ensures.closes tree world (c.make_part_of-ended.ensures.fit tree world are.fit))
-
-pub returns-clause-arenas : goal.returns-clause-arenas
-returns-clause-arenas g c =
-    let r = c.requires.runs in
-    (closing_keeps _ c.end_event.result r.0 c.args.number _ _ _ _ _ _ (c.end_event.ensures.closes r.0 r.1 (c.make_part_of-ended.ensures.fit r.0 r.1 r.2.fit))).0 ∙ c.make_part_of-ended.ensures.arenas
-
-pub returns-clause-roster : goal.returns-clause-roster
-returns-clause-roster g c =
-    let r = c.requires.runs in
-    let before = g.D.Drivers.states c.args.drivers.now in
-    let mid = g.D.Drivers.states c.make_part_of-ended.new.drivers in
-    let after = g.D.Drivers.states c.end_event.new.drivers in
-    let x = runner_there r.0.term before c.args.runs.now c.args.number c.requires.first (omega (arith, r.3, r.2.fit.many)) in
-    let part = part_calls c.make_part_of-ended.result r.0.term c.args.number c.args.at _ _ before mid _ _ _ _ _
-    (c.make_part_of-ended.ensures.part r.0 r.1 c.args.runs.now.last (record { fit = r.2.fit; steady = r.2.steady; ahead = c.requires.ahead }) x.0 x.1) in
-    let rest = (closing_keeps _ c.end_event.result r.0 c.args.number _ _ _ _ _ _ (c.end_event.ensures.closes r.0 r.1 (c.make_part_of-ended.ensures.fit r.0 r.1 r.2.fit))).1 in
-    roster_both before mid after (subst (IsSameRoster before) (sym part.1) (over_same _ part.0 before)) (subst (IsSameRoster mid) (sym rest.1) (over_same _ rest.0 mid))
+    let mid = g.D.Drivers.states m.new.drivers in
+    let after = g.D.Drivers.states e.new.drivers in
+    let s = state_of_runs tree.term before c.args.runs.now in
+    let block : Block = record c.begin.new.block { notes = m.new.notes } in
+    let low : number ≤ length c.args.runs.now.runners.items = omega (arith, can.last, are.fit.many) in
+    let r = runner_there tree.term before c.args.runs.now number can.first low in
+    let told = ap (λ (x : Runs). x.told) m.ensures.kept in
+    let last = ap (λ (x : Runs). x.last) m.ensures.kept in
+    let usable = ap (λ (x : Runs). x.usable) m.ensures.kept ∙ are.usable in
+    let header = c.begin.ensures.header ∙ c.header.ensures in
+    let fit = m.ensures.fit of can in
+    let closes = e.ensures.closes of fit in
+    let part = m.ensures.part of can r.0 r.1 in
+    let ends = from_none m.result tree.term number at _ _ before mid _ _ c.begin.new.block.notes.list m.new.notes.list _ (ap (λ n. n.list) c.begin.ensures.notes) part in
+    let step =
+    subst (λ (d : Stepped). EventEnds e.result tree.term before after e.new.runs e.new.block d) (part_is c.args.turn.part tree world number at s r.0 r.1)
+    (steps tree (turn_header c.args.turn) number at c.args.runs.now m.new.runs e.new.runs before mid after block e.new.block can.first low are.told are.told_entries
+    m.ensures.arenas told last header c.begin.ensures.facts c.begin.ensures.entries _ m.result e.result ends closes) in
+    let stay =
+    stay_runs tree (turn_header c.args.turn) number at c.args.runs.now m.new.runs e.new.runs before mid after block e.new.block can.first low are.told are.told_entries
+    m.ensures.arenas told last header c.begin.ensures.facts c.begin.ensures.entries _ world usable fit m.result e.result ends closes in
+    let keeps = closing_keeps m.result e.result tree number mid after m.new.runs e.new.runs block e.new.block closes in
+    let called = part_calls m.result tree.term number at _ _ before mid _ _ _ _ _ part in
+    record {
+      step = step;
+      runs = steady_after e.result tree world before after e.new.runs e.new.block _ step (part_steady c.args.turn.part tree world number at s are.steady can.ahead) stay;
+      quenched = stop_quenched m.result e.result tree number mid after m.new.runs e.new.runs block e.new.block closes;
+      none = e.ensures.none;
+      usable = e.ensures.usable;
+      arenas = keeps.0 ∙ m.ensures.arenas;
+      room = e.ensures.full ∙ m.ensures.full ∙ ap (λ n. n.full) c.begin.ensures.notes;
+      roster = roster_both before mid after (subst (IsSameRoster before) (sym called.1) (over_same _ called.0 before)) (subst (IsSameRoster mid) (sym keeps.1.1) (over_same _ keeps.1.0 mid));
+    }

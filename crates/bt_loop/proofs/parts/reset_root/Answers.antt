@@ -6,4 +6,4 @@ use Rattle.bt_loop.proofs.parts.reset_root.Goals as goal
 pub reset-requires-clause-held : goal.reset-requires-clause-held
 reset-requires-clause-held g c =
     let can = c.requires.can in
-    sound_marks can.0.term (root_view can.0 can.1) 1 _ (scene_of c.args.runner.now can.3 (g.D.Drivers.states c.args.drivers.now)) can.2 can.1.rows can.4.fits can.4.sound
+    sound_marks can.0.tree.term (root_view can.0.tree can.0.world) 1 _ (scene_of c.args.runner.now can.2 (g.D.Drivers.states c.args.drivers.now)) can.1 can.0.world.rows can.3.fits can.3.sound

@@ -10,20 +10,24 @@ use Rattle.bt_loop.proofs.parts.tick_root.Goals as goal
 pub tick-requires : goal.tick-requires
 tick-requires g c =
     let can = c.requires.can in
-    record { can = (can.0.term, root_view can.0 can.1, record { fits = can.2.fits; sound = can.2.sound; dated = can.2.dated }) }
+    record { can = (can.0.tree.term, root_view can.0.tree can.0.world, record { fits = can.1.fits; sound = can.1.sound; dated = can.1.dated }) }
 
 pub returns-in_err-answer-clause-part : goal.returns-in_err-answer-clause-part
-returns-in_err-answer-clause-part g c = λ tree world can.
+returns-in_err-answer-clause-part g c = λ of can.
+    let tree = of.tree in
+    let world = of.world in
     tick_stopped tree.term (root_view tree world) c.args.runner.now.arena.nodes.items c.args.at c.args.runner.now.arena.runner _ _ _ _ _ _ c.from_residual.result (stops_with c.from_residual.result _ c.from_residual.ensures.1)
     (c.in_err-answer.ensures.meets tree.term (root_view tree world) (record { fits = can.fits; sound = can.sound; dated = can.dated }))
 
 pub end_tick-requires : goal.end_tick-requires
 end_tick-requires g c =
     let can = c.requires.can in
-    root_there can.0.term (root_view can.0 can.1) c.args.runner.now.arena.nodes.items _ (c.in_ok-answer.ensures.fits can.0.term (root_view can.0 can.1) 1 can.2.fits)
+    root_there can.0.tree.term (root_view can.0.tree can.0.world) c.args.runner.now.arena.nodes.items _ (c.in_ok-answer.ensures.fits can.0.tree.term (root_view can.0.tree can.0.world) 1 can.1.fits)
 
 pub returns-in_err-end_tick-clause-part : goal.returns-in_err-end_tick-clause-part
-returns-in_err-end_tick-clause-part g c = λ tree world can.
+returns-in_err-end_tick-clause-part g c = λ of can.
+    let tree = of.tree in
+    let world = of.world in
     let nodes = c.args.runner.now.arena.nodes.items in
     let s0 = scene_of c.args.runner.now c.args.facts.now (g.D.Drivers.states c.args.drivers.now) in
     let s1 = scene c.tick.new.arena.kept.items c.tick.new.board c.tick.new.facts (g.D.Drivers.states c.tick.new.drivers) in
@@ -35,7 +39,9 @@ returns-in_err-end_tick-clause-part g c = λ tree world can.
     (end_cut tree.term nodes c.args.at c.args.runner.now.arena.runner c.in_ok-answer.answer s1 s2 c.tick.new.notes.list c.end_tick.new.notes.list e.0 e.1 e.2 e.3 e.4 refl))
 
 pub returns-clause-part : goal.returns-clause-part
-returns-clause-part g c = λ tree world can.
+returns-clause-part g c = λ of can.
+    let tree = of.tree in
+    let world = of.world in
     let nodes = c.args.runner.now.arena.nodes.items in
     let s0 = scene_of c.args.runner.now c.args.facts.now (g.D.Drivers.states c.args.drivers.now) in
     let s1 = scene c.tick.new.arena.kept.items c.tick.new.board c.tick.new.facts (g.D.Drivers.states c.tick.new.drivers) in

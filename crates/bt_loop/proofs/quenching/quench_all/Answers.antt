@@ -13,7 +13,7 @@ quench-requires-clause-fits g c =
     let fit = c.requires.fit in
     let at = slice_get-get_or l.runners.items l.place c.index_mut.result.now (omega (arith, c.loop-place-test.true, l.invariant.5, c.len-place-end.ensures)) ∙ ap Some (sym c.index_mut.ensures.value) in
     let r = c.index_mut.result.now in
-    (fit.0.term, root_view fit.0 fit.1, r.board, fit.2, ((l.invariant.0 fit.0 fit.1 fit.2 fit.3).fit.each l.place r at).fits)
+    (fit.0.tree.term, root_view fit.0.tree fit.0.world, r.board, fit.1, ((l.invariant.0 fit.0 fit.1 fit.2).fit.each l.place r at).fits)
 
 pub quench-requires-clause-room : goal.quench-requires-clause-room
 quench-requires-clause-room g c =
@@ -29,10 +29,10 @@ loop-place-preserved g c =
     let r = c.index_mut.result.now in
     let new : ReadyRunner = record { arena = c.quench.new.arena; board = r.board } in
     let q = c.quench.ensures in (
-      (λ tree world facts fit.
-          let so_far = l.invariant.0 tree world facts fit in
+      (λ of facts fit.
+          let so_far = l.invariant.0 of facts fit in
           let fits = (so_far.fit.each l.place r at).fits in
-          quenching_more tree world facts l.place _ _ c.args.runners.now.items l.runners.items _ _ so_far r at new _ _ q.nodes q.same_runner (q.fits r.board facts) (q.runner tree (root_view tree world) r.board facts fits) q.drivers q.notes),
+          quenching_more of.tree of.world facts l.place _ _ c.args.runners.now.items l.runners.items _ _ so_far r at new _ _ q.nodes q.same_runner (q.fits r.board facts) (q.runner of.tree (root_view of.tree of.world) r.board facts fits) q.drivers q.notes),
       omega (arith, l.invariant.1, room_at l.runners.items c.args.runners.now.items l.place r at l.invariant.2, q.reserve, few_notes (g.D.Drivers.states l.drivers) 0 r.arena.nodes.items),
       map-set_same (λ (x : ReadyRunner). x.arena.nodes.items) l.runners.items l.place new r (q.nodes ∙ ap (λ (x : ReadyRunner). x.arena.nodes.items) (sym (get_or_from_slice_get l.runners.items l.place r r at))) ∙ l.invariant.2,
       map-set_same (λ (x : ReadyRunner). x.board) l.runners.items l.place new r (ap (λ (x : ReadyRunner). x.board) (sym (get_or_from_slice_get l.runners.items l.place r r at))) ∙ l.invariant.3,
@@ -41,15 +41,15 @@ loop-place-preserved g c =
     )
 
 pub returns-clause-state : goal.returns-clause-state
-returns-clause-state g c = λ tree world facts fit. quenched_state_end tree world facts _ _ _ _ _ _ _ (c.loop-place.invariant.0 tree world facts fit) (omega (arith, c.loop-place-test.false, c.loop-place.invariant.5, c.len-place-end.ensures))
+returns-clause-state g c = λ of facts fit. quenched_state_end of.tree of.world facts _ _ _ _ _ _ _ (c.loop-place.invariant.0 of facts fit) (omega (arith, c.loop-place-test.false, c.loop-place.invariant.5, c.len-place-end.ensures))
 
 pub returns-clause-notes : goal.returns-clause-notes
-returns-clause-notes g c = λ tree world facts fit. quenched_notes_end tree world facts _ _ _ _ _ _ _ (c.loop-place.invariant.0 tree world facts fit) (omega (arith, c.loop-place-test.false, c.loop-place.invariant.5, c.len-place-end.ensures))
+returns-clause-notes g c = λ of facts fit. quenched_notes_end of.tree of.world facts _ _ _ _ _ _ _ (c.loop-place.invariant.0 of facts fit) (omega (arith, c.loop-place-test.false, c.loop-place.invariant.5, c.len-place-end.ensures))
 
 pub returns-clause-drivers : goal.returns-clause-drivers
-returns-clause-drivers g c = λ tree world facts fit. quenched_drivers_end tree world facts _ _ _ _ _ _ _ (c.loop-place.invariant.0 tree world facts fit) (omega (arith, c.loop-place-test.false, c.loop-place.invariant.5, c.len-place-end.ensures))
+returns-clause-drivers g c = λ of facts fit. quenched_drivers_end of.tree of.world facts _ _ _ _ _ _ _ (c.loop-place.invariant.0 of facts fit) (omega (arith, c.loop-place-test.false, c.loop-place.invariant.5, c.len-place-end.ensures))
 
 pub returns-clause-none : goal.returns-clause-none
 returns-clause-none g c =
     let fit = c.requires.fit in
-    nothing_held fit.0 fit.1 fit.2 _ _ _ _ _ _ _ (c.loop-place.invariant.0 fit.0 fit.1 fit.2 fit.3) (omega (arith, c.loop-place-test.false, c.loop-place.invariant.5, c.len-place-end.ensures))
+    nothing_held fit.0.tree fit.0.world fit.1 _ _ _ _ _ _ _ (c.loop-place.invariant.0 fit.0 fit.1 fit.2) (omega (arith, c.loop-place-test.false, c.loop-place.invariant.5, c.len-place-end.ensures))

@@ -6,6 +6,9 @@ use Rattle.bt_trace.specs.Going.{AreAtRest, Stand}
 use Rattle.bt_trace.specs.Traces.{state_in}
 use Rattle.bt_trace.proofs.finishes.finish_unwritten.Given as goal
 
+abbrev pub ghost-run_finish : goal.ghost-run_finish
+ghost-run_finish g a = g.of
+
 -- the runners before this one were finished, and rest, as long as no finish has stopped
 abbrev pub invariant-loop-place : goal.invariant-loop-place
 invariant-loop-place g l =

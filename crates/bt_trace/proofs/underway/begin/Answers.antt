@@ -5,7 +5,7 @@ use Rattle.bt_trace.proofs.underway.begin.Goals as goal
 pub leaves-requires : goal.leaves-requires
 leaves-requires g c =
     let r = c.requires in
-    (g.of.tree, g.of.world, r.0, r.1.is_valid, r.1.is_valid_world, r.1.are)
+    (r.1.is_valid, (r.1.is_valid_world, (r.0, r.1.are)))
 
 pub overflow_cast-leaves : goal.overflow_cast-leaves
 overflow_cast-leaves g c =
