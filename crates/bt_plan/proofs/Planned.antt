@@ -2,6 +2,7 @@
 use Rattle.std.proofs.Common.{◌≡◌, ◌⊎◌, inl, inr, ℕ, ◌+◌, ◌≤◌, List, [], ◌∷◌, ◌++◌, length, map, Option, Some, None, Result, Ok, Err, refl, sym, ap, subst, ◌∙◌, append-nil, arith}
 use Rattle.std.proofs.lemmas.List.{length-append}
 use Rattle.bt_script.specs.declared.stop.NoMemory.{NoMemory}
+use Rattle.bt_model.specs.declared.leaf.Totals.{Totals}
 use Rattle.bt_model.specs.declared.world.World.{World}
 use Rattle.bt_model.specs.Drivers.{DriverState, NothingHeld, driver_at}
 use Rattle.bt_loop.specs.Steps.{IsSameRoster}
@@ -126,7 +127,7 @@ module _ (world : World) (limits : Limits) (t : PlanTree) (steps : List Step) (b
     within = λ place.
         let now_is : (driver_at now place).totals ≡ (driver_at (drivers_after world limits p.done before) place).totals = ap (λ (ds : List DriverState). (driver_at ds place).totals) p.drivers in
         let e = same place ∙ now_is in
-        record { starts = λ few. (let s = ap (λ t. t.starts) e in omega (arith, s)); runnings = λ few. (let s = ap (λ t. t.runnings) e in omega (arith, s)) };
+        record { starts = λ few. (let s = ap (λ (t : Totals). t.starts) e in omega (arith, s)); runnings = λ few. (let s = ap (λ (t : Totals). t.runnings) e in omega (arith, s)) };
   }
   plan_cut e (inr (trial, same, tried, within)) = record {
     trials = p.done ++ trial ∷ [];

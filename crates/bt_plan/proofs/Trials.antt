@@ -16,6 +16,7 @@ use Rattle.bt_model.specs.declared.term.Tree.{Tree as Planned}
 use Rattle.bt_model.specs.declared.world.Event.{Event}
 use Rattle.bt_model.specs.declared.world.What.{What}
 use Rattle.bt_model.specs.declared.world.What.TheVariants.{Tick}
+use Rattle.bt_model.specs.declared.leaf.Totals.{Totals}
 use Rattle.bt_model.specs.declared.world.World.{World}
 use Rattle.bt_model.specs.Done.{Call}
 use Rattle.bt_model.specs.Drivers.{DriverState, driver_at}
@@ -109,13 +110,20 @@ planned_for world t f tree st p = (f, planned_is world f tree p, st.shape.fit)
 pub within_whole : (before after whole : List DriverState) → after ≡ whole → HaveBegunWithin before after whole
 within_whole before after whole is place =
     let e : (driver_at after place).totals ≡ (driver_at whole place).totals = ap (λ (ds : List DriverState). (driver_at ds place).totals) is in
-    record { starts = λ few. (let s = ap (λ t. t.starts) e in omega (arith, s)); runnings = λ few. (let s = ap (λ t. t.runnings) e in omega (arith, s)) }
+    record { starts = λ few. (let s = ap (λ (t : Totals). t.starts) e in omega (arith, s)); runnings = λ few. (let s = ap (λ (t : Totals). t.runnings) e in omega (arith, s)) }
 
 -- ---- After a run
 
+-- a run in a world under another name
+pub runs_as : (world of : World) → world ≡ of → (limits : Limits) (tree : Planned) (before after : List DriverState) (result : Result Tried (Stop RunFault)) →
+    RunEnds result (record { tree = tree; world = of }) limits (roster_after_run tree (modelled of) before) before after →
+    RunEnds result (record { tree = tree; world = world }) limits (roster_after_run tree (modelled world) before) before after
+runs_as world of same limits tree before after result ends =
+    subst (λ (w : World). RunEnds result (record { tree = tree; world = w }) limits (roster_after_run tree (modelled w) before) before after) (sym same) ends
+
 module _ (world : World) (limits : Limits) (f : Forest) (tree : Planned) (planned : IsPlanned world.rows f tree) (before after : List DriverState) where
   abbrev Ends : Result Tried (Stop RunFault) → Planned → Type 0
-  Ends result p = RunEnds result (record { tree = p; world = world }) limits (λ calls. roster_after_run p (modelled world) before calls) before after
+  Ends result p = RunEnds result (record { tree = p; world = world }) limits (roster_after_run p (modelled world) before) before after
 
   ends_of : (result : Result Tried (Stop RunFault)) → Ends result tree → Ends result (tree_of world.rows f)
   ends_of result ends = subst (Ends result) (planned_is world f tree planned) ends

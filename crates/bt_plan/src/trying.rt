@@ -44,8 +44,10 @@ fn begin<D: Drivers>(
     requires tree { IsValid of.tree }
     requires quiet { NothingHeld (D.states drivers.old) }
     ensures runs { IfOk result (λ runs. IsAfter of task.now.limits.period 0 (D.states drivers.new) runs) }
-    ensures prepared { IfOk result (λ runs. (calls : List RunnerCall) →
-        roster_over (arenas_of runs) calls (D.states drivers.new) ≡ roster_after_run of.tree (modelled of.world) (D.states drivers.old) calls) }
+    ensures prepared { let old = D.states drivers.old in
+        let new = D.states drivers.new in
+        IfOk result (λ runs. (calls : List RunnerCall) →
+        roster_over (arenas_of runs) calls new ≡ roster_after_run of.tree (modelled of.world) old calls) }
     ensures none { NothingHeld (D.states drivers.new) }
     ensures roster { IsSameRoster (D.states drivers.old) (D.states drivers.new) }
     ensures totals { HaveSameTotals (D.states drivers.old) (D.states drivers.new) }
@@ -71,7 +73,8 @@ fn make_run<D: Drivers>(
     requires tree { IsValid of.tree }
     requires run { IsAfter of task.now.limits.period 0 (D.states drivers.old) runs }
     requires quiet { NothingHeld (D.states drivers.old) }
-    ensures ends { RunEnds result of task.now.limits (λ calls. roster_over (arenas_of runs) calls (D.states drivers.old)) (D.states drivers.old) (D.states drivers.new) }
+    ensures ends { let old = D.states drivers.old in
+        RunEnds result of task.now.limits (λ calls. roster_over (arenas_of runs) calls old) old (D.states drivers.new) }
     ensures none { NothingHeld (D.states drivers.new) }
     ensures roster { IsSameRoster (D.states drivers.old) (D.states drivers.new) }
 {
@@ -98,8 +101,8 @@ pub fn run_tree<D: Drivers>(
     requires planned { IsPlannedFor of.world of.tree }
     requires tree { IsValid of.tree }
     requires quiet { NothingHeld (D.states drivers.old) }
-    ensures ends { RunEnds result of task.now.limits
-        (λ calls. roster_after_run of.tree (modelled of.world) (D.states drivers.old) calls) (D.states drivers.old) (D.states drivers.new) }
+    ensures ends { let old = D.states drivers.old in
+        RunEnds result of task.now.limits (roster_after_run of.tree (modelled of.world) old) old (D.states drivers.new) }
     ensures none { NothingHeld (D.states drivers.new) }
     ensures roster { IsSameRoster (D.states drivers.old) (D.states drivers.new) }
 {
