@@ -1,5 +1,5 @@
 -- A plan run on its way: trials and steps have led to a tree.
-use Rattle.std.proofs.Common.{◌≡◌, ◌⊎◌, inl, inr, ℕ, ◌+◌, ◌≤◌, List, [], ◌∷◌, ◌++◌, length, map, Option, Some, None, Result, Ok, Err, refl, sym, ap, subst, ◌∙◌, append-nil, arith}
+use Rattle.std.proofs.Common.{◌≡◌, ◌⊎◌, inl, inr, ℕ, ◌+◌, ◌≤◌, List, [], ◌∷◌, ◌++◌, length, map, Option, Some, None, Result, Ok, Err, OnErr, refl, sym, ap, subst, ◌∙◌, append-nil, arith}
 use Rattle.std.proofs.lemmas.List.{length-append}
 use Rattle.bt_script.specs.declared.stop.NoMemory.{NoMemory}
 use Rattle.bt_model.specs.declared.leaf.Totals.{Totals}
@@ -144,3 +144,7 @@ module _ (world : World) (limits : Limits) (t : PlanTree) (steps : List Step) (b
 -- memory was wanting before the first trial
 pub nothing_planned : (world : World) (limits : Limits) (drivers : List DriverState) → IsPlanCut world limits drivers drivers
 nothing_planned world limits drivers = record { trials = []; begins = inl refl; within = λ place. record { starts = λ few. omega arith; runnings = λ few. omega arith } }
+
+pub on_err : {A E P : Type 0} (r : Result A E) → P → OnErr r P
+on_err (Ok a) p = tt
+on_err (Err e) p = p
