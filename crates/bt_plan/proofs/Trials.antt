@@ -1,5 +1,5 @@
 -- A tree and its modelled run, as the plan run goes on from it.
-use Rattle.std.proofs.Common.{◌≡◌, ◌⊎◌, inl, inr, ℕ, zero, suc, ◌+◌, List, [], ◌∷◌, ◌++◌, length, Option, Some, None, Result, Ok, Err, refl, sym, ap, subst, ◌∙◌, arith}
+use Rattle.std.proofs.Common.{◌≡◌, ◌⊎◌, inl, inr, ℕ, zero, suc, ◌+◌, List, [], ◌∷◌, ◌++◌, length, Option, Some, None, Result, Ok, Err, IfOk, refl, sym, ap, subst, ◌∙◌, arith}
 use Rattle.std.specs.Prelude.{codes, slice_index_or}
 use Rattle.std.specs.List.{AllByRecursion}
 use Rattle.bt_script.specs.declared.stop.NoMemory.{NoMemory}
@@ -177,3 +177,8 @@ module _ (world : World) (limits : Limits) (f : Forest) (tree : Planned) (planne
     -- .. and memory was wanting then
     pub goes_short : (t : PlanTree) (steps now : List Step) (e : NoMemory) → GoesFrom (Err e) f t world limits steps now before after
     goes_short t steps now e = inr (own, refl, was_tried, within_whole before after _ drivers_are)
+
+    -- the tree failed, whatever was answered then
+    pub goes_fails : (t : PlanTree) (steps now : List Step) (r : Result (Option End) NoMemory) → IfOk r (λ end. GoesOrEnds t world limits (length steps) own steps now end) → GoesFrom r f t world limits steps now before after
+    goes_fails t steps now (Ok end) goes = goes_grown t steps now end goes
+    goes_fails t steps now (Err e) goes = goes_short t steps now e
