@@ -121,6 +121,10 @@ pub runs_as : (world of : World) → world ≡ of → (limits : Limits) (tree : 
 runs_as world of same limits tree before after result ends =
     subst (λ (w : World). RunEnds result (record { tree = tree; world = w }) limits (roster_after_run tree (modelled w) before) before after) (sym same) ends
 
+-- .. with its error under another name
+pub stopped_as : (of : Setup) (limits : Limits) (called : List RunnerCall → List DriverState) (before after : List DriverState) (e other : Stop RunFault) → e ≡ other → RunEnds (Err e) of limits called before after → RunEnds (Err other) of limits called before after
+stopped_as of limits called before after e other same ends = subst (λ (x : Stop RunFault). RunEnds (Err x) of limits called before after) same ends
+
 module _ (world : World) (limits : Limits) (f : Forest) (tree : Planned) (planned : IsPlanned world.rows f tree) (before after : List DriverState) where
   abbrev Ends : Result Tried (Stop RunFault) → Planned → Type 0
   Ends result p = RunEnds result (record { tree = p; world = world }) limits (roster_after_run p (modelled world) before) before after

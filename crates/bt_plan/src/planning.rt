@@ -5,6 +5,7 @@ ghost use Rattle.bt_model.specs.Worlds.{IsValidWorld};
 ghost use Rattle.bt_expand.specs.Forests.{Forest, subtrees};
 ghost use Rattle.bt_expand.specs.Stands.{StandsFor};
 ghost use Rattle.bt_loop.specs.Steps.{IsSameRoster};
+ghost use Rattle.bt_plan.specs.declared.ending.End.TheVariants.{Faulted};
 ghost use Rattle.bt_plan.specs.Answers.{AreServed, IsPlan, IsPlanCut};
 ghost use Rattle.bt_plan.specs.PlanRuns.{AreInRange, IsFirst, IsReached};
 ghost use Rattle.bt_plan.specs.Ticked.{GoesFrom, IsTaskOf};
@@ -18,9 +19,19 @@ use crate::trying::run_tree;
 use crate::verdict::Verdict;
 use bt_driver::Drivers;
 use bt_expand::{PlanTree, plan_tree_of, tree_of};
-use bt_model::World;
+use bt_model::{RunFault, World};
 use bt_script::{Items, NoMemory, Stop};
 use std::alloc::Global;
+
+/// The end of planning where a modelled run faulted so.
+fn faulted(fault: &RunFault) -> End
+    ensures { result ≡ Faulted fault.now.uid fault.now.cause }
+{
+    End::Faulted {
+        uid: fault.uid,
+        cause: fault.cause,
+    }
+}
 
 /// Runs the tree as it stands, and makes a step or ends. The error is want of memory. In the end no
 /// driver holds anything, whatever is answered.
@@ -48,10 +59,7 @@ fn go_on<D: Drivers>(
     let tried = match run_tree(alloc, &tree, task, drivers) {
         Ok(tried) => tried,
         Err(Stop::Fault(fault)) => {
-            return Ok(Some(End::Faulted {
-                uid: fault.uid,
-                cause: fault.cause,
-            }));
+            return Ok(Some(faulted(&fault)));
         }
         Err(Stop::NoMemory) => return Err(NoMemory),
     };

@@ -1,7 +1,9 @@
-use Rattle.std.proofs.Common.{◌∙◌, Ok, Err, refl, arith}
+use Rattle.std.proofs.Common.{◌∙◌, Some, Ok, Err, refl, sym, subst, arith}
 use Rattle.bt_script.specs.declared.stop.Stop.TheVariants as stop
+use Rattle.bt_plan.specs.declared.ending.End.{End}
+use Rattle.bt_plan.specs.Ticked.{GoesFrom}
 use Rattle.bt_plan.proofs.Growths.{ok_gives}
-use Rattle.bt_plan.proofs.Trials.{decides, goes_cut, goes_fails, goes_faulted, goes_reached, goes_running, notes_are, runs_as, trial_of}
+use Rattle.bt_plan.proofs.Trials.{decides, goes_cut, goes_fails, goes_faulted, goes_reached, goes_running, notes_are, runs_as, stopped_as}
 use Rattle.bt_plan.proofs.planning.go_on.Goals as goal
 
 pub tree_of-requires : goal.tree_of-requires
@@ -17,23 +19,27 @@ returns-in-Err-Fault-clause-goes g c = λ f st.
     let world = c.args.world.now in
     let limits = c.args.task.now.limits in
     let tree = c.in_ok-tree.tree in
-    goes_faulted world limits f tree (c.in_ok-tree.ensures.planned f st) _ _ _ _ c.in-Err-Fault.fault
-    (runs_as world g.of c.requires.1.0 limits tree _ _ (Err (stop.Fault c.in-Err-Fault.fault)) c.in-Err-Fault.ensures.ends)
+    let before = g.D.Drivers.states c.args.drivers.now in
+    let after = g.D.Drivers.states c.run_tree.new.drivers in
+    let steps = c.args.steps.now.items in
+    subst (λ (e : End). GoesFrom (Ok (Some e)) f c.args.t.now world limits steps steps before after) (sym c.faulted.ensures)
+    (goes_faulted world limits f tree (c.in_ok-tree.ensures.planned f st) before after c.args.t.now steps c.in-Err-Fault.fault
+    (runs_as world g.of c.requires.1.0 limits tree before after (Err (stop.Fault c.in-Err-Fault.fault)) (stopped_as _ limits _ _ _ c.in-Err-Fault.field-0 _ c.in-Err-Fault.field-0-is c.in-Err-Fault.ensures.ends)))
 
 pub returns-in-Err-NoMemory-clause-goes : goal.returns-in-Err-NoMemory-clause-goes
 returns-in-Err-NoMemory-clause-goes g c = λ f st.
     let world = c.args.world.now in
     let limits = c.args.task.now.limits in
     let tree = c.in_ok-tree.tree in
-    goes_cut world limits f tree (c.in_ok-tree.ensures.planned f st) _ _ c.args.t.now _ c.args.steps.now.items _
-    (runs_as world g.of c.requires.1.0 limits tree _ _ (Err stop.NoMemory) c.in-Err-NoMemory.ensures.ends)
+    goes_cut world limits f tree (c.in_ok-tree.ensures.planned f st) _ _ c.args.t.now c.args.steps.now.items c.args.steps.now.items _
+    (runs_as world g.of c.requires.1.0 limits tree _ _ (Err stop.NoMemory) (stopped_as _ limits _ _ _ c.in-Err-NoMemory.field-0 _ c.in-Err-NoMemory.field-0-is c.in-Err-NoMemory.ensures.ends))
 
 pub returns-in-Reaches-clause-goes : goal.returns-in-Reaches-clause-goes
 returns-in-Reaches-clause-goes g c = λ f st.
     let world = c.args.world.now in
     let limits = c.args.task.now.limits in
     let tree = c.in_ok-tree.tree in
-    goes_reached world limits f tree (c.in_ok-tree.ensures.planned f st) _ _ c.in-Ok.tried (runs_as world g.of c.requires.1.0 limits tree _ _ (Ok c.in-Ok.tried) c.in-Ok.ensures.ends) _ _ c.in-Reaches.is
+    goes_reached world limits f tree (c.in_ok-tree.ensures.planned f st) _ _ c.in-Ok.tried (runs_as world g.of c.requires.1.0 limits tree _ _ (Ok c.in-Ok.tried) c.in-Ok.ensures.ends) c.args.t.now c.args.steps.now.items c.in-Reaches.is
 
 pub returns-in-Fails-clause-goes : goal.returns-in-Fails-clause-goes
 returns-in-Fails-clause-goes g c = λ f st.
@@ -52,4 +58,4 @@ returns-in-GoesOn-clause-goes g c = λ f st.
     let world = c.args.world.now in
     let limits = c.args.task.now.limits in
     let tree = c.in_ok-tree.tree in
-    goes_running world limits f tree (c.in_ok-tree.ensures.planned f st) _ _ c.in-Ok.tried (runs_as world g.of c.requires.1.0 limits tree _ _ (Ok c.in-Ok.tried) c.in-Ok.ensures.ends) _ _ _ refl c.in-GoesOn.is
+    goes_running world limits f tree (c.in_ok-tree.ensures.planned f st) _ _ c.in-Ok.tried (runs_as world g.of c.requires.1.0 limits tree _ _ (Ok c.in-Ok.tried) c.in-Ok.ensures.ends) c.args.t.now c.args.steps.now.items limits.ticks refl c.in-GoesOn.is
