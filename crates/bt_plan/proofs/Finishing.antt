@@ -115,27 +115,3 @@ module _ (of : Setup) (limits : Limits) (opened : Runs) (before : List DriverSta
       finish_stopped (Err x) (Err f) e was handed ends =
           let is : x ≡ e = cc was in
           subst (λ (y : Stop RunFault). RunEnds (Err y) of limits called before after) (is ∙ sym handed) (finish_stop x ends)
-
--- ---- As the definition has it
-
--- a run whose drivers were prepared first
-pub ends_as : (result : Result Tried (Stop RunFault)) (of : Setup) (limits : Limits) (from to : List RunnerCall → List DriverState) (old before after : List DriverState) → ((calls : List RunnerCall) → from calls ≡ to calls) → HaveSameTotals old before →
-    RunEnds result of limits from before after → RunEnds result of limits to old after
-ends_as (Ok t) of limits from to old before after same totals (run, decided, notes) = (record { last = run.last; ends = run.ends; drivers = run.drivers ∙ same _ }, decided, notes)
-ends_as (Err (stop.Fault fault)) of limits from to old before after same totals (n, run) = (n, record { last = run.last; ends = run.ends; drivers = run.drivers ∙ same _ })
-ends_as (Err stop.NoMemory) of limits from to old before after same totals (inl kept) = inl (λ place. kept place ∙ totals place)
-ends_as (Err stop.NoMemory) of limits from to old before after same totals (inr (n, last, within)) =
-    inr (
-      n,
-      last,
-      subst (HaveBegunWithin old after) (same (modelled_run of.tree of.world limits.period (n + 1)).calls) (λ place.
-      let e = totals place in
-      let starts : (driver_at before place).totals.starts ≡ (driver_at old place).totals.starts = ap (λ t. t.starts) e in
-      let runnings : (driver_at before place).totals.runnings ≡ (driver_at old place).totals.runnings = ap (λ t. t.runnings) e in
-      record { starts = λ few. (within place).starts (omega (arith, few, starts)); runnings = λ few. (within place).runnings (omega (arith, few, runnings)) }),
-    )
-
--- memory was wanting before the run
-pub none_begun : (result : Result Tried (Stop RunFault)) (of : Setup) (limits : Limits) (to : List RunnerCall → List DriverState) (old after : List DriverState) → HaveSameTotals old after → IsErrAnd result (λ x. x ≡ stop.NoMemory) → RunEnds result of limits to old after
-none_begun (Ok t) of limits to old after totals is = absurd is
-none_begun (Err x) of limits to old after totals is = subst (λ (e : Stop RunFault). RunEnds (Err e) of limits to old after) (sym is) (inl totals)

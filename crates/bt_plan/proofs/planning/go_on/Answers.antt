@@ -1,6 +1,7 @@
-use Rattle.std.proofs.Common.{◌∙◌, Some, Ok, Err, refl, sym, subst, arith}
+use Rattle.std.proofs.Common.{◌≡◌, ◌∙◌, Some, Ok, Err, refl, sym, subst, arith}
 use Rattle.bt_script.specs.declared.stop.Stop.TheVariants as stop
 use Rattle.bt_plan.specs.declared.ending.End.{End}
+use Rattle.bt_plan.specs.declared.ending.End.TheVariants.{Faulted}
 use Rattle.bt_plan.specs.Ticked.{GoesFrom}
 use Rattle.bt_plan.proofs.Growths.{ok_gives}
 use Rattle.bt_plan.proofs.Trials.{decides, goes_cut, goes_fails, goes_faulted, goes_reached, goes_running, notes_are, runs_as, stopped_as}
@@ -22,7 +23,8 @@ returns-in-Err-Fault-clause-goes g c = λ f st.
     let before = g.D.Drivers.states c.args.drivers.now in
     let after = g.D.Drivers.states c.run_tree.new.drivers in
     let steps = c.args.steps.now.items in
-    subst (λ (e : End). GoesFrom (Ok (Some e)) f c.args.t.now world limits steps steps before after) (sym c.faulted.ensures)
+    let is : c.faulted.result ≡ Faulted c.in-Err-Fault.fault.uid c.in-Err-Fault.fault.cause = rw c.in-Err-Fault.field-0-is at c.faulted.ensures in
+    subst (λ (e : End). GoesFrom (Ok (Some e)) f c.args.t.now world limits steps steps before after) (sym is)
     (goes_faulted world limits f tree (c.in_ok-tree.ensures.planned f st) before after c.args.t.now steps c.in-Err-Fault.fault
     (runs_as world g.of c.requires.1.0 limits tree before after (Err (stop.Fault c.in-Err-Fault.fault)) (stopped_as _ limits _ _ _ c.in-Err-Fault.field-0 _ c.in-Err-Fault.field-0-is c.in-Err-Fault.ensures.ends)))
 
