@@ -30,6 +30,7 @@ COMMANDS: Dict[str, Form] = {
     "tick": Form(("TREE", "WORLD"), ("--main",)),
     "live": Form(("TREE", "WORLD"), ("--ticks", "--main"), ("--ticks",)),
     "check": Form(("TREE",), ("--main",)),
+    "dead": Form(("TREE",), ("--main",)),
     "load": Form(("N",)),
 }
 

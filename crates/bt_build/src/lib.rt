@@ -16,4 +16,5 @@ mod working;
 
 pub use building::build;
 pub use fault::BuildFault;
-pub use working::work;
+pub use scripts::script;
+pub use working::{is_within_work, work};

@@ -37,7 +37,7 @@ Done";
 /// Words with what they are answered.
 #[test]
 fn words_are_commands_or_refused(rt: HostRuntime) -> Result<(), Fail> {
-    let table: [(&[&str], &str); 17] = [
+    let table: [(&[&str], &str); 21] = [
         (&["check"], "refused words\nWords"),
         (&["check", "T", "W"], "refused words\nWords"),
         (&["check", "T", "--mian", "M"], "refused words\nWords"),
@@ -53,6 +53,10 @@ fn words_are_commands_or_refused(rt: HostRuntime) -> Result<(), Fail> {
             &["check", "T", "--main", "N"],
             "refused tree NoTree 'N'\nTree",
         ),
+        (&["dead"], "refused words\nWords"),
+        (&["dead", "T", "W"], "refused words\nWords"),
+        (&["dead", "T", "--ticks", "1"], "refused words\nWords"),
+        (&["dead", "T", "--main", "M"], "dead 0 of 3\nDone"),
         (&[], "refused words\nWords"),
         (&["tick"], "refused words\nWords"),
         (&["tick", "T"], "refused words\nWords"),

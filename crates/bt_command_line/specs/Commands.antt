@@ -2,7 +2,7 @@
 use Rattle.std.specs.Prelude.{◌≤◌}
 use Rattle.std.specs.Option.{option_copied}
 use Rattle.bt_model.specs.Limits.{most_leaves}
-use Rattle.bt_command_line.specs.Words.{Command, Tick, Live, Load, Check}
+use Rattle.bt_command_line.specs.Words.{Command, Tick, Live, Load, Check, Dead}
 use Rattle.bt_command_line.specs.declared.words.Command.{Command as Read}
 use Rattle.bt_command_line.specs.declared.words.Command.TheVariants as read
 
@@ -12,6 +12,7 @@ command_seen (read.Tick tree world main) = Tick tree.now world.now (option_copie
 command_seen (read.Live tree world rounds main) = Live tree.now world.now rounds (option_copied main)
 command_seen (read.Load leaves) = Load leaves
 command_seen (read.Check tree main) = Check tree.now (option_copied main)
+command_seen (read.Dead tree main) = Dead tree.now (option_copied main)
 
 -- a load has no more leaves than its files can hold
 abbrev pub HasFewLeaves : Command → Type 0

@@ -32,6 +32,7 @@ pub data Command : Type 0 where
   Live : (tree world : List ℕ) (rounds : ℕ) (main : Option (List ℕ)) → Command
   Load : (leaves : ℕ) → Command
   Check : (tree : List ℕ) (main : Option (List ℕ)) → Command
+  Dead : (tree : List ℕ) (main : Option (List ℕ)) → Command
 
 -- the options: the ID of the main tree, and for some commands a number of ticks
 unfoldable pub is_option : Bool → List ℕ → Bool
@@ -65,14 +66,21 @@ abbrev pub load_of : List (List ℕ) → Option Command
 load_of (word ∷ []) = option_map Load (as_count most_leaves (int_in word))
 load_of _ = None
 
--- `TREE [--main ID]`
+-- `TREE [--main ID]`: the tree file, and the ID where it is given
+abbrev pub tree_words : List (List ℕ) → Option (List ℕ × Option (List ℕ))
+tree_words (tree ∷ options) = if are_options (is_option false) options then Some (tree, value_of (codes "--main") options) else None
+tree_words _ = None
+
 abbrev pub check_of : List (List ℕ) → Option Command
-check_of (tree ∷ options) = if are_options (is_option false) options then Some (Check tree (value_of (codes "--main") options)) else None
-check_of _ = None
+check_of words = option_map (λ named. Check named.0 named.1) (tree_words words)
+
+abbrev pub dead_of : List (List ℕ) → Option Command
+dead_of words = option_map (λ named. Dead named.0 named.1) (tree_words words)
 
 -- the commands by their first words, each with what it makes of the words after it
 abbrev pub commands : List (List ℕ × (List (List ℕ) → Option Command))
-commands = (codes "tick", tick_of) ∷ (codes "live", live_of) ∷ (codes "load", load_of) ∷ (codes "check", check_of) ∷ []
+commands =
+    (codes "tick", tick_of) ∷ (codes "live", live_of) ∷ (codes "load", load_of) ∷ (codes "check", check_of) ∷ (codes "dead", dead_of) ∷ []
 
 abbrev pub command_among : List (List ℕ × (List (List ℕ) → Option Command)) → List ℕ → List (List ℕ) → Option Command
 command_among [] word words = None

@@ -2,7 +2,7 @@ ghost use Rattle.std.specs.Prelude.{◌≡◌, ◌≤◌, ◌↔◌, IfOk, IfSom
 ghost use Rattle.std.specs.IoError.{error_kind};
 ghost use Rattle.std.specs.Option.{option_copied};
 ghost use Rattle.bt_command_line.specs.Commands.{HasFewLeaves, command_seen};
-ghost use Rattle.bt_command_line.specs.Words.{are_options, as_count, check_of, command_of, is_option, is_unset, live_of, load_of, rounds_in, tick_of, value_of};
+ghost use Rattle.bt_command_line.specs.Words.{are_options, as_count, check_of, command_of, dead_of, is_option, is_unset, live_of, load_of, rounds_in, tick_of, tree_words, value_of};
 ghost use Rattle.bt_model.specs.Limits.{most_leaves, most_rounds};
 ghost use Rattle.bt_model.specs.Numbers.{int_in};
 
@@ -38,6 +38,11 @@ pub enum Command<'a> {
     },
     /// `check TREE [--main ID]`
     Check {
+        tree: &'a Name,
+        main: Option<&'a Name>,
+    },
+    /// `dead TREE [--main ID]`
+    Dead {
         tree: &'a Name,
         main: Option<&'a Name>,
     },
@@ -183,10 +188,10 @@ fn read_load<'a>(words: &'a [Name]) -> Option<Command<'a>>
     }
 }
 
-/// The command `check` with these words after it.
-fn read_check<'a>(words: &'a [Name]) -> Option<Command<'a>>
-    ensures command { MatchOption result (check_of words.now ≡ None) (λ c. check_of words.now ≡ Some (command_seen c)) }
-    ensures few { IfSome result (λ c. HasFewLeaves (command_seen c)) }
+/// The tree file that words name, with the ID of the main tree where they name one.
+fn tree_words<'a>(words: &'a [Name]) -> Option<(&'a Name, Option<&'a Name>)>
+    ensures { MatchOption result (tree_words words.now ≡ None)
+        (λ named. tree_words words.now ≡ Some (named.0.now, option_copied named.1)) }
 {
     let [tree, options @ ..] = words else {
         return None;
@@ -194,10 +199,25 @@ fn read_check<'a>(words: &'a [Name]) -> Option<Command<'a>>
     if !are_options(options, false) {
         return None;
     }
-    Some(Command::Check {
-        tree,
-        main: main_of(options),
-    })
+    Some((tree, main_of(options)))
+}
+
+/// The command `check` with these words after it.
+fn read_check<'a>(words: &'a [Name]) -> Option<Command<'a>>
+    ensures command { MatchOption result (check_of words.now ≡ None) (λ c. check_of words.now ≡ Some (command_seen c)) }
+    ensures few { IfSome result (λ c. HasFewLeaves (command_seen c)) }
+{
+    let (tree, main) = tree_words(words)?;
+    Some(Command::Check { tree, main })
+}
+
+/// The command `dead` with these words after it.
+fn read_dead<'a>(words: &'a [Name]) -> Option<Command<'a>>
+    ensures command { MatchOption result (dead_of words.now ≡ None) (λ c. dead_of words.now ≡ Some (command_seen c)) }
+    ensures few { IfSome result (λ c. HasFewLeaves (command_seen c)) }
+{
+    let (tree, main) = tree_words(words)?;
+    Some(Command::Dead { tree, main })
 }
 
 /// The command that the words are.
@@ -216,6 +236,8 @@ pub fn read_command<'a>(words: &'a [Name]) -> Option<Command<'a>>
         read_load(words)
     } else if word.list() == b"check".as_slice() {
         read_check(words)
+    } else if word.list() == b"dead".as_slice() {
+        read_dead(words)
     } else {
         None
     }

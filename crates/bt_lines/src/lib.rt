@@ -11,6 +11,6 @@ mod numbers;
 pub use bt_model::is_canonical;
 pub use exprs::numeric;
 pub use head::{Head, head_in};
-pub use lines::{content, cut, is, is_line, is_ignored, parts, trimmed, without_rest};
+pub use lines::{content, cut, is, is_ignored, is_line, parts, trimmed, without_rest};
 pub use names::{is_name, name_of};
 pub use numbers::{int, ms, one_of};

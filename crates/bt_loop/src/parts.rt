@@ -1,4 +1,4 @@
-ghost use Rattle.std.specs.Prelude.{◌≡◌, ◌≤◌, ◌<◌, ◌++◌, ◌∷◌, [], ℕ, ℤ, List, OnOk, OnErr, Some, length, slice_get, slice_set};
+ghost use Rattle.std.specs.Prelude.{◌≡◌, ◌≤◌, ◌<◌, ◌++◌, ◌∷◌, ℕ, ℤ, List, OnOk, OnErr, Some, length, slice_set};
 ghost use Rattle.bt_model.specs.declared.note.Note.{Note as NoteOf};
 ghost use Rattle.bt_model.specs.declared.note.Note.TheVariants.{Root};
 ghost use Rattle.bt_model.specs.Run.{Runner, runner_at, settled};

@@ -1,4 +1,4 @@
-ghost use Rattle.std.specs.Prelude.{◌≡◌, ◌≤◌, ◌<◌, ◌-◌, ◌^◌, ◌++◌, ℕ, ℤ, List, OnOk, OnErr, IfOk, Some, Option, length, map, slice_get, slice_set};
+ghost use Rattle.std.specs.Prelude.{◌≡◌, ◌≤◌, ◌<◌, ◌-◌, ◌^◌, ◌++◌, ℕ, ℤ, List, OnOk, Some, Option, length, slice_set};
 ghost use Rattle.bt_script.specs.declared.value.Value.{Value as Content};
 ghost use Rattle.bt_model.specs.Run.{changed_entries, changed_from, had, with_change};
 ghost use Rattle.bt_loop.specs.Telling.{boards_told, entries_told, with_fact};

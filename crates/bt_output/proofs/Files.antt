@@ -1,10 +1,10 @@
 -- What the files of a command give, and what a command comes to.
-use Rattle.std.proofs.Common.{◌≡◌, ◌∙◌, ℕ, ◌<◌, ◌≤◌, List, [], Bool, true, false, ◌⊎◌, inl, inr, Option, Some, None, length, refl, sym, subst, arith, MatchBool, Result, Ok, Err}
+use Rattle.std.proofs.Common.{◌≡◌, ◌∙◌, ℕ, ◌<◌, ◌≤◌, List, [], Bool, true, false, inl, inr, Option, Some, None, length, refl, sym, subst, arith, MatchBool, Result, Ok, Err}
 use Rattle.std.specs.Prelude.{IfSome, MatchOption}
 use Rattle.std.proofs.lemmas.Grind.{common_steps}
 use Rattle.bt_command_line.specs.declared.exit.Exit.{Exit}
 use Rattle.bt_command_line.specs.declared.exit.Exit.TheVariants as exit
-use Rattle.bt_command_line.specs.Words.{Command, Load, Check}
+use Rattle.bt_command_line.specs.Words.{Command, Load}
 use Rattle.bt_load.specs.Texts.{tree_text, world_text}
 use Rattle.bt_model.specs.declared.term.Tree.{Tree}
 use Rattle.bt_model.specs.declared.world.World.{World}
@@ -15,18 +15,18 @@ use Rattle.bt_model.specs.WorldFile.{ReadsWorld}
 use Rattle.bt_outside.specs.Counts.{Rose}
 use Rattle.bt_outside.specs.Files.{Told}
 use Rattle.bt_outside.specs.Moments.{Moments}
-use Rattle.bt_outside.specs.declared.shelf.ShelfFault.TheVariants as shelf_fault
 use Rattle.bt_outside.proofs.Rises.{Rose-after}
 use Rattle.bt_output.specs.declared.course.Course.{Course}
 use Rattle.bt_output.specs.declared.course.Course.TheVariants as course
+use Rattle.bt_output.specs.declared.print.Print.{Print}
 use Rattle.bt_output.specs.declared.refusal.File.{File}
 use Rattle.bt_output.specs.declared.refusal.File.TheVariants as file
 use Rattle.bt_output.specs.declared.refusal.Refusal.{Refusal}
 use Rattle.bt_output.specs.declared.refusal.Refusal.TheVariants as refusal
-use Rattle.bt_output.specs.Answers.{Answers, AreUncalled, AtMoments, CommandAnswered, Gave, IfTold, IsRefused, Printed, ReadFailed, Side, ToldIfNamed, no_moments, side}
-use Rattle.bt_output.specs.Ends.{CommandEnds, Ends, EndsAt, FilesEnd, IsUntouched, ReadStopped}
-use Rattle.bt_output.specs.Output.{CheckGives, FilesGive, Given, Giving, JoinGives, Output, RunGives, RunsOn, TreeGives, check_output, given, is_too_long, refused_as, stopped_as, too_long, tree_name, tree_refused, unread, words_refused, world_name, world_refused}
-use Rattle.bt_output.specs.Reads.{IsLong, IsUnread, Reading, Unread, WasRead}
+use Rattle.bt_output.specs.Answers.{Answers, AtMoments, CommandAnswered, Gave, IfTold, IsRefused, Printed, Side, ToldIfNamed, no_moments, side}
+use Rattle.bt_output.specs.Ends.{CommandEnds, Ends, EndsAt, FilesEnd, IsUntouched}
+use Rattle.bt_output.specs.Output.{FilesGive, Given, Giving, JoinGives, Output, PrintGives, Prints, RunGives, RunsOn, TreeGives, given, is_too_long, print_output, refused_as, stopped_as, too_long, tree_name, tree_refused, unread, world_name, world_refused}
+use Rattle.bt_output.specs.Reads.{IsUnread, Reading, Unread, WasRead}
 use Rattle.bt_output.specs.TreeFiles.{ReadsAs, TreeReads}
 use Rattle.bt_refusals.specs.declared.fault.TreeFault.{TreeFault}
 use Rattle.bt_world.specs.Readings.{Gives}
@@ -94,8 +94,8 @@ run_gives : (main : Option (List ℕ)) (tree world : List ℕ) (g : Given) (r : 
 run_gives main tree world g r o st sw reads_as e =
     match_false (is_too_long tree) _ _ (short_is tree st) (match_false (is_too_long world) _ _ (short_is world sw) (r, reads_as, e))
 
-check_gives : (main : Option (List ℕ)) (tree : List ℕ) (r : Result Tree TreeFault) → length tree ≤ most_file_bytes → TreeReads main tree r → CheckGives main tree (check_output r)
-check_gives main tree r short reads_as = match_false (is_too_long tree) _ _ (short_is tree short) (r, reads_as, refl)
+print_gives : (print : Print) (main : Option (List ℕ)) (tree : List ℕ) (r : Result Tree TreeFault) → length tree ≤ most_file_bytes → TreeReads main tree r → PrintGives print main tree (print_output print r)
+print_gives print main tree r short reads_as = match_false (is_too_long tree) _ _ (short_is tree short) (r, reads_as, refl)
 
 -- the bytes of both files of a run
 module _ (course : Course) (main : Option (List ℕ)) (tree world : List ℕ) (st : length tree ≤ most_file_bytes) (sw : length world ≤ most_file_bytes) where
@@ -148,8 +148,8 @@ LongGives Gives = (tree world : List ℕ) (moments : Moments) (drivers : List Dr
 pub long_run : (course : Course) (main : Option (List ℕ)) → LongGives (RunsOn course main)
 long_run course main tree world moments drivers long = match_true (is_too_long tree) _ _ (long_is tree long) refl
 
-pub long_check : (name : List ℕ) (main : Option (List ℕ)) → LongGives (FilesGive (Check name main))
-long_check name main tree world moments drivers long = match_true (is_too_long tree) _ _ (long_is tree long) refl
+pub long_print : (print : Print) (main : Option (List ℕ)) → LongGives (Prints print main)
+long_print print main tree world moments drivers long = match_true (is_too_long tree) _ _ (long_is tree long) refl
 
 -- a file that is told is as long as its bytes
 told_short : (holds : Option (List ℕ → List ℕ)) (name bytes : List ℕ) → Told holds name (λ file. bytes ≡ file) → length bytes ≤ most_file_bytes → Told holds name (λ file. length file ≤ most_file_bytes)
@@ -210,22 +210,22 @@ module _ {Shelf : Type 0} (read_gives : Reading Shelf) (faults : Shelf → ℕ) 
   both_read world tree_bytes world_bytes course main old between new after result a b first second ends =
       inr (record { tree = tree_bytes; world = world_bytes; is_tree = first.told; is_world = second.told; answers = ends })
 
--- a tree file was read for its check
-module _ (holds : Option (List ℕ → List ℕ)) (name : List ℕ) (main : Option (List ℕ)) (bytes : List ℕ) (told : Told holds name (λ file. bytes ≡ file)) (short : length bytes ≤ most_file_bytes) where
-  check_files : (result : Result Exit Refusal) (a b : Side) → EndsAt (λ moments drivers. CheckGives main bytes) result a b → FilesEnd holds (Some name) None (FilesGive (Check name main)) result a b
-  check_files result a b ends = record { tree = bytes; world = []; is_tree = told; is_world = tt; answers = ends }
+-- a tree file was read, of whose tree this is printed
+module _ (holds : Option (List ℕ → List ℕ)) (name : List ℕ) (print : Print) (main : Option (List ℕ)) (bytes : List ℕ) (told : Told holds name (λ file. bytes ≡ file)) (short : length bytes ≤ most_file_bytes) where
+  print_files : (result : Result Exit Refusal) (a b : Side) → EndsAt (Prints print main bytes []) result a b → FilesEnd holds (Some name) None (Prints print main) result a b
+  print_files result a b ends = record { tree = bytes; world = []; is_tree = told; is_world = tt; answers = ends }
 
-  pub check_stopped : (stopped : Stop TreeFault) (a : Side) → ReadsAs (Err stopped) main bytes → FilesEnd holds (Some name) None (FilesGive (Check name main)) (Err (stopped_as refusal.Tree stopped)) a a
-  check_stopped (stop.Fault f) a reads =
-      check_files (Err (refusal.Tree f)) a a (refused_ends (λ moments drivers. CheckGives main bytes) (refusal.Tree f) a (λ moments. check_gives main bytes (Err f) short reads))
-  check_stopped stop.NoMemory a reads = out_of_memory holds (Some name) None (FilesGive (Check name main)) a
+  pub print_stopped : (stopped : Stop TreeFault) (a : Side) → ReadsAs (Err stopped) main bytes → FilesEnd holds (Some name) None (Prints print main) (Err (stopped_as refusal.Tree stopped)) a a
+  print_stopped (stop.Fault f) a reads =
+      print_files (Err (refusal.Tree f)) a a (refused_ends (Prints print main bytes []) (refusal.Tree f) a (λ moments. print_gives print main bytes (Err f) short reads))
+  print_stopped stop.NoMemory a reads = out_of_memory holds (Some name) None (Prints print main) a
 
-  pub check_printed : (t : Tree) (exit : Exit) (written : Option (List ℕ)) (faults : ℕ) (a : Side) → ReadsAs (Ok t) main bytes → Printed (check_output (Ok t)) exit a.written a.faults written faults
-      → FilesEnd holds (Some name) None (FilesGive (Check name main)) (Ok exit) a (side written faults a.clock a.drivers)
-  check_printed t exit written faults a reads printed =
-      check_files (Ok exit) a (side written faults a.clock a.drivers)
-      (at_any a.clock (λ moments. Ends (CheckGives main bytes) (Ok exit) a (side written faults a.clock a.drivers))
-      (λ moments. (check_output (Ok t), check_gives main bytes (Ok t) short reads, printed a.clock a.drivers a.drivers (λ place. refl))))
+  pub tree_printed : (t : Tree) (exit : Exit) (written : Option (List ℕ)) (faults : ℕ) (a : Side) → ReadsAs (Ok t) main bytes → Printed (print_output print (Ok t)) exit a.written a.faults written faults
+      → FilesEnd holds (Some name) None (Prints print main) (Ok exit) a (side written faults a.clock a.drivers)
+  tree_printed t exit written faults a reads printed =
+      print_files (Ok exit) a (side written faults a.clock a.drivers)
+      (at_any a.clock (λ moments. Ends (PrintGives print main bytes) (Ok exit) a (side written faults a.clock a.drivers))
+      (λ moments. (print_output print (Ok t), print_gives print main bytes (Ok t) short reads, printed a.clock a.drivers a.drivers (λ place. refl))))
 
 -- the files of a load, which names none
 pub load_ends : (holds : Option (List ℕ → List ℕ)) (leaves : ℕ) (result : Result Exit Refusal) (a b : Side) → EndsAt (RunsOn (course.Load leaves) None (tree_text leaves) (world_text leaves)) result a b

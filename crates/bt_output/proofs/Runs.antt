@@ -1,5 +1,5 @@
 -- What a run gives that was joined.
-use Rattle.std.proofs.Common.{◌≡◌, ◌≤◌, ℕ, List, [], ◌∷◌, Option, Some, None, refl, sym, ap, subst, ◌∙◌, Result, Ok, Err}
+use Rattle.std.proofs.Common.{◌≡◌, ℕ, List, [], ◌∷◌, Option, Some, None, refl, sym, ap, subst, ◌∙◌, Result, Ok, Err}
 use Rattle.std.specs.Prelude.{IfOk, IfSome, IsErrOf, OnOk, length, option_map}
 use Rattle.std.specs.List.{flat_map}
 use Rattle.bt_arena.specs.declared.join_fault.JoinFault.{JoinFault}
@@ -19,7 +19,7 @@ use Rattle.bt_model.specs.declared.term.Tree.{Tree}
 use Rattle.bt_model.specs.declared.world.Event.{Event}
 use Rattle.bt_model.specs.declared.world.World.{World}
 use Rattle.bt_model.specs.Drivers.{DriverState, NothingHeld, roster_prepared}
-use Rattle.bt_model.specs.Lines.{LineNames, line_names}
+use Rattle.bt_model.specs.Lines.{line_names}
 use Rattle.bt_model.specs.Run.{RunState, RunnerCall, Trace, opening, run_from, run_over}
 use Rattle.bt_outside.proofs.Appends.{AppendedPrefix-nothing}
 use Rattle.bt_outside.specs.Appending.{Appended, AppendedPrefix}
@@ -27,12 +27,11 @@ use Rattle.bt_outside.specs.Counts.{Rose}
 use Rattle.bt_outside.specs.Moments.{Moments}
 use Rattle.bt_output.specs.declared.course.Course.{Course}
 use Rattle.bt_output.specs.declared.course.Course.TheVariants as course
-use Rattle.bt_output.specs.declared.refusal.Refusal.{Refusal}
 use Rattle.bt_output.specs.declared.refusal.Refusal.TheVariants as refusal
-use Rattle.bt_output.specs.Answers.{AtMoments, ClockLeft, Gave, IfTold, IsWhole, Side, exit_of, side}
+use Rattle.bt_output.specs.Answers.{AtMoments, ClockLeft, Gave, IfTold, Side, exit_of, side}
 use Rattle.bt_output.specs.Courses.{course_output, trace_output}
 use Rattle.bt_output.specs.Ends.{Ends, EndsAt, IsUntouched}
-use Rattle.bt_output.specs.Output.{Asked, Given, JoinGives, Output, UpToFault, asked_by, given, join_refused, joined_output, lack_of, run_exit, run_output, stopped_as}
+use Rattle.bt_output.specs.Output.{Asked, Given, JoinGives, Output, UpToFault, asked_by, given, joined_output, lack_of, run_exit, stopped_as}
 use Rattle.bt_output.proofs.Files.{at_any}
 use Rattle.bt_script.specs.declared.stop.Stop.{Stop}
 use Rattle.bt_script.specs.declared.stop.Stop.TheVariants as stop

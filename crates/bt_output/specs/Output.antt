@@ -1,8 +1,9 @@
 -- What a command writes, how it ends, and what it leaves of the drivers.
-use Rattle.std.specs.Prelude.{ℕ, ◌≡◌, List, [], ◌++◌, codes, decimal, length, nat_lt, Bool, Option, Some, None, Result, Ok, Err, MatchBool}
-use Rattle.std.specs.List.{concat}
+use Rattle.std.specs.Prelude.{ℕ, ◌-◌, ◌≡◌, List, [], ◌∷◌, ◌++◌, codes, decimal, length, map, nat_lt, slice_index_or, Bool, Option, Some, None, Result, Ok, Err, MatchBool}
+use Rattle.std.specs.List.{concat, flat_map}
 use Rattle.bt_arena.specs.declared.join_fault.JoinFault.{JoinFault}
 use Rattle.bt_arena.specs.Joins.{first_missing}
+use Rattle.bt_dead.specs.Dead.{dead_nodes}
 use Rattle.bt_load.specs.Summaries.{load_line}
 use Rattle.bt_load.specs.Texts.{tree_text, world_text}
 use Rattle.bt_loop.specs.Served.{roster_after_run}
@@ -10,6 +11,8 @@ use Rattle.bt_output.specs.declared.course.Course.{Course}
 use Rattle.bt_output.specs.declared.course.Course.TheVariants as course
 use Rattle.bt_command_line.specs.declared.exit.Exit.{Exit}
 use Rattle.bt_command_line.specs.declared.exit.Exit.TheVariants as exit
+use Rattle.bt_output.specs.declared.print.Print.{Print}
+use Rattle.bt_output.specs.declared.print.Print.TheVariants as print
 use Rattle.bt_output.specs.declared.refusal.File.{File}
 use Rattle.bt_output.specs.declared.refusal.File.TheVariants as file
 use Rattle.bt_output.specs.declared.refusal.Refusal.{Refusal}
@@ -17,15 +20,16 @@ use Rattle.bt_output.specs.declared.refusal.Refusal.TheVariants as refusal
 use Rattle.bt_refusals.specs.declared.fault.TreeFault.{TreeFault}
 use Rattle.bt_refusals.specs.Refusals.{join_words, tree_words, world_words}
 use Rattle.bt_output.specs.TreeFiles.{TreeReads}
-use Rattle.bt_command_line.specs.Words.{Command, Tick, Live, Load, Check}
+use Rattle.bt_command_line.specs.Words.{Command, Tick, Live, Load, Check, Dead}
 use Rattle.bt_model.specs.declared.fault.RunFault.{RunFault}
+use Rattle.bt_model.specs.declared.term.Term.{Term, fold-Term}
 use Rattle.bt_model.specs.declared.term.Tree.{Tree}
 use Rattle.bt_model.specs.declared.world.Event.{Event}
 use Rattle.bt_model.specs.declared.world.World.{World}
 use Rattle.bt_model.specs.declared.world_fault.WorldFault.{WorldFault}
 use Rattle.bt_model.specs.Drivers.{DriverState}
 use Rattle.bt_model.specs.Limits.{most_file_bytes}
-use Rattle.bt_model.specs.Lines.{line_names}
+use Rattle.bt_model.specs.Lines.{line_names, quoted}
 use Rattle.bt_model.specs.PrintedTree.{tree_lines}
 use Rattle.bt_model.specs.Run.{Trace, run_over}
 use Rattle.bt_model.specs.Terms.{leaf_ids, node_count, work_of}
@@ -98,16 +102,37 @@ abbrev pub stopped_as : {F : Type 0} → (F → Refusal) → Stop F → Refusal
 stopped_as of (stop.Fault fault) = of fault
 stopped_as of stop.NoMemory = refusal.NoMemory
 
--- ---- Checks
+-- ---- What is printed of a tree
 
 -- the last line of a check: how many nodes the tree has, and its work
 abbrev pub count_line : Tree → List ℕ
 count_line tree = codes "<!-- nodes " ++ decimal (node_count tree.term) ++ codes " work " ++ decimal (work_of tree.term) ++ codes " -->\n"
 
--- a check prints the tree as it was read
-abbrev pub check_output : Result Tree TreeFault → Output
-check_output (Ok tree) = record { bytes = concat (tree_lines tree) ++ count_line tree; exit = exit.Done; drivers = None; asked = Never }
-check_output (Err fault) = tree_refused fault
+-- the IDs of the nodes of a term, in pre-order
+abbrev pub node_ids : Term → List (List ℕ)
+node_ids = fold-Term (List (List ℕ)) (λ node. node.id ∷ flat_map (λ ids. ids) node.children)
+
+-- the ID of the node with this uid
+abbrev pub id_of : List (List ℕ) → ℕ → List ℕ
+id_of ids uid = slice_index_or ids (uid - 1) []
+
+-- the line of a dead node, of nodes with these IDs
+abbrev pub dead_line : List (List ℕ) → ℕ → List ℕ
+dead_line ids uid = codes "dead " ++ decimal uid ++ codes " " ++ quoted (id_of ids uid) ++ codes "\n"
+
+-- the last line: how many of the nodes are dead
+abbrev pub dead_count_line : Tree → List ℕ
+dead_count_line tree = codes "dead " ++ decimal (length (dead_nodes tree)) ++ codes " of " ++ decimal (node_count tree.term) ++ codes "\n"
+
+-- a tree as it was read with its counts, or a line for each of its dead nodes and how many they are
+abbrev pub printed_bytes : Print → Tree → List ℕ
+printed_bytes print.Whole tree = concat (tree_lines tree) ++ count_line tree
+printed_bytes print.Dead tree = concat (map (dead_line (node_ids tree.term)) (dead_nodes tree)) ++ dead_count_line tree
+
+-- what is printed of a tree that was read, or its refusal
+abbrev pub print_output : Print → Result Tree TreeFault → Output
+print_output print (Ok tree) = record { bytes = printed_bytes print tree; exit = exit.Done; drivers = None; asked = Never }
+print_output print (Err fault) = tree_refused fault
 
 -- ---- Runs
 
@@ -214,11 +239,14 @@ Giving = List ℕ → List ℕ → Moments → List DriverState → Output → T
 abbrev pub RunsOn : Course → Option (List ℕ) → Giving
 RunsOn course main = λ tree world moments drivers. RunGives main tree world (given course moments drivers)
 
--- the output of `check` over the bytes of its file
-abbrev pub CheckGives : Option (List ℕ) → List ℕ → Output → Type 0
-CheckGives main tree output =
+-- the output of what is printed of a tree, over the bytes of its file
+abbrev pub PrintGives : Print → Option (List ℕ) → List ℕ → Output → Type 0
+PrintGives print main tree output =
     OrTooLong tree (too_long file.Tree) output
-    ((read : Result Tree TreeFault) × TreeReads main tree read × (output ≡ check_output read))
+    ((read : Result Tree TreeFault) × TreeReads main tree read × (output ≡ print_output print read))
+
+abbrev pub Prints : Print → Option (List ℕ) → Giving
+Prints print main = λ tree world moments drivers. PrintGives print main tree
 
 -- what a command is about: the files that it names, and what files, moments and drivers have for its output
 pub record Job : Type 1 where
@@ -235,7 +263,8 @@ job_of (Load leaves) = record {
   world = None;
   gives = λ tree world. RunsOn (course.Load leaves) None (tree_text leaves) (world_text leaves);
 }
-job_of (Check tree main) = record { tree = Some tree; world = None; gives = λ tree world moments drivers. CheckGives main tree }
+job_of (Check tree main) = record { tree = Some tree; world = None; gives = Prints print.Whole main }
+job_of (Dead tree main) = record { tree = Some tree; world = None; gives = Prints print.Dead main }
 
 -- the files that a command names
 abbrev pub tree_name : Command → Option (List ℕ)

@@ -1,20 +1,21 @@
 ghost use Rattle.std.specs.Prelude.{◌≤◌, ◌⊎◌, length, None, Some};
 ghost use Rattle.std.specs.Option.{option_copied};
 ghost use Rattle.bt_command_line.specs.Commands.{HasFewLeaves, command_seen};
-ghost use Rattle.bt_command_line.specs.Words.{Check, Load, command_of};
+ghost use Rattle.bt_command_line.specs.Words.{Load, command_of};
 ghost use Rattle.bt_model.specs.Drivers.{NothingHeld};
 ghost use Rattle.bt_model.specs.Limits.{most_file_bytes, most_leaves};
 ghost use Rattle.bt_output.specs.Answers.{CommandAnswered, side};
 ghost use Rattle.bt_outside.specs.Counts.{Rose};
 ghost use Rattle.bt_output.specs.Ends.{CommandEnds, EndsAt, FilesEnd};
 ghost use Rattle.bt_output.specs.Lent.{Stays, seen};
-ghost use Rattle.bt_output.specs.Output.{FilesGive, RunsOn, tree_name, world_name};
+ghost use Rattle.bt_output.specs.Output.{FilesGive, Prints, RunsOn, tree_name, world_name};
 ghost use Rattle.bt_output.specs.Reads.{Unread, WordsUnread};
 ghost use Rattle.bt_trace.specs.Traces.{AreKept};
 
 use crate::course::Course;
 use crate::join::join_and_run;
 use crate::outside::Outside;
+use crate::print::Print;
 use crate::printing::print_tree;
 use crate::reading::read_file;
 use crate::refusal::{File, Refusal, write_refusal};
@@ -106,11 +107,12 @@ fn make_and_run<S: Shelf, K: Sink, C: Clock, D: Drivers>(
     )
 }
 
-/// Reads a tree file and prints its tree.
+/// Reads a tree file and prints this of its tree.
 fn read_and_print<S: Shelf, K: Sink, C: Clock, D: Drivers>(
     alloc: Global,
     tree: &Name,
     main: Option<&Name>,
+    print: Print,
     outside: &mut Outside<S, K, C, D>,
 ) -> Result<Exit, Refusal>
     requires quiet { NothingHeld (D.states outside.old.drivers.now) }
@@ -118,14 +120,14 @@ fn read_and_print<S: Shelf, K: Sink, C: Clock, D: Drivers>(
         let new = outside.new.shelf.now in
         CommandEnds (Rose (S.faults old) (S.faults new))
         (Unread S.read_gives (S.holds old) (Some tree.now) None old new)
-        (FilesEnd (S.holds old) (Some tree.now) None (FilesGive (Check tree.now (option_copied main.entry)))) result
+        (FilesEnd (S.holds old) (Some tree.now) None (Prints print (option_copied main.entry))) result
         (seen K.written K.faults C.moments D.states outside.old)
         (seen K.written K.faults C.moments D.states outside.new) }
     ensures stays { Stays S.faults K.faults D.states outside.old outside.new }
 {
     let bytes = read_file(alloc, File::Tree, tree, outside.shelf)?;
     let tree = parse_tree(alloc, bytes.as_slice(), main)?;
-    Ok(print_tree(alloc, &tree, outside.out))
+    Ok(print_tree(alloc, &tree, print, outside.out))
 }
 
 /// Runs a command: its output is written, or it is refused and nothing is written yet.
@@ -157,7 +159,8 @@ fn run_command<S: Shelf, K: Sink, C: Clock, D: Drivers>(
             main,
         } => read_and_run(alloc, tree, world, main, Course::Rounds(rounds), outside),
         Command::Load { leaves } => make_and_run(alloc, leaves, outside),
-        Command::Check { tree, main } => read_and_print(alloc, tree, main, outside),
+        Command::Check { tree, main } => read_and_print(alloc, tree, main, Print::Whole, outside),
+        Command::Dead { tree, main } => read_and_print(alloc, tree, main, Print::Dead, outside),
     }
 }
 

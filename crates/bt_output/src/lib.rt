@@ -4,8 +4,11 @@
 
 mod command;
 mod course;
+mod dead_nodes;
 mod join;
+mod nodes;
 mod outside;
+mod print;
 mod printing;
 mod reading;
 mod refusal;

@@ -1,32 +1,22 @@
-ghost use Rattle.std.specs.Prelude.{◌≡◌, ◌<◌, ◌≤◌, ◌^◌, ◌++◌, IfOk, OnOk, IsErrOf, Ok};
+ghost use Rattle.std.specs.Prelude.{◌≡◌, ◌≤◌, ◌++◌, IfOk, OnOk, IsErrOf, Ok};
 ghost use Rattle.std.specs.List.{concat};
 ghost use Rattle.bt_output.specs.Answers.{Printed};
-ghost use Rattle.bt_output.specs.Output.{check_output, count_line};
+ghost use Rattle.bt_output.specs.Output.{count_line, print_output, printed_bytes};
 ghost use Rattle.bt_model.specs.PrintedTree.{tree_lines};
-ghost use Rattle.bt_model.specs.Terms.{node_count};
 ghost use Rattle.bt_model.specs.Trees.{IsValid};
 ghost use Rattle.bt_outside.specs.Appending.{Appended, AppendedPrefix};
 ghost use Rattle.bt_outside.specs.Counts.{Rose};
 
+use crate::dead_nodes::write_dead;
+use crate::nodes::nodes_of;
+use crate::print::Print;
 use bt_build::work;
 use bt_command_line::Exit;
-use bt_model::{Term, Tree};
+use bt_model::Tree;
 use bt_outside::Sink;
 use bt_script::NoMemory;
 use bt_text::{TextStop, put_bytes, put_number, write_line, write_tree};
 use std::alloc::Global;
-
-/// The number of nodes of a term.
-fn nodes_of(term: &Term) -> u32
-    requires { node_count term.now < 2 ^ 32 }
-    ensures { result ≡ node_count term.now }
-{
-    let mut count = 1;
-    for child in term.children.list() {
-        count += nodes_of(child);
-    }
-    count
-}
 
 /// The last line of a check.
 fn count_line(alloc: Global, tree: &Tree) -> Result<Vec<u8>, NoMemory>
@@ -60,14 +50,34 @@ fn write_check<K: Sink>(alloc: Global, tree: &Tree, out: &mut K) -> Result<(), T
     Ok(())
 }
 
-/// Prints the tree as it was read.
-pub fn print_tree<K: Sink>(alloc: Global, tree: &Tree, out: &mut K) -> Exit
+/// Writes what is printed of the tree. `TextStop::WriteFault` comes only where the sink's count of
+/// failures rose in this call.
+fn write_printed<K: Sink>(
+    alloc: Global,
+    tree: &Tree,
+    print: Print,
+    out: &mut K,
+) -> Result<(), TextStop>
     requires { IsValid tree.now }
-    ensures printed { Printed (check_output (Ok tree.now)) result
+    ensures whole { OnOk result (Appended (K.written out.old) (K.written out.new) (printed_bytes print tree.now)) }
+    ensures prefix { AppendedPrefix (K.written out.old) (K.written out.new) (printed_bytes print tree.now) }
+    ensures failed { IsErrOf result TextStop.WriteFault → Rose (K.faults out.old) (K.faults out.new) }
+    ensures count { K.faults out.old ≤ K.faults out.new }
+{
+    match print {
+        Print::Whole => write_check(alloc, tree, out),
+        Print::Dead => write_dead(alloc, tree, out),
+    }
+}
+
+/// Prints this of the tree.
+pub fn print_tree<K: Sink>(alloc: Global, tree: &Tree, print: Print, out: &mut K) -> Exit
+    requires { IsValid tree.now }
+    ensures printed { Printed (print_output print (Ok tree.now)) result
         (K.written out.old) (K.faults out.old) (K.written out.new) (K.faults out.new) }
     ensures count { K.faults out.old ≤ K.faults out.new }
 {
-    match write_check(alloc, tree, out) {
+    match write_printed(alloc, tree, print, out) {
         Ok(()) => Exit::Done,
         Err(TextStop::WriteFault) => Exit::Write,
         Err(TextStop::NoMemory) => Exit::Memory,

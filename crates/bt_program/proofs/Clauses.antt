@@ -5,15 +5,17 @@ use Rattle.bt_elements.specs.declared.element.ElementFault.{ElementFault}
 use Rattle.bt_elements.specs.Elements.{Spells}
 use Rattle.bt_elements.specs.Faults.{ElementFaultOf}
 use Rattle.bt_output.specs.declared.course.Course.TheVariants as course
+use Rattle.bt_output.specs.declared.print.Print.{Print}
+use Rattle.bt_output.specs.declared.print.Print.TheVariants as print
 use Rattle.bt_command_line.specs.declared.exit.Exit.{Exit}
 use Rattle.bt_command_line.specs.declared.exit.Exit.TheVariants as exit
 use Rattle.bt_refusals.specs.declared.fault.TreeFault.{TreeFault}
 use Rattle.bt_refusals.specs.declared.fault.TreeFault.TheVariants as fault
 use Rattle.bt_output.specs.Answers.{Answers, AreUncalled, AtMoments, CommandAnswered, DriversLeft, FilesAnswered, Gave, IfTold, IsWhole, ReadFailed, Side, ToldIfNamed}
 use Rattle.bt_program.specs.Headline.{EachOutput, IsGiven, UnreadLine, WholeOutput, moments_for}
-use Rattle.bt_output.specs.Output.{CheckGives, CommandGives, FilesGive, Given, Output, RunGives, TreeGives, WorldGives, check_output, given, held_by, is_too_long, joined_output, lack_of, run_exit, tree_name, too_long, tree_refused, unread, words_refused, world_name, world_output}
+use Rattle.bt_output.specs.Output.{CommandGives, FilesGive, Given, Output, PrintGives, RunGives, TreeGives, WorldGives, given, held_by, is_too_long, joined_output, lack_of, print_output, run_exit, tree_name, too_long, tree_refused, unread, words_refused, world_name, world_output}
 use Rattle.bt_output.specs.TreeFiles.{TreeReads, element_read}
-use Rattle.bt_command_line.specs.Words.{Command, Tick, Live, Load, Check}
+use Rattle.bt_command_line.specs.Words.{Command, Tick, Live, Load, Check, Dead}
 use Rattle.bt_output.specs.declared.refusal.File.{File}
 use Rattle.bt_output.specs.declared.refusal.File.TheVariants as file
 use Rattle.bt_arena.specs.declared.join_fault.JoinFault.{JoinFault}
@@ -63,16 +65,17 @@ one_run one main tree world g x y p q =
     one_if (is_too_long tree) x y (too_long file.Tree) _ _ p q (λ p1 q1. one_if (is_too_long world) x y (too_long file.World) _ _ p1 q1
     (λ p2 q2. one_reading one q2.0 world g x y (subst (λ (r : Result Tree TreeFault). TreeGives r world g x) (one_tree one main tree p2.0 q2.0 p2.1 q2.1) p2.2) q2.2))
 
-one_check : OneReading → (main : Option (List ℕ)) (tree : List ℕ) (x y : Output) → CheckGives main tree x → CheckGives main tree y → x ≡ y
-one_check one main tree x y p q =
-    one_if (is_too_long tree) x y (too_long file.Tree) _ _ p q (λ p1 q1. p1.2 ∙ ap check_output (one_tree one main tree p1.0 q1.0 p1.1 q1.1) ∙ sym q1.2)
+one_print : OneReading → (print : Print) (main : Option (List ℕ)) (tree : List ℕ) (x y : Output) → PrintGives print main tree x → PrintGives print main tree y → x ≡ y
+one_print one print main tree x y p q =
+    one_if (is_too_long tree) x y (too_long file.Tree) _ _ p q (λ p1 q1. p1.2 ∙ ap (print_output print) (one_tree one main tree p1.0 q1.0 p1.1 q1.1) ∙ sym q1.2)
 
 -- the files of a command have one output
 one_files : OneReading → (c : Command) (tree world : List ℕ) (moments : Moments) (drivers : List DriverState) (x y : Output) → FilesGive c tree world moments drivers x → FilesGive c tree world moments drivers y → x ≡ y
 one_files one (Tick t w main) tree world moments drivers x y p q = one_run one main tree world (given course.Script moments drivers) x y p q
 one_files one (Live t w rounds main) tree world moments drivers x y p q = one_run one main tree world (given (course.Rounds rounds) moments drivers) x y p q
 one_files one (Load leaves) tree world moments drivers x y p q = one_run one None (tree_text leaves) (world_text leaves) (given (course.Load leaves) moments drivers) x y p q
-one_files one (Check t main) tree world moments drivers x y p q = one_check one main tree x y p q
+one_files one (Check t main) tree world moments drivers x y p q = one_print one print.Whole main tree x y p q
+one_files one (Dead t main) tree world moments drivers x y p q = one_print one print.Dead main tree x y p q
 
 -- nothing was written for want of memory
 nothing_gave : (o : Output) (result : Exit) (a b : Side) → result ≡ exit.Memory → b.written ≡ a.written → Gave o result a b
@@ -113,7 +116,8 @@ files_told h (Tick t w main) tree world moments drivers o is_tree is_world p =
 files_told h (Live t w rounds main) tree world moments drivers o is_tree is_world p =
     subst (λ (z : List ℕ). RunGives main tree z (given (course.Rounds rounds) moments drivers) o) (sym is_world) (subst (λ (z : List ℕ). RunGives main z (h w) (given (course.Rounds rounds) moments drivers) o) (sym is_tree) p)
 files_told h (Load leaves) tree world moments drivers o is_tree is_world p = p
-files_told h (Check t main) tree world moments drivers o is_tree is_world p = subst (λ (z : List ℕ). CheckGives main z o) (sym is_tree) p
+files_told h (Check t main) tree world moments drivers o is_tree is_world p = subst (λ (z : List ℕ). PrintGives print.Whole main z o) (sym is_tree) p
+files_told h (Dead t main) tree world moments drivers o is_tree is_world p = subst (λ (z : List ℕ). PrintGives print.Dead main z o) (sym is_tree) p
 
 -- ---- Moments
 
@@ -134,6 +138,7 @@ needed (Live t w rounds main) tree world result a b None x = tt
 needed (Live t w rounds main) tree world result a b (Some told) x = subst (λ (moments : Moments). Answers (FilesGive (Live t w rounds main) tree world moments a.drivers) result a b) x.told x.holds
 needed (Load leaves) tree world result a b clock x = x.holds
 needed (Check t main) tree world result a b clock x = x.holds
+needed (Dead t main) tree world result a b clock x = x.holds
 
 -- ---- Clauses
 
@@ -222,9 +227,9 @@ exit_of_world : (r : Result World WorldFault) (tree : Tree) (g : Given) → IsOf
 exit_of_world (Ok world) tree g = exit_of_join (lack_of tree world g.drivers) tree world g
 exit_of_world (Err f) tree g = tt
 
-exit_of_check : (r : Result Tree TreeFault) → IsOfFiles (check_output r).exit
-exit_of_check (Ok tree) = tt
-exit_of_check (Err f) = tt
+exit_of_printed : (print : Print) (r : Result Tree TreeFault) → IsOfFiles (print_output print r).exit
+exit_of_printed print (Ok tree) = tt
+exit_of_printed print (Err f) = tt
 
 exit_of_tree : (r : Result Tree TreeFault) (world : List ℕ) (g : Given) (o : Output) → TreeGives r world g o → IsOfFiles o.exit
 exit_of_tree (Ok tree) world g o p = same_exit o _ p.2 (exit_of_world p.0 tree g)
@@ -239,12 +244,16 @@ exit_of_run main tree world g o p =
     exit_of_long (is_too_long tree) o (too_long file.Tree) _ tt p
     (λ p1. exit_of_long (is_too_long world) o (too_long file.World) _ tt p1 (λ p2. exit_of_tree p2.0 world g o p2.2))
 
+exit_of_print : (print : Print) (main : Option (List ℕ)) (tree : List ℕ) (o : Output) → PrintGives print main tree o → IsOfFiles o.exit
+exit_of_print print main tree o p =
+    exit_of_long (is_too_long tree) o (too_long file.Tree) _ tt p (λ p1. same_exit o (print_output print p1.0) p1.2 (exit_of_printed print p1.0))
+
 exit_of_files : (c : Command) (tree world : List ℕ) (moments : Moments) (drivers : List DriverState) (o : Output) → FilesGive c tree world moments drivers o → IsOfFiles o.exit
 exit_of_files (Tick t w main) tree world moments drivers o p = exit_of_run main tree world (given course.Script moments drivers) o p
 exit_of_files (Live t w rounds main) tree world moments drivers o p = exit_of_run main tree world (given (course.Rounds rounds) moments drivers) o p
 exit_of_files (Load leaves) tree world moments drivers o p = exit_of_run None (tree_text leaves) (world_text leaves) (given (course.Load leaves) moments drivers) o p
-exit_of_files (Check t main) tree world moments drivers o p =
-    exit_of_long (is_too_long tree) o (too_long file.Tree) _ tt p (λ p1. same_exit o (check_output p1.0) p1.2 (exit_of_check p1.0))
+exit_of_files (Check t main) tree world moments drivers o p = exit_of_print print.Whole main tree o p
+exit_of_files (Dead t main) tree world moments drivers o p = exit_of_print print.Dead main tree o p
 
 -- the bytes of the answer are those that the shelf tells
 told_files : (h : List ℕ → List ℕ) (c : Command) (tree world : List ℕ) (moments : Moments) (drivers : List DriverState) (o : Output) → ToldIfNamed (Some h) (tree_name c) (λ file. tree ≡ file) → ToldIfNamed (Some h) (world_name c) (λ file. world ≡ file)
@@ -254,7 +263,8 @@ told_files h (Tick t w main) tree world moments drivers o is_tree is_world p =
 told_files h (Live t w rounds main) tree world moments drivers o is_tree is_world p =
     subst (λ (z : List ℕ). RunGives main z (h w) (given (course.Rounds rounds) moments drivers) o) is_tree (subst (λ (z : List ℕ). RunGives main tree z (given (course.Rounds rounds) moments drivers) o) is_world p)
 told_files h (Load leaves) tree world moments drivers o is_tree is_world p = p
-told_files h (Check t main) tree world moments drivers o is_tree is_world p = subst (λ (z : List ℕ). CheckGives main z o) is_tree p
+told_files h (Check t main) tree world moments drivers o is_tree is_world p = subst (λ (z : List ℕ). PrintGives print.Whole main z o) is_tree p
+told_files h (Dead t main) tree world moments drivers o is_tree is_world p = subst (λ (z : List ℕ). PrintGives print.Dead main z o) is_tree p
 
 -- no tree was run where a file was not read
 unread_left : (f : File) (a b : Side) → DriversLeft (unread f).drivers a.drivers b.drivers → AreUncalled a.drivers b.drivers

@@ -15,8 +15,3 @@ abbrev pub Leads : {X Y : Type 0} → Result X (Stop ExecFault) → Result Y Exe
 Leads (Ok x) said go = said ≡ go x
 Leads (Err stop.NoMemory) said go = Unit {0}
 Leads (Err (stop.Fault f)) said go = said ≡ Err f
-
--- what is left where a call gives something, or its fault
-abbrev pub left : {X Y F : Type 0} → Result X F → Y → Result Y F
-left (Ok x) after = Ok after
-left (Err f) after = Err f

@@ -15,6 +15,12 @@ use Rattle.bt_script_code.specs.Running.{code_value, code_reach, code_texts}
 abbrev pub code_formula : List Instr → Formula
 code_formula code = record { value = λ look. code_value look code; reach = code_reach code; texts = code_texts code }
 
+-- the code of a statement's expression
+abbrev pub expression : StmtCode → List Instr
+expression (Create k code) = code.instrs
+expression (Assign k code) = code.instrs
+expression (Plain code) = code.instrs
+
 -- what the code of a statement gives and leaves
 abbrev pub stmt_run : StmtCode → List (Option Value) → Run
 stmt_run (Create k code) entries = written k entries (code_value (entry_of entries) code.instrs)

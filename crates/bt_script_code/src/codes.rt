@@ -1,3 +1,10 @@
+ghost use Rattle.std.specs.Prelude.{◌≡◌, ◌≤◌, List, Option, Err};
+ghost use Rattle.bt_script.specs.declared.value.Value.{Value};
+ghost use Rattle.bt_script.specs.declared.fault.ExecFault.{ExecFault};
+ghost use Rattle.bt_script.specs.Entries.{entry_of};
+ghost use Rattle.bt_script_code.specs.Running.{code_reach, code_texts, code_value};
+ghost use Rattle.bt_script_code.specs.Statements.{expression, stmt_code_reach, stmt_code_texts, stmt_run};
+
 use crate::postfix::Postfix;
 use bt_script::Items;
 
@@ -10,6 +17,24 @@ pub enum StmtCode {
     Assign(u32, Postfix),
     /// Gives the value alone.
     Plain(Postfix),
+}
+
+impl StmtCode {
+    /// The code of its expression, whose fault is the statement's.
+    #[inline(always)]
+    pub fn postfix(&self) -> &Postfix
+        ensures code { result.now.instrs ≡ expression self.now }
+        ensures reach { code_reach result.now.instrs ≤ stmt_code_reach self.now }
+        ensures texts { code_texts result.now.instrs ≡ stmt_code_texts self.now }
+        ensures fault { (entries : List (Option Value)) (f : ExecFault) →
+            code_value (entry_of entries) result.now.instrs ≡ Err f → (stmt_run self.now entries).answer ≡ Err f }
+    {
+        match self {
+            StmtCode::Create(_, code) => code,
+            StmtCode::Assign(_, code) => code,
+            StmtCode::Plain(code) => code,
+        }
+    }
 }
 
 /// The code of a script. Contracts see its `program`: what running it does, and what it needs.

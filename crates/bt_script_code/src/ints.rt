@@ -12,75 +12,34 @@ ghost use Rattle.bt_script_code.specs.Statements.{stmt_code_reach, stmt_code_tex
 
 use crate::codes::{Code, StmtCode};
 use crate::machine::run;
-use crate::number_stack::NumberStack;
+use crate::number_stack::{NumberStack, Numbers};
 use crate::postfix::Postfix;
-use crate::stack::Stack;
-use bt_script::{BinOp, Cells, ExecFault, Stop, Txt, UnOp, Value};
+use bt_script::{Cells, ExecFault, Stop, Value};
 
-/// A stack of numbers over entries. It can't hold texts.
+/// Entries, for a stack of numbers.
 #[derive(Drop)]
-struct EntryNumbers<'a, const N: usize> {
-    numbers: NumberStack<'a, N>,
+struct EntryNumbers<'a, B: Cells> {
+    cells: &'a B,
 }
 
-impl<B: Cells, const N: usize> Stack<B> for EntryNumbers<'_, N> {
-    ghost use Rattle.std.specs.Prelude.{true as yes, length, map};
+impl<B: Cells> Numbers for EntryNumbers<'_, B> {
+    ghost use Rattle.std.specs.Prelude.{length};
     ghost use Rattle.std.specs.List.{All};
-    ghost use Rattle.bt_script.specs.declared.value.Value.TheVariants.{Int as Number};
-    ghost use Rattle.bt_script.specs.Entries.{entry_of as found, HoldsNoText as IsPlain};
+    ghost use Rattle.bt_script.specs.Entries.{entry_of as found, HoldsNoText as HasNumber};
 
-    ghost values = { λ s. map Number s.numbers };
+    ghost reach = { λ s. length (B.entries s.cells.now) };
 
-    ghost numbers = { yes };
+    ghost gives = { λ s. found (B.entries s.cells.now) };
 
-    ghost room = { N };
-
-    ghost reach = { λ cells. length (B.entries cells) };
-
-    ghost gives = { λ cells. found (B.entries cells) };
-
-    ghost IsHeld = { λ cells. All IsPlain (B.entries cells) };
+    ghost IsPlain = { λ s. All HasNumber (B.entries s.cells.now) };
 
     #[inline(always)]
-    fn put_number(&mut self, n: i64) {
-        self.numbers.put(n);
-    }
-
-    #[inline(always)]
-    fn put_text(&mut self, _text: &Txt) -> Result<(), Stop<ExecFault>> {
-        Err(Stop::NoMemory)
-    }
-
-    #[inline(always)]
-    fn put_slot(&mut self, slot: u32, slots: &B) -> Result<(), Stop<ExecFault>> {
-        match slots.get(slot) {
-            Some(Value::Int(n)) => {
-                self.numbers.put(*n);
-                Ok(())
-            }
+    fn number(&self, slot: u32) -> Result<i64, Stop<ExecFault>> {
+        match self.cells.get(slot) {
+            Some(Value::Int(n)) => Ok(*n),
             Some(Value::Text(_)) => Err(Stop::NoMemory),
             None => Err(Stop::Fault(ExecFault::NoEntry { slot })),
         }
-    }
-
-    #[inline(always)]
-    fn unary(&mut self, op: UnOp) -> Result<(), Stop<ExecFault>> {
-        Ok(self.numbers.unary(op)?)
-    }
-
-    #[inline(always)]
-    fn binary(&mut self, op: BinOp) -> Result<(), Stop<ExecFault>> {
-        Ok(self.numbers.binary(op)?)
-    }
-
-    #[inline(always)]
-    fn binary_number(&mut self, op: BinOp, n: i64) -> Result<(), Stop<ExecFault>> {
-        Ok(self.numbers.binary_number(op, n)?)
-    }
-
-    #[inline(always)]
-    fn take_truth(&mut self) -> Result<bool, Stop<ExecFault>> {
-        Ok(self.numbers.take_truth())
     }
 }
 
@@ -99,11 +58,19 @@ fn int_on<B: Cells, const N: usize>(
     ensures leaves { Leaves result (code_value (entry_of (B.entries cells.now)) code.now.instrs) Int }
     ensures answered { code_texts code.now.instrs ≡ 0 → All HoldsNoText (B.entries cells.now) → IsAnswered result }
 {
-    let mut stack = EntryNumbers {
-        numbers: NumberStack::empty(places),
-    };
-    run(code, cells, &mut stack)?;
-    Ok(stack.numbers.take())
+    let mut stack = NumberStack::empty(places);
+    run(code, &EntryNumbers { cells }, &mut stack)?;
+    Ok(stack.take())
+}
+
+/// `int_of` where 65 places may be wanted, which is seldom.
+#[inline(never)]
+fn high_int_of<B: Cells>(code: &Postfix, cells: &B) -> Result<i64, Stop<ExecFault>>
+    requires { code_reach code.now.instrs ≤ length (B.entries cells.now) }
+    ensures leaves { Leaves result (code_value (entry_of (B.entries cells.now)) code.now.instrs) Int }
+    ensures answered { code_texts code.now.instrs ≡ 0 → All HoldsNoText (B.entries cells.now) → IsAnswered result }
+{
+    int_on(code, cells, &mut [0; 65])
 }
 
 /// The number that a code gives over entries, or its first fault. It gives up where a text is met.
@@ -113,10 +80,10 @@ fn int_of<B: Cells>(code: &Postfix, cells: &B) -> Result<i64, Stop<ExecFault>>
     ensures leaves { Leaves result (code_value (entry_of (B.entries cells.now)) code.now.instrs) Int }
     ensures answered { code_texts code.now.instrs ≡ 0 → All HoldsNoText (B.entries cells.now) → IsAnswered result }
 {
-    if code.is_low {
-        return int_on(code, cells, &mut [0; 8]);
+    if !code.is_low {
+        return high_int_of(code, cells);
     }
-    int_on(code, cells, &mut [0; 65])
+    int_on(code, cells, &mut [0; 8])
 }
 
 /// Writes the number to a slot that has an entry, and gives it.
@@ -153,17 +120,14 @@ pub fn step_int<B: Cells>(stmt: &StmtCode, cells: &mut B) -> Result<i64, Stop<Ex
     ensures slots { length (B.entries cells.new) ≡ length (B.entries cells.old) }
     ensures left { All HoldsNoText (B.entries cells.old) → All HoldsNoText (B.entries cells.new) }
 {
+    let n = int_of(stmt.postfix(), cells)?;
     match stmt {
-        StmtCode::Create(slot, code) => {
-            let n = int_of(code, cells)?;
+        StmtCode::Create(slot, _) => {
             cells.put_int(*slot, n);
             Ok(n)
         }
-        StmtCode::Assign(slot, code) => {
-            let n = int_of(code, cells)?;
-            assign_int(*slot, n, cells)
-        }
-        StmtCode::Plain(code) => int_of(code, cells),
+        StmtCode::Assign(slot, _) => assign_int(*slot, n, cells),
+        StmtCode::Plain(_) => Ok(n),
     }
 }
 

@@ -1,7 +1,8 @@
-ghost use Rattle.std.specs.Prelude.{◌≡◌, ◌+◌, ◌-◌, ◌^◌, ◌<◌, ◌≤◌, [], true, IfOk, length};
+ghost use Rattle.std.specs.Prelude.{◌≡◌, ◌+◌, ◌-◌, ◌^◌, ◌<◌, ◌≤◌, [], ◌∷◌, true, pos, IfOk, length};
 ghost use Rattle.bt_script.specs.Entries.{IsAnswered};
+ghost use Rattle.bt_script.specs.declared.value.Value.TheVariants.{Int};
 ghost use Rattle.bt_script_code.specs.Rooms.{fits, fits_from, has_room};
-ghost use Rattle.bt_script_code.specs.Running.{code_reach, code_texts, code_value, gives_from, instr_reach, instr_texts, jump_of, put, step_of};
+ghost use Rattle.bt_script_code.specs.Running.{by_truth, code_reach, code_texts, code_value, gives_from, instr_reach, instr_texts, jump_of, put, step_of};
 ghost use Rattle.bt_script_code.specs.Stacks.{Leads, Leaves};
 
 use crate::instr::Instr;
@@ -9,6 +10,45 @@ use crate::operators::as_number;
 use crate::postfix::Postfix;
 use crate::stack::Stack;
 use bt_script::{BinOp, ExecFault, Stop};
+
+/// Takes the left operand of `&&`. Where it is false, it puts 0 on top, and jumps.
+#[tactic(auto, using(crate::proofs::Steps::none_over, crate::proofs::Steps::passed_over))]
+#[inline(always)]
+fn and_then<C, S: Stack<C>>(n: usize, next: usize, stack: &mut S) -> Result<usize, Stop<ExecFault>>
+    requires operand { 0 < length (S.values stack.old) }
+    requires room { length (S.values stack.old) ≤ S.room }
+    requires within { next + n < 2 ^ 63 }
+    ensures leads { let step = by_truth (λ below. (0, below)) (λ below. (n, Int (pos 0) ∷ below)) (S.values stack.old) in
+        Leaves result step (λ place. (place - next, S.values stack.new)) }
+    ensures on { IfOk result (λ place. next ≤ place) }
+    ensures answered { S.numbers ≡ true → IsAnswered result }
+{
+    let left = stack.take_truth()?;
+    if !left {
+        stack.put_number(0);
+        return Ok(next + n);
+    }
+    Ok(next)
+}
+
+/// Takes the left operand of `||`. Where it is true, it puts 1 on top, and jumps.
+#[tactic(auto, using(crate::proofs::Steps::none_over, crate::proofs::Steps::passed_over))]
+#[inline(always)]
+fn or_else<C, S: Stack<C>>(n: usize, next: usize, stack: &mut S) -> Result<usize, Stop<ExecFault>>
+    requires operand { 0 < length (S.values stack.old) }
+    requires room { length (S.values stack.old) ≤ S.room }
+    requires within { next + n < 2 ^ 63 }
+    ensures leads { let step = by_truth (λ below. (n, Int (pos 1) ∷ below)) (λ below. (0, below)) (S.values stack.old) in
+        Leaves result step (λ place. (place - next, S.values stack.new)) }
+    ensures on { IfOk result (λ place. next ≤ place) }
+    ensures answered { S.numbers ≡ true → IsAnswered result }
+{
+    if stack.take_truth()? {
+        stack.put_number(1);
+        return Ok(next + n);
+    }
+    Ok(next)
+}
 
 /// Does one instruction, and answers the place at which to go on. `next` is the place that follows it.
 #[tactic(auto, using(crate::proofs::Steps::none_over, crate::proofs::Steps::passed_over))]
@@ -40,19 +80,8 @@ fn turn<C, S: Stack<C>>(
         Instr::AddNumber(n) => stack.binary_number(BinOp::Add, *n)?,
         Instr::SubNumber(n) => stack.binary_number(BinOp::Sub, *n)?,
         Instr::MulNumber(n) => stack.binary_number(BinOp::Mul, *n)?,
-        Instr::AndThen(n) => {
-            let left = stack.take_truth()?;
-            if !left {
-                stack.put_number(0);
-                return Ok(next + *n);
-            }
-        }
-        Instr::OrElse(n) => {
-            if stack.take_truth()? {
-                stack.put_number(1);
-                return Ok(next + *n);
-            }
-        }
+        Instr::AndThen(n) => return and_then::<C, S>(*n, next, stack),
+        Instr::OrElse(n) => return or_else::<C, S>(*n, next, stack),
         Instr::Truth => {
             let holds = stack.take_truth()?;
             stack.put_number(as_number(holds));

@@ -1,10 +1,13 @@
-ghost use Rattle.std.specs.Prelude.{◌≡◌, ◌+◌, ◌<◌, ◌≤◌, [], ◌∷◌, Ok, length, map, reverse, take};
+ghost use Rattle.std.specs.Prelude.{◌≡◌, ℕ, ◌<◌, ◌≤◌, [], ◌∷◌, Result, length};
+ghost use Rattle.bt_script.specs.declared.value.Value.{Value};
 ghost use Rattle.bt_script.specs.declared.value.Value.TheVariants.{Int};
-ghost use Rattle.bt_script_code.specs.Running.{binary_put, truth_taken, unary_put};
-ghost use Rattle.bt_script_code.specs.Stacks.{left};
+ghost use Rattle.bt_script.specs.declared.fault.ExecFault.{ExecFault as Fault};
+ghost use Rattle.bt_script.specs.Entries.{IsAnswered};
+ghost use Rattle.bt_script_code.specs.Stacks.{Leaves};
 
 use crate::operators::{binary_ints, unary_int};
-use bt_script::{BinOp, ExecFault, UnOp};
+use crate::stack::Stack;
+use bt_script::{BinOp, ExecFault, Stop, Txt, UnOp};
 use std::marker::Model;
 
 /// A stack for numbers, over the places that it is lent. Contracts see the list of them, the topmost
@@ -65,25 +68,69 @@ impl<'a, const N: usize> NumberStack<'a, N> {
         self.top = self.places[self.height];
         n
     }
+}
 
-    /// Puts an operator's result in place of its operand.
+/// What slots give, where a stack holds numbers alone.
+pub trait Numbers {
+    /// How many slots there are.
+    ghost reach: { Self → ℕ };
+
+    /// What each slot gives.
+    ghost gives: { Self → ℕ → Result Value Fault };
+
+    /// No slot gives what is no number and no fault.
+    ghost IsPlain: { Self → Type 0 };
+
+    /// The number that a slot gives, or its fault. Where it gives a text, the answer is want of memory.
+    fn number(&self, slot: u32) -> Result<i64, Stop<ExecFault>>
+        requires { slot < reach self.now }
+        ensures gives { Leaves result (gives self.now slot) Int }
+        ensures answered { IsPlain self.now → IsAnswered result };
+}
+
+impl<C: Numbers, const N: usize> Stack<C> for NumberStack<'_, N> {
+    ghost use Rattle.std.specs.Prelude.{true as yes, map};
+    ghost use Rattle.bt_script.specs.declared.value.Value.TheVariants.{Int as Number};
+
+    ghost values = { λ s. map Number s };
+
+    ghost numbers = { yes };
+
+    ghost room = { N };
+
+    ghost reach = { λ slots. C.reach slots };
+
+    ghost gives = { λ slots. C.gives slots };
+
+    ghost IsHeld = { λ slots. C.IsPlain slots };
+
     #[inline(always)]
-    pub fn unary(&mut self, op: UnOp) -> Result<(), ExecFault>
-        requires { 0 < length self.old }
-        ensures { unary_put op (map Int self.old) ≡ left result (map Int self.new) }
-    {
+    fn put_number(&mut self, n: i64) {
+        self.put(n);
+    }
+
+    #[inline(always)]
+    fn put_text(&mut self, _text: &Txt) -> Result<(), Stop<ExecFault>> {
+        Err(Stop::NoMemory)
+    }
+
+    #[inline(always)]
+    fn put_slot(&mut self, slot: u32, slots: &C) -> Result<(), Stop<ExecFault>> {
+        let n = slots.number(slot)?;
+        self.put(n);
+        Ok(())
+    }
+
+    #[inline(always)]
+    fn unary(&mut self, op: UnOp) -> Result<(), Stop<ExecFault>> {
         let x = self.take();
         let n = unary_int(op, x)?;
         self.put(n);
         Ok(())
     }
 
-    /// Puts an operator's result in place of its two operands.
     #[inline(always)]
-    pub fn binary(&mut self, op: BinOp) -> Result<(), ExecFault>
-        requires { 1 < length self.old }
-        ensures { binary_put op (map Int self.old) ≡ left result (map Int self.new) }
-    {
+    fn binary(&mut self, op: BinOp) -> Result<(), Stop<ExecFault>> {
         let y = self.take();
         let x = self.take();
         let n = binary_ints(op, x, y)?;
@@ -91,25 +138,16 @@ impl<'a, const N: usize> NumberStack<'a, N> {
         Ok(())
     }
 
-    /// Puts an operator's result in place of its left operand. The right one is this number.
     #[inline(always)]
-    pub fn binary_number(&mut self, op: BinOp, n: i64) -> Result<(), ExecFault>
-        requires { 0 < length self.old }
-        ensures { binary_put op (Int n ∷ map Int self.old) ≡ left result (map Int self.new) }
-    {
+    fn binary_number(&mut self, op: BinOp, n: i64) -> Result<(), Stop<ExecFault>> {
         let x = self.take();
         let n = binary_ints(op, x, n)?;
         self.put(n);
         Ok(())
     }
 
-    /// Takes the topmost number, as a truth.
     #[inline(always)]
-    pub fn take_truth(&mut self) -> bool
-        requires { 0 < length self.old }
-        ensures takes { truth_taken (map Int self.old) ≡ Ok (result, map Int self.new) }
-        ensures height { length self.new + 1 ≡ length self.old }
-    {
-        self.take() != 0
+    fn take_truth(&mut self) -> Result<bool, Stop<ExecFault>> {
+        Ok(self.take() != 0)
     }
 }

@@ -7,74 +7,33 @@ ghost use Rattle.bt_script.specs.Operators.{int_value};
 
 use crate::codes::ExprCode;
 use crate::machine::run;
-use crate::number_stack::NumberStack;
+use crate::number_stack::{NumberStack, Numbers};
 use crate::postfix::Postfix;
-use crate::stack::Stack;
-use bt_script::{BinOp, ExecFault, Looks, Seen, Stop, Txt, UnOp};
+use bt_script::{ExecFault, Looks, Seen, Stop};
 
-/// A stack of numbers over looks.
+/// Looks, for a stack of numbers.
 #[derive(Drop)]
-struct SeenNumbers<'a, const N: usize> {
-    numbers: NumberStack<'a, N>,
+struct SeenNumbers<'a, L: Looks> {
+    looks: &'a L,
 }
 
-impl<L: Looks, const N: usize> Stack<L> for SeenNumbers<'_, N> {
-    ghost use Rattle.std.specs.Prelude.{true as yes, length, map};
-    ghost use Rattle.bt_script.specs.declared.value.Value.TheVariants.{Int as Number};
+impl<L: Looks> Numbers for SeenNumbers<'_, L> {
+    ghost use Rattle.std.specs.Prelude.{length};
     ghost use Rattle.bt_script.specs.Entries.{look_of as seen};
 
-    ghost values = { λ s. map Number s.numbers };
+    ghost reach = { λ s. length (L.sights s.looks.now) };
 
-    ghost numbers = { yes };
+    ghost gives = { λ s. seen (L.sights s.looks.now) };
 
-    ghost room = { N };
-
-    ghost reach = { λ looks. length (L.sights looks) };
-
-    ghost gives = { λ looks. seen (L.sights looks) };
-
-    ghost IsHeld = { λ looks. Unit {0} };
+    ghost IsPlain = { λ s. Unit {0} };
 
     #[inline(always)]
-    fn put_number(&mut self, n: i64) {
-        self.numbers.put(n);
-    }
-
-    #[inline(always)]
-    fn put_text(&mut self, _text: &Txt) -> Result<(), Stop<ExecFault>> {
-        Err(Stop::NoMemory)
-    }
-
-    #[inline(always)]
-    fn put_slot(&mut self, slot: u32, slots: &L) -> Result<(), Stop<ExecFault>> {
-        match slots.look(slot) {
-            Seen::Int(n) => {
-                self.numbers.put(n);
-                Ok(())
-            }
+    fn number(&self, slot: u32) -> Result<i64, Stop<ExecFault>> {
+        match self.looks.look(slot) {
+            Seen::Int(n) => Ok(n),
             Seen::Text => Err(Stop::Fault(ExecFault::Mixed)),
             Seen::Absent => Err(Stop::Fault(ExecFault::NoEntry { slot })),
         }
-    }
-
-    #[inline(always)]
-    fn unary(&mut self, op: UnOp) -> Result<(), Stop<ExecFault>> {
-        Ok(self.numbers.unary(op)?)
-    }
-
-    #[inline(always)]
-    fn binary(&mut self, op: BinOp) -> Result<(), Stop<ExecFault>> {
-        Ok(self.numbers.binary(op)?)
-    }
-
-    #[inline(always)]
-    fn binary_number(&mut self, op: BinOp, n: i64) -> Result<(), Stop<ExecFault>> {
-        Ok(self.numbers.binary_number(op, n)?)
-    }
-
-    #[inline(always)]
-    fn take_truth(&mut self) -> Result<bool, Stop<ExecFault>> {
-        Ok(self.numbers.take_truth())
     }
 }
 
@@ -93,11 +52,9 @@ fn number_on<L: Looks, const N: usize>(
     requires textless { code_texts code.now.instrs ≡ 0 }
     ensures { int_value result ≡ code_value (look_of (L.sights looks.now)) code.now.instrs }
 {
-    let mut stack = SeenNumbers {
-        numbers: NumberStack::empty(places),
-    };
-    match run(code, looks, &mut stack) {
-        Ok(()) => Ok(stack.numbers.take()),
+    let mut stack = NumberStack::empty(places);
+    match run(code, &SeenNumbers { looks }, &mut stack) {
+        Ok(()) => Ok(stack.take()),
         Err(Stop::Fault(fault)) => Err(fault),
         Err(Stop::NoMemory) => unreachable!(),
     }

@@ -57,9 +57,10 @@ pub fn unary_int(op: UnOp, x: i64) -> Result<i64, ExecFault>
     }
 }
 
-/// An operator between two numbers.
-#[inline(always)]
-pub fn binary_ints(op: BinOp, x: i64, y: i64) -> Result<i64, ExecFault>
+/// An operator between two numbers. It is not inlined: with all operators in it, the loop that runs code
+/// would be too large to be one function.
+#[inline(never)]
+fn any_ints(op: BinOp, x: i64, y: i64) -> Result<i64, ExecFault>
     ensures { result ≡ on_ints op x y }
 {
     match op {
@@ -73,6 +74,20 @@ pub fn binary_ints(op: BinOp, x: i64, y: i64) -> Result<i64, ExecFault>
         BinOp::BitOr => Ok(x | y),
         BinOp::BitXor => Ok(x ^ y),
         BinOp::Compare(cmp) => Ok(as_number(holds(cmp, x.cmp(&y)))),
+    }
+}
+
+/// An operator between two numbers. Those that are met most are inlined.
+#[inline(always)]
+pub fn binary_ints(op: BinOp, x: i64, y: i64) -> Result<i64, ExecFault>
+    ensures { result ≡ on_ints op x y }
+{
+    match op {
+        BinOp::Add => x.checked_add(y).ok_or(ExecFault::Overflow),
+        BinOp::Sub => x.checked_sub(y).ok_or(ExecFault::Overflow),
+        BinOp::Mul => x.checked_mul(y).ok_or(ExecFault::Overflow),
+        BinOp::Compare(cmp) => Ok(as_number(holds(cmp, x.cmp(&y)))),
+        _ => any_ints(op, x, y),
     }
 }
 

@@ -8,7 +8,7 @@ use crate::additions::{read_effect, read_fails, read_need, read_out};
 use crate::events::{
     read_change, read_fact, read_goal, read_halt, read_moment, read_runners, read_tick,
 };
-use bt_lines::{content, cut, is, is_line, is_ignored};
+use bt_lines::{content, cut, is, is_ignored, is_line};
 use bt_model::WorldKind;
 use bt_script::Stop;
 use bt_world_draft::Reading;

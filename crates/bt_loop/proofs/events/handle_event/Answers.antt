@@ -1,7 +1,6 @@
 use Rattle.std.proofs.Common.{ℤ, subst, arith}
 use Rattle.bt_model.specs.Run.{change_step}
 use Rattle.bt_model.specs.Worlds.{IsValidWhat}
-use Rattle.bt_loop.specs.Parts.{CanTake}
 use Rattle.bt_loop.specs.Steps.{EventLeft, event_side, kept_state}
 use Rattle.bt_loop.proofs.Whole.{runner_of_halt, runner_of_tick, value_is}
 use Rattle.bt_loop.proofs.events.handle_event.Goals as goal

@@ -1,0 +1,9 @@
+//! Equal copies of scripts, guards and ports. Each call answers `NoMemory` (out of memory) where an allocation fails,
+//! and else a copy.
+#![tactic(auto)]
+
+mod nodes;
+mod scripts;
+
+pub use nodes::{copy_guards, copy_ports};
+pub use scripts::{copy_expr, copy_script, copy_script_if_there};

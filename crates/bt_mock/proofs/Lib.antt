@@ -1,0 +1,4 @@
+mod Eaches
+mod Replacing
+mod Texts
+mod Ordered

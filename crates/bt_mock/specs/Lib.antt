@@ -1,0 +1,4 @@
+pub mod Substitutions
+pub mod RuleFiles
+pub mod Seen
+pub mod Orders

@@ -1,0 +1,92 @@
+ghost use Rattle.std.specs.Prelude.{◌≡◌, ◌++◌, IfOk, codes, map};
+ghost use Rattle.bt_script.specs.Stops.{Gives};
+ghost use Rattle.bt_model.specs.declared.term.Term.{out-Term};
+ghost use Rattle.bt_mock.specs.Substitutions.{inside, replaced, substitute, with_mocks};
+
+use crate::fault::MockFault;
+use crate::limits::within_limits;
+use crate::nodes::{by_rule, with_children};
+use crate::rules::Rules;
+use bt_model::{Kind, Term, Tree};
+use bt_script::{Items, Name, NoMemory, Stop};
+use std::alloc::Global;
+
+/// The path of a node of this name: what the paths here begin with, and then the name.
+fn path_of(alloc: Global, above: &[u8], name: &Name) -> Result<Vec<u8>, NoMemory>
+    ensures { IfOk result (λ path. path.items ≡ above.now ++ name.now) }
+{
+    let mut path = Vec::from_slice(alloc, above)?;
+    path.extend_from_slice(name.list())?;
+    Ok(path)
+}
+
+/// What the paths below a SubTree node of this name begin with.
+fn inside_tree(alloc: Global, above: &[u8], name: &Name) -> Result<Vec<u8>, NoMemory>
+    ensures { IfOk result (λ path. path.items ≡ above.now ++ (name.now ++ codes "/")) }
+{
+    let mut path = path_of(alloc, above, name)?;
+    path.push(b'/')?;
+    Ok(path)
+}
+
+/// Some terms with their nodes replaced by rules, where the paths of their nodes begin with this text.
+#[cycle(terms)]
+fn all_replaced(
+    alloc: Global,
+    rules: &Rules,
+    terms: &[Term],
+    above: &[u8],
+) -> Result<Items<Term>, NoMemory>
+    ensures { IfOk result (λ all. all ≡ map (λ term. replaced rules.now term above.now) terms.now) }
+{
+    let mut all = Vec::with_capacity(alloc, terms.len())?;
+    for term in terms {
+        all.push(replaced(alloc, rules, term, above)?)?;
+    }
+    Ok(Items::of(all))
+}
+
+/// The children of a node with their nodes replaced, where the paths of the node and of its neighbours begin with this
+/// text.
+#[cycle(terms)]
+fn children_replaced(
+    alloc: Global,
+    rules: &Rules,
+    node: &Term,
+    above: &[u8],
+) -> Result<Items<Term>, NoMemory>
+    ensures { IfOk result (λ all. all ≡ map
+        (λ term. replaced rules.now term (inside (out-Term node.now).kind (out-Term node.now).name above.now))
+        (out-Term node.now).children) }
+{
+    match node.kind {
+        Kind::SubTree => {
+            let below = inside_tree(alloc, above, &node.name)?;
+            all_replaced(alloc, rules, node.children.list(), below.as_slice())
+        }
+        _ => all_replaced(alloc, rules, node.children.list(), above),
+    }
+}
+
+/// A term with its nodes replaced by rules, where the paths of its nodes begin with this text.
+#[cycle(terms)]
+fn replaced(alloc: Global, rules: &Rules, term: &Term, above: &[u8]) -> Result<Term, NoMemory>
+    ensures { IfOk result (λ t. t ≡ replaced rules.now term.now above.now) }
+{
+    if term.children.list().is_empty() {
+        let path = path_of(alloc, above, &term.name)?;
+        return by_rule(alloc, rules, path.as_slice(), term);
+    }
+    let children = children_replaced(alloc, rules, term, above)?;
+    with_children(alloc, term, children)
+}
+
+/// The tree with its nodes without children replaced by the rules. Its faults are the four limits of trees, of the
+/// substituted tree, in their order: `TooManyNodes`, `TooDeep`, `TooManyKeys`, `TooMuchWork`.
+pub fn substitute(alloc: Global, tree: &Tree, rules: &Rules) -> Result<Tree, Stop<MockFault>>
+    ensures { Gives result (substitute tree.now rules.now) }
+{
+    let term = replaced(alloc, rules, &tree.term, &[])?;
+    let main = tree.main.copy(alloc)?;
+    within_limits(alloc, Tree { main, term })
+}
