@@ -50,7 +50,13 @@ fn text(name: &Name) -> &str {
 
 /// Tells of a step.
 fn tell_step(alloc: Global, step: &Step, told: &mut String) -> Result<(), NoMemory> {
-    let line = format!(in alloc; "expand {} {} {} raises {}\n", step.uid, text(&step.condition), text(&step.action), step.raises)?;
+    let line = format!(in alloc;
+        "expand {} {} {} raises {}\n",
+        step.uid,
+        text(&step.condition),
+        text(&step.action),
+        step.raises
+    )?;
     told.push_str(line.as_str())?;
     Ok(())
 }
@@ -145,7 +151,12 @@ fn told(rt: &impl Abort, alloc: Global, row: &Row) -> Result<String, NoMemory> {
     drivers.push(Box::new(alloc, Gate::new(alloc))?)?;
     let mut roster = Roster { drivers };
     let limits = &row.limits;
-    assert!(rt; limits.expand <= 120 && limits.ticks >= 1 && limits.ticks <= 10_000 && limits.period <= 1_000_000);
+    assert!(rt;
+        limits.expand <= 120
+            && limits.ticks >= 1
+            && limits.ticks <= 10_000
+            && limits.period <= 1_000_000
+    );
     let script = script(alloc, row.lines)?;
     assert!(rt; script.len() <= 1_048_576);
     match read_world(alloc, script.as_bytes()) {

@@ -83,8 +83,7 @@ module _ (world : World) (limits : Limits) (t : PlanTree) (steps : List Step) (b
       let s = goes.1 in
       let room = goes.0 in
       let longer : length more ≡ length steps + 1 = ap length s.steps ∙ length-append steps (s.step ∷ []) ∙ omega arith in
-      let one : subtrees trial.tree ≡ subtrees p.tree = ap subtrees same in
-      (
+      let one : subtrees trial.tree ≡ subtrees p.tree = ap subtrees same in (
         record {
           first = p.first;
           is_first = p.is_first;

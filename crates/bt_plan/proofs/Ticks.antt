@@ -216,8 +216,7 @@ module _ (of : Setup) (limits : Limits) (opened : Runs) (before : List DriverSta
         let part : Trace = record { blocks = []; calls = calls n ++ next.calls; state = next.state; fault = None } in
         let longer = more_calls of.tree of.world limits.period (suc n) (m + 1) (omega (arith, high)) in
         let whole = last_calls of limits m found.2 in
-        let drivers : now ≡ roster_over (arenas_of new) (calls n) before = p.drivers ∙ ap (λ (x : List (List Node)). roster_over x (calls n) before) (sym (same ∙ p.arenas)) in
-        (
+        let drivers : now ≡ roster_over (arenas_of new) (calls n) before = p.drivers ∙ ap (λ (x : List (List Node)). roster_over x (calls n) before) (sym (same ∙ p.arenas)) in (
           m,
           found.2,
           cut_as (arenas_of new) before after part (modelled_run of.tree of.world limits.period (m + 1)) (longer.0 ++ whole.0)

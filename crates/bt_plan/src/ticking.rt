@@ -50,11 +50,7 @@ fn make_tick<D: Drivers>(
         what: What::Tick(1),
     };
     run_event(alloc, runs, &event, drivers, block)?;
-    Ok(decide(
-        &runs.facts,
-        task.goals.as_slice(),
-        block.notes.list(),
-    ))
+    Ok(decide(&runs.facts, task.goals.as_slice(), block.notes.list()))
 }
 
 /// Whether the tick after so many, which decided so, is the last one of its run.
