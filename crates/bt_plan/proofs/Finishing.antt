@@ -1,18 +1,18 @@
 -- A modelled run as a whole: its ticks, and then its finish.
-use Rattle.std.proofs.Common.{◌≡◌, inl, inr, ℕ, ◌+◌, ◌≤◌, ◌<◌, List, [], ◌++◌, Some, None, Result, Ok, Err, length, refl, sym, ap, subst, ◌∙◌, append-nil, arith}
+use Rattle.std.proofs.Common.{◌≡◌, inl, inr, ℕ, ◌+◌, ◌<◌, List, [], ◌++◌, None, Result, Ok, Err, refl, sym, ap, subst, ◌∙◌, append-nil, arith}
 use Rattle.std.specs.Result.{IsErrAnd}
 use Rattle.std.proofs.lemmas.Bool.{cases_eq}
 use Rattle.bt_script.specs.declared.stop.Stop.{Stop}
 use Rattle.bt_script.specs.declared.stop.Stop.TheVariants as stop
 use Rattle.bt_model.specs.declared.fault.RunFault.{RunFault}
-use Rattle.bt_model.specs.Drivers.{DriverState, driver_at}
+use Rattle.bt_model.specs.Drivers.{DriverState}
 use Rattle.bt_model.specs.Run.{RunnerCall, RunState, Stepped, Trace, finish, opening, then_rest}
 use Rattle.bt_arena.specs.declared.block.Block.{Block}
 use Rattle.bt_arena.specs.declared.nodes.Node.{Node}
 use Rattle.bt_loop.specs.declared.runs.Runs.{Runs}
 use Rattle.bt_loop.specs.Runs.{AreRuns, Setup, arenas_of, roster_over, state_of_runs}
 use Rattle.bt_loop.specs.Steps.{EventEnds}
-use Rattle.bt_trace.specs.Cuts.{HaveBegunWithin, IsCut}
+use Rattle.bt_trace.specs.Cuts.{IsCut}
 use Rattle.bt_trace.specs.Rounds.{nothing_more}
 use Rattle.bt_trace.proofs.Cuts.{cut_after, cut_has_begun_within, event_cut, over_both}
 use Rattle.bt_plan.specs.declared.ending.Limits.{Limits}
@@ -20,7 +20,7 @@ use Rattle.bt_plan.specs.declared.ticking.Ticked.{Ticked}
 use Rattle.bt_plan.specs.declared.trying.Tried.{Tried}
 use Rattle.bt_plan.specs.declared.verdict.Verdict.TheVariants.{GoesOn}
 use Rattle.bt_plan.specs.Modelled.{IsLast, modelled, modelled_run, next_tick, state_after}
-use Rattle.bt_plan.specs.Ticked.{HasTicked, HaveSameTotals, IsAfter, RunEnds, TicksEnd}
+use Rattle.bt_plan.specs.Ticked.{HasTicked, IsAfter, RunEnds, TicksEnd}
 use Rattle.bt_plan.specs.Ticking.{alone, calls_after}
 use Rattle.bt_plan.proofs.Ticks.{cut_as, nothing_follows}
 use Rattle.bt_plan.proofs.Traces.{Whole, broke, decided_none, ran}

@@ -1,13 +1,12 @@
 -- The leaves of a planned tree all have a row, and a driver where each row has one.
-use Rattle.std.proofs.Common.{◌≡◌, ◌≢◌, ℕ, zero, suc, ◌+◌, ◌<◌, Bool, true, false, List, [], ◌∷◌, ◌++◌, length, get_or, map, Option, Some, None, Result, Ok, Err, refl, sym, ap, subst, ◌∙◌, arith}
-use Rattle.std.specs.Prelude.{bytes_eq, codes, cond, if◌then◌else◌, option_map, slice_get}
+use Rattle.std.proofs.Common.{◌≡◌, ◌≢◌, ℕ, zero, suc, ◌+◌, ◌<◌, Bool, true, false, List, [], ◌∷◌, ◌++◌, length, get_or, map, Option, Some, None, Result, Ok, Err, refl, sym, ap, ◌∙◌, arith}
+use Rattle.std.specs.Prelude.{bytes_eq, codes, cond, if◌then◌else◌, option_map}
 use Rattle.std.specs.List.{All, find, flat_map}
-use Rattle.std.specs.Option.{option_map_or, option_or}
+use Rattle.std.specs.Option.{option_or}
 use Rattle.std.proofs.lemmas.Slice.Eq.{bytes_eq-Decides}
 use Rattle.bt_script.specs.declared.stop.Stop.{Stop}
 use Rattle.bt_script.specs.declared.stop.Stop.TheVariants as stop
 use Rattle.bt_model.specs.declared.leaf.DriverKind.{DriverKind}
-use Rattle.bt_model.specs.declared.leaf.DriverKind.TheVariants as driver
 use Rattle.bt_model.specs.declared.term.Term.{Term, Term-F, fold-roll-Term, roll-Term}
 use Rattle.bt_model.specs.declared.term.Tree.{Tree as Planned}
 use Rattle.bt_model.specs.declared.term.Kind.TheVariants.{ReactiveSequence}

@@ -1,5 +1,5 @@
 -- A plan run on its way: trials and steps have led to a tree.
-use Rattle.std.proofs.Common.{◌≡◌, ◌⊎◌, inl, inr, ℕ, ◌+◌, ◌≤◌, List, [], ◌∷◌, ◌++◌, length, map, Option, Some, None, Result, Ok, Err, OnErr, refl, sym, ap, subst, ◌∙◌, append-nil, arith}
+use Rattle.std.proofs.Common.{◌≡◌, inl, inr, ℕ, ◌+◌, ◌≤◌, List, [], ◌∷◌, ◌++◌, length, map, Option, Some, None, Result, Ok, Err, OnErr, refl, sym, ap, subst, ◌∙◌, arith}
 use Rattle.std.proofs.lemmas.List.{length-append}
 use Rattle.bt_script.specs.declared.stop.NoMemory.{NoMemory}
 use Rattle.bt_model.specs.declared.leaf.Totals.{Totals}
@@ -17,9 +17,9 @@ use Rattle.bt_plan.specs.declared.ending.End.{End}
 use Rattle.bt_plan.specs.declared.ending.Limits.{Limits}
 use Rattle.bt_plan.specs.declared.ending.PlanEnd.{PlanEnd}
 use Rattle.bt_plan.specs.declared.ending.Step.{Step}
-use Rattle.bt_plan.specs.Answers.{Begins, IsPlan, IsPlanCut, drivers_after}
+use Rattle.bt_plan.specs.Answers.{IsPlan, IsPlanCut, drivers_after}
 use Rattle.bt_plan.specs.PlanRuns.{Ends, IsFirst, Lead, Trial}
-use Rattle.bt_plan.specs.Ticked.{GoesFrom, HaveSameTotals}
+use Rattle.bt_plan.specs.Ticked.{GoesFrom}
 use Rattle.bt_plan.proofs.Leading.{lead_on}
 
 drivers_both : (world : World) (limits : Limits) (xs ys : List Trial) (drivers : List DriverState) → drivers_after world limits (xs ++ ys) drivers ≡ drivers_after world limits ys (drivers_after world limits xs drivers)

@@ -1,5 +1,5 @@
 -- After the finish of its only runner a modelled run holds nothing.
-use Rattle.std.proofs.Common.{◌≡◌, ℕ, List, Result, Ok, length, refl, arith}
+use Rattle.std.proofs.Common.{◌≡◌, List, Result, Ok, length, refl, arith}
 use Rattle.bt_script.specs.declared.stop.Stop.{Stop}
 use Rattle.bt_model.specs.declared.fault.RunFault.{RunFault}
 use Rattle.bt_model.specs.Drivers.{DriverState, NothingHeld}

@@ -1,5 +1,5 @@
 -- One tick of a modelled run, as runs go, and all its ticks in order.
-use Rattle.std.proofs.Common.{◌≡◌, inl, inr, ℕ, suc, ℤ, Bool, false, ◌+◌, ◌*◌, ◌≤◌, ◌<◌, List, [], ◌∷◌, ◌++◌, Option, Some, None, Result, Ok, Err, length, map, refl, sym, ap, subst, ◌∙◌, append_assoc, append-nil, arith}
+use Rattle.std.proofs.Common.{◌≡◌, inl, inr, ℕ, suc, ℤ, Bool, false, ◌+◌, ◌*◌, ◌≤◌, ◌<◌, List, [], ◌++◌, Option, Some, None, Result, Ok, Err, length, map, refl, sym, ap, subst, ◌∙◌, append_assoc, append-nil, arith}
 use Rattle.std.proofs.lemmas.Nat.{mul-le}
 use Rattle.std.specs.List.{list_all, list_any}
 use Rattle.std.specs.Option.{option_map_or}
@@ -17,8 +17,8 @@ use Rattle.bt_model.specs.Run.{RunnerCall, RunState, Stepped, Trace, before_rest
 use Rattle.bt_arena.specs.declared.block.Block.{Block}
 use Rattle.bt_arena.specs.declared.nodes.Node.{Node}
 use Rattle.bt_loop.specs.declared.runs.Runs.{Runs}
-use Rattle.bt_loop.specs.Runs.{AreRuns, Setup, arenas_of, leaves_of, roster_over, state_of_runs}
-use Rattle.bt_loop.specs.Steps.{EventEnds, HaveRoom, IsSameRoster}
+use Rattle.bt_loop.specs.Runs.{AreRuns, Setup, arenas_of, roster_over, state_of_runs}
+use Rattle.bt_loop.specs.Steps.{EventEnds, IsSameRoster}
 use Rattle.bt_loop.proofs.Rising.{roster_both, same_roster}
 use Rattle.bt_trace.specs.Cuts.{IsCut}
 use Rattle.bt_trace.specs.Rounds.{nothing_more}
@@ -36,7 +36,7 @@ use Rattle.bt_plan.specs.PlanRuns.{AreInRange}
 use Rattle.bt_plan.specs.Tests.{HaveFacts}
 use Rattle.bt_plan.specs.Ticked.{HasFaulted, HasTicked, IsAfter, IsTaskOf, TickEnds, TicksEnd}
 use Rattle.bt_plan.specs.Ticking.{alone, calls_after}
-use Rattle.bt_plan.proofs.Traces.{Whole, broke, decided_none, more_calls, ran, some_last}
+use Rattle.bt_plan.proofs.Traces.{broke, decided_none, more_calls, ran, some_last}
 
 -- ---- Moments
 

@@ -1,5 +1,5 @@
 -- A tree and its modelled run, as the plan run goes on from it.
-use Rattle.std.proofs.Common.{◌≡◌, ◌⊎◌, inl, inr, ℕ, zero, suc, ◌+◌, List, [], ◌∷◌, ◌++◌, length, Option, Some, None, Result, Ok, Err, IfOk, refl, sym, ap, subst, ◌∙◌, arith}
+use Rattle.std.proofs.Common.{◌≡◌, inl, inr, ℕ, zero, suc, ◌+◌, List, [], ◌∷◌, ◌++◌, length, Option, Some, None, Result, Ok, Err, IfOk, refl, sym, ap, subst, ◌∙◌, arith}
 use Rattle.std.specs.Prelude.{codes, slice_index_or}
 use Rattle.std.specs.List.{AllByRecursion}
 use Rattle.bt_script.specs.declared.stop.NoMemory.{NoMemory}
@@ -9,7 +9,6 @@ use Rattle.bt_model.specs.declared.block.Header.{Header}
 use Rattle.bt_model.specs.declared.fault.NodeFault.{NodeFault}
 use Rattle.bt_model.specs.declared.fault.RunFault.{RunFault}
 use Rattle.bt_model.specs.declared.note.Note.{Note}
-use Rattle.bt_model.specs.declared.status.Answer.{Answer}
 use Rattle.bt_model.specs.declared.term.Kind.TheVariants.{ReactiveSequence}
 use Rattle.bt_model.specs.declared.term.Term.{Term, roll-Term}
 use Rattle.bt_model.specs.declared.term.Tree.{Tree as Planned}
@@ -27,19 +26,19 @@ use Rattle.bt_loop.specs.Runs.{Setup}
 use Rattle.bt_expand.specs.declared.plan_tree.PlanTree.{PlanTree}
 use Rattle.bt_expand.specs.Forests.{Forest}
 use Rattle.bt_expand.specs.Planned.{IsPlanned, plain_node, terms_of}
-use Rattle.bt_expand.specs.Stands.{PartsFit, StandsFor}
+use Rattle.bt_expand.specs.Stands.{StandsFor}
 use Rattle.bt_plan.specs.declared.ending.End.{End}
 use Rattle.bt_plan.specs.declared.ending.End.TheVariants.{Reached, StillRunning, Faulted}
 use Rattle.bt_plan.specs.declared.ending.Limits.{Limits}
 use Rattle.bt_plan.specs.declared.ending.Step.{Step}
 use Rattle.bt_plan.specs.declared.trying.Tried.{Tried}
 use Rattle.bt_plan.specs.declared.verdict.Verdict.{Verdict}
-use Rattle.bt_plan.specs.declared.verdict.Verdict.TheVariants.{Reaches, Fails, GoesOn}
+use Rattle.bt_plan.specs.declared.verdict.Verdict.TheVariants.{Reaches, GoesOn}
 use Rattle.bt_plan.specs.Answers.{drivers_after}
 use Rattle.bt_plan.specs.Grown.{GoesOrEnds}
-use Rattle.bt_plan.specs.Modelled.{modelled, modelled_run, next_tick, tick_after, ticks}
-use Rattle.bt_plan.specs.PlanRuns.{Decides, IsTried, Trial, last_notes, run_of, tree_of}
-use Rattle.bt_plan.specs.Ticked.{GoesFrom, HaveSameTotals, IsPlannedFor, RunEnds}
+use Rattle.bt_plan.specs.Modelled.{modelled, modelled_run, tick_after, ticks}
+use Rattle.bt_plan.specs.PlanRuns.{Decides, IsTried, Trial, last_notes, tree_of}
+use Rattle.bt_plan.specs.Ticked.{GoesFrom, IsPlannedFor, RunEnds}
 
 -- ---- Faults
 

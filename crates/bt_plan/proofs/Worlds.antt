@@ -1,5 +1,5 @@
 -- The world of a modelled run, and its task.
-use Rattle.std.proofs.Common.{◌≡◌, List, [], refl, arith}
+use Rattle.std.proofs.Common.{arith}
 use Rattle.bt_model.specs.declared.world.World.{World}
 use Rattle.bt_model.specs.Worlds.{IsValidWorld}
 use Rattle.bt_plan.specs.Modelled.{modelled}

@@ -1,4 +1,4 @@
-use Rattle.std.proofs.Common.{◌+◌, ◌∙◌, List, ℕ, Option, Some, None, Ok, length, ap, sym, subst, refl}
+use Rattle.std.proofs.Common.{◌+◌, ◌∙◌, List, ℕ, Option, Ok, length, ap, sym, subst, refl}
 use Rattle.bt_plan.specs.declared.ending.End.{End}
 use Rattle.bt_plan.specs.declared.ending.Step.{Step}
 use Rattle.bt_plan.specs.Ticked.{GoesFrom}
