@@ -1,8 +1,7 @@
 //! Whole plan runs over the worlds of scripts: the steps, the end, and the tree where the goals are
 //! reached.
 
-ghost use Rattle.std.specs.Prelude.{◌≢◌, [], IsTrue, OnOk};
-ghost use Rattle.bt_model.specs.Drivers.{NothingHeld};
+ghost use Rattle.std.specs.Prelude.{◌≢◌, [], IsTrue};
 ghost use Rattle.bt_model.specs.Worlds.{IsValidWorld};
 ghost use Rattle.bt_plan.specs.Answers.{AreServed};
 ghost use Rattle.bt_plan.specs.PlanRuns.{AreInRange};
