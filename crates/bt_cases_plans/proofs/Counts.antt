@@ -1,5 +1,5 @@
 -- A plan tree has no more sequences that were added than nodes.
-use Rattle.std.proofs.Common.{◌≤◌, ℕ, arith}
+use Rattle.std.proofs.Common.{◌≤◌, arith}
 use Rattle.bt_expand.specs.declared.node.Part.{Part}
 use Rattle.bt_expand.specs.declared.node.Part.TheVariants.{Goals, Sequence, Fallback, Condition, Action}
 use Rattle.bt_expand.specs.Forests.{Forest, Empty, Tree, added_by, size, subtrees}

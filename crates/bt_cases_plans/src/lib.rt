@@ -9,3 +9,5 @@ mod plans;
 mod stage;
 #[cfg(test)]
 mod steps;
+#[cfg(test)]
+mod whole;

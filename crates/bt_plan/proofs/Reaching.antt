@@ -1,5 +1,5 @@
 -- Plan runs that end at the goals.
-use Rattle.std.proofs.Common.{◌≡◌, ℕ, ◌+◌, refl, sym, subst}
+use Rattle.std.proofs.Common.{ℕ, ◌+◌, refl, sym, subst}
 use Rattle.bt_model.specs.declared.term.Tree.{Tree}
 use Rattle.bt_model.specs.declared.world.World.{World}
 use Rattle.bt_plan.specs.declared.ending.End.{End}

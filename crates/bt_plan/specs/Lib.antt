@@ -1,3 +1,4 @@
+pub mod Answers
 pub mod Failing
 pub mod Grown
 pub mod Lines
@@ -6,4 +7,5 @@ pub mod Modelled
 pub mod PlanRuns
 pub mod Settling
 pub mod Tests
+pub mod Ticked
 pub mod Ticking

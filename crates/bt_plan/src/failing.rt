@@ -1,6 +1,6 @@
 //! The conditions that failed in a tick.
 
-ghost use Rattle.std.specs.Prelude.{◌≡◌, ◌<◌, ◌≤◌, ◌+◌, ◌==◌, ◌^◌, ◌++◌, ◌||◌, ℕ, Option, Some, false, length, max, IfOk, OnOk, slice_get, slice_index_or};
+ghost use Rattle.std.specs.Prelude.{◌≡◌, ◌<◌, ◌≤◌, ◌+◌, ◌==◌, ◌^◌, ◌++◌, ◌||◌, ℕ, Option, Some, false, length, max, IfOk, OnOk};
 ghost use Rattle.std.specs.List.{filter};
 ghost use Rattle.std.specs.Option.{option_map_or, option_to_list};
 ghost use Rattle.bt_model.specs.declared.world.World.{World};

@@ -1,6 +1,6 @@
 //! From a tree that failed to the next one.
 
-ghost use Rattle.std.specs.Prelude.{◌≡◌, ◌<◌, ◌≤◌, ◌+◌, ◌^◌, ℕ, IfOk, length};
+ghost use Rattle.std.specs.Prelude.{◌≡◌, ◌<◌, ◌≤◌, ◌^◌, IfOk, length};
 ghost use Rattle.std.specs.Option.{option_and_then};
 ghost use Rattle.bt_model.specs.declared.world.World.{World};
 ghost use Rattle.bt_expand.specs.Forests.{Forest, part_at, size, subtrees, times};
@@ -10,7 +10,7 @@ ghost use Rattle.bt_expand.specs.Stands.{IsConditionOf, IsSequenceOf, StandsFor}
 ghost use Rattle.bt_plan.specs.declared.verdict.Verdict.TheVariants.{Fails};
 ghost use Rattle.bt_plan.specs.Failing.{failed, ids_of};
 ghost use Rattle.bt_plan.specs.Grown.{AreConditions, ExpandsOrNot, GoesOrEnds, GrowsOrNot, SettlesOrStalls};
-ghost use Rattle.bt_plan.specs.PlanRuns.{Decides, Trial, failed_in, last_notes};
+ghost use Rattle.bt_plan.specs.PlanRuns.{Decides, Trial, last_notes};
 ghost use Rattle.bt_plan.specs.Settling.{name_at};
 
 use crate::ending::{End, Limits, Step};

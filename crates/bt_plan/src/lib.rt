@@ -8,8 +8,12 @@ mod goals;
 mod growing;
 pub mod laws;
 mod places;
+mod planning;
 mod settling;
 mod task;
+mod ticking;
+mod trying;
 mod verdict;
 
 pub use ending::{End, Limits, PlanEnd, Step};
+pub use planning::plan;

@@ -1,6 +1,6 @@
 //! How a new sequence is raised until nothing conflicts.
 
-ghost use Rattle.std.specs.Prelude.{◌<◌, ◌^◌, ℕ, Option};
+ghost use Rattle.std.specs.Prelude.{◌<◌, ◌^◌, Option};
 ghost use Rattle.bt_model.specs.declared.world.World.{World};
 ghost use Rattle.bt_expand.specs.Forests.{Forest, size};
 ghost use Rattle.bt_expand.specs.Stands.{IsSequenceOf, StandsFor};

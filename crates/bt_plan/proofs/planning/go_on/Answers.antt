@@ -1,0 +1,63 @@
+use Rattle.std.proofs.Common.{◌≡◌, ◌∙◌, Some, Ok, Err, refl, sym, subst, arith}
+use Rattle.bt_script.specs.declared.stop.Stop.TheVariants as stop
+use Rattle.bt_plan.specs.declared.ending.End.{End}
+use Rattle.bt_plan.specs.declared.ending.End.TheVariants.{Faulted}
+use Rattle.bt_plan.specs.Ticked.{GoesFrom}
+use Rattle.bt_plan.proofs.Growths.{ok_gives}
+use Rattle.bt_plan.proofs.Trials.{decides, goes_cut, goes_fails, goes_faulted, goes_reached, goes_running, notes_are, runs_as, stopped_as}
+use Rattle.bt_plan.proofs.planning.go_on.Goals as goal
+
+pub tree_of-requires : goal.tree_of-requires
+tree_of-requires g c =
+    let tree = c.requires.1.1.1.1.1.0 in
+    let many = tree.2 in
+    let few = c.requires.1.1.1.1.1.1 in
+    let most = c.requires.1.1.0.limits.expand in
+    (tree.0, tree.1, omega (arith, many, few, most))
+
+pub returns-in-Err-Fault-clause-goes : goal.returns-in-Err-Fault-clause-goes
+returns-in-Err-Fault-clause-goes g c = λ f st.
+    let world = c.args.world.now in
+    let limits = c.args.task.now.limits in
+    let tree = c.in_ok-tree.tree in
+    let before = g.D.Drivers.states c.args.drivers.now in
+    let after = g.D.Drivers.states c.run_tree.new.drivers in
+    let steps = c.args.steps.now.items in
+    let is : c.faulted.result ≡ Faulted c.in-Err-Fault.fault.uid c.in-Err-Fault.fault.cause = rw c.in-Err-Fault.field-0-is at c.faulted.ensures in
+    subst (λ (e : End). GoesFrom (Ok (Some e)) f c.args.t.now world limits steps steps before after) (sym is)
+    (goes_faulted world limits f tree (c.in_ok-tree.ensures.planned f st) before after c.args.t.now steps c.in-Err-Fault.fault
+    (runs_as world g.of c.requires.1.0 limits tree before after (Err (stop.Fault c.in-Err-Fault.fault)) (stopped_as _ limits _ _ _ c.in-Err-Fault.field-0 _ c.in-Err-Fault.field-0-is c.in-Err-Fault.ensures.ends)))
+
+pub returns-in-Err-NoMemory-clause-goes : goal.returns-in-Err-NoMemory-clause-goes
+returns-in-Err-NoMemory-clause-goes g c = λ f st.
+    let world = c.args.world.now in
+    let limits = c.args.task.now.limits in
+    let tree = c.in_ok-tree.tree in
+    goes_cut world limits f tree (c.in_ok-tree.ensures.planned f st) _ _ c.args.t.now c.args.steps.now.items c.args.steps.now.items _
+    (runs_as world g.of c.requires.1.0 limits tree _ _ (Err stop.NoMemory) (stopped_as _ limits _ _ _ c.in-Err-NoMemory.field-0 _ c.in-Err-NoMemory.field-0-is c.in-Err-NoMemory.ensures.ends))
+
+pub returns-in-Reaches-clause-goes : goal.returns-in-Reaches-clause-goes
+returns-in-Reaches-clause-goes g c = λ f st.
+    let world = c.args.world.now in
+    let limits = c.args.task.now.limits in
+    let tree = c.in_ok-tree.tree in
+    goes_reached world limits f tree (c.in_ok-tree.ensures.planned f st) _ _ c.in-Ok.tried (runs_as world g.of c.requires.1.0 limits tree _ _ (Ok c.in-Ok.tried) c.in-Ok.ensures.ends) c.args.t.now c.args.steps.now.items c.in-Reaches.is
+
+pub returns-in-Fails-clause-goes : goal.returns-in-Fails-clause-goes
+returns-in-Fails-clause-goes g c = λ f st.
+    let world = c.args.world.now in
+    let limits = c.args.task.now.limits in
+    let tree = c.in_ok-tree.tree in
+    let planned = c.in_ok-tree.ensures.planned f st in
+    let ends = runs_as world g.of c.requires.1.0 limits tree _ _ (Ok c.in-Ok.tried) c.in-Ok.ensures.ends in
+    goes_fails world limits f tree planned _ _ c.in-Ok.tried ends c.grow.new.t c.args.steps.now.items c.grow.new.steps.items c.grow.result
+    (ok_gives c.grow.result
+    (λ end is. is (record { tree = f; before = c.in-Ok.tried.ticked.before }) st (decides world limits f tree planned _ _ c.in-Ok.tried ends _ c.in-Fails.is) (c.list.ensures ∙ notes_are world limits f tree planned _ _ c.in-Ok.tried ends) c.requires.1.1.1.1.1.1)
+    c.grow.ensures)
+
+pub returns-in-GoesOn-clause-goes : goal.returns-in-GoesOn-clause-goes
+returns-in-GoesOn-clause-goes g c = λ f st.
+    let world = c.args.world.now in
+    let limits = c.args.task.now.limits in
+    let tree = c.in_ok-tree.tree in
+    goes_running world limits f tree (c.in_ok-tree.ensures.planned f st) _ _ c.in-Ok.tried (runs_as world g.of c.requires.1.0 limits tree _ _ (Ok c.in-Ok.tried) c.in-Ok.ensures.ends) c.args.t.now c.args.steps.now.items limits.ticks refl c.in-GoesOn.is

@@ -1,0 +1,145 @@
+ghost use Rattle.std.specs.Prelude.{◌≡◌, ◌≢◌, ◌≤◌, [], IfOk, OnErr, length};
+ghost use Rattle.bt_model.specs.declared.world.World.{World as Modelled};
+ghost use Rattle.bt_model.specs.Drivers.{NothingHeld};
+ghost use Rattle.bt_model.specs.Worlds.{IsValidWorld};
+ghost use Rattle.bt_expand.specs.Forests.{Forest, subtrees};
+ghost use Rattle.bt_expand.specs.Stands.{StandsFor};
+ghost use Rattle.bt_loop.specs.Steps.{IsSameRoster};
+ghost use Rattle.bt_plan.specs.declared.ending.End.TheVariants.{Faulted};
+ghost use Rattle.bt_plan.specs.Answers.{AreServed, IsPlan, IsPlanCut};
+ghost use Rattle.bt_plan.specs.PlanRuns.{AreInRange, IsFirst, IsReached};
+ghost use Rattle.bt_plan.specs.Ticked.{GoesFrom, IsTaskOf};
+
+use crate::copying::modelled;
+use crate::ending::{End, Limits, PlanEnd, Step};
+use crate::goals::goal_tests;
+use crate::growing::grow;
+use crate::task::Task;
+use crate::trying::run_tree;
+use crate::verdict::Verdict;
+use bt_driver::Drivers;
+use bt_expand::{PlanTree, plan_tree_of, tree_of};
+use bt_model::{RunFault, World};
+use bt_script::{Items, NoMemory, Stop};
+use std::alloc::Global;
+
+/// The end of planning where a modelled run faulted so.
+fn faulted(fault: &RunFault) -> End
+    ensures { result ≡ Faulted fault.now.uid fault.now.cause }
+{
+    End::Faulted {
+        uid: fault.uid,
+        cause: fault.cause,
+    }
+}
+
+/// Runs the tree as it stands, and makes a step or ends. The error is want of memory. In the end no
+/// driver holds anything, whatever is answered.
+fn go_on<D: Drivers>(
+    alloc: Global,
+    world: &World,
+    task: &Task,
+    t: &mut PlanTree,
+    steps: &mut Vec<Step>,
+    drivers: &mut D,
+) -> Result<Option<End>, NoMemory>
+    ghost of: { Modelled }
+    requires same { world.now ≡ of }
+    requires task { IsTaskOf world.now task.now }
+    requires served { AreServed world.now (D.states drivers.old) }
+    requires quiet { NothingHeld (D.states drivers.old) }
+    requires tree { (tree : Forest) × StandsFor t.old world.now tree × (subtrees tree ≡ length steps.old.items) }
+    requires few { length steps.old.items ≤ task.now.limits.expand }
+    ensures goes { (tree : Forest) → StandsFor t.old world.now tree →
+        GoesFrom result tree t.new world.now task.now.limits steps.old.items steps.new.items (D.states drivers.old) (D.states drivers.new) }
+    ensures none { NothingHeld (D.states drivers.new) }
+    ensures roster { IsSameRoster (D.states drivers.old) (D.states drivers.new) }
+{
+    let tree = tree_of(alloc, t, world)?;
+    let tried = match run_tree(alloc, &tree, task, drivers) {
+        Ok(tried) => tried,
+        Err(Stop::Fault(fault)) => {
+            return Ok(Some(faulted(&fault)));
+        }
+        Err(Stop::NoMemory) => return Err(NoMemory),
+    };
+    match tried.ticked.verdict {
+        Verdict::Reaches => Ok(Some(End::Reached {
+            tree,
+            tick: tried.ticked.before + 1,
+        })),
+        Verdict::Fails => grow(
+            alloc,
+            world,
+            &task.limits,
+            tried.block.notes.list(),
+            t,
+            steps,
+        ),
+        Verdict::GoesOn => Ok(Some(End::StillRunning {
+            ticks: task.limits.ticks,
+        })),
+    }
+}
+
+/// Makes steps from the first tree on until the plan run ends. The error is want of memory. In the end
+/// no driver holds anything, whatever is answered.
+fn make_steps<D: Drivers>(
+    alloc: Global,
+    world: &World,
+    task: &Task,
+    mut t: PlanTree,
+    drivers: &mut D,
+) -> Result<PlanEnd, NoMemory>
+    requires task { IsTaskOf world.now task.now }
+    requires served { AreServed world.now (D.states drivers.old) }
+    requires quiet { NothingHeld (D.states drivers.old) }
+    requires first { (first : Forest) × IsFirst world.now first × StandsFor t world.now first }
+    ensures plan { IfOk result (λ planned. IsPlan world.now task.now.limits (D.states drivers.old) (D.states drivers.new) planned) }
+    ensures cut { OnErr result (IsPlanCut world.now task.now.limits (D.states drivers.old) (D.states drivers.new)) }
+    ensures none { NothingHeld (D.states drivers.new) }
+    ensures roster { IsSameRoster (D.states drivers.old) (D.states drivers.new) }
+{
+    let mut steps = Vec::new(alloc);
+    for _ in 0..task.limits.expand + 1 {
+        if let Some(end) = go_on(alloc, world, task, &mut t, &mut steps, drivers)? {
+            return Ok(PlanEnd {
+                steps: Items::of(steps),
+                end,
+            });
+        }
+    }
+    unreachable!()
+}
+
+/// Plans for the goals of a world, over drivers that serve all of its rows. The first tree has the
+/// goals alone. Each tree is run in the modelled world: one runner, from the opening facts on, ticked
+/// once each period, with the drivers prepared anew. Where it reaches the goals, planning ends. Where
+/// it fails, the first condition that failed, in breadth-first order, and has an untried template is
+/// expanded, and the new sequence is raised until nothing conflicts. The error is want of memory. In
+/// the end no driver holds anything, whatever is answered.
+pub fn plan<D: Drivers>(
+    alloc: Global,
+    world: &World,
+    limits: &Limits,
+    drivers: &mut D,
+) -> Result<PlanEnd, NoMemory>
+    requires world { IsValidWorld world.now }
+    requires goal { world.now.goals ≢ [] }
+    requires limits { AreInRange limits.now }
+    requires served { AreServed world.now (D.states drivers.old) }
+    requires quiet { NothingHeld (D.states drivers.old) }
+    ensures plan { IfOk result (λ planned. IsPlan world.now limits.now (D.states drivers.old) (D.states drivers.new) planned) }
+    ensures reached { IfOk result (λ planned. IsReached world.now limits.now planned.end) }
+    ensures cut { OnErr result (IsPlanCut world.now limits.now (D.states drivers.old) (D.states drivers.new)) }
+    ensures none { NothingHeld (D.states drivers.new) }
+    ensures roster { IsSameRoster (D.states drivers.old) (D.states drivers.new) }
+{
+    let task = Task {
+        world: modelled(alloc, world)?,
+        goals: goal_tests(alloc, world)?,
+        limits: *limits,
+    };
+    let t = plan_tree_of(alloc, world)?;
+    make_steps(alloc, world, &task, t, drivers)
+}
