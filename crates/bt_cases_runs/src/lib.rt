@@ -12,6 +12,8 @@ mod failing;
 #[cfg(test)]
 mod halts;
 #[cfg(test)]
+mod mocks;
+#[cfg(test)]
 mod runners;
 #[cfg(test)]
 mod scripts;

@@ -2,7 +2,7 @@
 use Rattle.std.specs.Prelude.{◌≤◌}
 use Rattle.std.specs.Option.{option_copied}
 use Rattle.bt_model.specs.Limits.{most_leaves}
-use Rattle.bt_command_line.specs.Words.{Command, Tick, Live, Load, Check, Dead, Plan}
+use Rattle.bt_command_line.specs.Words.{Command, Tick, Live, Load, Check, Dead, Plan, Mock}
 use Rattle.bt_command_line.specs.declared.words.Command.{Command as Read}
 use Rattle.bt_command_line.specs.declared.words.Command.TheVariants as read
 
@@ -14,6 +14,7 @@ command_seen (read.Load leaves) = Load leaves
 command_seen (read.Check tree main) = Check tree.now (option_copied main)
 command_seen (read.Dead tree main) = Dead tree.now (option_copied main)
 command_seen (read.Plan world expand ticks period) = Plan world.now expand ticks period
+command_seen (read.Mock tree world rules main) = Mock tree.now world.now rules.now (option_copied main)
 
 -- the numbers of a command are in their ranges: a load has no more leaves than its files can hold
 abbrev pub IsInRange : Command → Type 0

@@ -37,6 +37,7 @@ pub data Command : Type 0 where
   Check : (tree : List ℕ) (main : Option (List ℕ)) → Command
   Dead : (tree : List ℕ) (main : Option (List ℕ)) → Command
   Plan : (world : List ℕ) (expand ticks period : ℕ) → Command
+  Mock : (tree world rules : List ℕ) (main : Option (List ℕ)) → Command
 
 -- the options of a command: the ID of the main tree, for some also a number of ticks, and for a plan its limits
 unfoldable pub is_option : Options → List ℕ → Bool
@@ -113,11 +114,17 @@ plan_of (world ∷ options) =
     if are_options (is_option takes.Limits) options then plan_with world (expand_in options) (ticks_in options) (period_in options) else None
 plan_of _ = None
 
+-- `TREE WORLD RULES [--main ID]`
+abbrev pub mock_of : List (List ℕ) → Option Command
+mock_of (tree ∷ world ∷ rules ∷ options) =
+    if are_options (is_option takes.Main) options then Some (Mock tree world rules (value_of (codes "--main") options)) else None
+mock_of _ = None
+
 -- the commands by their first words, each with what it makes of the words after it
 abbrev pub commands : List (List ℕ × (List (List ℕ) → Option Command))
 commands =
     (codes "tick", tick_of) ∷ (codes "live", live_of) ∷ (codes "load", load_of) ∷ (codes "check", check_of) ∷ (codes "dead", dead_of)
-    ∷ (codes "plan", plan_of) ∷ []
+    ∷ (codes "plan", plan_of) ∷ (codes "mock", mock_of) ∷ []
 
 abbrev pub command_among : List (List ℕ × (List (List ℕ) → Option Command)) → List ℕ → List (List ℕ) → Option Command
 command_among [] word words = None
@@ -139,3 +146,4 @@ status_of exit.NoPlan = 6
 status_of exit.Read = 7
 status_of exit.Write = 8
 status_of exit.Memory = 9
+status_of exit.Rules = 10

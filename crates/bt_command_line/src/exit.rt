@@ -22,6 +22,8 @@ pub enum Exit {
     Write,
     /// Want of memory.
     Memory,
+    /// The rules file is refused, or what its rules make of the tree.
+    Rules,
 }
 
 impl Exit {
@@ -39,6 +41,7 @@ impl Exit {
             Exit::Read => 7,
             Exit::Write => 8,
             Exit::Memory => 9,
+            Exit::Rules => 10,
         }
     }
 }

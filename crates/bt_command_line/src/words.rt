@@ -2,7 +2,7 @@ ghost use Rattle.std.specs.Prelude.{◌≡◌, ◌≤◌, ◌↔◌, IfOk, IfSom
 ghost use Rattle.std.specs.IoError.{error_kind};
 ghost use Rattle.std.specs.Option.{option_copied};
 ghost use Rattle.bt_command_line.specs.Commands.{IsInRange, command_seen};
-ghost use Rattle.bt_command_line.specs.Words.{are_options, as_count, check_of, command_of, dead_of, in_range, is_option, is_unset, live_of, load_of, number_or, plan_of, rounds_in, tick_of, tree_words, value_of};
+ghost use Rattle.bt_command_line.specs.Words.{are_options, as_count, check_of, command_of, dead_of, in_range, is_option, is_unset, live_of, load_of, mock_of, number_or, plan_of, rounds_in, tick_of, tree_words, value_of};
 ghost use Rattle.bt_model.specs.Limits.{most_leaves, most_rounds};
 ghost use Rattle.bt_model.specs.Numbers.{int_in};
 
@@ -55,6 +55,13 @@ pub enum Command<'a> {
         ticks: u32,
         /// The time from one tick to the next, in milliseconds.
         period: u32,
+    },
+    /// `mock TREE WORLD RULES [--main ID]`
+    Mock {
+        tree: &'a Name,
+        world: &'a Name,
+        rules: &'a Name,
+        main: Option<&'a Name>,
     },
 }
 
@@ -296,6 +303,25 @@ fn read_plan<'a>(words: &'a [Name]) -> Option<Command<'a>>
     })
 }
 
+/// The command `mock` with these words after it.
+fn read_mock<'a>(words: &'a [Name]) -> Option<Command<'a>>
+    ensures command { MatchOption result (mock_of words.now ≡ None) (λ c. mock_of words.now ≡ Some (command_seen c)) }
+    ensures range { IfSome result (λ c. IsInRange (command_seen c)) }
+{
+    let [tree, world, rules, options @ ..] = words else {
+        return None;
+    };
+    if !are_options(options, Options::Main) {
+        return None;
+    }
+    Some(Command::Mock {
+        tree,
+        world,
+        rules,
+        main: main_of(options),
+    })
+}
+
 /// The command that the words are.
 pub fn read_command<'a>(words: &'a [Name]) -> Option<Command<'a>>
     ensures command { MatchOption result (command_of words.now ≡ None) (λ c. command_of words.now ≡ Some (command_seen c)) }
@@ -316,6 +342,8 @@ pub fn read_command<'a>(words: &'a [Name]) -> Option<Command<'a>>
         read_dead(words)
     } else if word.list() == b"plan".as_slice() {
         read_plan(words)
+    } else if word.list() == b"mock".as_slice() {
+        read_mock(words)
     } else {
         None
     }

@@ -23,13 +23,17 @@ use Rattle.bt_output.specs.declared.refusal.File.{File}
 use Rattle.bt_output.specs.declared.refusal.File.TheVariants as file
 use Rattle.bt_output.specs.declared.refusal.Refusal.{Refusal}
 use Rattle.bt_output.specs.declared.refusal.Refusal.TheVariants as refusal
-use Rattle.bt_output.specs.Answers.{Answers, AtMoments, CommandAnswered, Gave, IfTold, IsRefused, Printed, Side, ToldIfNamed, no_moments, side}
+use Rattle.bt_output.specs.Answers.{Answers, AreTold, AtMoments, CommandAnswered, Gave, IfTold, IsRefused, Printed, Side, ToldIfNamed, no_moments, side}
 use Rattle.bt_output.specs.Ends.{CommandEnds, Ends, EndsAt, FilesEnd, IsUntouched}
-use Rattle.bt_output.specs.Jobs.{FilesGive, tree_name, world_name}
-use Rattle.bt_output.specs.Output.{Given, Giving, JoinGives, Output, PrintGives, Prints, RunGives, RunsOn, TreeGives, given, is_too_long, print_output, refused_as, stopped_as, too_long, tree_refused, unread, world_refused}
-use Rattle.bt_output.specs.Reads.{IsUnread, Reading, Unread, WasRead}
+use Rattle.bt_output.specs.Files.{Contents, Named, no_files, tree_alone, tree_and_world, tree_world_rules}
+use Rattle.bt_output.specs.Jobs.{FilesGive, files_of}
+use Rattle.bt_output.specs.Output.{CourseGives, Ending, Given, Giving, JoinGives, MockGives, Mocks, Output, PrintGives, Prints, ReadGives, RunGives, RunsOn, ScriptMocks, Standing, TreeGives, given, is_too_long, itself, joined_output, lack_of, mocked, print_output, refused_as, rules_refused, standing_output, stopped_as, too_long, tree_refused, unread, world_refused}
+use Rattle.bt_outside.specs.declared.shelf.ShelfFault.TheVariants as shelf
+use Rattle.bt_output.specs.Reads.{IsLong, IsUnread, Reading, Unread, WasRead}
 use Rattle.bt_output.specs.TreeFiles.{ReadsAs, TreeReads}
 use Rattle.bt_refusals.specs.declared.fault.TreeFault.{TreeFault}
+use Rattle.bt_mock.specs.declared.fault.MockFault.{MockFault}
+use Rattle.bt_script.specs.Stops.{Gives as Makes}
 use Rattle.bt_world.specs.Readings.{Gives}
 use Rattle.bt_script.specs.declared.stop.Stop.{Stop}
 use Rattle.bt_script.specs.declared.stop.Stop.TheVariants as stop
@@ -68,7 +72,7 @@ ends_more P Q more (Ok exit) a b (inr x) = inr x
 ends_more P Q more (Err r) a b x = (some_more (refused_as r) P Q more x.0, x.1)
 
 -- a refusal whose output is one of these, or that has none
-pub refused_ends : (P : Moments → List DriverState → Output → Type 0) (r : Refusal) (a : Side) → ((moments : Moments) → IfSome (refused_as r) (P moments a.drivers)) → EndsAt P (Err r) a a
+pub refused_ends : (P : Ending) (r : Refusal) (a : Side) → ((moments : Moments) → IfSome (refused_as r) (P moments a.drivers)) → EndsAt P (Err r) a a
 refused_ends P r a p = at_any a.clock (λ moments. Ends (P moments a.drivers) (Err r) a a) (λ moments. (p moments, still a))
 
 -- ---- Lengths
@@ -91,67 +95,131 @@ match_true false P Q e p = cc
 -- ---- Bytes
 
 -- the output of files that are not too long
-run_gives : (main : Option (List ℕ)) (tree world : List ℕ) (g : Given) (r : Result Tree TreeFault) (o : Output) → length tree ≤ most_file_bytes → length world ≤ most_file_bytes
-    → TreeReads main tree r → TreeGives r world g o → RunGives main tree world g o
-run_gives main tree world g r o st sw reads_as e =
-    match_false (is_too_long tree) _ _ (short_is tree st) (match_false (is_too_long world) _ _ (short_is world sw) (r, reads_as, e))
+run_gives : (main : Option (List ℕ)) (tree world : List ℕ) (g : Given) (o : Output) → length tree ≤ most_file_bytes → length world ≤ most_file_bytes → ReadGives main itself tree world g o → RunGives main tree world g o
+run_gives main tree world g o st sw gives = match_false (is_too_long tree) _ _ (short_is tree st) (match_false (is_too_long world) _ _ (short_is world sw) gives)
+
+mock_gives : (main : Option (List ℕ)) (tree world rules : List ℕ) (g : Given) (o : Output) → length tree ≤ most_file_bytes → length world ≤ most_file_bytes → length rules ≤ most_file_bytes
+    → ReadGives main (mocked rules) tree world g o → MockGives main tree world rules g o
+mock_gives main tree world rules g o st sw sr gives =
+    match_false (is_too_long tree) _ _ (short_is tree st) (match_false (is_too_long world) _ _ (short_is world sw) (match_false (is_too_long rules) _ _ (short_is rules sr) gives))
 
 print_gives : (print : Print) (main : Option (List ℕ)) (tree : List ℕ) (r : Result Tree TreeFault) → length tree ≤ most_file_bytes → TreeReads main tree r → PrintGives print main tree (print_output print r)
 print_gives print main tree r short reads_as = match_false (is_too_long tree) _ _ (short_is tree short) (r, reads_as, refl)
 
+-- the bytes of the files of a run
+module _ (P : Ending) (course : Course) (main : Option (List ℕ)) (stands : Standing) (tree world : List ℕ)
+    (gives : (moments : Moments) (drivers : List DriverState) (o : Output) → ReadGives main stands tree world (given course moments drivers) o → P moments drivers o)
+  where
+    -- the tree file could not be parsed
+    tree_failed : (stopped : Stop TreeFault) (a : Side) → ReadsAs (Err stopped) main tree → EndsAt P (Err (stopped_as refusal.Tree stopped)) a a
+    tree_failed (stop.Fault f) a reads = refused_ends P (refusal.Tree f) a (λ moments. gives moments a.drivers (tree_refused f) (Err f, reads, refl))
+    tree_failed stop.NoMemory a reads = refused_ends P refusal.NoMemory a (λ moments. tt)
+
+    -- the world script could not be parsed
+    world_failed : (t : Tree) (stopped : Stop WorldFault) (a : Side) → ReadsAs (Ok t) main tree → (let r : Result World (Stop WorldFault) = Err stopped in Gives r (ReadsWorld world)) → EndsAt P (Err (stopped_as refusal.World stopped)) a a
+    world_failed t (stop.Fault f) a reads described = refused_ends P (refusal.World f) a (λ moments. gives moments a.drivers (world_refused f) (Ok t, reads, Err f, described, refl))
+    world_failed t stop.NoMemory a reads described = refused_ends P refusal.NoMemory a (λ moments. tt)
+
+    -- there is no tree in the place of the one that was read
+    place_failed : (t : Tree) (w : World) (stopped : Stop MockFault) (a : Side) → ReadsAs (Ok t) main tree → ReadsWorld world (Ok w) → (let r : Result Tree (Stop MockFault) = Err stopped in Makes r (stands t)) → EndsAt P (Err (stopped_as refusal.Rules stopped)) a a
+    place_failed t w (stop.Fault f) a reads described none =
+        refused_ends P (refusal.Rules f) a (λ moments. gives moments a.drivers (rules_refused f) (Ok t, reads, Ok w, described, sym (ap (λ (s : Result Tree MockFault). standing_output s w (given course moments a.drivers)) none)))
+    place_failed t w stop.NoMemory a reads described none = refused_ends P refusal.NoMemory a (λ moments. tt)
+
+    -- all were parsed
+    all_read : (t standing : Tree) (w : World) (result : Result Exit Refusal) (a b : Side) → ReadsAs (Ok t) main tree → ReadsWorld world (Ok w) → stands t ≡ Ok standing → EndsAt (JoinGives standing w course) result a b → EndsAt P result a b
+    all_read t standing w result a b reads described is ends =
+        at_more a.clock (λ moments. Ends (JoinGives standing w course moments a.drivers) result a b) (λ moments. Ends (P moments a.drivers) result a b)
+        (λ moments. ends_more (JoinGives standing w course moments a.drivers) (P moments a.drivers)
+        (λ o e. gives moments a.drivers o (Ok t, reads, Ok w, described, e ∙ sym (ap (λ (s : Result Tree MockFault). standing_output s w (given course moments a.drivers)) is))) result a b) ends
+
 -- the bytes of both files of a run
 module _ (course : Course) (main : Option (List ℕ)) (tree world : List ℕ) (st : length tree ≤ most_file_bytes) (sw : length world ≤ most_file_bytes) where
-  -- the tree file could not be parsed
-  pub tree_stopped : (stopped : Stop TreeFault) (a : Side) → ReadsAs (Err stopped) main tree → EndsAt (RunsOn course main tree world) (Err (stopped_as refusal.Tree stopped)) a a
-  tree_stopped (stop.Fault f) a reads =
-      refused_ends (RunsOn course main tree world) (refusal.Tree f) a (λ moments. run_gives main tree world (given course moments a.drivers) (Err f) (tree_refused f) st sw reads refl)
-  tree_stopped stop.NoMemory a reads = refused_ends (RunsOn course main tree world) refusal.NoMemory a (λ moments. tt)
+  runs : (moments : Moments) (drivers : List DriverState) (o : Output) → ReadGives main itself tree world (given course moments drivers) o → CourseGives course main tree world moments drivers o
+  runs moments drivers o gives = run_gives main tree world (given course moments drivers) o st sw gives
 
-  -- the world script could not be parsed
-  pub world_stopped : (t : Tree) (stopped : Stop WorldFault) (a : Side) → ReadsAs (Ok t) main tree → (let r : Result World (Stop WorldFault) = Err stopped in Gives r (ReadsWorld world)) → EndsAt (RunsOn course main tree world) (Err (stopped_as refusal.World stopped)) a a
-  world_stopped t (stop.Fault f) a reads described =
-      refused_ends (RunsOn course main tree world) (refusal.World f) a
-      (λ moments. run_gives main tree world (given course moments a.drivers) (Ok t) (world_refused f) st sw reads (Err f, described, refl))
-  world_stopped t stop.NoMemory a reads described = refused_ends (RunsOn course main tree world) refusal.NoMemory a (λ moments. tt)
+  pub tree_stopped : (stopped : Stop TreeFault) (a : Side) → ReadsAs (Err stopped) main tree → EndsAt (CourseGives course main tree world) (Err (stopped_as refusal.Tree stopped)) a a
+  tree_stopped stopped a reads = tree_failed (CourseGives course main tree world) course main itself tree world runs stopped a reads
 
-  -- both were parsed
-  pub both_parsed : (t : Tree) (w : World) (result : Result Exit Refusal) (a b : Side) → ReadsAs (Ok t) main tree → ReadsWorld world (Ok w) → EndsAt (JoinGives t w course) result a b → EndsAt (RunsOn course main tree world) result a b
-  both_parsed t w result a b reads described ends =
-      at_more a.clock (λ moments. Ends (JoinGives t w course moments a.drivers) result a b) (λ moments. Ends (RunsOn course main tree world moments a.drivers) result a b)
-      (λ moments. ends_more (JoinGives t w course moments a.drivers) (RunsOn course main tree world moments a.drivers)
-      (λ o is. run_gives main tree world (given course moments a.drivers) (Ok t) o st sw reads (Ok w, described, is)) result a b) ends
+  pub world_stopped : (t : Tree) (stopped : Stop WorldFault) (a : Side) → ReadsAs (Ok t) main tree → (let r : Result World (Stop WorldFault) = Err stopped in Gives r (ReadsWorld world)) → EndsAt (CourseGives course main tree world) (Err (stopped_as refusal.World stopped)) a a
+  world_stopped t stopped a reads described = world_failed (CourseGives course main tree world) course main itself tree world runs t stopped a reads described
+
+  pub both_parsed : (t : Tree) (w : World) (result : Result Exit Refusal) (a b : Side) → ReadsAs (Ok t) main tree → ReadsWorld world (Ok w) → EndsAt (JoinGives t w course) result a b → EndsAt (CourseGives course main tree world) result a b
+  both_parsed t w result a b reads described ends = all_read (CourseGives course main tree world) course main itself tree world runs t t w result a b reads described refl ends
+
+-- the bytes of the three files of a run of mocks
+module _ (main : Option (List ℕ)) (tree world rules : List ℕ) (st : length tree ≤ most_file_bytes) (sw : length world ≤ most_file_bytes) (sr : length rules ≤ most_file_bytes) where
+  mocks : (moments : Moments) (drivers : List DriverState) (o : Output) → ReadGives main (mocked rules) tree world (given course.Script moments drivers) o → ScriptMocks main tree world rules moments drivers o
+  mocks moments drivers o gives = mock_gives main tree world rules (given course.Script moments drivers) o st sw sr gives
+
+  pub mock_tree_stopped : (stopped : Stop TreeFault) (a : Side) → ReadsAs (Err stopped) main tree → EndsAt (ScriptMocks main tree world rules) (Err (stopped_as refusal.Tree stopped)) a a
+  mock_tree_stopped stopped a reads = tree_failed (ScriptMocks main tree world rules) course.Script main (mocked rules) tree world mocks stopped a reads
+
+  pub mock_world_stopped : (t : Tree) (stopped : Stop WorldFault) (a : Side) → ReadsAs (Ok t) main tree → (let r : Result World (Stop WorldFault) = Err stopped in Gives r (ReadsWorld world)) → EndsAt (ScriptMocks main tree world rules) (Err (stopped_as refusal.World stopped)) a a
+  mock_world_stopped t stopped a reads described = world_failed (ScriptMocks main tree world rules) course.Script main (mocked rules) tree world mocks t stopped a reads described
+
+  pub rules_stopped : (t : Tree) (w : World) (stopped : Stop MockFault) (a : Side) → ReadsAs (Ok t) main tree → ReadsWorld world (Ok w) → (let r : Result Tree (Stop MockFault) = Err stopped in Makes r (mocked rules t)) → EndsAt (ScriptMocks main tree world rules) (Err (stopped_as refusal.Rules stopped)) a a
+  rules_stopped t w stopped a reads described none = place_failed (ScriptMocks main tree world rules) course.Script main (mocked rules) tree world mocks t w stopped a reads described none
+
+  pub all_parsed : (t standing : Tree) (w : World) (result : Result Exit Refusal) (a b : Side) → ReadsAs (Ok t) main tree → ReadsWorld world (Ok w) → mocked rules t ≡ Ok standing → EndsAt (JoinGives standing w course.Script) result a b → EndsAt (ScriptMocks main tree world rules) result a b
+  all_parsed t standing w result a b reads described is ends = all_read (ScriptMocks main tree world rules) course.Script main (mocked rules) tree world mocks t standing w result a b reads described is ends
 
 -- ---- Files
 
 -- what a file holds that may be named, where the shelf tells it
-record Contents (holds : Option (List ℕ → List ℕ)) (name : Option (List ℕ)) : Type 0 where
+record Holding (holds : Option (List ℕ → List ℕ)) (name : Option (List ℕ)) : Type 0 where
   pub bytes : List ℕ
   pub told : ToldIfNamed holds name (λ file. bytes ≡ file)
 
-contents_of : (holds : Option (List ℕ → List ℕ)) (name : Option (List ℕ)) → Contents holds name
-contents_of holds None = record { bytes = []; told = tt }
-contents_of None (Some name) = record { bytes = []; told = tt }
-contents_of (Some h) (Some name) = record { bytes = h name; told = refl }
+holding : (holds : Option (List ℕ → List ℕ)) (name : Option (List ℕ)) → Holding holds name
+holding holds None = record { bytes = []; told = tt }
+holding None (Some name) = record { bytes = []; told = tt }
+holding (Some h) (Some name) = record { bytes = h name; told = refl }
 
 -- memory ran out before the output was known
-pub out_of_memory : (holds : Option (List ℕ → List ℕ)) (tree world : Option (List ℕ)) (Gives : Giving) (a : Side) → FilesEnd holds tree world Gives (Err refusal.NoMemory) a a
-out_of_memory holds tree world Gives a = record {
-  tree = (contents_of holds tree).bytes;
-  world = (contents_of holds world).bytes;
-  is_tree = (contents_of holds tree).told;
-  is_world = (contents_of holds world).told;
-  answers = refused_ends (Gives (contents_of holds tree).bytes (contents_of holds world).bytes) refusal.NoMemory a (λ moments. tt);
-}
+pub out_of_memory : (holds : Option (List ℕ → List ℕ)) (named : Named) (Gives : Giving) (a : Side) → FilesEnd holds named Gives (Err refusal.NoMemory) a a
+out_of_memory holds named Gives a =
+    let tree = holding holds named.tree in
+    let world = holding holds named.world in
+    let rules = holding holds named.rules in
+    record {
+      files = record { tree = tree.bytes; world = world.bytes; rules = rules.bytes };
+      told = record { tree = tree.told; world = world.told; rules = rules.told };
+      answers = refused_ends (Gives (record { tree = tree.bytes; world = world.bytes; rules = rules.bytes })) refusal.NoMemory a (λ moments. tt);
+    }
 
--- a tree file that is too long has this output
-abbrev LongGives : Giving → Type 0
-LongGives Gives = (tree world : List ℕ) (moments : Moments) (drivers : List DriverState) → most_file_bytes < length tree → Gives tree world moments drivers (too_long file.Tree)
+-- files of which this one is the first that is too long have this output
+abbrev LongTree : Giving → Type 0
+LongTree Gives = (files : Contents) (moments : Moments) (drivers : List DriverState) → most_file_bytes < length files.tree → Gives files moments drivers (too_long file.Tree)
 
-pub long_run : (course : Course) (main : Option (List ℕ)) → LongGives (RunsOn course main)
-long_run course main tree world moments drivers long = match_true (is_too_long tree) _ _ (long_is tree long) refl
+abbrev LongWorld : Giving → Type 0
+LongWorld Gives = (files : Contents) (moments : Moments) (drivers : List DriverState) → length files.tree ≤ most_file_bytes → most_file_bytes < length files.world → Gives files moments drivers (too_long file.World)
 
-pub long_print : (print : Print) (main : Option (List ℕ)) → LongGives (Prints print main)
-long_print print main tree world moments drivers long = match_true (is_too_long tree) _ _ (long_is tree long) refl
+abbrev LongRules : Giving → Type 0
+LongRules Gives = (files : Contents) (moments : Moments) (drivers : List DriverState) → length files.tree ≤ most_file_bytes → length files.world ≤ most_file_bytes
+    → most_file_bytes < length files.rules → Gives files moments drivers (too_long file.Rules)
+
+pub long_run : (course : Course) (main : Option (List ℕ)) → LongTree (RunsOn course main)
+long_run course main files moments drivers long = match_true (is_too_long files.tree) _ _ (long_is files.tree long) refl
+
+pub long_world : (course : Course) (main : Option (List ℕ)) → LongWorld (RunsOn course main)
+long_world course main files moments drivers st long =
+    match_false (is_too_long files.tree) _ _ (short_is files.tree st) (match_true (is_too_long files.world) _ _ (long_is files.world long) refl)
+
+pub long_mock : (main : Option (List ℕ)) → LongTree (Mocks main)
+long_mock main files moments drivers long = match_true (is_too_long files.tree) _ _ (long_is files.tree long) refl
+
+pub long_mock_world : (main : Option (List ℕ)) → LongWorld (Mocks main)
+long_mock_world main files moments drivers st long =
+    match_false (is_too_long files.tree) _ _ (short_is files.tree st) (match_true (is_too_long files.world) _ _ (long_is files.world long) refl)
+
+pub long_rules : (main : Option (List ℕ)) → LongRules (Mocks main)
+long_rules main files moments drivers st sw long =
+    match_false (is_too_long files.tree) _ _ (short_is files.tree st)
+    (match_false (is_too_long files.world) _ _ (short_is files.world sw) (match_true (is_too_long files.rules) _ _ (long_is files.rules long) refl))
+
+pub long_print : (print : Print) (main : Option (List ℕ)) → LongTree (Prints print main)
+long_print print main files moments drivers long = match_true (is_too_long files.tree) _ _ (long_is files.tree long) refl
 
 -- a file that is told is as long as its bytes
 told_short : (holds : Option (List ℕ → List ℕ)) (name bytes : List ℕ) → Told holds name (λ file. bytes ≡ file) → length bytes ≤ most_file_bytes → Told holds name (λ file. length file ≤ most_file_bytes)
@@ -159,82 +227,97 @@ told_short None name bytes told short = tt
 told_short (Some h) name bytes told short = subst (λ (file : List ℕ). length file ≤ most_file_bytes) told short
 
 -- the files of a command are read
-module _ {Shelf : Type 0} (read_gives : Reading Shelf) (faults : Shelf → ℕ) (holds : Option (List ℕ → List ℕ)) (tree : List ℕ) where
-  -- the tree file was not read
-  pub tree_unread : (world : Option (List ℕ)) (Gives : Giving) → LongGives Gives → (old new : Shelf) (r : Refusal) (a : Side) → IsUnread read_gives faults holds file.Tree tree r old new
-      → CommandEnds (Rose (faults old) (faults new)) (Unread read_gives holds (Some tree) world old new) (FilesEnd holds (Some tree) world Gives) (Err r) a a
-  tree_unread world Gives long old new (refusal.Unread which) a u =
-      inl (u.1, subst (λ (f : File). Unread read_gives holds (Some tree) world old new f) (sym u.0) u.2, still a)
-  tree_unread world Gives long old new (refusal.TooLong which) a u = inr (record {
-    tree = u.1.bytes;
-    world = (contents_of holds world).bytes;
-    is_tree = u.1.told;
-    is_world = (contents_of holds world).told;
-    answers = refused_ends (Gives u.1.bytes (contents_of holds world).bytes) (refusal.TooLong which) a
-        (λ moments. subst (λ (f : File). Gives u.1.bytes (contents_of holds world).bytes moments a.drivers (too_long f)) (sym u.0)
-        (long u.1.bytes (contents_of holds world).bytes moments a.drivers u.1.long));
-  })
-  tree_unread world Gives long old new refusal.NoMemory a u = inr (out_of_memory holds (Some tree) world Gives a)
-  tree_unread world Gives long old new refusal.Words a u = absurd u
-  tree_unread world Gives long old new (refusal.Tree f) a u = absurd u
-  tree_unread world Gives long old new (refusal.World f) a u = absurd u
-  tree_unread world Gives long old new (refusal.Join f) a u = absurd u
-  tree_unread world Gives long old new refusal.NoGoal a u = absurd u
+module _ {Shelf : Type 0} (read_gives : Reading Shelf) (faults : Shelf → ℕ) (holds : Option (List ℕ → List ℕ)) (Gives : Giving) where
+  -- a command ends over these files
+  abbrev pub Over : Named → Shelf → Shelf → Result Exit Refusal → Side → Side → Type 0
+  Over named old new result a b = CommandEnds (Rose (faults old) (faults new)) (Unread read_gives holds named old new) (FilesEnd holds named Gives) result a b
 
-  -- the world file was not read, after the tree file
-  pub world_unread : (world bytes : List ℕ) (course : Course) (main : Option (List ℕ)) (old between new : Shelf) (r : Refusal) (a : Side) → faults old ≤ faults between
-      → WasRead read_gives holds tree bytes old between → IsUnread read_gives faults holds file.World world r between new
-      → CommandEnds (Rose (faults old) (faults new)) (Unread read_gives holds (Some tree) (Some world) old new) (FilesEnd holds (Some tree) (Some world) (RunsOn course main)) (Err r) a a
-  world_unread world bytes course main old between new (refusal.Unread which) a less read u =
-      inl (
-        Rose-after (faults old) (faults between) (faults new) less u.1,
-        subst (λ (f : File). Unread read_gives holds (Some tree) (Some world) old new f) (sym u.0) (between, read.gave, told_short holds tree bytes read.told read.short, u.2),
-        still a,
-      )
-  world_unread world bytes course main old between new (refusal.TooLong which) a less read u = inr (record {
-    tree = bytes;
-    world = u.1.bytes;
-    is_tree = read.told;
-    is_world = u.1.told;
-    answers = refused_ends (RunsOn course main bytes u.1.bytes) (refusal.TooLong which) a
-        (λ moments. subst (λ (f : File). RunsOn course main bytes u.1.bytes moments a.drivers (too_long f)) (sym u.0)
-        (match_false (is_too_long bytes) _ _ (short_is bytes read.short) (match_true (is_too_long u.1.bytes) _ _ (long_is u.1.bytes u.1.long) refl)));
-  })
-  world_unread world bytes course main old between new refusal.NoMemory a less read u = inr (out_of_memory holds (Some tree) (Some world) (RunsOn course main) a)
-  world_unread world bytes course main old between new refusal.Words a less read u = absurd u
-  world_unread world bytes course main old between new (refusal.Tree f) a less read u = absurd u
-  world_unread world bytes course main old between new (refusal.World f) a less read u = absurd u
-  world_unread world bytes course main old between new (refusal.Join f) a less read u = absurd u
-  world_unread world bytes course main old between new refusal.NoGoal a less read u = absurd u
+  -- the read of a file was refused; where it failed, where it is too long
+  pub refused_read : (named : Named) (which : File) (name : List ℕ) (old between new : Shelf) (r : Refusal) (a : Side) → faults old ≤ faults between → IsUnread read_gives faults holds which name r between new
+      → (read_gives between name (Err shelf.Failed) new → Unread read_gives holds named old new which) → (IsLong holds name → FilesEnd holds named Gives (Err (refusal.TooLong which)) a a) → Over named old new (Err r) a a
+  refused_read named which name old between new (refusal.Unread asked) a less u failed long =
+      inl (Rose-after (faults old) (faults between) (faults new) less u.1, subst (λ (f : File). Unread read_gives holds named old new f) (sym u.0) (failed u.2), still a)
+  refused_read named which name old between new (refusal.TooLong asked) a less u failed long =
+      inr (subst (λ (f : File). FilesEnd holds named Gives (Err (refusal.TooLong f)) a a) (sym u.0) (long u.1))
+  refused_read named which name old between new refusal.NoMemory a less u failed long = inr (out_of_memory holds named Gives a)
+  refused_read named which name old between new refusal.Words a less u failed long = absurd u
+  refused_read named which name old between new (refusal.Tree f) a less u failed long = absurd u
+  refused_read named which name old between new (refusal.World f) a less u failed long = absurd u
+  refused_read named which name old between new (refusal.Join f) a less u failed long = absurd u
+  refused_read named which name old between new refusal.NoGoal a less u failed long = absurd u
+  refused_read named which name old between new (refusal.Rules f) a less u failed long = absurd u
 
-  -- both were read
-  pub both_read : (world tree_bytes world_bytes : List ℕ) (course : Course) (main : Option (List ℕ)) (old between new after : Shelf) (result : Result Exit Refusal) (a b : Side)
-      → WasRead read_gives holds tree tree_bytes old between → WasRead read_gives holds world world_bytes between new → EndsAt (RunsOn course main tree_bytes world_bytes) result a b
-      → CommandEnds (Rose (faults old) (faults after)) (Unread read_gives holds (Some tree) (Some world) old after) (FilesEnd holds (Some tree) (Some world) (RunsOn course main)) result a b
-  both_read world tree_bytes world_bytes course main old between new after result a b first second ends =
-      inr (record { tree = tree_bytes; world = world_bytes; is_tree = first.told; is_world = second.told; answers = ends })
+  module _ (tree : List ℕ) (rules : Option (List ℕ)) where
+    -- the tree file was not read
+    pub tree_unread : (world : Option (List ℕ)) → LongTree Gives → (old new : Shelf) (r : Refusal) (a : Side) → IsUnread read_gives faults holds file.Tree tree r old new
+        → Over (record { tree = Some tree; world = world; rules = rules }) old new (Err r) a a
+    tree_unread world long old new r a u =
+        refused_read (record { tree = Some tree; world = world; rules = rules }) file.Tree tree old old new r a (omega (arith)) u (λ failed. failed)
+        (λ is. let w = holding holds world in
+        let l = holding holds rules in
+        record {
+          files = record { tree = is.bytes; world = w.bytes; rules = l.bytes };
+          told = record { tree = is.told; world = w.told; rules = l.told };
+          answers = refused_ends (Gives (record { tree = is.bytes; world = w.bytes; rules = l.bytes })) (refusal.TooLong file.Tree) a
+              (λ moments. long (record { tree = is.bytes; world = w.bytes; rules = l.bytes }) moments a.drivers is.long);
+        })
+
+    -- the world file was not read, after the tree file
+    pub world_unread : (world : List ℕ) → LongWorld Gives → (bytes : List ℕ) (old between new : Shelf) (r : Refusal) (a : Side) → faults old ≤ faults between
+        → WasRead read_gives holds tree bytes old between → IsUnread read_gives faults holds file.World world r between new → Over (record { tree = Some tree; world = Some world; rules = rules }) old new (Err r) a a
+    world_unread world long bytes old between new r a less read u =
+        refused_read (record { tree = Some tree; world = Some world; rules = rules }) file.World world old between new r a less u
+        (λ failed. (between, read.gave, told_short holds tree bytes read.told read.short, failed))
+        (λ is. let l = holding holds rules in
+        record {
+          files = record { tree = bytes; world = is.bytes; rules = l.bytes };
+          told = record { tree = read.told; world = is.told; rules = l.told };
+          answers = refused_ends (Gives (record { tree = bytes; world = is.bytes; rules = l.bytes })) (refusal.TooLong file.World) a
+              (λ moments. long (record { tree = bytes; world = is.bytes; rules = l.bytes }) moments a.drivers read.short is.long);
+        })
+
+  -- the rules file was not read, after the two others
+  pub rules_unread : (tree world rules : List ℕ) → LongRules Gives → (first second : List ℕ) (old between later new : Shelf) (r : Refusal) (a : Side) → faults old ≤ faults later
+      → WasRead read_gives holds tree first old between → WasRead read_gives holds world second between later → IsUnread read_gives faults holds file.Rules rules r later new
+      → Over (tree_world_rules tree world rules) old new (Err r) a a
+  rules_unread tree world rules long first second old between later new r a less read next u =
+      refused_read (tree_world_rules tree world rules) file.Rules rules old later new r a less u
+      (λ failed. (between, read.gave, told_short holds tree first read.told read.short, later, next.gave, told_short holds world second next.told next.short, failed))
+      (λ is. record {
+        files = record { tree = first; world = second; rules = is.bytes };
+        told = record { tree = read.told; world = next.told; rules = is.told };
+        answers = refused_ends (Gives (record { tree = first; world = second; rules = is.bytes })) (refusal.TooLong file.Rules) a
+            (λ moments. long (record { tree = first; world = second; rules = is.bytes }) moments a.drivers read.short next.short is.long);
+      })
+
+  -- all were read
+  pub files_read : (named : Named) (files : Contents) (old new : Shelf) (result : Result Exit Refusal) (a b : Side) → AreTold holds named files → EndsAt (Gives files) result a b → Over named old new result a b
+  files_read named files old new result a b told ends = inr (record { files = files; told = told; answers = ends })
 
 -- a tree file was read, of whose tree this is printed
 module _ (holds : Option (List ℕ → List ℕ)) (name : List ℕ) (print : Print) (main : Option (List ℕ)) (bytes : List ℕ) (told : Told holds name (λ file. bytes ≡ file)) (short : length bytes ≤ most_file_bytes) where
-  print_files : (result : Result Exit Refusal) (a b : Side) → EndsAt (Prints print main bytes []) result a b → FilesEnd holds (Some name) None (Prints print main) result a b
-  print_files result a b ends = record { tree = bytes; world = []; is_tree = told; is_world = tt; answers = ends }
+  abbrev file : Contents
+  file = record { tree = bytes; world = []; rules = [] }
 
-  pub print_stopped : (stopped : Stop TreeFault) (a : Side) → ReadsAs (Err stopped) main bytes → FilesEnd holds (Some name) None (Prints print main) (Err (stopped_as refusal.Tree stopped)) a a
+  print_files : (result : Result Exit Refusal) (a b : Side) → EndsAt (Prints print main file) result a b → FilesEnd holds (tree_alone name) (Prints print main) result a b
+  print_files result a b ends = record { files = file; told = record { tree = told; world = tt; rules = tt }; answers = ends }
+
+  pub print_stopped : (stopped : Stop TreeFault) (a : Side) → ReadsAs (Err stopped) main bytes → FilesEnd holds (tree_alone name) (Prints print main) (Err (stopped_as refusal.Tree stopped)) a a
   print_stopped (stop.Fault f) a reads =
-      print_files (Err (refusal.Tree f)) a a (refused_ends (Prints print main bytes []) (refusal.Tree f) a (λ moments. print_gives print main bytes (Err f) short reads))
-  print_stopped stop.NoMemory a reads = out_of_memory holds (Some name) None (Prints print main) a
+      print_files (Err (refusal.Tree f)) a a (refused_ends (Prints print main file) (refusal.Tree f) a (λ moments. print_gives print main bytes (Err f) short reads))
+  print_stopped stop.NoMemory a reads = out_of_memory holds (tree_alone name) (Prints print main) a
 
   pub tree_printed : (t : Tree) (exit : Exit) (written : Option (List ℕ)) (faults : ℕ) (a : Side) → ReadsAs (Ok t) main bytes → Printed (print_output print (Ok t)) exit a.written a.faults written faults
-      → FilesEnd holds (Some name) None (Prints print main) (Ok exit) a (side written faults a.clock a.drivers)
+      → FilesEnd holds (tree_alone name) (Prints print main) (Ok exit) a (side written faults a.clock a.drivers)
   tree_printed t exit written faults a reads printed =
       print_files (Ok exit) a (side written faults a.clock a.drivers)
       (at_any a.clock (λ moments. Ends (PrintGives print main bytes) (Ok exit) a (side written faults a.clock a.drivers))
       (λ moments. inl (print_output print (Ok t), print_gives print main bytes (Ok t) short reads, printed a.clock a.drivers a.drivers (λ place. refl))))
 
 -- the files of a load, which names none
-pub load_ends : (holds : Option (List ℕ → List ℕ)) (leaves : ℕ) (result : Result Exit Refusal) (a b : Side) → EndsAt (RunsOn (course.Load leaves) None (tree_text leaves) (world_text leaves)) result a b
-    → FilesEnd holds None None (FilesGive (Load leaves)) result a b
-load_ends holds leaves result a b ends = record { tree = []; world = []; is_tree = tt; is_world = tt; answers = ends }
+pub load_ends : (holds : Option (List ℕ → List ℕ)) (leaves : ℕ) (result : Result Exit Refusal) (a b : Side) → EndsAt (CourseGives (course.Load leaves) None (tree_text leaves) (world_text leaves)) result a b
+    → FilesEnd holds no_files (FilesGive (Load leaves)) result a b
+load_ends holds leaves result a b ends = record { files = record { tree = []; world = []; rules = [] }; told = record { tree = tt; world = tt; rules = tt }; answers = ends }
 
 -- ---- Words
 
@@ -249,7 +332,7 @@ gave_after o result a b written faults same printed =
 -- a command that came to this was answered
 module _ (command : Command) (holds : Option (List ℕ → List ℕ)) (rose : Type 0) (IsUnread : File → Type 0) where
   abbrev Ended : Result Exit Refusal → Side → Side → Type 0
-  Ended result a b = CommandEnds rose IsUnread (FilesEnd holds (tree_name command) (world_name command) (FilesGive command)) result a b
+  Ended result a b = CommandEnds rose IsUnread (FilesEnd holds (files_of command) (FilesGive command)) result a b
 
   -- .. with an exit
   pub exit_answered : (exit : Exit) (a b : Side) → Ended (Ok exit) a b → CommandAnswered (Some command) holds rose IsUnread exit a b
@@ -271,13 +354,12 @@ module _ (command : Command) (holds : Option (List ℕ → List ℕ)) (rose : Ty
   refusal_answered (refusal.World f) exit a b written faults (inl x) refused = absurd x
   refusal_answered (refusal.Join f) exit a b written faults (inl x) refused = absurd x
   refusal_answered refusal.NoGoal exit a b written faults (inl x) refused = absurd x
+  refusal_answered (refusal.Rules f) exit a b written faults (inl x) refused = absurd x
   refusal_answered refusal.NoMemory exit a b written faults (inl x) refused = absurd x
   refusal_answered r exit a b written faults (inr f) refused = inr (record {
-    tree = f.tree;
-    world = f.world;
-    is_tree = f.is_tree;
-    is_world = f.is_world;
-    answers = at_more a.clock (λ moments. Ends (FilesGive command f.tree f.world moments a.drivers) (Err r) a b)
-        (λ moments. Answers (FilesGive command f.tree f.world moments a.drivers) exit a (side written faults b.clock b.drivers))
-        (λ moments x. refused_answers (FilesGive command f.tree f.world moments a.drivers) (refused_as r) exit a b written faults x.0 x.1 refused) f.answers;
+    files = f.files;
+    told = f.told;
+    answers = at_more a.clock (λ moments. Ends (FilesGive command f.files moments a.drivers) (Err r) a b)
+        (λ moments. Answers (FilesGive command f.files moments a.drivers) exit a (side written faults b.clock b.drivers))
+        (λ moments x. refused_answers (FilesGive command f.files moments a.drivers) (refused_as r) exit a b written faults x.0 x.1 refused) f.answers;
   })

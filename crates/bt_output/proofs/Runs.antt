@@ -267,6 +267,7 @@ gave_from bytes end left asked exit.NoPlan a b drivers x = x
 gave_from bytes end left asked exit.Read a b drivers x = x
 gave_from bytes end left asked exit.Write a b drivers x = x
 gave_from bytes end left asked exit.Memory a b drivers x = x
+gave_from bytes end left asked exit.Rules a b drivers x = x
 
 -- runs that were made for these drivers, which were then prepared
 module _ (of : Setup) (runs : Runs) (before made : List DriverState) (course : Course)

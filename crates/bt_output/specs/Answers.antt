@@ -6,7 +6,8 @@ use Rattle.bt_output.specs.declared.refusal.File.{File}
 use Rattle.bt_output.specs.declared.refusal.Refusal.{Refusal}
 use Rattle.bt_output.specs.Plans.{plan_output}
 use Rattle.bt_plan.specs.declared.ending.PlanEnd.{PlanEnd}
-use Rattle.bt_output.specs.Jobs.{FilesGive, tree_name, world_name}
+use Rattle.bt_output.specs.Files.{Contents, Named}
+use Rattle.bt_output.specs.Jobs.{FilesGive, files_of}
 use Rattle.bt_output.specs.Output.{Asked, Never, Times, UpToFault, Output, Giving, refused_as, unread, words_refused}
 use Rattle.bt_command_line.specs.Words.{Command}
 use Rattle.bt_model.specs.Drivers.{DriverState, driver_at}
@@ -126,19 +127,22 @@ abbrev pub ToldIfNamed : Option (List ℕ → List ℕ) → Option (List ℕ) �
 ToldIfNamed holds None P = Unit {0}
 ToldIfNamed holds (Some name) P = Told holds name P
 
+-- these are the bytes of files that may be named, where the shelf tells them
+pub record AreTold (holds : Option (List ℕ → List ℕ)) (named : Named) (files : Contents) : Type 0 where
+  pub tree : ToldIfNamed holds named.tree (λ file. files.tree ≡ file)
+  pub world : ToldIfNamed holds named.world (λ file. files.world ≡ file)
+  pub rules : ToldIfNamed holds named.rules (λ file. files.rules ≡ file)
+
 -- what is so of the output of some bytes of files that may be named, and of some moments: those that the shelf and the
 -- clock tell
-pub record OfFiles (holds : Option (List ℕ → List ℕ)) (tree_named world_named : Option (List ℕ)) (Gives : Giving) (found : Side) (P : (Output → Type 0) → Type 0) : Type 0 where
-  pub tree : List ℕ
-  pub world : List ℕ
-  pub is_tree : ToldIfNamed holds tree_named (λ file. tree ≡ file)
-  pub is_world : ToldIfNamed holds world_named (λ file. world ≡ file)
-  pub answers : AtMoments found.clock (λ moments. P (Gives tree world moments found.drivers))
+pub record OfFiles (holds : Option (List ℕ → List ℕ)) (named : Named) (Gives : Giving) (found : Side) (P : (Output → Type 0) → Type 0) : Type 0 where
+  pub files : Contents
+  pub told : AreTold holds named files
+  pub answers : AtMoments found.clock (λ moments. P (Gives files moments found.drivers))
 
 -- the output of files that may be named was given
-abbrev pub FilesAnswered : Option (List ℕ → List ℕ) → Option (List ℕ) → Option (List ℕ) → Giving → Exit → Side → Side → Type 0
-FilesAnswered holds tree_named world_named Gives result old new =
-    OfFiles holds tree_named world_named Gives old (λ IsOutput. Answers IsOutput result old new)
+abbrev pub FilesAnswered : Option (List ℕ → List ℕ) → Named → Giving → Exit → Side → Side → Type 0
+FilesAnswered holds named Gives result old new = OfFiles holds named Gives old (λ IsOutput. Answers IsOutput result old new)
 
 -- The shelf's count of failures rose: the read of a file failed, and the line of this file was given.
 abbrev pub ReadFailed : Type 0 → (File → Type 0) → Exit → Side → Side → Type 0
@@ -150,4 +154,4 @@ ReadFailed shelf_rose IsUnread result old new =
 abbrev pub CommandAnswered : Option Command → Option (List ℕ → List ℕ) → Type 0 → (File → Type 0) → Exit → Side → Side → Type 0
 CommandAnswered None holds shelf_rose IsUnread result old new = Gave words_refused result old new
 CommandAnswered (Some command) holds shelf_rose IsUnread result old new =
-    ReadFailed shelf_rose IsUnread result old new ⊎ FilesAnswered holds (tree_name command) (world_name command) (FilesGive command) result old new
+    ReadFailed shelf_rose IsUnread result old new ⊎ FilesAnswered holds (files_of command) (FilesGive command) result old new

@@ -1,13 +1,12 @@
 -- What the calls of a command come to, of which the last one writes the line of a refusal.
 use Rattle.std.specs.Prelude.{ℕ, ◌≡◌, ◌⊎◌, List, Option, IfSome, Result, Ok, Err}
 use Rattle.bt_command_line.specs.declared.exit.Exit.{Exit}
-use Rattle.bt_model.specs.Drivers.{DriverState}
-use Rattle.bt_outside.specs.Moments.{Moments}
 use Rattle.bt_output.specs.declared.refusal.File.{File}
 use Rattle.bt_output.specs.declared.refusal.Refusal.{Refusal}
 use Rattle.bt_output.specs.declared.refusal.Refusal.TheVariants as refusal
 use Rattle.bt_output.specs.Answers.{Answers, AreUncalled, AtMoments, OfFiles, Side}
-use Rattle.bt_output.specs.Output.{Giving, Output, refused_as}
+use Rattle.bt_output.specs.Files.{Named}
+use Rattle.bt_output.specs.Output.{Ending, Giving, Output, refused_as}
 
 -- nothing was written, the clock was not asked, and no driver was called
 pub record IsUntouched (old new : Side) : Type 0 where
@@ -23,13 +22,12 @@ Ends IsOutput (Ok exit) old new = Answers IsOutput exit old new
 Ends IsOutput (Err refusal) old new = IfSome (refused_as refusal) IsOutput × IsUntouched old new
 
 -- so it ends at the moments that the clock tells, or at some where it tells none
-abbrev pub EndsAt : (Moments → List DriverState → Output → Type 0) → Result Exit Refusal → Side → Side → Type 0
+abbrev pub EndsAt : Ending → Result Exit Refusal → Side → Side → Type 0
 EndsAt Gives result old new = AtMoments old.clock (λ moments. Ends (Gives moments old.drivers) result old new)
 
 -- so it ends over files that may be named
-abbrev pub FilesEnd : Option (List ℕ → List ℕ) → Option (List ℕ) → Option (List ℕ) → Giving → Result Exit Refusal → Side → Side → Type 0
-FilesEnd holds tree_named world_named Gives result old new =
-    OfFiles holds tree_named world_named Gives old (λ IsOutput. Ends IsOutput result old new)
+abbrev pub FilesEnd : Option (List ℕ → List ℕ) → Named → Giving → Result Exit Refusal → Side → Side → Type 0
+FilesEnd holds named Gives result old new = OfFiles holds named Gives old (λ IsOutput. Ends IsOutput result old new)
 
 -- the command is refused since the shelf's count rose and the read of a file failed, and nothing was done yet
 abbrev pub ReadStopped : Type 0 → (File → Type 0) → Result Exit Refusal → Side → Side → Type 0

@@ -17,7 +17,12 @@ use Rattle.bt_output.specs.declared.refusal.File.TheVariants as file
 use Rattle.bt_output.specs.declared.refusal.Refusal.{Refusal}
 use Rattle.bt_output.specs.declared.refusal.Refusal.TheVariants as refusal
 use Rattle.bt_refusals.specs.declared.fault.TreeFault.{TreeFault}
-use Rattle.bt_refusals.specs.Refusals.{join_words, tree_words, world_words}
+use Rattle.bt_refusals.specs.Refusals.{join_words, rules_words, tree_words, world_words}
+use Rattle.bt_manifest.specs.Steps.{go_on}
+use Rattle.bt_mock.specs.declared.fault.MockFault.{MockFault}
+use Rattle.bt_mock.specs.RuleFiles.{rules_in}
+use Rattle.bt_mock.specs.Substitutions.{substitute}
+use Rattle.bt_output.specs.Files.{Contents}
 use Rattle.bt_output.specs.TreeFiles.{TreeReads}
 use Rattle.bt_model.specs.declared.fault.RunFault.{RunFault}
 use Rattle.bt_model.specs.declared.term.Term.{Term, fold-Term}
@@ -69,17 +74,23 @@ words_refused = refused (codes "refused words") exit.Words
 abbrev pub unread : File → Output
 unread file.Tree = refused (codes "refused read tree") exit.Read
 unread file.World = refused (codes "refused read world") exit.Read
+unread file.Rules = refused (codes "refused read rules") exit.Read
 
 -- a file of too many bytes
 abbrev pub too_long : File → Output
 too_long file.Tree = refused (codes "refused tree TooLong") exit.Tree
 too_long file.World = refused (codes "refused world TooLong") exit.World
+too_long file.Rules = refused (codes "refused rules TooLong") exit.Rules
 
 abbrev pub tree_refused : TreeFault → Output
 tree_refused fault = refused (codes "refused tree " ++ tree_words fault) exit.Tree
 
 abbrev pub world_refused : WorldFault → Output
 world_refused fault = refused (codes "refused world " ++ world_words fault) exit.World
+
+-- the rules file is refused, or the tree that its rules make
+abbrev pub rules_refused : MockFault → Output
+rules_refused fault = refused (codes "refused rules " ++ rules_words fault) exit.Rules
 
 -- a plan is asked for, and there is no goal
 abbrev pub no_goal : Output
@@ -98,6 +109,7 @@ refused_as (refusal.Tree fault) = Some (tree_refused fault)
 refused_as (refusal.World fault) = Some (world_refused fault)
 refused_as (refusal.Join fault) = Some (join_refused fault)
 refused_as refusal.NoGoal = Some no_goal
+refused_as (refusal.Rules fault) = Some (rules_refused fault)
 refused_as refusal.NoMemory = None
 
 -- the refusal of a call that stopped, by what its fault refuses
@@ -201,21 +213,44 @@ abbrev pub JoinGives : Tree → World → Course → Moments → List DriverStat
 JoinGives tree world course moments drivers output =
     output ≡ joined_output (lack_of tree world drivers) tree world (given course moments drivers)
 
--- a tree with what the world file reads as
-abbrev pub world_output : Result World WorldFault → Tree → Given → Output
-world_output (Ok world) tree g = joined_output (lack_of tree world g.drivers) tree world g
-world_output (Err fault) tree g = world_refused fault
+-- ---- Trees that are run in the place of others
+
+-- what is run in the place of a tree that was read, if that is a tree within the limits
+abbrev pub Standing : Type 0
+Standing = Tree → Result Tree MockFault
+
+-- it itself
+abbrev pub itself : Standing
+itself tree = Ok tree
+
+-- the tree that the rules of these bytes of a rules file make of it
+abbrev pub mocked : List ℕ → Standing
+mocked rules tree = go_on (substitute tree) (rules_in rules)
+
+-- what is run with a world
+abbrev pub standing_output : Result Tree MockFault → World → Given → Output
+standing_output (Ok tree) world g = joined_output (lack_of tree world g.drivers) tree world g
+standing_output (Err fault) world g = rules_refused fault
+
+-- what is run with what the world file reads as
+abbrev pub world_output : Result World WorldFault → Result Tree MockFault → Given → Output
+world_output (Ok world) stands g = standing_output stands world g
+world_output (Err fault) stands g = world_refused fault
 
 -- ---- Files
 
 -- the output of a tree over the bytes of a world file
-abbrev pub WorldGives : Tree → List ℕ → Given → Output → Type 0
-WorldGives tree world g output = (described : Result World WorldFault) × ReadsWorld world described × (output ≡ world_output described tree g)
+abbrev pub WorldGives : Tree → Standing → List ℕ → Given → Output → Type 0
+WorldGives tree stands world g output = (described : Result World WorldFault) × ReadsWorld world described × (output ≡ world_output described (stands tree) g)
 
 -- the output of what a tree file reads as over the bytes of a world file
-abbrev pub TreeGives : Result Tree TreeFault → List ℕ → Given → Output → Type 0
-TreeGives (Ok tree) world g output = WorldGives tree world g output
-TreeGives (Err fault) world g output = output ≡ tree_refused fault
+abbrev pub TreeGives : Result Tree TreeFault → Standing → List ℕ → Given → Output → Type 0
+TreeGives (Ok tree) stands world g output = WorldGives tree stands world g output
+TreeGives (Err fault) stands world g output = output ≡ tree_refused fault
+
+-- the output of both files, with the main tree that is asked for, if one is
+abbrev pub ReadGives : Option (List ℕ) → Standing → List ℕ → List ℕ → Given → Output → Type 0
+ReadGives main stands tree world g output = (read : Result Tree TreeFault) × TreeReads main tree read × TreeGives read stands world g output
 
 -- ---- Files that are read
 
@@ -227,20 +262,40 @@ is_too_long bytes = nat_lt most_file_bytes (length bytes)
 abbrev pub OrTooLong : List ℕ → Output → Output → Type 0 → Type 0
 OrTooLong bytes refusal output Given = MatchBool (is_too_long bytes) (output ≡ refusal) Given
 
--- the output of a run over the bytes of both files, with the main tree that is asked for, if one is
+-- the output of a run over the bytes of both files
 abbrev pub RunGives : Option (List ℕ) → List ℕ → List ℕ → Given → Output → Type 0
 RunGives main tree world g output =
     OrTooLong tree (too_long file.Tree) output
+    (OrTooLong world (too_long file.World) output (ReadGives main itself tree world g output))
+
+-- the output of a run over the bytes of three files, of the tree that the rules of the third make
+abbrev pub MockGives : Option (List ℕ) → List ℕ → List ℕ → List ℕ → Given → Output → Type 0
+MockGives main tree world rules g output =
+    OrTooLong tree (too_long file.Tree) output
     (OrTooLong world (too_long file.World) output
-    ((read : Result Tree TreeFault) × TreeReads main tree read × TreeGives read world g output))
+    (OrTooLong rules (too_long file.Rules) output (ReadGives main (mocked rules) tree world g output)))
 
--- what a tree file, a world file, moments and drivers have for outputs
+-- what moments and drivers have for outputs
+abbrev pub Ending : Type 1
+Ending = Moments → List DriverState → Output → Type 0
+
+-- .. over the bytes of files
 abbrev pub Giving : Type 1
-Giving = List ℕ → List ℕ → Moments → List DriverState → Output → Type 0
+Giving = Contents → Ending
 
--- the output of a run on this course
+-- the output of a run of two files on this course
+abbrev pub CourseGives : Course → Option (List ℕ) → List ℕ → List ℕ → Ending
+CourseGives course main tree world = λ moments drivers. RunGives main tree world (given course moments drivers)
+
 abbrev pub RunsOn : Course → Option (List ℕ) → Giving
-RunsOn course main = λ tree world moments drivers. RunGives main tree world (given course moments drivers)
+RunsOn course main = λ files. CourseGives course main files.tree files.world
+
+-- the output of a run by the world's script of the tree that rules make
+abbrev pub ScriptMocks : Option (List ℕ) → List ℕ → List ℕ → List ℕ → Ending
+ScriptMocks main tree world rules = λ moments drivers. MockGives main tree world rules (given course.Script moments drivers)
+
+abbrev pub Mocks : Option (List ℕ) → Giving
+Mocks main = λ files. ScriptMocks main files.tree files.world files.rules
 
 -- the output of what is printed of a tree, over the bytes of its file
 abbrev pub PrintGives : Print → Option (List ℕ) → List ℕ → Output → Type 0
@@ -249,4 +304,4 @@ PrintGives print main tree output =
     ((read : Result Tree TreeFault) × TreeReads main tree read × (output ≡ print_output print read))
 
 abbrev pub Prints : Print → Option (List ℕ) → Giving
-Prints print main = λ tree world moments drivers. PrintGives print main tree
+Prints print main = λ files moments drivers. PrintGives print main files.tree

@@ -88,4 +88,4 @@ PlanGives limits world drivers output =
     ((described : Result World WorldFault) × ReadsWorld world described × ReadPlans described limits drivers output)
 
 abbrev pub Plans : Limits → Giving
-Plans limits = λ tree world moments drivers. PlanGives limits world drivers
+Plans limits = λ files moments. PlanGives limits files.world

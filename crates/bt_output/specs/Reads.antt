@@ -10,7 +10,8 @@ use Rattle.bt_output.specs.declared.refusal.File.{File}
 use Rattle.bt_output.specs.declared.refusal.File.TheVariants as file
 use Rattle.bt_output.specs.declared.refusal.Refusal.{Refusal}
 use Rattle.bt_output.specs.declared.refusal.Refusal.TheVariants as refusal
-use Rattle.bt_output.specs.Jobs.{tree_name, world_name}
+use Rattle.bt_output.specs.Files.{Named}
+use Rattle.bt_output.specs.Jobs.{files_of}
 
 -- ---- One read
 
@@ -40,28 +41,36 @@ IsUnread read_gives faults holds asked name _ old new = ⊥
 
 -- ---- The reads of a command
 
+-- a file was read, and is within the limit, where the shelf tells it; then this is so of the shelf
+abbrev pub ReadThen : {Shelf : Type 0} → Reading Shelf → Option (List ℕ → List ℕ) → List ℕ → Shelf → (Shelf → Type 0) → Type 0
+ReadThen {Shelf} read_gives holds name old Then =
+    (between : Shelf) × read_gives old name (Ok tt) between × Told holds name (λ file. length file ≤ most_file_bytes) × Then between
+
 -- the read of a tree file that may be named failed
 abbrev pub TreeUnread : {Shelf : Type 0} → Reading Shelf → Option (List ℕ) → Shelf → Shelf → Type 0
 TreeUnread read_gives None old new = ⊥
 TreeUnread read_gives (Some tree) old new = read_gives old tree (Err fault.Failed) new
 
--- the read of a world file that may be named failed, after that of the tree file, where one is named, which is then within
--- the limit, where the shelf tells it
+-- the read of a world file that may be named failed, after that of the tree file, where one is named
 abbrev pub WorldUnread : {Shelf : Type 0} → Reading Shelf → Option (List ℕ → List ℕ) → Option (List ℕ) → Option (List ℕ) → Shelf → Shelf → Type 0
-WorldUnread {Shelf} read_gives holds (Some tree) (Some world) old new =
-    (between : Shelf) × read_gives old tree (Ok tt) between
-    × Told holds tree (λ file. length file ≤ most_file_bytes)
-    × read_gives between world (Err fault.Failed) new
+WorldUnread read_gives holds (Some tree) (Some world) old new =
+    ReadThen read_gives holds tree old (λ between. read_gives between world (Err fault.Failed) new)
 WorldUnread read_gives holds None (Some world) old new = read_gives old world (Err fault.Failed) new
 WorldUnread read_gives holds _ _ old new = ⊥
 
--- the read of this one failed of a tree file and a world file, which may be named
-abbrev pub Unread : {Shelf : Type 0} → Reading Shelf → Option (List ℕ → List ℕ) → Option (List ℕ) → Option (List ℕ) → Shelf → Shelf → File → Type 0
-Unread read_gives holds tree world old new file.Tree = TreeUnread read_gives tree old new
-Unread read_gives holds tree world old new file.World = WorldUnread read_gives holds tree world old new
+-- the read of a rules file that may be named failed, after those of the tree file and of the world file
+abbrev pub RulesUnread : {Shelf : Type 0} → Reading Shelf → Option (List ℕ → List ℕ) → Option (List ℕ) → Option (List ℕ) → Option (List ℕ) → Shelf → Shelf → Type 0
+RulesUnread read_gives holds (Some tree) (Some world) (Some rules) old new =
+    ReadThen read_gives holds tree old (λ first. ReadThen read_gives holds world first (λ second. read_gives second rules (Err fault.Failed) new))
+RulesUnread read_gives holds _ _ _ old new = ⊥
+
+-- the read of this one failed of files that may be named
+abbrev pub Unread : {Shelf : Type 0} → Reading Shelf → Option (List ℕ → List ℕ) → Named → Shelf → Shelf → File → Type 0
+Unread read_gives holds named old new file.Tree = TreeUnread read_gives named.tree old new
+Unread read_gives holds named old new file.World = WorldUnread read_gives holds named.tree named.world old new
+Unread read_gives holds named old new file.Rules = RulesUnread read_gives holds named.tree named.world named.rules old new
 
 -- the read of a file of words failed; those that are no command name none
 abbrev pub WordsUnread : {Shelf : Type 0} → Reading Shelf → Option (List ℕ → List ℕ) → Option Command → Shelf → Shelf → File → Type 0
 WordsUnread read_gives holds None old new which = ⊥
-WordsUnread read_gives holds (Some command) old new which =
-    Unread read_gives holds (tree_name command) (world_name command) old new which
+WordsUnread read_gives holds (Some command) old new which = Unread read_gives holds (files_of command) old new which

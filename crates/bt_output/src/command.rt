@@ -1,4 +1,4 @@
-ghost use Rattle.std.specs.Prelude.{◌≤◌, ◌⊎◌, length, None, Some};
+ghost use Rattle.std.specs.Prelude.{◌≤◌, ◌⊎◌, length};
 ghost use Rattle.std.specs.Option.{option_copied};
 ghost use Rattle.bt_command_line.specs.Commands.{IsInRange, command_seen};
 ghost use Rattle.bt_command_line.specs.Words.{Load, command_of};
@@ -8,8 +8,9 @@ ghost use Rattle.bt_output.specs.Answers.{CommandAnswered, side};
 ghost use Rattle.bt_outside.specs.Counts.{Rose};
 ghost use Rattle.bt_output.specs.Ends.{CommandEnds, EndsAt, FilesEnd};
 ghost use Rattle.bt_output.specs.Lent.{Stays, seen};
-ghost use Rattle.bt_output.specs.Jobs.{FilesGive, tree_name, world_name};
-ghost use Rattle.bt_output.specs.Output.{Prints, RunsOn};
+ghost use Rattle.bt_output.specs.Files.{no_files, tree_alone, tree_and_world, tree_world_rules, world_alone};
+ghost use Rattle.bt_output.specs.Jobs.{FilesGive, files_of};
+ghost use Rattle.bt_output.specs.Output.{CourseGives, Mocks, Prints, RunsOn, ScriptMocks};
 ghost use Rattle.bt_output.specs.Plans.{PlanGives, Plans};
 ghost use Rattle.bt_plan.specs.PlanRuns.{AreInRange};
 ghost use Rattle.bt_output.specs.Reads.{Unread, WordsUnread};
@@ -17,6 +18,7 @@ ghost use Rattle.bt_trace.specs.Traces.{AreKept};
 
 use crate::course::Course;
 use crate::join::join_and_run;
+use crate::mocking::mock_tree;
 use crate::outside::Outside;
 use crate::planning::plan_and_print;
 use crate::print::Print;
@@ -45,7 +47,7 @@ fn run_files<S: Shelf, K: Sink, C: Clock, D: Drivers>(
     requires tree { length tree.now ≤ most_file_bytes }
     requires world { length world.now ≤ most_file_bytes }
     requires quiet { NothingHeld (D.states outside.old.drivers.now) }
-    ensures ends { EndsAt (RunsOn course (option_copied main.entry) tree.now world.now) result
+    ensures ends { EndsAt (CourseGives course (option_copied main.entry) tree.now world.now) result
         (seen K.written K.faults C.moments D.states outside.old)
         (seen K.written K.faults C.moments D.states outside.new) }
     ensures stays { Stays S.faults K.faults D.states outside.old outside.new }
@@ -68,8 +70,8 @@ fn read_and_run<S: Shelf, K: Sink, C: Clock, D: Drivers>(
     ensures ends { let old = outside.old.shelf.now in
         let new = outside.new.shelf.now in
         CommandEnds (Rose (S.faults old) (S.faults new))
-        (Unread S.read_gives (S.holds old) (Some tree.now) (Some world.now) old new)
-        (FilesEnd (S.holds old) (Some tree.now) (Some world.now) (RunsOn course (option_copied main.entry))) result
+        (Unread S.read_gives (S.holds old) (tree_and_world tree.now world.now) old new)
+        (FilesEnd (S.holds old) (tree_and_world tree.now world.now) (RunsOn course (option_copied main.entry))) result
         (seen K.written K.faults C.moments D.states outside.old)
         (seen K.written K.faults C.moments D.states outside.new) }
     ensures stays { Stays S.faults K.faults D.states outside.old outside.new }
@@ -94,7 +96,7 @@ fn make_and_run<S: Shelf, K: Sink, C: Clock, D: Drivers>(
 ) -> Result<Exit, Refusal>
     requires few { leaves ≤ most_leaves }
     requires quiet { NothingHeld (D.states outside.old.drivers.now) }
-    ensures ends { FilesEnd (S.holds outside.old.shelf.now) None None (FilesGive (Load leaves)) result
+    ensures ends { FilesEnd (S.holds outside.old.shelf.now) no_files (FilesGive (Load leaves)) result
         (seen K.written K.faults C.moments D.states outside.old)
         (seen K.written K.faults C.moments D.states outside.new) }
     ensures stays { Stays S.faults K.faults D.states outside.old outside.new }
@@ -124,8 +126,8 @@ fn read_and_print<S: Shelf, K: Sink, C: Clock, D: Drivers>(
     ensures ends { let old = outside.old.shelf.now in
         let new = outside.new.shelf.now in
         CommandEnds (Rose (S.faults old) (S.faults new))
-        (Unread S.read_gives (S.holds old) (Some tree.now) None old new)
-        (FilesEnd (S.holds old) (Some tree.now) None (Prints print (option_copied main.entry))) result
+        (Unread S.read_gives (S.holds old) (tree_alone tree.now) old new)
+        (FilesEnd (S.holds old) (tree_alone tree.now) (Prints print (option_copied main.entry))) result
         (seen K.written K.faults C.moments D.states outside.old)
         (seen K.written K.faults C.moments D.states outside.new) }
     ensures stays { Stays S.faults K.faults D.states outside.old outside.new }
@@ -166,14 +168,71 @@ fn read_and_plan<S: Shelf, K: Sink, C: Clock, D: Drivers>(
     ensures ends { let old = outside.old.shelf.now in
         let new = outside.new.shelf.now in
         CommandEnds (Rose (S.faults old) (S.faults new))
-        (Unread S.read_gives (S.holds old) None (Some world.now) old new)
-        (FilesEnd (S.holds old) None (Some world.now) (Plans limits.now)) result
+        (Unread S.read_gives (S.holds old) (world_alone world.now) old new)
+        (FilesEnd (S.holds old) (world_alone world.now) (Plans limits.now)) result
         (seen K.written K.faults C.moments D.states outside.old)
         (seen K.written K.faults C.moments D.states outside.new) }
     ensures stays { Stays S.faults K.faults D.states outside.old outside.new }
 {
     let bytes = read_file(alloc, File::World, world, outside.shelf)?;
     plan_file(alloc, bytes.as_slice(), limits, outside)
+}
+
+/// Runs what the rules of these bytes of a rules file make of the tree of these bytes of a tree file, in
+/// the world of these bytes of a world script.
+fn mock_files<S: Shelf, K: Sink, C: Clock, D: Drivers>(
+    alloc: Global,
+    tree: &[u8],
+    world: &[u8],
+    rules: &[u8],
+    main: Option<&Name>,
+    outside: &mut Outside<S, K, C, D>,
+) -> Result<Exit, Refusal>
+    requires tree { length tree.now ≤ most_file_bytes }
+    requires world { length world.now ≤ most_file_bytes }
+    requires rules { length rules.now ≤ most_file_bytes }
+    requires quiet { NothingHeld (D.states outside.old.drivers.now) }
+    ensures ends { EndsAt (ScriptMocks (option_copied main.entry) tree.now world.now rules.now) result
+        (seen K.written K.faults C.moments D.states outside.old)
+        (seen K.written K.faults C.moments D.states outside.new) }
+    ensures stays { Stays S.faults K.faults D.states outside.old outside.new }
+{
+    let tree = parse_tree(alloc, tree, main)?;
+    let world = read_world(alloc, world)?;
+    let mocked = mock_tree(alloc, &tree, rules)?;
+    join_and_run(alloc, &mocked, &world, Course::Script, outside)
+}
+
+/// Reads a tree file, a world script and a rules file, and runs what the rules make of the tree.
+fn read_and_mock<S: Shelf, K: Sink, C: Clock, D: Drivers>(
+    alloc: Global,
+    tree: &Name,
+    world: &Name,
+    rules: &Name,
+    main: Option<&Name>,
+    outside: &mut Outside<S, K, C, D>,
+) -> Result<Exit, Refusal>
+    requires quiet { NothingHeld (D.states outside.old.drivers.now) }
+    ensures ends { let old = outside.old.shelf.now in
+        let new = outside.new.shelf.now in
+        CommandEnds (Rose (S.faults old) (S.faults new))
+        (Unread S.read_gives (S.holds old) (tree_world_rules tree.now world.now rules.now) old new)
+        (FilesEnd (S.holds old) (tree_world_rules tree.now world.now rules.now) (Mocks (option_copied main.entry))) result
+        (seen K.written K.faults C.moments D.states outside.old)
+        (seen K.written K.faults C.moments D.states outside.new) }
+    ensures stays { Stays S.faults K.faults D.states outside.old outside.new }
+{
+    let tree = read_file(alloc, File::Tree, tree, outside.shelf)?;
+    let world = read_file(alloc, File::World, world, outside.shelf)?;
+    let rules = read_file(alloc, File::Rules, rules, outside.shelf)?;
+    mock_files(
+        alloc,
+        tree.as_slice(),
+        world.as_slice(),
+        rules.as_slice(),
+        main,
+        outside,
+    )
 }
 
 /// Runs a command: its output is written, or it is refused and nothing is written yet.
@@ -188,8 +247,8 @@ fn run_command<S: Shelf, K: Sink, C: Clock, D: Drivers>(
         let new = outside.new.shelf.now in
         let command = command_seen command.entry in
         CommandEnds (Rose (S.faults old) (S.faults new))
-        (Unread S.read_gives (S.holds old) (tree_name command) (world_name command) old new)
-        (FilesEnd (S.holds old) (tree_name command) (world_name command) (FilesGive command)) result
+        (Unread S.read_gives (S.holds old) (files_of command) old new)
+        (FilesEnd (S.holds old) (files_of command) (FilesGive command)) result
         (seen K.written K.faults C.moments D.states outside.old)
         (seen K.written K.faults C.moments D.states outside.new) }
     ensures stays { Stays S.faults K.faults D.states outside.old outside.new }
@@ -220,6 +279,12 @@ fn run_command<S: Shelf, K: Sink, C: Clock, D: Drivers>(
             };
             read_and_plan(alloc, world, &limits, outside)
         }
+        Command::Mock {
+            tree,
+            world,
+            rules,
+            main,
+        } => read_and_mock(alloc, tree, world, rules, main, outside),
     }
 }
 

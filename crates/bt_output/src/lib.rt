@@ -6,6 +6,7 @@ mod command;
 mod course;
 mod dead_nodes;
 mod join;
+mod mocking;
 mod nodes;
 mod outside;
 mod plan_lines;

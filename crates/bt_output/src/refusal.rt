@@ -4,9 +4,10 @@ ghost use Rattle.bt_output.specs.Output.{line_of, too_long, unread};
 
 use bt_arena::JoinFault;
 use bt_command_line::Exit;
+use bt_mock::MockFault;
 use bt_model::WorldFault;
 use bt_outside::Sink;
-use bt_refusals::{TreeFault, join_refusal, tree_refusal, world_refusal};
+use bt_refusals::{TreeFault, join_refusal, rules_refusal, tree_refusal, world_refusal};
 use bt_script::{NoMemory, Stop};
 use bt_text::{TextStop, write_line};
 use std::alloc::Global;
@@ -18,6 +19,8 @@ pub enum File {
     Tree,
     /// The world script.
     World,
+    /// The rules file.
+    Rules,
 }
 
 /// Why a command has no output of its own.
@@ -38,6 +41,8 @@ pub enum Refusal {
     Join(JoinFault),
     /// A plan is asked for, and the world has no goal.
     NoGoal,
+    /// The rules file says no rules, or they make of the tree one that passes a limit.
+    Rules(MockFault),
     /// The program is out of memory.
     NoMemory,
 }
@@ -94,6 +99,20 @@ impl From<Stop<JoinFault>> for Refusal {
     }
 }
 
+impl From<Stop<MockFault>> for Refusal {
+    ghost use Rattle.bt_output.specs.declared.refusal.Refusal.TheVariants as refusal;
+    ghost use Rattle.bt_output.specs.Output.{stopped_as};
+
+    ghost from_gives = { λ stopped refused. refused ≡ stopped_as refusal.Rules stopped };
+
+    fn from(stopped: Stop<MockFault>) -> Refusal {
+        match stopped {
+            Stop::Fault(fault) => Refusal::Rules(fault),
+            Stop::NoMemory => Refusal::NoMemory,
+        }
+    }
+}
+
 /// Writes the one line of a command, which ends the program with this exit.
 fn write_last<K: Sink>(line: &[u8], exit: Exit, out: &mut K) -> Exit
     requires { IsSpoken exit }
@@ -117,6 +136,7 @@ fn write_unread<K: Sink>(file: File, out: &mut K) -> Exit
     match file {
         File::Tree => write_last(b"refused read tree\n", Exit::Read, out),
         File::World => write_last(b"refused read world\n", Exit::Read, out),
+        File::Rules => write_last(b"refused read rules\n", Exit::Read, out),
     }
 }
 
@@ -129,6 +149,7 @@ fn write_too_long<K: Sink>(file: File, out: &mut K) -> Exit
     match file {
         File::Tree => write_last(b"refused tree TooLong\n", Exit::Tree, out),
         File::World => write_last(b"refused world TooLong\n", Exit::World, out),
+        File::Rules => write_last(b"refused rules TooLong\n", Exit::Rules, out),
     }
 }
 
@@ -156,6 +177,10 @@ pub fn write_refusal<K: Sink>(alloc: Global, refusal: &Refusal, out: &mut K) -> 
             Err(NoMemory) => Exit::Memory,
         },
         Refusal::NoGoal => write_last(b"refused world NoGoal\n", Exit::World, out),
+        Refusal::Rules(fault) => match rules_refusal(alloc, fault) {
+            Ok(line) => write_last(line.as_slice(), Exit::Rules, out),
+            Err(NoMemory) => Exit::Memory,
+        },
         Refusal::NoMemory => Exit::Memory,
     }
 }

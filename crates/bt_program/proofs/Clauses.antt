@@ -11,7 +11,7 @@ use Rattle.bt_command_line.specs.declared.exit.Exit.{Exit}
 use Rattle.bt_command_line.specs.declared.exit.Exit.TheVariants as exit
 use Rattle.bt_refusals.specs.declared.fault.TreeFault.{TreeFault}
 use Rattle.bt_refusals.specs.declared.fault.TreeFault.TheVariants as fault
-use Rattle.bt_output.specs.Answers.{Answers, AreUncalled, AtMoments, CommandAnswered, DriversLeft, FilesAnswered, Gave, IfTold, IsWhole, ReadFailed, Side, ToldIfNamed}
+use Rattle.bt_output.specs.Answers.{Answers, AreTold, AreUncalled, AtMoments, CommandAnswered, DriversLeft, FilesAnswered, Gave, IfTold, IsWhole, ReadFailed, Side, ToldIfNamed}
 use Rattle.bt_program.specs.Headline.{EachOutput, IsGiven, PlanReaches, ReachesIfPlan, UnreadLine, WholeOutput, moments_for}
 use Rattle.bt_output.specs.Plans.{IsPlanned, PlanGives, PlannedOr, Plans, ReadPlans, first_unserved, plan_exit, plan_output, reached_lines, refusal_for}
 use Rattle.bt_plan.specs.declared.ending.End.{End}
@@ -30,14 +30,16 @@ use Rattle.bt_model.specs.Terms.{scope_count}
 use Rattle.bt_model.specs.Trees.{IsValid}
 use Rattle.bt_model.specs.Worlds.{IsValidWorld}
 use Rattle.std.specs.List.{concat}
-use Rattle.bt_output.specs.Jobs.{CommandGives, FilesGive, held_by, tree_name, world_name}
-use Rattle.bt_output.specs.Output.{Given, Output, PrintGives, RunGives, TreeGives, WorldGives, given, is_too_long, join_refused, joined_output, lack_of, no_goal, print_output, run_exit, too_long, tree_refused, unread, words_refused, world_output, world_refused}
+use Rattle.bt_output.specs.Files.{Contents, Named, world_alone}
+use Rattle.bt_output.specs.Jobs.{CommandGives, FilesGive, files_of, held, held_by}
+use Rattle.bt_output.specs.Output.{Given, MockGives, Output, PrintGives, ReadGives, RunGives, Standing, TreeGives, WorldGives, given, is_too_long, itself, join_refused, joined_output, lack_of, mocked, no_goal, print_output, rules_refused, run_exit, standing_output, too_long, tree_refused, unread, words_refused, world_output, world_refused}
 use Rattle.bt_output.specs.TreeFiles.{TreeReads, built, element_read, with_models}
-use Rattle.bt_command_line.specs.Words.{Command, Tick, Live, Load, Check, Dead, Plan}
+use Rattle.bt_command_line.specs.Words.{Command, Tick, Live, Load, Check, Dead, Plan, Mock}
 use Rattle.bt_output.specs.declared.refusal.File.{File}
 use Rattle.bt_output.specs.declared.refusal.File.TheVariants as file
 use Rattle.bt_arena.specs.declared.join_fault.JoinFault.{JoinFault}
 use Rattle.bt_load.specs.Texts.{tree_text, world_text}
+use Rattle.bt_mock.specs.declared.fault.MockFault.{MockFault}
 use Rattle.bt_model.specs.declared.fault.RunFault.{RunFault}
 use Rattle.bt_model.specs.declared.term.Tree.{Tree}
 use Rattle.bt_model.specs.declared.world.World.{World}
@@ -72,18 +74,27 @@ one_if : (b : Bool) (x y z : Output) (P Q : Type 0) → MatchBool b (x ≡ z) P 
 one_if true x y z P Q p q k = p ∙ sym q
 one_if false x y z P Q p q k = k p q
 
-one_world : OneReading → (tree : Tree) (world : List ℕ) (g : Given) (x y : Output) → WorldGives tree world g x → WorldGives tree world g y → x ≡ y
-one_world one tree world g x y p q =
-    p.2 ∙ ap (λ (r : Result World WorldFault). world_output r tree g) (one.world world p.0 q.0 p.1 q.1) ∙ sym q.2
+one_world : OneReading → (tree : Tree) (stands : Standing) (world : List ℕ) (g : Given) (x y : Output) → WorldGives tree stands world g x → WorldGives tree stands world g y → x ≡ y
+one_world one tree stands world g x y p q =
+    p.2 ∙ ap (λ (r : Result World WorldFault). world_output r (stands tree) g) (one.world world p.0 q.0 p.1 q.1) ∙ sym q.2
 
-one_reading : OneReading → (r : Result Tree TreeFault) (world : List ℕ) (g : Given) (x y : Output) → TreeGives r world g x → TreeGives r world g y → x ≡ y
-one_reading one (Ok tree) world g x y p q = one_world one tree world g x y p q
-one_reading one (Err f) world g x y p q = p ∙ sym q
+one_reading : OneReading → (r : Result Tree TreeFault) (stands : Standing) (world : List ℕ) (g : Given) (x y : Output) → TreeGives r stands world g x → TreeGives r stands world g y → x ≡ y
+one_reading one (Ok tree) stands world g x y p q = one_world one tree stands world g x y p q
+one_reading one (Err f) stands world g x y p q = p ∙ sym q
+
+one_read : OneReading → (main : Option (List ℕ)) (stands : Standing) (tree world : List ℕ) (g : Given) (x y : Output) → ReadGives main stands tree world g x → ReadGives main stands tree world g y → x ≡ y
+one_read one main stands tree world g x y p q =
+    one_reading one q.0 stands world g x y (subst (λ (r : Result Tree TreeFault). TreeGives r stands world g x) (one_tree one main tree p.0 q.0 p.1 q.1) p.2) q.2
 
 one_run : OneReading → (main : Option (List ℕ)) (tree world : List ℕ) (g : Given) (x y : Output) → RunGives main tree world g x → RunGives main tree world g y → x ≡ y
 one_run one main tree world g x y p q =
     one_if (is_too_long tree) x y (too_long file.Tree) _ _ p q (λ p1 q1. one_if (is_too_long world) x y (too_long file.World) _ _ p1 q1
-    (λ p2 q2. one_reading one q2.0 world g x y (subst (λ (r : Result Tree TreeFault). TreeGives r world g x) (one_tree one main tree p2.0 q2.0 p2.1 q2.1) p2.2) q2.2))
+    (λ p2 q2. one_read one main itself tree world g x y p2 q2))
+
+one_mock : OneReading → (main : Option (List ℕ)) (tree world rules : List ℕ) (g : Given) (x y : Output) → MockGives main tree world rules g x → MockGives main tree world rules g y → x ≡ y
+one_mock one main tree world rules g x y p q =
+    one_if (is_too_long tree) x y (too_long file.Tree) _ _ p q (λ p1 q1. one_if (is_too_long world) x y (too_long file.World) _ _ p1 q1
+    (λ p2 q2. one_if (is_too_long rules) x y (too_long file.Rules) _ _ p2 q2 (λ p3 q3. one_read one main (mocked rules) tree world g x y p3 q3)))
 
 one_print : OneReading → (print : Print) (main : Option (List ℕ)) (tree : List ℕ) (x y : Output) → PrintGives print main tree x → PrintGives print main tree y → x ≡ y
 one_print one print main tree x y p q =
@@ -112,13 +123,14 @@ abbrev limits_of : ℕ → ℕ → ℕ → Limits
 limits_of expand ticks period = record { expand = expand; ticks = ticks; period = period }
 
 -- the files of a command have one output
-one_files : OneReading → (c : Command) (tree world : List ℕ) (moments : Moments) (drivers : List DriverState) (x y : Output) → FilesGive c tree world moments drivers x → FilesGive c tree world moments drivers y → x ≡ y
-one_files one (Tick t w main) tree world moments drivers x y p q = one_run one main tree world (given course.Script moments drivers) x y p q
-one_files one (Live t w rounds main) tree world moments drivers x y p q = one_run one main tree world (given (course.Rounds rounds) moments drivers) x y p q
-one_files one (Load leaves) tree world moments drivers x y p q = one_run one None (tree_text leaves) (world_text leaves) (given (course.Load leaves) moments drivers) x y p q
-one_files one (Check t main) tree world moments drivers x y p q = one_print one print.Whole main tree x y p q
-one_files one (Dead t main) tree world moments drivers x y p q = one_print one print.Dead main tree x y p q
-one_files one (Plan w expand ticks period) tree world moments drivers x y p q = one_plan one (limits_of expand ticks period) world drivers x y p q
+one_files : OneReading → (c : Command) (files : Contents) (moments : Moments) (drivers : List DriverState) (x y : Output) → FilesGive c files moments drivers x → FilesGive c files moments drivers y → x ≡ y
+one_files one (Tick t w main) files moments drivers x y p q = one_run one main files.tree files.world (given course.Script moments drivers) x y p q
+one_files one (Live t w rounds main) files moments drivers x y p q = one_run one main files.tree files.world (given (course.Rounds rounds) moments drivers) x y p q
+one_files one (Load leaves) files moments drivers x y p q = one_run one None (tree_text leaves) (world_text leaves) (given (course.Load leaves) moments drivers) x y p q
+one_files one (Check t main) files moments drivers x y p q = one_print one print.Whole main files.tree x y p q
+one_files one (Dead t main) files moments drivers x y p q = one_print one print.Dead main files.tree x y p q
+one_files one (Plan w expand ticks period) files moments drivers x y p q = one_plan one (limits_of expand ticks period) files.world drivers x y p q
+one_files one (Mock t w rules main) files moments drivers x y p q = one_mock one main files.tree files.world files.rules (given course.Script moments drivers) x y p q
 
 -- nothing was written for want of memory
 nothing_gave : (o : Output) (result : Exit) (a b : Side) → result ≡ exit.Memory → b.written ≡ a.written → Gave o result a b
@@ -136,6 +148,7 @@ whole_given o exit.NoPlan a b i p = p
 whole_given o exit.Read a b i p = absurd i
 whole_given o exit.Write a b i p = absurd i
 whole_given o exit.Memory a b i p = absurd i
+whole_given o exit.Rules a b i p = p
 
 -- where the sink's count did not rise, the output is whole or memory ran out
 whole_or_memory : (o : Output) (result : Exit) (a b : Side) → (Rose a.faults b.faults → ⊥) → Gave o result a b → (result ≡ exit.Memory) ⊎ IsWhole o result a b
@@ -148,22 +161,60 @@ whole_or_memory o exit.NoPlan a b n p = inr p
 whole_or_memory o exit.Read a b n p = inr p
 whole_or_memory o exit.Write a b n p = absurd (n p.0)
 whole_or_memory o exit.Memory a b n p = inl refl
+whole_or_memory o exit.Rules a b n p = inr p
 
 -- where a write failed the sink's count rose
 write_gave : (o : Output) (result : Exit) (a b : Side) → result ≡ exit.Write → Gave o result a b → Rose a.faults b.faults
 write_gave o result a b is gave = let failed : Gave o exit.Write a b = subst (λ (e : Exit). Gave o e a b) is gave in failed.0
 
+-- the bytes of the files that are named, and none of the others
+abbrev only : Option (List ℕ) → List ℕ → List ℕ
+only (Some name) bytes = bytes
+only None bytes = []
+
+abbrev own : Named → Contents → Contents
+own named files = record { tree = only named.tree files.tree; world = only named.world files.world; rules = only named.rules files.rules }
+
+-- what the shelf tells
+held_is : (h : List ℕ → List ℕ) (name : Option (List ℕ)) (bytes : List ℕ) → ToldIfNamed (Some h) name (λ file. bytes ≡ file) → only name bytes ≡ held h name
+held_is h None bytes told = refl
+held_is h (Some name) bytes told = told
+
+told_is : (h : List ℕ → List ℕ) (named : Named) (files : Contents) → AreTold (Some h) named files → own named files ≡ held_by h named
+told_is h named files told =
+    ap (λ (z : List ℕ). let c : Contents = record { tree = z; world = only named.world files.world; rules = only named.rules files.rules } in c) (held_is h named.tree files.tree told.tree)
+    ∙ ap (λ (z : List ℕ). let c : Contents = record { tree = held h named.tree; world = z; rules = only named.rules files.rules } in c) (held_is h named.world files.world told.world)
+    ∙ ap (λ (z : List ℕ). let c : Contents = record { tree = held h named.tree; world = held h named.world; rules = z } in c) (held_is h named.rules files.rules told.rules)
+
+-- an output is about the files that are named alone
+of_own : (c : Command) (files : Contents) (moments : Moments) (drivers : List DriverState) (o : Output) → FilesGive c files moments drivers o → FilesGive c (own (files_of c) files) moments drivers o
+of_own (Tick t w main) files moments drivers o p = p
+of_own (Live t w rounds main) files moments drivers o p = p
+of_own (Load leaves) files moments drivers o p = p
+of_own (Check t main) files moments drivers o p = p
+of_own (Dead t main) files moments drivers o p = p
+of_own (Plan w expand ticks period) files moments drivers o p = p
+of_own (Mock t w rules main) files moments drivers o p = p
+
+from_own : (c : Command) (files : Contents) (moments : Moments) (drivers : List DriverState) (o : Output) → FilesGive c (own (files_of c) files) moments drivers o → FilesGive c files moments drivers o
+from_own (Tick t w main) files moments drivers o p = p
+from_own (Live t w rounds main) files moments drivers o p = p
+from_own (Load leaves) files moments drivers o p = p
+from_own (Check t main) files moments drivers o p = p
+from_own (Dead t main) files moments drivers o p = p
+from_own (Plan w expand ticks period) files moments drivers o p = p
+from_own (Mock t w rules main) files moments drivers o p = p
+
 -- the bytes that the shelf tells are those of the answer
-files_told : (h : List ℕ → List ℕ) (c : Command) (tree world : List ℕ) (moments : Moments) (drivers : List DriverState) (o : Output) → ToldIfNamed (Some h) (tree_name c) (λ file. tree ≡ file) → ToldIfNamed (Some h) (world_name c) (λ file. world ≡ file)
-    → FilesGive c (held_by h (tree_name c)) (held_by h (world_name c)) moments drivers o → FilesGive c tree world moments drivers o
-files_told h (Tick t w main) tree world moments drivers o is_tree is_world p =
-    subst (λ (z : List ℕ). RunGives main tree z (given course.Script moments drivers) o) (sym is_world) (subst (λ (z : List ℕ). RunGives main z (h w) (given course.Script moments drivers) o) (sym is_tree) p)
-files_told h (Live t w rounds main) tree world moments drivers o is_tree is_world p =
-    subst (λ (z : List ℕ). RunGives main tree z (given (course.Rounds rounds) moments drivers) o) (sym is_world) (subst (λ (z : List ℕ). RunGives main z (h w) (given (course.Rounds rounds) moments drivers) o) (sym is_tree) p)
-files_told h (Load leaves) tree world moments drivers o is_tree is_world p = p
-files_told h (Check t main) tree world moments drivers o is_tree is_world p = subst (λ (z : List ℕ). PrintGives print.Whole main z o) (sym is_tree) p
-files_told h (Dead t main) tree world moments drivers o is_tree is_world p = subst (λ (z : List ℕ). PrintGives print.Dead main z o) (sym is_tree) p
-files_told h (Plan w expand ticks period) tree world moments drivers o is_tree is_world p = subst (λ (z : List ℕ). PlanGives (limits_of expand ticks period) z drivers o) (sym is_world) p
+files_told : (h : List ℕ → List ℕ) (c : Command) (files : Contents) (moments : Moments) (drivers : List DriverState) (o : Output) → AreTold (Some h) (files_of c) files
+    → FilesGive c (held_by h (files_of c)) moments drivers o → FilesGive c files moments drivers o
+files_told h c files moments drivers o told p =
+    from_own c files moments drivers o (subst (λ (z : Contents). FilesGive c z moments drivers o) (sym (told_is h (files_of c) files told)) p)
+
+told_files : (h : List ℕ → List ℕ) (c : Command) (files : Contents) (moments : Moments) (drivers : List DriverState) (o : Output) → AreTold (Some h) (files_of c) files
+    → FilesGive c files moments drivers o → FilesGive c (held_by h (files_of c)) moments drivers o
+told_files h c files moments drivers o told p =
+    subst (λ (z : Contents). FilesGive c z moments drivers o) (told_is h (files_of c) files told) (of_own c files moments drivers o p)
 
 -- ---- Moments
 
@@ -177,33 +228,34 @@ if_more None P Q more x = tt
 if_more (Some told) P Q more x = more told x
 
 -- what is so of some moments is so of those that have to be told
-needed : (c : Command) (tree world : List ℕ) (result : Exit) (a b : Side) (clock : Option Moments) →
-    AtMoments clock (λ moments. Answers (FilesGive c tree world moments a.drivers) result a b) → IfTold (moments_for (Some c) clock) (λ moments. Answers (FilesGive c tree world moments a.drivers) result a b)
-needed (Tick t w main) tree world result a b clock x = x.holds
-needed (Live t w rounds main) tree world result a b None x = tt
-needed (Live t w rounds main) tree world result a b (Some told) x = subst (λ (moments : Moments). Answers (FilesGive (Live t w rounds main) tree world moments a.drivers) result a b) x.told x.holds
-needed (Load leaves) tree world result a b clock x = x.holds
-needed (Check t main) tree world result a b clock x = x.holds
-needed (Dead t main) tree world result a b clock x = x.holds
-needed (Plan w expand ticks period) tree world result a b clock x = x.holds
+needed : (c : Command) (files : Contents) (result : Exit) (a b : Side) (clock : Option Moments) →
+    AtMoments clock (λ moments. Answers (FilesGive c files moments a.drivers) result a b) → IfTold (moments_for (Some c) clock) (λ moments. Answers (FilesGive c files moments a.drivers) result a b)
+needed (Tick t w main) files result a b clock x = x.holds
+needed (Live t w rounds main) files result a b None x = tt
+needed (Live t w rounds main) files result a b (Some told) x = subst (λ (moments : Moments). Answers (FilesGive (Live t w rounds main) files moments a.drivers) result a b) x.told x.holds
+needed (Load leaves) files result a b clock x = x.holds
+needed (Check t main) files result a b clock x = x.holds
+needed (Dead t main) files result a b clock x = x.holds
+needed (Plan w expand ticks period) files result a b clock x = x.holds
+needed (Mock t w rules main) files result a b clock x = x.holds
 
 -- ---- Clauses
 
 -- the files of a command were answered
 abbrev Answered : Option (List ℕ → List ℕ) → Command → Exit → Side → Side → Type 0
-Answered holds c result a b = FilesAnswered holds (tree_name c) (world_name c) (FilesGive c) result a b
+Answered holds c result a b = FilesAnswered holds (files_of c) (FilesGive c) result a b
 
 -- the clauses of a command
 module _ (one : OneReading) (c : Command) (result : Exit) (shelf : Type 0) (IsUnread : File → Type 0) (a b : Side) where
-  answered_gave : (tree world : List ℕ) (moments : Moments) (o : Output) → FilesGive c tree world moments a.drivers o → Answers (FilesGive c tree world moments a.drivers) result a b → Gave o result a b
-  answered_gave tree world moments o p (inl x) = subst (λ (z : Output). Gave z result a b) (one_files one c tree world moments a.drivers x.0 o x.1 p) x.2
-  answered_gave tree world moments o p (inr y) = nothing_gave o result a b y.0 y.1
+  answered_gave : (files : Contents) (moments : Moments) (o : Output) → FilesGive c files moments a.drivers o → Answers (FilesGive c files moments a.drivers) result a b → Gave o result a b
+  answered_gave files moments o p (inl x) = subst (λ (z : Output). Gave z result a b) (one_files one c files moments a.drivers x.0 o x.1 p) x.2
+  answered_gave files moments o p (inr y) = nothing_gave o result a b y.0 y.1
 
   each_answered : (h : List ℕ → List ℕ) (f : Answered (Some h) c result a b) → EachOutput (Some h) (Some c) a (λ o. Gave o result a b)
   each_answered h f =
-      if_more (moments_for (Some c) a.clock) (λ moments. Answers (FilesGive c f.tree f.world moments a.drivers) result a b) (λ moments. (o : Output) → CommandGives (Some c) h moments a.drivers o → Gave o result a b)
-      (λ moments answers o p. answered_gave f.tree f.world moments o (files_told h c f.tree f.world moments a.drivers o f.is_tree f.is_world p) answers)
-      (needed c f.tree f.world result a b a.clock f.answers)
+      if_more (moments_for (Some c) a.clock) (λ moments. Answers (FilesGive c f.files moments a.drivers) result a b) (λ moments. (o : Output) → CommandGives (Some c) h moments a.drivers o → Gave o result a b)
+      (λ moments answers o p. answered_gave f.files moments o (files_told h c f.files moments a.drivers o f.told p) answers)
+      (needed c f.files result a b a.clock f.answers)
 
   each_told : (h : List ℕ → List ℕ) → ReadFailed shelf IsUnread result a b ⊎ Answered (Some h) c result a b → EachOutput (Some h) (Some c) a (λ o. Gave o result a b ⊎ ReadFailed shelf IsUnread result a b)
   each_told h (inl r) = each_always (moments_for (Some c) a.clock) (λ moments o p. inr r)
@@ -258,6 +310,7 @@ IsOfFiles exit.Tree = Unit {0}
 IsOfFiles exit.World = Unit {0}
 IsOfFiles exit.Fault = Unit {0}
 IsOfFiles exit.NoPlan = Unit {0}
+IsOfFiles exit.Rules = Unit {0}
 IsOfFiles _ = ⊥
 
 same_exit : (o z : Output) → o ≡ z → IsOfFiles z.exit → IsOfFiles o.exit
@@ -271,17 +324,21 @@ exit_of_join : (lack : Option JoinFault) (tree : Tree) (world : World) (g : Give
 exit_of_join None tree world g = exit_of_end (run_over tree world (g.events world)).fault
 exit_of_join (Some fault) tree world g = tt
 
-exit_of_world : (r : Result World WorldFault) (tree : Tree) (g : Given) → IsOfFiles (world_output r tree g).exit
-exit_of_world (Ok world) tree g = exit_of_join (lack_of tree world g.drivers) tree world g
-exit_of_world (Err f) tree g = tt
+exit_of_standing : (stands : Result Tree MockFault) (world : World) (g : Given) → IsOfFiles (standing_output stands world g).exit
+exit_of_standing (Ok tree) world g = exit_of_join (lack_of tree world g.drivers) tree world g
+exit_of_standing (Err f) world g = tt
+
+exit_of_world : (r : Result World WorldFault) (stands : Result Tree MockFault) (g : Given) → IsOfFiles (world_output r stands g).exit
+exit_of_world (Ok world) stands g = exit_of_standing stands world g
+exit_of_world (Err f) stands g = tt
 
 exit_of_printed : (print : Print) (r : Result Tree TreeFault) → IsOfFiles (print_output print r).exit
 exit_of_printed print (Ok tree) = tt
 exit_of_printed print (Err f) = tt
 
-exit_of_tree : (r : Result Tree TreeFault) (world : List ℕ) (g : Given) (o : Output) → TreeGives r world g o → IsOfFiles o.exit
-exit_of_tree (Ok tree) world g o p = same_exit o _ p.2 (exit_of_world p.0 tree g)
-exit_of_tree (Err f) world g o p = same_exit o (tree_refused f) p tt
+exit_of_tree : (r : Result Tree TreeFault) (stands : Standing) (world : List ℕ) (g : Given) (o : Output) → TreeGives r stands world g o → IsOfFiles o.exit
+exit_of_tree (Ok tree) stands world g o p = same_exit o _ p.2 (exit_of_world p.0 (stands tree) g)
+exit_of_tree (Err f) stands world g o p = same_exit o (tree_refused f) p tt
 
 exit_of_long : (b : Bool) (o z : Output) (P : Type 0) → IsOfFiles z.exit → MatchBool b (o ≡ z) P → (P → IsOfFiles o.exit) → IsOfFiles o.exit
 exit_of_long true o z P x p k = same_exit o z p x
@@ -290,7 +347,12 @@ exit_of_long false o z P x p k = k p
 exit_of_run : (main : Option (List ℕ)) (tree world : List ℕ) (g : Given) (o : Output) → RunGives main tree world g o → IsOfFiles o.exit
 exit_of_run main tree world g o p =
     exit_of_long (is_too_long tree) o (too_long file.Tree) _ tt p
-    (λ p1. exit_of_long (is_too_long world) o (too_long file.World) _ tt p1 (λ p2. exit_of_tree p2.0 world g o p2.2))
+    (λ p1. exit_of_long (is_too_long world) o (too_long file.World) _ tt p1 (λ p2. exit_of_tree p2.0 itself world g o p2.2))
+
+exit_of_mock : (main : Option (List ℕ)) (tree world rules : List ℕ) (g : Given) (o : Output) → MockGives main tree world rules g o → IsOfFiles o.exit
+exit_of_mock main tree world rules g o p =
+    exit_of_long (is_too_long tree) o (too_long file.Tree) _ tt p (λ p1. exit_of_long (is_too_long world) o (too_long file.World) _ tt p1
+    (λ p2. exit_of_long (is_too_long rules) o (too_long file.Rules) _ tt p2 (λ p3. exit_of_tree p3.0 (mocked rules) world g o p3.2)))
 
 exit_of_print : (print : Print) (main : Option (List ℕ)) (tree : List ℕ) (o : Output) → PrintGives print main tree o → IsOfFiles o.exit
 exit_of_print print main tree o p =
@@ -316,92 +378,84 @@ exit_of_read_plan (Err fault) limits drivers o p = same_exit o (world_refused fa
 exit_of_plan : (limits : Limits) (world : List ℕ) (drivers : List DriverState) (o : Output) → PlanGives limits world drivers o → IsOfFiles o.exit
 exit_of_plan limits world drivers o p = exit_of_long (is_too_long world) o (too_long file.World) _ tt p (λ p1. exit_of_read_plan p1.0 limits drivers o p1.2)
 
-exit_of_files : (c : Command) (tree world : List ℕ) (moments : Moments) (drivers : List DriverState) (o : Output) → FilesGive c tree world moments drivers o → IsOfFiles o.exit
-exit_of_files (Tick t w main) tree world moments drivers o p = exit_of_run main tree world (given course.Script moments drivers) o p
-exit_of_files (Live t w rounds main) tree world moments drivers o p = exit_of_run main tree world (given (course.Rounds rounds) moments drivers) o p
-exit_of_files (Load leaves) tree world moments drivers o p = exit_of_run None (tree_text leaves) (world_text leaves) (given (course.Load leaves) moments drivers) o p
-exit_of_files (Check t main) tree world moments drivers o p = exit_of_print print.Whole main tree o p
-exit_of_files (Dead t main) tree world moments drivers o p = exit_of_print print.Dead main tree o p
-exit_of_files (Plan w expand ticks period) tree world moments drivers o p = exit_of_plan (limits_of expand ticks period) world drivers o p
-
--- the bytes of the answer are those that the shelf tells
-told_files : (h : List ℕ → List ℕ) (c : Command) (tree world : List ℕ) (moments : Moments) (drivers : List DriverState) (o : Output) → ToldIfNamed (Some h) (tree_name c) (λ file. tree ≡ file) → ToldIfNamed (Some h) (world_name c) (λ file. world ≡ file)
-    → FilesGive c tree world moments drivers o → FilesGive c (held_by h (tree_name c)) (held_by h (world_name c)) moments drivers o
-told_files h (Tick t w main) tree world moments drivers o is_tree is_world p =
-    subst (λ (z : List ℕ). RunGives main z (h w) (given course.Script moments drivers) o) is_tree (subst (λ (z : List ℕ). RunGives main tree z (given course.Script moments drivers) o) is_world p)
-told_files h (Live t w rounds main) tree world moments drivers o is_tree is_world p =
-    subst (λ (z : List ℕ). RunGives main z (h w) (given (course.Rounds rounds) moments drivers) o) is_tree (subst (λ (z : List ℕ). RunGives main tree z (given (course.Rounds rounds) moments drivers) o) is_world p)
-told_files h (Load leaves) tree world moments drivers o is_tree is_world p = p
-told_files h (Check t main) tree world moments drivers o is_tree is_world p = subst (λ (z : List ℕ). PrintGives print.Whole main z o) is_tree p
-told_files h (Dead t main) tree world moments drivers o is_tree is_world p = subst (λ (z : List ℕ). PrintGives print.Dead main z o) is_tree p
-told_files h (Plan w expand ticks period) tree world moments drivers o is_tree is_world p = subst (λ (z : List ℕ). PlanGives (limits_of expand ticks period) z drivers o) is_world p
+exit_of_files : (c : Command) (files : Contents) (moments : Moments) (drivers : List DriverState) (o : Output) → FilesGive c files moments drivers o → IsOfFiles o.exit
+exit_of_files (Tick t w main) files moments drivers o p = exit_of_run main files.tree files.world (given course.Script moments drivers) o p
+exit_of_files (Live t w rounds main) files moments drivers o p = exit_of_run main files.tree files.world (given (course.Rounds rounds) moments drivers) o p
+exit_of_files (Load leaves) files moments drivers o p = exit_of_run None (tree_text leaves) (world_text leaves) (given (course.Load leaves) moments drivers) o p
+exit_of_files (Check t main) files moments drivers o p = exit_of_print print.Whole main files.tree o p
+exit_of_files (Dead t main) files moments drivers o p = exit_of_print print.Dead main files.tree o p
+exit_of_files (Plan w expand ticks period) files moments drivers o p = exit_of_plan (limits_of expand ticks period) files.world drivers o p
+exit_of_files (Mock t w rules main) files moments drivers o p = exit_of_mock main files.tree files.world files.rules (given course.Script moments drivers) o p
 
 -- no tree was run where a file was not read
 unread_left : (f : File) (a b : Side) → DriversLeft (unread f).drivers a.drivers b.drivers → AreUncalled a.drivers b.drivers
 unread_left file.Tree a b p = p
 unread_left file.World a b p = p
+unread_left file.Rules a b p = p
 
 not_given : (f : File) → IsGiven (unread f).exit → ⊥
 not_given file.Tree x = x
 not_given file.World x = x
+not_given file.Rules x = x
 
 not_words : (f : File) → (unread f).exit ≡ exit.Words → ⊥
 not_words file.Tree e = cc
 not_words file.World e = cc
+not_words file.Rules e = cc
 
 -- what was given whole, and what a failed read gave
 module _ (c : Command) (result : Exit) (shelf : Type 0) (IsUnread : File → Type 0) (a b : Side) where
-  whole_answered : (h : List ℕ → List ℕ) (f : Answered (Some h) c result a b) → IsGiven result → (moments : Moments) → Answers (FilesGive c f.tree f.world moments a.drivers) result a b
+  whole_answered : (h : List ℕ → List ℕ) (f : Answered (Some h) c result a b) → IsGiven result → (moments : Moments) → Answers (FilesGive c f.files moments a.drivers) result a b
       → (o : Output) × CommandGives (Some c) h moments a.drivers o × IsWhole o result a b
-  whole_answered h f given moments (inl x) = (x.0, told_files h c f.tree f.world moments a.drivers x.0 f.is_tree f.is_world x.1, whole_given x.0 result a b given x.2)
+  whole_answered h f given moments (inl x) = (x.0, told_files h c f.files moments a.drivers x.0 f.told x.1, whole_given x.0 result a b given x.2)
   whole_answered h f given moments (inr y) = absurd (subst IsGiven y.0 given)
 
   pub whole_clause : (holds : Option (List ℕ → List ℕ)) → ReadFailed shelf IsUnread result a b ⊎ Answered holds c result a b → IsGiven result → WholeOutput holds (Some c) result a b
   whole_clause None x given = tt
   whole_clause (Some h) (inl r) given = absurd (not_given r.1 (subst IsGiven (sym (whole_given (unread r.1) result a b given r.3).0) given))
   whole_clause (Some h) (inr f) given =
-      if_more (moments_for (Some c) a.clock) (λ moments. Answers (FilesGive c f.tree f.world moments a.drivers) result a b) (λ moments. (o : Output) × CommandGives (Some c) h moments a.drivers o × IsWhole o result a b)
-      (whole_answered h f given) (needed c f.tree f.world result a b a.clock f.answers)
+      if_more (moments_for (Some c) a.clock) (λ moments. Answers (FilesGive c f.files moments a.drivers) result a b) (λ moments. (o : Output) × CommandGives (Some c) h moments a.drivers o × IsWhole o result a b)
+      (whole_answered h f given) (needed c f.files result a b a.clock f.answers)
 
-  read_answered : (tree world : List ℕ) (moments : Moments) → result ≡ exit.Read → Answers (FilesGive c tree world moments a.drivers) result a b → ⊥
-  read_answered tree world moments is (inl x) =
+  read_answered : (files : Contents) (moments : Moments) → result ≡ exit.Read → Answers (FilesGive c files moments a.drivers) result a b → ⊥
+  read_answered files moments is (inl x) =
       let gave : Gave x.0 exit.Read a b = subst (λ (e : Exit). Gave x.0 e a b) is x.2 in
-      subst IsOfFiles gave.0 (exit_of_files c tree world moments a.drivers x.0 x.1)
-  read_answered tree world moments is (inr y) = let e : exit.Memory ≡ exit.Read = sym y.0 ∙ is in cc
+      subst IsOfFiles gave.0 (exit_of_files c files moments a.drivers x.0 x.1)
+  read_answered files moments is (inr y) = let e : exit.Memory ≡ exit.Read = sym y.0 ∙ is in cc
 
-  never_read : (clock : Option Moments) (tree world : List ℕ) → result ≡ exit.Read → AtMoments clock (λ moments. Answers (FilesGive c tree world moments a.drivers) result a b) → ⊥
-  never_read clock tree world is x = read_answered tree world x.moments is x.holds
+  never_read : (clock : Option Moments) (files : Contents) → result ≡ exit.Read → AtMoments clock (λ moments. Answers (FilesGive c files moments a.drivers) result a b) → ⊥
+  never_read clock files is x = read_answered files x.moments is x.holds
 
   pub read_clause : (holds : Option (List ℕ → List ℕ)) → ReadFailed shelf IsUnread result a b ⊎ Answered holds c result a b → result ≡ exit.Read → shelf × UnreadLine IsUnread a b
   read_clause holds (inl r) is =
       let gave : Gave (unread r.1) exit.Read a b = subst (λ (e : Exit). Gave (unread r.1) e a b) is r.3 in
       (r.0, (r.1, r.2, gave.1, unread_left r.1 a b gave.2))
-  read_clause holds (inr f) is = absurd (never_read a.clock f.tree f.world is f.answers)
+  read_clause holds (inr f) is = absurd (never_read a.clock f.files is f.answers)
 
-  words_answered : (tree world : List ℕ) (moments : Moments) → result ≡ exit.Words → Answers (FilesGive c tree world moments a.drivers) result a b → ⊥
-  words_answered tree world moments is (inl x) =
+  words_answered : (files : Contents) (moments : Moments) → result ≡ exit.Words → Answers (FilesGive c files moments a.drivers) result a b → ⊥
+  words_answered files moments is (inl x) =
       let gave : Gave x.0 exit.Words a b = subst (λ (e : Exit). Gave x.0 e a b) is x.2 in
-      subst IsOfFiles gave.0 (exit_of_files c tree world moments a.drivers x.0 x.1)
-  words_answered tree world moments is (inr y) = let e : exit.Memory ≡ exit.Words = sym y.0 ∙ is in cc
+      subst IsOfFiles gave.0 (exit_of_files c files moments a.drivers x.0 x.1)
+  words_answered files moments is (inr y) = let e : exit.Memory ≡ exit.Words = sym y.0 ∙ is in cc
 
-  never_words : (clock : Option Moments) (tree world : List ℕ) → result ≡ exit.Words → AtMoments clock (λ moments. Answers (FilesGive c tree world moments a.drivers) result a b) → ⊥
-  never_words clock tree world is x = words_answered tree world x.moments is x.holds
+  never_words : (clock : Option Moments) (files : Contents) → result ≡ exit.Words → AtMoments clock (λ moments. Answers (FilesGive c files moments a.drivers) result a b) → ⊥
+  never_words clock files is x = words_answered files x.moments is x.holds
 
   -- words that are a command are not refused
   pub words_clause : (holds : Option (List ℕ → List ℕ)) → ReadFailed shelf IsUnread result a b ⊎ Answered holds c result a b → result ≡ exit.Words → ⊥
   words_clause holds (inl r) is =
       let gave : Gave (unread r.1) exit.Words a b = subst (λ (e : Exit). Gave (unread r.1) e a b) is r.3 in
       not_words r.1 gave.0
-  words_clause holds (inr f) is = never_words a.clock f.tree f.world is f.answers
+  words_clause holds (inr f) is = never_words a.clock f.files is f.answers
 
-  write_answered : (tree world : List ℕ) (moments : Moments) → result ≡ exit.Write → Answers (FilesGive c tree world moments a.drivers) result a b → Rose a.faults b.faults
-  write_answered tree world moments is (inl x) = write_gave x.0 result a b is x.2
-  write_answered tree world moments is (inr y) = let e : exit.Memory ≡ exit.Write = sym y.0 ∙ is in cc
+  write_answered : (files : Contents) (moments : Moments) → result ≡ exit.Write → Answers (FilesGive c files moments a.drivers) result a b → Rose a.faults b.faults
+  write_answered files moments is (inl x) = write_gave x.0 result a b is x.2
+  write_answered files moments is (inr y) = let e : exit.Memory ≡ exit.Write = sym y.0 ∙ is in cc
 
   -- a write failed
   pub write_clause : (holds : Option (List ℕ → List ℕ)) → ReadFailed shelf IsUnread result a b ⊎ Answered holds c result a b → result ≡ exit.Write → Rose a.faults b.faults
   write_clause holds (inl r) is = write_gave (unread r.1) result a b is r.3
-  write_clause holds (inr f) is = write_answered f.tree f.world f.answers.moments is f.answers.holds
+  write_clause holds (inr f) is = write_answered f.files f.answers.moments is f.answers.holds
 
 -- ---- Plans
 
@@ -464,9 +518,9 @@ module _ (laws : PlanLaws) (limits : Limits) (holds : Option (List ℕ → List 
   by_answer script moments told (inl x) = by_length (is_too_long script) script x.0 told x.1 x.2.0 x.2.1
   by_answer script moments told (inr y) = let e : exit.Done ≡ exit.Memory = y.0 in cc
 
-  pub reached_of : (shelf : Type 0) (IsUnread : File → Type 0) → ReadFailed shelf IsUnread exit.Done a b ⊎ FilesAnswered holds None (Some name) (Plans limits) exit.Done a b → Reaches
+  pub reached_of : (shelf : Type 0) (IsUnread : File → Type 0) → ReadFailed shelf IsUnread exit.Done a b ⊎ FilesAnswered holds (world_alone name) (Plans limits) exit.Done a b → Reaches
   reached_of shelf IsUnread (inl r) = absurd (not_given r.1 (subst IsGiven (sym r.3.0) tt))
-  reached_of shelf IsUnread (inr f) = by_answer f.world f.answers.moments f.is_world f.answers.holds
+  reached_of shelf IsUnread (inr f) = by_answer f.files.world f.answers.moments f.told.world f.answers.holds
 
 -- ---- Words
 
@@ -491,6 +545,7 @@ module _ (holds : Option (List ℕ → List ℕ)) (result : Exit) (shelf : Type 
   planned_done laws (Some (Load leaves)) answered = tt
   planned_done laws (Some (Check t main)) answered = tt
   planned_done laws (Some (Dead t main)) answered = tt
+  planned_done laws (Some (Mock t w rules main)) answered = tt
   planned_done laws (Some (Plan w expand ticks period)) answered = reached_of laws (limits_of expand ticks period) holds w a b shelf IsUnread answered
 
   pub planned_of : PlanLaws → (command : Option Command) → CommandAnswered command holds shelf IsUnread result a b → result ≡ exit.Done → ReachesIfPlan command holds a b

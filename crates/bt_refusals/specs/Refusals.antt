@@ -10,6 +10,8 @@ use Rattle.bt_refusals.specs.declared.fault.TreeFault.{TreeFault}
 use Rattle.bt_refusals.specs.declared.fault.TreeFault.TheVariants as fault
 use Rattle.bt_manifest.specs.declared.fault.ManifestFault.{ManifestFault}
 use Rattle.bt_manifest.specs.declared.fault.ManifestFault.TheVariants as manifest
+use Rattle.bt_mock.specs.declared.fault.MockFault.{MockFault}
+use Rattle.bt_mock.specs.declared.fault.MockFault.TheVariants as mock
 use Rattle.bt_model.specs.Lines.{quoted}
 use Rattle.bt_model.specs.declared.leaf.DriverKind.{DriverKind}
 use Rattle.bt_model.specs.declared.leaf.DriverKind.TheVariants as driver
@@ -94,3 +96,13 @@ driver_word driver.Gate = codes "Gate"
 abbrev pub join_words : JoinFault → List ℕ
 join_words (join.NoRow id) = named (codes "NoRow") id
 join_words (join.NoDriver kind) = codes "NoDriver " ++ driver_word kind
+
+-- the words of a rules file's fault, or of the limit that the substituted tree passes
+abbrev pub rules_words : MockFault → List ℕ
+rules_words mock.Json = codes "Json"
+rules_words (mock.Form name) = named (codes "Form") name
+rules_words (mock.BadScript name f) = named (codes "BadScript") name ++ codes " " ++ script_words f
+rules_words mock.TooManyNodes = codes "TooManyNodes"
+rules_words mock.TooDeep = codes "TooDeep"
+rules_words mock.TooManyKeys = codes "TooManyKeys"
+rules_words mock.TooMuchWork = codes "TooMuchWork"

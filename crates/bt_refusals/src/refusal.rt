@@ -1,11 +1,12 @@
 ghost use Rattle.std.specs.Prelude.{◌≡◌, ◌++◌, IfOk, OnOk, codes, decimal};
-ghost use Rattle.bt_refusals.specs.Refusals.{build_words, driver_word, element_words, join_words, kind_word, manifest_words, named, numbered, script_words, tree_words, world_words};
+ghost use Rattle.bt_refusals.specs.Refusals.{build_words, driver_word, element_words, join_words, kind_word, manifest_words, named, numbered, rules_words, script_words, tree_words, world_words};
 
 use crate::fault::TreeFault;
 use bt_arena::JoinFault;
 use bt_build::BuildFault;
 use bt_elements::ElementFault;
 use bt_manifest::ManifestFault;
+use bt_mock::MockFault;
 use bt_model::{DriverKind, WorldFault, WorldKind};
 use bt_script::{Name, NoMemory, ScriptFault};
 use bt_text::{put_bytes, put_number, put_quoted};
@@ -186,6 +187,42 @@ pub fn join_refusal(alloc: Global, fault: &JoinFault) -> Result<Vec<u8>, NoMemor
     let mut line = Vec::new(alloc);
     put_bytes(&mut line, b"refused world ")?;
     put_join_fault(&mut line, fault)?;
+    put_bytes(&mut line, b"\n")?;
+    Ok(line)
+}
+
+/// Puts the words of a script of this configuration that can't be read.
+fn put_bad_post(out: &mut Vec<u8>, name: &Name, fault: ScriptFault) -> Result<(), NoMemory>
+    ensures { OnOk result (out.new.items
+        ≡ out.old.items ++ (named (codes "BadScript") name.now ++ codes " " ++ script_words fault)) }
+{
+    put_named(out, b"BadScript", name)?;
+    put_bytes(out, b" ")?;
+    put_script_fault(out, fault)
+}
+
+/// Puts the words of a rules file's fault, or of the limit that the substituted tree passes.
+fn put_mock_fault(out: &mut Vec<u8>, fault: &MockFault) -> Result<(), NoMemory>
+    ensures { OnOk result (out.new.items ≡ out.old.items ++ rules_words fault.now) }
+{
+    match fault {
+        MockFault::Json => put_bytes(out, b"Json"),
+        MockFault::Form { name } => put_named(out, b"Form", name),
+        MockFault::BadScript { name, fault } => put_bad_post(out, name, *fault),
+        MockFault::TooManyNodes => put_bytes(out, b"TooManyNodes"),
+        MockFault::TooDeep => put_bytes(out, b"TooDeep"),
+        MockFault::TooManyKeys => put_bytes(out, b"TooManyKeys"),
+        MockFault::TooMuchWork => put_bytes(out, b"TooMuchWork"),
+    }
+}
+
+/// The line that refuses mock rules, or what they make of the tree.
+pub fn rules_refusal(alloc: Global, fault: &MockFault) -> Result<Vec<u8>, NoMemory>
+    ensures { IfOk result (λ line. line.items ≡ codes "refused rules " ++ rules_words fault.now ++ codes "\n") }
+{
+    let mut line = Vec::new(alloc);
+    put_bytes(&mut line, b"refused rules ")?;
+    put_mock_fault(&mut line, fault)?;
     put_bytes(&mut line, b"\n")?;
     Ok(line)
 }

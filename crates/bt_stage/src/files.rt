@@ -44,6 +44,22 @@ pub fn shelf_of(
     Ok(MemShelf::new(files, fails))
 }
 
+/// A shelf of the files `T`, `W` and `R`, of which these reads fail.
+pub fn shelf_with_rules(
+    alloc: Global,
+    tree: &[u8],
+    world: &[u8],
+    rules: &[u8],
+    fails: &[u64],
+) -> Result<MemShelf, NoMemory> {
+    let fails = Vec::from_slice(alloc, fails)?;
+    let mut files = Vec::new(alloc);
+    files.push(file(alloc, "T", tree)?)?;
+    files.push(file(alloc, "W", world)?)?;
+    files.push(file(alloc, "R", rules)?)?;
+    Ok(MemShelf::new(files, fails))
+}
+
 /// A shelf of a tree of these nodes and a world of these lines.
 pub fn shelf_of_rows(alloc: Global, nodes: &str, lines: &str) -> Result<MemShelf, NoMemory> {
     let tree = tree_of(alloc, nodes)?;

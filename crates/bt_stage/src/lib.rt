@@ -6,5 +6,5 @@ mod files;
 mod rows;
 
 pub use ending::{Ending, answer, answer_with};
-pub use files::{joined, shelf_of, shelf_of_rows, tree_of, world_of};
-pub use rows::{TICK, answered, given, ran, run, run_with};
+pub use files::{joined, shelf_of, shelf_of_rows, shelf_with_rules, tree_of, world_of};
+pub use rows::{TICK, answered, given, given_by, ran, run, run_with};

@@ -5,12 +5,21 @@ use crate::ending::{Ending, answer, answer_with};
 use crate::files::{shelf_of, shelf_of_rows, tree_of, world_of};
 use bt_command_line::Exit;
 use bt_driver::Driver;
-use bt_outside::{MemClock, MemSink, Sink};
+use bt_outside::{MemClock, MemShelf, MemSink, Sink};
 use bt_script::NoMemory;
 use std::alloc::Global;
 
 /// The words of a run over the files `T` and `W`.
 pub const TICK: [&str; 3] = ["tick", "T", "W"];
+
+/// What words write over the files of a shelf, with the exit after it.
+pub fn given_by(alloc: Global, words: &[&str], shelf: &mut MemShelf) -> Result<String, NoMemory> {
+    let mut sink = MemSink::new(alloc, Vec::new(alloc));
+    let mut clock = MemClock::new(Vec::new(alloc));
+    let exit = answer(alloc, words, shelf, &mut sink, &mut clock)?.exit;
+    let text = str::from_utf8(sink.list()).unwrap_or("?");
+    Ok(format!(in alloc; "{text}{exit:?}")?)
+}
 
 /// What words write over files of which these reads fail, with the exit after it.
 pub fn given(
@@ -21,11 +30,7 @@ pub fn given(
     fails: &[u64],
 ) -> Result<String, NoMemory> {
     let mut shelf = shelf_of(alloc, tree, world, fails)?;
-    let mut sink = MemSink::new(alloc, Vec::new(alloc));
-    let mut clock = MemClock::new(Vec::new(alloc));
-    let exit = answer(alloc, words, &mut shelf, &mut sink, &mut clock)?.exit;
-    let text = str::from_utf8(sink.list()).unwrap_or("?");
-    Ok(format!(in alloc; "{text}{exit:?}")?)
+    given_by(alloc, words, &mut shelf)
 }
 
 /// What words write over a tree of these nodes and a world of these lines, with the exit after it.

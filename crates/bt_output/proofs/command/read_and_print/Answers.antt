@@ -8,7 +8,7 @@ use Rattle.bt_output.proofs.command.read_and_print.Goals as goal
 pub returns-in_err-bytes-clause-ends : goal.returns-in_err-bytes-clause-ends
 returns-in_err-bytes-clause-ends g c =
     let p = err_from_is_err_and c.from_residual.result c.from_residual.ensures.1 in
-    rw (p.1, p.2) (tree_unread g.S.Shelf.read_gives g.S.Shelf.faults (g.S.Shelf.holds c.args.outside.now.shelf.now) c.args.tree.now None (Prints c.args.print (option_copied c.args.main)) (long_print c.args.print (option_copied c.args.main)) _ _ c.in_err-bytes.field-0.0 _ c.in_err-bytes.ensures.unread)
+    rw (p.1, p.2) (tree_unread g.S.Shelf.read_gives g.S.Shelf.faults (g.S.Shelf.holds c.args.outside.now.shelf.now) (Prints c.args.print (option_copied c.args.main)) c.args.tree.now None None (long_print c.args.print (option_copied c.args.main)) _ _ c.in_err-bytes.field-0.0 _ c.in_err-bytes.ensures.unread)
 
 pub returns-in_err-tree-clause-ends : goal.returns-in_err-tree-clause-ends
 returns-in_err-tree-clause-ends g c =

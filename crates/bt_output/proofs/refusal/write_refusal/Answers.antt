@@ -15,3 +15,6 @@ returns-in-Ok-world_refusal-clause-refused g c = rw c.in-World.is (rw (c.as_slic
 
 pub returns-in-Ok-join_refusal-clause-refused : goal.returns-in-Ok-join_refusal-clause-refused
 returns-in-Ok-join_refusal-clause-refused g c = rw c.in-Join.is (rw (c.as_slice-in-Ok-join_refusal.ensures.value ∙ c.in-Ok-join_refusal.ensures) at c.write_last-in-Ok-join_refusal.ensures.printed)
+
+pub returns-in-Ok-rules_refusal-clause-refused : goal.returns-in-Ok-rules_refusal-clause-refused
+returns-in-Ok-rules_refusal-clause-refused g c = rw c.in-Rules.is (rw (c.as_slice-in-Ok-rules_refusal.ensures.value ∙ c.in-Ok-rules_refusal.ensures) at c.write_last-in-Ok-rules_refusal.ensures.printed)

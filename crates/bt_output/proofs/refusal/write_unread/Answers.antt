@@ -5,3 +5,6 @@ returns-in-Tree-clause-printed g c = rw c.in-Tree.is c.write_last.ensures.printe
 
 pub returns-in-World-clause-printed : goal.returns-in-World-clause-printed
 returns-in-World-clause-printed g c = rw c.in-World.is c.write_last-in-World.ensures.printed
+
+pub returns-in-Rules-clause-printed : goal.returns-in-Rules-clause-printed
+returns-in-Rules-clause-printed g c = rw c.in-Rules.is c.write_last-in-Rules.ensures.printed
