@@ -6,7 +6,7 @@ from typing import Tuple
 
 @dataclass(frozen=True)
 class Case:
-    """Files T and W, the program's words for them, its exit and output, and what must be said of them.
+    """Files T, W and R, the program's words for them, its exit and output, and what must be said of them.
 
     `place` is the front of the first line, as `T:3:7:`; each text of `said` stands somewhere. Where the program can't
     answer so by itself, `asked` is false and it is not asked."""
@@ -20,6 +20,7 @@ class Case:
     world: str = "bt-world 1\n"
     words: str = "check T"
     asked: bool = True
+    rules: str = ""
 
 
 def nodes(text: str, head: str = 'BTCPP_format="4"') -> str:

@@ -73,6 +73,30 @@ PLANS = [
 ]
 
 
+def rules(name: str, refused: str, text: str, *said: str, nodes: str = ONE) -> Case:
+    """Mock rules that are refused, or that make of a tree one that is."""
+    return Case(name, 10, f"refused rules {refused}\n", "R: error:", said, nodes, lines("tick 1"), "mock T W R", rules=text)
+
+
+# a leaf becomes a Delay over another one, whose script names an entry
+NEW = '{"TestNodeConfigs": {"New": {"return_status": "SUCCESS", "post_script": "m := 1"}}, "SubstitutionRules": {"A": "New"}}'
+
+MOCKS = [
+    rules("no JSON", "Json", "{", "is no JSON text"),
+    rules("no object", "Form ''", '{"SubstitutionRules": []}', "has not its form (Form '')"),
+    rules("a status of another text", "Form 'New'", '{"TestNodeConfigs": {"New": {"return_status": "RUNNING"}}}', "(Form 'New')"),
+    rules("a post_script", "BadScript 'New' Syntax 4", '{"TestNodeConfigs": {"New": {"return_status": "SUCCESS", "post_script": "m :="}}}',
+          "(BadScript 'New' Syntax 4)"),
+    rules("rules that are too long", "TooLong", "{}" + " " * 1_048_575, "1048577 bytes"),
+    rules("mocks of too many nodes", "TooManyNodes", NEW, "two nodes of one", nodes=nodes(f"<Sequence>{'<A/>' * 2_048}</Sequence>")),
+    rules("mocks that are too deep", "TooDeep", NEW, "two nodes of one", nodes=nodes("<Inverter>" * 255 + "<A/>" + "</Inverter>" * 255)),
+    rules("mocks with too many keys", "TooManyKeys", NEW, "at most 4,096",
+          nodes=nodes("<Sequence><B " + " ".join(f'p{n}="{{k{n}}}"' for n in range(4_096)) + "/><A/></Sequence>")),
+    rules("mocks with too much work", "TooMuchWork", NEW, "at most 100,000",
+          nodes=nodes('<Repeat num_cycles="1000"><Repeat num_cycles="98"><A/></Repeat></Repeat>')),
+]
+
+
 def words(name: str, text: str, *said: str) -> Case:
     """Words that are no command."""
     return Case(name, 2, "refused words\n", "bt: ", said + ("usage: bt tick TREE WORLD [--main ID]", "bt load N"), ONE, words=text)
@@ -93,4 +117,4 @@ WORDS = [
     words("an option of another command", "plan W --main M", "'--main' is no option of it"),
 ]
 
-CASES = WORLDS + UNASKED + PLANS + WORDS
+CASES = WORLDS + UNASKED + PLANS + MOCKS + WORDS

@@ -7,8 +7,9 @@ from .marks import Finding
 from .opening import open_file, opened
 from .report import Note, Place, Report
 from .rows import lacking
+from .rules import fault_words
 from .source import MOST_BYTES, Source, read
-from .table import TREE, WORLD
+from .table import RULES, TREE, WORLD
 from .traces import faulted
 from .trees import read_file
 from .words import Command, command_of, usage, wrong
@@ -28,6 +29,8 @@ def explanation(status: int, output: bytes, words: List[str]) -> List[str]:
         return of_tree(command, refused(text, "refused tree "))
     if status == 4:
         return of_world(command, refused(text, "refused world "))
+    if status == 10:
+        return of_rules(command, refused(text, "refused rules "))
     return of_fault(command, text) if status == 5 else []
 
 
@@ -76,12 +79,28 @@ def of_world(command: Command, words: str) -> List[str]:
         return told(source, finding) if finding.words == words else []
     if kind == "NoDriver" or kind == "NoGoal" and not world.goals:
         return [f"{source.name}: error: {WORLD[kind].wrong} ({words}): {WORLD[kind].right}"]
-    file = opened(command.tree, command.main) if kind == "NoRow" else None
+    file = opened(command.tree, command.main) if kind == "NoRow" and command.rules is None else None
     return [] if file is None else lacking(file, world, words)
 
 
+def of_rules(command: Command, words: str) -> List[str]:
+    """The lines for mock rules that were refused, or for the tree that they make."""
+    source = read(command.rules or "")
+    kind = words.split(" ")[0]
+    if source is None or kind not in RULES:
+        return []
+    if words == "TooLong":
+        return too_long(source.name, source) if len(source.data) > MOST_BYTES else []
+    of_tree_made = kind not in ("Json", "Form", "BadScript")
+    if fault_words(source.data) != ("" if of_tree_made else words):
+        return []
+    return [f"{source.name}: error: {RULES[kind].wrong} ({words}): {RULES[kind].right}"]
+
+
 def of_fault(command: Command, text: str) -> List[str]:
-    """The lines for a run that ended in a fault."""
+    """The lines for a run of a tree file that ended in a fault."""
+    if command.rules is not None:
+        return []
     ended = faulted(text)
     file = opened(command.tree, command.main)
     source = read(command.world or "")

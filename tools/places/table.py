@@ -65,6 +65,17 @@ WORLD: Dict[str, Kind] = {
     "NoGoal": Kind("the world script has no goal", "write `goal ID` for a condition with `is`"),
 }
 
+RULES: Dict[str, Kind] = {
+    "TooLong": Kind("the rules file is too long", "a file has at most 1,048,576 bytes"),
+    "Json": Kind("the rules file is no JSON text", "the form of rules is in docs/formats.md"),
+    "Form": Kind("a configuration or a rule has not its form", "the forms are in docs/formats.md"),
+    "BadScript": Kind("a post_script is refused", "the language of scripts is in docs/semantics.md"),
+    "TooManyNodes": Kind("the rules make a tree of too many nodes", "at most 4,096; a configuration makes two nodes of one"),
+    "TooDeep": Kind("the rules make a tree that is too deep", "at most 256; a configuration makes two nodes of one"),
+    "TooManyKeys": Kind("the rules make a tree that names too many keys", "at most 4,096"),
+    "TooMuchWork": Kind("one tick of the tree that the rules make may make too many visits", "at most 100,000"),
+}
+
 CAUSES: Dict[str, Kind] = {
     "NoEntry": Kind("an entry has no value", "write it first, with `name := value`, by an output, or by a port of the SubTree"),
     "NoInput": Kind("an input is not there", "write the port at the node; where it names a key, write the entry first"),

@@ -33,6 +33,7 @@ COMMANDS: Dict[str, Form] = {
     "load": Form(("N",), ranges={"N": (1, 1_000)}),
     "plan": Form(("WORLD",), ("--expand", "--ticks", "--period"),
                  ranges={"--expand": (0, 120), "--ticks": (1, 10_000), "--period": (0, 1_000_000)}),
+    "mock": Form(("TREE", "WORLD", "RULES"), ("--main",)),
 }
 
 
@@ -43,6 +44,7 @@ class Command:
     name: str
     tree: Optional[str]
     world: Optional[str]
+    rules: Optional[str]
     main: Optional[str]
 
 
@@ -53,7 +55,7 @@ def command_of(words: List[str]) -> Optional[Command]:
     operands = dict(zip(COMMANDS[words[0]].operands, words[1:]))
     options = words[1 + len(operands):]
     main = next((value for name, value in zip(options[::2], options[1::2]) if name == "--main"), None)
-    return Command(words[0], operands.get("TREE"), operands.get("WORLD"), main)
+    return Command(words[0], operands.get("TREE"), operands.get("WORLD"), operands.get("RULES"), main)
 
 
 def wrong(words: List[str]) -> Optional[str]:
