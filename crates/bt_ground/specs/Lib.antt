@@ -1,10 +1,3 @@
 pub mod Blocks
-pub mod Flat
 pub mod GroundFile
-pub mod Made
-pub mod Readings
-pub mod Seen
-pub mod Sizes
-pub mod Sound
 pub mod Stops
-pub mod Writing

@@ -4,7 +4,9 @@
 
 mod fault;
 mod ground;
+mod open_block;
 mod read;
+mod sort;
 mod world;
 mod write;
 
