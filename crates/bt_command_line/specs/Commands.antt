@@ -2,7 +2,7 @@
 use Rattle.std.specs.Prelude.{◌≤◌}
 use Rattle.std.specs.Option.{option_copied}
 use Rattle.bt_model.specs.Limits.{most_leaves}
-use Rattle.bt_command_line.specs.Words.{Command, Tick, Live, Load, Check, Dead, Plan, Mock}
+use Rattle.bt_command_line.specs.Words.{Command, Tick, Live, Load, Check, Dead, Plan, Mock, Ground, GroundPlan}
 use Rattle.bt_command_line.specs.declared.words.Command.{Command as Read}
 use Rattle.bt_command_line.specs.declared.words.Command.TheVariants as read
 
@@ -15,9 +15,16 @@ command_seen (read.Check tree main) = Check tree.now (option_copied main)
 command_seen (read.Dead tree main) = Dead tree.now (option_copied main)
 command_seen (read.Plan world expand ticks period) = Plan world.now expand ticks period
 command_seen (read.Mock tree world rules main) = Mock tree.now world.now rules.now (option_copied main)
+command_seen (read.Ground world) = Ground world.now
+command_seen (read.GroundPlan world expand ticks period) = GroundPlan world.now expand ticks period
+
+-- the limits of a plan
+abbrev pub AreLimits : ℕ → ℕ → ℕ → Type 0
+AreLimits expand ticks period = (expand ≤ 120) × (1 ≤ ticks) × (ticks ≤ 10000) × (period ≤ 1000000)
 
 -- the numbers of a command are in their ranges: a load has no more leaves than its files can hold
 abbrev pub IsInRange : Command → Type 0
 IsInRange (Load leaves) = leaves ≤ most_leaves
-IsInRange (Plan world expand ticks period) = (expand ≤ 120) × (1 ≤ ticks) × (ticks ≤ 10000) × (period ≤ 1000000)
+IsInRange (Plan world expand ticks period) = AreLimits expand ticks period
+IsInRange (GroundPlan world expand ticks period) = AreLimits expand ticks period
 IsInRange _ = Unit {0}

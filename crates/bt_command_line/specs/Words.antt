@@ -38,6 +38,8 @@ pub data Command : Type 0 where
   Dead : (tree : List ℕ) (main : Option (List ℕ)) → Command
   Plan : (world : List ℕ) (expand ticks period : ℕ) → Command
   Mock : (tree world rules : List ℕ) (main : Option (List ℕ)) → Command
+  Ground : (world : List ℕ) → Command
+  GroundPlan : (world : List ℕ) (expand ticks period : ℕ) → Command
 
 -- the options of a command: the ID of the main tree, for some also a number of ticks, and for a plan its limits
 unfoldable pub is_option : Options → List ℕ → Bool
@@ -103,16 +105,27 @@ ticks_in options = number_or 1000 1 10000 (value_of (codes "--ticks") options)
 abbrev pub period_in : List (List ℕ) → Option ℕ
 period_in options = number_or 100 0 1000000 (value_of (codes "--period") options)
 
--- a plan with these limits
-abbrev pub plan_with : List ℕ → Option ℕ → Option ℕ → Option ℕ → Option Command
-plan_with world (Some expand) (Some ticks) (Some period) = Some (Plan world expand ticks period)
-plan_with world _ _ _ = None
+-- a file with these limits
+abbrev pub limited : List ℕ → Option ℕ → Option ℕ → Option ℕ → Option (List ℕ × ℕ × ℕ × ℕ)
+limited world (Some expand) (Some ticks) (Some period) = Some (world, expand, ticks, period)
+limited world _ _ _ = None
 
--- `WORLD [--expand N] [--ticks N] [--period MS]`
+-- `WORLD [--expand N] [--ticks N] [--period MS]`: the file, and the limits
+abbrev pub limited_words : List (List ℕ) → Option (List ℕ × ℕ × ℕ × ℕ)
+limited_words (world ∷ options) =
+    if are_options (is_option takes.Limits) options then limited world (expand_in options) (ticks_in options) (period_in options) else None
+limited_words _ = None
+
 abbrev pub plan_of : List (List ℕ) → Option Command
-plan_of (world ∷ options) =
-    if are_options (is_option takes.Limits) options then plan_with world (expand_in options) (ticks_in options) (period_in options) else None
-plan_of _ = None
+plan_of words = option_map (λ l. Plan l.0 l.1 l.2 l.3) (limited_words words)
+
+abbrev pub ground_plan_of : List (List ℕ) → Option Command
+ground_plan_of words = option_map (λ l. GroundPlan l.0 l.1 l.2 l.3) (limited_words words)
+
+-- `WORLD`
+abbrev pub ground_of : List (List ℕ) → Option Command
+ground_of (world ∷ []) = Some (Ground world)
+ground_of _ = None
 
 -- `TREE WORLD RULES [--main ID]`
 abbrev pub mock_of : List (List ℕ) → Option Command
@@ -124,7 +137,8 @@ mock_of _ = None
 abbrev pub commands : List (List ℕ × (List (List ℕ) → Option Command))
 commands =
     (codes "tick", tick_of) ∷ (codes "live", live_of) ∷ (codes "load", load_of) ∷ (codes "check", check_of) ∷ (codes "dead", dead_of)
-    ∷ (codes "plan", plan_of) ∷ (codes "mock", mock_of) ∷ []
+    ∷ (codes "plan", plan_of) ∷ (codes "mock", mock_of)
+    ∷ (codes "ground", ground_of) ∷ (codes "gplan", ground_plan_of) ∷ []
 
 abbrev pub command_among : List (List ℕ × (List (List ℕ) → Option Command)) → List ℕ → List (List ℕ) → Option Command
 command_among [] word words = None

@@ -1,8 +1,8 @@
 ghost use Rattle.std.specs.Prelude.{◌≡◌, ◌≤◌, ◌↔◌, IfOk, IfSome, MatchOption, Some, None, codes};
 ghost use Rattle.std.specs.IoError.{error_kind};
 ghost use Rattle.std.specs.Option.{option_copied};
-ghost use Rattle.bt_command_line.specs.Commands.{IsInRange, command_seen};
-ghost use Rattle.bt_command_line.specs.Words.{are_options, as_count, check_of, command_of, dead_of, in_range, is_option, is_unset, live_of, load_of, mock_of, number_or, plan_of, rounds_in, tick_of, tree_words, value_of};
+ghost use Rattle.bt_command_line.specs.Commands.{AreLimits, IsInRange, command_seen};
+ghost use Rattle.bt_command_line.specs.Words.{are_options, as_count, check_of, command_of, dead_of, ground_of, ground_plan_of, in_range, is_option, is_unset, limited_words, live_of, load_of, mock_of, number_or, plan_of, rounds_in, tick_of, tree_words, value_of};
 ghost use Rattle.bt_model.specs.Limits.{most_leaves, most_rounds};
 ghost use Rattle.bt_model.specs.Numbers.{int_in};
 
@@ -62,6 +62,18 @@ pub enum Command<'a> {
         world: &'a Name,
         rules: &'a Name,
         main: Option<&'a Name>,
+    },
+    /// `ground WORLD`
+    Ground {
+        world: &'a Name,
+    },
+    /// `gplan WORLD [--expand N] [--ticks N] [--period MS]`
+    GroundPlan {
+        world: &'a Name,
+        /// As those of a plan.
+        expand: u32,
+        ticks: u32,
+        period: u32,
     },
 }
 
@@ -281,10 +293,12 @@ fn number_or(options: &[Name], name: &[u8], default: u32, least: u32, most: u32)
     }
 }
 
-/// The command `plan` with these words after it.
-fn read_plan<'a>(words: &'a [Name]) -> Option<Command<'a>>
-    ensures command { MatchOption result (plan_of words.now ≡ None) (λ c. plan_of words.now ≡ Some (command_seen c)) }
-    ensures range { IfSome result (λ c. IsInRange (command_seen c)) }
+/// The file that the words of a plan name, and its limits: how many sequences may be added, how many
+/// ticks one run may have, and the time from one tick to the next.
+fn limited_words<'a>(words: &'a [Name]) -> Option<(&'a Name, u32, u32, u32)>
+    ensures limits { MatchOption result (limited_words words.now ≡ None)
+        (λ l. limited_words words.now ≡ Some (l.0.now, l.1, l.2, l.3)) }
+    ensures range { IfSome result (λ l. AreLimits l.1 l.2 l.3) }
 {
     let [world, options @ ..] = words else {
         return None;
@@ -295,12 +309,46 @@ fn read_plan<'a>(words: &'a [Name]) -> Option<Command<'a>>
     let expand = number_or(options, b"--expand", 100, 0, 120)?;
     let ticks = number_or(options, b"--ticks", 1_000, 1, 10_000)?;
     let period = number_or(options, b"--period", 100, 0, 1_000_000)?;
+    Some((world, expand, ticks, period))
+}
+
+/// The command `plan` with these words after it.
+fn read_plan<'a>(words: &'a [Name]) -> Option<Command<'a>>
+    ensures command { MatchOption result (plan_of words.now ≡ None) (λ c. plan_of words.now ≡ Some (command_seen c)) }
+    ensures range { IfSome result (λ c. IsInRange (command_seen c)) }
+{
+    let (world, expand, ticks, period) = limited_words(words)?;
     Some(Command::Plan {
         world,
         expand,
         ticks,
         period,
     })
+}
+
+/// The command `gplan` with these words after it.
+fn read_ground_plan<'a>(words: &'a [Name]) -> Option<Command<'a>>
+    ensures command { MatchOption result (ground_plan_of words.now ≡ None) (λ c. ground_plan_of words.now ≡ Some (command_seen c)) }
+    ensures range { IfSome result (λ c. IsInRange (command_seen c)) }
+{
+    let (world, expand, ticks, period) = limited_words(words)?;
+    Some(Command::GroundPlan {
+        world,
+        expand,
+        ticks,
+        period,
+    })
+}
+
+/// The command `ground` with these words after it.
+fn read_ground<'a>(words: &'a [Name]) -> Option<Command<'a>>
+    ensures command { MatchOption result (ground_of words.now ≡ None) (λ c. ground_of words.now ≡ Some (command_seen c)) }
+    ensures range { IfSome result (λ c. IsInRange (command_seen c)) }
+{
+    let [world] = words else {
+        return None;
+    };
+    Some(Command::Ground { world })
 }
 
 /// The command `mock` with these words after it.
@@ -344,6 +392,10 @@ pub fn read_command<'a>(words: &'a [Name]) -> Option<Command<'a>>
         read_plan(words)
     } else if word.list() == b"mock".as_slice() {
         read_mock(words)
+    } else if word.list() == b"ground".as_slice() {
+        read_ground(words)
+    } else if word.list() == b"gplan".as_slice() {
+        read_ground_plan(words)
     } else {
         None
     }

@@ -25,7 +25,7 @@ use Rattle.bt_output.specs.declared.refusal.Refusal.{Refusal}
 use Rattle.bt_output.specs.declared.refusal.Refusal.TheVariants as refusal
 use Rattle.bt_output.specs.Answers.{Answers, AreTold, AtMoments, CommandAnswered, Gave, IfTold, IsRefused, Printed, Side, ToldIfNamed, no_moments, side}
 use Rattle.bt_output.specs.Ends.{CommandEnds, Ends, EndsAt, FilesEnd, IsUntouched}
-use Rattle.bt_output.specs.Files.{Contents, Named, no_files, tree_alone, tree_and_world, tree_world_rules}
+use Rattle.bt_output.specs.Files.{Contents, Named, no_files, tree_alone, tree_and_world, tree_world_rules, world_alone}
 use Rattle.bt_output.specs.Jobs.{FilesGive, files_of}
 use Rattle.bt_output.specs.Output.{CourseGives, Ending, Given, Giving, JoinGives, MockGives, Mocks, Output, PrintGives, Prints, ReadGives, RunGives, RunsOn, ScriptMocks, Standing, TreeGives, given, is_too_long, itself, joined_output, lack_of, mocked, print_output, refused_as, rules_refused, standing_output, stopped_as, too_long, tree_refused, unread, world_refused}
 use Rattle.bt_outside.specs.declared.shelf.ShelfFault.TheVariants as shelf
@@ -246,6 +246,7 @@ module _ {Shelf : Type 0} (read_gives : Reading Shelf) (faults : Shelf → ℕ) 
   refused_read named which name old between new (refusal.Join f) a less u failed long = absurd u
   refused_read named which name old between new refusal.NoGoal a less u failed long = absurd u
   refused_read named which name old between new (refusal.Rules f) a less u failed long = absurd u
+  refused_read named which name old between new (refusal.Ground f) a less u failed long = absurd u
 
   module _ (tree : List ℕ) (rules : Option (List ℕ)) where
     -- the tree file was not read
@@ -293,6 +294,31 @@ module _ {Shelf : Type 0} (read_gives : Reading Shelf) (faults : Shelf → ℕ) 
   -- all were read
   pub files_read : (named : Named) (files : Contents) (old new : Shelf) (result : Result Exit Refusal) (a b : Side) → AreTold holds named files → EndsAt (Gives files) result a b → Over named old new result a b
   files_read named files old new result a b told ends = inr (record { files = files; told = told; answers = ends })
+
+-- the bytes of a world file alone
+abbrev pub alone : List ℕ → Contents
+alone bytes = record { tree = []; world = bytes; rules = [] }
+
+-- a world file is the one file of a command, and it is refused where it is too long
+abbrev pub LongAlone : Giving → Type 0
+LongAlone Gives = (bytes : List ℕ) (moments : Moments) (drivers : List DriverState) → most_file_bytes < length bytes → Gives (alone bytes) moments drivers (too_long file.World)
+
+module _ {Shelf : Type 0} (read_gives : Reading Shelf) (faults : Shelf → ℕ) (holds : Option (List ℕ → List ℕ)) (Gives : Giving) (world : List ℕ) where
+  -- it was not read
+  pub alone_unread : LongAlone Gives → (old new : Shelf) (r : Refusal) (a : Side) → IsUnread read_gives faults holds file.World world r old new → Over read_gives faults holds Gives (world_alone world) old new (Err r) a a
+  alone_unread long old new r a u =
+      refused_read read_gives faults holds Gives (world_alone world) file.World world old old new r a (omega (arith)) u (λ failed. failed)
+      (λ is. record {
+        files = alone is.bytes;
+        told = record { tree = tt; world = is.told; rules = tt };
+        answers = refused_ends (Gives (alone is.bytes)) (refusal.TooLong file.World) a (λ moments. long is.bytes moments a.drivers is.long);
+      })
+
+  -- it was read
+  pub alone_read : (bytes : List ℕ) (old between new : Shelf) (result : Result Exit Refusal) (a b : Side) → WasRead read_gives holds world bytes old between
+      → EndsAt (Gives (alone bytes)) result a b → Over read_gives faults holds Gives (world_alone world) old new result a b
+  alone_read bytes old between new result a b read ends =
+      files_read read_gives faults holds Gives (world_alone world) (alone bytes) old new result a b (record { tree = tt; world = read.told; rules = tt }) ends
 
 -- a tree file was read, of whose tree this is printed
 module _ (holds : Option (List ℕ → List ℕ)) (name : List ℕ) (print : Print) (main : Option (List ℕ)) (bytes : List ℕ) (told : Told holds name (λ file. bytes ≡ file)) (short : length bytes ≤ most_file_bytes) where
@@ -355,6 +381,7 @@ module _ (command : Command) (holds : Option (List ℕ → List ℕ)) (rose : Ty
   refusal_answered (refusal.Join f) exit a b written faults (inl x) refused = absurd x
   refusal_answered refusal.NoGoal exit a b written faults (inl x) refused = absurd x
   refusal_answered (refusal.Rules f) exit a b written faults (inl x) refused = absurd x
+  refusal_answered (refusal.Ground f) exit a b written faults (inl x) refused = absurd x
   refusal_answered refusal.NoMemory exit a b written faults (inl x) refused = absurd x
   refusal_answered r exit a b written faults (inr f) refused = inr (record {
     files = f.files;

@@ -1,3 +1,4 @@
 pub mod Files
+pub mod Grounds
 pub mod Plans
 pub mod Runs

@@ -28,11 +28,10 @@ use Rattle.bt_output.specs.declared.refusal.Refusal.{Refusal}
 use Rattle.bt_output.specs.declared.refusal.Refusal.TheVariants as refusal
 use Rattle.bt_output.specs.Answers.{Gave, IsSpoken, IsWhole, PlanPrinted, Side, side}
 use Rattle.bt_output.specs.Ends.{CommandEnds, Ends, EndsAt, FilesEnd}
-use Rattle.bt_output.specs.Files.{Contents, world_alone}
 use Rattle.bt_output.specs.Output.{Output, join_refused, no_goal, refused_as, stopped_as, too_long, world_refused}
 use Rattle.bt_output.specs.Plans.{IsPlanned, PlanGives, PlannedOr, Plans, ReadPlans, WorldPlans, first_unserved, plan_bytes, plan_exit, plan_output, refusal_for}
 use Rattle.bt_output.specs.Reads.{IsUnread, Reading, Unread, WasRead}
-use Rattle.bt_output.proofs.Files.{Over, at_any, at_more, ends_more, files_read, long_is, match_false, match_true, refused_ends, refused_read, short_is}
+use Rattle.bt_output.proofs.Files.{LongAlone, at_any, at_more, ends_more, long_is, match_false, match_true, refused_ends, short_is}
 use Rattle.bt_plan.specs.Answers.{IsPlan, StandsAlone}
 use Rattle.bt_plan.specs.declared.ending.End.{End}
 use Rattle.bt_plan.specs.declared.ending.End.TheVariants.{Reached, NoTemplate, NoOrder, Expansions, StillRunning, Faulted}
@@ -175,23 +174,5 @@ module _ (limits : Limits) (world : List ℕ) (short : length world ≤ most_fil
 
 -- ---- Files
 
--- the world script is the one file of a plan
-module _ {Shelf : Type 0} (read_gives : Reading Shelf) (faults : Shelf → ℕ) (holds : Option (List ℕ → List ℕ)) (world : List ℕ) (limits : Limits) where
-  abbrev alone : List ℕ → Contents
-  alone bytes = record { tree = []; world = bytes; rules = [] }
-
-  -- it was not read
-  pub script_unread : (old new : Shelf) (r : Refusal) (a : Side) → IsUnread read_gives faults holds file.World world r old new → Over read_gives faults holds (Plans limits) (world_alone world) old new (Err r) a a
-  script_unread old new r a u =
-      refused_read read_gives faults holds (Plans limits) (world_alone world) file.World world old old new r a (omega (arith)) u (λ failed. failed)
-      (λ is. record {
-        files = alone is.bytes;
-        told = record { tree = tt; world = is.told; rules = tt };
-        answers = refused_ends (Plans limits (alone is.bytes)) (refusal.TooLong file.World) a (λ moments. match_true _ _ _ (long_is is.bytes is.long) refl);
-      })
-
-  -- it was read
-  pub script_read : (bytes : List ℕ) (old between new : Shelf) (result : Result Exit Refusal) (a b : Side) → WasRead read_gives holds world bytes old between
-      → EndsAt (λ moments. PlanGives limits bytes) result a b → Over read_gives faults holds (Plans limits) (world_alone world) old new result a b
-  script_read bytes old between new result a b read ends =
-      files_read read_gives faults holds (Plans limits) (world_alone world) (alone bytes) old new result a b (record { tree = tt; world = read.told; rules = tt }) ends
+pub long_plan : (limits : Limits) → LongAlone (Plans limits)
+long_plan limits bytes moments drivers long = match_true _ _ _ (long_is bytes long) refl

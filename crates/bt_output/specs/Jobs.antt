@@ -1,12 +1,13 @@
 -- What each command is about: its files, and what they have for its output.
 use Rattle.std.specs.Prelude.{ℕ, ◌≡◌, List, [], Option, Some, None}
-use Rattle.bt_command_line.specs.Words.{Command, Tick, Live, Load, Check, Dead, Plan, Mock}
+use Rattle.bt_command_line.specs.Words.{Command, Tick, Live, Load, Check, Dead, Plan, Mock, Ground, GroundPlan}
 use Rattle.bt_load.specs.Texts.{tree_text, world_text}
 use Rattle.bt_model.specs.Drivers.{DriverState}
 use Rattle.bt_outside.specs.Moments.{Moments}
 use Rattle.bt_output.specs.declared.course.Course.TheVariants as course
 use Rattle.bt_output.specs.declared.print.Print.TheVariants as print
 use Rattle.bt_output.specs.Files.{Contents, Named, no_files, tree_alone, tree_and_world, tree_world_rules, world_alone}
+use Rattle.bt_output.specs.Grounds.{GroundPlans, Grounds}
 use Rattle.bt_output.specs.Output.{CourseGives, Giving, Mocks, Output, Prints, RunsOn, words_refused}
 use Rattle.bt_output.specs.Plans.{Plans}
 
@@ -24,6 +25,8 @@ job_of (Check tree main) = record { named = tree_alone tree; gives = Prints prin
 job_of (Dead tree main) = record { named = tree_alone tree; gives = Prints print.Dead main }
 job_of (Plan world expand ticks period) = record { named = world_alone world; gives = Plans (record { expand = expand; ticks = ticks; period = period }) }
 job_of (Mock tree world rules main) = record { named = tree_world_rules tree world rules; gives = Mocks main }
+job_of (Ground world) = record { named = world_alone world; gives = Grounds }
+job_of (GroundPlan world expand ticks period) = record { named = world_alone world; gives = GroundPlans (record { expand = expand; ticks = ticks; period = period }) }
 
 -- the files that a command names
 abbrev pub files_of : Command → Named

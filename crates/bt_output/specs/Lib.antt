@@ -2,6 +2,7 @@ pub mod Answers
 pub mod Courses
 pub mod Ends
 pub mod Files
+pub mod Grounds
 pub mod Jobs
 pub mod Lent
 pub mod Output

@@ -17,7 +17,8 @@ use Rattle.bt_output.specs.declared.refusal.File.TheVariants as file
 use Rattle.bt_output.specs.declared.refusal.Refusal.{Refusal}
 use Rattle.bt_output.specs.declared.refusal.Refusal.TheVariants as refusal
 use Rattle.bt_refusals.specs.declared.fault.TreeFault.{TreeFault}
-use Rattle.bt_refusals.specs.Refusals.{join_words, rules_words, tree_words, world_words}
+use Rattle.bt_ground.specs.declared.fault.GroundFault.{GroundFault}
+use Rattle.bt_refusals.specs.Refusals.{ground_words, join_words, rules_words, tree_words, world_words}
 use Rattle.bt_manifest.specs.Steps.{go_on}
 use Rattle.bt_mock.specs.declared.fault.MockFault.{MockFault}
 use Rattle.bt_mock.specs.RuleFiles.{rules_in}
@@ -92,6 +93,10 @@ world_refused fault = refused (codes "refused world " ++ world_words fault) exit
 abbrev pub rules_refused : MockFault → Output
 rules_refused fault = refused (codes "refused rules " ++ rules_words fault) exit.Rules
 
+-- the ground file is refused, or the world script that it stands for
+abbrev pub ground_refused : GroundFault → Output
+ground_refused fault = refused (codes "refused ground " ++ ground_words fault) exit.World
+
 -- a plan is asked for, and there is no goal
 abbrev pub no_goal : Output
 no_goal = refused (codes "refused world NoGoal") exit.World
@@ -110,6 +115,7 @@ refused_as (refusal.World fault) = Some (world_refused fault)
 refused_as (refusal.Join fault) = Some (join_refused fault)
 refused_as refusal.NoGoal = Some no_goal
 refused_as (refusal.Rules fault) = Some (rules_refused fault)
+refused_as (refusal.Ground fault) = Some (ground_refused fault)
 refused_as refusal.NoMemory = None
 
 -- the refusal of a call that stopped, by what its fault refuses

@@ -9,6 +9,7 @@ ghost use Rattle.bt_outside.specs.Counts.{Rose};
 ghost use Rattle.bt_output.specs.Ends.{CommandEnds, EndsAt, FilesEnd};
 ghost use Rattle.bt_output.specs.Lent.{Stays, seen};
 ghost use Rattle.bt_output.specs.Files.{no_files, tree_alone, tree_and_world, tree_world_rules, world_alone};
+ghost use Rattle.bt_output.specs.Grounds.{GroundPlanGives, GroundPlans, Grounds};
 ghost use Rattle.bt_output.specs.Jobs.{FilesGive, files_of};
 ghost use Rattle.bt_output.specs.Output.{CourseGives, Mocks, Prints, RunsOn, ScriptMocks};
 ghost use Rattle.bt_output.specs.Plans.{PlanGives, Plans};
@@ -17,6 +18,7 @@ ghost use Rattle.bt_output.specs.Reads.{Unread, WordsUnread};
 ghost use Rattle.bt_trace.specs.Traces.{AreKept};
 
 use crate::course::Course;
+use crate::grounding::print_ground;
 use crate::join::join_and_run;
 use crate::mocking::mock_tree;
 use crate::outside::Outside;
@@ -28,6 +30,7 @@ use crate::refusal::{File, Refusal, write_refusal};
 use crate::tree_file::parse_tree;
 use bt_command_line::{Command, Exit, read_command};
 use bt_driver::Drivers;
+use bt_ground::{read_ground, world_of};
 use bt_load::{load_tree, load_world};
 use bt_outside::{Clock, Shelf, Sink};
 use bt_plan::Limits;
@@ -178,6 +181,69 @@ fn read_and_plan<S: Shelf, K: Sink, C: Clock, D: Drivers>(
     plan_file(alloc, bytes.as_slice(), limits, outside)
 }
 
+/// Plans for the goals of the world script that these bytes of a ground file stand for.
+fn plan_ground<S: Shelf, K: Sink, C: Clock, D: Drivers>(
+    alloc: Global,
+    bytes: &[u8],
+    limits: &Limits,
+    outside: &mut Outside<S, K, C, D>,
+) -> Result<Exit, Refusal>
+    requires bytes { length bytes.now ≤ most_file_bytes }
+    requires limits { AreInRange limits.now }
+    requires quiet { NothingHeld (D.states outside.old.drivers.now) }
+    ensures ends { EndsAt (λ moments. GroundPlanGives limits.now bytes.now) result
+        (seen K.written K.faults C.moments D.states outside.old)
+        (seen K.written K.faults C.moments D.states outside.new) }
+    ensures stays { Stays S.faults K.faults D.states outside.old outside.new }
+{
+    let ground = read_ground(alloc, bytes)?;
+    let world = world_of(alloc, &ground)?;
+    plan_and_print(alloc, &world, limits, outside)
+}
+
+/// Reads a ground file and plans for the goals of the world script that it stands for.
+fn read_and_plan_ground<S: Shelf, K: Sink, C: Clock, D: Drivers>(
+    alloc: Global,
+    world: &Name,
+    limits: &Limits,
+    outside: &mut Outside<S, K, C, D>,
+) -> Result<Exit, Refusal>
+    requires limits { AreInRange limits.now }
+    requires quiet { NothingHeld (D.states outside.old.drivers.now) }
+    ensures ends { let old = outside.old.shelf.now in
+        let new = outside.new.shelf.now in
+        CommandEnds (Rose (S.faults old) (S.faults new))
+        (Unread S.read_gives (S.holds old) (world_alone world.now) old new)
+        (FilesEnd (S.holds old) (world_alone world.now) (GroundPlans limits.now)) result
+        (seen K.written K.faults C.moments D.states outside.old)
+        (seen K.written K.faults C.moments D.states outside.new) }
+    ensures stays { Stays S.faults K.faults D.states outside.old outside.new }
+{
+    let bytes = read_file(alloc, File::World, world, outside.shelf)?;
+    plan_ground(alloc, bytes.as_slice(), limits, outside)
+}
+
+/// Reads a ground file and writes the world script that it stands for.
+fn read_and_ground<S: Shelf, K: Sink, C: Clock, D: Drivers>(
+    alloc: Global,
+    world: &Name,
+    outside: &mut Outside<S, K, C, D>,
+) -> Result<Exit, Refusal>
+    requires quiet { NothingHeld (D.states outside.old.drivers.now) }
+    ensures ends { let old = outside.old.shelf.now in
+        let new = outside.new.shelf.now in
+        CommandEnds (Rose (S.faults old) (S.faults new))
+        (Unread S.read_gives (S.holds old) (world_alone world.now) old new)
+        (FilesEnd (S.holds old) (world_alone world.now) Grounds) result
+        (seen K.written K.faults C.moments D.states outside.old)
+        (seen K.written K.faults C.moments D.states outside.new) }
+    ensures stays { Stays S.faults K.faults D.states outside.old outside.new }
+{
+    let bytes = read_file(alloc, File::World, world, outside.shelf)?;
+    let ground = read_ground(alloc, bytes.as_slice())?;
+    Ok(print_ground(&ground, outside.out))
+}
+
 /// Runs what the rules of these bytes of a rules file make of the tree of these bytes of a tree file, in
 /// the world of these bytes of a world script.
 fn mock_files<S: Shelf, K: Sink, C: Clock, D: Drivers>(
@@ -285,6 +351,20 @@ fn run_command<S: Shelf, K: Sink, C: Clock, D: Drivers>(
             rules,
             main,
         } => read_and_mock(alloc, tree, world, rules, main, outside),
+        Command::Ground { world } => read_and_ground(alloc, world, outside),
+        Command::GroundPlan {
+            world,
+            expand,
+            ticks,
+            period,
+        } => {
+            let limits = Limits {
+                expand,
+                ticks,
+                period: u64::from(period),
+            };
+            read_and_plan_ground(alloc, world, &limits, outside)
+        }
     }
 }
 

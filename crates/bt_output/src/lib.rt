@@ -5,6 +5,7 @@
 mod command;
 mod course;
 mod dead_nodes;
+mod grounding;
 mod join;
 mod mocking;
 mod nodes;

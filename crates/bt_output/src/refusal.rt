@@ -4,10 +4,13 @@ ghost use Rattle.bt_output.specs.Output.{line_of, too_long, unread};
 
 use bt_arena::JoinFault;
 use bt_command_line::Exit;
+use bt_ground::GroundFault;
 use bt_mock::MockFault;
 use bt_model::WorldFault;
 use bt_outside::Sink;
-use bt_refusals::{TreeFault, join_refusal, rules_refusal, tree_refusal, world_refusal};
+use bt_refusals::{
+    TreeFault, ground_refusal, join_refusal, rules_refusal, tree_refusal, world_refusal,
+};
 use bt_script::{NoMemory, Stop};
 use bt_text::{TextStop, write_line};
 use std::alloc::Global;
@@ -43,6 +46,8 @@ pub enum Refusal {
     NoGoal,
     /// The rules file says no rules, or they make of the tree one that passes a limit.
     Rules(MockFault),
+    /// The ground file has a fault, or the world script that it stands for.
+    Ground(GroundFault),
     /// The program is out of memory.
     NoMemory,
 }
@@ -108,6 +113,20 @@ impl From<Stop<MockFault>> for Refusal {
     fn from(stopped: Stop<MockFault>) -> Refusal {
         match stopped {
             Stop::Fault(fault) => Refusal::Rules(fault),
+            Stop::NoMemory => Refusal::NoMemory,
+        }
+    }
+}
+
+impl From<Stop<GroundFault>> for Refusal {
+    ghost use Rattle.bt_output.specs.declared.refusal.Refusal.TheVariants as refusal;
+    ghost use Rattle.bt_output.specs.Output.{stopped_as};
+
+    ghost from_gives = { λ stopped refused. refused ≡ stopped_as refusal.Ground stopped };
+
+    fn from(stopped: Stop<GroundFault>) -> Refusal {
+        match stopped {
+            Stop::Fault(fault) => Refusal::Ground(fault),
             Stop::NoMemory => Refusal::NoMemory,
         }
     }
@@ -179,6 +198,10 @@ pub fn write_refusal<K: Sink>(alloc: Global, refusal: &Refusal, out: &mut K) -> 
         Refusal::NoGoal => write_last(b"refused world NoGoal\n", Exit::World, out),
         Refusal::Rules(fault) => match rules_refusal(alloc, fault) {
             Ok(line) => write_last(line.as_slice(), Exit::Rules, out),
+            Err(NoMemory) => Exit::Memory,
+        },
+        Refusal::Ground(fault) => match ground_refusal(alloc, *fault) {
+            Ok(line) => write_last(line.as_slice(), Exit::World, out),
             Err(NoMemory) => Exit::Memory,
         },
         Refusal::NoMemory => Exit::Memory,

@@ -12,7 +12,7 @@ use Rattle.bt_command_line.specs.declared.exit.Exit.TheVariants as exit
 use Rattle.bt_refusals.specs.declared.fault.TreeFault.{TreeFault}
 use Rattle.bt_refusals.specs.declared.fault.TreeFault.TheVariants as fault
 use Rattle.bt_output.specs.Answers.{Answers, AreTold, AreUncalled, AtMoments, CommandAnswered, DriversLeft, FilesAnswered, Gave, IfTold, IsWhole, ReadFailed, Side, ToldIfNamed}
-use Rattle.bt_program.specs.Headline.{EachOutput, IsGiven, PlanReaches, ReachesIfPlan, UnreadLine, WholeOutput, moments_for}
+use Rattle.bt_program.specs.Headline.{EachOutput, IsGiven, IsGroundOf, IsScriptOf, PlanReaches, ReachesIfPlan, UnreadLine, WholeOutput, moments_for}
 use Rattle.bt_output.specs.Plans.{IsPlanned, PlanGives, PlannedOr, Plans, ReadPlans, first_unserved, plan_exit, plan_output, reached_lines, refusal_for}
 use Rattle.bt_plan.specs.declared.ending.End.{End}
 use Rattle.bt_plan.specs.declared.ending.End.TheVariants.{Reached, NoTemplate, NoOrder, Expansions, StillRunning, Faulted}
@@ -31,10 +31,13 @@ use Rattle.bt_model.specs.Trees.{IsValid}
 use Rattle.bt_model.specs.Worlds.{IsValidWorld}
 use Rattle.std.specs.List.{concat}
 use Rattle.bt_output.specs.Files.{Contents, Named, world_alone}
+use Rattle.bt_ground.specs.declared.fault.GroundFault.{GroundFault}
+use Rattle.bt_ground.specs.GroundFile.{Grounded, MakesWorld, reads_ground, world_from}
+use Rattle.bt_output.specs.Grounds.{GroundGives, GroundPlanGives, GroundPlans, GroundedPlans, SaidPlans, ground_output}
 use Rattle.bt_output.specs.Jobs.{CommandGives, FilesGive, files_of, held, held_by}
-use Rattle.bt_output.specs.Output.{Given, MockGives, Output, PrintGives, ReadGives, RunGives, Standing, TreeGives, WorldGives, given, is_too_long, itself, join_refused, joined_output, lack_of, mocked, no_goal, print_output, rules_refused, run_exit, standing_output, too_long, tree_refused, unread, words_refused, world_output, world_refused}
+use Rattle.bt_output.specs.Output.{Given, Giving, MockGives, OrTooLong, Output, PrintGives, ReadGives, RunGives, Standing, TreeGives, WorldGives, given, ground_refused, is_too_long, itself, join_refused, joined_output, lack_of, mocked, no_goal, print_output, rules_refused, run_exit, standing_output, too_long, tree_refused, unread, words_refused, world_output, world_refused}
 use Rattle.bt_output.specs.TreeFiles.{TreeReads, built, element_read, with_models}
-use Rattle.bt_command_line.specs.Words.{Command, Tick, Live, Load, Check, Dead, Plan, Mock}
+use Rattle.bt_command_line.specs.Words.{Command, Tick, Live, Load, Check, Dead, Plan, Mock, Ground, GroundPlan}
 use Rattle.bt_output.specs.declared.refusal.File.{File}
 use Rattle.bt_output.specs.declared.refusal.File.TheVariants as file
 use Rattle.bt_arena.specs.declared.join_fault.JoinFault.{JoinFault}
@@ -118,6 +121,25 @@ one_plan one limits world drivers x y p q =
     one_if (is_too_long world) x y (too_long file.World) _ _ p q (λ p1 q1.
     one_read_plan one q1.0 limits drivers x y (subst (λ (r : Result World WorldFault). ReadPlans r limits drivers x) (one.world world p1.0 q1.0 p1.1 q1.1) p1.2) q1.2)
 
+one_ground : (bytes : List ℕ) (x y : Output) → GroundGives bytes x → GroundGives bytes y → x ≡ y
+one_ground bytes x y p q = one_if (is_too_long bytes) x y (too_long file.World) _ _ p q (λ p1 q1. p1 ∙ sym q1)
+
+one_said : OneReading → (said : Result World GroundFault) (limits : Limits) (drivers : List DriverState) (x y : Output) → SaidPlans said limits drivers x → SaidPlans said limits drivers y → x ≡ y
+one_said one (Ok world) limits drivers x y p q = one_plan_or one (refusal_for world.goals (first_unserved drivers world.rows)) world limits drivers x y p q
+one_said one (Err fault) limits drivers x y p q = p ∙ sym q
+
+one_made : OneReading → (g : Grounded) (a b : Result World GroundFault) → MakesWorld g a → MakesWorld g b → a ≡ b
+one_made one g a b p q = p.is ∙ ap (world_from g.origins) (one.world g.text p.read q.read p.reads q.reads) ∙ sym q.is
+
+one_grounded : OneReading → (read : Result Grounded GroundFault) (limits : Limits) (drivers : List DriverState) (x y : Output) → GroundedPlans read limits drivers x → GroundedPlans read limits drivers y → x ≡ y
+one_grounded one (Ok g) limits drivers x y p q =
+    one_said one q.0 limits drivers x y (subst (λ (r : Result World GroundFault). SaidPlans r limits drivers x) (one_made one g p.0 q.0 p.1 q.1) p.2) q.2
+one_grounded one (Err fault) limits drivers x y p q = p ∙ sym q
+
+one_ground_plan : OneReading → (limits : Limits) (bytes : List ℕ) (drivers : List DriverState) (x y : Output) → GroundPlanGives limits bytes drivers x → GroundPlanGives limits bytes drivers y → x ≡ y
+one_ground_plan one limits bytes drivers x y p q =
+    one_if (is_too_long bytes) x y (too_long file.World) _ _ p q (λ p1 q1. one_grounded one (reads_ground bytes) limits drivers x y p1 q1)
+
 -- the limits of a plan
 abbrev limits_of : ℕ → ℕ → ℕ → Limits
 limits_of expand ticks period = record { expand = expand; ticks = ticks; period = period }
@@ -130,6 +152,8 @@ one_files one (Load leaves) files moments drivers x y p q = one_run one None (tr
 one_files one (Check t main) files moments drivers x y p q = one_print one print.Whole main files.tree x y p q
 one_files one (Dead t main) files moments drivers x y p q = one_print one print.Dead main files.tree x y p q
 one_files one (Plan w expand ticks period) files moments drivers x y p q = one_plan one (limits_of expand ticks period) files.world drivers x y p q
+one_files one (Ground w) files moments drivers x y p q = one_ground files.world x y p q
+one_files one (GroundPlan w expand ticks period) files moments drivers x y p q = one_ground_plan one (limits_of expand ticks period) files.world drivers x y p q
 one_files one (Mock t w rules main) files moments drivers x y p q = one_mock one main files.tree files.world files.rules (given course.Script moments drivers) x y p q
 
 -- nothing was written for want of memory
@@ -195,6 +219,8 @@ of_own (Check t main) files moments drivers o p = p
 of_own (Dead t main) files moments drivers o p = p
 of_own (Plan w expand ticks period) files moments drivers o p = p
 of_own (Mock t w rules main) files moments drivers o p = p
+of_own (Ground w) files moments drivers o p = p
+of_own (GroundPlan w expand ticks period) files moments drivers o p = p
 
 from_own : (c : Command) (files : Contents) (moments : Moments) (drivers : List DriverState) (o : Output) → FilesGive c (own (files_of c) files) moments drivers o → FilesGive c files moments drivers o
 from_own (Tick t w main) files moments drivers o p = p
@@ -204,6 +230,8 @@ from_own (Check t main) files moments drivers o p = p
 from_own (Dead t main) files moments drivers o p = p
 from_own (Plan w expand ticks period) files moments drivers o p = p
 from_own (Mock t w rules main) files moments drivers o p = p
+from_own (Ground w) files moments drivers o p = p
+from_own (GroundPlan w expand ticks period) files moments drivers o p = p
 
 -- the bytes that the shelf tells are those of the answer
 files_told : (h : List ℕ → List ℕ) (c : Command) (files : Contents) (moments : Moments) (drivers : List DriverState) (o : Output) → AreTold (Some h) (files_of c) files
@@ -238,6 +266,8 @@ needed (Check t main) files result a b clock x = x.holds
 needed (Dead t main) files result a b clock x = x.holds
 needed (Plan w expand ticks period) files result a b clock x = x.holds
 needed (Mock t w rules main) files result a b clock x = x.holds
+needed (Ground w) files result a b clock x = x.holds
+needed (GroundPlan w expand ticks period) files result a b clock x = x.holds
 
 -- ---- Clauses
 
@@ -378,6 +408,24 @@ exit_of_read_plan (Err fault) limits drivers o p = same_exit o (world_refused fa
 exit_of_plan : (limits : Limits) (world : List ℕ) (drivers : List DriverState) (o : Output) → PlanGives limits world drivers o → IsOfFiles o.exit
 exit_of_plan limits world drivers o p = exit_of_long (is_too_long world) o (too_long file.World) _ tt p (λ p1. exit_of_read_plan p1.0 limits drivers o p1.2)
 
+exit_of_text : (read : Result Grounded GroundFault) → IsOfFiles (ground_output read).exit
+exit_of_text (Ok g) = tt
+exit_of_text (Err fault) = tt
+
+exit_of_ground : (bytes : List ℕ) (o : Output) → GroundGives bytes o → IsOfFiles o.exit
+exit_of_ground bytes o p = exit_of_long (is_too_long bytes) o (too_long file.World) _ tt p (λ p1. same_exit o (ground_output (reads_ground bytes)) p1 (exit_of_text (reads_ground bytes)))
+
+exit_of_said : (said : Result World GroundFault) (limits : Limits) (drivers : List DriverState) (o : Output) → SaidPlans said limits drivers o → IsOfFiles o.exit
+exit_of_said (Ok world) limits drivers o p = exit_of_plan_or world.goals (first_unserved drivers world.rows) world limits drivers o p
+exit_of_said (Err fault) limits drivers o p = same_exit o (ground_refused fault) p tt
+
+exit_of_grounded : (read : Result Grounded GroundFault) (limits : Limits) (drivers : List DriverState) (o : Output) → GroundedPlans read limits drivers o → IsOfFiles o.exit
+exit_of_grounded (Ok g) limits drivers o p = exit_of_said p.0 limits drivers o p.2
+exit_of_grounded (Err fault) limits drivers o p = same_exit o (ground_refused fault) p tt
+
+exit_of_ground_plan : (limits : Limits) (bytes : List ℕ) (drivers : List DriverState) (o : Output) → GroundPlanGives limits bytes drivers o → IsOfFiles o.exit
+exit_of_ground_plan limits bytes drivers o p = exit_of_long (is_too_long bytes) o (too_long file.World) _ tt p (λ p1. exit_of_grounded (reads_ground bytes) limits drivers o p1)
+
 exit_of_files : (c : Command) (files : Contents) (moments : Moments) (drivers : List DriverState) (o : Output) → FilesGive c files moments drivers o → IsOfFiles o.exit
 exit_of_files (Tick t w main) files moments drivers o p = exit_of_run main files.tree files.world (given course.Script moments drivers) o p
 exit_of_files (Live t w rounds main) files moments drivers o p = exit_of_run main files.tree files.world (given (course.Rounds rounds) moments drivers) o p
@@ -385,6 +433,8 @@ exit_of_files (Load leaves) files moments drivers o p = exit_of_run None (tree_t
 exit_of_files (Check t main) files moments drivers o p = exit_of_print print.Whole main files.tree o p
 exit_of_files (Dead t main) files moments drivers o p = exit_of_print print.Dead main files.tree o p
 exit_of_files (Plan w expand ticks period) files moments drivers o p = exit_of_plan (limits_of expand ticks period) files.world drivers o p
+exit_of_files (Ground w) files moments drivers o p = exit_of_ground files.world o p
+exit_of_files (GroundPlan w expand ticks period) files moments drivers o p = exit_of_ground_plan (limits_of expand ticks period) files.world drivers o p
 exit_of_files (Mock t w rules main) files moments drivers o p = exit_of_mock main files.tree files.world files.rules (given course.Script moments drivers) o p
 
 -- no tree was run where a file was not read
@@ -464,18 +514,22 @@ pub record PlanLaws : Type 0 where
   pub reach : (world : World) (limits : Limits) (planned : PlanEnd) (trials : List Trial) (last : Trial) → PlanRun world limits planned trials last → IsReached world limits planned.end
   pub read : (tree : Tree) → IsValid tree → scope_count tree.term ≡ 0 → (f : Element) × Spells (concat (tree_lines tree)) f × (manifest_in f ≡ Ok []) × (reads [] None f ≡ Ok tree)
 
--- a plan was given whole, with Done
-module _ (laws : PlanLaws) (limits : Limits) (holds : Option (List ℕ → List ℕ)) (name : List ℕ) (a b : Side) where
+-- a plan was given whole, with Done, for a world that its file describes so
+module _ (laws : PlanLaws) (limits : Limits) (holds : Option (List ℕ → List ℕ)) (name : List ℕ) (Describes : List ℕ → World → Type 0) (a b : Side) where
   reads_back : (tree : Tree) → IsValid tree → scope_count tree.term ≡ 0 → TreeReads None (concat (tree_lines tree)) (Ok tree)
   reads_back tree valid alone =
       let r = laws.read tree valid alone in
       inl (r.0, r.1, sym (ap (with_models None r.0) r.2 ∙ ap built r.3))
 
-  abbrev Reaches : Type 0
-  Reaches = PlanReaches holds name limits.period a b
+  abbrev pub Reaches : Type 0
+  Reaches = PlanReaches holds name Describes limits.period a b
+
+  -- the shelf tells these bytes
+  abbrev pub Tells : List ℕ → Type 0
+  Tells script = ToldIfNamed holds (Some name) (λ bytes. script ≡ bytes)
 
   -- its end reaches the goals
-  by_end : (script : List ℕ) (world : World) (steps : List Step) (end : End) → ToldIfNamed holds (Some name) (λ bytes. script ≡ bytes) → ReadsWorld script (Ok world) → IsReached world limits end → StandsAlone end
+  by_end : (script : List ℕ) (world : World) (steps : List Step) (end : End) → Tells script → Describes script world → IsReached world limits end → StandsAlone end
       → plan_exit end ≡ exit.Done → Appended a.written b.written (concat (map step_line steps) ++ (end_line no_names end ++ concat (reached_lines end))) → Reaches
   by_end script world steps (Reached tree tick) told described reached alone done written = record {
     file = script;
@@ -495,7 +549,7 @@ module _ (laws : PlanLaws) (limits : Limits) (holds : Option (List ℕ → List 
   by_end script world steps (StillRunning ticks) told described reached alone done written = cc
   by_end script world steps (Faulted uid cause) told described reached alone done written = cc
 
-  by_plan : (goals : List ℕ) (lack : Option JoinFault) (script : List ℕ) (world : World) (o : Output) → ToldIfNamed holds (Some name) (λ bytes. script ≡ bytes) → ReadsWorld script (Ok world)
+  pub by_plan : (goals : List ℕ) (lack : Option JoinFault) (script : List ℕ) (world : World) (o : Output) → Tells script → Describes script world
       → PlannedOr (refusal_for goals lack) world limits a.drivers o → o.exit ≡ exit.Done → Appended a.written b.written o.bytes → Reaches
   by_plan [] lack script world o told described p done written = let e : exit.World ≡ exit.Done = sym (ap (λ (z : Output). z.exit) p) ∙ done in cc
   by_plan (goal ∷ goals) (Some fault) script world o told described p done written = let e : exit.World ≡ exit.Done = sym (ap (λ (z : Output). z.exit) p) ∙ done in cc
@@ -503,24 +557,56 @@ module _ (laws : PlanLaws) (limits : Limits) (holds : Option (List ℕ → List 
       by_end script world p.planned.steps p.planned.end told described (laws.reach world limits p.planned p.run.trials p.run.last p.run.run) p.alone
       (sym (ap (λ (z : Output). z.exit) p.is) ∙ done) (subst (λ (z : Output). Appended a.written b.written z.bytes) p.is written)
 
-  by_world : (described : Result World WorldFault) (script : List ℕ) (o : Output) → ToldIfNamed holds (Some name) (λ bytes. script ≡ bytes) → ReadsWorld script described → ReadPlans described limits a.drivers o
-      → o.exit ≡ exit.Done → Appended a.written b.written o.bytes → Reaches
-  by_world (Ok world) script o told described p done written = by_plan world.goals (first_unserved a.drivers world.rows) script world o told described p done written
-  by_world (Err fault) script o told described p done written = let e : exit.World ≡ exit.Done = sym (ap (λ (z : Output). z.exit) p) ∙ done in cc
+  -- what is not a plan is no output at Done
+  pub not_done : (o refused : Output) → refused.exit ≡ exit.World → o ≡ refused → o.exit ≡ exit.Done → Reaches
+  not_done o refused is p done = let e : exit.World ≡ exit.Done = sym is ∙ sym (ap (λ (z : Output). z.exit) p) ∙ done in cc
 
-  by_length : (long : Bool) (script : List ℕ) (o : Output) → ToldIfNamed holds (Some name) (λ bytes. script ≡ bytes)
-      → MatchBool long (o ≡ too_long file.World) ((described : Result World WorldFault) × ReadsWorld script described × ReadPlans described limits a.drivers o)
-      → o.exit ≡ exit.Done → Appended a.written b.written o.bytes → Reaches
-  by_length true script o told p done written = let e : exit.World ≡ exit.Done = sym (ap (λ (z : Output). z.exit) p) ∙ done in cc
-  by_length false script o told p done written = by_world p.0 script o told p.1 p.2 done written
+  by_length : (long : Bool) (script : List ℕ) (o : Output) (Plans : Type 0) → (Plans → o.exit ≡ exit.Done → Appended a.written b.written o.bytes → Reaches)
+      → MatchBool long (o ≡ too_long file.World) Plans → o.exit ≡ exit.Done → Appended a.written b.written o.bytes → Reaches
+  by_length true script o Plans by p done written = not_done o (too_long file.World) refl p done
+  by_length false script o Plans by p done written = by p done written
 
-  by_answer : (script : List ℕ) (moments : Moments) → ToldIfNamed holds (Some name) (λ bytes. script ≡ bytes) → Answers (PlanGives limits script a.drivers) exit.Done a b → Reaches
-  by_answer script moments told (inl x) = by_length (is_too_long script) script x.0 told x.1 x.2.0 x.2.1
-  by_answer script moments told (inr y) = let e : exit.Done ≡ exit.Memory = y.0 in cc
+  -- an output was given
+  pub reached_by : (Gives : Giving) (Plans : List ℕ → Output → Type 0) → ((files : Contents) (moments : Moments) (o : Output) → Gives files moments a.drivers o → OrTooLong files.world (too_long file.World) o (Plans files.world o))
+      → ((script : List ℕ) (o : Output) → Tells script → Plans script o → o.exit ≡ exit.Done → Appended a.written b.written o.bytes → Reaches)
+      → (shelf : Type 0) (IsUnread : File → Type 0) → ReadFailed shelf IsUnread exit.Done a b ⊎ FilesAnswered holds (world_alone name) Gives exit.Done a b → Reaches
+  reached_by Gives Plans opens by shelf IsUnread (inl r) = absurd (not_given r.1 (subst IsGiven (sym r.3.0) tt))
+  reached_by Gives Plans opens by shelf IsUnread (inr f) = by_answer f.files f.answers.moments f.told.world f.answers.holds
+    where
+      by_answer : (files : Contents) (moments : Moments) → Tells files.world → Answers (Gives files moments a.drivers) exit.Done a b → Reaches
+      by_answer files moments told (inl x) =
+          by_length (is_too_long files.world) files.world x.0 (Plans files.world x.0) (by files.world x.0 told) (opens files moments x.0 x.1) x.2.0 x.2.1
+      by_answer files moments told (inr y) = let e : exit.Done ≡ exit.Memory = y.0 in cc
 
-  pub reached_of : (shelf : Type 0) (IsUnread : File → Type 0) → ReadFailed shelf IsUnread exit.Done a b ⊎ FilesAnswered holds (world_alone name) (Plans limits) exit.Done a b → Reaches
-  reached_of shelf IsUnread (inl r) = absurd (not_given r.1 (subst IsGiven (sym r.3.0) tt))
-  reached_of shelf IsUnread (inr f) = by_answer f.files.world f.answers.moments f.told.world f.answers.holds
+-- .. by a world script
+module _ (laws : PlanLaws) (limits : Limits) (holds : Option (List ℕ → List ℕ)) (name : List ℕ) (a b : Side) where
+  by_world : (described : Result World WorldFault) (script : List ℕ) (o : Output) → Tells laws limits holds name IsScriptOf a b script → ReadsWorld script described → ReadPlans described limits a.drivers o
+      → o.exit ≡ exit.Done → Appended a.written b.written o.bytes → Reaches laws limits holds name IsScriptOf a b
+  by_world (Ok world) script o told described p done written = by_plan laws limits holds name IsScriptOf a b world.goals (first_unserved a.drivers world.rows) script world o told described p done written
+  by_world (Err fault) script o told described p done written = not_done laws limits holds name IsScriptOf a b o (world_refused fault) refl p done
+
+  pub reached_of : (shelf : Type 0) (IsUnread : File → Type 0) → ReadFailed shelf IsUnread exit.Done a b ⊎ FilesAnswered holds (world_alone name) (Plans limits) exit.Done a b → Reaches laws limits holds name IsScriptOf a b
+  reached_of = reached_by laws limits holds name IsScriptOf a b (Plans limits) (λ bytes o. (described : Result World WorldFault) × ReadsWorld bytes described × ReadPlans described limits a.drivers o)
+      (λ files moments o p. p) (λ script o told p done written. by_world p.0 script o told p.1 p.2 done written)
+
+-- .. by the script that a ground file stands for
+module _ (laws : PlanLaws) (limits : Limits) (holds : Option (List ℕ → List ℕ)) (name : List ℕ) (a b : Side) where
+  by_said : (g : Grounded) (read : Result World WorldFault) (said : Result World GroundFault) (script : List ℕ) (o : Output) → said ≡ world_from g.origins read → Tells laws limits holds name IsGroundOf a b script → reads_ground script ≡ Ok g
+      → ReadsWorld g.text read → SaidPlans said limits a.drivers o → o.exit ≡ exit.Done → Appended a.written b.written o.bytes → Reaches laws limits holds name IsGroundOf a b
+  by_said g (Ok world) said script o is told grounded described p done written =
+      by_plan laws limits holds name IsGroundOf a b world.goals (first_unserved a.drivers world.rows) script world o told (g, grounded, described)
+      (subst (λ (r : Result World GroundFault). SaidPlans r limits a.drivers o) is p) done written
+  by_said g (Err fault) said script o is told grounded described p done written =
+      not_done laws limits holds name IsGroundOf a b o _ refl (subst (λ (r : Result World GroundFault). SaidPlans r limits a.drivers o) is p) done
+
+  by_ground : (read : Result Grounded GroundFault) (script : List ℕ) (o : Output) → Tells laws limits holds name IsGroundOf a b script → reads_ground script ≡ read → GroundedPlans read limits a.drivers o
+      → o.exit ≡ exit.Done → Appended a.written b.written o.bytes → Reaches laws limits holds name IsGroundOf a b
+  by_ground (Ok g) script o told grounded p done written = by_said g p.1.read p.0 script o p.1.is told grounded p.1.reads p.2 done written
+  by_ground (Err fault) script o told grounded p done written = not_done laws limits holds name IsGroundOf a b o (ground_refused fault) refl p done
+
+  pub ground_reached_of : (shelf : Type 0) (IsUnread : File → Type 0) → ReadFailed shelf IsUnread exit.Done a b ⊎ FilesAnswered holds (world_alone name) (GroundPlans limits) exit.Done a b → Reaches laws limits holds name IsGroundOf a b
+  ground_reached_of = reached_by laws limits holds name IsGroundOf a b (GroundPlans limits) (λ bytes o. GroundedPlans (reads_ground bytes) limits a.drivers o)
+      (λ files moments o p. p) (λ script o told p done written. by_ground (reads_ground script) script o told refl p done written)
 
 -- ---- Words
 
@@ -546,6 +632,8 @@ module _ (holds : Option (List ℕ → List ℕ)) (result : Exit) (shelf : Type 
   planned_done laws (Some (Check t main)) answered = tt
   planned_done laws (Some (Dead t main)) answered = tt
   planned_done laws (Some (Mock t w rules main)) answered = tt
+  planned_done laws (Some (Ground w)) answered = tt
+  planned_done laws (Some (GroundPlan w expand ticks period)) answered = ground_reached_of laws (limits_of expand ticks period) holds w a b shelf IsUnread answered
   planned_done laws (Some (Plan w expand ticks period)) answered = reached_of laws (limits_of expand ticks period) holds w a b shelf IsUnread answered
 
   pub planned_of : PlanLaws → (command : Option Command) → CommandAnswered command holds shelf IsUnread result a b → result ≡ exit.Done → ReachesIfPlan command holds a b

@@ -1,6 +1,7 @@
 -- What `bt` says of its answer.
 use Rattle.std.specs.Prelude.{ℕ, ◌≡◌, List, ◌++◌, map, Option, Some, None, Result, Ok}
 use Rattle.std.specs.List.{concat}
+use Rattle.bt_ground.specs.GroundFile.{Grounded, reads_ground}
 use Rattle.bt_model.specs.declared.term.Tree.{Tree}
 use Rattle.bt_model.specs.declared.world.World.{World}
 use Rattle.bt_model.specs.PrintedTree.{tree_lines}
@@ -16,7 +17,7 @@ use Rattle.bt_output.specs.Jobs.{CommandGives}
 use Rattle.bt_output.specs.Output.{Output, unread}
 use Rattle.bt_command_line.specs.declared.exit.Exit.{Exit}
 use Rattle.bt_command_line.specs.declared.exit.Exit.TheVariants as exit
-use Rattle.bt_command_line.specs.Words.{Command, Live, Plan}
+use Rattle.bt_command_line.specs.Words.{Command, Live, Plan, GroundPlan}
 use Rattle.bt_output.specs.declared.refusal.File.{File}
 use Rattle.bt_outside.specs.Appending.{Appended}
 use Rattle.bt_outside.specs.Moments.{Moments}
@@ -28,14 +29,22 @@ IsGiven exit.Write = ⊥
 IsGiven exit.Memory = ⊥
 IsGiven _ = Unit {0}
 
+-- these bytes of a world script describe this world
+abbrev pub IsScriptOf : List ℕ → World → Type 0
+IsScriptOf file world = ReadsWorld file (Ok world)
+
+-- these bytes of a ground file stand for a script that describes it
+abbrev pub IsGroundOf : List ℕ → World → Type 0
+IsGroundOf file world = (g : Grounded) × (reads_ground file ≡ Ok g) × ReadsWorld g.text (Ok world)
+
 -- The goals of the world that this file describes are reached by a tree. What was written are some steps, the tick that
 -- reaches them and the tree; the bytes of the tree read as the tree; and in its own run, ticked once each period, every goal
 -- is true after this tick, and not all are true after any earlier one.
-pub record PlanReaches (holds : Option (List ℕ → List ℕ)) (named : List ℕ) (period : ℕ) (old new : Side) : Type 0 where
+pub record PlanReaches (holds : Option (List ℕ → List ℕ)) (named : List ℕ) (Describes : List ℕ → World → Type 0) (period : ℕ) (old new : Side) : Type 0 where
   pub file : List ℕ
   pub told : ToldIfNamed holds (Some named) (λ bytes. file ≡ bytes)
   pub world : World
-  pub described : ReadsWorld file (Ok world)
+  pub described : Describes file world
   pub steps : List Step
   pub tree : Tree
   pub tick : ℕ
@@ -46,7 +55,8 @@ pub record PlanReaches (holds : Option (List ℕ → List ℕ)) (named : List �
 
 -- where the command is a plan, its goals are reached
 abbrev pub ReachesIfPlan : Option Command → Option (List ℕ → List ℕ) → Side → Side → Type 0
-ReachesIfPlan (Some (Plan world expand ticks period)) holds old new = PlanReaches holds world period old new
+ReachesIfPlan (Some (Plan world expand ticks period)) holds old new = PlanReaches holds world IsScriptOf period old new
+ReachesIfPlan (Some (GroundPlan world expand ticks period)) holds old new = PlanReaches holds world IsGroundOf period old new
 ReachesIfPlan _ holds old new = Unit {0}
 
 -- what has to be told of a clock for the output of a command: its moments for `live`, and nothing for others

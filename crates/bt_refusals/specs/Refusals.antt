@@ -10,6 +10,8 @@ use Rattle.bt_refusals.specs.declared.fault.TreeFault.{TreeFault}
 use Rattle.bt_refusals.specs.declared.fault.TreeFault.TheVariants as fault
 use Rattle.bt_manifest.specs.declared.fault.ManifestFault.{ManifestFault}
 use Rattle.bt_manifest.specs.declared.fault.ManifestFault.TheVariants as manifest
+use Rattle.bt_ground.specs.declared.fault.GroundFault.{GroundFault}
+use Rattle.bt_ground.specs.declared.fault.GroundFault.TheVariants as ground
 use Rattle.bt_mock.specs.declared.fault.MockFault.{MockFault}
 use Rattle.bt_mock.specs.declared.fault.MockFault.TheVariants as mock
 use Rattle.bt_model.specs.Lines.{quoted}
@@ -106,3 +108,15 @@ rules_words mock.TooManyNodes = codes "TooManyNodes"
 rules_words mock.TooDeep = codes "TooDeep"
 rules_words mock.TooManyKeys = codes "TooManyKeys"
 rules_words mock.TooMuchWork = codes "TooMuchWork"
+
+-- the words of a ground file's fault
+abbrev pub ground_words : GroundFault → List ℕ
+ground_words (ground.Header line) = numbered (codes "Header") line
+ground_words (ground.BadLine line) = numbered (codes "BadLine") line
+ground_words (ground.DoubleName line) = numbered (codes "DoubleName") line
+ground_words (ground.NoName line) = numbered (codes "NoName") line
+ground_words (ground.TooNested line) = numbered (codes "TooNested") line
+ground_words (ground.TooMany line) = numbered (codes "TooMany") line
+ground_words (ground.Unended line) = numbered (codes "Unended") line
+ground_words (ground.TooManyGround size) = numbered (codes "TooManyGround") size
+ground_words (ground.World line kind) = codes "World " ++ numbered (kind_word kind) line

@@ -1,8 +1,8 @@
-//! The line for each refusal of a tree, a world, their join, or mock rules.
+//! The line for each refusal of a tree, a world, their join, mock rules, or a ground file.
 #![tactic(auto)]
 
 mod fault;
 mod refusal;
 
 pub use fault::TreeFault;
-pub use refusal::{join_refusal, rules_refusal, tree_refusal, world_refusal};
+pub use refusal::{ground_refusal, join_refusal, rules_refusal, tree_refusal, world_refusal};

@@ -1,10 +1,11 @@
 ghost use Rattle.std.specs.Prelude.{◌≡◌, ◌++◌, IfOk, OnOk, codes, decimal};
-ghost use Rattle.bt_refusals.specs.Refusals.{build_words, driver_word, element_words, join_words, kind_word, manifest_words, named, numbered, rules_words, script_words, tree_words, world_words};
+ghost use Rattle.bt_refusals.specs.Refusals.{build_words, driver_word, element_words, ground_words, join_words, kind_word, manifest_words, named, numbered, rules_words, script_words, tree_words, world_words};
 
 use crate::fault::TreeFault;
 use bt_arena::JoinFault;
 use bt_build::BuildFault;
 use bt_elements::ElementFault;
+use bt_ground::GroundFault;
 use bt_manifest::ManifestFault;
 use bt_mock::MockFault;
 use bt_model::{DriverKind, WorldFault, WorldKind};
@@ -223,6 +224,51 @@ pub fn rules_refusal(alloc: Global, fault: &MockFault) -> Result<Vec<u8>, NoMemo
     let mut line = Vec::new(alloc);
     put_bytes(&mut line, b"refused rules ")?;
     put_mock_fault(&mut line, fault)?;
+    put_bytes(&mut line, b"\n")?;
+    Ok(line)
+}
+
+/// Puts the words of a text that a ground file would stand for, which is too long.
+fn put_size(out: &mut Vec<u8>, size: u64) -> Result<(), NoMemory>
+    ensures { OnOk result (out.new.items ≡ out.old.items ++ numbered (codes "TooManyGround") size) }
+{
+    put_bytes(out, b"TooManyGround")?;
+    put_bytes(out, b" ")?;
+    put_number(out, size)
+}
+
+/// Puts the words of a fault of the world script that a ground file stands for.
+fn put_world_of(out: &mut Vec<u8>, line: u32, kind: WorldKind) -> Result<(), NoMemory>
+    ensures { OnOk result (out.new.items ≡ out.old.items ++ (codes "World " ++ numbered (kind_word kind) line)) }
+{
+    put_bytes(out, b"World ")?;
+    put_numbered(out, kind_word(kind), line)
+}
+
+/// Puts the words of a ground file's fault.
+fn put_ground_fault(out: &mut Vec<u8>, fault: GroundFault) -> Result<(), NoMemory>
+    ensures { OnOk result (out.new.items ≡ out.old.items ++ ground_words fault) }
+{
+    match fault {
+        GroundFault::Header { line } => put_numbered(out, b"Header", line),
+        GroundFault::BadLine { line } => put_numbered(out, b"BadLine", line),
+        GroundFault::DoubleName { line } => put_numbered(out, b"DoubleName", line),
+        GroundFault::NoName { line } => put_numbered(out, b"NoName", line),
+        GroundFault::TooNested { line } => put_numbered(out, b"TooNested", line),
+        GroundFault::TooMany { line } => put_numbered(out, b"TooMany", line),
+        GroundFault::Unended { line } => put_numbered(out, b"Unended", line),
+        GroundFault::TooManyGround { size } => put_size(out, size),
+        GroundFault::World { line, kind } => put_world_of(out, line, kind),
+    }
+}
+
+/// The line that refuses a ground file, or the world script that it stands for.
+pub fn ground_refusal(alloc: Global, fault: GroundFault) -> Result<Vec<u8>, NoMemory>
+    ensures { IfOk result (λ line. line.items ≡ codes "refused ground " ++ ground_words fault ++ codes "\n") }
+{
+    let mut line = Vec::new(alloc);
+    put_bytes(&mut line, b"refused ground ")?;
+    put_ground_fault(&mut line, fault)?;
     put_bytes(&mut line, b"\n")?;
     Ok(line)
 }

@@ -18,3 +18,6 @@ returns-in-Ok-join_refusal-clause-refused g c = rw c.in-Join.is (rw (c.as_slice-
 
 pub returns-in-Ok-rules_refusal-clause-refused : goal.returns-in-Ok-rules_refusal-clause-refused
 returns-in-Ok-rules_refusal-clause-refused g c = rw c.in-Rules.is (rw (c.as_slice-in-Ok-rules_refusal.ensures.value ∙ c.in-Ok-rules_refusal.ensures) at c.write_last-in-Ok-rules_refusal.ensures.printed)
+
+pub returns-in-Ok-ground_refusal-clause-refused : goal.returns-in-Ok-ground_refusal-clause-refused
+returns-in-Ok-ground_refusal-clause-refused g c = rw c.in-Ground.is (rw (c.as_slice-in-Ok-ground_refusal.ensures.value ∙ c.in-Ok-ground_refusal.ensures) at c.write_last-in-Ok-ground_refusal.ensures.printed)
