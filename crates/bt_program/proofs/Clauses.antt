@@ -566,17 +566,19 @@ module _ (laws : PlanLaws) (limits : Limits) (holds : Option (List ℕ → List 
   by_length true script o Plans by p done written = not_done o (too_long file.World) refl p done
   by_length false script o Plans by p done written = by p done written
 
-  -- an output was given
-  pub reached_by : (Gives : Giving) (Plans : List ℕ → Output → Type 0) → ((files : Contents) (moments : Moments) (o : Output) → Gives files moments a.drivers o → OrTooLong files.world (too_long file.World) o (Plans files.world o))
-      → ((script : List ℕ) (o : Output) → Tells script → Plans script o → o.exit ≡ exit.Done → Appended a.written b.written o.bytes → Reaches)
-      → (shelf : Type 0) (IsUnread : File → Type 0) → ReadFailed shelf IsUnread exit.Done a b ⊎ FilesAnswered holds (world_alone name) Gives exit.Done a b → Reaches
-  reached_by Gives Plans opens by shelf IsUnread (inl r) = absurd (not_given r.1 (subst IsGiven (sym r.3.0) tt))
-  reached_by Gives Plans opens by shelf IsUnread (inr f) = by_answer f.files f.answers.moments f.told.world f.answers.holds
+  -- an output was given whose file is not too long
+  module _ (Gives : Giving) (Plans : List ℕ → Output → Type 0)
+      (opens : (files : Contents) (moments : Moments) (o : Output) → Gives files moments a.drivers o → OrTooLong files.world (too_long file.World) o (Plans files.world o))
+      (by : (script : List ℕ) (o : Output) → Tells script → Plans script o → o.exit ≡ exit.Done → Appended a.written b.written o.bytes → Reaches)
     where
       by_answer : (files : Contents) (moments : Moments) → Tells files.world → Answers (Gives files moments a.drivers) exit.Done a b → Reaches
       by_answer files moments told (inl x) =
           by_length (is_too_long files.world) files.world x.0 (Plans files.world x.0) (by files.world x.0 told) (opens files moments x.0 x.1) x.2.0 x.2.1
       by_answer files moments told (inr y) = let e : exit.Done ≡ exit.Memory = y.0 in cc
+
+      pub reached_by : (shelf : Type 0) (IsUnread : File → Type 0) → ReadFailed shelf IsUnread exit.Done a b ⊎ FilesAnswered holds (world_alone name) Gives exit.Done a b → Reaches
+      reached_by shelf IsUnread (inl r) = absurd (not_given r.1 (subst IsGiven (sym r.3.0) tt))
+      reached_by shelf IsUnread (inr f) = by_answer f.files f.answers.moments f.told.world f.answers.holds
 
 -- .. by a world script
 module _ (laws : PlanLaws) (limits : Limits) (holds : Option (List ℕ → List ℕ)) (name : List ℕ) (a b : Side) where
