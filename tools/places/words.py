@@ -25,15 +25,19 @@ class Form:
 
 VALUES = {"--main": "ID", "--ticks": "N", "--expand": "N", "--period": "MS"}
 
+PLANNING = Form(("WORLD",), ("--expand", "--ticks", "--period"),
+                ranges={"--expand": (0, 120), "--ticks": (1, 10_000), "--period": (0, 1_000_000)})
+
 COMMANDS: Dict[str, Form] = {
     "tick": Form(("TREE", "WORLD"), ("--main",)),
     "live": Form(("TREE", "WORLD"), ("--ticks", "--main"), ("--ticks",), {"--ticks": (1, 100_000)}),
     "check": Form(("TREE",), ("--main",)),
     "dead": Form(("TREE",), ("--main",)),
     "load": Form(("N",), ranges={"N": (1, 1_000)}),
-    "plan": Form(("WORLD",), ("--expand", "--ticks", "--period"),
-                 ranges={"--expand": (0, 120), "--ticks": (1, 10_000), "--period": (0, 1_000_000)}),
+    "plan": PLANNING,
     "mock": Form(("TREE", "WORLD", "RULES"), ("--main",)),
+    "ground": Form(("WORLD",)),
+    "gplan": Form(("WORLD",), PLANNING.options, ranges=PLANNING.ranges),
 }
 
 

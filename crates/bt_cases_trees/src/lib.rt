@@ -4,6 +4,8 @@
 #[cfg(test)]
 mod dead;
 #[cfg(test)]
+mod grounds;
+#[cfg(test)]
 mod limits;
 #[cfg(test)]
 mod plans;
