@@ -1,4 +1,4 @@
-ghost use Rattle.std.specs.Prelude.{◌≤◌, ◌⊎◌, length};
+ghost use Rattle.std.specs.Prelude.{◌≡◌, ◌≤◌, ◌⊎◌, length};
 ghost use Rattle.std.specs.Option.{option_copied};
 ghost use Rattle.bt_command_line.specs.Commands.{IsInRange, command_seen};
 ghost use Rattle.bt_command_line.specs.Words.{Load, command_of};
@@ -301,6 +301,17 @@ fn read_and_mock<S: Shelf, K: Sink, C: Clock, D: Drivers>(
     )
 }
 
+/// The limits of a plan, by the numbers of its words.
+fn limits_of(expand: u32, ticks: u32, period: u32) -> Limits
+    ensures { result ≡ record { expand = expand; ticks = ticks; period = period } }
+{
+    Limits {
+        expand,
+        ticks,
+        period: u64::from(period),
+    }
+}
+
 /// Runs a command: its output is written, or it is refused and nothing is written yet.
 fn run_command<S: Shelf, K: Sink, C: Clock, D: Drivers>(
     alloc: Global,
@@ -337,14 +348,7 @@ fn run_command<S: Shelf, K: Sink, C: Clock, D: Drivers>(
             expand,
             ticks,
             period,
-        } => {
-            let limits = Limits {
-                expand,
-                ticks,
-                period: u64::from(period),
-            };
-            read_and_plan(alloc, world, &limits, outside)
-        }
+        } => read_and_plan(alloc, world, &limits_of(expand, ticks, period), outside),
         Command::Mock {
             tree,
             world,
@@ -357,14 +361,7 @@ fn run_command<S: Shelf, K: Sink, C: Clock, D: Drivers>(
             expand,
             ticks,
             period,
-        } => {
-            let limits = Limits {
-                expand,
-                ticks,
-                period: u64::from(period),
-            };
-            read_and_plan_ground(alloc, world, &limits, outside)
-        }
+        } => read_and_plan_ground(alloc, world, &limits_of(expand, ticks, period), outside),
     }
 }
 
