@@ -1,0 +1,10 @@
+pub mod Bounds
+pub mod Closing
+pub mod Flat
+pub mod Marked
+pub mod Repeats
+pub mod Scans
+pub mod Short
+pub mod Soundness
+pub mod Steps
+pub mod Totals
