@@ -15,7 +15,10 @@ static FAULTS: [(&str, &str); 49] = [
     ("bt-ground 1\nsort s", "BadLine 2"),
     ("bt-ground 1\nsort 1s a", "BadLine 2"),
     ("bt-ground 1\nsort s a-b", "BadLine 2"),
-    ("bt-ground 1\nsort s a\nforall X s\nsort t b\nend", "BadLine 4"),
+    (
+        "bt-ground 1\nsort s a\nforall X s\nsort t b\nend",
+        "BadLine 4",
+    ),
     (
         "bt-ground 1\nsort s v1 v2 v3 v4 v5 v6 v7 v8 v9 v10 v11 v12 v13 v14 v15 v16 v17",
         "BadLine 2",
@@ -67,7 +70,10 @@ static FAULTS: [(&str, &str); 49] = [
     ),
     // The innermost block is named where the file ends in one.
     ("bt-ground 1\nsort s a\nforall X s", "Unended 3"),
-    ("bt-ground 1\nsort s a\nforall X s\nforall Y s\n$X\n", "Unended 4"),
+    (
+        "bt-ground 1\nsort s a\nforall X s\nforall Y s\n$X\n",
+        "Unended 4",
+    ),
     (
         "bt-ground 1\nsort s a\nforall X s\nforall Y s\n$X\nend\n",
         "Unended 3",
@@ -93,7 +99,11 @@ fn faults(rt: HostRuntime) -> Result<(), Fail> {
     let alloc = rt.alloc();
     for (file, wanted) in &FAULTS {
         assert!(rt; file.len() <= 1_048_576);
-        assert_eq!(rt; text_of(alloc, file.as_bytes())?.as_str(), *wanted, "{file}");
+        assert_eq!(rt;
+            text_of(alloc, file.as_bytes())?.as_str(),
+            *wanted,
+            "{file}"
+        );
     }
     Ok(())
 }

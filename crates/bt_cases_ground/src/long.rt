@@ -25,7 +25,11 @@ fn sorts(alloc: Global, count: u32) -> Result<String, NoMemory> {
 #[test]
 fn many_sorts(rt: HostRuntime) -> Result<(), Fail> {
     let alloc = rt.alloc();
-    let rows = [(16_u32, "bt-world 1\n"), (17, "TooMany 18"), (18, "TooMany 18")];
+    let rows = [
+        (16_u32, "bt-world 1\n"),
+        (17, "TooMany 18"),
+        (18, "TooMany 18"),
+    ];
     for (count, wanted) in &rows {
         let file = sorts(alloc, *count)?;
         assert_eq!(rt; told(&rt, alloc, &file)?.as_str(), *wanted, "{count}");
@@ -52,7 +56,10 @@ fn too_long(rt: HostRuntime) -> Result<(), Fail> {
     assert_eq!(rt; told(&rt, alloc, &file)?.as_str(), "TooManyGround 1228811");
     let line = "a".repeat(alloc, 1_000_000)?;
     let file = nested(alloc, line.as_str())?;
-    assert_eq!(rt; told(&rt, alloc, &file)?.as_str(), "TooManyGround 4096004107");
+    assert_eq!(rt;
+        told(&rt, alloc, &file)?.as_str(),
+        "TooManyGround 4096004107"
+    );
     let line = "$X#Y#Z".repeat(alloc, 100)?;
     let file = nested(alloc, line.as_str())?;
     assert_eq!(rt; told(&rt, alloc, &file)?.as_str(), "TooManyGround 2180107");

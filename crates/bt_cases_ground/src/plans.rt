@@ -15,10 +15,12 @@ use std::alloc::Global;
 use std::process::Abort;
 
 /// Two rooms, of which one is the goal.
-const PLACES: &str = "bt-ground 1\nsort place kitchen hall\nfact at 0\nforall X place\ncondition At_$X is at == #X\naction Go_$X timed 100\nsets at = #X\nend\ngoal At_hall";
+const PLACES: &str =
+    "bt-ground 1\nsort place kitchen hall\nfact at 0\nforall X place\ncondition At_$X is at == #X\naction Go_$X timed 100\nsets at = #X\nend\ngoal At_hall";
 
 /// Four rooms, in each of which the light is to be put on.
-const ROOMS: &str = "bt-ground 1\nsort room hall kitchen study attic\nforall X room\nfact lit_$X 0\ncondition Lit_$X is lit_$X == 1\naction Light_$X timed 100\nsets lit_$X = 1\nend\nforall X room\ngoal Lit_$X\nend\n";
+const ROOMS: &str =
+    "bt-ground 1\nsort room hall kitchen study attic\nforall X room\nfact lit_$X 0\ncondition Lit_$X is lit_$X == 1\naction Light_$X timed 100\nsets lit_$X = 1\nend\nforall X room\ngoal Lit_$X\nend\n";
 
 /// A name as text.
 fn text(name: &Name) -> &str {

@@ -65,7 +65,11 @@ fn texts(rt: HostRuntime) -> Result<(), Fail> {
     let alloc = rt.alloc();
     for (file, wanted) in &TEXTS {
         assert!(rt; file.len() <= 1_048_576);
-        assert_eq!(rt; text_of(alloc, file.as_bytes())?.as_str(), *wanted, "{file}");
+        assert_eq!(rt;
+            text_of(alloc, file.as_bytes())?.as_str(),
+            *wanted,
+            "{file}"
+        );
     }
     Ok(())
 }
@@ -85,7 +89,10 @@ static WORLDS: [(&str, &str); 6] = [
         "bt-ground 1\nsort s a b\nforall X s\nfact same 0\nend",
         "World DoubleName 4",
     ),
-    ("bt-ground 1\nsort s a\nforall X s\nend\nhello", "World BadLine 5"),
+    (
+        "bt-ground 1\nsort s a\nforall X s\nend\nhello",
+        "World BadLine 5",
+    ),
     ("bt-ground 1\ngoal G\nsort s a\nforall X s", "Unended 4"),
 ];
 
@@ -94,7 +101,11 @@ fn worlds(rt: HostRuntime) -> Result<(), Fail> {
     let alloc = rt.alloc();
     for (file, wanted) in &WORLDS {
         assert!(rt; file.len() <= 1_048_576);
-        assert_eq!(rt; world_text(alloc, file.as_bytes())?.as_str(), *wanted, "{file}");
+        assert_eq!(rt;
+            world_text(alloc, file.as_bytes())?.as_str(),
+            *wanted,
+            "{file}"
+        );
     }
     Ok(())
 }

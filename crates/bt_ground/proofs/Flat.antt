@@ -1,13 +1,13 @@
 -- Lines that are replaced in one text are replaced one by one.
-use Rattle.std.proofs.Common.{◌≡◌, ℕ, zero, suc, ◌+◌, Bool, true, false, ◌&&◌, ◌==◌, if◌then◌else◌, List, [], ◌∷◌, ◌++◌, map, refl, sym, ◌∙◌, ap, append_assoc, arith}
+use Rattle.std.proofs.Common.{◌≡◌, ℕ, zero, suc, ◌+◌, Bool, true, false, ◌&&◌, ◌==◌, if◌then◌else◌, List, [], ◌∷◌, ◌++◌, ◌<◌, map, length, drop, get_or, refl, sym, ◌∙◌, ap, append_assoc, arith}
 use Rattle.std.proofs.lemmas.Bool.Decides.{nat_tests}
 use Rattle.std.specs.List.{flat_map, list_all}
 use Rattle.std.proofs.lemmas.Grind.{flat_map-append}
-use Rattle.std.proofs.lemmas.List.{map-append}
+use Rattle.std.proofs.lemmas.List.{drop_more, map-append}
 use Rattle.bt_script.proofs.Bools.{both}
 use Rattle.bt_ground.specs.Blocks as blocks
 use Rattle.bt_ground.specs.Blocks.{AndBlock, AndLine, Body, Building, End, Forall, Item, Line, NoPart, Parts, ended, filled, filled_line, is_mark, is_variable, lines_of, nothing_built, once_each, parts_of, standing, values_at, with_item, with_items}
-use Rattle.bt_ground.specs.Flat.{FlatLines, flat_each, flat_lines, flat_text, with_flat_line}
+use Rattle.bt_ground.specs.Flat.{FlatLines, flat_each, flat_filled, flat_lines, flat_text, with_flat_line}
 use Rattle.bt_ground.specs.Making.{Making, made_item, nothing_made}
 use Rattle.bt_ground.specs.Sound.{is_item}
 use Rattle.bt_ground.specs.declared.make.Block.{Block}
@@ -58,7 +58,7 @@ flat-append xs ys =
     ap (λ t. let f : FlatLines = record { text = t; origins = map (λ line. line.origin) (xs ++ ys) } in f) (flat_map-append (λ (line : Line). line.text ++ 10 ∷ []) xs ys)
     ∙ ap (λ o. let f : FlatLines = record { text = flat_text xs ++ flat_text ys; origins = o } in f) (map-append (λ (line : Line). line.origin) xs ys)
 
-append-nil : {A : Type 0} (xs : List A) → xs ++ [] ≡ xs
+pub append-nil : {A : Type 0} (xs : List A) → xs ++ [] ≡ xs
 append-nil [] = refl
 append-nil (x ∷ xs) = ap (λ t. x ∷ t) (append-nil xs)
 
@@ -78,6 +78,14 @@ flat_once_each x place (value ∷ values) apart lines before =
     ap (flat_each x (place + 1) values (flat_lines lines)) (filled_after x value place apart lines before)
     ∙ flat_once_each x (place + 1) values apart lines (before ++ map (filled_line x value place) lines)
     ∙ ap flat_lines (append_assoc before (map (filled_line x value place) lines) (once_each x (place + 1) values lines))
+
+-- one value more
+pub each_step : (x i : ℕ) (values : List (List ℕ)) (value : List ℕ) (lines before next total : FlatLines) → i < length values → value ≡ get_or values i value → next ≡ flat_filled x value (i + 1) lines before →
+    flat_each x (i + 1) (drop i values) lines before ≡ total → flat_each x (i + 1 + 1) (drop (i + 1) values) lines next ≡ total
+each_step x i values value lines before next total within is made h =
+    ap (flat_each x (i + 1 + 1) (drop (i + 1) values) lines) (made ∙ ap (λ (v : List ℕ). flat_filled x v (i + 1) lines before) is)
+    ∙ sym (ap (λ (vs : List (List ℕ)). flat_each x (i + 1) vs lines before) (drop_more values i value within))
+    ∙ h
 
 -- ---- Items
 

@@ -1,6 +1,7 @@
 pub mod Bounds
-pub mod Closing
 pub mod Flat
+pub mod Following
+pub mod Headers
 pub mod Marked
 pub mod Repeats
 pub mod Scans
@@ -8,3 +9,4 @@ pub mod Short
 pub mod Soundness
 pub mod Steps
 pub mod Totals
+pub mod Writings

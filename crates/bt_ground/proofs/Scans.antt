@@ -137,7 +137,7 @@ scan_values each marked x place (value ∷ values) names pos few text h =
     ap (λ n. n + over_values x (place + 1) values (scan each marked) text) one
     ∙ ap (λ n. scan each (at_value each marked x value place) text + n) rest
     ∙ scan_add each (length values * each) (length (value ∷ values) * each) (at_value each marked x value place) (at_values each marked x (place + 1) values) (at_values each marked x place (value ∷ values))
-      (omega arith) (one_more each marked x place value values) text
+    (omega arith) (one_more each marked x place value values) text
 
 over_same : (x place : ℕ) (values : List (List ℕ)) (f g : List ℕ → ℕ) → list_all is_name values ≡ true → 0 < place → place + length values < 2 ^ 64 → ((text : List ℕ) → after_marks is_variable text ≡ true → f text ≡ g text) →
     (text : List ℕ) → after_marks is_variable text ≡ true → over_values x place values f text ≡ over_values x place values g text

@@ -72,7 +72,7 @@ module _ (sorts : List Sort) (named : AreNames sorts) where
       let rounds = around b.blocks in
       let size = scan_is sorts named rounds line.text h in
       let more = sum-append (whole_size sorts rounds) (lines_of sorts b.parts) (line ∷ []) in
-      same_around sorts _ _ as (omega arith)
+      same_around sorts _ _ rounds (omega arith)
 
   step_end : (parts : Parts) (open_blocks : List blocks.Block) → sized_item sorts (sizing_of sorts (record { parts = parts; blocks = open_blocks })) End ≡ sizing_of sorts (ended parts open_blocks)
   step_end parts [] = refl
@@ -80,7 +80,7 @@ module _ (sorts : List Sort) (named : AreNames sorts) where
       let rounds = around open_blocks in
       let more = sum-append (whole_size sorts rounds) (lines_of sorts block.before) (once_each block.variable 1 (values_at sorts block.sort) (lines_of sorts parts)) in
       let each = sum_each (instances sorts rounds) block.variable 1 (values_at sorts block.sort) (text_size sorts rounds) (lines_of sorts parts) in
-      same_around sorts _ _ as (omega arith)
+      same_around sorts _ _ rounds (omega arith)
 
   step_forall : (b : Building) (x sort : ℕ) → sized_item sorts (sizing_of sorts b) (Forall x sort) ≡ sizing_of sorts (with_item b (Forall x sort))
   step_forall b x sort = same_around sorts _ _ (record { variable = x; sort = sort } ∷ around b.blocks) (omega arith)

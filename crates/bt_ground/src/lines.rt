@@ -53,18 +53,19 @@ impl Lines {
     ) -> Result<(), NoMemory>
         ensures { OnOk result (self.new ≡ flat_filled variable value.now place lines.now self.old) }
     {
-        put_filled(&mut self.text, lines.text.as_slice(), variable, value, place)?;
+        put_filled(
+            &mut self.text,
+            lines.text.as_slice(),
+            variable,
+            value,
+            place,
+        )?;
         self.origins.extend_from_slice(lines.origins.as_slice())?;
         Ok(())
     }
 
     /// Adds other lines once for each of the values of a variable.
-    pub fn add_each(
-        &mut self,
-        lines: &Lines,
-        variable: u8,
-        values: &[Name],
-    ) -> Result<(), NoMemory>
+    pub fn add_each(&mut self, lines: &Lines, variable: u8, values: &[Name]) -> Result<(), NoMemory>
         ensures { OnOk result (self.new ≡ flat_each variable 1 values.now lines.now self.old) }
     {
         for (i, value) in values.iter().enumerate() {

@@ -74,7 +74,8 @@ impl Making {
                 sort,
             } = block;
             let inner = mem::replace(&mut self.lines, before);
-            self.lines.add_each(&inner, variable, values_at(sorts, sort))?;
+            self.lines
+                .add_each(&inner, variable, values_at(sorts, sort))?;
         }
         Ok(())
     }

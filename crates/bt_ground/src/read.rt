@@ -35,8 +35,21 @@ fn ground_of(alloc: Global, lines: &[&[u8]]) -> Result<Ground, Stop<GroundFault>
     ensures { Gives result (λ said. said ≡ file.ground_of (map (λ text. text.now) lines.now)) }
 {
     match lines {
-        [first, rest @ ..] if is(trimmed(first), "bt-ground 1") => ground_following(alloc, rest),
-        _ => Err(Stop::Fault(GroundFault::Header { line: 1 })),
+        [first, rest @ ..] => headed(alloc, is(trimmed(first), "bt-ground 1"), rest),
+        [] => Err(Stop::Fault(GroundFault::Header { line: 1 })),
+    }
+}
+
+/// The world script of the lines after the first, where that is the header.
+fn headed(alloc: Global, is_header: bool, lines: &[&[u8]]) -> Result<Ground, Stop<GroundFault>>
+    requires few { length lines.now ≤ 1048577 }
+    requires short { list_all is_short (map (λ text. text.now) lines.now) ≡ true }
+    ensures { Gives result (λ said. said ≡ file.headed is_header (map (λ text. text.now) lines.now)) }
+{
+    if is_header {
+        ground_following(alloc, lines)
+    } else {
+        Err(Stop::Fault(GroundFault::Header { line: 1 }))
     }
 }
 
@@ -67,7 +80,9 @@ fn read_lines<'a>(
 {
     let mut line = 2;
     for text in lines {
-        read_line(alloc, reading, line, text)?;
+        if let Err(stop) = read_line(alloc, reading, line, text) {
+            return Err(stop);
+        }
         line += 1;
     }
     Ok(())
