@@ -5,7 +5,7 @@ use Rattle.bt_model.specs.declared.world.World.{World}
 use Rattle.bt_model.specs.declared.world_fault.WorldFault.{WorldFault}
 use Rattle.bt_model.specs.Limits.{most_file_bytes}
 use Rattle.bt_model.specs.Worlds.{is_name}
-use Rattle.bt_model.specs.WorldFile.{ReadsWorld, after_word, content, front_word, is_gap, is_ignored, is_line_byte, lines_in, repeats, without_return}
+use Rattle.bt_model.specs.WorldFile.{ReadsWorld, after_word, content, ends_after, front_word, is_gap, is_ignored, is_line_byte, lines_in, repeats, without_return, word}
 use Rattle.bt_ground.specs.declared.fault.GroundFault.{GroundFault}
 use Rattle.bt_ground.specs.declared.fault.GroundFault.TheVariants as fault
 use Rattle.bt_ground.specs.declared.sort.Sort.{Sort}
@@ -47,22 +47,29 @@ is_open blocks variable = list_any (λ block. block.variable == variable) blocks
 
 -- ---- What a line adds, or its first fault; each line is known by its number
 
--- whether this may be a sort: it stands outside all blocks, and has 1 to 16 values
-abbrev pub is_sort_line : List OpenBlock → List ℕ → List (List ℕ) → Bool
-is_sort_line blocks name values =
-    length blocks == 0 && is_name name && list_all is_name values && nat_lt 0 (length values) && nat_le (length values) most_values
+-- a sort of this name and these values, if they may be one: it has 1 to 16 values
+abbrev pub sort_with : List ℕ → List (List ℕ) → Option Sort
+sort_with name values =
+    if is_name name && list_all is_name values && nat_lt 0 (length values) && nat_le (length values) most_values
+    then Some (record { name = name; values = values }) else None
 
--- one more sort
-abbrev pub with_new_sort : ℕ → List ℕ → List (List ℕ) → Reading → Result Reading GroundFault
-with_new_sort number name values r =
-    if is_some (sort_number r.sorts name) || repeats [] values then Err (fault.DoubleName number)
+-- the sort that these words are, if they are one: its name and its values
+abbrev pub sort_in : List (List ℕ) → Option Sort
+sort_in [] = None
+sort_in (name ∷ values) = sort_with name values
+
+-- whether a sort may not be added since a name would stand twice
+abbrev pub is_double : List Sort → Sort → Bool
+is_double sorts sort = is_some (sort_number sorts sort.name) || repeats [] sort.values
+
+-- one more sort, outside all blocks
+abbrev pub with_sort : ℕ → Option Sort → Reading → Result Reading GroundFault
+with_sort number None r = Err (fault.BadLine number)
+with_sort number (Some sort) r =
+    if not (length r.blocks == 0) then Err (fault.BadLine number)
+    else if is_double r.sorts sort then Err (fault.DoubleName number)
     else if nat_le most_sorts (length r.sorts) then Err (fault.TooMany number)
-    else Ok (record r { sorts = r.sorts ++ record { name = name; values = values } ∷ [] })
-
--- `sort NAME V1 V2 ..`, after `sort`
-abbrev pub with_sort : ℕ → List (List ℕ) → Reading → Result Reading GroundFault
-with_sort number [] r = Err (fault.BadLine number)
-with_sort number (name ∷ values) r = if is_sort_line r.blocks name values then with_new_sort number name values r else Err (fault.BadLine number)
+    else Ok (record r { sorts = r.sorts ++ sort ∷ [] })
 
 -- a block of the sort of this number, or none where the sort is not known
 abbrev pub with_block : ℕ → ℕ → Option ℕ → Reading → Result Reading GroundFault
@@ -81,25 +88,24 @@ abbrev pub variable_in : List ℕ → Option ℕ
 variable_in (b ∷ []) = if is_variable b then Some b else None
 variable_in _ = None
 
--- `X SORT`, where the first word is this variable
+-- a block of the variable and the sort that these words are
 abbrev pub with_words : ℕ → Option ℕ → List ℕ → Reading → Result Reading GroundFault
 with_words number None sort r = Err (fault.BadLine number)
 with_words number (Some variable) sort r = if is_name sort then with_variable number variable sort r else Err (fault.BadLine number)
 
--- `forall X SORT`, after `forall`
-abbrev pub with_forall : ℕ → List (List ℕ) → Reading → Result Reading GroundFault
-with_forall number (word ∷ sort ∷ []) r = with_words number (variable_in word) sort r
-with_forall number _ r = Err (fault.BadLine number)
+-- `forall X SORT`, from after `forall`
+abbrev pub with_forall : ℕ → List ℕ → Reading → Result Reading GroundFault
+with_forall number text r =
+    if ends_after 2 text then with_words number (variable_in (word 0 text)) (word 1 text) r else Err (fault.BadLine number)
 
 -- the innermost of these blocks ends, where one is open
 abbrev pub without_block : ℕ → List OpenBlock → Reading → Result Reading GroundFault
 without_block number [] r = Err (fault.BadLine number)
 without_block number (block ∷ blocks) r = Ok (record r { blocks = blocks; items = r.items ++ End ∷ [] })
 
--- `end`, after `end`
-abbrev pub with_end : ℕ → List (List ℕ) → Reading → Result Reading GroundFault
-with_end number [] r = without_block number r.blocks r
-with_end number _ r = Err (fault.BadLine number)
+-- `end`, from after `end`
+abbrev pub with_end : ℕ → List ℕ → Reading → Result Reading GroundFault
+with_end number text r = if ends_after 0 text then without_block number r.blocks r else Err (fault.BadLine number)
 
 -- a body line
 abbrev pub with_body : ℕ → List ℕ → Reading → Result Reading GroundFault
@@ -110,14 +116,14 @@ with_body number text r =
 
 -- the words of a text: what stands between its gaps
 abbrev pub words_in : List ℕ → List (List ℕ)
-words_in text = filter (λ word. not (length word == 0)) (slice_split is_gap text)
+words_in text = filter (λ part. not (length part == 0)) (slice_split is_gap text)
 
 -- a line that begins with this word, with what follows the word; one that begins with none of the three is a body line
 abbrev pub with_form : ℕ → (kind rest text : List ℕ) → Reading → Result Reading GroundFault
 with_form number kind rest text r =
-    if bytes_eq kind (codes "sort") then with_sort number (words_in rest) r
-    else if bytes_eq kind (codes "forall") then with_forall number (words_in rest) r
-    else if bytes_eq kind (codes "end") then with_end number (words_in rest) r
+    if bytes_eq kind (codes "sort") then with_sort number (sort_in (words_in rest)) r
+    else if bytes_eq kind (codes "forall") then with_forall number rest r
+    else if bytes_eq kind (codes "end") then with_end number rest r
     else with_body number text r
 
 -- a line of this content, which without its carriage return is this text; blank lines and comments are ignored

@@ -3,10 +3,19 @@
 #![tactic(auto)]
 
 mod fault;
+mod fill;
+mod forms;
 mod ground;
+mod items;
+mod lines;
+mod make;
+mod marks;
 mod open_block;
 mod read;
+mod reading;
+mod sizes;
 mod sort;
+mod words;
 mod world;
 mod write;
 
