@@ -1,3 +1,6 @@
+pub mod Alike
+pub mod AlikeGrown
+pub mod AlikeRaised
 pub mod Conditions
 pub mod Finishing
 pub mod Growths
