@@ -1,7 +1,6 @@
 -- Plan trees that differ by their keys alone: what a key reads in the one, the key at the same place reads in the other.
-use Rattle.std.proofs.Common.{◌≡◌, ◌≢◌, ℕ, ◌+◌, ◌≤◌, ◌==◌, Bool, true, false, if◌then◌else◌, List, [], ◌∷◌, ◌++◌, Option, Some, None, refl, ap, sym, ◌∙◌, subst, arith}
+use Rattle.std.proofs.Common.{◌≡◌, ◌≢◌, ℕ, ◌+◌, ◌≤◌, ◌==◌, if◌then◌else◌, List, [], ◌∷◌, Option, Some, None, refl, ap, sym, ◌∙◌, subst, arith}
 use Rattle.std.specs.Prelude.{option_map}
-use Rattle.std.specs.List.{AllByRecursion}
 use Rattle.std.specs.Option.{option_map_or, option_or}
 use Rattle.bt_model.specs.declared.world.Row.{Row}
 use Rattle.bt_expand.specs.declared.node.Part.{Part}
@@ -9,7 +8,7 @@ use Rattle.bt_expand.specs.declared.node.Part.TheVariants.{Goals, Sequence, Fall
 use Rattle.bt_expand.specs.Expansion.{condition_row, sequence_rows, tried, tried_below, untried, untried_of}
 use Rattle.bt_expand.specs.Forests.{Forest, Empty, Tree, Ancestor, AreApart, Place, after_first, ancestors, below_at, below_first, is_fallback, node_at, part_at, place_of, times}
 use Rattle.bt_expand.proofs.Counted.{lacks_below, lacks_here, lacks_rest, one_same, only_here, test_other, test_same}
-use Rattle.bt_reorder.proofs.Elements.{all_both}
+use Rattle.bt_plan.proofs.Pairwise.{AllPaired, OptionPaired, append_paired, choice_paired, map_paired, or_paired}
 
 -- Two forests have the same shape and parts, and this holds of the keys at each place.
 abbrev pub Paired : (ℕ → ℕ → Type 0) → Forest → Forest → Type 0
@@ -27,11 +26,6 @@ Alike Empty Empty = Unit {0}
 Alike (Tree key part below rest) (Tree other second under others) = (part ≡ second) × Alike below under × Alike rest others
 Alike _ _ = ⊥
 
--- the keys of two forests of one shape, node by node in pre-order
-abbrev pub pairs : Forest → Forest → List (ℕ × ℕ)
-pairs (Tree key part below rest) (Tree other second under others) = (key, other) ∷ (pairs below under ++ pairs rest others)
-pairs _ _ = []
-
 -- a tree whose root is the sequence of the goals
 abbrev pub IsRooted : Forest → Type 0
 IsRooted f = (root : ℕ) × (below : Forest) × (f ≡ Tree root Goals below Empty)
@@ -42,45 +36,6 @@ pub record Same (f g : Forest) : Type 0 where
   pub apart : AreApart f
   pub others_apart : AreApart g
   pub rooted : IsRooted f
-
--- ---- Choices, options and lists of two forests
-
--- two lists, element by element
-abbrev pub AllPaired : {X : Type 0} → (X → X → Type 0) → List X → List X → Type 0
-AllPaired R [] [] = Unit {0}
-AllPaired R (x ∷ xs) (y ∷ ys) = R x y × AllPaired R xs ys
-AllPaired R _ _ = ⊥
-
--- both have a value, or none has
-abbrev pub OptionPaired : {X : Type 0} → (X → X → Type 0) → Option X → Option X → Type 0
-OptionPaired R None None = Unit {0}
-OptionPaired R (Some x) (Some y) = R x y
-OptionPaired R _ _ = ⊥
-
-pub choice_paired : {X : Type 0} (R : X → X → Type 0) (b c : Bool) (x u y v : X) → b ≡ c → R x y → R u v → R (if b then x else u) (if c then y else v)
-choice_paired R true true x u y v same one other = one
-choice_paired R false false x u y v same one other = other
-choice_paired R true false x u y v same one other = absurd (cc same)
-choice_paired R false true x u y v same one other = absurd (cc same)
-
-module _ {X : Type 0} (R : X → X → Type 0) where
-  pub or_paired : (a b c d : Option X) → OptionPaired R a b → OptionPaired R c d → OptionPaired R (option_or a c) (option_or b d)
-  or_paired None None c d first next = next
-  or_paired (Some x) (Some y) c d first next = first
-  or_paired None (Some y) c d first next = absurd first
-  or_paired (Some x) None c d first next = absurd first
-
-  pub map_paired : {Y : Type 0} (S : Y → Y → Type 0) (make other : X → Y) (a b : Option X) → ((x y : X) → R x y → S (make x) (other y)) → OptionPaired R a b → OptionPaired S (option_map make a) (option_map other b)
-  map_paired S make other None None each both = tt
-  map_paired S make other (Some x) (Some y) each both = each x y both
-  map_paired S make other None (Some y) each both = absurd both
-  map_paired S make other (Some x) None each both = absurd both
-
-  pub append_paired : (xs ys us vs : List X) → AllPaired R xs ys → AllPaired R us vs → AllPaired R (xs ++ us) (ys ++ vs)
-  append_paired [] [] us vs first next = next
-  append_paired (x ∷ xs) (y ∷ ys) us vs (one, later) next = (one, append_paired xs ys us vs later next)
-  append_paired [] (y ∷ ys) us vs first next = absurd first
-  append_paired (x ∷ xs) [] us vs first next = absurd first
 
 -- ---- Forests of one shape
 
@@ -110,13 +65,6 @@ module _ (P : ℕ → ℕ → Type 0) where
       ((holds, more), is, paired_both Q below under lower deeper, paired_both Q rest others later further)
   paired_both Q Empty (Tree other second under others) p q = absurd p
   paired_both Q (Tree key part below rest) Empty p q = absurd p
-
-  pub paired_all : (f g : Forest) → Paired P f g → AllByRecursion (λ (p : ℕ × ℕ). P p.0 p.1) (pairs f g)
-  paired_all Empty Empty p = tt
-  paired_all (Tree key part below rest) (Tree other second under others) (holds, is, lower, later) =
-      (holds, all_both (λ (p : ℕ × ℕ). P p.0 p.1) (pairs below under) (pairs rest others) (paired_all below under lower) (paired_all rest others later))
-  paired_all Empty (Tree other second under others) p = absurd p
-  paired_all (Tree key part below rest) Empty p = absurd p
 
 pub marks_alike : (k j : ℕ) (f g : Forest) → Marks k j f g → Alike f g
 marks_alike k j = paired_alike (λ key other. (key == k) ≡ (other == j))
@@ -212,9 +160,6 @@ own_marks (Tree key part below rest) Empty a once few = absurd a
 
 pub same_marks : (f g : Forest) → Same f g → Paired (λ key other. Marks key other f g) f g
 same_marks f g same = own_marks f g same.alike same.apart.once same.others_apart.once
-
-pub pairs_mark : (f g : Forest) → Same f g → AllByRecursion (λ (p : ℕ × ℕ). Marks p.0 p.1 f g) (pairs f g)
-pairs_mark f g same = paired_all (λ key other. Marks key other f g) f g (same_marks f g same)
 
 rooted_back : (root : ℕ) (below g : Forest) → Alike (Tree root Goals below Empty) g → IsRooted g
 rooted_back root below Empty a = absurd a

@@ -13,7 +13,8 @@ use Rattle.bt_expand.proofs.Expansions.{node_counts, part_node}
 use Rattle.bt_expand.proofs.Places.{placed}
 use Rattle.bt_reorder.proofs.Raised.{root_stays}
 use Rattle.bt_reorder.proofs.Whence.{first_place, other_place}
-use Rattle.bt_plan.proofs.Alike.{AllPaired, Alike, AncestorsPaired, IsRooted, Marks, Paired, Same, absent_marks, ancestors_paired, choice_paired, marks_alike, part_alike, same_back, same_marks}
+use Rattle.bt_plan.proofs.Alike.{Alike, AncestorsPaired, IsRooted, Marks, Paired, Same, absent_marks, ancestors_paired, marks_alike, part_alike, same_back, same_marks}
+use Rattle.bt_plan.proofs.Pairwise.{AllPaired, choice_paired}
 
 pub changed_rooted : (p : ℕ) (change : Part → Forest → Forest) (f : Forest) → IsRooted f → IsRooted (changed_below p change f)
 changed_rooted p change f root = let stays = root_stays p change root.0 root.1 f root.2 in (root.0, stays.0, stays.1)

@@ -1,7 +1,7 @@
 -- Conflicts and raises of two plan trees that differ by their keys alone.
-use Rattle.std.proofs.Common.{◌≡◌, ℕ, zero, suc, ◌+◌, ◌-◌, ◌==◌, ◌&&◌, nat_lt, Bool, List, [], ◌∷◌, map, Option, Some, None, refl, ap, ◌∙◌, subst, arith}
-use Rattle.std.specs.Prelude.{option_map, slice_get}
-use Rattle.std.specs.List.{filter, find, flat_map}
+use Rattle.std.proofs.Common.{◌≡◌, ℕ, zero, suc, ◌+◌, ◌-◌, ◌==◌, ◌&&◌, nat_lt, List, [], ◌∷◌, Option, Some, None, refl, ap, ◌∙◌, subst, arith}
+use Rattle.std.specs.Prelude.{option_map}
+use Rattle.std.specs.List.{filter, find}
 use Rattle.bt_model.specs.declared.world.Row.{Row}
 use Rattle.bt_expand.specs.declared.node.Part.{Part}
 use Rattle.bt_expand.specs.declared.node.Part.TheVariants.{Goals, Sequence, Fallback, Condition, Action}
@@ -11,56 +11,10 @@ use Rattle.bt_expand.proofs.Counted.{one_of}
 use Rattle.bt_reorder.specs.Conflicts.{Pair, actions, conflicts, conflicts_with, first_condition, head_of, heads, heads_before, heads_in, outer_of, own_actions}
 use Rattle.bt_reorder.specs.Raising.{can_move, moved_in, raised, swap_at}
 use Rattle.bt_plan.specs.Settling.{first_conflict}
-use Rattle.bt_plan.proofs.Alike.{AllPaired, AncestorsPaired, Alike, IsRooted, Marks, OptionPaired, Paired, Same, ancestors_paired, append_paired, choice_paired, map_paired, marks_alike, paired_alike, same_marks}
+use Rattle.bt_plan.proofs.Alike.{AncestorsPaired, Alike, IsRooted, Marks, Paired, Same, ancestors_paired, marks_alike, paired_alike, same_marks}
 use Rattle.bt_plan.proofs.AlikeGrown.{changed_paired, changed_rooted}
 use Rattle.bt_plan.proofs.Nearer.{raised_many}
-
--- ---- Lists, element by element
-
-module _ {X : Type 0} (R : X → X → Type 0) where
-  find_paired : (test other : X → Bool) (xs ys : List X) → ((x y : X) → R x y → test x ≡ other y) → AllPaired R xs ys → OptionPaired R (find test xs) (find other ys)
-  find_paired test other [] [] each both = tt
-  find_paired test other (x ∷ xs) (y ∷ ys) each (one, later) =
-      choice_paired (OptionPaired R) (test x) (other y) (Some x) (find test xs) (Some y) (find other ys) (each x y one) one (find_paired test other xs ys each later)
-  find_paired test other [] (y ∷ ys) each both = absurd both
-  find_paired test other (x ∷ xs) [] each both = absurd both
-
-  filter_paired : (test other : X → Bool) (xs ys : List X) → ((x y : X) → R x y → test x ≡ other y) → AllPaired R xs ys → AllPaired R (filter test xs) (filter other ys)
-  filter_paired test other [] [] each both = tt
-  filter_paired test other (x ∷ xs) (y ∷ ys) each (one, later) =
-      let more = filter_paired test other xs ys each later in
-      choice_paired (AllPaired R) (test x) (other y) (x ∷ filter test xs) (filter test xs) (y ∷ filter other ys) (filter other ys) (each x y one) (one, more) more
-  filter_paired test other [] (y ∷ ys) each both = absurd both
-  filter_paired test other (x ∷ xs) [] each both = absurd both
-
-  all_map_paired : {Y : Type 0} (S : Y → Y → Type 0) (make other : X → Y) (xs ys : List X) → ((x y : X) → R x y → S (make x) (other y)) → AllPaired R xs ys → AllPaired S (map make xs) (map other ys)
-  all_map_paired S make other [] [] each both = tt
-  all_map_paired S make other (x ∷ xs) (y ∷ ys) each (one, later) = (each x y one, all_map_paired S make other xs ys each later)
-  all_map_paired S make other [] (y ∷ ys) each both = absurd both
-  all_map_paired S make other (x ∷ xs) [] each both = absurd both
-
-  flat_paired : {Y : Type 0} (S : Y → Y → Type 0) (make other : X → List Y) (xs ys : List X) → ((x y : X) → R x y → AllPaired S (make x) (other y)) → AllPaired R xs ys → AllPaired S (flat_map make xs) (flat_map other ys)
-  flat_paired S make other [] [] each both = tt
-  flat_paired S make other (x ∷ xs) (y ∷ ys) each (one, later) =
-      append_paired S (make x) (other y) (flat_map make xs) (flat_map other ys) (each x y one) (flat_paired S make other xs ys each later)
-  flat_paired S make other [] (y ∷ ys) each both = absurd both
-  flat_paired S make other (x ∷ xs) [] each both = absurd both
-
-  first_paired : (xs ys : List X) → AllPaired R xs ys → OptionPaired R (slice_get xs 0) (slice_get ys 0)
-  first_paired [] [] both = tt
-  first_paired (x ∷ xs) (y ∷ ys) both = both.0
-  first_paired [] (y ∷ ys) both = absurd both
-  first_paired (x ∷ xs) [] both = absurd both
-
-  other_some : (a b : Option X) (x : X) → OptionPaired R a b → a ≡ Some x → (y : X) × (b ≡ Some y) × R x y
-  other_some (Some w) (Some y) x both is = let same : w ≡ x = cc is in (y, refl, subst (λ (z : X). R z y) same both)
-  other_some None b x both is = absurd (cc is)
-  other_some (Some w) None x both is = absurd both
-
-  other_none : (a b : Option X) → OptionPaired R a b → a ≡ None → b ≡ None
-  other_none None None both is = refl
-  other_none None (Some y) both is = absurd both
-  other_none (Some x) b both is = absurd (cc is)
+use Rattle.bt_plan.proofs.Pairwise.{AllPaired, OptionPaired, all_map_paired, append_paired, choice_paired, filter_paired, find_paired, first_paired, flat_paired, map_paired, other_none, other_some}
 
 -- ---- Heads and actions
 

@@ -1,7 +1,10 @@
-ghost use Rattle.std.specs.Prelude.{List};
+ghost use Rattle.std.specs.Prelude.{◌≡◌, List};
 ghost use Rattle.bt_model.specs.declared.world.World.{World};
+ghost use Rattle.bt_model.specs.Drivers.{DriverState};
+ghost use Rattle.bt_model.specs.Worlds.{IsValidWorld};
 ghost use Rattle.bt_plan.specs.declared.ending.Limits.{Limits};
 ghost use Rattle.bt_plan.specs.declared.ending.PlanEnd.{PlanEnd};
+ghost use Rattle.bt_plan.specs.Answers.{IsPlan};
 ghost use Rattle.bt_plan.specs.PlanRuns.{IsReached, PlanRun, Trial};
 
 /// Where a plan run ends at the goals, its tree makes every goal true after the tick that it names,
@@ -9,4 +12,12 @@ ghost use Rattle.bt_plan.specs.PlanRuns.{IsReached, PlanRun, Trial};
 pub fn plans_reach()
     ensures { (world : World) (limits : Limits) (planned : PlanEnd) (trials : List Trial) (last : Trial) →
         PlanRun world limits planned trials last → IsReached world limits planned.end }
+{}
+
+/// All plan runs of a world with these limits are one: they have the same steps, the same tree and
+/// the same end, and leave the drivers alike.
+pub fn plans_run_one_way()
+    ensures { (world : World) (limits : Limits) (before : List DriverState) → IsValidWorld world →
+        (after other : List DriverState) (planned again : PlanEnd) →
+        IsPlan world limits before after planned → IsPlan world limits before other again → (planned ≡ again) × (after ≡ other) }
 {}
