@@ -14,7 +14,7 @@ use Rattle.bt_model.specs.Run.{root_told, ticked}
 use Rattle.bt_model.specs.Sites.{Meaning, View}
 use Rattle.bt_model.specs.Sound.{Sound, States, begun_calls, states_of_node}
 use Rattle.bt_model.specs.Terms.{times_of, work_of}
-use Rattle.bt_model.specs.Trees.{IsValid, Node, NodeFits, nodes_of, nodes_step}
+use Rattle.bt_model.specs.Trees.{IsRunnable, Node, NodeRuns, nodes_of, nodes_step}
 use Rattle.bt_model.specs.Visit.{meaning}
 use Rattle.bt_laws.proofs.Children.{Family}
 use Rattle.bt_laws.proofs.Induction.{above, every_term, node_means}
@@ -25,7 +25,7 @@ use Rattle.bt_laws.proofs.VisitWork.{reset_free, visit_spends}
 
 -- the nodes of a term have the ports of their kinds
 abbrev pub AllFit : Term → Type 0
-AllFit t = AllByRecursion NodeFits (nodes_of t)
+AllFit t = AllByRecursion NodeRuns (nodes_of t)
 
 -- ---- What fits
 
@@ -41,18 +41,18 @@ module _ {X : Type 0} (term : X → Term) where
   abbrev nodes_below : List X → List Node
   nodes_below cs = flat_map (λ (nodes : List Node). nodes) (map nodes_of (map term cs))
 
-  child_fits : (cs : List X) (place : ℕ) (c : X) → slice_get cs place ≡ Some c → AllByRecursion NodeFits (nodes_below cs) → AllFit (term c)
+  child_fits : (cs : List X) (place : ℕ) (c : X) → slice_get cs place ≡ Some c → AllByRecursion NodeRuns (nodes_below cs) → AllFit (term c)
   child_fits [] place c is all = cc
   child_fits (d ∷ cs) zero c is all =
       subst (λ (x : X). AllFit (term x)) (same_Some d c is)
-      (front_fits NodeFits (nodes_of (term d)) (nodes_below cs) (subst (λ ns. AllByRecursion NodeFits ns) (flat_map-cons (λ (nodes : List Node). nodes) (nodes_of (term d)) (map nodes_of (map term cs))) all))
+      (front_fits NodeRuns (nodes_of (term d)) (nodes_below cs) (subst (λ ns. AllByRecursion NodeRuns ns) (flat_map-cons (λ (nodes : List Node). nodes) (nodes_of (term d)) (map nodes_of (map term cs))) all))
   child_fits (d ∷ cs) (suc place) c is all =
       child_fits cs place c is
-      (back_fits NodeFits (nodes_of (term d)) (nodes_below cs) (subst (λ ns. AllByRecursion NodeFits ns) (flat_map-cons (λ (nodes : List Node). nodes) (nodes_of (term d)) (map nodes_of (map term cs))) all))
+      (back_fits NodeRuns (nodes_of (term d)) (nodes_below cs) (subst (λ ns. AllByRecursion NodeRuns ns) (flat_map-cons (λ (nodes : List Node). nodes) (nodes_of (term d)) (map nodes_of (map term cs))) all))
 
   -- the node and its children fit where the whole term does
-  node_fits : (node : Term-F X) → AllFit (above term node) → AllByRecursion NodeFits (nodes_step (map-Term Term (List Node) nodes_of (map-Term X Term term node)))
-  node_fits node all = subst (λ ns. AllByRecursion NodeFits ns) (fold-roll-Term (List Node) nodes_step (map-Term X Term term node)) all
+  node_fits : (node : Term-F X) → AllFit (above term node) → AllByRecursion NodeRuns (nodes_step (map-Term Term (List Node) nodes_of (map-Term X Term term node)))
+  node_fits node all = subst (λ ns. AllByRecursion NodeRuns ns) (fold-roll-Term (List Node) nodes_step (map-Term X Term term node)) all
 
   -- ---- The work of a node
 
@@ -79,7 +79,7 @@ module _ {X : Type 0} (term : X → Term) (bounded : (c : X) → IsBounded (term
   F = family term (λ c. term_keeps (term c))
 
   -- the bounds of the children
-  abbrev labour : AllByRecursion NodeFits (nodes_below term node.children) → Labour F node.children
+  abbrev labour : AllByRecursion NodeRuns (nodes_below term node.children) → Labour F node.children
   labour fit = record {
     work = λ c. work_of (term c);
     visit = λ place c is. (bounded c).visit (child_fits term node.children place c is fit);
@@ -90,7 +90,7 @@ module _ {X : Type 0} (term : X → Term) (bounded : (c : X) → IsBounded (term
   node_bounded = record {
     reset = λ view uid m s. reset_free F node (λ c. (bounded c).reset) view uid (out-Memory m).status m s;
     visit = λ all view uid m s sound.
-        let fit : AllByRecursion NodeFits (nodes_step (map-Term Term (List Node) nodes_of (map-Term X Term term node))) = node_fits term node all in
+        let fit : AllByRecursion NodeRuns (nodes_step (map-Term Term (List Node) nodes_of (map-Term X Term term node))) = node_fits term node all in
         subst (λ (n : ℕ). Spends n ((node_means term node).visit view uid m s)) (sym (work_of_node term node)) (visit_spends F node (labour fit.1) view uid fit.0.ports m s sound);
   }
 
@@ -100,10 +100,10 @@ term_bounded = every_term IsBounded (λ X term bounded node. node_bounded term b
 -- ---- A tick
 
 -- a tick makes no more calls than the work of its tree
-pub tick_bounded : (tree : Tree) → IsValid tree → (view : View) (runner : ℕ) (m : Memory) (s : State) → Sound tree.term view.rows None 1 m s → Spends (work_of tree.term) (ticked tree view runner m s)
-tick_bounded tree valid view runner m s sound =
+pub tick_bounded : (tree : Tree) → IsRunnable tree → (view : View) (runner : ℕ) (m : Memory) (s : State) → Sound tree.term view.rows None 1 m s → Spends (work_of tree.term) (ticked tree view runner m s)
+tick_bounded tree runnable view runner m s sound =
     let d : Done Answer Memory = (meaning tree.term).visit view 1 m s in
-    follow_with (work_of tree.term) 0 (work_of tree.term) d (λ m1. m1) (λ a m1 s1. root_told runner a m1 s1) (omega arith) ((term_bounded tree.term).visit valid.fit view 1 m s sound) (λ a. omega arith)
+    follow_with (work_of tree.term) 0 (work_of tree.term) d (λ m1. m1) (λ a m1 s1. root_told runner a m1 s1) (omega arith) ((term_bounded tree.term).visit runnable.fit view 1 m s sound) (λ a. omega arith)
 
 pub resets_make_none : (t : Term) (view : View) (uid : ℕ) (m : Memory) (s : State) → begun_calls ((meaning t).reset view uid m s).calls ≡ 0
 resets_make_none t view uid m s = omega (arith, (term_bounded t).reset view uid m s)

@@ -14,7 +14,7 @@ ghost use Rattle.bt_model.specs.Shapes.{AllIdle, is_running};
 ghost use Rattle.bt_model.specs.Sites.{View};
 ghost use Rattle.bt_model.specs.Sound.{Leaves, RunSteady, Sound, begun_calls, held_at, statuses};
 ghost use Rattle.bt_model.specs.Terms.{work_of};
-ghost use Rattle.bt_model.specs.Trees.{IsValid, NodeFits, nodes_of};
+ghost use Rattle.bt_model.specs.Trees.{IsRunnable, NodeRuns, nodes_of};
 ghost use Rattle.bt_model.specs.Visit.{idle, meaning, status_of};
 
 use bt_model::Status;
@@ -94,14 +94,14 @@ pub fn what_rests_holds_nothing()
         (p : ℕ) → uid ≤ p → p < uid + (meaning t).size → held_at s p ≡ Some false }
 {}
 
-/// A visit of a term whose nodes fit, from a state that keeps the rules, makes at most as many
+/// A visit of a term whose nodes have what it needs, from a state that keeps the rules, makes at most as many
 /// calls of `start` and `running` as its work counts. A tick makes at most as many, and a reset
 /// makes none.
 pub fn a_visit_is_within_its_work()
-    ensures visit { (t : Term) → AllByRecursion NodeFits (nodes_of t) →
+    ensures visit { (t : Term) → AllByRecursion NodeRuns (nodes_of t) →
         (view : View) (uid : ℕ) (m : Memory) (s : State) → Sound t view.rows None uid m s →
         begun_calls ((meaning t).visit view uid m s).calls ≤ work_of t }
-    ensures tick { (tree : Tree) → IsValid tree →
+    ensures tick { (tree : Tree) → IsRunnable tree →
         (view : View) (runner : ℕ) (m : Memory) (s : State) → Sound tree.term view.rows None 1 m s →
         begun_calls (ticked tree view runner m s).calls ≤ work_of tree.term }
     ensures reset { (t : Term) (view : View) (uid : ℕ) (m : Memory) (s : State) →

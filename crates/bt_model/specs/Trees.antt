@@ -1,4 +1,4 @@
--- Which trees are valid: what the readers of trees give, and what each call that takes a tree needs.
+-- Which trees are valid: what the readers of trees give, and what printing needs. Which can be run: what a run needs.
 use Rattle.std.specs.Prelude.{◌≡◌, ℕ, ◌+◌, ◌≤◌, List, [], ◌∷◌, length, map, Bool, true, false, not, ◌&&◌, if◌then◌else◌, IsTrue, Option, Some, None}
 use Rattle.std.specs.List.{list_all, flat_map, AllByRecursion}
 use Rattle.std.specs.Str.{bytes_eq}
@@ -9,7 +9,7 @@ use Rattle.bt_script.specs.Texts.{name_stands, value_stands}
 use Rattle.bt_model.specs.declared.built_ins.Range.TheVariants.{AnyValue}
 use Rattle.bt_model.specs.declared.term.Guards.{Guards}
 use Rattle.bt_model.specs.declared.term.Kind.{Kind}
-use Rattle.bt_model.specs.declared.term.Kind.TheVariants.{SubTree, Leaf}
+use Rattle.bt_model.specs.declared.term.Kind.TheVariants.{Switch, SubTree, Leaf}
 use Rattle.bt_model.specs.declared.term.Port.{Port}
 use Rattle.bt_model.specs.declared.term.Term.{Term, Term-F, fold-Term}
 use Rattle.bt_model.specs.declared.term.Tree.{Tree}
@@ -132,6 +132,19 @@ pub record TextsFit (node : Node) : Type 0 where
   pub code : IsTrue (script_stands node.code)
   pub guards : IsTrue (guards_stand node.guards)
 
+-- a Switch has 6 cases at most
+abbrev pub FewCases : Kind → Type 0
+FewCases (Switch cases) = cases ≤ 6
+FewCases kind = Unit {0}
+
+-- what a visit needs of a node: the children, the ports and the scripts that its kind asks
+pub record NodeRuns (node : Node) : Type 0 where
+  pub children : IsTrue (takes node.kind node.children)
+  pub cases : FewCases node.kind
+  pub ports : IsTrue (ports_fit node.kind node.ports)
+  pub code : CodeFits (has_code node.kind) node.code
+  pub guards : GuardsFit node.guards
+
 -- a node has the children, the ports and the scripts that its kind asks, and can be written
 pub record NodeFits (node : Node) : Type 0 where
   pub children : IsTrue (takes node.kind node.children)
@@ -150,6 +163,11 @@ pub record IsWithinLimits (tree : Tree) : Type 0 where
   pub scopes : 1 + scope_count tree.term ≤ most_scopes
   pub slots : length (slots tree) ≤ most_keys
   pub work : work_of tree.term ≤ most_work
+
+-- A tree can be run where it is within the limits, and each of its nodes has what a visit needs.
+pub record IsRunnable (tree : Tree) : Type 0 where
+  pub limits : IsWithinLimits tree
+  pub fit : AllByRecursion NodeRuns (nodes_of tree.term)
 
 -- A tree is valid where it is within the limits, its ID can be written, and each of its nodes fits.
 pub record IsValid (tree : Tree) : Type 0 where
