@@ -1,8 +1,10 @@
 //! The plan tree: expansions, raises and conflicts.
 //!
-//! Its nodes are kept as two lists. A sequence has a fixed number of children, which stand side by side, and behind them its
-//! action. Each child is a condition, alone or as the first child of a fallback over the sequences that were added for it. So a
-//! fallback is no item of its own, a raise turns a part of a list, and nothing else of the tree is touched.
+//! It is kept as sequences and conditions. The children of a sequence are conditions, which stand side by side in one list: each
+//! alone, or as the head of a fallback over the sequences that were added for it, so that a fallback is no item of its own. An
+//! expansion appends a sequence. All raises in one sequence are one turn of a part of its children, and what conflicts is only
+//! looked for where it may be: before an expansion nothing does, so it is the new action with heads before it, or an action that
+//! is passed by a raise with the head that passes it.
 
 use crate::elements::NONE;
 use crate::scripts::Comparison;
@@ -46,11 +48,7 @@ impl Test {
 
     fn is_threatened_by(self, effect: &Effect) -> bool {
         effect.fact == self.fact
-            && if effect.adds {
-                self.comparison.is_left_by(effect.number)
-            } else {
-                !self.comparison.holds(effect.number, self.value)
-            }
+            && if effect.adds { self.comparison.is_left_by(effect.number) } else { !self.comparison.holds(effect.number, self.value) }
     }
 }
 
@@ -270,7 +268,7 @@ impl<'w> PlanTree<'w> {
     }
 
     /// The sequences that were added for a condition.
-    fn added_for(&self, condition: u32) -> impl Iterator<Item = u32> + '_ {
+    pub fn added_for(&self, condition: u32) -> impl Iterator<Item = u32> + '_ {
         let mut next = self.conditions[condition as usize].first;
         std::iter::from_fn(move || {
             let added = next;

@@ -201,40 +201,37 @@ impl<'w> Run<'w> {
         if sequence.action == NONE {
             return Ok(Answer::Success);
         }
-        self.act(sequence, at)
+        self.call(sequence, at).map_err(|cause| {
+            self.fault = (at, cause);
+            Broken
+        })
     }
 
-    /// Calls the driver of a sequence's action.
+    /// Calls the driver of a sequence's action. A fault leaves all as it is.
     #[inline(never)]
-    fn act(&mut self, sequence: &Sequence, at: u32) -> Result<Answer, Broken> {
+    fn call(&mut self, sequence: &Sequence, at: u32) -> Result<Answer, Cause> {
         let world = self.world;
         let row = &world.rows[sequence.action as usize];
         let since = if self.held == at { self.since } else { self.now };
         let mut instance = Instance { is_held: false, since, completions: self.completions[at as usize] };
-        let (facts, stacks) = (&self.facts, &mut self.stacks);
-        let mut number = |code: Code| world.codes.number(code, |name| Ok(facts[(name - PORTS) as usize]), stacks);
-        let asked = ask(row, &mut instance, self.now, &mut number).and_then(|answer| {
-            if answer != Answer::Success {
-                return Ok((answer, [0; 16]));
+        let mut number = |code: Code| {
+            let fact = |name: u32| Ok(self.facts[(name - PORTS) as usize]);
+            world.codes.number(code, fact, &mut self.stacks)
+        };
+        let answer = ask(row, &mut instance, self.now, &mut number)?;
+        if answer == Answer::Success {
+            for (_, code) in &row.outputs {
+                number(*code)?;
             }
-            row.outputs.iter().try_for_each(|(_, code)| number(*code).map(|_| ()))?;
-            Ok((answer, changed_facts(row, facts)?))
-        });
-        match asked {
-            Err(cause) => {
-                self.fault = (at, cause);
-                Err(Broken)
-            }
-            Ok((answer, values)) => {
-                if answer == Answer::Success {
-                    row.effects.iter().zip(values).for_each(|(effect, value)| self.facts[effect.fact as usize] = value);
-                }
-                if answer == Answer::Running {
-                    (self.held, self.since) = (at, since);
-                }
-                self.completions[at as usize] = instance.completions;
-                Ok(answer)
+            let values = changed_facts(row, &self.facts)?;
+            for (effect, &value) in row.effects.iter().zip(&values) {
+                self.facts[effect.fact as usize] = value;
             }
         }
+        if answer == Answer::Running {
+            (self.held, self.since) = (at, since);
+        }
+        self.completions[at as usize] = instance.completions;
+        Ok(answer)
     }
 }

@@ -124,26 +124,24 @@ fn ids(rows: &[u32], world: &World, out: &mut Output) {
 }
 
 fn sequence(tree: &PlanTree, world: &World, at: u32, indent: usize, out: &mut Output) {
-    let sequence_ = &tree.sequences[at as usize];
+    let id = |row: u32| world.rows[row as usize].id;
+    let it = &tree.sequences[at as usize];
     line(out, indent, b"<", b"ReactiveSequence", b">\n");
-    for child in tree.children(sequence_) {
+    for child in tree.children(it) {
         let condition = &tree.conditions[child.condition as usize];
-        let id = world.rows[condition.row as usize].id;
-        let mut added = condition.first;
-        if added == NONE {
-            line(out, indent + 2, b"<", id, b"/>\n");
+        if condition.first == NONE {
+            line(out, indent + 2, b"<", id(condition.row), b"/>\n");
             continue;
         }
         line(out, indent + 2, b"<", b"ReactiveFallback", b">\n");
-        line(out, indent + 4, b"<", id, b"/>\n");
-        while added != NONE {
+        line(out, indent + 4, b"<", id(condition.row), b"/>\n");
+        for added in tree.added_for(child.condition) {
             sequence(tree, world, added, indent + 4, out);
-            added = tree.sequences[added as usize].next;
         }
         line(out, indent + 2, b"</", b"ReactiveFallback", b">\n");
     }
-    if sequence_.action != NONE {
-        line(out, indent + 2, b"<", world.rows[sequence_.action as usize].id, b"/>\n");
+    if it.action != NONE {
+        line(out, indent + 2, b"<", id(it.action), b"/>\n");
     }
     line(out, indent, b"</", b"ReactiveSequence", b">\n");
 }
