@@ -82,6 +82,8 @@ at 400
 tick 1
 """
 
+WITH_A_GOAL = THREE_ROWS.replace("tick 1\n", "condition Home is at == 0\ngoal Home\ntick 1\n", 1)
+
 
 def changed(text: str, old: str, new: str) -> str:
     """The text with a mistake in it."""

@@ -66,8 +66,10 @@ WORLDS = [
 UNASKED = [
     Case("a driver that is missing", 4, "refused world NoDriver Gate\n", "W: error:", ("no driver serves",),
          ONE, lines("action A gate 1"), "tick T W", False),
-    Case("no goal", 4, "refused world NoGoal\n", "W: error:", ("has no goal", "`goal ID`"),
-         ONE, lines("action A gate 1"), "tick T W", False),
+]
+
+PLANS = [
+    Case("no goal", 4, "refused world NoGoal\n", "W: error:", ("has no goal", "`goal ID`"), ONE, lines("action A gate 1"), "plan W"),
 ]
 
 
@@ -87,6 +89,8 @@ WORDS = [
     words("no number of rounds", "live T W", "--ticks N is missing"),
     words("a number of rounds", "live T W --ticks 0", "--ticks is a number from 1 to 100000"),
     words("a number of leaves", "load 01", "N is a number from 1 to 1000"),
+    words("a number of sequences", "plan W --expand 121", "--expand is a number from 0 to 120"),
+    words("an option of another command", "plan W --main M", "'--main' is no option of it"),
 ]
 
-CASES = WORLDS + UNASKED + WORDS
+CASES = WORLDS + UNASKED + PLANS + WORDS

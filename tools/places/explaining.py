@@ -70,12 +70,12 @@ def of_world(command: Command, words: str) -> List[str]:
         return []
     if words == "TooLong":
         return too_long(source.name, source) if len(source.data) > MOST_BYTES else []
-    if kind in ("NoDriver", "NoGoal"):
-        return [f"{source.name}: error: {WORLD[kind].wrong} ({words}): {WORLD[kind].right}"]
     try:
         world = read_world(source)
     except Finding as finding:
         return told(source, finding) if finding.words == words else []
+    if kind == "NoDriver" or kind == "NoGoal" and not world.goals:
+        return [f"{source.name}: error: {WORLD[kind].wrong} ({words}): {WORLD[kind].right}"]
     file = opened(command.tree, command.main) if kind == "NoRow" else None
     return [] if file is None else lacking(file, world, words)
 

@@ -1,6 +1,6 @@
 """The words of the program's command line: which command they are, or which of them is wrong."""
 
-from dataclasses import dataclass
+from dataclasses import dataclass, field
 from typing import Dict, List, Optional, Tuple
 
 from .near import meant
@@ -9,11 +9,12 @@ from .values import number
 
 @dataclass(frozen=True)
 class Form:
-    """A command: what stands after its word, and which options it takes and needs."""
+    """A command: what stands after its word, which options it takes and needs, and the ranges of its numbers."""
 
     operands: Tuple[str, ...]
     options: Tuple[str, ...] = ()
     needed: Tuple[str, ...] = ()
+    ranges: Dict[str, Tuple[int, int]] = field(default_factory=dict)
 
     def usage(self, name: str) -> str:
         """The command as a line."""
@@ -22,16 +23,16 @@ class Form:
         return " ".join(["bt", name, *self.operands, *options])
 
 
-VALUES = {"--main": "ID", "--ticks": "N"}
-
-RANGES = {"--ticks": (1, 100_000), "N": (1, 1_000)}
+VALUES = {"--main": "ID", "--ticks": "N", "--expand": "N", "--period": "MS"}
 
 COMMANDS: Dict[str, Form] = {
     "tick": Form(("TREE", "WORLD"), ("--main",)),
-    "live": Form(("TREE", "WORLD"), ("--ticks", "--main"), ("--ticks",)),
+    "live": Form(("TREE", "WORLD"), ("--ticks", "--main"), ("--ticks",), {"--ticks": (1, 100_000)}),
     "check": Form(("TREE",), ("--main",)),
     "dead": Form(("TREE",), ("--main",)),
-    "load": Form(("N",)),
+    "load": Form(("N",), ranges={"N": (1, 1_000)}),
+    "plan": Form(("WORLD",), ("--expand", "--ticks", "--period"),
+                 ranges={"--expand": (0, 120), "--ticks": (1, 10_000), "--period": (0, 1_000_000)}),
 }
 
 
@@ -69,8 +70,8 @@ def wrong(words: List[str]) -> Optional[str]:
     rest = words[1:]
     if len(rest) < len(form.operands):
         return f"{words[0]}: {form.operands[len(rest)]} is missing"
-    if form.operands == ("N",) and not in_range("N", rest[0]):
-        return out_of_range(words[0], "N", rest[0])
+    if form.operands == ("N",) and not in_range(form, "N", rest[0]):
+        return out_of_range(words[0], form, "N", rest[0])
     return wrong_options(words[0], form, rest[len(form.operands):])
 
 
@@ -86,23 +87,23 @@ def wrong_options(name: str, form: Form, rest: List[str]) -> Optional[str]:
             return f"{name}: {word} stands twice"
         if at + 1 == len(rest):
             return f"{name}: after {word} its {VALUES[word]} is missing"
-        if word in RANGES and not in_range(word, rest[at + 1]):
-            return out_of_range(name, word, rest[at + 1])
+        if word in form.ranges and not in_range(form, word, rest[at + 1]):
+            return out_of_range(name, form, word, rest[at + 1])
         seen.append(word)
     missing = [option for option in form.needed if option not in seen]
     return f"{name}: {missing[0]} {VALUES[missing[0]]} is missing" if missing else None
 
 
-def in_range(what: str, word: str) -> bool:
+def in_range(form: Form, what: str, word: str) -> bool:
     """Whether the word is a number in the range of an option or an operand."""
     value = number(word)
-    least, most = RANGES[what]
+    least, most = form.ranges[what]
     return value is not None and least <= value <= most
 
 
-def out_of_range(name: str, what: str, word: str) -> str:
+def out_of_range(name: str, form: Form, what: str, word: str) -> str:
     """That a number is none, or out of its range."""
-    least, most = RANGES[what]
+    least, most = form.ranges[what]
     return f"{name}: {what} is a number from {least} to {most} without a leading zero, and not '{word}'"
 
 

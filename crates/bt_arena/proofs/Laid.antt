@@ -17,7 +17,7 @@ use Rattle.bt_model.specs.Boards.{Scope, children_scope, children_scope_number, 
 use Rattle.bt_model.specs.Drivers.{DriverState}
 use Rattle.bt_model.specs.Sites.{View}
 use Rattle.bt_model.specs.Terms.{leaf_ids, node_count, own_leaf_id}
-use Rattle.bt_model.specs.Trees.{CodeFits, Node as TreeNode, NodeFits, ScriptFits, nodes_of, nodes_step}
+use Rattle.bt_model.specs.Trees.{CodeFits, Node as TreeNode, NodeRuns, ScriptFits, nodes_of, nodes_step}
 use Rattle.bt_board.proofs.Standings.{standing_count, standing_here, standing_out}
 use Rattle.bt_arena.specs.declared.nodes.ReadyLeaf.{ReadyLeaf}
 use Rattle.bt_arena.specs.declared.join_fault.JoinFault.{JoinFault}
@@ -84,7 +84,7 @@ pub leaf_opened : (view : View) (node : TreeNode) (leaf : Option ReadyLeaf) → 
 unfolding LeafIs
 leaf_opened view node leaf is = is
 
-pub fit_closed : (node : TreeNode) → NodeFits node → IsFit node
+pub fit_closed : (node : TreeNode) → NodeRuns node → IsFit node
 unfolding IsFit
 fit_closed node fits = fits
 
@@ -114,7 +114,7 @@ module _ (tree : Tree) (world : World) (drivers : List DriverState) where
       let first = standing_from t uid number (scope_of tree number) in
       record {
         stand = subst (AllByRecursion (StandsIn tree)) (sym (append-nil first)) (each_left (StandsIn tree) first _ can.stand);
-        fit = subst (AllByRecursion NodeFits) (sym (append-nil (nodes_of t))) (each_left NodeFits (nodes_of t) _ can.fit);
+        fit = subst (AllByRecursion NodeRuns) (sym (append-nil (nodes_of t))) (each_left NodeRuns (nodes_of t) _ can.fit);
         joined = ap Lack (append-nil (leaf_ids t)) ∙ lack_left (leaf_ids t) _ can.joined;
       }
 
@@ -125,7 +125,7 @@ module _ (tree : Tree) (world : World) (drivers : List DriverState) where
       record {
         stand = subst (λ n. AllByRecursion (StandsIn tree) (standing_all (map standing_from ts) (uid + n) number (scope_of tree number))) (standing_count t uid number (scope_of tree number))
             (each_right (StandsIn tree) first _ can.stand);
-        fit = each_right NodeFits (nodes_of t) _ can.fit;
+        fit = each_right NodeRuns (nodes_of t) _ can.fit;
         joined = lack_right (leaf_ids t) _ can.joined;
       }
 
@@ -158,11 +158,11 @@ module _ (tree : Tree) (world : World) (drivers : List DriverState) where
     pub stands_here : StandsIn tree (standing_here t uid number scope)
     stands_here = stand_here.0
 
-    fits_all : AllByRecursion NodeFits (record (written (out-Term t)) { children = length (map nodes_of (out-Term t).children) } ∷ flat_map (λ nodes. nodes) (map nodes_of (out-Term t).children))
-    fits_all = subst (AllByRecursion NodeFits) (append-nil (nodes_of t) ∙ nodes_out t) can.fit
+    fits_all : AllByRecursion NodeRuns (record (written (out-Term t)) { children = length (map nodes_of (out-Term t).children) } ∷ flat_map (λ nodes. nodes) (map nodes_of (out-Term t).children))
+    fits_all = subst (AllByRecursion NodeRuns) (append-nil (nodes_of t) ∙ nodes_out t) can.fit
 
-    pub fits_here : NodeFits (written (out-Term t))
-    fits_here = subst (λ n. NodeFits (record (written (out-Term t)) { children = n })) (length-map (out-Term t).children nodes_of) fits_all.0
+    pub fits_here : NodeRuns (written (out-Term t))
+    fits_here = subst (λ n. NodeRuns (record (written (out-Term t)) { children = n })) (length-map (out-Term t).children nodes_of) fits_all.0
 
     lacks_nothing : Lack (own_leaf_id (out-Term t).kind (out-Term t).id ++ flat_map (λ ids. ids) (map leaf_ids (out-Term t).children)) ≡ None
     lacks_nothing = ap Lack (sym (leaves_out t)) ∙ sym (ap Lack (append-nil (leaf_ids t))) ∙ can.joined

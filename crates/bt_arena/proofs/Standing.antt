@@ -1,4 +1,4 @@
--- A valid tree for whose leaves nothing is missing can be added to an arena.
+-- A tree that can be run and for whose leaves nothing is missing can be added to an arena.
 use Rattle.std.proofs.Common.{◌≡◌, ℕ, List, [], ◌∷◌, ◌++◌, Bool, true, false, ◌||◌, ◌&&◌, nat_eq, inl, inr, None, map, refl, sym, ap, subst, ◌∙◌, append-nil, arith}
 use Rattle.std.specs.List.{All, AllByRecursion, Contains, flat_map, list_any}
 use Rattle.std.specs.Str.{bytes_eq}
@@ -11,7 +11,7 @@ use Rattle.bt_model.specs.declared.world.World.{World}
 use Rattle.bt_model.specs.Boards.{Scope, Standing, keys_named, makes_scope, named_in, namings, namings_at, scope_below, scope_of, standing, standing_from}
 use Rattle.bt_model.specs.Drivers.{DriverState}
 use Rattle.bt_model.specs.Terms.{leaf_ids}
-use Rattle.bt_model.specs.Trees.{IsValid, NodeFits, nodes_of}
+use Rattle.bt_model.specs.Trees.{IsRunnable, NodeRuns, nodes_of}
 use Rattle.bt_board.proofs.Sound.{main_leads, standings_make, standings_sound}
 use Rattle.bt_arena.proofs.Parts.{or_left, or_right}
 use Rattle.bt_arena.specs.Joins.{first_missing}
@@ -66,9 +66,9 @@ module _ (tree : Tree) where
   pub tree_stands : AllByRecursion (StandsIn tree) (standing tree)
   tree_stands = all_stand (standing tree) (standings_sound tree) (standings_make tree) (nodes_have (standing tree) (namings tree) (λ number key has. has))
 
-  pub can_be_laid : (world : World) (drivers : List DriverState) → IsValid tree → first_missing world.rows drivers (leaf_ids tree.term) ≡ None → CanBeLaid tree world drivers (tree.term ∷ []) 1 0
-  can_be_laid world drivers valid none = record {
+  pub can_be_laid : (world : World) (drivers : List DriverState) → IsRunnable tree → first_missing world.rows drivers (leaf_ids tree.term) ≡ None → CanBeLaid tree world drivers (tree.term ∷ []) 1 0
+  can_be_laid world drivers runnable none = record {
     stand = subst (λ (s : Scope). AllByRecursion (StandsIn tree) (standing_from tree.term 1 0 s ++ [])) (sym (main_leads tree)) (subst (AllByRecursion (StandsIn tree)) (sym (append-nil (standing tree))) tree_stands);
-    fit = subst (AllByRecursion NodeFits) (sym (append-nil (nodes_of tree.term))) valid.fit;
+    fit = subst (AllByRecursion NodeRuns) (sym (append-nil (nodes_of tree.term))) runnable.fit;
     joined = ap (first_missing world.rows drivers) (append-nil (leaf_ids tree.term)) ∙ none;
   }

@@ -10,7 +10,7 @@ use Rattle.bt_model.specs.Drivers.{DriverState, kind_of_way, place_of_kind}
 use Rattle.bt_model.specs.Leaves.{row_of}
 use Rattle.bt_model.specs.Sites.{View}
 use Rattle.bt_model.specs.Terms.{leaf_ids, node_count}
-use Rattle.bt_model.specs.Trees.{Node as TreeNode, NodeFits, nodes_of}
+use Rattle.bt_model.specs.Trees.{Node as TreeNode, NodeRuns, nodes_of}
 use Rattle.bt_driver.specs.Rules.{rule}
 use Rattle.bt_arena.specs.declared.nodes.Node.{Node}
 use Rattle.bt_arena.specs.declared.nodes.ReadyLeaf.{ReadyLeaf}
@@ -30,11 +30,11 @@ pub record StandsIn (tree : Tree) (node : Standing) : Type 0 where
   pub made : makes_scope node.kind ≡ true → scope_of tree node.uid ≡ scope_below node.uid node.ports node.autoremap node.scope
   pub named : AreNamed tree node.number (keys_named node)
 
--- some terms of a tree, from this uid on, in the scope of a number: each node stands in the tree, is a valid one, and
+-- some terms of a tree, from this uid on, in the scope of a number: each node stands in the tree, can be run, and
 -- nothing is missing for it
 pub record CanBeLaid (tree : Tree) (world : World) (drivers : List DriverState) (ts : List Term) (uid number : ℕ) : Type 0 where
   pub stand : AllByRecursion (StandsIn tree) (standing_all (map standing_from ts) uid number (scope_of tree number))
-  pub fit : AllByRecursion NodeFits (flat_map (λ nodes. nodes) (map nodes_of ts))
+  pub fit : AllByRecursion NodeRuns (flat_map (λ nodes. nodes) (map nodes_of ts))
   pub joined : first_missing world.rows drivers (flat_map (λ ids. ids) (map leaf_ids ts)) ≡ None
 
 -- ---- Nodes

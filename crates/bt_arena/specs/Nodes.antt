@@ -17,7 +17,7 @@ use Rattle.bt_model.specs.BuiltIns.{PortRule, ports_of}
 use Rattle.bt_model.specs.Leaf.{rule_of}
 use Rattle.bt_model.specs.Leaves.{row_of}
 use Rattle.bt_model.specs.Sites.{View}
-use Rattle.bt_model.specs.Trees.{Node as TreeNode, NodeFits}
+use Rattle.bt_model.specs.Trees.{Node as TreeNode, NodeRuns}
 use Rattle.bt_driver.specs.Rules.{rule}
 use Rattle.bt_arena.specs.declared.nodes.Kept.{Kept}
 use Rattle.bt_arena.specs.declared.nodes.Node.{Node}
@@ -116,9 +116,9 @@ LeafStands view node (Some leaf) = (node.kind ≡ Leaf) × MatchOption (row_of v
 
 -- ---- Nodes
 
--- a node fits its kind, as each of a valid tree does
+-- a node has what a visit needs, as each of a tree that can be run does
 unfoldable pub IsFit : TreeNode → Type 0
-IsFit written = NodeFits written
+IsFit written = NodeRuns written
 
 -- a node of an arena is this node of a term in a view, has this size with all below it, and fits its kind
 pub record IsNode (view : View) (written : TreeNode) (whole : ℕ) (node : Node) : Type 0 where

@@ -5,7 +5,7 @@ ghost use Rattle.bt_model.specs.declared.term.Term.{out-Term};
 ghost use Rattle.bt_model.specs.Boards.{slot_table};
 ghost use Rattle.bt_model.specs.Leaves.{row_of};
 ghost use Rattle.bt_model.specs.Terms.{leaf_ids, own_leaf_id};
-ghost use Rattle.bt_model.specs.Trees.{IsValid};
+ghost use Rattle.bt_model.specs.Trees.{IsRunnable};
 ghost use Rattle.bt_model.specs.Worlds.{IsValidWorld};
 ghost use Rattle.bt_arena.specs.Joins.{Joins, first_missing, leaf_lacks, place_by};
 ghost use Rattle.bt_arena.specs.Laying.{counted_all};
@@ -156,7 +156,7 @@ fn arena_with<D: Drivers>(
     counts: &[u32],
     runner: u8,
 ) -> Result<Arena, NoMemory>
-    requires tree { IsValid setting.now.tree.now }
+    requires tree { IsRunnable setting.now.tree.now }
     requires world { IsValidWorld setting.now.world.now }
     requires found { Finds setting.now.world.now.rows (get bytes_eq setting.now.rows.now) }
     requires joined { first_missing setting.now.world.now.rows (D.states drivers.now) (leaf_ids setting.now.tree.now.term) ≡ None }
@@ -189,7 +189,7 @@ pub fn arena_of<D: Drivers>(
     drivers: &D,
     runner: u8,
 ) -> Result<Arena, Stop<JoinFault>>
-    requires tree { IsValid tree.now }
+    requires tree { IsRunnable tree.now }
     requires slots { slots.now ≡ slot_table tree.now }
     requires world { IsValidWorld world.now }
     requires first { 1 ≤ runner }

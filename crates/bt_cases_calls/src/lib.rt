@@ -1,4 +1,4 @@
-//! Tests alone: tables of what drivers and a clock are asked in runs and loads.
+//! Tests alone: tables of what drivers and a clock are asked in runs, loads and plans.
 #![tactic(auto)]
 
 #[cfg(test)]
@@ -9,3 +9,5 @@ mod live;
 mod load;
 #[cfg(test)]
 mod marks;
+#[cfg(test)]
+mod plans;

@@ -6,6 +6,8 @@ mod dead;
 #[cfg(test)]
 mod limits;
 #[cfg(test)]
+mod plans;
+#[cfg(test)]
 mod printed;
 #[cfg(test)]
 mod refusals;

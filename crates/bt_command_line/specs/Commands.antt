@@ -2,7 +2,7 @@
 use Rattle.std.specs.Prelude.{◌≤◌}
 use Rattle.std.specs.Option.{option_copied}
 use Rattle.bt_model.specs.Limits.{most_leaves}
-use Rattle.bt_command_line.specs.Words.{Command, Tick, Live, Load, Check, Dead}
+use Rattle.bt_command_line.specs.Words.{Command, Tick, Live, Load, Check, Dead, Plan}
 use Rattle.bt_command_line.specs.declared.words.Command.{Command as Read}
 use Rattle.bt_command_line.specs.declared.words.Command.TheVariants as read
 
@@ -13,8 +13,10 @@ command_seen (read.Live tree world rounds main) = Live tree.now world.now rounds
 command_seen (read.Load leaves) = Load leaves
 command_seen (read.Check tree main) = Check tree.now (option_copied main)
 command_seen (read.Dead tree main) = Dead tree.now (option_copied main)
+command_seen (read.Plan world expand ticks period) = Plan world.now expand ticks period
 
--- a load has no more leaves than its files can hold
-abbrev pub HasFewLeaves : Command → Type 0
-HasFewLeaves (Load leaves) = leaves ≤ most_leaves
-HasFewLeaves _ = Unit {0}
+-- the numbers of a command are in their ranges: a load has no more leaves than its files can hold
+abbrev pub IsInRange : Command → Type 0
+IsInRange (Load leaves) = leaves ≤ most_leaves
+IsInRange (Plan world expand ticks period) = (expand ≤ 120) × (1 ≤ ticks) × (ticks ≤ 10000) × (period ≤ 1000000)
+IsInRange _ = Unit {0}

@@ -3,6 +3,8 @@ use Rattle.std.specs.Prelude.{ℕ, nat_le, ℤ, pos, List, [], ◌∷◌, codes,
 use Rattle.std.specs.Str.{bytes_eq}
 use Rattle.bt_command_line.specs.declared.exit.Exit.{Exit}
 use Rattle.bt_command_line.specs.declared.exit.Exit.TheVariants as exit
+use Rattle.bt_command_line.specs.declared.words.Options.{Options}
+use Rattle.bt_command_line.specs.declared.words.Options.TheVariants as takes
 use Rattle.bt_model.specs.Limits.{most_leaves, most_rounds}
 use Rattle.bt_model.specs.Numbers.{int_in}
 
@@ -26,22 +28,35 @@ are_options is_name (name ∷ value ∷ options) = is_name name && is_unset name
 
 -- ---- Commands
 
--- a command: its files, how many rounds, and the main tree where it names one; or how many leaves a load has
+-- a command: its files, how many rounds, and the main tree where it names one; how many leaves a load has; or how many
+-- sequences a plan may add, how many ticks a run of it may have, and the time from one tick to the next
 pub data Command : Type 0 where
   Tick : (tree world : List ℕ) (main : Option (List ℕ)) → Command
   Live : (tree world : List ℕ) (rounds : ℕ) (main : Option (List ℕ)) → Command
   Load : (leaves : ℕ) → Command
   Check : (tree : List ℕ) (main : Option (List ℕ)) → Command
   Dead : (tree : List ℕ) (main : Option (List ℕ)) → Command
+  Plan : (world : List ℕ) (expand ticks period : ℕ) → Command
 
--- the options: the ID of the main tree, and for some commands a number of ticks
-unfoldable pub is_option : Bool → List ℕ → Bool
-is_option ticks name = bytes_eq name (codes "--main") || ticks && bytes_eq name (codes "--ticks")
+-- the options of a command: the ID of the main tree, for some also a number of ticks, and for a plan its limits
+unfoldable pub is_option : Options → List ℕ → Bool
+is_option takes.Main name = bytes_eq name (codes "--main")
+is_option takes.Rounds name = bytes_eq name (codes "--main") || bytes_eq name (codes "--ticks")
+is_option takes.Limits name = bytes_eq name (codes "--expand") || bytes_eq name (codes "--ticks") || bytes_eq name (codes "--period")
+
+-- a number in this range
+abbrev pub in_range : ℕ → ℕ → Option ℤ → Option ℕ
+in_range least most (Some (pos n)) = if nat_le least n && nat_le n most then Some n else None
+in_range least most _ = None
 
 -- a number from 1 to this one
 abbrev pub as_count : ℕ → Option ℤ → Option ℕ
-as_count most (Some (pos n)) = if nat_le 1 n && nat_le n most then Some n else None
-as_count most _ = None
+as_count most number = in_range 1 most number
+
+-- the number in this range, written canonically, that is the value of an option, or this one where the option is not written
+abbrev pub number_or : ℕ → ℕ → ℕ → Option (List ℕ) → Option ℕ
+number_or default least most None = Some default
+number_or default least most (Some word) = in_range least most (int_in word)
 
 -- the number from 1 to `most_rounds` that the option `--ticks` gives, written canonically
 unfoldable pub rounds_in : List (List ℕ) → Option ℕ
@@ -50,13 +65,13 @@ rounds_in options = option_and_then (λ word. as_count most_rounds (int_in word)
 -- `TREE WORLD [--main ID]`
 abbrev pub tick_of : List (List ℕ) → Option Command
 tick_of (tree ∷ world ∷ options) =
-    if are_options (is_option false) options then Some (Tick tree world (value_of (codes "--main") options)) else None
+    if are_options (is_option takes.Main) options then Some (Tick tree world (value_of (codes "--main") options)) else None
 tick_of _ = None
 
 -- `TREE WORLD --ticks N [--main ID]`
 abbrev pub live_of : List (List ℕ) → Option Command
 live_of (tree ∷ world ∷ options) =
-    if are_options (is_option true) options
+    if are_options (is_option takes.Rounds) options
     then option_map (λ rounds. Live tree world rounds (value_of (codes "--main") options)) (rounds_in options)
     else None
 live_of _ = None
@@ -68,7 +83,7 @@ load_of _ = None
 
 -- `TREE [--main ID]`: the tree file, and the ID where it is given
 abbrev pub tree_words : List (List ℕ) → Option (List ℕ × Option (List ℕ))
-tree_words (tree ∷ options) = if are_options (is_option false) options then Some (tree, value_of (codes "--main") options) else None
+tree_words (tree ∷ options) = if are_options (is_option takes.Main) options then Some (tree, value_of (codes "--main") options) else None
 tree_words _ = None
 
 abbrev pub check_of : List (List ℕ) → Option Command
@@ -77,10 +92,32 @@ check_of words = option_map (λ named. Check named.0 named.1) (tree_words words)
 abbrev pub dead_of : List (List ℕ) → Option Command
 dead_of words = option_map (λ named. Dead named.0 named.1) (tree_words words)
 
+-- what the options say of the limits of a plan
+abbrev pub expand_in : List (List ℕ) → Option ℕ
+expand_in options = number_or 100 0 120 (value_of (codes "--expand") options)
+
+abbrev pub ticks_in : List (List ℕ) → Option ℕ
+ticks_in options = number_or 1000 1 10000 (value_of (codes "--ticks") options)
+
+abbrev pub period_in : List (List ℕ) → Option ℕ
+period_in options = number_or 100 0 1000000 (value_of (codes "--period") options)
+
+-- a plan with these limits
+abbrev pub plan_with : List ℕ → Option ℕ → Option ℕ → Option ℕ → Option Command
+plan_with world (Some expand) (Some ticks) (Some period) = Some (Plan world expand ticks period)
+plan_with world _ _ _ = None
+
+-- `WORLD [--expand N] [--ticks N] [--period MS]`
+abbrev pub plan_of : List (List ℕ) → Option Command
+plan_of (world ∷ options) =
+    if are_options (is_option takes.Limits) options then plan_with world (expand_in options) (ticks_in options) (period_in options) else None
+plan_of _ = None
+
 -- the commands by their first words, each with what it makes of the words after it
 abbrev pub commands : List (List ℕ × (List (List ℕ) → Option Command))
 commands =
-    (codes "tick", tick_of) ∷ (codes "live", live_of) ∷ (codes "load", load_of) ∷ (codes "check", check_of) ∷ (codes "dead", dead_of) ∷ []
+    (codes "tick", tick_of) ∷ (codes "live", live_of) ∷ (codes "load", load_of) ∷ (codes "check", check_of) ∷ (codes "dead", dead_of)
+    ∷ (codes "plan", plan_of) ∷ []
 
 abbrev pub command_among : List (List ℕ × (List (List ℕ) → Option Command)) → List ℕ → List (List ℕ) → Option Command
 command_among [] word words = None
@@ -98,6 +135,7 @@ status_of exit.Words = 2
 status_of exit.Tree = 3
 status_of exit.World = 4
 status_of exit.Fault = 5
+status_of exit.NoPlan = 6
 status_of exit.Read = 7
 status_of exit.Write = 8
 status_of exit.Memory = 9

@@ -14,6 +14,8 @@ pub enum Exit {
     World,
     /// The run ended in a fault.
     Fault,
+    /// The plan ended before its goals were reached.
+    NoPlan,
     /// A file could not be read.
     Read,
     /// The output could not be written.
@@ -33,6 +35,7 @@ impl Exit {
             Exit::Tree => 3,
             Exit::World => 4,
             Exit::Fault => 5,
+            Exit::NoPlan => 6,
             Exit::Read => 7,
             Exit::Write => 8,
             Exit::Memory => 9,

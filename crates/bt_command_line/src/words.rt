@@ -1,8 +1,8 @@
 ghost use Rattle.std.specs.Prelude.{◌≡◌, ◌≤◌, ◌↔◌, IfOk, IfSome, MatchOption, Some, None, codes};
 ghost use Rattle.std.specs.IoError.{error_kind};
 ghost use Rattle.std.specs.Option.{option_copied};
-ghost use Rattle.bt_command_line.specs.Commands.{HasFewLeaves, command_seen};
-ghost use Rattle.bt_command_line.specs.Words.{are_options, as_count, check_of, command_of, dead_of, is_option, is_unset, live_of, load_of, rounds_in, tick_of, tree_words, value_of};
+ghost use Rattle.bt_command_line.specs.Commands.{IsInRange, command_seen};
+ghost use Rattle.bt_command_line.specs.Words.{are_options, as_count, check_of, command_of, dead_of, in_range, is_option, is_unset, live_of, load_of, number_or, plan_of, rounds_in, tick_of, tree_words, value_of};
 ghost use Rattle.bt_model.specs.Limits.{most_leaves, most_rounds};
 ghost use Rattle.bt_model.specs.Numbers.{int_in};
 
@@ -14,7 +14,7 @@ use std::io::ErrorKind;
 use std::{env, io};
 
 /// A command: the files that it names, how many rounds, and the ID of the main tree where it names
-/// one; or how many leaves a load has.
+/// one; how many leaves a load has; or the limits of a plan.
 #[derive(Clone, Copy)]
 pub enum Command<'a> {
     /// `tick TREE WORLD [--main ID]`
@@ -46,6 +46,27 @@ pub enum Command<'a> {
         tree: &'a Name,
         main: Option<&'a Name>,
     },
+    /// `plan WORLD [--expand N] [--ticks N] [--period MS]`
+    Plan {
+        world: &'a Name,
+        /// The most sequences that are added.
+        expand: u32,
+        /// The most ticks of one modelled run.
+        ticks: u32,
+        /// The time from one tick to the next, in milliseconds.
+        period: u32,
+    },
+}
+
+/// The options that a command may have.
+#[derive(Clone, Copy)]
+pub(crate) enum Options {
+    /// `--main`
+    Main,
+    /// `--main` and `--ticks`
+    Rounds,
+    /// `--expand`, `--ticks` and `--period`
+    Limits,
 }
 
 /// The value that options, each a name and a value after it, give to this name.
@@ -70,21 +91,30 @@ fn is_unset(options: &[Name], name: &Name) -> bool
     value_of(options, name.list()).is_none()
 }
 
-/// Whether this is the name of an option, `--ticks` among them where the command has it.
+/// Whether this is the name of one of the options.
 #[tactic(auto, unfolding(crate::specs::Words::is_option))]
-fn is_option(ticks: bool, name: &Name) -> bool
-    ensures { result ≡ is_option ticks name.now }
+fn is_option(options: Options, name: &Name) -> bool
+    ensures { result ≡ is_option options name.now }
 {
-    name.list() == b"--main".as_slice() || ticks && name.list() == b"--ticks".as_slice()
+    let name = name.list();
+    match options {
+        Options::Main => name == b"--main".as_slice(),
+        Options::Rounds => name == b"--main".as_slice() || name == b"--ticks".as_slice(),
+        Options::Limits => {
+            name == b"--expand".as_slice()
+                || name == b"--ticks".as_slice()
+                || name == b"--period".as_slice()
+        }
+    }
 }
 
-/// Whether the words are options, each at most once, `--ticks` among them where the command has it.
-fn are_options(options: &[Name], ticks: bool) -> bool
-    ensures { result ≡ are_options (is_option ticks) options.now }
+/// Whether the words are these options, each at most once.
+fn are_options(words: &[Name], options: Options) -> bool
+    ensures { result ≡ are_options (is_option options) words.now }
 {
-    let mut rest = options;
+    let mut rest = words;
     while let [name, _value, more @ ..] = rest {
-        if !is_option(ticks, name) {
+        if !is_option(options, name) {
             return false;
         }
         if !is_unset(more, name) {
@@ -126,12 +156,12 @@ fn rounds_in(options: &[Name]) -> Option<u32>
 /// The command `tick` with these words after it.
 fn read_tick<'a>(words: &'a [Name]) -> Option<Command<'a>>
     ensures command { MatchOption result (tick_of words.now ≡ None) (λ c. tick_of words.now ≡ Some (command_seen c)) }
-    ensures few { IfSome result (λ c. HasFewLeaves (command_seen c)) }
+    ensures range { IfSome result (λ c. IsInRange (command_seen c)) }
 {
     let [tree, world, options @ ..] = words else {
         return None;
     };
-    if !are_options(options, false) {
+    if !are_options(options, Options::Main) {
         return None;
     }
     Some(Command::Tick {
@@ -144,12 +174,12 @@ fn read_tick<'a>(words: &'a [Name]) -> Option<Command<'a>>
 /// The command `live` with these words after it.
 fn read_live<'a>(words: &'a [Name]) -> Option<Command<'a>>
     ensures command { MatchOption result (live_of words.now ≡ None) (λ c. live_of words.now ≡ Some (command_seen c)) }
-    ensures few { IfSome result (λ c. HasFewLeaves (command_seen c)) }
+    ensures range { IfSome result (λ c. IsInRange (command_seen c)) }
 {
     let [tree, world, options @ ..] = words else {
         return None;
     };
-    if !are_options(options, true) {
+    if !are_options(options, Options::Rounds) {
         return None;
     }
     match rounds_in(options) {
@@ -177,7 +207,7 @@ fn leaves_in(word: &Name) -> Option<u32>
 /// The command `load` with these words after it.
 fn read_load<'a>(words: &'a [Name]) -> Option<Command<'a>>
     ensures command { MatchOption result (load_of words.now ≡ None) (λ c. load_of words.now ≡ Some (command_seen c)) }
-    ensures few { IfSome result (λ c. HasFewLeaves (command_seen c)) }
+    ensures range { IfSome result (λ c. IsInRange (command_seen c)) }
 {
     let [word] = words else {
         return None;
@@ -196,7 +226,7 @@ fn tree_words<'a>(words: &'a [Name]) -> Option<(&'a Name, Option<&'a Name>)>
     let [tree, options @ ..] = words else {
         return None;
     };
-    if !are_options(options, false) {
+    if !are_options(options, Options::Main) {
         return None;
     }
     Some((tree, main_of(options)))
@@ -205,7 +235,7 @@ fn tree_words<'a>(words: &'a [Name]) -> Option<(&'a Name, Option<&'a Name>)>
 /// The command `check` with these words after it.
 fn read_check<'a>(words: &'a [Name]) -> Option<Command<'a>>
     ensures command { MatchOption result (check_of words.now ≡ None) (λ c. check_of words.now ≡ Some (command_seen c)) }
-    ensures few { IfSome result (λ c. HasFewLeaves (command_seen c)) }
+    ensures range { IfSome result (λ c. IsInRange (command_seen c)) }
 {
     let (tree, main) = tree_words(words)?;
     Some(Command::Check { tree, main })
@@ -214,16 +244,62 @@ fn read_check<'a>(words: &'a [Name]) -> Option<Command<'a>>
 /// The command `dead` with these words after it.
 fn read_dead<'a>(words: &'a [Name]) -> Option<Command<'a>>
     ensures command { MatchOption result (dead_of words.now ≡ None) (λ c. dead_of words.now ≡ Some (command_seen c)) }
-    ensures few { IfSome result (λ c. HasFewLeaves (command_seen c)) }
+    ensures range { IfSome result (λ c. IsInRange (command_seen c)) }
 {
     let (tree, main) = tree_words(words)?;
     Some(Command::Dead { tree, main })
 }
 
+/// A number in this range.
+fn in_range(number: Option<i64>, least: u32, most: u32) -> Option<u32>
+    ensures number { result ≡ in_range least most number }
+    ensures within { IfSome result (λ n. (least ≤ n) × (n ≤ most)) }
+{
+    match number {
+        Some(n) if i64::from(least) <= n && n <= i64::from(most) => Some(n as u32),
+        _ => None,
+    }
+}
+
+/// The number in this range that an option gives, or `default` where it is not written.
+fn number_or(options: &[Name], name: &[u8], default: u32, least: u32, most: u32) -> Option<u32>
+    requires least { least ≤ default }
+    requires most { default ≤ most }
+    ensures number { result ≡ number_or default least most (value_of name.now options.now) }
+    ensures within { IfSome result (λ n. (least ≤ n) × (n ≤ most)) }
+{
+    match value_of(options, name) {
+        None => Some(default),
+        Some(word) => in_range(int(word.list()), least, most),
+    }
+}
+
+/// The command `plan` with these words after it.
+fn read_plan<'a>(words: &'a [Name]) -> Option<Command<'a>>
+    ensures command { MatchOption result (plan_of words.now ≡ None) (λ c. plan_of words.now ≡ Some (command_seen c)) }
+    ensures range { IfSome result (λ c. IsInRange (command_seen c)) }
+{
+    let [world, options @ ..] = words else {
+        return None;
+    };
+    if !are_options(options, Options::Limits) {
+        return None;
+    }
+    let expand = number_or(options, b"--expand", 100, 0, 120)?;
+    let ticks = number_or(options, b"--ticks", 1_000, 1, 10_000)?;
+    let period = number_or(options, b"--period", 100, 0, 1_000_000)?;
+    Some(Command::Plan {
+        world,
+        expand,
+        ticks,
+        period,
+    })
+}
+
 /// The command that the words are.
 pub fn read_command<'a>(words: &'a [Name]) -> Option<Command<'a>>
     ensures command { MatchOption result (command_of words.now ≡ None) (λ c. command_of words.now ≡ Some (command_seen c)) }
-    ensures few { IfSome result (λ c. HasFewLeaves (command_seen c)) }
+    ensures range { IfSome result (λ c. IsInRange (command_seen c)) }
 {
     let [word, words @ ..] = words else {
         return None;
@@ -238,6 +314,8 @@ pub fn read_command<'a>(words: &'a [Name]) -> Option<Command<'a>>
         read_check(words)
     } else if word.list() == b"dead".as_slice() {
         read_dead(words)
+    } else if word.list() == b"plan".as_slice() {
+        read_plan(words)
     } else {
         None
     }

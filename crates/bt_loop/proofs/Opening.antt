@@ -12,7 +12,7 @@ use Rattle.bt_model.specs.Leaf.{fresh}
 use Rattle.bt_model.specs.Run.{RunnerCall, fresh_runner, opening}
 use Rattle.bt_model.specs.Sound.{RunSteady}
 use Rattle.bt_model.specs.Terms.{node_count}
-use Rattle.bt_model.specs.Trees.{IsValid}
+use Rattle.bt_model.specs.Trees.{IsRunnable}
 use Rattle.bt_model.specs.Visit.{idle}
 use Rattle.bt_model.specs.Worlds.{IsValidWorld}
 use Rattle.bt_laws.proofs.Runs.{opening_steady}
@@ -106,12 +106,12 @@ module _ (tree : Tree) (world : World) (drivers : List DriverState) where
         numbered_are_served drivers nodes counts number world.runners is.arena.numbered first last (wanted_length tree world drivers) (λ place low. wanted_of_arena tree world drivers number r.arena is.arena place low)
 
     -- the runner fits
-    runner_fits : IsValid tree → 1 ≤ number → number ≤ world.runners → (facts : List ℤ) → length facts ≡ length world.facts → RunnerFits tree world facts now number r
-    runner_fits valid first last facts as_many = record {
+    runner_fits : IsRunnable tree → 1 ≤ number → number ≤ world.runners → (facts : List ℤ) → length facts ≡ length world.facts → RunnerFits tree world facts now number r
+    runner_fits runnable first last facts as_many = record {
       numbered = is.arena.runner;
       fits = record {
         stands = is.arena.stands;
-        few = omega (arith, is.arena.size, valid.limits.nodes);
+        few = omega (arith, is.arena.size, runnable.limits.nodes);
         marks = marks_are;
         leaves = are_served first last;
         slots = ap (λ (b : List (Option Value)). length b) is.board ∙ board_length tree;
@@ -141,17 +141,17 @@ module _ (tree : Tree) (world : World) (drivers : List DriverState) where
     as_many_facts = ap (λ (fs : List ℤ). length fs) are.facts ∙ length-map world.facts (λ (f : Fact). f.opening)
 
     -- they are runs
-    pub opening_runs : IsValid tree → IsValidWorld world → AreRuns tree world now runs
-    opening_runs valid valid_world = record {
+    pub opening_runs : IsRunnable tree → IsValidWorld world → AreRuns tree world now runs
+    opening_runs runnable valid_world = record {
       usable = are.usable;
       fit = record {
         many = are.many;
-        each = λ k r at. runner_fits (k + 1) r (are.runners k r at) valid (omega arith) (omega (arith, within runners k r at, are.many)) runs.facts as_many_facts;
+        each = λ k r at. runner_fits (k + 1) r (are.runners k r at) runnable (omega arith) (omega (arith, within runners k r at, are.many)) runs.facts as_many_facts;
         apart = are_apart tree world drivers runners are.runners;
         theirs = theirs;
         many_facts = as_many_facts;
         few_facts = omega (arith, valid_world.facts.few, length-map world.facts (λ (f : Fact). f.name));
-        few_slots = omega (arith, valid.limits.slots);
+        few_slots = omega (arith, runnable.limits.slots);
       };
       told = are.told;
       told_entries = are.told_entries;

@@ -2,7 +2,7 @@ ghost use Rattle.std.specs.Prelude.{◌≡◌, ◌<◌, ◌*◌, ◌^◌, ℕ, L
 ghost use Rattle.bt_model.specs.declared.term.Tree.{Tree};
 ghost use Rattle.bt_model.specs.declared.world.World.{World};
 ghost use Rattle.bt_model.specs.Drivers.{DriverState};
-ghost use Rattle.bt_model.specs.Trees.{IsValid};
+ghost use Rattle.bt_model.specs.Trees.{IsRunnable};
 ghost use Rattle.bt_model.specs.Worlds.{IsValidWorld};
 ghost use Rattle.bt_arena.specs.Rosters.{served};
 ghost use Rattle.bt_loop.specs.Opening.{AreOpeningRuns};
@@ -17,7 +17,7 @@ use std::alloc::Global;
 /// How many leaves all runners have together: a block needs room for one note more.
 pub fn leaves(runs: &Runs) -> usize
     ghost of: { Setup }
-    requires tree { IsValid of.tree }
+    requires tree { IsRunnable of.tree }
     requires world { IsValidWorld of.world }
     requires runs { (drivers : List DriverState) × AreRuns of.tree of.world drivers runs.now }
     ensures { result ≡ leaves_of (arenas_of runs.now) }
@@ -52,7 +52,7 @@ fn counts_of<D: Drivers>(
 
 /// For each driver, how many instances the runners of these runs need of it, or want of memory.
 pub fn wanted<D: Drivers>(alloc: Global, runs: &Runs, drivers: &D) -> Result<Vec<u32>, NoMemory>
-    requires { (tree : Tree) × (world : World) × IsValid tree × IsValidWorld world
+    requires { (tree : Tree) × (world : World) × IsRunnable tree × IsValidWorld world
         × AreOpeningRuns tree world (D.states drivers.now) runs.now }
     ensures { (tree : Tree) (world : World) → AreOpeningRuns tree world (D.states drivers.now) runs.now →
         IfOk result (λ counts. counts.items ≡ instances_wanted tree world (D.states drivers.now)) }

@@ -4,7 +4,7 @@ ghost use Rattle.bt_model.specs.Boards.{slot_table};
 ghost use Rattle.bt_model.specs.Drivers.{DriverState, NothingHeld, driver_at, roster_prepared};
 ghost use Rattle.bt_model.specs.Run.{RunnerCall, opening};
 ghost use Rattle.bt_model.specs.Terms.{leaf_ids};
-ghost use Rattle.bt_model.specs.Trees.{IsValid};
+ghost use Rattle.bt_model.specs.Trees.{IsRunnable};
 ghost use Rattle.bt_model.specs.Worlds.{IsValidWorld};
 ghost use Rattle.bt_arena.specs.declared.join_fault.JoinFault.{JoinFault as Lack};
 ghost use Rattle.bt_arena.specs.Joins.{Joins, first_missing};
@@ -34,7 +34,7 @@ pub fn make_runs<D: Drivers>(
     world: &World,
     drivers: &mut D,
 ) -> Result<Runs, Stop<JoinFault>>
-    requires tree { IsValid tree.now }
+    requires tree { IsRunnable tree.now }
     requires slots { slots.now ≡ slot_table tree.now }
     requires world { IsValidWorld world.now }
     requires quiet { NothingHeld (D.states drivers.old) }
@@ -76,7 +76,7 @@ pub fn runs_of(
     world: &World,
     roster: &mut Vec<Box<dyn Driver>>,
 ) -> Result<Runs, Stop<JoinFault>>
-    requires tree { IsValid tree.now }
+    requires tree { IsRunnable tree.now }
     requires slots { slots.now ≡ slot_table tree.now }
     requires world { IsValidWorld world.now }
     requires quiet { NothingHeld (map (λ b. state b) roster.old.items) }

@@ -1,7 +1,7 @@
 ghost use Rattle.std.specs.Prelude.{◌≡◌, ◌≤◌, IfOk, length};
 ghost use Rattle.bt_model.specs.Boards.{slot_table};
 ghost use Rattle.bt_model.specs.Terms.{leaf_ids};
-ghost use Rattle.bt_model.specs.Trees.{IsValid};
+ghost use Rattle.bt_model.specs.Trees.{IsRunnable};
 ghost use Rattle.bt_model.specs.Worlds.{IsValidWorld};
 ghost use Rattle.bt_arena.specs.Joins.{Joins, first_missing};
 ghost use Rattle.bt_loop.specs.Opening.{AreOpening, AreOpeningRuns, IsOpening};
@@ -70,7 +70,7 @@ fn runner_of<D: Drivers>(
     drivers: &D,
     number: u8,
 ) -> Result<ReadyRunner, Stop<JoinFault>>
-    requires tree { IsValid tree.now }
+    requires tree { IsRunnable tree.now }
     requires slots { slots.now ≡ slot_table tree.now }
     requires world { IsValidWorld world.now }
     requires first { 1 ≤ number }
@@ -92,7 +92,7 @@ fn runners_of<D: Drivers>(
     world: &World,
     drivers: &D,
 ) -> Result<Vec<ReadyRunner>, Stop<JoinFault>>
-    requires tree { IsValid tree.now }
+    requires tree { IsRunnable tree.now }
     requires slots { slots.now ≡ slot_table tree.now }
     requires world { IsValidWorld world.now }
     ensures fault { Joins result (first_missing world.now.rows (D.states drivers.now) (leaf_ids tree.now.term)) }
@@ -116,7 +116,7 @@ pub fn opening_runs<D: Drivers>(
     world: &World,
     drivers: &D,
 ) -> Result<Runs, Stop<JoinFault>>
-    requires tree { IsValid tree.now }
+    requires tree { IsRunnable tree.now }
     requires slots { slots.now ≡ slot_table tree.now }
     requires world { IsValidWorld world.now }
     ensures fault { Joins result (first_missing world.now.rows (D.states drivers.now) (leaf_ids tree.now.term)) }

@@ -15,6 +15,7 @@ use Rattle.bt_model.specs.BuiltIns.{PortRule, ports_of, required, switch_ports}
 use Rattle.bt_model.specs.Done.{State}
 use Rattle.bt_model.specs.Ports.{case_from, given_at, is_case, is_negative, new_memo, number_at, number_by, parallel_start, picked, selected, text_at, text_by, threshold, value_at, value_by}
 use Rattle.bt_model.specs.Sites.{Meaning, Site, View}
+use Rattle.bt_model.specs.Trees.{FewCases}
 use Rattle.bt_model.specs.Visit.{or_bad_port, site_of}
 use Rattle.bt_arena.specs.declared.nodes.Node.{Node}
 use Rattle.bt_arena.specs.declared.source.Source.{Source}
@@ -23,7 +24,6 @@ use Rattle.bt_arena.specs.Nodes.{IsNode}
 use Rattle.bt_arena.specs.Sources.{source_at, source_of, source_value}
 use Rattle.bt_arena.specs.Stands.{written}
 use Rattle.bt_nodes.specs.Given.{case_of, case_selected, first_case, port_at, source_number, source_text, with_memo}
-use Rattle.bt_nodes.proofs.Cases.{FewCases}
 
 -- a source has the value of what is given
 pub given_means : (site : Site) (s : State) (given : Option PortValue) → source_value s.board (source_of site.view given) ≡ value_by site s given

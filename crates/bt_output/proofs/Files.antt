@@ -25,7 +25,8 @@ use Rattle.bt_output.specs.declared.refusal.Refusal.{Refusal}
 use Rattle.bt_output.specs.declared.refusal.Refusal.TheVariants as refusal
 use Rattle.bt_output.specs.Answers.{Answers, AtMoments, CommandAnswered, Gave, IfTold, IsRefused, Printed, Side, ToldIfNamed, no_moments, side}
 use Rattle.bt_output.specs.Ends.{CommandEnds, Ends, EndsAt, FilesEnd, IsUntouched}
-use Rattle.bt_output.specs.Output.{FilesGive, Given, Giving, JoinGives, Output, PrintGives, Prints, RunGives, RunsOn, TreeGives, given, is_too_long, print_output, refused_as, stopped_as, too_long, tree_name, tree_refused, unread, world_name, world_refused}
+use Rattle.bt_output.specs.Jobs.{FilesGive, tree_name, world_name}
+use Rattle.bt_output.specs.Output.{Given, Giving, JoinGives, Output, PrintGives, Prints, RunGives, RunsOn, TreeGives, given, is_too_long, print_output, refused_as, stopped_as, too_long, tree_refused, unread, world_refused}
 use Rattle.bt_output.specs.Reads.{IsUnread, Reading, Unread, WasRead}
 use Rattle.bt_output.specs.TreeFiles.{ReadsAs, TreeReads}
 use Rattle.bt_refusals.specs.declared.fault.TreeFault.{TreeFault}
@@ -48,7 +49,7 @@ some_told (Some told) = refl
 pub at_any : (clock : Option Moments) (P : Moments → Type 0) → ((moments : Moments) → P moments) → AtMoments clock P
 at_any clock P p = record { moments = some_moments clock; told = some_told clock; holds = p (some_moments clock) }
 
-at_more : (clock : Option Moments) (P Q : Moments → Type 0) → ((moments : Moments) → P moments → Q moments) → AtMoments clock P → AtMoments clock Q
+pub at_more : (clock : Option Moments) (P Q : Moments → Type 0) → ((moments : Moments) → P moments → Q moments) → AtMoments clock P → AtMoments clock Q
 at_more clock P Q more x = record { moments = x.moments; told = x.told; holds = more x.moments x.holds }
 
 -- ---- Ends
@@ -61,8 +62,9 @@ some_more : (o : Option Output) (P Q : Output → Type 0) → ((o : Output) → 
 some_more None P Q more x = tt
 some_more (Some o) P Q more x = more o x
 
-ends_more : (P Q : Output → Type 0) → ((o : Output) → P o → Q o) → (result : Result Exit Refusal) (a b : Side) → Ends P result a b → Ends Q result a b
-ends_more P Q more (Ok exit) a b x = (x.0, more x.0 x.1, x.2)
+pub ends_more : (P Q : Output → Type 0) → ((o : Output) → P o → Q o) → (result : Result Exit Refusal) (a b : Side) → Ends P result a b → Ends Q result a b
+ends_more P Q more (Ok exit) a b (inl x) = inl (x.0, more x.0 x.1, x.2)
+ends_more P Q more (Ok exit) a b (inr x) = inr x
 ends_more P Q more (Err r) a b x = (some_more (refused_as r) P Q more x.0, x.1)
 
 -- a refusal whose output is one of these, or that has none
@@ -72,17 +74,17 @@ refused_ends P r a p = at_any a.clock (λ moments. Ends (P moments a.drivers) (E
 -- ---- Lengths
 
 -- what is not too long, and what is
-short_is : (bytes : List ℕ) → length bytes ≤ most_file_bytes → is_too_long bytes ≡ false
+pub short_is : (bytes : List ℕ) → length bytes ≤ most_file_bytes → is_too_long bytes ≡ false
 short_is bytes short = grind (arith, common_steps)
 
-long_is : (bytes : List ℕ) → most_file_bytes < length bytes → is_too_long bytes ≡ true
+pub long_is : (bytes : List ℕ) → most_file_bytes < length bytes → is_too_long bytes ≡ true
 long_is bytes long = grind (arith, common_steps)
 
-match_false : (b : Bool) (P Q : Type 0) → b ≡ false → Q → MatchBool b P Q
+pub match_false : (b : Bool) (P Q : Type 0) → b ≡ false → Q → MatchBool b P Q
 match_false true P Q e q = cc
 match_false false P Q e q = q
 
-match_true : (b : Bool) (P Q : Type 0) → b ≡ true → P → MatchBool b P Q
+pub match_true : (b : Bool) (P Q : Type 0) → b ≡ true → P → MatchBool b P Q
 match_true true P Q e p = p
 match_true false P Q e p = cc
 
@@ -177,6 +179,7 @@ module _ {Shelf : Type 0} (read_gives : Reading Shelf) (faults : Shelf → ℕ) 
   tree_unread world Gives long old new (refusal.Tree f) a u = absurd u
   tree_unread world Gives long old new (refusal.World f) a u = absurd u
   tree_unread world Gives long old new (refusal.Join f) a u = absurd u
+  tree_unread world Gives long old new refusal.NoGoal a u = absurd u
 
   -- the world file was not read, after the tree file
   pub world_unread : (world bytes : List ℕ) (course : Course) (main : Option (List ℕ)) (old between new : Shelf) (r : Refusal) (a : Side) → faults old ≤ faults between
@@ -202,6 +205,7 @@ module _ {Shelf : Type 0} (read_gives : Reading Shelf) (faults : Shelf → ℕ) 
   world_unread world bytes course main old between new (refusal.Tree f) a less read u = absurd u
   world_unread world bytes course main old between new (refusal.World f) a less read u = absurd u
   world_unread world bytes course main old between new (refusal.Join f) a less read u = absurd u
+  world_unread world bytes course main old between new refusal.NoGoal a less read u = absurd u
 
   -- both were read
   pub both_read : (world tree_bytes world_bytes : List ℕ) (course : Course) (main : Option (List ℕ)) (old between new after : Shelf) (result : Result Exit Refusal) (a b : Side)
@@ -225,7 +229,7 @@ module _ (holds : Option (List ℕ → List ℕ)) (name : List ℕ) (print : Pri
   tree_printed t exit written faults a reads printed =
       print_files (Ok exit) a (side written faults a.clock a.drivers)
       (at_any a.clock (λ moments. Ends (PrintGives print main bytes) (Ok exit) a (side written faults a.clock a.drivers))
-      (λ moments. (print_output print (Ok t), print_gives print main bytes (Ok t) short reads, printed a.clock a.drivers a.drivers (λ place. refl))))
+      (λ moments. inl (print_output print (Ok t), print_gives print main bytes (Ok t) short reads, printed a.clock a.drivers a.drivers (λ place. refl))))
 
 -- the files of a load, which names none
 pub load_ends : (holds : Option (List ℕ → List ℕ)) (leaves : ℕ) (result : Result Exit Refusal) (a b : Side) → EndsAt (RunsOn (course.Load leaves) None (tree_text leaves) (world_text leaves)) result a b
@@ -250,14 +254,7 @@ module _ (command : Command) (holds : Option (List ℕ → List ℕ)) (rose : Ty
   -- .. with an exit
   pub exit_answered : (exit : Exit) (a b : Side) → Ended (Ok exit) a b → CommandAnswered (Some command) holds rose IsUnread exit a b
   exit_answered exit a b (inl x) = absurd x
-  exit_answered exit a b (inr f) = inr (record {
-    tree = f.tree;
-    world = f.world;
-    is_tree = f.is_tree;
-    is_world = f.is_world;
-    answers = at_more a.clock (λ moments. Ends (FilesGive command f.tree f.world moments a.drivers) (Ok exit) a b) (λ moments. Answers (FilesGive command f.tree f.world moments a.drivers) exit a b)
-        (λ moments x. inl x) f.answers;
-  })
+  exit_answered exit a b (inr f) = inr f
 
   refused_answers : (P : Output → Type 0) (o : Option Output) (end : Exit) (a b : Side) (written : Option (List ℕ)) (faults : ℕ) → IfSome o P → IsUntouched a b
       → MatchOption o ((end ≡ exit.Memory) × (written ≡ b.written)) (λ o. Printed o end b.written b.faults written faults) → Answers P end a (side written faults b.clock b.drivers)
@@ -273,6 +270,7 @@ module _ (command : Command) (holds : Option (List ℕ → List ℕ)) (rose : Ty
   refusal_answered (refusal.Tree f) exit a b written faults (inl x) refused = absurd x
   refusal_answered (refusal.World f) exit a b written faults (inl x) refused = absurd x
   refusal_answered (refusal.Join f) exit a b written faults (inl x) refused = absurd x
+  refusal_answered refusal.NoGoal exit a b written faults (inl x) refused = absurd x
   refusal_answered refusal.NoMemory exit a b written faults (inl x) refused = absurd x
   refusal_answered r exit a b written faults (inr f) refused = inr (record {
     tree = f.tree;

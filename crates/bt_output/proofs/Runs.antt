@@ -1,5 +1,5 @@
 -- What a run gives that was joined.
-use Rattle.std.proofs.Common.{◌≡◌, ℕ, List, [], ◌∷◌, Option, Some, None, refl, sym, ap, subst, ◌∙◌, Result, Ok, Err}
+use Rattle.std.proofs.Common.{◌≡◌, ℕ, List, [], ◌∷◌, inl, Option, Some, None, refl, sym, ap, subst, ◌∙◌, Result, Ok, Err}
 use Rattle.std.specs.Prelude.{IfOk, IfSome, IsErrOf, OnOk, length, option_map}
 use Rattle.std.specs.List.{flat_map}
 use Rattle.bt_arena.specs.declared.join_fault.JoinFault.{JoinFault}
@@ -263,6 +263,7 @@ gave_from bytes end left asked exit.Words a b drivers x = x
 gave_from bytes end left asked exit.Tree a b drivers x = x
 gave_from bytes end left asked exit.World a b drivers x = x
 gave_from bytes end left asked exit.Fault a b drivers x = x
+gave_from bytes end left asked exit.NoPlan a b drivers x = x
 gave_from bytes end left asked exit.Read a b drivers x = x
 gave_from bytes end left asked exit.Write a b drivers x = x
 gave_from bytes end left asked exit.Memory a b drivers x = x
@@ -296,7 +297,7 @@ module _ (of : Setup) (runs : Runs) (before made : List DriverState) (course : C
     joined_ends result a b x = record {
       moments = x.moments;
       told = x.told;
-      holds = (
+      holds = inl (
         joined_output (lack_of of.tree of.world before) of.tree of.world (given course x.moments before),
         refl,
         subst (λ (o : Output). Gave o result (side a.written a.faults a.clock before) b) (output_is x.moments)

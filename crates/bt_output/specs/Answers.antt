@@ -4,7 +4,10 @@ use Rattle.bt_command_line.specs.declared.exit.Exit.{Exit}
 use Rattle.bt_command_line.specs.declared.exit.Exit.TheVariants as exit
 use Rattle.bt_output.specs.declared.refusal.File.{File}
 use Rattle.bt_output.specs.declared.refusal.Refusal.{Refusal}
-use Rattle.bt_output.specs.Output.{Asked, Never, Times, UpToFault, Output, FilesGive, Giving, refused_as, tree_name, unread, words_refused, world_name}
+use Rattle.bt_output.specs.Plans.{plan_output}
+use Rattle.bt_plan.specs.declared.ending.PlanEnd.{PlanEnd}
+use Rattle.bt_output.specs.Jobs.{FilesGive, tree_name, world_name}
+use Rattle.bt_output.specs.Output.{Asked, Never, Times, UpToFault, Output, Giving, refused_as, unread, words_refused}
 use Rattle.bt_command_line.specs.Words.{Command}
 use Rattle.bt_model.specs.Drivers.{DriverState, driver_at}
 use Rattle.bt_trace.specs.declared.ended.Ended.{Ended}
@@ -81,6 +84,12 @@ abbrev pub Printed : Output → Exit → Option (List ℕ) → ℕ → Option (L
 Printed o result written faults written_after faults_after =
     (clock : Option Moments) (old new : List DriverState) → AreUncalled old new
     → Gave o result (side written faults clock old) (side written_after faults_after clock new)
+
+-- the output of a plan was given so, whatever its modelled runs leave of the drivers
+abbrev pub PlanPrinted : PlanEnd → Exit → Option (List ℕ) → ℕ → Option (List ℕ) → ℕ → Type 0
+PlanPrinted planned result written faults written_after faults_after =
+    (clock : Option Moments) (old after : List DriverState)
+    → Gave (plan_output planned after) result (side written faults clock old) (side written_after faults_after clock after)
 
 -- the output of a refusal was given so; out of memory nothing was written
 abbrev pub IsRefused : Refusal → Exit → Option (List ℕ) → ℕ → Option (List ℕ) → ℕ → Type 0

@@ -6,7 +6,7 @@ use Rattle.bt_outside.specs.Moments.{Moments}
 use Rattle.bt_output.specs.declared.refusal.File.{File}
 use Rattle.bt_output.specs.declared.refusal.Refusal.{Refusal}
 use Rattle.bt_output.specs.declared.refusal.Refusal.TheVariants as refusal
-use Rattle.bt_output.specs.Answers.{AreUncalled, AtMoments, Gave, OfFiles, Side}
+use Rattle.bt_output.specs.Answers.{Answers, AreUncalled, AtMoments, OfFiles, Side}
 use Rattle.bt_output.specs.Output.{Giving, Output, refused_as}
 
 -- nothing was written, the clock was not asked, and no driver was called
@@ -16,10 +16,10 @@ pub record IsUntouched (old new : Side) : Type 0 where
   pub clock : new.clock ≡ old.clock
   pub drivers : AreUncalled old.drivers new.drivers
 
--- one of these outputs was given, with this exit; or the command is refused, which is one of these outputs unless memory
--- ran out, and nothing was done yet
+-- one of these outputs was given, with this exit, or memory ran out before one was known and nothing was written; or the
+-- command is refused, which is one of these outputs unless memory ran out, and nothing was done yet
 abbrev pub Ends : (Output → Type 0) → Result Exit Refusal → Side → Side → Type 0
-Ends IsOutput (Ok exit) old new = (o : Output) × IsOutput o × Gave o exit old new
+Ends IsOutput (Ok exit) old new = Answers IsOutput exit old new
 Ends IsOutput (Err refusal) old new = IfSome (refused_as refusal) IsOutput × IsUntouched old new
 
 -- so it ends at the moments that the clock tells, or at some where it tells none

@@ -1,7 +1,9 @@
 pub mod Answers
 pub mod Courses
 pub mod Ends
+pub mod Jobs
 pub mod Lent
 pub mod Output
+pub mod Plans
 pub mod Reads
 pub mod TreeFiles

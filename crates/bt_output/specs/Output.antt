@@ -5,7 +5,6 @@ use Rattle.bt_arena.specs.declared.join_fault.JoinFault.{JoinFault}
 use Rattle.bt_arena.specs.Joins.{first_missing}
 use Rattle.bt_dead.specs.Dead.{dead_nodes}
 use Rattle.bt_load.specs.Summaries.{load_line}
-use Rattle.bt_load.specs.Texts.{tree_text, world_text}
 use Rattle.bt_loop.specs.Served.{roster_after_run}
 use Rattle.bt_output.specs.declared.course.Course.{Course}
 use Rattle.bt_output.specs.declared.course.Course.TheVariants as course
@@ -20,7 +19,6 @@ use Rattle.bt_output.specs.declared.refusal.Refusal.TheVariants as refusal
 use Rattle.bt_refusals.specs.declared.fault.TreeFault.{TreeFault}
 use Rattle.bt_refusals.specs.Refusals.{join_words, tree_words, world_words}
 use Rattle.bt_output.specs.TreeFiles.{TreeReads}
-use Rattle.bt_command_line.specs.Words.{Command, Tick, Live, Load, Check, Dead}
 use Rattle.bt_model.specs.declared.fault.RunFault.{RunFault}
 use Rattle.bt_model.specs.declared.term.Term.{Term, fold-Term}
 use Rattle.bt_model.specs.declared.term.Tree.{Tree}
@@ -83,6 +81,10 @@ tree_refused fault = refused (codes "refused tree " ++ tree_words fault) exit.Tr
 abbrev pub world_refused : WorldFault → Output
 world_refused fault = refused (codes "refused world " ++ world_words fault) exit.World
 
+-- a plan is asked for, and there is no goal
+abbrev pub no_goal : Output
+no_goal = refused (codes "refused world NoGoal") exit.World
+
 -- a leaf lacks a row, or a driver for its row
 abbrev pub join_refused : JoinFault → Output
 join_refused fault = refused (codes "refused world " ++ join_words fault) exit.World
@@ -95,6 +97,7 @@ refused_as (refusal.TooLong which) = Some (too_long which)
 refused_as (refusal.Tree fault) = Some (tree_refused fault)
 refused_as (refusal.World fault) = Some (world_refused fault)
 refused_as (refusal.Join fault) = Some (join_refused fault)
+refused_as refusal.NoGoal = Some no_goal
 refused_as refusal.NoMemory = None
 
 -- the refusal of a call that stopped, by what its fault refuses
@@ -214,7 +217,7 @@ abbrev pub TreeGives : Result Tree TreeFault → List ℕ → Given → Output �
 TreeGives (Ok tree) world g output = WorldGives tree world g output
 TreeGives (Err fault) world g output = output ≡ tree_refused fault
 
--- ---- Commands
+-- ---- Files that are read
 
 -- a file of more bytes is too long
 abbrev pub is_too_long : List ℕ → Bool
@@ -247,43 +250,3 @@ PrintGives print main tree output =
 
 abbrev pub Prints : Print → Option (List ℕ) → Giving
 Prints print main = λ tree world moments drivers. PrintGives print main tree
-
--- what a command is about: the files that it names, and what files, moments and drivers have for its output
-pub record Job : Type 1 where
-  pub tree : Option (List ℕ)
-  pub world : Option (List ℕ)
-  pub gives : Giving
-
--- the job of each command; a load makes both of its files
-abbrev pub job_of : Command → Job
-job_of (Tick tree world main) = record { tree = Some tree; world = Some world; gives = RunsOn course.Script main }
-job_of (Live tree world rounds main) = record { tree = Some tree; world = Some world; gives = RunsOn (course.Rounds rounds) main }
-job_of (Load leaves) = record {
-  tree = None;
-  world = None;
-  gives = λ tree world. RunsOn (course.Load leaves) None (tree_text leaves) (world_text leaves);
-}
-job_of (Check tree main) = record { tree = Some tree; world = None; gives = Prints print.Whole main }
-job_of (Dead tree main) = record { tree = Some tree; world = None; gives = Prints print.Dead main }
-
--- the files that a command names
-abbrev pub tree_name : Command → Option (List ℕ)
-tree_name command = (job_of command).tree
-
-abbrev pub world_name : Command → Option (List ℕ)
-world_name command = (job_of command).world
-
--- the output of a command over these bytes of the files that it names, these moments and these drivers
-abbrev pub FilesGive : Command → Giving
-FilesGive command = (job_of command).gives
-
--- what a file holds that may be named
-abbrev pub held_by : (List ℕ → List ℕ) → Option (List ℕ) → List ℕ
-held_by holds (Some name) = holds name
-held_by holds None = []
-
--- the output of a command over what the files hold; words that are no command are refused
-abbrev pub CommandGives : Option Command → (List ℕ → List ℕ) → Moments → List DriverState → Output → Type 0
-CommandGives None holds moments drivers output = output ≡ words_refused
-CommandGives (Some command) holds moments drivers output =
-    FilesGive command (held_by holds (tree_name command)) (held_by holds (world_name command)) moments drivers output

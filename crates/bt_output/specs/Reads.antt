@@ -10,7 +10,7 @@ use Rattle.bt_output.specs.declared.refusal.File.{File}
 use Rattle.bt_output.specs.declared.refusal.File.TheVariants as file
 use Rattle.bt_output.specs.declared.refusal.Refusal.{Refusal}
 use Rattle.bt_output.specs.declared.refusal.Refusal.TheVariants as refusal
-use Rattle.bt_output.specs.Output.{tree_name, world_name}
+use Rattle.bt_output.specs.Jobs.{tree_name, world_name}
 
 -- ---- One read
 
@@ -45,13 +45,14 @@ abbrev pub TreeUnread : {Shelf : Type 0} → Reading Shelf → Option (List ℕ)
 TreeUnread read_gives None old new = ⊥
 TreeUnread read_gives (Some tree) old new = read_gives old tree (Err fault.Failed) new
 
--- the read of a world file that may be named failed, after that of the tree file, which is then within the limit, where
--- the shelf tells it
+-- the read of a world file that may be named failed, after that of the tree file, where one is named, which is then within
+-- the limit, where the shelf tells it
 abbrev pub WorldUnread : {Shelf : Type 0} → Reading Shelf → Option (List ℕ → List ℕ) → Option (List ℕ) → Option (List ℕ) → Shelf → Shelf → Type 0
 WorldUnread {Shelf} read_gives holds (Some tree) (Some world) old new =
     (between : Shelf) × read_gives old tree (Ok tt) between
     × Told holds tree (λ file. length file ≤ most_file_bytes)
     × read_gives between world (Err fault.Failed) new
+WorldUnread read_gives holds None (Some world) old new = read_gives old world (Err fault.Failed) new
 WorldUnread read_gives holds _ _ old new = ⊥
 
 -- the read of this one failed of a tree file and a world file, which may be named

@@ -1,6 +1,6 @@
 ghost use Rattle.std.specs.Prelude.{◌≤◌, ◌⊎◌, length, None, Some};
 ghost use Rattle.std.specs.Option.{option_copied};
-ghost use Rattle.bt_command_line.specs.Commands.{HasFewLeaves, command_seen};
+ghost use Rattle.bt_command_line.specs.Commands.{IsInRange, command_seen};
 ghost use Rattle.bt_command_line.specs.Words.{Load, command_of};
 ghost use Rattle.bt_model.specs.Drivers.{NothingHeld};
 ghost use Rattle.bt_model.specs.Limits.{most_file_bytes, most_leaves};
@@ -8,13 +8,17 @@ ghost use Rattle.bt_output.specs.Answers.{CommandAnswered, side};
 ghost use Rattle.bt_outside.specs.Counts.{Rose};
 ghost use Rattle.bt_output.specs.Ends.{CommandEnds, EndsAt, FilesEnd};
 ghost use Rattle.bt_output.specs.Lent.{Stays, seen};
-ghost use Rattle.bt_output.specs.Output.{FilesGive, Prints, RunsOn, tree_name, world_name};
+ghost use Rattle.bt_output.specs.Jobs.{FilesGive, tree_name, world_name};
+ghost use Rattle.bt_output.specs.Output.{Prints, RunsOn};
+ghost use Rattle.bt_output.specs.Plans.{PlanGives, Plans};
+ghost use Rattle.bt_plan.specs.PlanRuns.{AreInRange};
 ghost use Rattle.bt_output.specs.Reads.{Unread, WordsUnread};
 ghost use Rattle.bt_trace.specs.Traces.{AreKept};
 
 use crate::course::Course;
 use crate::join::join_and_run;
 use crate::outside::Outside;
+use crate::planning::plan_and_print;
 use crate::print::Print;
 use crate::printing::print_tree;
 use crate::reading::read_file;
@@ -24,6 +28,7 @@ use bt_command_line::{Command, Exit, read_command};
 use bt_driver::Drivers;
 use bt_load::{load_tree, load_world};
 use bt_outside::{Clock, Shelf, Sink};
+use bt_plan::Limits;
 use bt_script::Name;
 use bt_world::read_world;
 use std::alloc::Global;
@@ -130,13 +135,54 @@ fn read_and_print<S: Shelf, K: Sink, C: Clock, D: Drivers>(
     Ok(print_tree(alloc, &tree, print, outside.out))
 }
 
+/// Plans for the goals of the world of these bytes of a world script.
+fn plan_file<S: Shelf, K: Sink, C: Clock, D: Drivers>(
+    alloc: Global,
+    world: &[u8],
+    limits: &Limits,
+    outside: &mut Outside<S, K, C, D>,
+) -> Result<Exit, Refusal>
+    requires world { length world.now ≤ most_file_bytes }
+    requires limits { AreInRange limits.now }
+    requires quiet { NothingHeld (D.states outside.old.drivers.now) }
+    ensures ends { EndsAt (λ moments. PlanGives limits.now world.now) result
+        (seen K.written K.faults C.moments D.states outside.old)
+        (seen K.written K.faults C.moments D.states outside.new) }
+    ensures stays { Stays S.faults K.faults D.states outside.old outside.new }
+{
+    let world = read_world(alloc, world)?;
+    plan_and_print(alloc, &world, limits, outside)
+}
+
+/// Reads a world script and plans for its goals.
+fn read_and_plan<S: Shelf, K: Sink, C: Clock, D: Drivers>(
+    alloc: Global,
+    world: &Name,
+    limits: &Limits,
+    outside: &mut Outside<S, K, C, D>,
+) -> Result<Exit, Refusal>
+    requires limits { AreInRange limits.now }
+    requires quiet { NothingHeld (D.states outside.old.drivers.now) }
+    ensures ends { let old = outside.old.shelf.now in
+        let new = outside.new.shelf.now in
+        CommandEnds (Rose (S.faults old) (S.faults new))
+        (Unread S.read_gives (S.holds old) None (Some world.now) old new)
+        (FilesEnd (S.holds old) None (Some world.now) (Plans limits.now)) result
+        (seen K.written K.faults C.moments D.states outside.old)
+        (seen K.written K.faults C.moments D.states outside.new) }
+    ensures stays { Stays S.faults K.faults D.states outside.old outside.new }
+{
+    let bytes = read_file(alloc, File::World, world, outside.shelf)?;
+    plan_file(alloc, bytes.as_slice(), limits, outside)
+}
+
 /// Runs a command: its output is written, or it is refused and nothing is written yet.
 fn run_command<S: Shelf, K: Sink, C: Clock, D: Drivers>(
     alloc: Global,
     command: Command,
     outside: &mut Outside<S, K, C, D>,
 ) -> Result<Exit, Refusal>
-    requires few { HasFewLeaves (command_seen command) }
+    requires range { IsInRange (command_seen command) }
     requires quiet { NothingHeld (D.states outside.old.drivers.now) }
     ensures ends { let old = outside.old.shelf.now in
         let new = outside.new.shelf.now in
@@ -161,6 +207,19 @@ fn run_command<S: Shelf, K: Sink, C: Clock, D: Drivers>(
         Command::Load { leaves } => make_and_run(alloc, leaves, outside),
         Command::Check { tree, main } => read_and_print(alloc, tree, main, Print::Whole, outside),
         Command::Dead { tree, main } => read_and_print(alloc, tree, main, Print::Dead, outside),
+        Command::Plan {
+            world,
+            expand,
+            ticks,
+            period,
+        } => {
+            let limits = Limits {
+                expand,
+                ticks,
+                period: u64::from(period),
+            };
+            read_and_plan(alloc, world, &limits, outside)
+        }
     }
 }
 

@@ -8,6 +8,8 @@ mod dead_nodes;
 mod join;
 mod nodes;
 mod outside;
+mod plan_lines;
+mod planning;
 mod print;
 mod printing;
 mod reading;

@@ -33,8 +33,11 @@ pub enum Refusal {
     Tree(TreeFault),
     /// The world file is none.
     World(WorldFault),
-    /// A leaf of the tree lacks a row in the world, or a driver for its row.
+    /// A leaf of the tree lacks a row in the world, or a driver for its row; or a row of a world for
+    /// which a plan is asked lacks a driver.
     Join(JoinFault),
+    /// A plan is asked for, and the world has no goal.
+    NoGoal,
     /// The program is out of memory.
     NoMemory,
 }
@@ -152,6 +155,7 @@ pub fn write_refusal<K: Sink>(alloc: Global, refusal: &Refusal, out: &mut K) -> 
             Ok(line) => write_last(line.as_slice(), Exit::World, out),
             Err(NoMemory) => Exit::Memory,
         },
+        Refusal::NoGoal => write_last(b"refused world NoGoal\n", Exit::World, out),
         Refusal::NoMemory => Exit::Memory,
     }
 }

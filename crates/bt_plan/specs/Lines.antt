@@ -17,11 +17,14 @@ step_line s = comment (codes "expand " ++ decimal s.uid ++ codes " " ++ s.condit
 abbrev pub listed : List (List ℕ) → List ℕ
 listed names = flat_map (λ (name : List ℕ). codes " " ++ name) names
 
--- The line of an end. Names are those of the tree whose run faulted.
+-- The words of an end. Names are those of the tree whose run faulted.
+abbrev pub end_words : LineNames → End → List ℕ
+end_words names (Reached tree tick) = codes "reached tick " ++ decimal tick
+end_words names (NoTemplate failed) = codes "no plan NoTemplate" ++ listed failed
+end_words names (NoOrder action condition) = codes "no plan NoOrder " ++ action ++ codes " " ++ condition
+end_words names (Expansions n) = codes "no plan Expansions " ++ decimal n
+end_words names (StillRunning ticks) = codes "no plan StillRunning " ++ decimal ticks
+end_words names (Faulted uid cause) = codes "no plan Faulted " ++ decimal uid ++ codes " " ++ cause_words names uid cause
+
 abbrev pub end_line : LineNames → End → List ℕ
-end_line names (Reached tree tick) = comment (codes "reached tick " ++ decimal tick)
-end_line names (NoTemplate failed) = comment (codes "no plan NoTemplate" ++ listed failed)
-end_line names (NoOrder action condition) = comment (codes "no plan NoOrder " ++ action ++ codes " " ++ condition)
-end_line names (Expansions n) = comment (codes "no plan Expansions " ++ decimal n)
-end_line names (StillRunning ticks) = comment (codes "no plan StillRunning " ++ decimal ticks)
-end_line names (Faulted uid cause) = comment (codes "no plan Faulted " ++ decimal uid ++ codes " " ++ cause_words names uid cause)
+end_line names end = comment (end_words names end)

@@ -1,5 +1,5 @@
 -- The clauses of `bt`, one by one, by what its words were answered.
-use Rattle.std.proofs.Common.{◌≡◌, ℕ, List, Bool, true, false, ◌⊎◌, inl, inr, Option, Some, None, refl, sym, ap, subst, ◌∙◌, MatchBool, Result, Ok, Err}
+use Rattle.std.proofs.Common.{◌≡◌, ℕ, List, [], ◌∷◌, ◌++◌, map, Bool, true, false, ◌⊎◌, inl, inr, Option, Some, None, refl, sym, ap, subst, ◌∙◌, MatchBool, Result, Ok, Err}
 use Rattle.bt_elements.specs.declared.element.Element.{Element}
 use Rattle.bt_elements.specs.declared.element.ElementFault.{ElementFault}
 use Rattle.bt_elements.specs.Elements.{Spells}
@@ -12,10 +12,28 @@ use Rattle.bt_command_line.specs.declared.exit.Exit.TheVariants as exit
 use Rattle.bt_refusals.specs.declared.fault.TreeFault.{TreeFault}
 use Rattle.bt_refusals.specs.declared.fault.TreeFault.TheVariants as fault
 use Rattle.bt_output.specs.Answers.{Answers, AreUncalled, AtMoments, CommandAnswered, DriversLeft, FilesAnswered, Gave, IfTold, IsWhole, ReadFailed, Side, ToldIfNamed}
-use Rattle.bt_program.specs.Headline.{EachOutput, IsGiven, UnreadLine, WholeOutput, moments_for}
-use Rattle.bt_output.specs.Output.{CommandGives, FilesGive, Given, Output, PrintGives, RunGives, TreeGives, WorldGives, given, held_by, is_too_long, joined_output, lack_of, print_output, run_exit, tree_name, too_long, tree_refused, unread, words_refused, world_name, world_output}
-use Rattle.bt_output.specs.TreeFiles.{TreeReads, element_read}
-use Rattle.bt_command_line.specs.Words.{Command, Tick, Live, Load, Check, Dead}
+use Rattle.bt_program.specs.Headline.{EachOutput, IsGiven, PlanReaches, ReachesIfPlan, UnreadLine, WholeOutput, moments_for}
+use Rattle.bt_output.specs.Plans.{IsPlanned, PlanGives, PlannedOr, Plans, ReadPlans, first_unserved, plan_exit, plan_output, reached_lines, refusal_for}
+use Rattle.bt_plan.specs.declared.ending.End.{End}
+use Rattle.bt_plan.specs.declared.ending.End.TheVariants.{Reached, NoTemplate, NoOrder, Expansions, StillRunning, Faulted}
+use Rattle.bt_plan.specs.declared.ending.Limits.{Limits}
+use Rattle.bt_plan.specs.declared.ending.PlanEnd.{PlanEnd}
+use Rattle.bt_plan.specs.declared.ending.Step.{Step}
+use Rattle.bt_plan.specs.Answers.{IsPlan, StandsAlone}
+use Rattle.bt_plan.specs.Lines.{end_line, step_line}
+use Rattle.bt_plan.specs.PlanRuns.{IsReached, PlanRun, Trial}
+use Rattle.bt_text.specs.Names.{no_names}
+use Rattle.bt_manifest.specs.Models.{manifest_in}
+use Rattle.bt_build.specs.Reads.{reads}
+use Rattle.bt_model.specs.PrintedTree.{tree_lines}
+use Rattle.bt_model.specs.Terms.{scope_count}
+use Rattle.bt_model.specs.Trees.{IsValid}
+use Rattle.bt_model.specs.Worlds.{IsValidWorld}
+use Rattle.std.specs.List.{concat}
+use Rattle.bt_output.specs.Jobs.{CommandGives, FilesGive, held_by, tree_name, world_name}
+use Rattle.bt_output.specs.Output.{Given, Output, PrintGives, RunGives, TreeGives, WorldGives, given, is_too_long, join_refused, joined_output, lack_of, no_goal, print_output, run_exit, too_long, tree_refused, unread, words_refused, world_output, world_refused}
+use Rattle.bt_output.specs.TreeFiles.{TreeReads, built, element_read, with_models}
+use Rattle.bt_command_line.specs.Words.{Command, Tick, Live, Load, Check, Dead, Plan}
 use Rattle.bt_output.specs.declared.refusal.File.{File}
 use Rattle.bt_output.specs.declared.refusal.File.TheVariants as file
 use Rattle.bt_arena.specs.declared.join_fault.JoinFault.{JoinFault}
@@ -27,18 +45,20 @@ use Rattle.bt_model.specs.declared.world_fault.WorldFault.{WorldFault}
 use Rattle.bt_model.specs.Drivers.{DriverState}
 use Rattle.bt_model.specs.Run.{run_over}
 use Rattle.bt_model.specs.WorldFile.{ReadsWorld}
-use Rattle.bt_outside.specs.Appending.{AppendedPrefix}
+use Rattle.bt_outside.specs.Appending.{Appended, AppendedPrefix}
 use Rattle.bt_outside.specs.Counts.{Rose}
 use Rattle.bt_outside.specs.Moments.{Moments}
 use Rattle.bt_outside.proofs.Appends.{AppendedPrefix-nothing}
 
 -- each file reads in one way: its bytes spell one element or have one fault, and never both, and they describe one world
--- or have one fault
+-- or have one fault; and a world is planned for in one way
 pub record OneReading : Type 0 where
   pub element : (bytes : List ℕ) (a b : Element) → Spells bytes a → Spells bytes b → a ≡ b
   pub fault : (bytes : List ℕ) (a b : ElementFault) → ElementFaultOf bytes a → ElementFaultOf bytes b → a ≡ b
   pub not_both : (bytes : List ℕ) (e : Element) (f : ElementFault) → Spells bytes e → ElementFaultOf bytes f → ⊥
   pub world : (bytes : List ℕ) (a b : Result World WorldFault) → ReadsWorld bytes a → ReadsWorld bytes b → a ≡ b
+  pub plan : (world : World) (limits : Limits) (before : List DriverState) → IsValidWorld world → (after other : List DriverState) (planned again : PlanEnd) →
+      IsPlan world limits before after planned → IsPlan world limits before other again → (planned ≡ again) × (after ≡ other)
 
 -- the same bytes read as one tree, or have one fault
 one_tree : OneReading → (main : Option (List ℕ)) (bytes : List ℕ) (a b : Result Tree TreeFault) → TreeReads main bytes a → TreeReads main bytes b → a ≡ b
@@ -69,6 +89,28 @@ one_print : OneReading → (print : Print) (main : Option (List ℕ)) (tree : Li
 one_print one print main tree x y p q =
     one_if (is_too_long tree) x y (too_long file.Tree) _ _ p q (λ p1 q1. p1.2 ∙ ap (print_output print) (one_tree one main tree p1.0 q1.0 p1.1 q1.1) ∙ sym q1.2)
 
+one_planned : OneReading → (world : World) (limits : Limits) (drivers : List DriverState) (x y : Output) → IsPlanned world limits drivers x → IsPlanned world limits drivers y → x ≡ y
+one_planned one world limits drivers x y p q =
+    let same = one.plan world limits drivers p.valid p.after q.after p.planned q.planned p.run q.run in
+    p.is ∙ ap (λ (planned : PlanEnd). plan_output planned p.after) same.0 ∙ ap (plan_output q.planned) same.1 ∙ sym q.is
+
+one_plan_or : OneReading → (refused : Option Output) (world : World) (limits : Limits) (drivers : List DriverState) (x y : Output) → PlannedOr refused world limits drivers x → PlannedOr refused world limits drivers y → x ≡ y
+one_plan_or one None world limits drivers x y p q = one_planned one world limits drivers x y p q
+one_plan_or one (Some refused) world limits drivers x y p q = p ∙ sym q
+
+one_read_plan : OneReading → (described : Result World WorldFault) (limits : Limits) (drivers : List DriverState) (x y : Output) → ReadPlans described limits drivers x → ReadPlans described limits drivers y → x ≡ y
+one_read_plan one (Ok world) limits drivers x y p q = one_plan_or one (refusal_for world.goals (first_unserved drivers world.rows)) world limits drivers x y p q
+one_read_plan one (Err fault) limits drivers x y p q = p ∙ sym q
+
+one_plan : OneReading → (limits : Limits) (world : List ℕ) (drivers : List DriverState) (x y : Output) → PlanGives limits world drivers x → PlanGives limits world drivers y → x ≡ y
+one_plan one limits world drivers x y p q =
+    one_if (is_too_long world) x y (too_long file.World) _ _ p q (λ p1 q1.
+    one_read_plan one q1.0 limits drivers x y (subst (λ (r : Result World WorldFault). ReadPlans r limits drivers x) (one.world world p1.0 q1.0 p1.1 q1.1) p1.2) q1.2)
+
+-- the limits of a plan
+abbrev limits_of : ℕ → ℕ → ℕ → Limits
+limits_of expand ticks period = record { expand = expand; ticks = ticks; period = period }
+
 -- the files of a command have one output
 one_files : OneReading → (c : Command) (tree world : List ℕ) (moments : Moments) (drivers : List DriverState) (x y : Output) → FilesGive c tree world moments drivers x → FilesGive c tree world moments drivers y → x ≡ y
 one_files one (Tick t w main) tree world moments drivers x y p q = one_run one main tree world (given course.Script moments drivers) x y p q
@@ -76,6 +118,7 @@ one_files one (Live t w rounds main) tree world moments drivers x y p q = one_ru
 one_files one (Load leaves) tree world moments drivers x y p q = one_run one None (tree_text leaves) (world_text leaves) (given (course.Load leaves) moments drivers) x y p q
 one_files one (Check t main) tree world moments drivers x y p q = one_print one print.Whole main tree x y p q
 one_files one (Dead t main) tree world moments drivers x y p q = one_print one print.Dead main tree x y p q
+one_files one (Plan w expand ticks period) tree world moments drivers x y p q = one_plan one (limits_of expand ticks period) world drivers x y p q
 
 -- nothing was written for want of memory
 nothing_gave : (o : Output) (result : Exit) (a b : Side) → result ≡ exit.Memory → b.written ≡ a.written → Gave o result a b
@@ -89,6 +132,7 @@ whole_given o exit.Words a b i p = p
 whole_given o exit.Tree a b i p = p
 whole_given o exit.World a b i p = p
 whole_given o exit.Fault a b i p = p
+whole_given o exit.NoPlan a b i p = p
 whole_given o exit.Read a b i p = absurd i
 whole_given o exit.Write a b i p = absurd i
 whole_given o exit.Memory a b i p = absurd i
@@ -100,6 +144,7 @@ whole_or_memory o exit.Words a b n p = inr p
 whole_or_memory o exit.Tree a b n p = inr p
 whole_or_memory o exit.World a b n p = inr p
 whole_or_memory o exit.Fault a b n p = inr p
+whole_or_memory o exit.NoPlan a b n p = inr p
 whole_or_memory o exit.Read a b n p = inr p
 whole_or_memory o exit.Write a b n p = absurd (n p.0)
 whole_or_memory o exit.Memory a b n p = inl refl
@@ -118,6 +163,7 @@ files_told h (Live t w rounds main) tree world moments drivers o is_tree is_worl
 files_told h (Load leaves) tree world moments drivers o is_tree is_world p = p
 files_told h (Check t main) tree world moments drivers o is_tree is_world p = subst (λ (z : List ℕ). PrintGives print.Whole main z o) (sym is_tree) p
 files_told h (Dead t main) tree world moments drivers o is_tree is_world p = subst (λ (z : List ℕ). PrintGives print.Dead main z o) (sym is_tree) p
+files_told h (Plan w expand ticks period) tree world moments drivers o is_tree is_world p = subst (λ (z : List ℕ). PlanGives (limits_of expand ticks period) z drivers o) (sym is_world) p
 
 -- ---- Moments
 
@@ -139,6 +185,7 @@ needed (Live t w rounds main) tree world result a b (Some told) x = subst (λ (m
 needed (Load leaves) tree world result a b clock x = x.holds
 needed (Check t main) tree world result a b clock x = x.holds
 needed (Dead t main) tree world result a b clock x = x.holds
+needed (Plan w expand ticks period) tree world result a b clock x = x.holds
 
 -- ---- Clauses
 
@@ -210,6 +257,7 @@ IsOfFiles exit.Done = Unit {0}
 IsOfFiles exit.Tree = Unit {0}
 IsOfFiles exit.World = Unit {0}
 IsOfFiles exit.Fault = Unit {0}
+IsOfFiles exit.NoPlan = Unit {0}
 IsOfFiles _ = ⊥
 
 same_exit : (o z : Output) → o ≡ z → IsOfFiles z.exit → IsOfFiles o.exit
@@ -248,12 +296,33 @@ exit_of_print : (print : Print) (main : Option (List ℕ)) (tree : List ℕ) (o 
 exit_of_print print main tree o p =
     exit_of_long (is_too_long tree) o (too_long file.Tree) _ tt p (λ p1. same_exit o (print_output print p1.0) p1.2 (exit_of_printed print p1.0))
 
+exit_of_end_of_plan : (end : End) → IsOfFiles (plan_exit end)
+exit_of_end_of_plan (Reached tree tick) = tt
+exit_of_end_of_plan (NoTemplate failed) = tt
+exit_of_end_of_plan (NoOrder action condition) = tt
+exit_of_end_of_plan (Expansions n) = tt
+exit_of_end_of_plan (StillRunning ticks) = tt
+exit_of_end_of_plan (Faulted uid cause) = tt
+
+exit_of_plan_or : (goals : List ℕ) (lack : Option JoinFault) (world : World) (limits : Limits) (drivers : List DriverState) (o : Output) → PlannedOr (refusal_for goals lack) world limits drivers o → IsOfFiles o.exit
+exit_of_plan_or [] lack world limits drivers o p = same_exit o no_goal p tt
+exit_of_plan_or (goal ∷ goals) (Some fault) world limits drivers o p = same_exit o (join_refused fault) p tt
+exit_of_plan_or (goal ∷ goals) None world limits drivers o p = same_exit o (plan_output p.planned p.after) p.is (exit_of_end_of_plan p.planned.end)
+
+exit_of_read_plan : (described : Result World WorldFault) (limits : Limits) (drivers : List DriverState) (o : Output) → ReadPlans described limits drivers o → IsOfFiles o.exit
+exit_of_read_plan (Ok world) limits drivers o p = exit_of_plan_or world.goals (first_unserved drivers world.rows) world limits drivers o p
+exit_of_read_plan (Err fault) limits drivers o p = same_exit o (world_refused fault) p tt
+
+exit_of_plan : (limits : Limits) (world : List ℕ) (drivers : List DriverState) (o : Output) → PlanGives limits world drivers o → IsOfFiles o.exit
+exit_of_plan limits world drivers o p = exit_of_long (is_too_long world) o (too_long file.World) _ tt p (λ p1. exit_of_read_plan p1.0 limits drivers o p1.2)
+
 exit_of_files : (c : Command) (tree world : List ℕ) (moments : Moments) (drivers : List DriverState) (o : Output) → FilesGive c tree world moments drivers o → IsOfFiles o.exit
 exit_of_files (Tick t w main) tree world moments drivers o p = exit_of_run main tree world (given course.Script moments drivers) o p
 exit_of_files (Live t w rounds main) tree world moments drivers o p = exit_of_run main tree world (given (course.Rounds rounds) moments drivers) o p
 exit_of_files (Load leaves) tree world moments drivers o p = exit_of_run None (tree_text leaves) (world_text leaves) (given (course.Load leaves) moments drivers) o p
 exit_of_files (Check t main) tree world moments drivers o p = exit_of_print print.Whole main tree o p
 exit_of_files (Dead t main) tree world moments drivers o p = exit_of_print print.Dead main tree o p
+exit_of_files (Plan w expand ticks period) tree world moments drivers o p = exit_of_plan (limits_of expand ticks period) world drivers o p
 
 -- the bytes of the answer are those that the shelf tells
 told_files : (h : List ℕ → List ℕ) (c : Command) (tree world : List ℕ) (moments : Moments) (drivers : List DriverState) (o : Output) → ToldIfNamed (Some h) (tree_name c) (λ file. tree ≡ file) → ToldIfNamed (Some h) (world_name c) (λ file. world ≡ file)
@@ -265,6 +334,7 @@ told_files h (Live t w rounds main) tree world moments drivers o is_tree is_worl
 told_files h (Load leaves) tree world moments drivers o is_tree is_world p = p
 told_files h (Check t main) tree world moments drivers o is_tree is_world p = subst (λ (z : List ℕ). PrintGives print.Whole main z o) is_tree p
 told_files h (Dead t main) tree world moments drivers o is_tree is_world p = subst (λ (z : List ℕ). PrintGives print.Dead main z o) is_tree p
+told_files h (Plan w expand ticks period) tree world moments drivers o is_tree is_world p = subst (λ (z : List ℕ). PlanGives (limits_of expand ticks period) z drivers o) is_world p
 
 -- no tree was run where a file was not read
 unread_left : (f : File) (a b : Side) → DriversLeft (unread f).drivers a.drivers b.drivers → AreUncalled a.drivers b.drivers
@@ -333,6 +403,71 @@ module _ (c : Command) (result : Exit) (shelf : Type 0) (IsUnread : File → Typ
   write_clause holds (inl r) is = write_gave (unread r.1) result a b is r.3
   write_clause holds (inr f) is = write_answered f.tree f.world f.answers.moments is f.answers.holds
 
+-- ---- Plans
+
+-- a plan that ends at the goals reaches them, and a valid tree without SubTree nodes is printed so that it reads as itself
+pub record PlanLaws : Type 0 where
+  pub reach : (world : World) (limits : Limits) (planned : PlanEnd) (trials : List Trial) (last : Trial) → PlanRun world limits planned trials last → IsReached world limits planned.end
+  pub read : (tree : Tree) → IsValid tree → scope_count tree.term ≡ 0 → (f : Element) × Spells (concat (tree_lines tree)) f × (manifest_in f ≡ Ok []) × (reads [] None f ≡ Ok tree)
+
+-- a plan was given whole, with Done
+module _ (laws : PlanLaws) (limits : Limits) (holds : Option (List ℕ → List ℕ)) (name : List ℕ) (a b : Side) where
+  reads_back : (tree : Tree) → IsValid tree → scope_count tree.term ≡ 0 → TreeReads None (concat (tree_lines tree)) (Ok tree)
+  reads_back tree valid alone =
+      let r = laws.read tree valid alone in
+      inl (r.0, r.1, sym (ap (with_models None r.0) r.2 ∙ ap built r.3))
+
+  abbrev Reaches : Type 0
+  Reaches = PlanReaches holds name limits.period a b
+
+  -- its end reaches the goals
+  by_end : (script : List ℕ) (world : World) (steps : List Step) (end : End) → ToldIfNamed holds (Some name) (λ bytes. script ≡ bytes) → ReadsWorld script (Ok world) → IsReached world limits end → StandsAlone end
+      → plan_exit end ≡ exit.Done → Appended a.written b.written (concat (map step_line steps) ++ (end_line no_names end ++ concat (reached_lines end))) → Reaches
+  by_end script world steps (Reached tree tick) told described reached alone done written = record {
+    file = script;
+    told = told;
+    world = world;
+    described = described;
+    steps = steps;
+    tree = tree;
+    tick = tick;
+    printed = written;
+    reads_back = reads_back tree alone.0 alone.1;
+    reached = reached;
+  }
+  by_end script world steps (NoTemplate failed) told described reached alone done written = cc
+  by_end script world steps (NoOrder action condition) told described reached alone done written = cc
+  by_end script world steps (Expansions n) told described reached alone done written = cc
+  by_end script world steps (StillRunning ticks) told described reached alone done written = cc
+  by_end script world steps (Faulted uid cause) told described reached alone done written = cc
+
+  by_plan : (goals : List ℕ) (lack : Option JoinFault) (script : List ℕ) (world : World) (o : Output) → ToldIfNamed holds (Some name) (λ bytes. script ≡ bytes) → ReadsWorld script (Ok world)
+      → PlannedOr (refusal_for goals lack) world limits a.drivers o → o.exit ≡ exit.Done → Appended a.written b.written o.bytes → Reaches
+  by_plan [] lack script world o told described p done written = let e : exit.World ≡ exit.Done = sym (ap (λ (z : Output). z.exit) p) ∙ done in cc
+  by_plan (goal ∷ goals) (Some fault) script world o told described p done written = let e : exit.World ≡ exit.Done = sym (ap (λ (z : Output). z.exit) p) ∙ done in cc
+  by_plan (goal ∷ goals) None script world o told described p done written =
+      by_end script world p.planned.steps p.planned.end told described (laws.reach world limits p.planned p.run.trials p.run.last p.run.run) p.alone
+      (sym (ap (λ (z : Output). z.exit) p.is) ∙ done) (subst (λ (z : Output). Appended a.written b.written z.bytes) p.is written)
+
+  by_world : (described : Result World WorldFault) (script : List ℕ) (o : Output) → ToldIfNamed holds (Some name) (λ bytes. script ≡ bytes) → ReadsWorld script described → ReadPlans described limits a.drivers o
+      → o.exit ≡ exit.Done → Appended a.written b.written o.bytes → Reaches
+  by_world (Ok world) script o told described p done written = by_plan world.goals (first_unserved a.drivers world.rows) script world o told described p done written
+  by_world (Err fault) script o told described p done written = let e : exit.World ≡ exit.Done = sym (ap (λ (z : Output). z.exit) p) ∙ done in cc
+
+  by_length : (long : Bool) (script : List ℕ) (o : Output) → ToldIfNamed holds (Some name) (λ bytes. script ≡ bytes)
+      → MatchBool long (o ≡ too_long file.World) ((described : Result World WorldFault) × ReadsWorld script described × ReadPlans described limits a.drivers o)
+      → o.exit ≡ exit.Done → Appended a.written b.written o.bytes → Reaches
+  by_length true script o told p done written = let e : exit.World ≡ exit.Done = sym (ap (λ (z : Output). z.exit) p) ∙ done in cc
+  by_length false script o told p done written = by_world p.0 script o told p.1 p.2 done written
+
+  by_answer : (script : List ℕ) (moments : Moments) → ToldIfNamed holds (Some name) (λ bytes. script ≡ bytes) → Answers (PlanGives limits script a.drivers) exit.Done a b → Reaches
+  by_answer script moments told (inl x) = by_length (is_too_long script) script x.0 told x.1 x.2.0 x.2.1
+  by_answer script moments told (inr y) = let e : exit.Done ≡ exit.Memory = y.0 in cc
+
+  pub reached_of : (shelf : Type 0) (IsUnread : File → Type 0) → ReadFailed shelf IsUnread exit.Done a b ⊎ FilesAnswered holds None (Some name) (Plans limits) exit.Done a b → Reaches
+  reached_of shelf IsUnread (inl r) = absurd (not_given r.1 (subst IsGiven (sym r.3.0) tt))
+  reached_of shelf IsUnread (inr f) = by_answer f.world f.answers.moments f.is_world f.answers.holds
+
 -- ---- Words
 
 -- the clauses of words, be they a command or none
@@ -348,6 +483,18 @@ module _ (holds : Option (List ℕ → List ℕ)) (result : Exit) (shelf : Type 
   pub complete_of : OneReading → (command : Option Command) → CommandAnswered command holds shelf IsUnread result a b → EachOutput holds command a (λ o. (shelf → ⊥) → (Rose a.faults b.faults → ⊥) → (result ≡ exit.Memory) ⊎ IsWhole o result a b)
   complete_of one None gave = none_complete result shelf IsUnread a b gave holds
   complete_of one (Some c) answered = complete_clause one c result shelf IsUnread a b holds answered
+
+  planned_done : PlanLaws → (command : Option Command) → CommandAnswered command holds shelf IsUnread exit.Done a b → ReachesIfPlan command holds a b
+  planned_done laws None answered = tt
+  planned_done laws (Some (Tick t w main)) answered = tt
+  planned_done laws (Some (Live t w rounds main)) answered = tt
+  planned_done laws (Some (Load leaves)) answered = tt
+  planned_done laws (Some (Check t main)) answered = tt
+  planned_done laws (Some (Dead t main)) answered = tt
+  planned_done laws (Some (Plan w expand ticks period)) answered = reached_of laws (limits_of expand ticks period) holds w a b shelf IsUnread answered
+
+  pub planned_of : PlanLaws → (command : Option Command) → CommandAnswered command holds shelf IsUnread result a b → result ≡ exit.Done → ReachesIfPlan command holds a b
+  planned_of laws command answered is = planned_done laws command (subst (λ (e : Exit). CommandAnswered command holds shelf IsUnread e a b) is answered)
 
   pub read_of : (command : Option Command) → CommandAnswered command holds shelf IsUnread result a b → result ≡ exit.Read → shelf × UnreadLine IsUnread a b
   read_of None gave is = none_read result shelf IsUnread a b gave is

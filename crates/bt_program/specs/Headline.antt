@@ -1,10 +1,22 @@
 -- What `bt` says of its answer.
-use Rattle.std.specs.Prelude.{ℕ, List, Option, Some, None}
-use Rattle.bt_output.specs.Answers.{AreUncalled, IfTold, IsWhole, Side, no_moments}
-use Rattle.bt_output.specs.Output.{CommandGives, Output, unread}
+use Rattle.std.specs.Prelude.{ℕ, ◌≡◌, List, ◌++◌, map, Option, Some, None, Result, Ok}
+use Rattle.std.specs.List.{concat}
+use Rattle.bt_model.specs.declared.term.Tree.{Tree}
+use Rattle.bt_model.specs.declared.world.World.{World}
+use Rattle.bt_model.specs.PrintedTree.{tree_lines}
+use Rattle.bt_model.specs.WorldFile.{ReadsWorld}
+use Rattle.bt_output.specs.TreeFiles.{TreeReads}
+use Rattle.bt_plan.specs.declared.ending.End.TheVariants.{Reached}
+use Rattle.bt_plan.specs.declared.ending.Step.{Step}
+use Rattle.bt_plan.specs.Lines.{end_line, step_line}
+use Rattle.bt_plan.specs.Modelled.{ReachedAt}
+use Rattle.bt_text.specs.Names.{no_names}
+use Rattle.bt_output.specs.Answers.{AreUncalled, IfTold, IsWhole, Side, ToldIfNamed, no_moments}
+use Rattle.bt_output.specs.Jobs.{CommandGives}
+use Rattle.bt_output.specs.Output.{Output, unread}
 use Rattle.bt_command_line.specs.declared.exit.Exit.{Exit}
 use Rattle.bt_command_line.specs.declared.exit.Exit.TheVariants as exit
-use Rattle.bt_command_line.specs.Words.{Command, Live}
+use Rattle.bt_command_line.specs.Words.{Command, Live, Plan}
 use Rattle.bt_output.specs.declared.refusal.File.{File}
 use Rattle.bt_outside.specs.Appending.{Appended}
 use Rattle.bt_outside.specs.Moments.{Moments}
@@ -15,6 +27,27 @@ IsGiven exit.Read = ⊥
 IsGiven exit.Write = ⊥
 IsGiven exit.Memory = ⊥
 IsGiven _ = Unit {0}
+
+-- The goals of the world that this file describes are reached by a tree. What was written are some steps, the tick that
+-- reaches them and the tree; the bytes of the tree read as the tree; and in its own run, ticked once each period, every goal
+-- is true after this tick, and not all are true after any earlier one.
+pub record PlanReaches (holds : Option (List ℕ → List ℕ)) (named : List ℕ) (period : ℕ) (old new : Side) : Type 0 where
+  pub file : List ℕ
+  pub told : ToldIfNamed holds (Some named) (λ bytes. file ≡ bytes)
+  pub world : World
+  pub described : ReadsWorld file (Ok world)
+  pub steps : List Step
+  pub tree : Tree
+  pub tick : ℕ
+  pub printed : Appended old.written new.written
+      (concat (map step_line steps) ++ (end_line no_names (Reached tree tick) ++ concat (tree_lines tree)))
+  pub reads_back : TreeReads None (concat (tree_lines tree)) (Ok tree)
+  pub reached : ReachedAt tree world period tick
+
+-- where the command is a plan, its goals are reached
+abbrev pub ReachesIfPlan : Option Command → Option (List ℕ → List ℕ) → Side → Side → Type 0
+ReachesIfPlan (Some (Plan world expand ticks period)) holds old new = PlanReaches holds world period old new
+ReachesIfPlan _ holds old new = Unit {0}
 
 -- what has to be told of a clock for the output of a command: its moments for `live`, and nothing for others
 abbrev pub moments_for : Option Command → Option Moments → Option Moments

@@ -3,7 +3,7 @@ ghost use Rattle.bt_output.specs.Answers.{CommandAnswered, Gave, IsWhole, ReadFa
 ghost use Rattle.bt_output.specs.Output.{words_refused};
 ghost use Rattle.bt_output.specs.Reads.{WordsUnread};
 ghost use Rattle.bt_loop.specs.Steps.{IsSameRoster};
-ghost use Rattle.bt_program.specs.Headline.{EachOutput, IsGiven, UnreadLine, WholeOutput};
+ghost use Rattle.bt_program.specs.Headline.{EachOutput, IsGiven, ReachesIfPlan, UnreadLine, WholeOutput};
 ghost use Rattle.bt_model.specs.Drivers.{NothingHeld};
 ghost use Rattle.bt_outside.specs.Counts.{Rose};
 ghost use Rattle.bt_command_line.specs.Words.{command_of};
@@ -14,6 +14,8 @@ use bt_driver::Driver;
 use bt_elements::{element_or_fault, one_element};
 use bt_output::run_words;
 use bt_outside::{Clock, Shelf, Sink};
+use bt_plan::laws::{plans_reach, plans_run_one_way};
+use bt_round_trip::printed_trees_read_back;
 use bt_script::Name;
 use bt_world::laws::worlds_read_one_way;
 use std::alloc::Global;
@@ -37,7 +39,7 @@ pub fn bt<S: Shelf, K: Sink, C: Clock>(
         (side (K.written out.old) (K.faults out.old) (C.moments clock.old) (map (λ b. state b) roster.old.items))
         (side (K.written out.new) (K.faults out.new) (C.moments clock.new) (map (λ b. state b) roster.new.items)) }
 
-    // At Done, Words, Tree, World and Fault the whole output of the definition was written, this is
+    // At Done, Words, Tree, World, Fault and NoPlan the whole output of the definition was written, this is
     // its exit, and the drivers are those after its run; where no tree was run, none was called. The
     // clock was asked once a round by a run by the clock that is done, and by no other command.
     ensures whole { IsGiven result → WholeOutput (S.holds shelf.old) (command_of words.now) result
@@ -72,6 +74,12 @@ pub fn bt<S: Shelf, K: Sink, C: Clock>(
         ¬ Rose (S.faults shelf.old) (S.faults shelf.new) → ¬ Rose old.faults new.faults
         → (result ≡ Exit.Memory) ⊎ IsWhole o result old new) }
 
+    // Where a plan is Done, the tree that was written reads as a tree that makes every goal true after
+    // the tick that was written, in its own run, and not all of them after any earlier one.
+    ensures planned { result ≡ Exit.Done → ReachesIfPlan (command_of words.now) (S.holds shelf.old)
+        (side (K.written out.old) (K.faults out.old) (C.moments clock.old) (map (λ b. state b) roster.old.items))
+        (side (K.written out.new) (K.faults out.new) (C.moments clock.new) (map (λ b. state b) roster.new.items)) }
+
     // Whatever the answer, no driver holds anything, and the roster is the same: as many drivers, of
     // the same kinds and marks in the same places, and no total has fallen.
     ensures none { NothingHeld (map (λ b. state b) roster.new.items) }
@@ -83,6 +91,9 @@ pub fn bt<S: Shelf, K: Sink, C: Clock>(
     one_element();
     element_or_fault();
     worlds_read_one_way();
+    plans_run_one_way();
+    plans_reach();
+    printed_trees_read_back();
     let mut boxes = Boxes {
         drivers: mem::replace(roster, Vec::new(alloc)),
     };

@@ -1,4 +1,5 @@
 pub mod Labels
+pub mod Names
 pub mod Notes
 pub mod Stops
 pub mod Tails

@@ -4,6 +4,7 @@ ghost use Rattle.bt_model.specs.declared.term.Term.{out-Term};
 ghost use Rattle.bt_model.specs.Boards.{slot_table};
 ghost use Rattle.bt_model.specs.Leaves.{row_of};
 ghost use Rattle.bt_model.specs.Lines.{cell_at, cell_words, fact_name, fact_names, input_name, inputs_of, line_names, own_inputs};
+ghost use Rattle.bt_text.specs.Names.{no_names};
 
 use crate::label::{Label, Labels, labels_to};
 use crate::put::{put_bytes, put_number};
@@ -169,6 +170,19 @@ pub fn names_of(alloc: Global, tree: &Tree, world: &World, slots: &Slots) -> Res
         facts,
         cells,
         inputs,
+        labels,
+    })
+}
+
+/// No names at all, for a cause that needs none. The error is want of memory.
+pub fn no_names(alloc: Global) -> Result<Names, NoMemory>
+    ensures { IfOk result (λ names. names ≡ no_names) }
+{
+    let labels = labels_to(alloc, 0)?;
+    Ok(Names {
+        facts: Vec::new(alloc),
+        cells: Vec::new(alloc),
+        inputs: Vec::new(alloc),
         labels,
     })
 }

@@ -26,7 +26,7 @@ use Rattle.bt_model.specs.Moves.{Fits as FitsMoves, GoesOn, after, after_resets,
 use Rattle.bt_model.specs.Sites.{View, child_of, children_of, remembered}
 use Rattle.bt_model.specs.Steps.{Child, Rule, child_at, keep, reset, resets, visit, visit_or_pass}
 use Rattle.bt_model.specs.Sound.{Dated, fault_of}
-use Rattle.bt_model.specs.Trees.{NodeFits}
+use Rattle.bt_model.specs.Trees.{NodeRuns}
 use Rattle.bt_model.specs.Visit.{ended, meaning}
 use Rattle.bt_arena.specs.declared.nodes.Kept.{Kept}
 use Rattle.bt_arena.specs.declared.nodes.Node.{Node}
@@ -69,7 +69,7 @@ module _ {term : Term} {view : View} {uid : ℕ} {nodes : List Node} {s : Scene}
   pub size_is : (node_at nodes uid).size ≡ (meaning term).size
   size_is = (opened term nodes view uid fits.stands).1.size ∙ sym (size_out term)
 
-  pub node_fits : NodeFits (written (out-Term term))
+  pub node_fits : NodeRuns (written (out-Term term))
   unfolding IsFit
   node_fits = (opened term nodes view uid fits.stands).1.fit
 

@@ -8,7 +8,7 @@ ghost use Rattle.bt_model.specs.declared.term.Term.{Term};
 ghost use Rattle.bt_model.specs.Done.{Done};
 ghost use Rattle.bt_model.specs.Sites.{View};
 ghost use Rattle.bt_model.specs.Terms.{depth_of, work_of};
-ghost use Rattle.bt_model.specs.Trees.{NodeFits, nodes_of};
+ghost use Rattle.bt_model.specs.Trees.{NodeRuns, nodes_of};
 ghost use Rattle.bt_arena.specs.Ends.{Meets, StaysFit};
 ghost use Rattle.bt_arena.specs.Nodes.{kept_at};
 ghost use Rattle.bt_arena.specs.Scenes.{Scene, scene};
@@ -170,7 +170,7 @@ pub fn tick<D: Drivers>(
         CanVisit arena.old.nodes.items now term view 1 (scene arena.new.kept.items board.new facts.new (D.states drivers.new))) }
     // The drivers have no more calls of `start` and `running` than the work of the tree counts.
     ensures work { (term : Term) (view : View) → CanVisit arena.old.nodes.items now term view 1 (scene arena.old.kept.items board.old facts.old (D.states drivers.old)) →
-        AllByRecursion NodeFits (nodes_of term) → begun_by (D.states drivers.new) ≤ begun_by (D.states drivers.old) + work_of term }
+        AllByRecursion NodeRuns (nodes_of term) → begun_by (D.states drivers.new) ≤ begun_by (D.states drivers.old) + work_of term }
     ensures nodes { arena.new.nodes ≡ arena.old.nodes }
     ensures runner { arena.new.runner ≡ arena.old.runner }
     // The room for the visits that are under way does not shrink. Where it is as much as the tree

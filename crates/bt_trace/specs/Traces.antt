@@ -6,7 +6,7 @@ use Rattle.bt_model.specs.declared.world.Event.{Event}
 use Rattle.bt_model.specs.declared.world.World.{World}
 use Rattle.bt_model.specs.Drivers.{DriverState, NothingHeld}
 use Rattle.bt_model.specs.Run.{RunState, Trace, run_from}
-use Rattle.bt_model.specs.Trees.{IsValid}
+use Rattle.bt_model.specs.Trees.{IsRunnable}
 use Rattle.bt_model.specs.Worlds.{IsValidWorld}
 use Rattle.bt_outside.specs.Appending.{AppendedPrefix}
 use Rattle.bt_text.specs.declared.stop.TextStop.{TextStop}
@@ -32,9 +32,9 @@ abbrev pub last_moment : ℕ → List Event → ℕ
 last_moment last [] = last
 last_moment last (event ∷ events) = last_moment event.at events
 
--- runs of a valid tree in a valid world, which hold nothing
+-- runs of a tree that can be run, in a valid world, which hold nothing
 pub record CanRun (of : Setup) (drivers : List DriverState) (runs : Runs) : Type 0 where
-  pub is_valid : IsValid of.tree
+  pub is_runnable : IsRunnable of.tree
   pub is_valid_world : IsValidWorld of.world
   pub are : AreRuns of.tree of.world drivers runs
   pub none : NothingHeld drivers

@@ -4,7 +4,7 @@ use Rattle.bt_command_line.proofs.words.are_options.Given as goal
 
 -- what the options that are left say is what all say
 abbrev pub invariant-loop-rest : goal.invariant-loop-rest
-invariant-loop-rest l = are_options (is_option l.ticks) l.rest ≡ are_options (is_option l.ticks) l.options
+invariant-loop-rest l = are_options (is_option l.options) l.rest ≡ are_options (is_option l.options) l.words
 
 abbrev pub decreases-loop-rest : goal.decreases-loop-rest
 decreases-loop-rest l = length l.rest

@@ -1,0 +1,125 @@
+//! The calls of the modelled runs of a plan, as its drivers count them, and the drivers that a plan needs.
+
+ghost use Rattle.std.specs.Prelude.{map};
+ghost use Rattle.bt_model.specs.Drivers.{NothingHeld};
+
+use bt_driver::Driver;
+use bt_leaves::Conditions;
+use bt_outside::{MemClock, MemSink};
+use bt_program::add_driver;
+use bt_script::NoMemory;
+use bt_stage::{answer, answer_with, shelf_of_rows};
+use std::alloc::Global;
+use std::test::Fail;
+
+/// The exit of a plan, what its drivers have counted, and whether they hold anything.
+fn counted(alloc: Global, words: &[&str], lines: &str) -> Result<String, NoMemory> {
+    let mut shelf = shelf_of_rows(alloc, "", lines)?;
+    let mut sink = MemSink::new(alloc, Vec::new(alloc));
+    let mut clock = MemClock::new(Vec::new(alloc));
+    let ending = answer(alloc, words, &mut shelf, &mut sink, &mut clock)?;
+    Ok(format!(in alloc; "{:?}{}", ending.exit, ending.counts)?)
+}
+
+/// One action leads to the goal, and takes a while.
+const TIMED: &str = "fact x 0 / condition G is x == 1 / action A timed 100 / sets x = 1 / goal G";
+
+/// Words, the lines of a world, and the counts.
+static COUNTED: [(&[&str], &str, &str); 4] = [
+    (
+        &["plan", "W"],
+        TIMED,
+        "Done; Condition 3 0 0 trail 1000007000013; Timed 1 1 0 trail 1000005",
+    ),
+    // What still runs after the last tick is halted.
+    (
+        &["plan", "W", "--ticks", "1"],
+        TIMED,
+        "NoPlan; Condition 2 0 0 trail 1000004; Timed 1 0 1 trail 1000006",
+    ),
+    (
+        &["plan", "W"],
+        "fact x 0 / condition G is x == 1 / goal G",
+        "NoPlan; Condition 1 0 0 trail 1",
+    ),
+    // Nothing runs without a goal.
+    (&["plan", "W"], "fact x 0 / condition G is x == 1", "World"),
+];
+
+/// Plans, with the counts of each driver that was called: those of all modelled runs, each of which
+/// begins anew.
+#[test]
+fn drivers_count_the_calls_of_modelled_runs(rt: HostRuntime) -> Result<(), Fail> {
+    let rows = &COUNTED;
+    for (words, lines, want) in rows {
+        let counts = counted(rt.alloc(), words, lines)?;
+        assert_eq!(rt; counts.as_str(), *want, "{words:?} {lines}");
+    }
+    Ok(())
+}
+
+/// What a plan writes with these drivers, and its exit after it.
+fn planned_with(
+    alloc: Global,
+    lines: &str,
+    roster: &mut Vec<Box<dyn Driver>>,
+) -> Result<String, NoMemory>
+    requires { NothingHeld (map (λ b. state b) roster.old.items) }
+{
+    let mut shelf = shelf_of_rows(alloc, "", lines)?;
+    let mut sink = MemSink::new(alloc, Vec::new(alloc));
+    let exit = answer_with(alloc, &["plan", "W"], &mut shelf, &mut sink, roster)?;
+    let text = str::from_utf8(sink.list()).unwrap_or("?");
+    Ok(format!(in alloc; "{text}{exit:?}")?)
+}
+
+/// What a plan writes without drivers, and its exit after it.
+fn without_drivers(alloc: Global, lines: &str) -> Result<String, NoMemory> {
+    let mut roster: Vec<Box<dyn Driver>> = Vec::new(alloc);
+    planned_with(alloc, lines, &mut roster)
+}
+
+/// What a plan writes with a driver of conditions alone, and its exit after it.
+fn with_conditions(alloc: Global, lines: &str) -> Result<String, NoMemory> {
+    let mut roster: Vec<Box<dyn Driver>> = Vec::new(alloc);
+    add_driver(&mut roster, Box::new(alloc, Conditions::new(alloc))?)?;
+    planned_with(alloc, lines, &mut roster)
+}
+
+/// Worlds with a row whose kind has no driver: the first one in the script is named, whether or not
+/// the plan would need it. A goal is asked for before.
+#[test]
+fn plans_need_their_drivers(rt: HostRuntime) -> Result<(), Fail> {
+    let alloc = rt.alloc();
+    for (lines, without, with) in [
+        (
+            "condition C when 1 / action T timed 0 / action G gate 1 / goal C",
+            "refused world NoDriver Condition\nWorld",
+            "refused world NoDriver Timed\nWorld",
+        ),
+        (
+            "action G gate 1 / action T timed 0 / condition C when 1 / goal C",
+            "refused world NoDriver Gate\nWorld",
+            "refused world NoDriver Gate\nWorld",
+        ),
+        (
+            "condition C when 1 / action R replay 0 S / goal C",
+            "refused world NoDriver Condition\nWorld",
+            "refused world NoDriver Replay\nWorld",
+        ),
+        (
+            "condition C when 0 / goal C",
+            "refused world NoDriver Condition\nWorld",
+            "<!-- no plan NoTemplate C -->\nNoPlan",
+        ),
+        (
+            "condition C when 1 / action T timed 0",
+            "refused world NoGoal\nWorld",
+            "refused world NoGoal\nWorld",
+        ),
+    ] {
+        assert_eq!(rt; without_drivers(alloc, lines)?.as_str(), without, "{lines}");
+        assert_eq!(rt; with_conditions(alloc, lines)?.as_str(), with, "{lines}");
+    }
+    Ok(())
+}

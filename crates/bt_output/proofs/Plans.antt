@@ -1,0 +1,204 @@
+-- What a command gives that plans.
+use Rattle.std.proofs.Common.{◌≡◌, ◌≢◌, ◌∙◌, ◌==◌, ℕ, ◌<◌, ◌≤◌, Bool, true, false, List, [], ◌∷◌, inl, inr, Option, Some, None, length, refl, sym, ap, subst, arith, Result, Ok, Err}
+use Rattle.std.specs.Prelude.{MatchOption}
+use Rattle.std.specs.List.{All}
+use Rattle.std.proofs.lemmas.Bool.Decides.{nat_tests}
+use Rattle.std.proofs.lemmas.List.Elements.{All-cons, All-nil}
+use Rattle.std.specs.Option.{option_or}
+use Rattle.bt_arena.specs.declared.join_fault.JoinFault.{JoinFault}
+use Rattle.bt_arena.specs.declared.join_fault.JoinFault.TheVariants as join
+use Rattle.bt_arena.specs.Joins.{lacks_driver}
+use Rattle.bt_command_line.specs.declared.exit.Exit.{Exit}
+use Rattle.bt_command_line.specs.declared.exit.Exit.TheVariants as exit
+use Rattle.bt_model.specs.declared.leaf.DriverKind.{DriverKind}
+use Rattle.bt_model.specs.declared.world.Row.{Row}
+use Rattle.bt_model.specs.declared.world.World.{World}
+use Rattle.bt_model.specs.declared.world_fault.WorldFault.{WorldFault}
+use Rattle.bt_model.specs.Drivers.{DriverState, kind_of_row, place_of_kind}
+use Rattle.bt_model.specs.Limits.{most_file_bytes}
+use Rattle.bt_model.specs.WorldFile.{ReadsWorld}
+use Rattle.bt_model.specs.Worlds.{IsValidWorld}
+use Rattle.bt_outside.specs.Appending.{Appended}
+use Rattle.bt_outside.specs.Counts.{Rose}
+use Rattle.bt_outside.specs.Files.{Told}
+use Rattle.bt_outside.specs.Moments.{Moments}
+use Rattle.bt_output.specs.declared.refusal.File.{File}
+use Rattle.bt_output.specs.declared.refusal.File.TheVariants as file
+use Rattle.bt_output.specs.declared.refusal.Refusal.{Refusal}
+use Rattle.bt_output.specs.declared.refusal.Refusal.TheVariants as refusal
+use Rattle.bt_output.specs.Answers.{Gave, IsSpoken, IsWhole, PlanPrinted, Side, side}
+use Rattle.bt_output.specs.Ends.{CommandEnds, Ends, EndsAt, FilesEnd}
+use Rattle.bt_output.specs.Output.{Output, join_refused, no_goal, refused_as, stopped_as, too_long, world_refused}
+use Rattle.bt_output.specs.Plans.{IsPlanned, PlanGives, PlannedOr, Plans, ReadPlans, WorldPlans, first_unserved, plan_bytes, plan_exit, plan_output, refusal_for}
+use Rattle.bt_output.specs.Reads.{IsUnread, Reading, Unread, WasRead}
+use Rattle.bt_output.proofs.Files.{at_any, at_more, ends_more, long_is, match_false, match_true, out_of_memory, refused_ends, short_is, still}
+use Rattle.bt_plan.specs.Answers.{IsPlan, StandsAlone}
+use Rattle.bt_plan.specs.declared.ending.End.{End}
+use Rattle.bt_plan.specs.declared.ending.End.TheVariants.{Reached, NoTemplate, NoOrder, Expansions, StillRunning, Faulted}
+use Rattle.bt_plan.specs.declared.ending.Limits.{Limits}
+use Rattle.bt_plan.specs.declared.ending.PlanEnd.{PlanEnd}
+use Rattle.bt_script.specs.declared.stop.Stop.{Stop}
+use Rattle.bt_script.specs.declared.stop.Stop.TheVariants as stop
+use Rattle.bt_world.specs.Readings.{Gives}
+
+-- ---- Rows that are served
+
+lacks_none : (place : Option ℕ) (kind : DriverKind) → lacks_driver place kind ≡ None → place ≢ None
+lacks_none (Some place) kind e = λ none. cc
+lacks_none None kind e = λ none. cc
+
+or_left : (a b : Option JoinFault) → option_or a b ≡ None → a ≡ None
+or_left None b e = refl
+or_left (Some fault) b e = cc
+
+or_right : (a b : Option JoinFault) → option_or a b ≡ None → b ≡ None
+or_right None b e = e
+or_right (Some fault) b e = cc
+
+abbrev IsServed : List DriverState → Row → Type 0
+IsServed drivers row = place_of_kind drivers (kind_of_row row) ≢ None
+
+-- where no row lacks a driver, all are served
+pub all_served : (drivers : List DriverState) (rows : List Row) → first_unserved drivers rows ≡ None → All (λ (row : Row). place_of_kind drivers (kind_of_row row) ≢ None) rows
+all_served drivers [] e = All-nil (IsServed drivers)
+all_served drivers (row ∷ rows) e =
+    let here = or_left (lacks_driver (place_of_kind drivers (kind_of_row row)) (kind_of_row row)) (first_unserved drivers rows) e in
+    let later = or_right (lacks_driver (place_of_kind drivers (kind_of_row row)) (kind_of_row row)) (first_unserved drivers rows) e in
+    All-cons (IsServed drivers) row rows (lacks_none (place_of_kind drivers (kind_of_row row)) (kind_of_row row) here) (all_served drivers rows later)
+
+-- ---- Goals
+
+pub goals_none : (goals : List ℕ) → (length goals == 0) ≡ true → goals ≡ []
+goals_none [] e = refl
+goals_none (goal ∷ goals) e = let none : length (goal ∷ goals) ≡ 0 = grind (arith, nat_tests) in absurd (omega (arith, none))
+
+pub goals_some : (goals : List ℕ) → (length goals == 0) ≡ false → goals ≢ []
+goals_some [] e = λ none. cc
+goals_some (goal ∷ goals) e = λ none. cc
+
+-- ---- Lines
+
+gave_spoken : (o : Output) (result : Exit) (a b : Side) → IsSpoken result → IsWhole o result a b → Gave o result a b
+gave_spoken o exit.Done a b spoken p = p
+gave_spoken o exit.Words a b spoken p = p
+gave_spoken o exit.Tree a b spoken p = p
+gave_spoken o exit.World a b spoken p = p
+gave_spoken o exit.Fault a b spoken p = p
+gave_spoken o exit.NoPlan a b spoken p = p
+gave_spoken o exit.Read a b spoken p = p
+gave_spoken o exit.Write a b spoken p = absurd spoken
+gave_spoken o exit.Memory a b spoken p = absurd spoken
+
+end_spoken : (end : End) → IsSpoken (plan_exit end)
+end_spoken (Reached tree tick) = tt
+end_spoken (NoTemplate failed) = tt
+end_spoken (NoOrder action condition) = tt
+end_spoken (Expansions n) = tt
+end_spoken (StillRunning ticks) = tt
+end_spoken (Faulted uid cause) = tt
+
+-- all lines of a plan were written
+pub plan_printed : (planned : PlanEnd) (written : Option (List ℕ)) (faults : ℕ) (written_after : Option (List ℕ)) (faults_after : ℕ) → Appended written written_after (plan_bytes planned)
+    → PlanPrinted planned (plan_exit planned.end) written faults written_after faults_after
+plan_printed planned written faults written_after faults_after appended =
+    λ clock old after. gave_spoken (plan_output planned after) (plan_exit planned.end) (side written faults clock old) (side written_after faults_after clock after) (end_spoken planned.end)
+    (refl, appended, refl, refl)
+
+-- ---- Worlds
+
+-- the output of a plan for these goals, where this is lacking
+abbrev Planned : List ℕ → Option JoinFault → World → Limits → List DriverState → Output → Type 0
+Planned goals lack world limits drivers output = PlannedOr (refusal_for goals lack) world limits drivers output
+
+no_goals : (world : World) (limits : Limits) (drivers : List DriverState) → world.goals ≡ [] → WorldPlans world limits drivers no_goal
+no_goals world limits drivers none =
+    subst (λ (goals : List ℕ). Planned goals (first_unserved drivers world.rows) world limits drivers no_goal) (sym none) refl
+
+-- a world without a goal is refused
+pub goal_lacks : (world : World) (limits : Limits) (a : Side) → world.goals ≡ [] → EndsAt (λ moments. WorldPlans world limits) (Err refusal.NoGoal) a a
+goal_lacks world limits a none = refused_ends (λ moments. WorldPlans world limits) refusal.NoGoal a (λ moments. no_goals world limits a.drivers none)
+
+some_goals : (goals : List ℕ) (world : World) (limits : Limits) (drivers : List DriverState) (fault : JoinFault) → goals ≢ [] → Planned goals (Some fault) world limits drivers (join_refused fault)
+some_goals [] world limits drivers fault some = absurd (some refl)
+some_goals (goal ∷ goals) world limits drivers fault some = refl
+
+-- a row lacks a driver
+pub driver_lacks : (world : World) (limits : Limits) (a : Side) (kind : DriverKind) → world.goals ≢ [] → first_unserved a.drivers world.rows ≡ Some (join.NoDriver kind)
+    → EndsAt (λ moments. WorldPlans world limits) (Err (refusal.Join (join.NoDriver kind))) a a
+driver_lacks world limits a kind some lack = refused_ends (λ moments. WorldPlans world limits) (refusal.Join (join.NoDriver kind)) a
+    (λ moments. subst (λ (l : Option JoinFault). Planned world.goals l world limits a.drivers (join_refused (join.NoDriver kind))) (sym lack)
+    (some_goals world.goals world limits a.drivers (join.NoDriver kind) some))
+
+planned_goals : (goals : List ℕ) (world : World) (limits : Limits) (drivers : List DriverState) (output : Output) → goals ≢ [] → IsPlanned world limits drivers output → Planned goals None world limits drivers output
+planned_goals [] world limits drivers output some is = absurd (some refl)
+planned_goals (goal ∷ goals) world limits drivers output some is = is
+
+-- a plan was printed
+pub plan_ends : (world : World) (limits : Limits) (a : Side) (after : List DriverState) (planned : PlanEnd) (exit : Exit) (written : Option (List ℕ)) (faults : ℕ) → world.goals ≢ [] → first_unserved a.drivers world.rows ≡ None
+    → IsValidWorld world → IsPlan world limits a.drivers after planned → StandsAlone planned.end → PlanPrinted planned exit a.written a.faults written faults → EndsAt (λ moments. WorldPlans world limits) (Ok exit) a (side written faults a.clock after)
+plan_ends world limits a after planned exit written faults some lack valid run alone printed =
+    at_any a.clock (λ moments. Ends (WorldPlans world limits a.drivers) (Ok exit) a (side written faults a.clock after))
+    (λ moments. inl (
+      plan_output planned after,
+      subst (λ (l : Option JoinFault). Planned world.goals l world limits a.drivers (plan_output planned after)) (sym lack)
+          (planned_goals world.goals world limits a.drivers (plan_output planned after) some (record { planned = planned; after = after; valid = valid; run = run; alone = alone; is = refl })),
+      printed a.clock a.drivers after,
+    ))
+
+-- memory ran out in a plan
+pub plan_stopped : (world : World) (limits : Limits) (a : Side) (after : List DriverState) → EndsAt (λ moments. WorldPlans world limits) (Ok exit.Memory) a (side a.written a.faults a.clock after)
+plan_stopped world limits a after =
+    at_any a.clock (λ moments. Ends (WorldPlans world limits a.drivers) (Ok exit.Memory) a (side a.written a.faults a.clock after)) (λ moments. inr (refl, refl))
+
+-- ---- Bytes
+
+-- the bytes of a world file that is not too long
+module _ (limits : Limits) (world : List ℕ) (short : length world ≤ most_file_bytes) where
+  plan_gives : (described : Result World WorldFault) (drivers : List DriverState) (o : Output) → ReadsWorld world described → ReadPlans described limits drivers o → PlanGives limits world drivers o
+  plan_gives described drivers o reads plans = match_false _ _ _ (short_is world short) (described, reads, plans)
+
+  -- the script could not be parsed
+  pub script_stopped : (stopped : Stop WorldFault) (a : Side) → (let r : Result World (Stop WorldFault) = Err stopped in Gives r (ReadsWorld world))
+      → EndsAt (λ moments. PlanGives limits world) (Err (stopped_as refusal.World stopped)) a a
+  script_stopped (stop.Fault f) a described =
+      refused_ends (λ moments. PlanGives limits world) (refusal.World f) a (λ moments. plan_gives (Err f) a.drivers (world_refused f) described refl)
+  script_stopped stop.NoMemory a described = refused_ends (λ moments. PlanGives limits world) refusal.NoMemory a (λ moments. tt)
+
+  -- it was parsed
+  pub script_parsed : (w : World) (result : Result Exit Refusal) (a b : Side) → ReadsWorld world (Ok w) → EndsAt (λ moments. WorldPlans w limits) result a b → EndsAt (λ moments. PlanGives limits world) result a b
+  script_parsed w result a b described ends =
+      at_more a.clock (λ moments. Ends (WorldPlans w limits a.drivers) result a b) (λ moments. Ends (PlanGives limits world a.drivers) result a b)
+      (λ moments. ends_more (WorldPlans w limits a.drivers) (PlanGives limits world a.drivers)
+      (λ o is. plan_gives (Ok w) a.drivers o described is) result a b) ends
+
+-- ---- Files
+
+-- the world script is the one file of a plan
+module _ {Shelf : Type 0} (read_gives : Reading Shelf) (faults : Shelf → ℕ) (holds : Option (List ℕ → List ℕ)) (world : List ℕ) (limits : Limits) where
+  abbrev Ended : Shelf → Shelf → Result Exit Refusal → Side → Side → Type 0
+  Ended old new result a b =
+      CommandEnds (Rose (faults old) (faults new)) (Unread read_gives holds None (Some world) old new) (FilesEnd holds None (Some world) (Plans limits)) result a b
+
+  -- it was not read
+  pub script_unread : (old new : Shelf) (r : Refusal) (a : Side) → IsUnread read_gives faults holds file.World world r old new → Ended old new (Err r) a a
+  script_unread old new (refusal.Unread which) a u =
+      inl (u.1, subst (λ (f : File). Unread read_gives holds None (Some world) old new f) (sym u.0) u.2, still a)
+  script_unread old new (refusal.TooLong which) a u = inr (record {
+    tree = [];
+    world = u.1.bytes;
+    is_tree = tt;
+    is_world = u.1.told;
+    answers = refused_ends (Plans limits [] u.1.bytes) (refusal.TooLong which) a
+        (λ moments. subst (λ (f : File). Plans limits [] u.1.bytes moments a.drivers (too_long f)) (sym u.0) (match_true _ _ _ (long_is u.1.bytes u.1.long) refl));
+  })
+  script_unread old new refusal.NoMemory a u = inr (out_of_memory holds None (Some world) (Plans limits) a)
+  script_unread old new refusal.Words a u = absurd u
+  script_unread old new (refusal.Tree f) a u = absurd u
+  script_unread old new (refusal.World f) a u = absurd u
+  script_unread old new (refusal.Join f) a u = absurd u
+  script_unread old new refusal.NoGoal a u = absurd u
+
+  -- it was read
+  pub script_read : (bytes : List ℕ) (old between new : Shelf) (result : Result Exit Refusal) (a b : Side) → WasRead read_gives holds world bytes old between
+      → EndsAt (λ moments. PlanGives limits bytes) result a b → Ended old new result a b
+  script_read bytes old between new result a b read ends = inr (record { tree = []; world = bytes; is_tree = tt; is_world = read.told; answers = ends })

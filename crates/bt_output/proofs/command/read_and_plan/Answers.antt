@@ -1,0 +1,13 @@
+use Rattle.std.proofs.lemmas.Result.{err_from_is_err_and}
+use Rattle.bt_output.proofs.Plans.{script_read, script_unread}
+use Rattle.bt_output.proofs.command.read_and_plan.Goals as goal
+
+pub returns-in_err-bytes-clause-ends : goal.returns-in_err-bytes-clause-ends
+returns-in_err-bytes-clause-ends g c =
+    let p = err_from_is_err_and c.from_residual.result c.from_residual.ensures.1 in
+    rw (p.1, p.2) (script_unread g.S.Shelf.read_gives g.S.Shelf.faults (g.S.Shelf.holds c.args.outside.now.shelf.now) c.args.world.now c.args.limits.now _ _ c.in_err-bytes.field-0.0 _ c.in_err-bytes.ensures.unread)
+
+pub returns-clause-ends : goal.returns-clause-ends
+returns-clause-ends g c =
+    let read = c.in_ok-bytes.ensures.read in
+    script_read g.S.Shelf.read_gives g.S.Shelf.faults (g.S.Shelf.holds c.args.outside.now.shelf.now) c.args.world.now c.args.limits.now _ _ _ _ _ _ _ read (rw c.as_slice.ensures.value at c.plan_file.ensures.ends)
