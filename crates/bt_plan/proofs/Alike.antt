@@ -52,13 +52,6 @@ module _ (P : ℕ → ℕ → Type 0) where
   paired_as Q each Empty (Tree other second under others) p = absurd p
   paired_as Q each (Tree key part below rest) Empty p = absurd p
 
-  -- the other way round
-  pub paired_back : (Q : ℕ → ℕ → Type 0) → ((key other : ℕ) → P key other → Q other key) → (f g : Forest) → Paired P f g → Paired Q g f
-  paired_back Q each Empty Empty p = tt
-  paired_back Q each (Tree key part below rest) (Tree other second under others) (holds, is, lower, later) = (each key other holds, sym is, paired_back Q each below under lower, paired_back Q each rest others later)
-  paired_back Q each Empty (Tree other second under others) p = absurd p
-  paired_back Q each (Tree key part below rest) Empty p = absurd p
-
   pub paired_both : (Q : ℕ → ℕ → Type 0) (f g : Forest) → Paired P f g → Paired Q f g → Paired (λ key other. P key other × Q key other) f g
   paired_both Q Empty Empty p q = tt
   paired_both Q (Tree key part below rest) (Tree other second under others) (holds, is, lower, later) (more, same, deeper, further) =
@@ -68,9 +61,6 @@ module _ (P : ℕ → ℕ → Type 0) where
 
 pub marks_alike : (k j : ℕ) (f g : Forest) → Marks k j f g → Alike f g
 marks_alike k j = paired_alike (λ key other. (key == k) ≡ (other == j))
-
-pub marks_back : (k j : ℕ) (f g : Forest) → Marks k j f g → Marks j k g f
-marks_back k j = paired_back (λ key other. (key == k) ≡ (other == j)) (λ key other. (key == j) ≡ (other == k)) (λ key other same. sym same)
 
 pub alike_back : (f g : Forest) → Alike f g → Alike g f
 alike_back Empty Empty a = tt
