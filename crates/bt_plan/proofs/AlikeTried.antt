@@ -59,14 +59,14 @@ module _ (world : World) (limits : Limits) where
     pub again : IsTried world limits u
 
   -- how a run came out: by its last verdict, or by a fault
-  abbrev pub outcome_by : Option RunFault → Option Verdict → Option Verdict
+  abbrev outcome_by : Option RunFault → Option Verdict → Option Verdict
   outcome_by (Some fault) verdict = None
   outcome_by None verdict = verdict
 
-  abbrev pub outcome : Trial → Option Verdict
+  abbrev outcome : Trial → Option Verdict
   outcome t = outcome_by (run_of world limits t).fault (verdict_after (tree_of world.rows t.tree) world limits.period t.before)
 
-  abbrev pub says : End → Option Verdict
+  abbrev says : End → Option Verdict
   says (Reached tree tick) = Some Reaches
   says (NoTemplate names) = Some Fails
   says (Expansions n) = Some Fails
@@ -77,7 +77,7 @@ module _ (world : World) (limits : Limits) where
   decides_outcome : (t : Trial) (v : Verdict) → Decides world limits t v → outcome t ≡ Some v
   decides_outcome t v d = ap (λ (o : Option RunFault). outcome_by o (verdict_after (tree_of world.rows t.tree) world limits.period t.before)) d.unbroken ∙ d.last
 
-  pub ends_outcome : (added : ℕ) (t : Trial) (end : End) → Ends world limits added t end → outcome t ≡ says end
+  ends_outcome : (added : ℕ) (t : Trial) (end : End) → Ends world limits added t end → outcome t ≡ says end
   ends_outcome added t (Reached tree tick) ends = decides_outcome t Reaches ends.0
   ends_outcome added t (NoTemplate names) ends = decides_outcome t Fails ends.decides
   ends_outcome added t (Expansions n) ends = decides_outcome t Fails ends.0.decides
@@ -99,7 +99,7 @@ module _ (world : World) (limits : Limits) where
     runs_equal : run_of world limits t ≡ run_of world limits u
     runs_equal = equal_by (λ (x : Planned) (n : ℕ). modelled_run x world limits.period (n + 1))
 
-    pub outcomes_equal : outcome t ≡ outcome u
+    outcomes_equal : outcome t ≡ outcome u
     outcomes_equal = equal_by (λ (x : Planned) (n : ℕ). outcome_by (modelled_run x world limits.period (n + 1)).fault (verdict_after x world limits.period n))
 
     notes_equal : last_notes world limits t ≡ last_notes world limits u
@@ -198,7 +198,7 @@ module _ (world : World) (limits : Limits) where
         let condition_same : condition ≡ tested = is.condition_is ∙ names_equal is.pair.1 stuck.pair.1 is.after stuck.after stalled.condition ∙ sym stuck.condition_is in
         cc (action_same, condition_same)
 
-    pub ends_equal : (added : ℕ) (end other : End) → Ends world limits added t end → Ends world limits added u other → says end ≡ says other → end ≡ other
+    ends_equal : (added : ℕ) (end other : End) → Ends world limits added t end → Ends world limits added u other → says end ≡ says other → end ≡ other
     ends_equal added (Reached tree tick) (Reached second tock) ends again e =
         let one : tree ≡ second = ends.1 ∙ trees_equal ∙ sym again.1 in
         let two : tick ≡ tock = ends.2 ∙ ap (λ (n : ℕ). n + 1) befores_equal ∙ sym again.2 in
@@ -228,3 +228,6 @@ module _ (world : World) (limits : Limits) where
         let one = some_same (run_of world limits u).fault (record { runner = 1; uid = uid; cause = cause }) (record { runner = 1; uid = other; cause = why }) (sym (ap (λ (r : Trace). r.fault) runs_equal) ∙ ends) again in
         ap (λ (f : RunFault). Faulted f.uid f.cause) one
     ends_equal added (Faulted uid cause) _ ends again e = absurd (cc e)
+
+    pub ends_alike : (added : ℕ) (end other : End) → Ends world limits added t end → Ends world limits added u other → end ≡ other
+    ends_alike added end other ends again = ends_equal added end other ends again (sym (ends_outcome added t end ends) ∙ outcomes_equal ∙ ends_outcome added u other again)

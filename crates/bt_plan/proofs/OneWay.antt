@@ -12,7 +12,7 @@ use Rattle.bt_plan.specs.Answers.{IsPlan, drivers_after}
 use Rattle.bt_plan.specs.PlanRuns.{Ends, IsFirst, IsTried, Lead, PlanRun, Trial}
 use Rattle.bt_plan.proofs.Alike.{Same, same_back}
 use Rattle.bt_plan.proofs.AlikeGrown.{goals_same}
-use Rattle.bt_plan.proofs.AlikeTried.{TriedAlike, drivers_equal, ends_equal, ends_outcome, outcomes_equal, step_or_end, stepped_alike}
+use Rattle.bt_plan.proofs.AlikeTried.{TriedAlike, drivers_equal, ends_alike, step_or_end, stepped_alike}
 
 plan_same : (planned again : PlanEnd) → planned.steps ≡ again.steps → planned.end ≡ again.end → planned ≡ again
 plan_same planned again steps end = ap {B = PlanEnd} (λ (l : List Step). record planned { steps = l }) steps ∙ ap {B = PlanEnd} (λ (e : End). record again { end = e }) end
@@ -24,7 +24,7 @@ module _ (world : World) (limits : Limits) where
     tried : IsTried world limits last
     ends : Ends world limits (added + length steps) last end
 
-  record GoAlike (trials others : List Trial) (steps more : List Step) (last final : Trial) (end other : End) : Type 0 where
+  record GoesAlike (trials others : List Trial) (steps more : List Step) (last final : Trial) (end other : End) : Type 0 where
     steps_are : steps ≡ more
     end_is : end ≡ other
     drivers : (ds : List DriverState) → drivers_after world limits (trials ++ last ∷ []) ds ≡ drivers_after world limits (others ++ final ∷ []) ds
@@ -37,12 +37,12 @@ module _ (world : World) (limits : Limits) where
   }
 
   go_alike : (trials others : List Trial) (steps more : List Step) (added : ℕ) (f g : Forest) (last final : Trial) (end other : End) → Same f g →
-      Goes added f trials steps last end → Goes added g others more final other → GoAlike trials others steps more last final end other
+      Goes added f trials steps last end → Goes added g others more final other → GoesAlike trials others steps more last final end other
   go_alike [] [] [] [] added f g last final end other same p q =
       let a = tried_alike f g last final same (sym p.lead) (sym q.lead) p.tried q.tried in
       record {
         steps_are = refl;
-        end_is = ends_equal world limits last final a (added + 0) end other p.ends q.ends (sym (ends_outcome world limits (added + 0) last end p.ends) ∙ outcomes_equal world limits last final a ∙ ends_outcome world limits (added + 0) final other q.ends);
+        end_is = ends_alike world limits last final a (added + 0) end other p.ends q.ends;
         drivers = drivers_equal world limits last final a;
       }
   go_alike [] (u ∷ others) [] (z ∷ more) added f g last final end other same p q =
