@@ -1,6 +1,5 @@
 use Rattle.std.proofs.Common.{◌≡◌, ◌∙◌, Some, Ok, Err, refl, sym, subst, arith}
 use Rattle.bt_script.specs.declared.stop.Stop.TheVariants as stop
-use Rattle.bt_model.proofs.Runnable.{runnable}
 use Rattle.bt_plan.specs.declared.ending.End.{End}
 use Rattle.bt_plan.specs.declared.ending.End.TheVariants.{Faulted}
 use Rattle.bt_plan.specs.PlanRuns.{Trial}
@@ -16,9 +15,6 @@ tree_of-requires g c =
     let few = c.requires.1.1.1.1.1.1 in
     let most = c.requires.1.1.0.limits.expand in
     (tree.0, tree.1, omega (arith, many, few, most))
-
-pub run_tree-requires-clause-tree : goal.run_tree-requires-clause-tree
-run_tree-requires-clause-tree g c = runnable c.in_ok-tree.tree c.in_ok-tree.ensures.valid
 
 pub returns-in-Err-Fault-clause-goes : goal.returns-in-Err-Fault-clause-goes
 returns-in-Err-Fault-clause-goes g c = λ f st.
