@@ -115,6 +115,19 @@ impl Output {
         self.used += rest.len();
     }
 
+    /// Appends so many blanks.
+    pub fn blanks(&mut self, count: usize) {
+        let mut rest = count;
+        while rest > ROOM - self.used {
+            rest -= ROOM - self.used;
+            self.buffer[self.used..].fill(b' ');
+            self.used = ROOM;
+            self.flush();
+        }
+        self.buffer[self.used..self.used + rest].fill(b' ');
+        self.used += rest;
+    }
+
     /// Appends a text.
     pub fn text(&mut self, text: &str) {
         self.bytes(text.as_bytes());

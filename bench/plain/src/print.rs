@@ -32,7 +32,7 @@ fn node(tree: &Tree, element: u32, indent: usize, out: &mut Output) {
         Kind::Leaf if is_reserved(spec.id) || !is_identifier(spec.id.as_bytes()) => ("Action", false),
         _ => (spec.id, true),
     };
-    blanks(out, indent);
+    out.blanks(indent);
     out.text("<");
     out.text(name);
     if !tells_id {
@@ -75,7 +75,7 @@ fn node(tree: &Tree, element: u32, indent: usize, out: &mut Output) {
     for child in tree.elements.children(element) {
         node(tree, child, indent + 2, out);
     }
-    blanks(out, indent);
+    out.blanks(indent);
     out.text("</");
     out.text(name);
     out.text(">\n");
@@ -147,20 +147,10 @@ fn sequence(tree: &PlanTree, world: &World, at: u32, indent: usize, out: &mut Ou
 }
 
 fn line(out: &mut Output, indent: usize, before: &[u8], name: &[u8], after: &[u8]) {
-    blanks(out, indent);
+    out.blanks(indent);
     out.bytes(before);
     out.bytes(name);
     out.bytes(after);
-}
-
-fn blanks(out: &mut Output, count: usize) {
-    const BLANKS: [u8; 64] = [b' '; 64];
-    let mut rest = count;
-    while rest > 0 {
-        let now = rest.min(BLANKS.len());
-        out.bytes(&BLANKS[..now]);
-        rest -= now;
-    }
 }
 
 fn attribute(out: &mut Output, name: &str, value: &str) {

@@ -316,7 +316,9 @@ impl<'w> Reader<'w> {
     /// A row that compares a fact, by its ID.
     fn known_test(&self, id: &[u8]) -> Answer<u32> {
         let row = *self.world.row_of.get(id).ok_or(Wrong::NoName)?;
-        must(matches!(self.world.rows[row as usize].sort, Sort::Is { .. }), Wrong::NoName)?;
+        // An action that is being read is not among the rows.
+        let compares = self.world.rows.get(row as usize).is_some_and(|it| matches!(it.sort, Sort::Is { .. }));
+        must(compares, Wrong::NoName)?;
         Ok(row)
     }
 
@@ -435,9 +437,7 @@ impl<'w> Reader<'w> {
     fn needs(&mut self, row: &mut Row<'w>, mut words: Words<'w>) -> Answer<()> {
         let id = words.last()?;
         must(is_name(id), Wrong::BadLine)?;
-        // The row itself is an action, and is no test.
-        let own = self.world.row_of.get(id).is_some_and(|&it| it as usize == self.world.rows.len());
-        let test = if own { Err(Wrong::NoName) } else { self.known_test(id) }?;
+        let test = self.known_test(id)?;
         must(!row.needs.contains(&test), Wrong::DoubleName)?;
         must(row.needs.len() < MOST_NEEDS, Wrong::TooMany)?;
         row.needs.push(test);
