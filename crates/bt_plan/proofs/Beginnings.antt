@@ -1,5 +1,5 @@
 -- The trials with which a plan run begins are alike to the first ones of the whole run.
-use Rattle.std.proofs.Common.{◌≡◌, ◌⊎◌, inl, inr, ℕ, ◌+◌, List, [], ◌∷◌, ◌++◌, length, refl, sym, ap, subst, ◌∙◌, append-nil, arith}
+use Rattle.std.proofs.Common.{◌≡◌, ◌⊎◌, inl, inr, ℕ, ◌+◌, List, [], ◌∷◌, ◌++◌, refl, sym, ap, subst, ◌∙◌, append-nil, arith}
 use Rattle.bt_model.specs.declared.world.World.{World}
 use Rattle.bt_model.specs.Drivers.{DriverState}
 use Rattle.bt_expand.specs.Forests.{Forest}
@@ -15,7 +15,7 @@ use Rattle.bt_plan.specs.declared.ending.Step.{Step}
 use Rattle.bt_plan.specs.Answers.{Begins, IsPlan, IsPlanCut, drivers_after}
 use Rattle.bt_plan.specs.Modelled.{modelled}
 use Rattle.bt_plan.specs.PlanRuns.{Ends, IsTried, Lead, Trial, run_of, tree_of}
-use Rattle.bt_plan.proofs.Alike.{Same, same_back}
+use Rattle.bt_plan.proofs.Alike.{Same}
 use Rattle.bt_plan.proofs.AlikeTried.{drivers_equal, step_or_end, stepped_alike}
 use Rattle.bt_plan.proofs.OneWay.{Goes, firsts_alike, run_goes, tried_alike}
 
