@@ -31,7 +31,7 @@ pub script_in-reads : (text : List ℕ) (s : Script) → script_in text ≡ Ok s
 unfolding script_in
 script_in-reads text s h = chosen text s (every_text text) h
 
-own_text : (text : List ℕ) (s : Script) → ReadsScript text s → ReadsScript s.text s
+pub own_text : (text : List ℕ) (s : Script) → ReadsScript text s → ReadsScript s.text s
 own_text text s h = subst (λ (t : List ℕ). ReadsScript t s) (sym h.0) h
 
 read_by : (uid : ℕ) (text : List ℕ) (o : Option Script) (r : Result Script ScriptFault) → script_in text ≡ r → or_bad_script uid r ≡ Ok o → ScriptFits o

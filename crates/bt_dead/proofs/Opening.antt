@@ -1,9 +1,8 @@
 -- A term of nodes that fit stands before its first visit, where its nodes are dead or not as its marks say.
-use Rattle.std.proofs.Common.{◌≡◌, ℕ, ◌+◌, ◌<◌, ◌≤◌, List, [], ◌∷◌, ◌++◌, length, map, slice_index_or, Bool, true, false, not, nat_lt, if◌then◌else◌, Option, Some, None, refl, sym, ap, subst, ◌∙◌, arith, flat_map}
-use Rattle.std.specs.List.{AllByRecursion, list_all}
+use Rattle.std.proofs.Common.{◌≡◌, ℕ, ◌+◌, ◌<◌, ◌≤◌, List, [], ◌∷◌, ◌++◌, length, map, slice_index_or, Bool, true, not, Option, Some, None, refl, sym, ap, subst, ◌∙◌, arith, flat_map}
+use Rattle.std.specs.List.{AllByRecursion}
 use Rattle.std.specs.Prelude.{IsTrue}
-use Rattle.std.specs.Str.{bytes_eq}
-use Rattle.std.proofs.lemmas.Bool.{and_parts, eqb-true, leb-true, ltb-true}
+use Rattle.std.proofs.lemmas.Bool.{eqb-true, leb-true}
 use Rattle.std.proofs.lemmas.List.{get_or_append_left, get_or-append-add, length-append, length-map}
 use Rattle.std.proofs.lemmas.List.Concat.{flat_map-cons}
 use Rattle.std.proofs.lemmas.List.Sums.{sum_by-cons}
@@ -16,11 +15,12 @@ use Rattle.bt_model.specs.declared.term.Kind.TheVariants.{SequenceWithMemory, Sw
 use Rattle.bt_model.specs.declared.term.Term.{Term, Term-F, fold-roll-Term}
 use Rattle.bt_model.specs.declared.term.Term.TheFolds.{map-Term}
 use Rattle.bt_model.specs.declared.world.Row.{Row}
-use Rattle.bt_model.specs.BuiltIns.{has_code, kind_among, kind_named, named_kinds, takes}
+use Rattle.bt_model.specs.BuiltIns.{has_code, takes}
 use Rattle.bt_model.specs.Sites.{Meaning, sizes}
 use Rattle.bt_model.specs.Terms.{leaf_ids, own_leaf_id}
 use Rattle.bt_model.specs.Trees.{CodeFits, IdFits, Node, NodeFits, nodes_of, nodes_step}
 use Rattle.bt_model.specs.Visit.{idle, meaning}
+use Rattle.bt_model.proofs.Runnable.{few_named}
 use Rattle.bt_dead.specs.declared.answers.Answers.{Answers}
 use Rattle.bt_dead.specs.Dead.{Outlook, marks_below, outlook, reaches_child}
 use Rattle.bt_dead.specs.Runs.{HasRow}
@@ -46,27 +46,8 @@ rows_below : (rows : List Row) (kind : Kind) (id : List ℕ) (ids : List (List �
 rows_below rows Leaf id ids all = all.1
 rows_below rows _ id ids all = all
 
--- a Switch has at most 6 cases
-abbrev has_few : Kind → Bool
-has_few (Switch cases) = nat_lt cases 7
-has_few _ = true
-
-few_among : (table : List (List ℕ × Kind)) (name : List ℕ) (kind : Kind) → kind_among table name ≡ Some kind → list_all (λ (row : List ℕ × Kind). has_few row.1) table ≡ true → has_few kind ≡ true
-few_among [] name kind is all = cc
-few_among (row ∷ table) name kind is all =
-    let parts : (has_few row.1 ≡ true) × (list_all (λ (row : List ℕ × Kind). has_few row.1) table ≡ true) = and_parts (has_few row.1) (list_all (λ (row : List ℕ × Kind). has_few row.1) table) all in
-    by (bytes_eq name row.0) parts.0 (λ e. few_among table name kind e parts.1) is
-  where
-    by : (b : Bool) → has_few row.1 ≡ true → (kind_among table name ≡ Some kind → has_few kind ≡ true) → (if b then Some row.1 else kind_among table name) ≡ Some kind → has_few kind ≡ true
-    by true here others e = let same : row.1 ≡ kind = cc in subst (λ (k : Kind). has_few k ≡ true) same here
-    by false here others e = others e
-
-few_named : (name : List ℕ) (kind : Kind) → kind_named name ≡ Some kind → has_few kind ≡ true
-unfolding named_kinds
-few_named name kind is = few_among named_kinds name kind is refl
-
 few_cases : (kind : Kind) (id : List ℕ) (children : ℕ) → IdFits kind id → IsTrue (takes kind children) → FewCases kind children
-few_cases (Switch cases) id children named few = (ltb-true cases 7 (few_named id (Switch cases) named), eqb-true children (cases + 1) few)
+few_cases (Switch cases) id children named few = let most : cases ≤ 6 = few_named (Switch cases) id named in (omega (arith, most), eqb-true children (cases + 1) few)
 few_cases SequenceWithMemory id children named few = let some : 1 ≤ children = leb-true 1 children few in omega (arith, some)
 few_cases _ id children named few = tt
 

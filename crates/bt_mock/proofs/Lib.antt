@@ -2,3 +2,5 @@ mod Eaches
 mod Replacing
 mod Texts
 mod Ordered
+mod ReadFit
+mod Runs

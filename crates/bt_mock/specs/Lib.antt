@@ -1,4 +1,5 @@
 pub mod Substitutions
 pub mod RuleFiles
+pub mod FitRules
 pub mod Seen
 pub mod Orders

@@ -1,8 +1,9 @@
-ghost use Rattle.std.specs.Prelude.{◌≡◌, [], None, Some, option_map};
+ghost use Rattle.std.specs.Prelude.{◌≡◌, [], IfOk, None, Some, option_map};
 ghost use Rattle.serde_json.specs.Find.{as_object, get_member};
 ghost use Rattle.serde_json.specs.View.{members_view, view};
 ghost use Rattle.bt_script.specs.Stops.{Gives};
 ghost use Rattle.bt_build.specs.Gives.{GivesSeen};
+ghost use Rattle.bt_mock.specs.FitRules.{RulesFit};
 ghost use Rattle.bt_mock.specs.RuleFiles.{configuration_in, delay_in, document_in, draft_in, each, json_of, members_in, object_in, rule_in, rules_in, said, status_in, status_named, text_in, value_of, with_text};
 ghost use Rattle.bt_mock.specs.Seen.{draft_seen, members_seen};
 
@@ -244,7 +245,8 @@ fn json_in(alloc: Global, bytes: &[u8]) -> Result<Value, Stop<MockFault>>
 /// the bytes of their names, then the rules by the bytes of their patterns. `NoMemory` (out of memory) where an
 /// allocation fails, here and below.
 pub fn read_rules(alloc: Global, bytes: &[u8]) -> Result<Rules, Stop<MockFault>>
-    ensures { Gives result (rules_in bytes.now) }
+    ensures gives { Gives result (rules_in bytes.now) }
+    ensures fit { IfOk result RulesFit }
 {
     let value = json_in(alloc, bytes)?;
     document_in(alloc, members_in(alloc, &value)?)

@@ -1,6 +1,8 @@
 ghost use Rattle.std.specs.Prelude.{◌≡◌, ◌++◌, IfOk, codes, map};
 ghost use Rattle.bt_script.specs.Stops.{Gives};
 ghost use Rattle.bt_model.specs.declared.term.Term.{out-Term};
+ghost use Rattle.bt_model.specs.Trees.{IsRunnable};
+ghost use Rattle.bt_mock.specs.FitRules.{RulesFit};
 ghost use Rattle.bt_mock.specs.Substitutions.{inside, replaced, substitute, with_mocks};
 
 use crate::fault::MockFault;
@@ -82,9 +84,11 @@ fn replaced(alloc: Global, rules: &Rules, term: &Term, above: &[u8]) -> Result<T
 }
 
 /// The tree with its nodes without children replaced by the rules. Its faults are the four limits of trees, of the
-/// substituted tree, in their order: `TooManyNodes`, `TooDeep`, `TooManyKeys`, `TooMuchWork`.
+/// substituted tree, in their order: `TooManyNodes`, `TooDeep`, `TooManyKeys`, `TooMuchWork`. Of a tree that can be run
+/// and rules that were read, it can be run.
 pub fn substitute(alloc: Global, tree: &Tree, rules: &Rules) -> Result<Tree, Stop<MockFault>>
-    ensures { Gives result (substitute tree.now rules.now) }
+    ensures gives { Gives result (substitute tree.now rules.now) }
+    ensures runnable { IsRunnable tree.now → RulesFit rules.now → IfOk result IsRunnable }
 {
     let term = replaced(alloc, rules, &tree.term, &[])?;
     let main = tree.main.copy(alloc)?;

@@ -3,7 +3,7 @@ ghost use Rattle.bt_loop.specs.Runs.{Setup, arenas_of};
 ghost use Rattle.bt_model.specs.Drivers.{NothingHeld};
 ghost use Rattle.bt_model.specs.Lines.{line_names};
 ghost use Rattle.bt_model.specs.Run.{opening};
-ghost use Rattle.bt_model.specs.Trees.{IsValid};
+ghost use Rattle.bt_model.specs.Trees.{IsRunnable};
 ghost use Rattle.bt_model.specs.Worlds.{IsValidWorld};
 ghost use Rattle.bt_output.specs.Answers.{AtMoments, Gave, exit_of};
 ghost use Rattle.bt_output.specs.Courses.{course_output};
@@ -122,7 +122,7 @@ pub fn join_and_run<S: Shelf, K: Sink, C: Clock, D: Drivers>(
     ghost of: { Setup }
     requires tree { tree.now ≡ of.tree }
     requires world { world.now ≡ of.world }
-    requires valid { IsValid tree.now }
+    requires runnable { IsRunnable tree.now }
     requires valid_world { IsValidWorld world.now }
     requires quiet { NothingHeld (D.states outside.old.drivers.now) }
     ensures ends { EndsAt (JoinGives of.tree of.world course) result

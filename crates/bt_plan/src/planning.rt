@@ -35,6 +35,7 @@ fn faulted(fault: &RunFault) -> End
 
 /// Runs the tree as it stands, and makes a step or ends. The error is want of memory. In the end no
 /// driver holds anything, whatever is answered.
+#[tactic(auto, using(bt_model::proofs::Runnable::runnable))]
 fn go_on<D: Drivers>(
     alloc: Global,
     world: &World,

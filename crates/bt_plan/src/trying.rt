@@ -3,7 +3,7 @@
 ghost use Rattle.std.specs.Prelude.{◌≡◌, IfOk, List};
 ghost use Rattle.bt_model.specs.Drivers.{NothingHeld};
 ghost use Rattle.bt_model.specs.Run.{RunnerCall};
-ghost use Rattle.bt_model.specs.Trees.{IsValid};
+ghost use Rattle.bt_model.specs.Trees.{IsRunnable};
 ghost use Rattle.bt_loop.specs.Runs.{Setup, arenas_of, roster_over};
 ghost use Rattle.bt_loop.specs.Served.{roster_after_run};
 ghost use Rattle.bt_loop.specs.Steps.{IsSameRoster};
@@ -41,7 +41,7 @@ fn begin<D: Drivers>(
     requires task { IsTaskOf of.world task.now }
     requires served { AreServed of.world (D.states drivers.old) }
     requires planned { IsPlannedFor of.world of.tree }
-    requires tree { IsValid of.tree }
+    requires tree { IsRunnable of.tree }
     requires quiet { NothingHeld (D.states drivers.old) }
     ensures runs { IfOk result (λ runs. IsAfter of task.now.limits.period 0 (D.states drivers.new) runs) }
     ensures prepared { let old = D.states drivers.old in
@@ -70,7 +70,7 @@ fn make_run<D: Drivers>(
 ) -> Result<Tried, Stop<RunFault>>
     ghost of: { Setup }
     requires task { IsTaskOf of.world task.now }
-    requires tree { IsValid of.tree }
+    requires tree { IsRunnable of.tree }
     requires run { IsAfter of task.now.limits.period 0 (D.states drivers.old) runs }
     requires quiet { NothingHeld (D.states drivers.old) }
     ensures ends { let old = D.states drivers.old in
@@ -99,7 +99,7 @@ pub fn run_tree<D: Drivers>(
     requires task { IsTaskOf of.world task.now }
     requires served { AreServed of.world (D.states drivers.old) }
     requires planned { IsPlannedFor of.world of.tree }
-    requires tree { IsValid of.tree }
+    requires tree { IsRunnable of.tree }
     requires quiet { NothingHeld (D.states drivers.old) }
     ensures ends { let old = D.states drivers.old in
         RunEnds result of task.now.limits (roster_after_run of.tree (modelled of.world) old) old (D.states drivers.new) }

@@ -1,0 +1,12 @@
+use Rattle.std.proofs.Common.{◌≡◌, subst}
+use Rattle.bt_script.specs.Stops.{Gives}
+use Rattle.bt_model.specs.declared.term.Tree.{Tree}
+use Rattle.bt_mock.specs.Substitutions.{with_mocks, within_limits}
+use Rattle.bt_mock.proofs.Runs.{gives_runnable}
+use Rattle.bt_mock.proofs.substituting.substitute.Goals as goal
+
+pub returns-clause-runnable : goal.returns-clause-runnable
+returns-clause-runnable c = λ can fit.
+    let mocked : record { main = c.in_ok-main.main; term = c.in_ok-term.term } ≡ with_mocks c.args.tree.now c.args.rules.now = λ i. record { main = c.in_ok-main.ensures i; term = c.in_ok-term.ensures i } in
+    gives_runnable c.args.tree.now c.args.rules.now can fit c.within_limits.result
+    (subst (λ (tree : Tree). Gives c.within_limits.result (within_limits tree)) mocked c.within_limits.ensures)
