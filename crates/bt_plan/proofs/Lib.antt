@@ -4,6 +4,7 @@ pub mod AlikeGrown
 pub mod AlikeRaised
 pub mod AlikeSettled
 pub mod AlikeTried
+pub mod Beginnings
 pub mod Conditions
 pub mod Finishing
 pub mod Growths

@@ -19,17 +19,17 @@ plan_same planned again steps end = ap {B = PlanEnd} (λ (l : List Step). record
 
 module _ (world : World) (limits : Limits) where
   -- from a tree, to which so many sequences were added, a plan run goes on so and ends
-  record Goes (added : ℕ) (tree : Forest) (trials : List Trial) (steps : List Step) (last : Trial) (end : End) : Type 0 where
-    lead : Lead world limits added tree trials steps last.tree
-    tried : IsTried world limits last
-    ends : Ends world limits (added + length steps) last end
+  pub record Goes (added : ℕ) (tree : Forest) (trials : List Trial) (steps : List Step) (last : Trial) (end : End) : Type 0 where
+    pub lead : Lead world limits added tree trials steps last.tree
+    pub tried : IsTried world limits last
+    pub ends : Ends world limits (added + length steps) last end
 
   record GoesAlike (trials others : List Trial) (steps more : List Step) (last final : Trial) (end other : End) : Type 0 where
     steps_are : steps ≡ more
     end_is : end ≡ other
     drivers : (ds : List DriverState) → drivers_after world limits (trials ++ last ∷ []) ds ≡ drivers_after world limits (others ++ final ∷ []) ds
 
-  tried_alike : (f g : Forest) (t u : Trial) → Same f g → t.tree ≡ f → u.tree ≡ g → IsTried world limits t → IsTried world limits u → TriedAlike world limits t u
+  pub tried_alike : (f g : Forest) (t u : Trial) → Same f g → t.tree ≡ f → u.tree ≡ g → IsTried world limits t → IsTried world limits u → TriedAlike world limits t u
   tried_alike f g t u same is are tried again = record {
     same = subst (λ (x : Forest). Same x u.tree) (sym is) (subst (Same f) (sym are) same);
     tried = tried;
@@ -71,12 +71,12 @@ module _ (world : World) (limits : Limits) where
   go_alike trials [] steps (z ∷ more) added f g last final end other same p q = absurd q.lead
   go_alike trials (u ∷ others) steps [] added f g last final end other same p q = absurd q.lead
 
-  firsts_alike : (f g : Forest) → IsFirst world f → IsFirst world g → Same f g
+  pub firsts_alike : (f g : Forest) → IsFirst world f → IsFirst world g → Same f g
   firsts_alike f g is other =
       subst (λ (x : Forest). Same x g) (sym is.is) (subst (Same (goal_tree is.root is.keys world.goals)) (sym other.is)
       (goals_same is.root other.root is.keys other.keys world.goals is.all other.all (subst AreApart is.is is.apart) (subst AreApart other.is other.apart)))
 
-  run_goes : (planned : PlanEnd) (trials : List Trial) (last : Trial) (run : PlanRun world limits planned trials last) → Goes 0 run.first trials planned.steps last planned.end
+  pub run_goes : (planned : PlanEnd) (trials : List Trial) (last : Trial) (run : PlanRun world limits planned trials last) → Goes 0 run.first trials planned.steps last planned.end
   run_goes planned trials last run = record { lead = run.lead; tried = run.tried; ends = subst (λ (n : ℕ). Ends world limits n last planned.end) (omega arith) run.ends }
 
   pub one_way : (before after other : List DriverState) (planned again : PlanEnd) → IsPlan world limits before after planned → IsPlan world limits before other again → (planned ≡ again) × (after ≡ other)

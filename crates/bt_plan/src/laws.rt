@@ -2,9 +2,10 @@ ghost use Rattle.std.specs.Prelude.{◌≡◌, List};
 ghost use Rattle.bt_model.specs.declared.world.World.{World};
 ghost use Rattle.bt_model.specs.Drivers.{DriverState};
 ghost use Rattle.bt_model.specs.Worlds.{IsValidWorld};
+ghost use Rattle.bt_trace.specs.Cuts.{HaveBegunWithin};
 ghost use Rattle.bt_plan.specs.declared.ending.Limits.{Limits};
 ghost use Rattle.bt_plan.specs.declared.ending.PlanEnd.{PlanEnd};
-ghost use Rattle.bt_plan.specs.Answers.{IsPlan};
+ghost use Rattle.bt_plan.specs.Answers.{IsPlan, IsPlanCut};
 ghost use Rattle.bt_plan.specs.PlanRuns.{IsReached, PlanRun, Trial};
 
 /// Where a plan run ends at the goals, its tree makes every goal true after the tick that it names,
@@ -20,4 +21,11 @@ pub fn plans_run_one_way()
     ensures { (world : World) (limits : Limits) (before : List DriverState) → IsValidWorld world →
         (after other : List DriverState) (planned again : PlanEnd) →
         IsPlan world limits before after planned → IsPlan world limits before other again → (planned ≡ again) × (after ≡ other) }
+{}
+
+/// What was begun of a plan before memory ran out is within what the plan begins: no driver was asked
+/// to start and to go on more often than by the whole plan.
+pub fn plan_cuts_begin_within()
+    ensures { (world : World) (limits : Limits) (before now after : List DriverState) (planned : PlanEnd) → IsValidWorld world →
+        IsPlanCut world limits before now → IsPlan world limits before after planned → HaveBegunWithin before now after }
 {}
