@@ -12,5 +12,5 @@ pub use bt_model::is_canonical;
 pub use exprs::numeric;
 pub use head::{Head, head_in};
 pub use lines::{content, cut, is, is_ignored, is_line, parts, trimmed, without_rest};
-pub use names::{is_name, name_of};
+pub use names::{is_name, name_of, names_of};
 pub use numbers::{int, ms, one_of};

@@ -1,0 +1,12 @@
+pub mod Bounds
+pub mod Flat
+pub mod Following
+pub mod Headers
+pub mod Marked
+pub mod Repeats
+pub mod Scans
+pub mod Short
+pub mod Soundness
+pub mod Steps
+pub mod Totals
+pub mod Writings

@@ -1,0 +1,21 @@
+use Rattle.std.proofs.Common.{◌≡◌, ℕ, List, true, length, map, ap, sym, ◌∙◌, arith}
+use Rattle.std.specs.List.{list_all}
+use Rattle.std.proofs.lemmas.List.{length-map}
+use Rattle.bt_model.specs.WorldFile.{lines_in, without_empty_rest}
+use Rattle.bt_world.proofs.Onward.{few_lines}
+use Rattle.bt_ground.specs.Sound.{is_short}
+use Rattle.bt_ground.proofs.Short.{short_lines}
+use Rattle.bt_ground.proofs.read.read_ground.Goals as goal
+
+pub ground_of-requires-clause-few : goal.ground_of-requires-clause-few
+ground_of-requires-clause-few c =
+    let lines : map (λ part. part.now) c.without_rest.result.now ≡ lines_in c.args.bytes.now =
+    c.without_rest.ensures ∙ ap without_empty_rest (ap (map (λ part. part.now)) c.as_slice.ensures.value ∙ c.in_ok-parts.ensures) in
+    let same = length-map c.without_rest.result.now (λ part. part.now) in
+    omega (arith, same, ap (λ (ls : List (List ℕ)). length ls) lines, few_lines c.args.bytes.now)
+
+pub ground_of-requires-clause-short : goal.ground_of-requires-clause-short
+ground_of-requires-clause-short c =
+    let lines : map (λ part. part.now) c.without_rest.result.now ≡ lines_in c.args.bytes.now =
+    c.without_rest.ensures ∙ ap without_empty_rest (ap (map (λ part. part.now)) c.as_slice.ensures.value ∙ c.in_ok-parts.ensures) in
+    ap (list_all is_short) lines ∙ short_lines c.args.bytes.now c.requires

@@ -1,0 +1,10 @@
+pub mod Blocks
+pub mod Flat
+pub mod GroundFile
+pub mod Making
+pub mod Readings
+pub mod Seen
+pub mod Sizes
+pub mod Sound
+pub mod Stops
+pub mod Writing
