@@ -11,7 +11,7 @@ STATUSES = ("IDLE", "RUNNING", "SUCCESS", "FAILURE")
 HEADERS = ("tick", "halt", "set", "finish")
 
 # The program that stands in where none is built. It knows the outputs of the stored files: TREE.checked, which a file of
-# version 3 needs, TREE.trace and WORLD.plan.
+# version 3 needs, TREE.trace, and WORLD.plan or, of a planned example, its tree.
 STAND_IN = """#!/bin/sh
 case "$1" in
     check)
@@ -22,8 +22,12 @@ case "$1" in
         [ -e "$trace" ] || trace=$PLANNED
         cat "$trace"
         if grep -q '^fault ' "$trace"; then exit 5; fi ;;
-    plan) cat "${2%.world}.plan" 2>/dev/null || { echo refused words; exit 2; }
-        if grep -q 'no plan' "${2%.world}.plan"; then exit 6; fi ;;
+    plan)
+        plan=${2%.world}.plan
+        [ -e "$plan" ] || plan=${2%.world}.xml
+        head -n 1 "$plan" | grep -q '^<!-- ' || { echo refused world NoGoal; exit 4; }
+        cat "$plan"
+        if grep -q 'no plan' "$plan"; then exit 6; fi ;;
 esac
 """
 

@@ -144,11 +144,13 @@ enum Memo {
     Finished(Answer),
 }
 
+/// What a leaf's driver keeps of a leaf.
 #[derive(Clone, Copy, Default)]
-struct Instance {
-    is_held: bool,
-    since: u64,
-    completions: u8,
+#[allow(missing_docs)]
+pub struct Instance {
+    pub is_held: bool,
+    pub since: u64,
+    pub completions: u8,
 }
 
 /// Values that tell which of them changed since the last block.
@@ -820,31 +822,7 @@ impl<'t, N: Notes> Turn<'t, N> {
 
     /// What the row answers. A fault leaves all as it is.
     fn call(&mut self, leaf: &Leaf, row: &Row, instance: &mut Instance, outputs: &mut [i64]) -> Result<Answer, Cause> {
-        let answer = match &row.sort {
-            Sort::Is { .. } => return Ok(Answer::Success),
-            Sort::When(test) => {
-                return Ok(if self.number(leaf, *test)? != 0 { Answer::Success } else { Answer::Failure });
-            }
-            Sort::Timed { length, .. } | Sort::Replay { length, .. } if self.now - instance.since < *length => Answer::Running,
-            Sort::Timed { fails: Some(test), .. } if self.number(leaf, *test)? != 0 => Answer::Failure,
-            Sort::Timed { .. } => Answer::Success,
-            Sort::Replay { outcomes, .. } => {
-                let letter = usize::from(instance.completions).min(outcomes.len() - 1);
-                instance.completions = (instance.completions + 1).min(64);
-                if outcomes[letter] == b'S' {
-                    Answer::Success
-                } else {
-                    Answer::Failure
-                }
-            }
-            Sort::Gate(test) => {
-                if self.number(leaf, *test)? != 0 {
-                    Answer::Success
-                } else {
-                    Answer::Running
-                }
-            }
-        };
+        let answer = ask(row, instance, self.now, |code| self.number(leaf, code))?;
         if answer == Answer::Success {
             self.complete(leaf, row, outputs)?;
         }
@@ -856,16 +834,47 @@ impl<'t, N: Notes> Turn<'t, N> {
         for ((_, code), output) in row.outputs.iter().zip(outputs) {
             *output = self.number(leaf, *code)?;
         }
-        let mut values = [0; 16];
-        for (effect, value) in row.effects.iter().zip(&mut values) {
-            let old = if effect.adds { self.facts.values[effect.fact as usize] } else { 0 };
-            *value = effect.number.checked_add(old).ok_or(Cause::Overflow)?;
-        }
+        let values = changed_facts(row, &self.facts.values)?;
         for (effect, &value) in row.effects.iter().zip(&values) {
             self.facts.put(effect.fact, value);
         }
         Ok(())
     }
+}
+
+/// What a row answers, before its completion. A condition that compares a fact is not asked so.
+#[inline]
+pub fn ask(row: &Row, instance: &mut Instance, now: u64, mut number: impl FnMut(Code) -> Result<i64, Cause>) -> Result<Answer, Cause> {
+    Ok(match &row.sort {
+        Sort::Is { .. } => Answer::Success,
+        Sort::When(test) if number(*test)? != 0 => Answer::Success,
+        Sort::When(_) => Answer::Failure,
+        Sort::Timed { length, .. } | Sort::Replay { length, .. } if now - instance.since < *length => Answer::Running,
+        Sort::Timed { fails: Some(test), .. } if number(*test)? != 0 => Answer::Failure,
+        Sort::Timed { .. } => Answer::Success,
+        Sort::Replay { outcomes, .. } => {
+            let letter = usize::from(instance.completions).min(outcomes.len() - 1);
+            instance.completions = (instance.completions + 1).min(64);
+            if outcomes[letter] == b'S' {
+                Answer::Success
+            } else {
+                Answer::Failure
+            }
+        }
+        Sort::Gate(test) if number(*test)? != 0 => Answer::Success,
+        Sort::Gate(_) => Answer::Running,
+    })
+}
+
+/// What the effects of a row make of their facts.
+#[inline]
+pub fn changed_facts(row: &Row, facts: &[i64]) -> Result<[i64; 16], Cause> {
+    let mut values = [0; 16];
+    for (effect, value) in row.effects.iter().zip(&mut values) {
+        let old = if effect.adds { facts[effect.fact as usize] } else { 0 };
+        *value = effect.number.checked_add(old).ok_or(Cause::Overflow)?;
+    }
+    Ok(values)
 }
 
 /// A text to compare.

@@ -6,12 +6,15 @@ mod elements;
 mod engine;
 mod manifest;
 mod output;
+mod plan_tree;
+mod planner;
 mod print;
 mod scan;
 mod scripts;
 mod world;
 
 use output::{Counts, Exit, Output, Refusal, Trace};
+use planner::{End, Limits};
 use std::fmt::Write;
 use std::io::Read;
 use std::process::ExitCode;
@@ -23,7 +26,16 @@ const LONGEST_FILE: u64 = 1_048_576;
 enum Command<'w> {
     Tick { tree: &'w str, world: &'w str, main: Option<&'w str> },
     Check { tree: &'w str, main: Option<&'w str> },
+    Plan { world: &'w str, limits: Limits },
     Load(u32),
+}
+
+/// The number that a word says, where it is in this range.
+fn number(word: &str, range: std::ops::RangeInclusive<i64>) -> Option<i64> {
+    match scan::canonical(word.as_bytes()) {
+        Some(scan::Canonical::Fits(number)) if range.contains(&number) => Some(number),
+        _ => None,
+    }
 }
 
 impl Command<'_> {
@@ -33,13 +45,30 @@ impl Command<'_> {
             ["tick", tree, world, "--main", main] => Command::Tick { tree, world, main: Some(main) },
             ["check", tree] => Command::Check { tree, main: None },
             ["check", tree, "--main", main] => Command::Check { tree, main: Some(main) },
-            ["load", number] => match scan::canonical(number.as_bytes()) {
-                Some(scan::Canonical::Fits(number @ 1..=1_000)) => Command::Load(number as u32),
-                _ => return None,
-            },
+            ["plan", world, ref options @ ..] => Command::Plan { world, limits: limits(options)? },
+            ["load", leaves] => Command::Load(number(leaves, 1..=1_000)? as u32),
             _ => return None,
         })
     }
+}
+
+/// What the options of a plan say, in any order, each at most once.
+fn limits(options: &[&str]) -> Option<Limits> {
+    let mut said = [None; 3];
+    for option in options.chunks(2) {
+        let &[name, value] = option else { return None };
+        let (place, range) = match name {
+            "--expand" => (0, 0..=120),
+            "--ticks" => (1, 1..=10_000),
+            "--period" => (2, 0..=1_000_000),
+            _ => return None,
+        };
+        if said[place].replace(number(value, range)?).is_some() {
+            return None;
+        }
+    }
+    let [expand, ticks, period] = said;
+    Some(Limits { expand: expand.unwrap_or(100) as u32, ticks: ticks.unwrap_or(1_000) as u32, period: period.unwrap_or(100) as u64 })
 }
 
 fn main() -> ExitCode {
@@ -70,6 +99,7 @@ fn answer(command: &Command, out: &mut Output) -> Result<Exit, Refusal> {
             tick(&tree, &world, main, out)
         }
         Command::Check { tree, main } => check(&file(tree, "tree", Exit::Tree)?, main, out),
+        Command::Plan { world, limits } => plan(&file(world, "world", Exit::World)?, limits, out),
         Command::Load(number) => load(number, out),
     }
 }
@@ -99,6 +129,20 @@ fn check(tree: &[u8], main: Option<&str>, out: &mut Output) -> Result<Exit, Refu
     let manifest = manifest::read(&elements)?;
     print::print(&build::read(&elements, &manifest, main)?, out);
     Ok(Exit::Done)
+}
+
+fn plan(world: &[u8], limits: Limits, out: &mut Output) -> Result<Exit, Refusal> {
+    let world = world::read(world)?;
+    if world.goals.is_empty() {
+        return Err(Refusal::world("NoGoal"));
+    }
+    let plan = planner::plan(&world, limits);
+    print::print_plan(&plan, &world, limits, out);
+    Ok(match plan.end {
+        End::Reached(_) => Exit::Done,
+        End::Faulted(..) => Exit::Fault,
+        _ => Exit::NoPlan,
+    })
 }
 
 /// Makes the texts of a load, reads them as any others, and counts what happens.

@@ -16,6 +16,7 @@ pub enum Exit {
     Tree = 3,
     World = 4,
     Fault = 5,
+    NoPlan = 6,
     Read = 7,
     Write = 8,
 }
@@ -54,6 +55,20 @@ pub fn quoted(text: &[u8]) -> String {
     }
     quoted.push(b'\'');
     String::from_utf8_lossy(&quoted).into_owned()
+}
+
+/// The word of a cause, without what it names.
+pub fn plain_cause(cause: Cause) -> &'static str {
+    match cause {
+        Cause::NoEntry(_) => "NoEntry",
+        Cause::NoInput(_) => "NoInput",
+        Cause::Overflow => "Overflow",
+        Cause::ZeroDivisor => "ZeroDivisor",
+        Cause::NotWhole => "NotWhole",
+        Cause::Mixed => "Mixed",
+        Cause::TextTooLong => "TextTooLong",
+        Cause::BadPort(_) => "BadPort",
+    }
 }
 
 const ROOM: usize = 1 << 16;
@@ -98,6 +113,19 @@ impl Output {
         }
         self.buffer[self.used..self.used + rest.len()].copy_from_slice(rest);
         self.used += rest.len();
+    }
+
+    /// Appends so many blanks.
+    pub fn blanks(&mut self, count: usize) {
+        let mut rest = count;
+        while rest > ROOM - self.used {
+            rest -= ROOM - self.used;
+            self.buffer[self.used..].fill(b' ');
+            self.used = ROOM;
+            self.flush();
+        }
+        self.buffer[self.used..self.used + rest].fill(b' ');
+        self.used += rest;
     }
 
     /// Appends a text.
@@ -259,12 +287,8 @@ impl Notes for Trace<'_> {
                 format!(" NoEntry {} {}\n", cell.scope, cell.key)
             }
             Cause::NoInput(place) => format!(" NoInput {}\n", String::from_utf8_lossy(self.input(node, place))),
-            Cause::Overflow => " Overflow\n".into(),
-            Cause::ZeroDivisor => " ZeroDivisor\n".into(),
-            Cause::NotWhole => " NotWhole\n".into(),
-            Cause::Mixed => " Mixed\n".into(),
-            Cause::TextTooLong => " TextTooLong\n".into(),
             Cause::BadPort(port) => format!(" BadPort {}\n", port.name()),
+            other => format!(" {}\n", plain_cause(other)),
         };
         self.out.text(&line);
     }

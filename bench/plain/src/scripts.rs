@@ -872,4 +872,29 @@ impl Comparison {
     pub fn holds(self, left: i64, right: i64) -> bool {
         self.0.holds(&left, &right)
     }
+
+    /// The numbers that compare so with this one, on the circle of all numbers: the first one, and how many come after it.
+    pub fn range(self, right: i64) -> Option<(i64, u64)> {
+        let (first, end) = match self.0 {
+            Binary::Equal => (right, right.wrapping_add(1)),
+            Binary::Differ => (right.wrapping_add(1), right),
+            Binary::Less => (i64::MIN, right),
+            Binary::AtMost => (i64::MIN, right.wrapping_add(1)),
+            Binary::More => (right.wrapping_add(1), i64::MIN),
+            _ => (right, i64::MIN),
+        };
+        // The range is empty where no number compares so, and it may hold them all.
+        let last = end.wrapping_sub(1);
+        self.holds(last, right).then_some((first, last.wrapping_sub(first) as u64))
+    }
+
+    /// Whether adding this number may make it true of a fact.
+    pub fn is_neared_by(self, number: i64) -> bool {
+        number != 0 && (matches!(self.0, Binary::Equal) || self.holds(number, 0))
+    }
+
+    /// Whether adding this number may make it false of a fact.
+    pub fn is_left_by(self, number: i64) -> bool {
+        number != 0 && (matches!(self.0, Binary::Differ) || !self.holds(number, 0))
+    }
 }

@@ -2,7 +2,7 @@
 
 use crate::build::is_reserved;
 use crate::output::Refusal;
-use crate::scan::{canonical, is_identifier, Canonical, Map, Set};
+use crate::scan::{canonical, is_identifier, Canonical, Map};
 use crate::scripts::{Code, Codes, Comparison, Form};
 
 const MOST_FACTS: usize = 1_024;
@@ -50,6 +50,8 @@ pub struct Effect {
 
 /// A row.
 pub struct Row<'w> {
+    /// Its ID.
+    pub id: &'w [u8],
     /// Its input ports.
     pub ports: Vec<&'w [u8]>,
     /// What it does.
@@ -58,7 +60,8 @@ pub struct Row<'w> {
     pub effects: Vec<Effect>,
     /// Its outputs in order.
     pub outputs: Vec<(&'w [u8], Code)>,
-    needs: Vec<u32>,
+    /// The rows that it needs, in order, each of which compares a fact.
+    pub needs: Vec<u32>,
 }
 
 /// What happens.
@@ -88,6 +91,8 @@ pub struct World<'w> {
     pub rows: Vec<Row<'w>>,
     /// The rows by their ID.
     pub row_of: Map<&'w [u8], u32>,
+    /// The rows that are goals, in order, each of which compares a fact.
+    pub goals: Vec<u32>,
     /// How many runners there are.
     pub runners: u32,
     /// The events in order.
@@ -227,7 +232,6 @@ impl Expression {
 struct Reader<'w> {
     world: World<'w>,
     fact_of: Map<&'w [u8], u32>,
-    goals: Set<u32>,
     /// Whether the line before, but for blanks and comments, was an action or belonged to one.
     is_in_action: bool,
     knows_runners: bool,
@@ -312,7 +316,9 @@ impl<'w> Reader<'w> {
     /// A row that compares a fact, by its ID.
     fn known_test(&self, id: &[u8]) -> Answer<u32> {
         let row = *self.world.row_of.get(id).ok_or(Wrong::NoName)?;
-        must(matches!(self.world.rows[row as usize].sort, Sort::Is { .. }), Wrong::NoName)?;
+        // An action that is being read is not among the rows.
+        let compares = self.world.rows.get(row as usize).is_some_and(|it| matches!(it.sort, Sort::Is { .. }));
+        must(compares, Wrong::NoName)?;
         Ok(row)
     }
 
@@ -320,9 +326,9 @@ impl<'w> Reader<'w> {
         let id = words.last()?;
         must(is_name(id), Wrong::BadLine)?;
         let row = self.known_test(id)?;
-        must(!self.goals.contains(&row), Wrong::DoubleName)?;
-        must(self.goals.len() < MOST_GOALS, Wrong::TooMany)?;
-        self.goals.insert(row);
+        must(!self.world.goals.contains(&row), Wrong::DoubleName)?;
+        must(self.world.goals.len() < MOST_GOALS, Wrong::TooMany)?;
+        self.world.goals.push(row);
         Ok(())
     }
 
@@ -400,7 +406,7 @@ impl<'w> Reader<'w> {
         must(self.world.rows.len() < MOST_ROWS && head.ports.len() <= MOST_PORTS, Wrong::TooMany)?;
         self.world.row_of.insert(head.id, self.world.rows.len() as u32);
         let (effects, outputs, needs) = Default::default();
-        self.world.rows.push(Row { ports: head.ports, sort, effects, outputs, needs });
+        self.world.rows.push(Row { id: head.id, ports: head.ports, sort, effects, outputs, needs });
         Ok(())
     }
 
@@ -431,9 +437,7 @@ impl<'w> Reader<'w> {
     fn needs(&mut self, row: &mut Row<'w>, mut words: Words<'w>) -> Answer<()> {
         let id = words.last()?;
         must(is_name(id), Wrong::BadLine)?;
-        // The row itself is an action, and is no test.
-        let own = self.world.row_of.get(id).is_some_and(|&it| it as usize == self.world.rows.len());
-        let test = if own { Err(Wrong::NoName) } else { self.known_test(id) }?;
+        let test = self.known_test(id)?;
         must(!row.needs.contains(&test), Wrong::DoubleName)?;
         must(row.needs.len() < MOST_NEEDS, Wrong::TooMany)?;
         row.needs.push(test);

@@ -62,7 +62,7 @@ static FAULTS: [(&str, &str); 49] = [
     ("bt-ground 1\nforall X s\nend\nsort s a", "NoName 2"),
     ("bt-ground 1\nfact $X", "NoName 2"),
     ("bt-ground 1\nsort s a\nforall X s\nend\n$X", "NoName 5"),
-    ("bt-ground 1\nsort s a\nforall X s\n#Y\nend", "NoName 4"),
+    ("bt-ground 1\nsort s a\nforall X s\na#Y\nend", "NoName 4"),
     // Three blocks may be open.
     (
         "bt-ground 1\nsort s a\nforall X s\nforall Y s\nforall Z s\nforall W s\nend\nend\nend\nend",

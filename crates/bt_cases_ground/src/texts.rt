@@ -37,8 +37,8 @@ static TEXTS: [(&str, &str); 13] = [
     ),
     // A variable may come again once its block is at its end, and a block may hold nothing.
     (
-        "bt-ground 1\nsort s a\nforall X s\n$X\nend\nforall X s\n#X\nend\nforall X s\nend",
-        "bt-world 1\na\n1\n",
+        "bt-ground 1\nsort s a\nforall X s\n$X\nend\nforall X s\nn#X\nend\nforall X s\nend",
+        "bt-world 1\na\nn1\n",
     ),
     // A sort may follow a block that is at its end.
     (
@@ -46,8 +46,8 @@ static TEXTS: [(&str, &str); 13] = [
         "bt-world 1\nb\n",
     ),
     (
-        "bt-ground 1\nsort s v1 v2 v3 v4 v5 v6 v7 v8 v9 v10 v11 v12 v13 v14 v15 v16\nforall X s\n#X\nend",
-        "bt-world 1\n1\n2\n3\n4\n5\n6\n7\n8\n9\n10\n11\n12\n13\n14\n15\n16\n",
+        "bt-ground 1\nsort s v1 v2 v3 v4 v5 v6 v7 v8 v9 v10 v11 v12 v13 v14 v15 v16\nforall X s\nn#X\nend",
+        "bt-world 1\nn1\nn2\nn3\nn4\nn5\nn6\nn7\nn8\nn9\nn10\nn11\nn12\nn13\nn14\nn15\nn16\n",
     ),
     (
         "bt-ground 1\nsort  s\ta  b \nforall\tX  s\n$X\n end \n",

@@ -1,12 +1,13 @@
 -- Lines that are replaced in one text are replaced one by one.
-use Rattle.std.proofs.Common.{◌≡◌, ℕ, zero, suc, ◌+◌, Bool, true, false, ◌&&◌, ◌==◌, if◌then◌else◌, List, [], ◌∷◌, ◌++◌, ◌<◌, map, length, drop, get_or, refl, sym, ◌∙◌, ap, append_assoc, arith}
+use Rattle.std.proofs.Common.{◌≡◌, ℕ, ◌+◌, Bool, true, false, ◌&&◌, ◌==◌, if◌then◌else◌, List, [], ◌∷◌, ◌++◌, ◌<◌, map, length, drop, get_or, refl, sym, ◌∙◌, ap, append_assoc, arith}
 use Rattle.std.proofs.lemmas.Bool.Decides.{nat_tests}
-use Rattle.std.specs.List.{flat_map, list_all}
+use Rattle.std.specs.List.{list_all}
 use Rattle.std.proofs.lemmas.Grind.{flat_map-append}
 use Rattle.std.proofs.lemmas.List.{drop_more, map-append}
 use Rattle.bt_script.proofs.Bools.{both}
+use Rattle.bt_ground.proofs.Marked.{both_true, if_false, right_false}
 use Rattle.bt_ground.specs.Blocks as blocks
-use Rattle.bt_ground.specs.Blocks.{AndBlock, AndLine, Body, Building, End, Forall, Item, Line, NoPart, Parts, ended, filled, filled_line, is_mark, is_variable, lines_of, nothing_built, once_each, parts_of, standing, values_at, with_item, with_items}
+use Rattle.bt_ground.specs.Blocks.{Body, Building, End, Forall, Item, Line, Parts, ended, filled, filled_line, is_mark, is_variable, lines_of, nothing_built, once_each, parts_of, standing, values_at, with_item, with_items}
 use Rattle.bt_ground.specs.Flat.{FlatLines, flat_each, flat_filled, flat_lines, flat_text, with_flat_line}
 use Rattle.bt_ground.specs.Making.{Making, made_item, nothing_made}
 use Rattle.bt_ground.specs.Sound.{is_item}
@@ -16,14 +17,6 @@ use Rattle.bt_ground.specs.declared.sort.Sort.{Sort}
 if_append : (b : Bool) (t e t' e' z : List ℕ) → t' ≡ t ++ z → e' ≡ e ++ z → (if b then t' else e') ≡ (if b then t else e) ++ z
 if_append true t e t' e' z p q = p
 if_append false t e t' e' z p q = q
-
-and_false : (a b : Bool) → b ≡ false → (a && b) ≡ false
-and_false true b h = h
-and_false false b h = refl
-
-if_false : {A : Type 0} (b : Bool) (t e : A) → b ≡ false → (if b then t else e) ≡ e
-if_false true t e h = absurd (cc)
-if_false false t e h = refl
 
 -- ---- A text with its line feed
 
@@ -35,7 +28,7 @@ module _ (x : ℕ) (value : List ℕ) (place : ℕ) (apart : (10 == x) ≡ false
   filled_feed : (text rest : List ℕ) → filled x value place (text ++ 10 ∷ rest) ≡ filled x value place text ++ 10 ∷ filled x value place rest
   filled_feed [] rest = feed rest
   filled_feed (b ∷ []) rest =
-      if_false (is_mark b && 10 == x) _ _ (and_false (is_mark b) (10 == x) apart) ∙ ap (λ t. b ∷ t) (feed rest)
+      if_false (is_mark b && 10 == x) _ _ (right_false (is_mark b) (10 == x) apart) ∙ ap (λ t. b ∷ t) (feed rest)
   filled_feed (b ∷ c ∷ text) rest =
       if_append (is_mark b && c == x) _ _ _ _ (10 ∷ filled x value place rest)
       (ap (λ t. standing b value place ++ t) (filled_feed text rest) ∙ sym (append_assoc (standing b value place) (filled x value place text) (10 ∷ filled x value place rest)))
@@ -128,10 +121,6 @@ step sorts b End h = step_end sorts b.parts b.blocks h
 kept_end : (parts : Parts) (open_blocks : List blocks.Block) → list_all has_variable open_blocks ≡ true → list_all has_variable (ended parts open_blocks).blocks ≡ true
 kept_end parts [] h = refl
 kept_end parts (block ∷ open_blocks) h = (both (is_variable block.variable) (list_all has_variable open_blocks) h).1
-
-both_true : (a b : Bool) → a ≡ true → b ≡ true → (a && b) ≡ true
-both_true true b p q = q
-both_true false b p q = absurd (cc)
 
 kept : (b : Building) (item : Item) → is_item item ≡ true → list_all has_variable b.blocks ≡ true → list_all has_variable (with_item b item).blocks ≡ true
 kept b (Body line) v h = h

@@ -1,5 +1,5 @@
 -- One line after the other.
-use Rattle.std.proofs.Common.{◌≡◌, ℕ, ◌+◌, ◌<◌, List, [], ◌∷◌, map, length, drop, get_or, Result, Ok, Err, refl, sym, ◌∙◌, ap, subst, arith}
+use Rattle.std.proofs.Common.{◌≡◌, ℕ, ◌+◌, ◌<◌, List, map, length, drop, get_or, Result, Ok, Err, sym, ◌∙◌, ap, arith}
 use Rattle.std.proofs.lemmas.List.{drop_more}
 use Rattle.bt_script.specs.declared.stop.Stop.{Stop}
 use Rattle.bt_script.specs.declared.stop.Stop.TheVariants as stop

@@ -1,19 +1,18 @@
 -- What is read of a file is sound: its sorts are small, and its items make blocks.
-use Rattle.std.proofs.Common.{◌≡◌, ℕ, zero, suc, ◌+◌, ◌-◌, ◌<◌, ◌≤◌, Bool, true, false, not, ◌&&◌, ◌||◌, ◌==◌, if◌then◌else◌, List, [], ◌∷◌, ◌++◌, map, length, Option, Some, None, Result, Ok, Err, refl, sym, ◌∙◌, ap, subst, arith, length-append}
-use Rattle.std.specs.Prelude.{nat_le, nat_lt, nat_eq, bytes_eq, codes, is_some, take}
+use Rattle.std.proofs.Common.{◌≡◌, ℕ, zero, suc, ◌+◌, ◌-◌, ◌≤◌, Bool, true, false, not, ◌&&◌, ◌==◌, if◌then◌else◌, List, [], ◌∷◌, ◌++◌, length, Option, Some, None, Result, Ok, Err, refl, sym, ◌∙◌, ap, subst, arith, length-append}
+use Rattle.std.specs.Prelude.{nat_le, nat_lt, nat_eq, bytes_eq, codes, take}
 use Rattle.std.specs.List.{list_all, ends_with}
 use Rattle.std.proofs.lemmas.Bool.Decides.{nat_tests}
 use Rattle.std.proofs.lemmas.List.Folds.{list_all-append}
 use Rattle.bt_script.proofs.Bools.{both}
-use Rattle.bt_model.specs.WorldFile.{after_word, content, ends_after, front_word, is_ignored, is_line_byte, repeats, without_return, word}
+use Rattle.bt_model.specs.WorldFile.{after_word, content, ends_after, front_word, is_ignored, is_line_byte, without_return, word}
 use Rattle.bt_model.specs.Worlds.{is_name}
 use Rattle.bt_ground.specs.declared.fault.GroundFault.{GroundFault}
-use Rattle.bt_ground.specs.declared.fault.GroundFault.TheVariants as fault
 use Rattle.bt_ground.specs.declared.open_block.OpenBlock.{OpenBlock}
 use Rattle.bt_ground.specs.declared.sort.Sort.{Sort}
-use Rattle.bt_ground.specs.Blocks.{Body, End, Forall, Item, Line, after_marks, is_variable}
+use Rattle.bt_ground.specs.Blocks.{Body, End, Forall, Item, after_marks, is_variable}
 use Rattle.bt_ground.specs.GroundFile.{Reading, goes_on, is_double, is_open, most_open, most_sorts, most_values, nothing_read, sort_in, sort_number, sort_with, variable_in, with_block, with_body, with_content, with_end, with_forall, with_form, with_line, with_lines, with_sort, with_variable, with_words, without_block, words_in}
-use Rattle.bt_ground.specs.Sound.{FitsIn, IsSound, Laid, is_item, is_short, is_small}
+use Rattle.bt_ground.specs.Sound.{IsSound, Laid, is_item, is_short, is_small}
 use Rattle.bt_ground.proofs.Marked.{both_true, if_false, if_true, ways}
 
 -- what is left is sound, where no fault is answered

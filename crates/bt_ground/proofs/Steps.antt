@@ -1,10 +1,10 @@
 -- One item after the other, while the size is added up.
-use Rattle.std.proofs.Common.{◌≡◌, ℕ, zero, suc, ◌+◌, ◌*◌, ◌^◌, ◌<◌, ◌≤◌, true, List, [], ◌∷◌, map, length, drop, get_or, refl, sym, ◌∙◌, ap, subst, arith}
+use Rattle.std.proofs.Common.{◌≡◌, ℕ, ◌+◌, ◌*◌, ◌^◌, ◌<◌, ◌≤◌, true, List, [], ◌∷◌, map, length, drop, get_or, sym, ◌∙◌, ap, subst, arith}
 use Rattle.std.specs.List.{list_all}
 use Rattle.std.proofs.lemmas.List.{drop_more}
-use Rattle.bt_ground.specs.Blocks.{Body, End, Forall, Item, Line}
+use Rattle.bt_ground.specs.Blocks.{Body, End, Forall, Item}
 use Rattle.bt_ground.specs.Seen.{seen_item}
-use Rattle.bt_ground.specs.Sizes.{Sizing, line_size, sized_item}
+use Rattle.bt_ground.specs.Sizes.{Sizing, sized_item}
 use Rattle.bt_ground.specs.Sound.{FitsIn, Laid, is_small}
 use Rattle.bt_ground.specs.declared.items.Item as items
 use Rattle.bt_ground.specs.declared.sizes.Around.{Around}

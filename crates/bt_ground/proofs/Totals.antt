@@ -1,10 +1,10 @@
 -- The sizes of lines, added up item by item, are the size of their text.
-use Rattle.std.proofs.Common.{◌≡◌, ℕ, zero, suc, ◌+◌, ◌*◌, ◌<◌, ◌≤◌, ◌^◌, Bool, true, false, ◌&&◌, ◌==◌, if◌then◌else◌, List, [], ◌∷◌, ◌++◌, map, length, drop, refl, sym, ◌∙◌, ap, subst, arith, length-append}
-use Rattle.std.specs.List.{flat_map, list_all}
+use Rattle.std.proofs.Common.{◌≡◌, ℕ, ◌+◌, ◌*◌, true, List, [], ◌∷◌, ◌++◌, map, length, refl, sym, ◌∙◌, ap, arith, length-append}
+use Rattle.std.specs.List.{flat_map}
 use Rattle.bt_ground.specs.Blocks as blocks
-use Rattle.bt_ground.specs.Blocks.{AndBlock, AndLine, Body, Building, End, Forall, Item, Line, NoPart, Parts, after_marks, ended, filled, filled_line, is_variable, lines_of, nothing_built, once_each, parts_of, script_of, values_at, with_item, with_items}
-use Rattle.bt_ground.specs.Sizes.{Sizing, instances, line_size, mark_size, nothing_sized, scan, sized_item}
-use Rattle.bt_ground.specs.Sound.{FitsIn, Laid}
+use Rattle.bt_ground.specs.Blocks.{Body, Building, End, Forall, Item, Line, Parts, after_marks, ended, filled_line, is_variable, lines_of, nothing_built, once_each, parts_of, script_of, values_at, with_item, with_items}
+use Rattle.bt_ground.specs.Sizes.{Sizing, instances, nothing_sized, sized_item}
+use Rattle.bt_ground.specs.Sound.{Laid}
 use Rattle.bt_ground.specs.declared.sizes.Around.{Around}
 use Rattle.bt_ground.specs.declared.sort.Sort.{Sort}
 use Rattle.bt_ground.proofs.Scans.{AreNames, over_values, scan_is, text_size}

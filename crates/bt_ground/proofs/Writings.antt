@@ -1,7 +1,7 @@
 -- A text that is written piece by piece.
 use Rattle.std.proofs.Common.{◌≡◌, ℕ, zero, suc, ◌==◌, true, List, [], ◌∷◌, ◌++◌, length, take, drop, Option, refl, sym, ◌∙◌, ap, subst, append_assoc, arith}
 use Rattle.bt_outside.specs.Appending.{Appended, AppendedPrefix}
-use Rattle.bt_outside.proofs.Appends.{Appended-nil, Appended-trans, AppendedPrefix-after, AppendedPrefix-longer, AppendedPrefix-whole}
+use Rattle.bt_outside.proofs.Appends.{Appended-nil, Appended-trans, AppendedPrefix-after, AppendedPrefix-longer}
 use Rattle.bt_ground.specs.Writing.{IsUnderway}
 use Rattle.bt_ground.proofs.Flat.{append-nil}
 

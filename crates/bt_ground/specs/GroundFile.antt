@@ -1,5 +1,5 @@
 -- Ground files: what a line says, its faults in their order, and the text that a file stands for.
-use Rattle.std.specs.Prelude.{◌≡◌, ℕ, ◌+◌, ◌-◌, ◌==◌, Bool, true, false, not, ◌&&◌, ◌||◌, nat_le, nat_lt, nat_eq, if◌then◌else◌, List, [], ◌∷◌, ◌++◌, map, filter, length, take, codes, bytes_eq, position, Option, Some, None, is_some, Result, Ok, Err, slice_get, unwrap_or}
+use Rattle.std.specs.Prelude.{◌≡◌, ℕ, ◌+◌, ◌-◌, ◌==◌, Bool, true, false, not, ◌&&◌, ◌||◌, nat_le, nat_lt, if◌then◌else◌, List, [], ◌∷◌, ◌++◌, map, filter, length, codes, bytes_eq, position, Option, Some, None, is_some, Result, Ok, Err, slice_get, unwrap_or}
 use Rattle.std.specs.List.{slice_split, list_all, list_any}
 use Rattle.bt_model.specs.declared.world.World.{World}
 use Rattle.bt_model.specs.declared.world_fault.WorldFault.{WorldFault}

@@ -1,5 +1,5 @@
 -- How many bytes lines have, without the lines: products over the blocks round them.
-use Rattle.std.specs.Prelude.{ℕ, ◌+◌, ◌*◌, ◌==◌, Bool, if◌then◌else◌, List, [], ◌∷◌, drop, length}
+use Rattle.std.specs.Prelude.{ℕ, ◌+◌, ◌*◌, ◌==◌, if◌then◌else◌, List, [], ◌∷◌, drop, length}
 use Rattle.bt_ground.specs.Blocks.{Body, End, Forall, Item, is_mark, standing, values_at}
 use Rattle.bt_ground.specs.declared.sort.Sort.{Sort}
 use Rattle.bt_ground.specs.declared.sizes.Around.{Around}

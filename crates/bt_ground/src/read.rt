@@ -1,4 +1,4 @@
-ghost use Rattle.std.specs.Prelude.{◌≡◌, ◌≤◌, length, map, nat_le, true};
+ghost use Rattle.std.specs.Prelude.{◌≡◌, ◌≤◌, length, map, true};
 ghost use Rattle.std.specs.List.{list_all};
 ghost use Rattle.bt_ground.specs.GroundFile as file;
 ghost use Rattle.bt_ground.specs.GroundFile.{nothing_read, reads_ground, with_lines};

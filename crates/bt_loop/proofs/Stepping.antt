@@ -1,5 +1,5 @@
 -- An event of one runner, compared with the definition's step.
-use Rattle.std.proofs.Common.{OnOk, OnErr, ◌≡◌, inl, inr, ℕ, ℤ, zero, suc, ◌+◌, ◌-◌, ◌<◌, ◌≤◌, true, cond, List, [], ◌∷◌, ◌++◌, Option, Some, None, Result, Ok, Err, map, length, get_or, slice_get, set, option_map, refl, sym, ap, subst, ◌∙◌, append_assoc, append-nil, arith}
+use Rattle.std.proofs.Common.{OnOk, OnErr, ◌≡◌, inl, inr, ℕ, ℤ, zero, suc, ◌+◌, ◌-◌, ◌<◌, ◌≤◌, true, cond, List, [], ◌∷◌, ◌++◌, Option, Some, None, IfSome, Result, Ok, Err, map, length, get_or, slice_get, set, option_map, refl, sym, ap, subst, ◌∙◌, append_assoc, append-nil, arith}
 use Rattle.std.proofs.lemmas.List.{length-map, map-set, get_or-set_same}
 use Rattle.std.proofs.lemmas.Bool.Decides.{Decides-int_eq}
 use Rattle.std.proofs.lemmas.Slice.Eq.{bytes_eq-Decides}
@@ -33,7 +33,7 @@ use Rattle.bt_loop.specs.declared.runs.Told.{Told}
 use Rattle.bt_loop.specs.Ending.{CanTell, Closing, IsQuenched, IsTelling}
 use Rattle.bt_loop.specs.Parts.{PartEnds, PartMade, state_of_all}
 use Rattle.bt_loop.specs.Runs.{AreRuns, RunnersFit, arenas_in, arenas_of, boards_in, nth_board, roster_over, runner_in, runners_in, state_of_runs}
-use Rattle.bt_loop.specs.Steps.{EventEnds, IsCutOff}
+use Rattle.bt_loop.specs.Steps.{EndsInFault, EventEnds, IsCutOff}
 use Rattle.bt_loop.specs.Telling.{boards_told, entries_told}
 use Rattle.bt_loop.proofs.Lists.{entry}
 use Rattle.bt_loop.proofs.Others.{over_both}
@@ -193,6 +193,13 @@ module _ (tree : Tree) (header : Header) (number at : ℕ) (runs0 runs1 runs2 : 
         },
       )
 
+  -- what is left of an event that was cut off in its runner's part has all of its fault
+  still_to_come : (r : Result (Unit {0}) NodeFault) (unsaid : List Note) (unmade : List RunnerCall) →
+      IfSome (step_by r).fault (λ fault. EndsInFault fault (unsaid ++ (more_notes header tree number d.notes d.calls s left r).0) (unmade ++ (more_calls header tree number d.notes d.calls s left r).0))
+  unfolding more_notes more_calls
+  still_to_come (Ok done) unsaid unmade = tt
+  still_to_come (Err f) unsaid unmade = record { first_notes = unsaid; first_calls = unmade; runners = left.runners; all_notes = refl; all_calls = refl }
+
   -- the event was cut off after some notes and calls
   cut_off : (r : Result (Unit {0}) NodeFault) (said unsaid : List Note) (made unmade : List Call) → said ++ unsaid ≡ d.notes → made ++ unmade ≡ d.calls → length made ≡ calls_named said →
       block1.notes.list ≡ said → mid ≡ roster_over (arenas_of runs0) (runner_calls number made) before → IsQuenched tree mid after runs1 runs2 block1.notes.list block2.notes.list → IsCutOff (arenas_of runs2) before after block2.notes.list (step_by r)
@@ -210,6 +217,7 @@ module _ (tree : Tree) (header : Header) (number at : ℕ) (runs0 runs1 runs2 : 
         all_notes = sym (append_assoc said unsaid more.0) ∙ ap (λ xs. xs ++ more.0) all_notes ∙ more.1;
         all_calls = sym (append_assoc (runner_calls number made) (runner_calls number unmade) others.0) ∙ ap (λ xs. xs ++ others.0) (sym (both_calls number made unmade) ∙ ap (runner_calls number) all_calls) ∙ others.1;
         named = as_many_calls number made ∙ named;
+        before_fault = still_to_come r unsaid (runner_calls number unmade);
         instances = instances_are t mid runs1.runners.items ∙ (λ i. map (λ nodes. instances_of nodes (mid_is i)) (sym q.arenas i));
         noted = q.notes ∙ ap (λ xs. xs ++ quench_notes 1 held) noted;
         drivers = q.drivers ∙ (λ i. roster_over (sym q.arenas i) (quench_calls 1 held) (mid_is i));

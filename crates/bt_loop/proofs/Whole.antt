@@ -149,6 +149,7 @@ module _ (tree : Tree) (world : World) (fact : ℕ) (value : ℤ) (at : ℕ) (dr
     all_notes = refl;
     all_calls = refl;
     named = refl;
+    before_fault = tt;
     instances = instances_are tree.term drivers runs0.runners.items ∙ ap (map (λ nodes. instances_of nodes drivers)) (sym q.arenas);
     noted = q.notes ∙ ap (λ xs. xs ++ quench_notes 1 (runners_in tree.term drivers runs0.runners.items)) (same ∙ no_notes);
     drivers = q.drivers ∙ ap (λ ns. roster_over ns (quench_calls 1 (runners_in tree.term drivers runs0.runners.items)) drivers) (sym q.arenas);

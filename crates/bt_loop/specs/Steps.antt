@@ -1,10 +1,11 @@
 -- What an event leaves of runs, compared with the definition's step.
-use Rattle.std.specs.Prelude.{◌≡◌, ◌≤◌, ◌+◌, ◌<◌, ◌^◌, ◌⊎◌, ℕ, List, ◌++◌, length, map, Some, None, false, Result, Ok, Err, OnOk, OnErr}
+use Rattle.std.specs.Prelude.{◌≡◌, ◌≤◌, ◌+◌, ◌<◌, ◌^◌, ◌⊎◌, ℕ, List, ◌∷◌, ◌++◌, length, map, Some, None, IfSome, false, Result, Ok, Err, OnOk, OnErr}
 use Rattle.bt_script.specs.declared.stop.Stop.{Stop}
 use Rattle.bt_script.specs.declared.stop.Stop.TheVariants as stop
 use Rattle.bt_model.specs.declared.fault.RunFault.{RunFault}
 use Rattle.bt_model.specs.declared.leaf.Totals.{Totals}
 use Rattle.bt_model.specs.declared.note.Note.{Note}
+use Rattle.bt_model.specs.declared.note.Note.TheVariants.{Faulted}
 use Rattle.bt_model.specs.declared.term.Term.{Term}
 use Rattle.bt_model.specs.declared.world.Event.{Event}
 use Rattle.bt_model.specs.declared.world.World.{World}
@@ -37,8 +38,16 @@ pub record IsStep (term : Term) (before after : List DriverState) (runs : Runs) 
   pub shown : seen block ≡ d.block
   pub drivers : after ≡ roster_over (arenas_of runs) d.calls before
 
--- The event was cut off: a prefix of its notes is told, then the notes of the quench of all runners. Held at the
--- quench is what the calls named by that prefix have left held.
+-- what an event that ends in a fault does last: its note of the fault, and a quench of all runners
+pub record EndsInFault (fault : RunFault) (notes : List Note) (calls : List RunnerCall) : Type 0 where
+  pub first_notes : List Note
+  pub first_calls : List RunnerCall
+  pub runners : List Runner
+  pub all_notes : notes ≡ first_notes ++ Faulted fault.runner fault.uid fault.cause ∷ quench_notes 1 runners
+  pub all_calls : calls ≡ first_calls ++ quench_calls 1 runners
+
+-- The event was cut off, before its fault if it has one: a prefix of its notes is told, then the notes of the quench
+-- of all runners. Held at the quench is what the calls named by that prefix have left held.
 pub record IsCutOff (arenas : List (List Node)) (before after : List DriverState) (notes : List Note) (d : Stepped) : Type 0 where
   pub told : List Note
   pub untold : List Note
@@ -48,11 +57,12 @@ pub record IsCutOff (arenas : List (List Node)) (before after : List DriverState
   pub all_notes : told ++ untold ≡ d.block.notes
   pub all_calls : made ++ unmade ≡ d.calls
   pub named : length made ≡ calls_named told
+  pub before_fault : IfSome d.fault (λ fault. EndsInFault fault untold unmade)
   pub instances : map (λ (r : Runner). r.instances) held ≡ map (λ nodes. instances_of nodes (roster_over arenas made before)) arenas
   pub noted : notes ≡ told ++ quench_notes 1 held
   pub drivers : after ≡ roster_over arenas (quench_calls 1 held) (roster_over arenas made before)
 
--- the fault of the event was told with all notes; only the facts and entries that changed may be missing
+-- the fault of the event was told with all notes, after all calls; only the facts and entries that changed may be missing
 pub record IsTold (arenas : List (List Node)) (before after : List DriverState) (notes : List Note) (d : Stepped) : Type 0 where
   pub fault : RunFault
   pub faulted : d.fault ≡ Some fault

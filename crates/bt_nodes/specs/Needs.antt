@@ -1,5 +1,5 @@
--- How many slots the scripts of a node need, and whether they have texts.
-use Rattle.std.specs.Prelude.{◌≡◌, ℕ, ◌≤◌, Option, Some, None}
+-- How many slots the scripts of a node need.
+use Rattle.std.specs.Prelude.{ℕ, ◌≤◌, Option, Some, None}
 use Rattle.bt_script_code.specs.declared.codes.Code.{Code}
 use Rattle.bt_script_code.specs.Codes.{program}
 use Rattle.bt_arena.specs.declared.nodes.ReadyGuards.{ReadyGuards}
@@ -8,11 +8,6 @@ use Rattle.bt_arena.specs.declared.nodes.ReadyGuards.{ReadyGuards}
 abbrev pub NeedsAtMost : ℕ → Option Code → Type 0
 NeedsAtMost slots None = Unit {0}
 NeedsAtMost slots (Some code) = (program code).reach ≤ slots
-
--- a code, where it is there, has no text literal
-abbrev pub HasNoText : Option Code → Type 0
-HasNoText None = Unit {0}
-HasNoText (Some code) = (program code).texts ≡ 0
 
 pub record GuardsNeedAtMost (slots : ℕ) (guards : ReadyGuards) : Type 0 where
   pub failure_if : NeedsAtMost slots guards.failure_if

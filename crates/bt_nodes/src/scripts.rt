@@ -1,7 +1,6 @@
-ghost use Rattle.std.specs.Prelude.{◌≡◌, ◌≤◌, Option, Some, length};
-ghost use Rattle.std.specs.List.{All};
+ghost use Rattle.std.specs.Prelude.{◌≡◌, ◌≤◌, false, IfOk, OnOk, Option, Some, length};
 ghost use Rattle.bt_script.specs.declared.syntax.Script.{Script};
-ghost use Rattle.bt_script.specs.Entries.{HoldsNoText, IsAnswered};
+ghost use Rattle.bt_script.specs.Entries.{IsAnswered};
 ghost use Rattle.bt_script.specs.Stops.{Gives};
 ghost use Rattle.bt_script_code.specs.Codes.{program};
 ghost use Rattle.bt_model.specs.declared.term.Term.{Term-F};
@@ -10,7 +9,8 @@ ghost use Rattle.bt_model.specs.Scripts.{goes_on, guard, guards_answer, posts, s
 ghost use Rattle.bt_model.specs.Sites.{Meaning, View};
 ghost use Rattle.bt_model.specs.Visit.{site_of};
 ghost use Rattle.bt_arena.specs.Nodes.{AreCompiled, IsCodeOf, IsCompiled};
-ghost use Rattle.bt_nodes.specs.Needs.{GuardsNeedAtMost, HasNoText, NeedsAtMost};
+ghost use Rattle.bt_nodes.specs.Meeting.{GaveTruth, GaveValue, HasRun, WasTried, guards_meet, posts_meet, script_meets, then_meets};
+ghost use Rattle.bt_nodes.specs.Needs.{GuardsNeedAtMost, NeedsAtMost};
 ghost use Rattle.bt_nodes.specs.Settles.{Settles, Tries, on_board};
 
 use bt_arena::ReadyGuards;
@@ -36,7 +36,7 @@ fn cause_of(fault: ExecFault) -> Cause
 
 /// Runs a script of the node with this uid, and gives its value. The error is a fault of the
 /// script, as one of its node, and what it wrote before stays. Want of memory comes only where
-/// there are texts.
+/// the run meets a text.
 #[inline(never)]
 pub fn run_script(
     alloc: Global,
@@ -48,7 +48,8 @@ pub fn run_script(
     ensures settles { (term : Term-F Meaning) (view : View) (script : Script) (s : State) → IsCodeOf view script code.now →
         Settles result (on_board board.new s) (script_run (site_of term view uid) script (on_board board.old s)) }
     ensures slots { length board.new ≡ length board.old }
-    ensures memory { (program code.now).texts ≡ 0 → All HoldsNoText board.old → IsAnswered result }
+    ensures memory { (program code.now).meets board.old ≡ false → IsAnswered result }
+    ensures run { IfOk result (λ value. GaveValue code.now value board.old board.new) }
 {
     match exec(alloc, code, board) {
         Ok(value) => Ok(value),
@@ -69,7 +70,8 @@ fn run_whole(alloc: Global, code: &Code, uid: u32, board: &mut Board) -> Result<
     ensures settles { (term : Term-F Meaning) (view : View) (script : Script) (s : State) → IsCodeOf view script code.now →
         Settles result (on_board board.new s) (script_if_there (site_of term view uid) (Some script) (on_board board.old s)) }
     ensures slots { length board.new ≡ length board.old }
-    ensures memory { (program code.now).texts ≡ 0 → All HoldsNoText board.old → IsAnswered result }
+    ensures memory { (program code.now).meets board.old ≡ false → IsAnswered result }
+    ensures run { OnOk result (HasRun (Some code.now) board.old board.new) }
 {
     run_script(alloc, code, uid, board)?;
     Ok(())
@@ -88,7 +90,8 @@ pub fn run_for_writes(
     ensures settles { (term : Term-F Meaning) (view : View) (script : Script) (s : State) → IsCodeOf view script code.now →
         Settles result (on_board board.new s) (script_if_there (site_of term view uid) (Some script) (on_board board.old s)) }
     ensures slots { length board.new ≡ length board.old }
-    ensures memory { (program code.now).texts ≡ 0 → All HoldsNoText board.old → IsAnswered result }
+    ensures memory { (program code.now).meets board.old ≡ false → IsAnswered result }
+    ensures run { OnOk result (HasRun (Some code.now) board.old board.new) }
 {
     match exec_int(code, board) {
         Some(_) => Ok(()),
@@ -109,7 +112,8 @@ pub fn script_if_there(
     ensures settles { (term : Term-F Meaning) (view : View) (script : Option Script) (s : State) → IsCompiled view script code.now →
         Settles result (on_board board.new s) (script_if_there (site_of term view uid) script (on_board board.old s)) }
     ensures slots { length board.new ≡ length board.old }
-    ensures memory { HasNoText code.now → All HoldsNoText board.old → IsAnswered result }
+    ensures memory { script_meets code.now board.old ≡ false → IsAnswered result }
+    ensures run { OnOk result (HasRun code.now board.old board.new) }
 {
     match code {
         Some(code) => run_for_writes(alloc, code, uid, board),
@@ -147,7 +151,8 @@ fn whole_holds(
     ensures settles { (term : Term-F Meaning) (view : View) (script : Script) (s : State) → IsCodeOf view script code.now →
         Settles result (on_board board.new s) (script_holds (site_of term view uid) script (on_board board.old s)) }
     ensures slots { length board.new ≡ length board.old }
-    ensures memory { (program code.now).texts ≡ 0 → All HoldsNoText board.old → IsAnswered result }
+    ensures memory { (program code.now).meets board.old ≡ false → IsAnswered result }
+    ensures run { IfOk result (λ holds. GaveTruth code.now holds board.old board.new) }
 {
     let value = run_script(alloc, code, uid, board)?;
     truth(&value, uid)
@@ -166,7 +171,8 @@ pub fn script_holds(
     ensures settles { (term : Term-F Meaning) (view : View) (script : Script) (s : State) → IsCodeOf view script code.now →
         Settles result (on_board board.new s) (script_holds (site_of term view uid) script (on_board board.old s)) }
     ensures slots { length board.new ≡ length board.old }
-    ensures memory { (program code.now).texts ≡ 0 → All HoldsNoText board.old → IsAnswered result }
+    ensures memory { (program code.now).meets board.old ≡ false → IsAnswered result }
+    ensures run { IfOk result (λ holds. GaveTruth code.now holds board.old board.new) }
 {
     match exec_int(code, board) {
         Some(n) => Ok(n != 0),
@@ -188,6 +194,8 @@ fn is_answered(
     ensures tries { (term : Term-F Meaning) (view : View) (script : Option Script) (s : State) (answer : Answer) (next : State → Done (Option Answer) (Unit {0})) → IsCompiled view script code.now →
         Tries result answer next (on_board board.new s) (guard (site_of term view uid) script truth answer next (on_board board.old s)) }
     ensures slots { length board.new ≡ length board.old }
+    ensures memory { script_meets code.now board.old ≡ false → IsAnswered result }
+    ensures tried { IfOk result (λ answers. WasTried code.now truth answers board.old board.new) }
 {
     match code {
         Some(code) => Ok(script_holds(alloc, code, uid, board)? == truth),
@@ -208,6 +216,7 @@ fn try_each(
     ensures settles { (term : Term-F Meaning) (view : View) (s : State) → AreCompiled view term.guards guards.now →
         Settles result (on_board board.new s) (guards_answer (site_of term view uid) (on_board board.old s)) }
     ensures slots { length board.new ≡ length board.old }
+    ensures memory { guards_meet guards.now board.old ≡ false → IsAnswered result }
 {
     if is_answered(alloc, &guards.failure_if, true, uid, board)? {
         return Ok(Some(Answer::Failure));
@@ -238,6 +247,7 @@ fn try_guards(
     ensures settles { (term : Term-F Meaning) (view : View) (s : State) → AreCompiled view term.guards guards.now →
         Settles result (on_board board.new s) (guards_answer (site_of term view uid) (on_board board.old s)) }
     ensures slots { length board.new ≡ length board.old }
+    ensures memory { guards_meet guards.now board.old ≡ false → IsAnswered result }
 {
     try_each(alloc, guards, uid, board)
 }
@@ -256,6 +266,7 @@ pub fn guards_answer(
     ensures settles { (term : Term-F Meaning) (view : View) (s : State) → AreCompiled view term.guards guards.now →
         Settles result (on_board board.new s) (guards_answer (site_of term view uid) (on_board board.old s)) }
     ensures slots { length board.new ≡ length board.old }
+    ensures memory { guards_meet guards.now board.old ≡ false → IsAnswered result }
 {
     if guards.before {
         try_guards(alloc, guards, uid, board)
@@ -276,7 +287,7 @@ pub fn goes_on(
     ensures settles { (term : Term-F Meaning) (view : View) (s : State) → IsCompiled view term.guards.while_true guards.now.while_true →
         Settles result (on_board board.new s) (goes_on (site_of term view uid) (on_board board.old s)) }
     ensures slots { length board.new ≡ length board.old }
-    ensures memory { HasNoText guards.now.while_true → All HoldsNoText board.old → IsAnswered result }
+    ensures memory { script_meets guards.now.while_true board.old ≡ false → IsAnswered result }
 {
     match &guards.while_true {
         Some(code) => script_holds(alloc, code, uid, board),
@@ -299,6 +310,7 @@ fn both_if_there(
     ensures settles { (term : Term-F Meaning) (view : View) (one other : Option Script) (s : State) → IsCompiled view one first.now → IsCompiled view other second.now →
         Settles result (on_board board.new s) (follow (script_if_there (site_of term view uid) one (on_board board.old s)) (λ _. tt) (λ _ _ s1. script_if_there (site_of term view uid) other s1)) }
     ensures slots { length board.new ≡ length board.old }
+    ensures memory { then_meets first.now (script_meets second.now) board.old ≡ false → IsAnswered result }
 {
     script_if_there(alloc, first, uid, board)?;
     script_if_there(alloc, second, uid, board)
@@ -319,6 +331,7 @@ fn run_posts(
     ensures settles { (term : Term-F Meaning) (view : View) (s : State) → AreCompiled view term.guards guards.now →
         Settles result (on_board board.new s) (posts (site_of term view uid) answer (on_board board.old s)) }
     ensures slots { length board.new ≡ length board.old }
+    ensures memory { posts_meet guards.now answer board.old ≡ false → IsAnswered result }
 {
     match answer {
         Answer::Success => both_if_there(alloc, &guards.on_success, &guards.post, uid, board),
@@ -342,6 +355,7 @@ pub fn posts(
     ensures settles { (term : Term-F Meaning) (view : View) (s : State) → AreCompiled view term.guards guards.now →
         Settles result (on_board board.new s) (posts (site_of term view uid) answer (on_board board.old s)) }
     ensures slots { length board.new ≡ length board.old }
+    ensures memory { posts_meet guards.now answer board.old ≡ false → IsAnswered result }
 {
     if guards.after {
         run_posts(alloc, guards, uid, answer, board)

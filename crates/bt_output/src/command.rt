@@ -39,6 +39,7 @@ use bt_world::read_world;
 use std::alloc::Global;
 
 /// Runs the tree of these bytes of a tree file in the world of these bytes of a world script.
+#[tactic(auto, using(bt_model::proofs::Runnable::runnable))]
 fn run_files<S: Shelf, K: Sink, C: Clock, D: Drivers>(
     alloc: Global,
     tree: &[u8],

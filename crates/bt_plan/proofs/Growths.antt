@@ -1,5 +1,5 @@
 -- From a tree that failed to the next one, or to an end.
-use Rattle.std.proofs.Common.{◌≡◌, ℕ, ◌+◌, ◌*◌, ◌^◌, ◌<◌, ◌≤◌, true, false, not, List, [], ◌∷◌, length, drop, get_or, Option, Some, None, Result, Ok, Err, IfOk, refl, ap, sym, ◌∙◌, subst, arith, add-one, drop-cons}
+use Rattle.std.proofs.Common.{◌≡◌, ℕ, ◌+◌, ◌*◌, ◌^◌, ◌<◌, ◌≤◌, true, false, not, List, [], ◌∷◌, length, drop, get_or, Option, Some, None, Result, Ok, Err, IfOk, IfSome, refl, ap, sym, ◌∙◌, subst, arith, add-one, drop-cons}
 use Rattle.std.specs.Prelude.{slice_get}
 use Rattle.std.specs.List.{AllByRecursion, find}
 use Rattle.std.specs.Option.{option_and_then}
@@ -17,11 +17,13 @@ use Rattle.bt_expand.specs.Numbers.{IsRowAt, row_in}
 use Rattle.bt_expand.specs.Planned.{id_of}
 use Rattle.bt_expand.specs.Stands.{IsConditionOf, IsSequenceOf, StandsFor}
 use Rattle.bt_plan.specs.declared.ending.End.{End}
+use Rattle.bt_plan.specs.declared.ending.End.TheVariants.{Reached, NoTemplate, NoOrder, Expansions, StillRunning, Faulted}
 use Rattle.bt_plan.specs.declared.ending.Limits.{Limits}
 use Rattle.bt_plan.specs.declared.ending.Step.{Step}
 use Rattle.bt_plan.specs.declared.growing.Grown.{Grown}
 use Rattle.bt_plan.specs.declared.places.Place.{Place}
-use Rattle.bt_plan.specs.declared.verdict.Verdict.TheVariants.{Fails}
+use Rattle.bt_plan.specs.declared.verdict.Verdict.TheVariants.{Reaches, Fails}
+use Rattle.bt_plan.specs.Answers.{StandsAlone}
 use Rattle.bt_plan.specs.Failing.{failed, first_open, has_untried, ids_of}
 use Rattle.bt_plan.specs.Grown.{AreConditions, GoesOrEnds, IsGrown, IsNotGrown, SettlesOrStalls}
 use Rattle.bt_plan.specs.PlanRuns.{Decides, Ends, Grows, HasNoOrder, HasNoTemplate, IsOpen, Trial, failed_in}
@@ -121,6 +123,17 @@ module _ (world : World) (limits : Limits) (trial : Trial) (old mid now : PlanTr
         many = s.many ∙ one_more;
       },
     )
+
+-- where a tree failed, no end reaches the goals
+pub fails_alone : (now : PlanTree) (world : World) (limits : Limits) (added : ℕ) (t : Trial) (before after : List Step) (end : Option End) → Decides world limits t Fails →
+    GoesOrEnds now world limits added t before after end → IfSome end StandsAlone
+fails_alone now world limits added t before after None decides goes = tt
+fails_alone now world limits added t before after (Some (Reached tree tick)) decides goes = let both : Some Reaches ≡ Some Fails = sym goes.0.0.last ∙ decides.last in absurd (cc both)
+fails_alone now world limits added t before after (Some (NoTemplate names)) decides goes = tt
+fails_alone now world limits added t before after (Some (NoOrder action condition)) decides goes = tt
+fails_alone now world limits added t before after (Some (Expansions n)) decides goes = tt
+fails_alone now world limits added t before after (Some (StillRunning n)) decides goes = tt
+fails_alone now world limits added t before after (Some (Faulted uid cause)) decides goes = tt
 
 -- ---- The first condition with an untried template
 

@@ -1,3 +1,10 @@
+pub mod Alike
+pub mod AlikeFailed
+pub mod AlikeGrown
+pub mod AlikeRaised
+pub mod AlikeSettled
+pub mod AlikeTried
+pub mod Beginnings
 pub mod Conditions
 pub mod Finishing
 pub mod Growths
@@ -6,6 +13,8 @@ pub mod Leading
 pub mod Listed
 pub mod Marks
 pub mod Nearer
+pub mod OneWay
+pub mod Pairwise
 pub mod Planned
 pub mod Reaching
 pub mod Resting

@@ -1,12 +1,16 @@
 -- What planning leaves of the drivers, and what it answers.
-use Rattle.std.specs.Prelude.{◌≡◌, ◌≢◌, ◌⊎◌, ◌+◌, List, [], ◌∷◌, ◌++◌, None}
+use Rattle.std.specs.Prelude.{◌≡◌, ◌≢◌, ◌⊎◌, List, [], ◌∷◌, ◌++◌, None}
 use Rattle.std.specs.List.{All}
 use Rattle.bt_model.specs.declared.world.Row.{Row}
 use Rattle.bt_model.specs.declared.world.World.{World}
 use Rattle.bt_model.specs.Drivers.{DriverState, kind_of_row, place_of_kind}
+use Rattle.bt_model.specs.Terms.{scope_count}
+use Rattle.bt_model.specs.Trees.{IsValid}
 use Rattle.bt_expand.specs.Forests.{Forest}
 use Rattle.bt_loop.specs.Served.{roster_after_run}
 use Rattle.bt_trace.specs.Cuts.{HaveBegunWithin}
+use Rattle.bt_plan.specs.declared.ending.End.{End}
+use Rattle.bt_plan.specs.declared.ending.End.TheVariants.{Reached}
 use Rattle.bt_plan.specs.declared.ending.Limits.{Limits}
 use Rattle.bt_plan.specs.declared.ending.PlanEnd.{PlanEnd}
 use Rattle.bt_plan.specs.declared.ending.Step.{Step}
@@ -49,3 +53,8 @@ pub record IsPlanCut (world : World) (limits : Limits) (before after : List Driv
   pub trials : List Trial
   pub begins : (trials ≡ []) ⊎ Begins world limits trials
   pub within : HaveBegunWithin before after (drivers_after world limits trials before)
+
+-- a tree that reaches the goals is valid and opens no other one
+abbrev pub StandsAlone : End → Type 0
+StandsAlone (Reached tree tick) = IsValid tree × (scope_count tree.term ≡ 0)
+StandsAlone end = Unit {0}

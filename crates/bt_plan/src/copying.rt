@@ -3,40 +3,10 @@
 ghost use Rattle.std.specs.Prelude.{◌≡◌, IfOk};
 ghost use Rattle.bt_plan.specs.Modelled.{modelled};
 
+use bt_copies::copy_expr;
 use bt_model::{Fact, Out, Row, RowSort, World};
-use bt_script::{Boxed, Expr, Items, Name, NoMemory};
+use bt_script::{Items, Name, NoMemory};
 use std::alloc::Global;
-
-/// An equal expression on the heap.
-#[cycle(copying)]
-fn copy_boxed(alloc: Global, expr: &Boxed<Expr>) -> Result<Boxed<Expr>, NoMemory>
-    ensures { IfOk result (λ copied. copied ≡ expr.now) }
-{
-    Boxed::of(alloc, copy_expr(alloc, expr.get())?)
-}
-
-/// An equal expression.
-#[cycle(copying)]
-fn copy_expr(alloc: Global, expr: &Expr) -> Result<Expr, NoMemory>
-    ensures { IfOk result (λ copied. copied ≡ expr.now) }
-{
-    match expr {
-        Expr::Num(n) => Ok(Expr::Num(*n)),
-        Expr::Lit(text) => Ok(Expr::Lit(text.copy(alloc)?)),
-        Expr::Look(name) => Ok(Expr::Look(name.copy(alloc)?)),
-        Expr::Group(a) => Ok(Expr::Group(copy_boxed(alloc, a)?)),
-        Expr::Unary(op, a) => Ok(Expr::Unary(*op, copy_boxed(alloc, a)?)),
-        Expr::Binary(op, a, b) => {
-            let first = copy_boxed(alloc, a)?;
-            Ok(Expr::Binary(*op, first, copy_boxed(alloc, b)?))
-        }
-        Expr::Choose(a, b, c) => {
-            let test = copy_boxed(alloc, a)?;
-            let then = copy_boxed(alloc, b)?;
-            Ok(Expr::Choose(test, then, copy_boxed(alloc, c)?))
-        }
-    }
-}
 
 /// Equal names.
 fn copy_names(alloc: Global, names: &[Name]) -> Result<Items<Name>, NoMemory>

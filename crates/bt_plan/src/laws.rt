@@ -1,7 +1,11 @@
-ghost use Rattle.std.specs.Prelude.{List};
+ghost use Rattle.std.specs.Prelude.{◌≡◌, List};
 ghost use Rattle.bt_model.specs.declared.world.World.{World};
+ghost use Rattle.bt_model.specs.Drivers.{DriverState};
+ghost use Rattle.bt_model.specs.Worlds.{IsValidWorld};
+ghost use Rattle.bt_trace.specs.Cuts.{HaveBegunWithin};
 ghost use Rattle.bt_plan.specs.declared.ending.Limits.{Limits};
 ghost use Rattle.bt_plan.specs.declared.ending.PlanEnd.{PlanEnd};
+ghost use Rattle.bt_plan.specs.Answers.{IsPlan, IsPlanCut};
 ghost use Rattle.bt_plan.specs.PlanRuns.{IsReached, PlanRun, Trial};
 
 /// Where a plan run ends at the goals, its tree makes every goal true after the tick that it names,
@@ -9,4 +13,19 @@ ghost use Rattle.bt_plan.specs.PlanRuns.{IsReached, PlanRun, Trial};
 pub fn plans_reach()
     ensures { (world : World) (limits : Limits) (planned : PlanEnd) (trials : List Trial) (last : Trial) →
         PlanRun world limits planned trials last → IsReached world limits planned.end }
+{}
+
+/// All plan runs of a world with these limits are one: they have the same steps, the same tree and
+/// the same end, and leave the drivers alike.
+pub fn plans_run_one_way()
+    ensures { (world : World) (limits : Limits) (before : List DriverState) → IsValidWorld world →
+        (after other : List DriverState) (planned again : PlanEnd) →
+        IsPlan world limits before after planned → IsPlan world limits before other again → (planned ≡ again) × (after ≡ other) }
+{}
+
+/// What was begun of a plan before memory ran out is within what the plan begins: no driver was asked
+/// to start and to go on more often than by the whole plan.
+pub fn plan_cuts_begin_within()
+    ensures { (world : World) (limits : Limits) (before now after : List DriverState) (planned : PlanEnd) → IsValidWorld world →
+        IsPlanCut world limits before now → IsPlan world limits before after planned → HaveBegunWithin before now after }
 {}

@@ -1,4 +1,4 @@
-ghost use Rattle.std.specs.Prelude.{◌≡◌, ◌≢◌, ◌≤◌, [], IfOk, OnErr, length};
+ghost use Rattle.std.specs.Prelude.{◌≡◌, ◌≢◌, ◌≤◌, [], IfOk, IfSome, OnErr, length};
 ghost use Rattle.bt_model.specs.declared.world.World.{World as Modelled};
 ghost use Rattle.bt_model.specs.Drivers.{NothingHeld};
 ghost use Rattle.bt_model.specs.Worlds.{IsValidWorld};
@@ -6,7 +6,7 @@ ghost use Rattle.bt_expand.specs.Forests.{Forest, subtrees};
 ghost use Rattle.bt_expand.specs.Stands.{StandsFor};
 ghost use Rattle.bt_loop.specs.Steps.{IsSameRoster};
 ghost use Rattle.bt_plan.specs.declared.ending.End.TheVariants.{Faulted};
-ghost use Rattle.bt_plan.specs.Answers.{AreServed, IsPlan, IsPlanCut};
+ghost use Rattle.bt_plan.specs.Answers.{AreServed, IsPlan, IsPlanCut, StandsAlone};
 ghost use Rattle.bt_plan.specs.PlanRuns.{AreInRange, IsFirst, IsReached};
 ghost use Rattle.bt_plan.specs.Ticked.{GoesFrom, IsTaskOf};
 
@@ -35,6 +35,7 @@ fn faulted(fault: &RunFault) -> End
 
 /// Runs the tree as it stands, and makes a step or ends. The error is want of memory. In the end no
 /// driver holds anything, whatever is answered.
+#[tactic(auto, using(bt_model::proofs::Runnable::runnable))]
 fn go_on<D: Drivers>(
     alloc: Global,
     world: &World,
@@ -52,6 +53,7 @@ fn go_on<D: Drivers>(
     requires few { length steps.old.items ≤ task.now.limits.expand }
     ensures goes { (tree : Forest) → StandsFor t.old world.now tree →
         GoesFrom result tree t.new world.now task.now.limits steps.old.items steps.new.items (D.states drivers.old) (D.states drivers.new) }
+    ensures alone { IfOk result (λ end. IfSome end StandsAlone) }
     ensures none { NothingHeld (D.states drivers.new) }
     ensures roster { IsSameRoster (D.states drivers.old) (D.states drivers.new) }
 {
@@ -96,6 +98,7 @@ fn make_steps<D: Drivers>(
     requires quiet { NothingHeld (D.states drivers.old) }
     requires first { (first : Forest) × IsFirst world.now first × StandsFor t world.now first }
     ensures plan { IfOk result (λ planned. IsPlan world.now task.now.limits (D.states drivers.old) (D.states drivers.new) planned) }
+    ensures alone { IfOk result (λ planned. StandsAlone planned.end) }
     ensures cut { OnErr result (IsPlanCut world.now task.now.limits (D.states drivers.old) (D.states drivers.new)) }
     ensures none { NothingHeld (D.states drivers.new) }
     ensures roster { IsSameRoster (D.states drivers.old) (D.states drivers.new) }
@@ -131,6 +134,7 @@ pub fn plan<D: Drivers>(
     requires quiet { NothingHeld (D.states drivers.old) }
     ensures plan { IfOk result (λ planned. IsPlan world.now limits.now (D.states drivers.old) (D.states drivers.new) planned) }
     ensures reached { IfOk result (λ planned. IsReached world.now limits.now planned.end) }
+    ensures alone { IfOk result (λ planned. StandsAlone planned.end) }
     ensures cut { OnErr result (IsPlanCut world.now limits.now (D.states drivers.old) (D.states drivers.new)) }
     ensures none { NothingHeld (D.states drivers.new) }
     ensures roster { IsSameRoster (D.states drivers.old) (D.states drivers.new) }

@@ -34,7 +34,7 @@ height_kept p change (Tree key part below rest) keeps = elim (tested key p) [
       subst (λ (g : Forest). height g ≤ height (Tree key part below rest)) (sym (changed_other p change key part below rest miss)) (omega (arith, lower, later))
 ]
 
-root_stays : (p : ℕ) (change : Part → Forest → Forest) (root : ℕ) (below tree : Forest) → tree ≡ Tree root Goals below Empty → (under : Forest) × (changed_below p change tree ≡ Tree root Goals under Empty)
+pub root_stays : (p : ℕ) (change : Part → Forest → Forest) (root : ℕ) (below tree : Forest) → tree ≡ Tree root Goals below Empty → (under : Forest) × (changed_below p change tree ≡ Tree root Goals under Empty)
 root_stays p change root below tree is = elim (tested root p) [
   | inl hit ↦ (change Goals below, ap (λ (f : Forest). changed_below p change f) is ∙ changed_here p change root Goals below Empty hit)
   | inr miss ↦ (changed_below p change below, ap (λ (f : Forest). changed_below p change f) is ∙ changed_other p change root Goals below Empty miss)

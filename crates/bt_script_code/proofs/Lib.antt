@@ -1,6 +1,7 @@
 pub mod Fitting
 pub mod Given
 pub mod Means
+pub mod Meets
 pub mod Patches
 pub mod Reaches
 pub mod Same

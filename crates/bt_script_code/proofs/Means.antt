@@ -185,7 +185,7 @@ module _ (look : ℕ → Result Value ExecFault) where
   between_means (Compare c) a b ra rb ma mb = in_turn_means (Compare c) a b ra rb ma mb
 
   -- a code alone gives what it means
-  value_when : (code : List Instr) (r : Result Value ExecFault) → Means code r → code_value look code ≡ r
+  pub value_when : (code : List Instr) (r : Result Value ExecFault) → Means code r → code_value look code ≡ r
   value_when code r means =
       ap (λ z. gives z 0 []) (sym (append-nil code)) ∙ means [] [] ∙ whole r where
         whole : (r : Result Value ExecFault) → (r >>= λ v. gives [] 0 (v ∷ [])) ≡ r
@@ -193,12 +193,12 @@ module _ (look : ℕ → Result Value ExecFault) where
         whole (Err f) = refl
 
   -- a number on the left and on the right of an operator
-  sum_swapped : (n : ℤ) (rb : Result Value ExecFault) → in_order Add rb (Ok (Int n)) ≡ in_order Add (Ok (Int n)) rb
+  pub sum_swapped : (n : ℤ) (rb : Result Value ExecFault) → in_order Add rb (Ok (Int n)) ≡ in_order Add (Ok (Int n)) rb
   sum_swapped n (Ok (Int m)) = ap (λ z. int_value (bounded z)) (+ℤ_comm m n)
   sum_swapped n (Ok (Text t)) = refl
   sum_swapped n (Err f) = refl
 
-  product_swapped : (n : ℤ) (rb : Result Value ExecFault) → in_order Mul rb (Ok (Int n)) ≡ in_order Mul (Ok (Int n)) rb
+  pub product_swapped : (n : ℤ) (rb : Result Value ExecFault) → in_order Mul rb (Ok (Int n)) ≡ in_order Mul (Ok (Int n)) rb
   product_swapped n (Ok (Int m)) = ap (λ z. int_value (bounded z)) (*ℤ_comm m n)
   product_swapped n (Ok (Text t)) = refl
   product_swapped n (Err f) = refl

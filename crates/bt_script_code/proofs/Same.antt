@@ -1,5 +1,5 @@
 -- The code of a script means what the script means.
-use Rattle.std.proofs.Common.{◌≡◌, ℕ, ℤ, ◌+◌, max, List, [], ◌∷◌, ◌++◌, map, length, refl, sym, ap, ◌∙◌, subst, arith, pos, sum, take, get_or, ◌<◌}
+use Rattle.std.proofs.Common.{◌≡◌, ℕ, ℤ, ◌+◌, max, List, [], ◌∷◌, ◌++◌, map, length, refl, sym, ap, ◌∙◌, subst, arith, pos, Bool, ◌||◌, take, get_or, ◌<◌}
 use Rattle.std.proofs.lemmas.Grind.{take_at_read}
 use Rattle.std.proofs.lemmas.List.{map-append}
 use Rattle.std.proofs.lemmas.List.Sums.{sum_by-cons}
@@ -14,19 +14,20 @@ use Rattle.bt_script.specs.declared.syntax.Stmt.{Stmt}
 use Rattle.bt_script.specs.declared.syntax.Stmt.TheVariants as stmt
 use Rattle.bt_script.specs.Entries.{entry_of}
 use Rattle.bt_script.specs.Evaluation.{stmts_of, written, if_there, followed}
-use Rattle.bt_script.specs.Grammar.{expr_of}
 use Rattle.bt_script.specs.Numbers.{greatest}
 use Rattle.bt_script.specs.Scripts.{texts_step, texts_of}
 use Rattle.bt_script_code.specs.declared.codes.StmtCode.TheVariants as coded
 use Rattle.bt_script_code.specs.declared.instr.Instr.{Instr}
 use Rattle.bt_script_code.specs.declared.instr.Instr.TheVariants as instr
 use Rattle.bt_script_code.specs.declared.postfix.Postfix.{Postfix}
+use Rattle.bt_script_code.specs.Meeting.{is_ok_and, stmt_meets, stmts_meet}
 use Rattle.bt_script_code.specs.Postfixes.{operator, with_number, applied, ended, between, operation, choice_code, code_step, code_of}
 use Rattle.bt_script_code.specs.Programs.{Formula, Program, formula_of, statement_of, program_of}
 use Rattle.bt_script_code.specs.Running.{instr_reach, code_reach, instr_texts, code_texts}
 use Rattle.bt_script_code.specs.Sources.{reach_step, reach_of, stmt_reach}
-use Rattle.bt_script_code.specs.Statements.{code_formula, stmt_program, runs, one_by_one}
+use Rattle.bt_script_code.specs.Statements.{code_formula, stmt_program, runs, one_meets, one_by_one}
 use Rattle.bt_script_code.proofs.Means.{expr_value, change_value}
+use Rattle.bt_script_code.proofs.Meets.{expr_met, change_met}
 use Rattle.bt_script_code.proofs.Standing.{reach-append, texts-append}
 
 operator_reach : (op : BinOp) → instr_reach (operator op) ≡ 0
@@ -163,18 +164,19 @@ module _ (names : List ℕ → ℕ) where
     value = λ look. expr_value look names e i;
     reach = same_reach e i;
     texts = same_texts e i;
+    meets = λ look. expr_met look names e i;
   }
 
   -- a statement that writes a value, new or not, by what gives the value
   abbrev created : ℕ → Formula → Program
-  created k f = record { run = λ entries. written k entries (f.value (entry_of entries)); reach = max (k + 1) f.reach; texts = f.texts }
+  created k f = record { run = λ entries. written k entries (f.value (entry_of entries)); reach = max (k + 1) f.reach; meets = λ entries. f.meets (entry_of entries) }
 
   -- a statement that writes a value where there is one
   abbrev assigned : ℕ → Formula → Program
-  assigned k f = record { run = λ entries. written k entries (if_there k entries (f.value (entry_of entries))); reach = max (k + 1) f.reach; texts = f.texts }
+  assigned k f = record { run = λ entries. written k entries (if_there k entries (f.value (entry_of entries))); reach = max (k + 1) f.reach; meets = λ entries. f.meets (entry_of entries) }
 
   abbrev plain : Formula → Program
-  plain f = record { run = λ entries. record { answer = f.value (entry_of entries); entries = entries }; reach = f.reach; texts = f.texts }
+  plain f = record { run = λ entries. record { answer = f.value (entry_of entries); entries = entries }; reach = f.reach; meets = λ entries. f.meets (entry_of entries) }
 
   pub same_create : (name : List ℕ) (e : Expr) (p : Postfix) → p.instrs ≡ code_of names e → stmt_program (coded.Create (names name) p) ≡ statement_of names (stmt.Create name e)
   same_create name e p same = ap (created (names name)) (ap code_formula same ∙ same_formula e)
@@ -191,11 +193,10 @@ module _ (names : List ℕ → ℕ) where
       let k = names name in
       let front : List Instr = instr.Slot k ∷ [] in
       let reach : max (k + 1) (code_reach (between op front (code_of names e))) ≡ max (k + 1) (reach_of names e) = omega (arith, reach-between op front (code_of names e), same_reach e) in
-      let texts : code_texts (between op front (code_of names e)) ≡ texts_of e = omega (arith, texts-between op front (code_of names e), sum_by-cons instr_texts (instr.Slot k) [], same_texts e) in
       λ i. record {
         run = λ entries. written k entries (if_there k entries (change_value (entry_of entries) names op k e i));
         reach = reach i;
-        texts = texts i;
+        meets = λ entries. change_met (entry_of entries) names op k e i;
       }
 
   pub same_change : (op : BinOp) (name : List ℕ) (e : Expr) (p : Postfix) → p.instrs ≡ between op (instr.Slot (names name) ∷ []) (code_of names e) → stmt_program (coded.Assign (names name) p) ≡ statement_of names (stmt.Change op name e)
@@ -209,16 +210,17 @@ module _ (names : List ℕ → ℕ) where
   same_reaches [] = refl
   same_reaches (s ∷ stmts) = ap (max (stmt_reach names s)) (same_reaches stmts)
 
-  same_counts : (stmts : List Stmt) → map (λ p. p.texts) (map (statement_of names) stmts) ≡ map (λ s. texts_of (expr_of s)) stmts
-  same_counts [] = refl
-  same_counts (s ∷ stmts) = ap (λ ns. texts_of (expr_of s) ∷ ns) (same_counts stmts)
+  same_meetings : (stmts : List Stmt) (entries : List (Option Value)) → one_meets (map (statement_of names) stmts) entries ≡ stmts_meet names stmts entries
+  same_meetings [] entries = refl
+  same_meetings (s ∷ stmts) entries =
+      λ i. stmt_meets names s entries || is_ok_and ((statement_of names s).run entries).answer (λ _. same_meetings stmts ((statement_of names s).run entries).entries i)
 
   -- statements one after the other
   pub same_program : (stmts : List Stmt) → one_by_one (map (statement_of names) stmts) ≡ program_of names stmts
   same_program stmts = λ i. record {
     run = λ entries. same_runs (Int (pos 0)) stmts entries i;
     reach = same_reaches stmts i;
-    texts = sum (same_counts stmts i);
+    meets = λ entries. same_meetings stmts entries i;
   }
 
 -- one more of each of two lists that are seen alike

@@ -1,12 +1,19 @@
 -- Places of codes that stand one after the other, and what is said of each instruction of a code.
 use Rattle.std.proofs.Common.{◌≡◌, ℕ, zero, suc, ◌+◌, ◌≤◌, max, Bool, true, false, ◌&&◌, List, [], ◌∷◌, ◌++◌, length, refl, sym, ap, ◌∙◌, arith, true≢false}
-use Rattle.std.specs.Prelude.{Some, slice_get}
+use Rattle.std.specs.Prelude.{Some, Result, Ok, Err, ◌||◌, slice_get, slice_index_or}
 use Rattle.std.proofs.lemmas.Option.{slice_get_within}
 use Rattle.std.proofs.lemmas.List.Sums.{sum_by-append, sum_by-cons}
+use Rattle.bt_script.specs.declared.value.Value.{Value}
+use Rattle.bt_script.specs.declared.fault.ExecFault.{ExecFault}
+use Rattle.bt_script.specs.declared.cells.Seen.{Seen}
+use Rattle.bt_script.specs.declared.cells.Seen.TheVariants as seen
+use Rattle.bt_script.specs.Entries.{seen_number, look_of}
 use Rattle.bt_script_code.specs.declared.instr.Instr.{Instr}
+use Rattle.bt_script_code.specs.declared.instr.Instr.TheVariants as instr
+use Rattle.bt_script_code.specs.Meeting.{gives_text, is_ok_and}
 use Rattle.bt_script_code.specs.Places.{at_place}
 use Rattle.bt_script_code.specs.Rooms.{fits_from}
-use Rattle.bt_script_code.specs.Running.{instr_reach, code_reach, instr_texts, code_texts}
+use Rattle.bt_script_code.specs.Running.{Step, step_of, puts_text, meets_from, code_meets, instr_reach, code_reach, instr_texts, code_texts}
 
 module _ {R : Type 0} (makes : Instr → (ℕ → R) → R) (end past : R) where
   -- a place behind the first of two codes
@@ -50,15 +57,37 @@ reach_at [] place i is = absurd (omega (arith, slice_get_within [] place i is))
 reach_at (j ∷ code) zero i is = let same : j ≡ i = cc in omega (arith, ap instr_reach same)
 reach_at (j ∷ code) (suc place) i is = omega (arith, reach_at code place i is)
 
--- an instruction of a code without texts
-pub texts_at : (code : List Instr) (place : ℕ) (i : Instr) → slice_get code place ≡ Some i → code_texts code ≡ 0 → instr_texts i ≡ 0
-texts_at [] place i is none = absurd (omega (arith, slice_get_within [] place i is))
-texts_at (j ∷ code) zero i is none = let same : j ≡ i = cc in omega (arith, ap instr_texts same, sum_by-cons instr_texts j code, none)
-texts_at (j ∷ code) (suc place) i is none = texts_at code place i is (omega (arith, sum_by-cons instr_texts j code, none))
-
 pub reach-append : (a b : List Instr) → code_reach (a ++ b) ≡ max (code_reach a) (code_reach b)
 reach-append [] b = omega arith
 reach-append (i ∷ a) b = omega (arith, reach-append a b)
+
+module _ (look : ℕ → Result Value ExecFault) (textless : (k : ℕ) → gives_text (look k) ≡ false) where
+  none_put : (i : Instr) → instr_texts i ≡ 0 → puts_text look i ≡ false
+  none_put (instr.Text t) none = absurd (omega (arith, none))
+  none_put (instr.Slot k) none = textless k
+  none_put i none = refl
+
+  met_next : (code : List Instr) → ((place : ℕ) (stack : List Value) → meets_from look code place stack ≡ false) → (r : Result Step ExecFault) → is_ok_and r (λ s. meets_from look code s.0 s.1) ≡ false
+  met_next code none (Ok s) = none s.0 s.1
+  met_next code none (Err f) = refl
+
+  -- a code without text literals, over slots that give no text
+  textless_meets : (code : List Instr) → code_texts code ≡ 0 → (place : ℕ) (stack : List Value) → meets_from look code place stack ≡ false
+  textless_meets [] none zero stack = refl
+  textless_meets [] none (suc place) stack = refl
+  textless_meets (i ∷ code) none zero stack =
+      ap (λ b. b || is_ok_and (step_of look i stack) (λ s. meets_from look code s.0 s.1)) (none_put i (omega (arith, sum_by-cons instr_texts i code, none)))
+      ∙ met_next code (textless_meets code (omega (arith, none, sum_by-cons instr_texts i code))) (step_of look i stack)
+  textless_meets (i ∷ code) none (suc place) stack = textless_meets code (omega (arith, sum_by-cons instr_texts i code, none)) place stack
+
+no_text_seen : (slot : ℕ) (s : Seen) → gives_text (seen_number slot s) ≡ false
+no_text_seen slot (seen.Int n) = refl
+no_text_seen slot seen.Text = refl
+no_text_seen slot seen.Absent = refl
+
+-- a code without text literals, where a text that is looked at is a fault
+pub none_met : (sights : List Seen) (code : List Instr) → code_texts code ≡ 0 → code_meets (look_of sights) code ≡ false
+none_met sights code none = textless_meets (look_of sights) (λ k. no_text_seen k (slice_index_or sights k seen.Absent)) code none 0 []
 
 pub texts-append : (a b : List Instr) → code_texts (a ++ b) ≡ code_texts a + code_texts b
 texts-append a b = sum_by-append instr_texts a b

@@ -1,6 +1,6 @@
 -- What a step leaves has room.
 use Rattle.std.proofs.Common.{◌≡◌, ℕ, ◌+◌, ◌-◌, ◌≤◌, ℤ, Bool, true, false, List, [], ◌∷◌, length, refl, sym, ap, ◌∙◌, subst, arith, true≢false, eqb-true, zero, suc}
-use Rattle.std.specs.Prelude.{Some, Result, Ok, Err, slice_get, if◌then◌else◌}
+use Rattle.std.specs.Prelude.{◌||◌, Some, Result, Ok, Err, slice_get, if◌then◌else◌}
 use Rattle.bt_script.specs.declared.value.Value.{Value}
 use Rattle.bt_script.specs.declared.value.Value.TheVariants.{Int, Text}
 use Rattle.bt_script.specs.declared.syntax.BinOp.{BinOp}
@@ -12,10 +12,19 @@ use Rattle.bt_script.specs.Operators.{number_in, is_true, unary_on, binary_on}
 use Rattle.bt_script.specs.Results.{◌>>=◌}
 use Rattle.bt_script_code.specs.declared.instr.Instr.{Instr}
 use Rattle.bt_script_code.specs.declared.instr.Instr.TheVariants as instr
+use Rattle.bt_script_code.specs.Meeting.{is_ok_and}
 use Rattle.bt_script_code.specs.Rooms.{has_room, leads_well, fits_step, fits_from}
-use Rattle.bt_script_code.specs.Running.{on_top, put, binary_put, told, Step, next, either_step, step_of, jump_of, does, gives_from}
+use Rattle.bt_script_code.specs.Running.{on_top, put, binary_put, told, Step, next, either_step, step_of, jump_of, does, gives_from, puts_text, meets, meets_from}
 use Rattle.bt_script_code.specs.Stacks.{Leads, Leaves}
 use Rattle.bt_script_code.proofs.Standing.{opens, place_within, and_first, and_second}
+
+pub or_first : (a b : Bool) → (a || b) ≡ false → a ≡ false
+or_first true b none = none
+or_first false b none = refl
+
+or_second : (a b : Bool) → (a || b) ≡ false → b ≡ false
+or_second true b none = absurd (true≢false none)
+or_second false b none = none
 
 module _ (go : ℕ → ℕ → Bool) where
   -- the place to which a step leads has room for what the step leaves
@@ -131,6 +140,19 @@ module _ (room : ℕ) (look : ℕ → Result Value ExecFault) (code : List Instr
 
     pub within_on : fits_from room code place (length stack) ≡ true → place + 1 + n ≤ length code
     within_on fit = place_within room code (place + 1 + n) (length after) (room_on fit)
+
+  unfolded : meets_from look code place stack ≡ (puts_text look i || is_ok_and (step_of look i stack) (λ s. meets_from look code (place + 1 + s.0) s.1))
+  unfolded = ap (λ (t : List Value → Bool). t stack) (opens (meets look) _ _ code place i is)
+
+  -- an instruction of a code that meets no text
+  pub none_put : meets_from look code place stack ≡ false → puts_text look i ≡ false
+  none_put none = or_first (puts_text look i) _ (sym unfolded ∙ none)
+
+  -- no text is met from where the step leads
+  pub none_on : (n : ℕ) (after : List Value) → step_of look i stack ≡ Ok (n, after) → meets_from look code place stack ≡ false → meets_from look code (place + 1 + n) after ≡ false
+  none_on n after leads none =
+      ap (λ (r : Result Step ExecFault). is_ok_and r (λ s. meets_from look code (place + 1 + s.0) s.1)) (sym leads)
+      ∙ or_second (puts_text look i) _ (sym unfolded ∙ none)
 
   -- a step's fault is that of the code
   fault_here : (f : ExecFault) → step_of look i stack ≡ Err f → gives_from look code place stack ≡ Err f

@@ -1,4 +1,5 @@
 pub mod Codes
+pub mod Meeting
 pub mod Places
 pub mod Postfixes
 pub mod Programs

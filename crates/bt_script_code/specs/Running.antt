@@ -1,5 +1,5 @@
 -- What postfix code gives, and what it needs.
-use Rattle.std.specs.Prelude.{ℕ, ◌+◌, ℤ, pos, Bool, if◌then◌else◌, List, [], ◌∷◌, map, Result, Ok, Err}
+use Rattle.std.specs.Prelude.{ℕ, ◌+◌, ℤ, pos, Bool, true, false, ◌||◌, if◌then◌else◌, List, [], ◌∷◌, map, Result, Ok, Err}
 use Rattle.std.specs.List.{sum_by}
 use Rattle.bt_script.specs.declared.value.Value.{Value}
 use Rattle.bt_script.specs.declared.value.Value.TheVariants.{Int, Text}
@@ -13,6 +13,7 @@ use Rattle.bt_script.specs.Results.{◌>>=◌}
 use Rattle.bt_script.specs.Numbers.{greatest}
 use Rattle.bt_script_code.specs.declared.instr.Instr.{Instr}
 use Rattle.bt_script_code.specs.declared.instr.Instr.TheVariants as instr
+use Rattle.bt_script_code.specs.Meeting.{gives_text, is_ok_and}
 use Rattle.bt_script_code.specs.Places.{at_place}
 
 -- with the topmost value; a code that fits has one
@@ -101,6 +102,24 @@ gives_from look = at_place (does look) (on_top (λ x below. Ok x)) (λ stack. Er
 -- what a code gives where the slots give this
 abbrev pub code_value : (ℕ → Result Value ExecFault) → List Instr → Result Value ExecFault
 code_value look code = gives_from look code 0 []
+
+-- an instruction puts a text on top, a literal or that of a slot
+abbrev pub puts_text : (ℕ → Result Value ExecFault) → Instr → Bool
+puts_text look (instr.Text t) = true
+puts_text look (instr.Slot k) = gives_text (look k)
+puts_text look i = false
+
+-- whether an instruction meets a text, or those that are done after it do
+abbrev pub meets : (ℕ → Result Value ExecFault) → Instr → (ℕ → List Value → Bool) → List Value → Bool
+meets look i go stack = puts_text look i || is_ok_and (step_of look i stack) (λ s. go s.0 s.1)
+
+-- whether a code meets a text from a place on
+abbrev pub meets_from : (ℕ → Result Value ExecFault) → List Instr → ℕ → List Value → Bool
+meets_from look = at_place (meets look) (λ stack. false) (λ stack. false)
+
+-- whether a code meets a text where the slots give this
+abbrev pub code_meets : (ℕ → Result Value ExecFault) → List Instr → Bool
+code_meets look code = meets_from look code 0 []
 
 abbrev pub instr_reach : Instr → ℕ
 instr_reach (instr.Slot k) = k + 1

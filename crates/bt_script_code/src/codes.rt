@@ -2,8 +2,8 @@ ghost use Rattle.std.specs.Prelude.{◌≡◌, ◌≤◌, List, Option, Err};
 ghost use Rattle.bt_script.specs.declared.value.Value.{Value};
 ghost use Rattle.bt_script.specs.declared.fault.ExecFault.{ExecFault};
 ghost use Rattle.bt_script.specs.Entries.{entry_of};
-ghost use Rattle.bt_script_code.specs.Running.{code_reach, code_texts, code_value};
-ghost use Rattle.bt_script_code.specs.Statements.{expression, stmt_code_reach, stmt_code_texts, stmt_run};
+ghost use Rattle.bt_script_code.specs.Running.{code_meets, code_reach, code_value};
+ghost use Rattle.bt_script_code.specs.Statements.{expression, stmt_code_meets, stmt_code_reach, stmt_run};
 
 use crate::postfix::Postfix;
 use bt_script::Items;
@@ -25,7 +25,7 @@ impl StmtCode {
     pub fn postfix(&self) -> &Postfix
         ensures code { result.now.instrs ≡ expression self.now }
         ensures reach { code_reach result.now.instrs ≤ stmt_code_reach self.now }
-        ensures texts { code_texts result.now.instrs ≡ stmt_code_texts self.now }
+        ensures meets { (entries : List (Option Value)) → code_meets (entry_of entries) result.now.instrs ≡ stmt_code_meets self.now entries }
         ensures fault { (entries : List (Option Value)) (f : ExecFault) →
             code_value (entry_of entries) result.now.instrs ≡ Err f → (stmt_run self.now entries).answer ≡ Err f }
     {

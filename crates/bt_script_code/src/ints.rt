@@ -1,14 +1,13 @@
-ghost use Rattle.std.specs.Prelude.{◌≡◌, true, ◌≢◌, ◌+◌, ◌<◌, ◌≤◌, None, IfNone, IfSome, IsErr, OnErr, Ok, length};
-ghost use Rattle.std.specs.List.{All};
+ghost use Rattle.std.specs.Prelude.{◌≡◌, true, false, ◌≢◌, ◌+◌, ◌<◌, ◌≤◌, None, IfNone, IfSome, IsErr, OnErr, Ok, length};
 ghost use Rattle.bt_script.specs.declared.value.Value.TheVariants.{Int};
-ghost use Rattle.bt_script.specs.Entries.{entry_of, HoldsNoText, IsAnswered};
+ghost use Rattle.bt_script.specs.Entries.{entry_of, IsAnswered};
 ghost use Rattle.bt_script.specs.Evaluation.{Run, written, if_there};
 ghost use Rattle.bt_script.specs.Stops.{UnlessMemory};
 ghost use Rattle.bt_script_code.specs.Codes.{program};
 ghost use Rattle.bt_script_code.specs.Rooms.{fits};
-ghost use Rattle.bt_script_code.specs.Running.{code_reach, code_texts, code_value};
+ghost use Rattle.bt_script_code.specs.Running.{code_meets, code_reach, code_value};
 ghost use Rattle.bt_script_code.specs.Stacks.{Leaves};
-ghost use Rattle.bt_script_code.specs.Statements.{stmt_code_reach, stmt_code_texts, stmt_run};
+ghost use Rattle.bt_script_code.specs.Statements.{stmt_code_meets, stmt_code_reach, stmt_run};
 
 use crate::codes::{Code, StmtCode};
 use crate::machine::run;
@@ -24,14 +23,11 @@ struct EntryNumbers<'a, B: Cells> {
 
 impl<B: Cells> Numbers for EntryNumbers<'_, B> {
     ghost use Rattle.std.specs.Prelude.{length};
-    ghost use Rattle.std.specs.List.{All};
-    ghost use Rattle.bt_script.specs.Entries.{entry_of as found, HoldsNoText as HasNumber};
+    ghost use Rattle.bt_script.specs.Entries.{entry_of as found};
 
     ghost reach = { λ s. length (B.entries s.cells.now) };
 
     ghost gives = { λ s. found (B.entries s.cells.now) };
-
-    ghost IsPlain = { λ s. All HasNumber (B.entries s.cells.now) };
 
     #[inline(always)]
     fn number(&self, slot: u32) -> Result<i64, Stop<ExecFault>> {
@@ -56,7 +52,7 @@ fn int_on<B: Cells, const N: usize>(
     requires fits { fits N code.now.instrs ≡ true }
     requires reach { code_reach code.now.instrs ≤ length (B.entries cells.now) }
     ensures leaves { Leaves result (code_value (entry_of (B.entries cells.now)) code.now.instrs) Int }
-    ensures answered { code_texts code.now.instrs ≡ 0 → All HoldsNoText (B.entries cells.now) → IsAnswered result }
+    ensures answered { code_meets (entry_of (B.entries cells.now)) code.now.instrs ≡ false → IsAnswered result }
 {
     let mut stack = NumberStack::empty(places);
     run(code, &EntryNumbers { cells }, &mut stack)?;
@@ -68,7 +64,7 @@ fn int_on<B: Cells, const N: usize>(
 fn high_int_of<B: Cells>(code: &Postfix, cells: &B) -> Result<i64, Stop<ExecFault>>
     requires { code_reach code.now.instrs ≤ length (B.entries cells.now) }
     ensures leaves { Leaves result (code_value (entry_of (B.entries cells.now)) code.now.instrs) Int }
-    ensures answered { code_texts code.now.instrs ≡ 0 → All HoldsNoText (B.entries cells.now) → IsAnswered result }
+    ensures answered { code_meets (entry_of (B.entries cells.now)) code.now.instrs ≡ false → IsAnswered result }
 {
     int_on(code, cells, &mut [0; 65])
 }
@@ -78,7 +74,7 @@ fn high_int_of<B: Cells>(code: &Postfix, cells: &B) -> Result<i64, Stop<ExecFaul
 fn int_of<B: Cells>(code: &Postfix, cells: &B) -> Result<i64, Stop<ExecFault>>
     requires { code_reach code.now.instrs ≤ length (B.entries cells.now) }
     ensures leaves { Leaves result (code_value (entry_of (B.entries cells.now)) code.now.instrs) Int }
-    ensures answered { code_texts code.now.instrs ≡ 0 → All HoldsNoText (B.entries cells.now) → IsAnswered result }
+    ensures answered { code_meets (entry_of (B.entries cells.now)) code.now.instrs ≡ false → IsAnswered result }
 {
     if !code.is_low {
         return high_int_of(code, cells);
@@ -97,7 +93,6 @@ fn assign_int<B: Cells>(slot: u32, n: i64, cells: &mut B) -> Result<i64, Stop<Ex
     ensures nothing { OnErr result (B.entries cells.new ≡ B.entries cells.old) }
     ensures answered { IsAnswered result }
     ensures slots { length (B.entries cells.new) ≡ length (B.entries cells.old) }
-    ensures left { All HoldsNoText (B.entries cells.old) → All HoldsNoText (B.entries cells.new) }
 {
     match cells.get(slot) {
         None => Err(Stop::Fault(ExecFault::NoEntry { slot })),
@@ -116,9 +111,8 @@ pub fn step_int<B: Cells>(stmt: &StmtCode, cells: &mut B) -> Result<i64, Stop<Ex
     ensures answer { Leaves result (stmt_run stmt.now (B.entries cells.old)).answer Int }
     ensures entries { UnlessMemory result (B.entries cells.new ≡ (stmt_run stmt.now (B.entries cells.old)).entries) }
     ensures nothing { OnErr result (B.entries cells.new ≡ B.entries cells.old) }
-    ensures answered { stmt_code_texts stmt.now ≡ 0 → All HoldsNoText (B.entries cells.old) → IsAnswered result }
+    ensures answered { stmt_code_meets stmt.now (B.entries cells.old) ≡ false → IsAnswered result }
     ensures slots { length (B.entries cells.new) ≡ length (B.entries cells.old) }
-    ensures left { All HoldsNoText (B.entries cells.old) → All HoldsNoText (B.entries cells.new) }
 {
     let n = int_of(stmt.postfix(), cells)?;
     match stmt {
@@ -141,11 +135,10 @@ pub fn exec_int<B: Cells>(code: &Code, cells: &mut B) -> Option<i64>
     ensures gives { IfSome result (λ n. (program code.now).run (B.entries cells.old) ≡
         record { answer = Ok (Int n); entries = B.entries cells.new }) }
     ensures nothing { IfNone result (B.entries cells.new ≡ B.entries cells.old) }
-    ensures fault { length code.now.stmts ≡ 1 → (program code.now).texts ≡ 0 →
-        All HoldsNoText (B.entries cells.old) → IfNone result (IsErr ((program code.now).run (B.entries cells.old)).answer) }
+    ensures fault { length code.now.stmts ≡ 1 → (program code.now).meets (B.entries cells.old) ≡ false →
+        IfNone result (IsErr ((program code.now).run (B.entries cells.old)).answer) }
     ensures several { length code.now.stmts ≢ 1 → result ≡ None }
     ensures slots { length (B.entries cells.new) ≡ length (B.entries cells.old) }
-    ensures left { All HoldsNoText (B.entries cells.old) → All HoldsNoText (B.entries cells.new) }
 {
     match code.stmts.list() {
         [only] => step_int(only, cells).ok(),

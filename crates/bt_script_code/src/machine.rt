@@ -1,8 +1,8 @@
-ghost use Rattle.std.specs.Prelude.{◌≡◌, ◌+◌, ◌-◌, ◌^◌, ◌<◌, ◌≤◌, [], ◌∷◌, true, pos, IfOk, length};
+ghost use Rattle.std.specs.Prelude.{◌≡◌, ◌+◌, ◌-◌, ◌^◌, ◌<◌, ◌≤◌, [], ◌∷◌, true, false, pos, IfOk, length};
 ghost use Rattle.bt_script.specs.Entries.{IsAnswered};
 ghost use Rattle.bt_script.specs.declared.value.Value.TheVariants.{Int};
 ghost use Rattle.bt_script_code.specs.Rooms.{fits, fits_from, has_room};
-ghost use Rattle.bt_script_code.specs.Running.{by_truth, code_reach, code_texts, code_value, gives_from, instr_reach, instr_texts, jump_of, put, step_of};
+ghost use Rattle.bt_script_code.specs.Running.{by_truth, code_meets, code_reach, code_value, gives_from, instr_reach, jump_of, meets_from, put, puts_text, step_of};
 ghost use Rattle.bt_script_code.specs.Stacks.{Leads, Leaves};
 
 use crate::instr::Instr;
@@ -65,7 +65,7 @@ fn turn<C, S: Stack<C>>(
     ensures leads { let step = step_of (S.gives slots.now) instr.now (S.values stack.old) in
         Leaves result step (λ place. (place - next, S.values stack.new)) }
     ensures on { IfOk result (λ place. next ≤ place) }
-    ensures answered { S.numbers ≡ true → S.IsHeld slots.now → instr_texts instr.now ≡ 0 → IsAnswered result }
+    ensures answered { S.numbers ≡ true → puts_text (S.gives slots.now) instr.now ≡ false → IsAnswered result }
 {
     match instr {
         Instr::Number(n) => stack.put_number(*n),
@@ -111,7 +111,9 @@ fn turn_at<C, S: Stack<C>>(
         Leads result (gives_from look code.now place (S.values stack.old)) (λ next. gives_from look code.now next (S.values stack.new)) }
     ensures room { IfOk result (λ next. fits_from S.room code.now next (length (S.values stack.new)) ≡ true) }
     ensures on { IfOk result (λ next. place < next) }
-    ensures answered { S.numbers ≡ true → S.IsHeld slots.now → code_texts code.now ≡ 0 → IsAnswered result }
+    ensures met { let look = S.gives slots.now in
+        meets_from look code.now place (S.values stack.old) ≡ false → IfOk result (λ next. meets_from look code.now next (S.values stack.new) ≡ false) }
+    ensures answered { S.numbers ≡ true → meets_from (S.gives slots.now) code.now place (S.values stack.old) ≡ false → IsAnswered result }
 {
     match turn(&code[place], place + 1, slots, stack) {
         Ok(next) => Ok(next),
@@ -127,7 +129,7 @@ pub fn run<C, S: Stack<C>>(code: &Postfix, slots: &C, stack: &mut S) -> Result<(
     requires fits { fits S.room code.now.instrs ≡ true }
     requires reach { code_reach code.now.instrs ≤ S.reach slots.now }
     ensures leaves { Leaves result (put (code_value (S.gives slots.now) code.now.instrs) []) (λ _. S.values stack.new) }
-    ensures answered { S.numbers ≡ true → S.IsHeld slots.now → code_texts code.now.instrs ≡ 0 → IsAnswered result }
+    ensures answered { S.numbers ≡ true → code_meets (S.gives slots.now) code.now.instrs ≡ false → IsAnswered result }
 {
     let instrs = code.instrs.list();
     let mut place = 0;

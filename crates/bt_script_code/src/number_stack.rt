@@ -1,8 +1,9 @@
-ghost use Rattle.std.specs.Prelude.{◌≡◌, ℕ, ◌<◌, ◌≤◌, [], ◌∷◌, Result, length};
+ghost use Rattle.std.specs.Prelude.{◌≡◌, ℕ, ◌<◌, ◌≤◌, [], ◌∷◌, false, Result, length};
 ghost use Rattle.bt_script.specs.declared.value.Value.{Value};
 ghost use Rattle.bt_script.specs.declared.value.Value.TheVariants.{Int};
 ghost use Rattle.bt_script.specs.declared.fault.ExecFault.{ExecFault as Fault};
 ghost use Rattle.bt_script.specs.Entries.{IsAnswered};
+ghost use Rattle.bt_script_code.specs.Meeting.{gives_text};
 ghost use Rattle.bt_script_code.specs.Stacks.{Leaves};
 
 use crate::operators::{binary_ints, unary_int};
@@ -78,14 +79,11 @@ pub trait Numbers {
     /// What each slot gives.
     ghost gives: { Self → ℕ → Result Value Fault };
 
-    /// No slot gives what is no number and no fault.
-    ghost IsPlain: { Self → Type 0 };
-
     /// The number that a slot gives, or its fault. Where it gives a text, the answer is want of memory.
     fn number(&self, slot: u32) -> Result<i64, Stop<ExecFault>>
         requires { slot < reach self.now }
         ensures gives { Leaves result (gives self.now slot) Int }
-        ensures answered { IsPlain self.now → IsAnswered result };
+        ensures answered { gives_text (gives self.now slot) ≡ false → IsAnswered result };
 }
 
 impl<C: Numbers, const N: usize> Stack<C> for NumberStack<'_, N> {
@@ -101,8 +99,6 @@ impl<C: Numbers, const N: usize> Stack<C> for NumberStack<'_, N> {
     ghost reach = { λ slots. C.reach slots };
 
     ghost gives = { λ slots. C.gives slots };
-
-    ghost IsHeld = { λ slots. C.IsPlain slots };
 
     #[inline(always)]
     fn put_number(&mut self, n: i64) {

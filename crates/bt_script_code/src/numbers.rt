@@ -25,8 +25,6 @@ impl<L: Looks> Numbers for SeenNumbers<'_, L> {
 
     ghost gives = { λ s. seen (L.sights s.looks.now) };
 
-    ghost IsPlain = { λ s. Unit {0} };
-
     #[inline(always)]
     fn number(&self, slot: u32) -> Result<i64, Stop<ExecFault>> {
         match self.looks.look(slot) {
@@ -39,7 +37,7 @@ impl<L: Looks> Numbers for SeenNumbers<'_, L> {
 
 /// The number that a code without text literals gives over the looks, or its first fault, on a stack
 /// over these places.
-#[tactic(auto, using(crate::proofs::Given::number_there, crate::proofs::Given::number_given))]
+#[tactic(auto, using(crate::proofs::Given::number_there, crate::proofs::Given::number_given, crate::proofs::Standing::none_met))]
 #[inline(always)]
 fn number_on<L: Looks, const N: usize>(
     code: &Postfix,

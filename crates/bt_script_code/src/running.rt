@@ -1,11 +1,10 @@
-ghost use Rattle.std.specs.Prelude.{◌≡◌, ◌+◌, ◌<◌, ◌≤◌, length, Ok};
-ghost use Rattle.std.specs.List.{All};
+ghost use Rattle.std.specs.Prelude.{◌≡◌, false, ◌+◌, ◌<◌, ◌≤◌, length, Ok};
 ghost use Rattle.bt_script.specs.Stops.{Gives, UnlessMemory};
 ghost use Rattle.bt_script_code.specs.Codes.{program};
-ghost use Rattle.bt_script.specs.Entries.{entry_of, HoldsNoText, IsAnswered};
+ghost use Rattle.bt_script.specs.Entries.{entry_of, IsAnswered};
 ghost use Rattle.bt_script.specs.Evaluation.{written, if_there};
 ghost use Rattle.bt_script_code.specs.Running.{code_reach, code_value};
-ghost use Rattle.bt_script_code.specs.Statements.{stmt_code_reach, stmt_code_texts, stmt_run};
+ghost use Rattle.bt_script_code.specs.Statements.{stmt_code_meets, stmt_code_reach, stmt_run};
 
 use crate::codes::{Code, StmtCode};
 use crate::ints::step_int;
@@ -36,8 +35,6 @@ impl<B: Cells> Stack<B> for EntryValues {
     ghost reach = { λ cells. length (B.entries cells) };
 
     ghost gives = { λ cells. found (B.entries cells) };
-
-    ghost IsHeld = { λ cells. ⊥ };
 
     fn put_number(&mut self, n: i64) {
         self.values.put(Value::Int(n));
@@ -172,9 +169,7 @@ fn step<B: Cells>(alloc: Global, stmt: &StmtCode, cells: &mut B) -> Result<Value
     ensures answer { Gives result (stmt_run stmt.now (B.entries cells.old)).answer }
     ensures entries { UnlessMemory result (B.entries cells.new ≡ (stmt_run stmt.now (B.entries cells.old)).entries) }
     ensures slots { length (B.entries cells.new) ≡ length (B.entries cells.old) }
-    ensures answered { stmt_code_texts stmt.now ≡ 0 → All HoldsNoText (B.entries cells.old) → IsAnswered result }
-    ensures left { stmt_code_texts stmt.now ≡ 0 →
-        All HoldsNoText (B.entries cells.old) → All HoldsNoText (B.entries cells.new) }
+    ensures answered { stmt_code_meets stmt.now (B.entries cells.old) ≡ false → IsAnswered result }
 {
     match step_int(stmt, cells) {
         Ok(n) => Ok(Value::Int(n)),
@@ -184,14 +179,14 @@ fn step<B: Cells>(alloc: Global, stmt: &StmtCode, cells: &mut B) -> Result<Value
 }
 
 /// Runs a script over the cells and gives the value of its last statement, or the first fault. The
-/// writes before a fault stand. Want of memory comes only where a text is made or copied.
+/// writes before a fault stand. Want of memory comes only where the run meets a text.
 #[tactic(auto, unfolding(crate::specs::Codes::program))]
 pub fn exec<B: Cells>(alloc: Global, code: &Code, cells: &mut B) -> Result<Value, Stop<ExecFault>>
     requires { (program code.now).reach ≤ length (B.entries cells.old) }
     ensures answer { Gives result ((program code.now).run (B.entries cells.old)).answer }
     ensures entries { UnlessMemory result (B.entries cells.new ≡ ((program code.now).run (B.entries cells.old)).entries) }
     ensures slots { length (B.entries cells.new) ≡ length (B.entries cells.old) }
-    ensures memory { (program code.now).texts ≡ 0 → All HoldsNoText (B.entries cells.old) → IsAnswered result }
+    ensures memory { (program code.now).meets (B.entries cells.old) ≡ false → IsAnswered result }
 {
     let mut last = Value::Int(0);
     for stmt in code.stmts.list() {

@@ -1,8 +1,9 @@
-ghost use Rattle.std.specs.Prelude.{◌≡◌, ℕ, ◌+◌, ◌<◌, List, ◌∷◌, Bool, true, Ok, Result, OnOk, length};
+ghost use Rattle.std.specs.Prelude.{◌≡◌, ℕ, ◌+◌, ◌<◌, List, ◌∷◌, Bool, true, false, Ok, Result, OnOk, length};
 ghost use Rattle.bt_script.specs.declared.value.Value.{Value};
 ghost use Rattle.bt_script.specs.declared.value.Value.TheVariants.{Int, Text};
 ghost use Rattle.bt_script.specs.declared.fault.ExecFault.{ExecFault as Fault};
 ghost use Rattle.bt_script.specs.Entries.{IsAnswered};
+ghost use Rattle.bt_script_code.specs.Meeting.{gives_text};
 ghost use Rattle.bt_script_code.specs.Running.{binary_put, put, truth_taken, unary_put};
 ghost use Rattle.bt_script_code.specs.Stacks.{Leaves};
 
@@ -26,9 +27,6 @@ pub trait Stack<C> {
     /// What each slot gives.
     ghost gives: { C → ℕ → Result Value Fault };
 
-    /// The stack can hold what each slot gives.
-    ghost IsHeld: { C → Type 0 };
-
     /// Puts a number on top.
     fn put_number(&mut self, n: i64)
         requires { length (values self.old) < room }
@@ -44,7 +42,7 @@ pub trait Stack<C> {
         requires room { length (values self.old) < room }
         requires slot { slot < reach slots.now }
         ensures puts { Leaves result (put (gives slots.now slot) (values self.old)) (λ _. values self.new) }
-        ensures answered { IsHeld slots.now → IsAnswered result };
+        ensures answered { numbers ≡ true → gives_text (gives slots.now slot) ≡ false → IsAnswered result };
 
     /// Puts an operator's result in place of its operand.
     fn unary(&mut self, op: UnOp) -> Result<(), Stop<ExecFault>>

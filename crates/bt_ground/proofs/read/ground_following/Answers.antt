@@ -1,4 +1,4 @@
-use Rattle.std.proofs.Common.{◌≡◌, List, ℕ, length, map, subst, arith, Ok}
+use Rattle.std.proofs.Common.{◌≡◌, map, subst, arith, Ok}
 use Rattle.std.proofs.lemmas.List.{length-map}
 use Rattle.bt_ground.specs.GroundFile.{Reading, with_lines}
 use Rattle.bt_ground.proofs.Soundness.{reading_sound}

@@ -1,4 +1,4 @@
-use Rattle.std.proofs.Common.{◌≡◌, ◌+◌, ◌<◌, ◌≤◌, length, get_or, ap, ◌∙◌, subst, sym, arith}
+use Rattle.std.proofs.Common.{◌≡◌, ◌+◌, ◌<◌, length, get_or, ap, ◌∙◌, arith}
 use Rattle.bt_ground.specs.Blocks.{standing}
 use Rattle.bt_ground.proofs.Bounds.{name_at, short_standing, values_step}
 use Rattle.bt_ground.proofs.sizes.values_size.Goals as goal

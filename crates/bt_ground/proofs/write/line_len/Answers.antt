@@ -1,4 +1,4 @@
-use Rattle.std.proofs.Common.{◌==◌, length, not, arith}
+use Rattle.std.proofs.Common.{◌==◌, not, arith}
 use Rattle.std.proofs.lemmas.List.Sums.{prefix_len-le-length}
 use Rattle.bt_ground.proofs.write.line_len.Goals as goal
 

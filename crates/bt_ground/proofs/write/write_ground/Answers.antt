@@ -1,4 +1,4 @@
-use Rattle.std.proofs.Common.{◌≡◌, ◌++◌, ◌∙◌, ap, sym, arith}
+use Rattle.std.proofs.Common.{arith}
 use Rattle.bt_ground.proofs.Writings.{cut_at, next_underway, stopped}
 use Rattle.bt_ground.proofs.write.write_ground.Goals as goal
 

@@ -1,6 +1,5 @@
 use Rattle.std.proofs.lemmas.Result.{err_from_is_err_and}
 use Rattle.std.specs.Option.{option_copied}
-use Rattle.bt_model.proofs.Runnable.{runnable}
 use Rattle.bt_output.proofs.Files.{both_parsed, tree_stopped, world_stopped}
 use Rattle.bt_output.proofs.command.run_files.Goals as goal
 
@@ -13,9 +12,6 @@ pub returns-in_err-world-clause-ends : goal.returns-in_err-world-clause-ends
 returns-in_err-world-clause-ends g c =
     let p = err_from_is_err_and c.from_residual-in_err-world.result c.from_residual-in_err-world.ensures.1 in
     rw (p.1, p.2) (world_stopped c.args.course (option_copied c.args.main) c.args.tree.now c.args.world.now c.requires.tree c.requires.world _ c.in_err-world.field-0.0 _ c.in_ok-tree.ensures.reads c.in_err-world.ensures.reads)
-
-pub join_and_run-requires-clause-runnable : goal.join_and_run-requires-clause-runnable
-join_and_run-requires-clause-runnable g c = runnable _ c.in_ok-tree.ensures.valid
 
 pub returns-clause-ends : goal.returns-clause-ends
 returns-clause-ends g c =

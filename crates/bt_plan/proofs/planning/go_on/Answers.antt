@@ -1,10 +1,10 @@
 use Rattle.std.proofs.Common.{◌≡◌, ◌∙◌, Some, Ok, Err, refl, sym, subst, arith}
 use Rattle.bt_script.specs.declared.stop.Stop.TheVariants as stop
-use Rattle.bt_model.proofs.Runnable.{runnable}
 use Rattle.bt_plan.specs.declared.ending.End.{End}
 use Rattle.bt_plan.specs.declared.ending.End.TheVariants.{Faulted}
+use Rattle.bt_plan.specs.PlanRuns.{Trial}
 use Rattle.bt_plan.specs.Ticked.{GoesFrom}
-use Rattle.bt_plan.proofs.Growths.{ok_gives}
+use Rattle.bt_plan.proofs.Growths.{fails_alone, ok_gives}
 use Rattle.bt_plan.proofs.Trials.{decides, goes_cut, goes_fails, goes_faulted, goes_reached, goes_running, notes_are, runs_as, stopped_as}
 use Rattle.bt_plan.proofs.planning.go_on.Goals as goal
 
@@ -15,9 +15,6 @@ tree_of-requires g c =
     let few = c.requires.1.1.1.1.1.1 in
     let most = c.requires.1.1.0.limits.expand in
     (tree.0, tree.1, omega (arith, many, few, most))
-
-pub run_tree-requires-clause-tree : goal.run_tree-requires-clause-tree
-run_tree-requires-clause-tree g c = runnable c.in_ok-tree.tree c.in_ok-tree.ensures.valid
 
 pub returns-in-Err-Fault-clause-goes : goal.returns-in-Err-Fault-clause-goes
 returns-in-Err-Fault-clause-goes g c = λ f st.
@@ -58,6 +55,20 @@ returns-in-Fails-clause-goes g c = λ f st.
     (ok_gives c.grow.result
     (λ end is. is (record { tree = f; before = c.in-Ok.tried.ticked.before }) st (decides world limits f tree planned _ _ c.in-Ok.tried ends _ c.in-Fails.is) (c.list.ensures ∙ notes_are world limits f tree planned _ _ c.in-Ok.tried ends) c.requires.1.1.1.1.1.1)
     c.grow.ensures)
+
+pub returns-in-Fails-clause-alone : goal.returns-in-Fails-clause-alone
+returns-in-Fails-clause-alone g c =
+    let world = c.args.world.now in
+    let limits = c.args.task.now.limits in
+    let tree = c.in_ok-tree.tree in
+    let f = c.requires.1.1.1.1.1.0 in
+    let planned = c.in_ok-tree.ensures.planned f.0 f.1 in
+    let ends = runs_as world g.of c.requires.1.0 limits tree _ _ (Ok c.in-Ok.tried) c.in-Ok.ensures.ends in
+    let failed = decides world limits f.0 tree planned _ _ c.in-Ok.tried ends _ c.in-Fails.is in
+    let trial : Trial = record { tree = f.0; before = c.in-Ok.tried.ticked.before } in
+    ok_gives c.grow.result
+    (λ end is. fails_alone c.grow.new.t world limits _ trial _ _ end failed (is trial f.1 failed (c.list.ensures ∙ notes_are world limits f.0 tree planned _ _ c.in-Ok.tried ends) c.requires.1.1.1.1.1.1))
+    c.grow.ensures
 
 pub returns-in-GoesOn-clause-goes : goal.returns-in-GoesOn-clause-goes
 returns-in-GoesOn-clause-goes g c = λ f st.

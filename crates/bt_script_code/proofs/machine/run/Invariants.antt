@@ -1,6 +1,6 @@
-use Rattle.std.proofs.Common.{◌≡◌, ◌-◌, true, length}
+use Rattle.std.proofs.Common.{◌≡◌, ◌-◌, true, false, length}
 use Rattle.bt_script_code.specs.Rooms.{fits_from}
-use Rattle.bt_script_code.specs.Running.{code_value, gives_from}
+use Rattle.bt_script_code.specs.Running.{code_meets, code_value, gives_from, meets_from}
 use Rattle.bt_script_code.proofs.machine.run.Given as goal
 
 abbrev pub invariant-loop-place : goal.invariant-loop-place
@@ -9,6 +9,7 @@ invariant-loop-place g l =
     let look = g.S.Stack.gives l.slots in
     record {
       gives : gives_from look l.instrs l.place (values l.stack) ≡ code_value look l.instrs;
+      met : code_meets look l.instrs ≡ false → meets_from look l.instrs l.place (values l.stack) ≡ false;
       room : fits_from g.S.Stack.room l.instrs l.place (length (values l.stack)) ≡ true;
     }
 

@@ -1,10 +1,10 @@
-use Rattle.std.proofs.Common.{◌≡◌, ◌+◌, ◌-◌, length, true, refl, sym, subst, ap, ◌∙◌, arith}
+use Rattle.std.proofs.Common.{◌≡◌, ◌+◌, ◌-◌, length, true, false, refl, sym, subst, ap, ◌∙◌, arith}
 use Rattle.std.proofs.lemmas.Option.{slice_get_read}
 use Rattle.std.proofs.lemmas.Grind.{common_steps}
 use Rattle.bt_script_code.specs.Rooms.{fits_from}
-use Rattle.bt_script_code.specs.Running.{gives_from}
-use Rattle.bt_script_code.proofs.Steps.{same_on, room_on, jump_within, stops_here, room_here}
-use Rattle.bt_script_code.proofs.Standing.{reach_at, texts_at}
+use Rattle.bt_script_code.specs.Running.{gives_from, meets_from}
+use Rattle.bt_script_code.proofs.Steps.{same_on, room_on, jump_within, stops_here, room_here, none_put, none_on}
+use Rattle.bt_script_code.proofs.Standing.{reach_at}
 use Rattle.bt_script_code.proofs.machine.turn_at.Goals as goal
 
 pub turn-requires : goal.turn-requires
@@ -24,6 +24,13 @@ returns-in-Ok-clause-leads g c =
     sym (same_on g.S.Stack.room (g.S.Stack.gives c.args.slots.now) c.args.code.now c.args.place c.index-code-place.result is (g.S.Stack.values c.args.stack.now) (c.in-Ok.next - (c.args.place + 1)) (g.S.Stack.values c.turn.new.stack) c.in-Ok.ensures.leads)
     ∙ ap (λ place. gives_from (g.S.Stack.gives c.args.slots.now) c.args.code.now place (g.S.Stack.values c.turn.new.stack)) to
 
+pub returns-in-Ok-clause-met : goal.returns-in-Ok-clause-met
+returns-in-Ok-clause-met g c =
+    let is = slice_get_read c.args.code.now (length c.args.code.now) c.args.place c.index-code-place.result refl c.requires.at c.index-code-place.is in
+    let to : c.args.place + 1 + (c.in-Ok.next - (c.args.place + 1)) ≡ c.in-Ok.next = omega (arith, c.in-Ok.ensures.on) in
+    λ none. subst (λ place. meets_from (g.S.Stack.gives c.args.slots.now) c.args.code.now place (g.S.Stack.values c.turn.new.stack) ≡ false) to
+    (none_on g.S.Stack.room (g.S.Stack.gives c.args.slots.now) c.args.code.now c.args.place c.index-code-place.result is (g.S.Stack.values c.args.stack.now) (c.in-Ok.next - (c.args.place + 1)) (g.S.Stack.values c.turn.new.stack) c.in-Ok.ensures.leads none)
+
 pub returns-in-Ok-clause-room : goal.returns-in-Ok-clause-room
 returns-in-Ok-clause-room g c =
     let is = slice_get_read c.args.code.now (length c.args.code.now) c.args.place c.index-code-place.result refl c.requires.at c.index-code-place.is in
@@ -39,4 +46,4 @@ returns-in-Err-clause-leads g c =
 pub returns-in-Err-clause-answered : goal.returns-in-Err-clause-answered
 returns-in-Err-clause-answered g c =
     let is = slice_get_read c.args.code.now (length c.args.code.now) c.args.place c.index-code-place.result refl c.requires.at c.index-code-place.is in
-    λ numbers held none. c.in-Err.ensures.answered numbers held (texts_at c.args.code.now c.args.place c.index-code-place.result is none)
+    λ numbers none. c.in-Err.ensures.answered numbers (none_put g.S.Stack.room (g.S.Stack.gives c.args.slots.now) c.args.code.now c.args.place c.index-code-place.result is (g.S.Stack.values c.args.stack.now) none)

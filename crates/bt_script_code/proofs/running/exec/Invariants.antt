@@ -1,9 +1,7 @@
-use Rattle.std.proofs.Common.{◌≡◌, ◌≤◌, pos, length, drop, map, sum}
-use Rattle.std.specs.List.{All}
+use Rattle.std.proofs.Common.{◌≡◌, ◌≤◌, pos, false, length, drop, map}
 use Rattle.bt_script.specs.declared.value.Value.TheVariants.{Int}
-use Rattle.bt_script.specs.Entries.{HoldsNoText}
 use Rattle.bt_script.specs.Numbers.{greatest}
-use Rattle.bt_script_code.specs.Statements.{runs, stmt_program}
+use Rattle.bt_script_code.specs.Statements.{runs, one_meets, stmt_program}
 use Rattle.bt_script_code.proofs.running.exec.Given as goal
 
 abbrev pub invariant-loop-stmt : goal.invariant-loop-stmt
@@ -14,5 +12,5 @@ invariant-loop-stmt g l =
       run : runs l.last rest (entries l.cells) ≡ runs (Int (pos 0)) (map stmt_program l.stmt-items) (entries l.fn.cells);
       reach : greatest (map (λ p. p.reach) rest) ≤ length (entries l.cells);
       slots : length (entries l.cells) ≡ length (entries l.fn.cells);
-      texts : sum (map (λ p. p.texts) (map stmt_program l.stmt-items)) ≡ 0 → All HoldsNoText (entries l.fn.cells) → (sum (map (λ p. p.texts) rest) ≡ 0) × All HoldsNoText (entries l.cells);
+      met : one_meets (map stmt_program l.stmt-items) (entries l.fn.cells) ≡ false → one_meets rest (entries l.cells) ≡ false;
     }

@@ -1,4 +1,4 @@
-use Rattle.std.proofs.Common.{◌≡◌, ◌<◌, ◌+◌, ◌∙◌, length, get_or, ap, sym, arith}
+use Rattle.std.proofs.Common.{◌<◌, ◌+◌, ◌∙◌, length, ap, arith}
 use Rattle.bt_ground.specs.Flat.{flat_filled}
 use Rattle.bt_ground.proofs.Flat.{each_step}
 use Rattle.bt_ground.proofs.lines.Lines.add_each.Goals as goal
