@@ -1,5 +1,5 @@
 -- What contracts see of the commands that the code reads.
-use Rattle.std.specs.Prelude.{◌≤◌}
+use Rattle.std.specs.Prelude.{ℕ, ◌≤◌}
 use Rattle.std.specs.Option.{option_copied}
 use Rattle.bt_model.specs.Limits.{most_leaves}
 use Rattle.bt_command_line.specs.Words.{Command, Tick, Live, Load, Check, Dead, Plan, Mock, Ground, GroundPlan}
