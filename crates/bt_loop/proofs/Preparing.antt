@@ -4,10 +4,15 @@ use Rattle.std.proofs.lemmas.Bool.{cases_lt}
 use Rattle.std.proofs.lemmas.List.{get_or-replicate, get_or_past, length-replicate}
 use Rattle.bt_model.specs.declared.leaf.Instance.{Instance}
 use Rattle.bt_model.specs.declared.leaf.Totals.{Totals}
+use Rattle.bt_model.specs.declared.term.Tree.{Tree}
+use Rattle.bt_model.specs.declared.world.World.{World}
 use Rattle.bt_model.specs.Drivers.{DriverState, NothingHeld, driver_at, instance_at, is_held, roster_prepared}
 use Rattle.bt_model.specs.Leaf.{fresh}
+use Rattle.bt_model.specs.Run.{RunnerCall}
+use Rattle.bt_loop.specs.Runs.{instances_wanted}
+use Rattle.bt_loop.specs.Served.{roster_after_run, serving_places}
 use Rattle.bt_loop.specs.Steps.{HasRisen, IsSameRoster}
-use Rattle.bt_loop.proofs.Rising.{same_roster}
+use Rattle.bt_loop.proofs.Rising.{all_made_same, roster_both, same_roster}
 
 -- ---- However many were prepared
 
@@ -37,6 +42,13 @@ prepared_same ds counts = record {
   mark = λ place. (same_at ds counts place).1;
   totals = λ place. subst (λ (t : Totals). HasRisen (driver_at ds place).totals t) (sym (prepared_totals ds counts place)) ((same_roster ds).totals place);
 }
+
+-- .. also after the calls of a run
+pub run_same : (tree : Tree) (world : World) (drivers : List DriverState) (calls : List RunnerCall) → IsSameRoster drivers (roster_after_run tree world drivers calls)
+run_same tree world drivers calls =
+    let prepared : List DriverState = roster_prepared drivers (instances_wanted tree world drivers) in
+    roster_both drivers prepared (roster_after_run tree world drivers calls) (prepared_same drivers (instances_wanted tree world drivers))
+    (all_made_same world.runners (serving_places tree world drivers) calls prepared)
 
 -- in a table of instances that were never held, and past its end, each instance is fresh
 fresh_at : (count instance : ℕ) → get_or (replicate count fresh) instance fresh ≡ fresh

@@ -16,6 +16,7 @@ use Rattle.bt_arena.specs.declared.nodes.ReadyLeaf.{ReadyLeaf}
 use Rattle.bt_arena.specs.Nodes.{leaf_at}
 use Rattle.bt_arena.specs.Rosters.{leaf_called}
 use Rattle.bt_loop.specs.Runs.{nodes_of_runner, roster_over}
+use Rattle.bt_loop.specs.Served.{call_made, calls_made, instance_number, place_called}
 use Rattle.bt_loop.specs.Steps.{HasNotFallen, HasRisen, IsSameRoster}
 
 raised_more : (n : ℕ) → HasNotFallen n (raised n)
@@ -77,6 +78,17 @@ module _ (ds : List DriverState) (place : ℕ) (p : Phase) (instance : ℕ) (lef
 leaf_same : (found : Option ReadyLeaf) (call : Call) (ds : List DriverState) → IsSameRoster ds (leaf_called found call ds)
 leaf_same None call ds = same_roster ds
 leaf_same (Some leaf) call ds = called_same ds leaf.driver call.phase leaf.instance call.left
+
+-- a call of the definition
+made_same : (place : Option ℕ) (places : List (Option ℕ)) (c : RunnerCall) (ds : List DriverState) → IsSameRoster ds (call_made place places c ds)
+made_same None places c ds = same_roster ds
+made_same (Some place) places c ds = called_same ds place c.call.phase (instance_number places c.runner place c.call.uid) c.call.left
+
+pub all_made_same : (runners : ℕ) (places : List (Option ℕ)) (calls : List RunnerCall) (ds : List DriverState) → IsSameRoster ds (calls_made runners places calls ds)
+all_made_same runners places [] ds = same_roster ds
+all_made_same runners places (c ∷ calls) ds =
+    let next : List DriverState = call_made (place_called runners places c) places c ds in
+    roster_both ds next (calls_made runners places calls next) (made_same (place_called runners places c) places c ds) (all_made_same runners places calls next)
 
 -- calls for leaves of runners
 pub over_same : (arenas : List (List Node)) (calls : List RunnerCall) (ds : List DriverState) → IsSameRoster ds (roster_over arenas calls ds)
