@@ -4,7 +4,7 @@ use Rattle.std.specs.Prelude.{IfSome, MatchOption}
 use Rattle.std.proofs.lemmas.Grind.{common_steps}
 use Rattle.bt_command_line.specs.declared.exit.Exit.{Exit}
 use Rattle.bt_command_line.specs.declared.exit.Exit.TheVariants as exit
-use Rattle.bt_command_line.specs.Words.{Command, Load}
+use Rattle.bt_command_line.specs.Words.{Command, Tick, Live, Load, Check, Dead, Plan, Mock, Ground, GroundPlan}
 use Rattle.bt_load.specs.Texts.{tree_text, world_text}
 use Rattle.bt_model.specs.declared.term.Tree.{Tree}
 use Rattle.bt_model.specs.declared.world.World.{World}
@@ -26,8 +26,8 @@ use Rattle.bt_output.specs.declared.refusal.Refusal.TheVariants as refusal
 use Rattle.bt_output.specs.Answers.{Answers, AreTold, AtMoments, CommandAnswered, Gave, IfTold, IsRefused, Printed, Side, ToldIfNamed, no_moments, side}
 use Rattle.bt_output.specs.Ends.{CommandEnds, Ends, EndsAt, FilesEnd, IsUntouched}
 use Rattle.bt_output.specs.Files.{Contents, Named, no_files, tree_alone, tree_and_world, tree_world_rules, world_alone}
-use Rattle.bt_output.specs.Jobs.{FilesGive, files_of}
-use Rattle.bt_output.specs.Output.{CourseGives, Ending, Given, Giving, JoinGives, MockGives, Mocks, Output, PrintGives, Prints, ReadGives, RunGives, RunsOn, ScriptMocks, Standing, TreeGives, given, is_too_long, itself, joined_output, lack_of, mocked, print_output, refused_as, rules_refused, standing_output, stopped_as, too_long, tree_refused, unread, world_refused}
+use Rattle.bt_output.specs.Jobs.{FilesBegin, FilesGive, files_of}
+use Rattle.bt_output.specs.Output.{AreUncalled, Beginning, BeginsNothing, Begun, CourseGives, Ending, Given, Giving, JoinGives, MockGives, Mocks, Output, PrintGives, Prints, ReadGives, RunGives, RunsOn, ScriptMocks, Standing, TreeGives, given, is_too_long, itself, joined_output, lack_of, mocked, print_output, refused_as, rules_refused, standing_output, stopped_as, too_long, tree_refused, unread, world_refused}
 use Rattle.bt_outside.specs.declared.shelf.ShelfFault.TheVariants as shelf
 use Rattle.bt_output.specs.Reads.{IsLong, IsUnread, Reading, Unread, WasRead}
 use Rattle.bt_output.specs.TreeFiles.{ReadsAs, TreeReads}
@@ -66,14 +66,14 @@ some_more : (o : Option Output) (P Q : Output → Type 0) → ((o : Output) → 
 some_more None P Q more x = tt
 some_more (Some o) P Q more x = more o x
 
-pub ends_more : (P Q : Output → Type 0) → ((o : Output) → P o → Q o) → (result : Result Exit Refusal) (a b : Side) → Ends P result a b → Ends Q result a b
-ends_more P Q more (Ok exit) a b (inl x) = inl (x.0, more x.0 x.1, x.2)
-ends_more P Q more (Ok exit) a b (inr x) = inr x
-ends_more P Q more (Err r) a b x = (some_more (refused_as r) P Q more x.0, x.1)
+pub ends_more : (P Q : Output → Type 0) (H K : Begun) → ((o : Output) → P o → Q o) → ((old new : List DriverState) → H old new → K old new) → (result : Result Exit Refusal) (a b : Side) → Ends P H result a b → Ends Q K result a b
+ends_more P Q H K more further (Ok exit) a b (inl x) = inl (x.0, more x.0 x.1, x.2)
+ends_more P Q H K more further (Ok exit) a b (inr x) = inr (record { exit = x.exit; written = x.written; clock = x.clock; drivers = further a.drivers b.drivers x.drivers })
+ends_more P Q H K more further (Err r) a b x = (some_more (refused_as r) P Q more x.0, x.1)
 
 -- a refusal whose output is one of these, or that has none
-pub refused_ends : (P : Ending) (r : Refusal) (a : Side) → ((moments : Moments) → IfSome (refused_as r) (P moments a.drivers)) → EndsAt P (Err r) a a
-refused_ends P r a p = at_any a.clock (λ moments. Ends (P moments a.drivers) (Err r) a a) (λ moments. (p moments, still a))
+pub refused_ends : (P : Ending) (H : Begun) (r : Refusal) (a : Side) → ((moments : Moments) → IfSome (refused_as r) (P moments a.drivers)) → EndsAt P H (Err r) a a
+refused_ends P H r a p = at_any a.clock (λ moments. Ends (P moments a.drivers) H (Err r) a a) (λ moments. (p moments, still a))
 
 -- ---- Lengths
 
@@ -111,40 +111,40 @@ module _ (P : Ending) (course : Course) (main : Option (List ℕ)) (stands : Sta
     (gives : (moments : Moments) (drivers : List DriverState) (o : Output) → ReadGives main stands tree world (given course moments drivers) o → P moments drivers o)
   where
     -- the tree file could not be parsed
-    tree_failed : (stopped : Stop TreeFault) (a : Side) → ReadsAs (Err stopped) main tree → EndsAt P (Err (stopped_as refusal.Tree stopped)) a a
-    tree_failed (stop.Fault f) a reads = refused_ends P (refusal.Tree f) a (λ moments. gives moments a.drivers (tree_refused f) (Err f, reads, refl))
-    tree_failed stop.NoMemory a reads = refused_ends P refusal.NoMemory a (λ moments. tt)
+    tree_failed : (stopped : Stop TreeFault) (a : Side) → ReadsAs (Err stopped) main tree → EndsAt P AreUncalled (Err (stopped_as refusal.Tree stopped)) a a
+    tree_failed (stop.Fault f) a reads = refused_ends P AreUncalled (refusal.Tree f) a (λ moments. gives moments a.drivers (tree_refused f) (Err f, reads, refl))
+    tree_failed stop.NoMemory a reads = refused_ends P AreUncalled refusal.NoMemory a (λ moments. tt)
 
     -- the world script could not be parsed
-    world_failed : (t : Tree) (stopped : Stop WorldFault) (a : Side) → ReadsAs (Ok t) main tree → (let r : Result World (Stop WorldFault) = Err stopped in Gives r (ReadsWorld world)) → EndsAt P (Err (stopped_as refusal.World stopped)) a a
-    world_failed t (stop.Fault f) a reads described = refused_ends P (refusal.World f) a (λ moments. gives moments a.drivers (world_refused f) (Ok t, reads, Err f, described, refl))
-    world_failed t stop.NoMemory a reads described = refused_ends P refusal.NoMemory a (λ moments. tt)
+    world_failed : (t : Tree) (stopped : Stop WorldFault) (a : Side) → ReadsAs (Ok t) main tree → (let r : Result World (Stop WorldFault) = Err stopped in Gives r (ReadsWorld world)) → EndsAt P AreUncalled (Err (stopped_as refusal.World stopped)) a a
+    world_failed t (stop.Fault f) a reads described = refused_ends P AreUncalled (refusal.World f) a (λ moments. gives moments a.drivers (world_refused f) (Ok t, reads, Err f, described, refl))
+    world_failed t stop.NoMemory a reads described = refused_ends P AreUncalled refusal.NoMemory a (λ moments. tt)
 
     -- there is no tree in the place of the one that was read
-    place_failed : (t : Tree) (w : World) (stopped : Stop MockFault) (a : Side) → ReadsAs (Ok t) main tree → ReadsWorld world (Ok w) → (let r : Result Tree (Stop MockFault) = Err stopped in Makes r (stands t)) → EndsAt P (Err (stopped_as refusal.Rules stopped)) a a
+    place_failed : (t : Tree) (w : World) (stopped : Stop MockFault) (a : Side) → ReadsAs (Ok t) main tree → ReadsWorld world (Ok w) → (let r : Result Tree (Stop MockFault) = Err stopped in Makes r (stands t)) → EndsAt P AreUncalled (Err (stopped_as refusal.Rules stopped)) a a
     place_failed t w (stop.Fault f) a reads described none =
-        refused_ends P (refusal.Rules f) a (λ moments. gives moments a.drivers (rules_refused f) (Ok t, reads, Ok w, described, sym (ap (λ (s : Result Tree MockFault). standing_output s w (given course moments a.drivers)) none)))
-    place_failed t w stop.NoMemory a reads described none = refused_ends P refusal.NoMemory a (λ moments. tt)
+        refused_ends P AreUncalled (refusal.Rules f) a (λ moments. gives moments a.drivers (rules_refused f) (Ok t, reads, Ok w, described, sym (ap (λ (s : Result Tree MockFault). standing_output s w (given course moments a.drivers)) none)))
+    place_failed t w stop.NoMemory a reads described none = refused_ends P AreUncalled refusal.NoMemory a (λ moments. tt)
 
     -- all were parsed
-    all_read : (t standing : Tree) (w : World) (result : Result Exit Refusal) (a b : Side) → ReadsAs (Ok t) main tree → ReadsWorld world (Ok w) → stands t ≡ Ok standing → EndsAt (JoinGives standing w course) result a b → EndsAt P result a b
+    all_read : (t standing : Tree) (w : World) (result : Result Exit Refusal) (a b : Side) → ReadsAs (Ok t) main tree → ReadsWorld world (Ok w) → stands t ≡ Ok standing → EndsAt (JoinGives standing w course) AreUncalled result a b → EndsAt P AreUncalled result a b
     all_read t standing w result a b reads described is ends =
-        at_more a.clock (λ moments. Ends (JoinGives standing w course moments a.drivers) result a b) (λ moments. Ends (P moments a.drivers) result a b)
-        (λ moments. ends_more (JoinGives standing w course moments a.drivers) (P moments a.drivers)
-        (λ o e. gives moments a.drivers o (Ok t, reads, Ok w, described, e ∙ sym (ap (λ (s : Result Tree MockFault). standing_output s w (given course moments a.drivers)) is))) result a b) ends
+        at_more a.clock (λ moments. Ends (JoinGives standing w course moments a.drivers) AreUncalled result a b) (λ moments. Ends (P moments a.drivers) AreUncalled result a b)
+        (λ moments. ends_more (JoinGives standing w course moments a.drivers) (P moments a.drivers) AreUncalled AreUncalled
+        (λ o e. gives moments a.drivers o (Ok t, reads, Ok w, described, e ∙ sym (ap (λ (s : Result Tree MockFault). standing_output s w (given course moments a.drivers)) is))) (λ old new begun. begun) result a b) ends
 
 -- the bytes of both files of a run
 module _ (course : Course) (main : Option (List ℕ)) (tree world : List ℕ) (st : length tree ≤ most_file_bytes) (sw : length world ≤ most_file_bytes) where
   runs : (moments : Moments) (drivers : List DriverState) (o : Output) → ReadGives main itself tree world (given course moments drivers) o → CourseGives course main tree world moments drivers o
   runs moments drivers o gives = run_gives main tree world (given course moments drivers) o st sw gives
 
-  pub tree_stopped : (stopped : Stop TreeFault) (a : Side) → ReadsAs (Err stopped) main tree → EndsAt (CourseGives course main tree world) (Err (stopped_as refusal.Tree stopped)) a a
+  pub tree_stopped : (stopped : Stop TreeFault) (a : Side) → ReadsAs (Err stopped) main tree → EndsAt (CourseGives course main tree world) AreUncalled (Err (stopped_as refusal.Tree stopped)) a a
   tree_stopped stopped a reads = tree_failed (CourseGives course main tree world) course main itself tree world runs stopped a reads
 
-  pub world_stopped : (t : Tree) (stopped : Stop WorldFault) (a : Side) → ReadsAs (Ok t) main tree → (let r : Result World (Stop WorldFault) = Err stopped in Gives r (ReadsWorld world)) → EndsAt (CourseGives course main tree world) (Err (stopped_as refusal.World stopped)) a a
+  pub world_stopped : (t : Tree) (stopped : Stop WorldFault) (a : Side) → ReadsAs (Ok t) main tree → (let r : Result World (Stop WorldFault) = Err stopped in Gives r (ReadsWorld world)) → EndsAt (CourseGives course main tree world) AreUncalled (Err (stopped_as refusal.World stopped)) a a
   world_stopped t stopped a reads described = world_failed (CourseGives course main tree world) course main itself tree world runs t stopped a reads described
 
-  pub both_parsed : (t : Tree) (w : World) (result : Result Exit Refusal) (a b : Side) → ReadsAs (Ok t) main tree → ReadsWorld world (Ok w) → EndsAt (JoinGives t w course) result a b → EndsAt (CourseGives course main tree world) result a b
+  pub both_parsed : (t : Tree) (w : World) (result : Result Exit Refusal) (a b : Side) → ReadsAs (Ok t) main tree → ReadsWorld world (Ok w) → EndsAt (JoinGives t w course) AreUncalled result a b → EndsAt (CourseGives course main tree world) AreUncalled result a b
   both_parsed t w result a b reads described ends = all_read (CourseGives course main tree world) course main itself tree world runs t t w result a b reads described refl ends
 
 -- the bytes of the three files of a run of mocks
@@ -152,16 +152,16 @@ module _ (main : Option (List ℕ)) (tree world rules : List ℕ) (st : length t
   mocks : (moments : Moments) (drivers : List DriverState) (o : Output) → ReadGives main (mocked rules) tree world (given course.Script moments drivers) o → ScriptMocks main tree world rules moments drivers o
   mocks moments drivers o gives = mock_gives main tree world rules (given course.Script moments drivers) o st sw sr gives
 
-  pub mock_tree_stopped : (stopped : Stop TreeFault) (a : Side) → ReadsAs (Err stopped) main tree → EndsAt (ScriptMocks main tree world rules) (Err (stopped_as refusal.Tree stopped)) a a
+  pub mock_tree_stopped : (stopped : Stop TreeFault) (a : Side) → ReadsAs (Err stopped) main tree → EndsAt (ScriptMocks main tree world rules) AreUncalled (Err (stopped_as refusal.Tree stopped)) a a
   mock_tree_stopped stopped a reads = tree_failed (ScriptMocks main tree world rules) course.Script main (mocked rules) tree world mocks stopped a reads
 
-  pub mock_world_stopped : (t : Tree) (stopped : Stop WorldFault) (a : Side) → ReadsAs (Ok t) main tree → (let r : Result World (Stop WorldFault) = Err stopped in Gives r (ReadsWorld world)) → EndsAt (ScriptMocks main tree world rules) (Err (stopped_as refusal.World stopped)) a a
+  pub mock_world_stopped : (t : Tree) (stopped : Stop WorldFault) (a : Side) → ReadsAs (Ok t) main tree → (let r : Result World (Stop WorldFault) = Err stopped in Gives r (ReadsWorld world)) → EndsAt (ScriptMocks main tree world rules) AreUncalled (Err (stopped_as refusal.World stopped)) a a
   mock_world_stopped t stopped a reads described = world_failed (ScriptMocks main tree world rules) course.Script main (mocked rules) tree world mocks t stopped a reads described
 
-  pub rules_stopped : (t : Tree) (w : World) (stopped : Stop MockFault) (a : Side) → ReadsAs (Ok t) main tree → ReadsWorld world (Ok w) → (let r : Result Tree (Stop MockFault) = Err stopped in Makes r (mocked rules t)) → EndsAt (ScriptMocks main tree world rules) (Err (stopped_as refusal.Rules stopped)) a a
+  pub rules_stopped : (t : Tree) (w : World) (stopped : Stop MockFault) (a : Side) → ReadsAs (Ok t) main tree → ReadsWorld world (Ok w) → (let r : Result Tree (Stop MockFault) = Err stopped in Makes r (mocked rules t)) → EndsAt (ScriptMocks main tree world rules) AreUncalled (Err (stopped_as refusal.Rules stopped)) a a
   rules_stopped t w stopped a reads described none = place_failed (ScriptMocks main tree world rules) course.Script main (mocked rules) tree world mocks t w stopped a reads described none
 
-  pub all_parsed : (t standing : Tree) (w : World) (result : Result Exit Refusal) (a b : Side) → ReadsAs (Ok t) main tree → ReadsWorld world (Ok w) → mocked rules t ≡ Ok standing → EndsAt (JoinGives standing w course.Script) result a b → EndsAt (ScriptMocks main tree world rules) result a b
+  pub all_parsed : (t standing : Tree) (w : World) (result : Result Exit Refusal) (a b : Side) → ReadsAs (Ok t) main tree → ReadsWorld world (Ok w) → mocked rules t ≡ Ok standing → EndsAt (JoinGives standing w course.Script) AreUncalled result a b → EndsAt (ScriptMocks main tree world rules) AreUncalled result a b
   all_parsed t standing w result a b reads described is ends = all_read (ScriptMocks main tree world rules) course.Script main (mocked rules) tree world mocks t standing w result a b reads described is ends
 
 -- ---- Files
@@ -177,15 +177,16 @@ holding None (Some name) = record { bytes = []; told = tt }
 holding (Some h) (Some name) = record { bytes = h name; told = refl }
 
 -- memory ran out before the output was known
-pub out_of_memory : (holds : Option (List ℕ → List ℕ)) (named : Named) (Gives : Giving) (a : Side) → FilesEnd holds named Gives (Err refusal.NoMemory) a a
-out_of_memory holds named Gives a =
+pub out_of_memory : (holds : Option (List ℕ → List ℕ)) (named : Named) (Gives : Giving) (Begins : Beginning) (a : Side) → FilesEnd holds named Gives Begins (Err refusal.NoMemory) a a
+out_of_memory holds named Gives Begins a =
     let tree = holding holds named.tree in
     let world = holding holds named.world in
     let rules = holding holds named.rules in
+    let files : Contents = record { tree = tree.bytes; world = world.bytes; rules = rules.bytes } in
     record {
-      files = record { tree = tree.bytes; world = world.bytes; rules = rules.bytes };
+      files = files;
       told = record { tree = tree.told; world = world.told; rules = rules.told };
-      answers = refused_ends (Gives (record { tree = tree.bytes; world = world.bytes; rules = rules.bytes })) refusal.NoMemory a (λ moments. tt);
+      answers = refused_ends (Gives files) (Begins files) refusal.NoMemory a (λ moments. tt);
     }
 
 -- files of which this one is the first that is too long have this output
@@ -227,19 +228,19 @@ told_short None name bytes told short = tt
 told_short (Some h) name bytes told short = subst (λ (file : List ℕ). length file ≤ most_file_bytes) told short
 
 -- the files of a command are read
-module _ {Shelf : Type 0} (read_gives : Reading Shelf) (faults : Shelf → ℕ) (holds : Option (List ℕ → List ℕ)) (Gives : Giving) where
+module _ {Shelf : Type 0} (read_gives : Reading Shelf) (faults : Shelf → ℕ) (holds : Option (List ℕ → List ℕ)) (Gives : Giving) (Begins : Beginning) where
   -- a command ends over these files
   abbrev pub Over : Named → Shelf → Shelf → Result Exit Refusal → Side → Side → Type 0
-  Over named old new result a b = CommandEnds (Rose (faults old) (faults new)) (Unread read_gives holds named old new) (FilesEnd holds named Gives) result a b
+  Over named old new result a b = CommandEnds (Rose (faults old) (faults new)) (Unread read_gives holds named old new) (FilesEnd holds named Gives Begins) result a b
 
   -- the read of a file was refused; where it failed, where it is too long
   pub refused_read : (named : Named) (which : File) (name : List ℕ) (old between new : Shelf) (r : Refusal) (a : Side) → faults old ≤ faults between → IsUnread read_gives faults holds which name r between new
-      → (read_gives between name (Err shelf.Failed) new → Unread read_gives holds named old new which) → (IsLong holds name → FilesEnd holds named Gives (Err (refusal.TooLong which)) a a) → Over named old new (Err r) a a
+      → (read_gives between name (Err shelf.Failed) new → Unread read_gives holds named old new which) → (IsLong holds name → FilesEnd holds named Gives Begins (Err (refusal.TooLong which)) a a) → Over named old new (Err r) a a
   refused_read named which name old between new (refusal.Unread asked) a less u failed long =
       inl (Rose-after (faults old) (faults between) (faults new) less u.1, subst (λ (f : File). Unread read_gives holds named old new f) (sym u.0) (failed u.2), still a)
   refused_read named which name old between new (refusal.TooLong asked) a less u failed long =
-      inr (subst (λ (f : File). FilesEnd holds named Gives (Err (refusal.TooLong f)) a a) (sym u.0) (long u.1))
-  refused_read named which name old between new refusal.NoMemory a less u failed long = inr (out_of_memory holds named Gives a)
+      inr (subst (λ (f : File). FilesEnd holds named Gives Begins (Err (refusal.TooLong f)) a a) (sym u.0) (long u.1))
+  refused_read named which name old between new refusal.NoMemory a less u failed long = inr (out_of_memory holds named Gives Begins a)
   refused_read named which name old between new refusal.Words a less u failed long = absurd u
   refused_read named which name old between new (refusal.Tree f) a less u failed long = absurd u
   refused_read named which name old between new (refusal.World f) a less u failed long = absurd u
@@ -259,7 +260,7 @@ module _ {Shelf : Type 0} (read_gives : Reading Shelf) (faults : Shelf → ℕ) 
         record {
           files = record { tree = is.bytes; world = w.bytes; rules = l.bytes };
           told = record { tree = is.told; world = w.told; rules = l.told };
-          answers = refused_ends (Gives (record { tree = is.bytes; world = w.bytes; rules = l.bytes })) (refusal.TooLong file.Tree) a
+          answers = refused_ends (Gives (record { tree = is.bytes; world = w.bytes; rules = l.bytes })) (Begins (record { tree = is.bytes; world = w.bytes; rules = l.bytes })) (refusal.TooLong file.Tree) a
               (λ moments. long (record { tree = is.bytes; world = w.bytes; rules = l.bytes }) moments a.drivers is.long);
         })
 
@@ -273,7 +274,7 @@ module _ {Shelf : Type 0} (read_gives : Reading Shelf) (faults : Shelf → ℕ) 
         record {
           files = record { tree = bytes; world = is.bytes; rules = l.bytes };
           told = record { tree = read.told; world = is.told; rules = l.told };
-          answers = refused_ends (Gives (record { tree = bytes; world = is.bytes; rules = l.bytes })) (refusal.TooLong file.World) a
+          answers = refused_ends (Gives (record { tree = bytes; world = is.bytes; rules = l.bytes })) (Begins (record { tree = bytes; world = is.bytes; rules = l.bytes })) (refusal.TooLong file.World) a
               (λ moments. long (record { tree = bytes; world = is.bytes; rules = l.bytes }) moments a.drivers read.short is.long);
         })
 
@@ -287,12 +288,12 @@ module _ {Shelf : Type 0} (read_gives : Reading Shelf) (faults : Shelf → ℕ) 
       (λ is. record {
         files = record { tree = first; world = second; rules = is.bytes };
         told = record { tree = read.told; world = next.told; rules = is.told };
-        answers = refused_ends (Gives (record { tree = first; world = second; rules = is.bytes })) (refusal.TooLong file.Rules) a
+        answers = refused_ends (Gives (record { tree = first; world = second; rules = is.bytes })) (Begins (record { tree = first; world = second; rules = is.bytes })) (refusal.TooLong file.Rules) a
             (λ moments. long (record { tree = first; world = second; rules = is.bytes }) moments a.drivers read.short next.short is.long);
       })
 
   -- all were read
-  pub files_read : (named : Named) (files : Contents) (old new : Shelf) (result : Result Exit Refusal) (a b : Side) → AreTold holds named files → EndsAt (Gives files) result a b → Over named old new result a b
+  pub files_read : (named : Named) (files : Contents) (old new : Shelf) (result : Result Exit Refusal) (a b : Side) → AreTold holds named files → EndsAt (Gives files) (Begins files) result a b → Over named old new result a b
   files_read named files old new result a b told ends = inr (record { files = files; told = told; answers = ends })
 
 -- the bytes of a world file alone
@@ -303,46 +304,46 @@ alone bytes = record { tree = []; world = bytes; rules = [] }
 abbrev pub LongAlone : Giving → Type 0
 LongAlone Gives = (bytes : List ℕ) (moments : Moments) (drivers : List DriverState) → most_file_bytes < length bytes → Gives (alone bytes) moments drivers (too_long file.World)
 
-module _ {Shelf : Type 0} (read_gives : Reading Shelf) (faults : Shelf → ℕ) (holds : Option (List ℕ → List ℕ)) (Gives : Giving) (world : List ℕ) where
+module _ {Shelf : Type 0} (read_gives : Reading Shelf) (faults : Shelf → ℕ) (holds : Option (List ℕ → List ℕ)) (Gives : Giving) (Begins : Beginning) (world : List ℕ) where
   -- it was not read
-  pub alone_unread : LongAlone Gives → (old new : Shelf) (r : Refusal) (a : Side) → IsUnread read_gives faults holds file.World world r old new → Over read_gives faults holds Gives (world_alone world) old new (Err r) a a
+  pub alone_unread : LongAlone Gives → (old new : Shelf) (r : Refusal) (a : Side) → IsUnread read_gives faults holds file.World world r old new → Over read_gives faults holds Gives Begins (world_alone world) old new (Err r) a a
   alone_unread long old new r a u =
-      refused_read read_gives faults holds Gives (world_alone world) file.World world old old new r a (omega (arith)) u (λ failed. failed)
+      refused_read read_gives faults holds Gives Begins (world_alone world) file.World world old old new r a (omega (arith)) u (λ failed. failed)
       (λ is. record {
         files = alone is.bytes;
         told = record { tree = tt; world = is.told; rules = tt };
-        answers = refused_ends (Gives (alone is.bytes)) (refusal.TooLong file.World) a (λ moments. long is.bytes moments a.drivers is.long);
+        answers = refused_ends (Gives (alone is.bytes)) (Begins (alone is.bytes)) (refusal.TooLong file.World) a (λ moments. long is.bytes moments a.drivers is.long);
       })
 
   -- it was read
   pub alone_read : (bytes : List ℕ) (old between new : Shelf) (result : Result Exit Refusal) (a b : Side) → WasRead read_gives holds world bytes old between
-      → EndsAt (Gives (alone bytes)) result a b → Over read_gives faults holds Gives (world_alone world) old new result a b
+      → EndsAt (Gives (alone bytes)) (Begins (alone bytes)) result a b → Over read_gives faults holds Gives Begins (world_alone world) old new result a b
   alone_read bytes old between new result a b read ends =
-      files_read read_gives faults holds Gives (world_alone world) (alone bytes) old new result a b (record { tree = tt; world = read.told; rules = tt }) ends
+      files_read read_gives faults holds Gives Begins (world_alone world) (alone bytes) old new result a b (record { tree = tt; world = read.told; rules = tt }) ends
 
 -- a tree file was read, of whose tree this is printed
 module _ (holds : Option (List ℕ → List ℕ)) (name : List ℕ) (print : Print) (main : Option (List ℕ)) (bytes : List ℕ) (told : Told holds name (λ file. bytes ≡ file)) (short : length bytes ≤ most_file_bytes) where
   abbrev file : Contents
   file = record { tree = bytes; world = []; rules = [] }
 
-  print_files : (result : Result Exit Refusal) (a b : Side) → EndsAt (Prints print main file) result a b → FilesEnd holds (tree_alone name) (Prints print main) result a b
+  print_files : (result : Result Exit Refusal) (a b : Side) → EndsAt (Prints print main file) AreUncalled result a b → FilesEnd holds (tree_alone name) (Prints print main) BeginsNothing result a b
   print_files result a b ends = record { files = file; told = record { tree = told; world = tt; rules = tt }; answers = ends }
 
-  pub print_stopped : (stopped : Stop TreeFault) (a : Side) → ReadsAs (Err stopped) main bytes → FilesEnd holds (tree_alone name) (Prints print main) (Err (stopped_as refusal.Tree stopped)) a a
+  pub print_stopped : (stopped : Stop TreeFault) (a : Side) → ReadsAs (Err stopped) main bytes → FilesEnd holds (tree_alone name) (Prints print main) BeginsNothing (Err (stopped_as refusal.Tree stopped)) a a
   print_stopped (stop.Fault f) a reads =
-      print_files (Err (refusal.Tree f)) a a (refused_ends (Prints print main file) (refusal.Tree f) a (λ moments. print_gives print main bytes (Err f) short reads))
-  print_stopped stop.NoMemory a reads = out_of_memory holds (tree_alone name) (Prints print main) a
+      print_files (Err (refusal.Tree f)) a a (refused_ends (Prints print main file) AreUncalled (refusal.Tree f) a (λ moments. print_gives print main bytes (Err f) short reads))
+  print_stopped stop.NoMemory a reads = out_of_memory holds (tree_alone name) (Prints print main) BeginsNothing a
 
   pub tree_printed : (t : Tree) (exit : Exit) (written : Option (List ℕ)) (faults : ℕ) (a : Side) → ReadsAs (Ok t) main bytes → Printed (print_output print (Ok t)) exit a.written a.faults written faults
-      → FilesEnd holds (tree_alone name) (Prints print main) (Ok exit) a (side written faults a.clock a.drivers)
+      → FilesEnd holds (tree_alone name) (Prints print main) BeginsNothing (Ok exit) a (side written faults a.clock a.drivers)
   tree_printed t exit written faults a reads printed =
       print_files (Ok exit) a (side written faults a.clock a.drivers)
-      (at_any a.clock (λ moments. Ends (PrintGives print main bytes) (Ok exit) a (side written faults a.clock a.drivers))
+      (at_any a.clock (λ moments. Ends (PrintGives print main bytes) AreUncalled (Ok exit) a (side written faults a.clock a.drivers))
       (λ moments. inl (print_output print (Ok t), print_gives print main bytes (Ok t) short reads, printed a.clock a.drivers a.drivers (λ place. refl))))
 
 -- the files of a load, which names none
-pub load_ends : (holds : Option (List ℕ → List ℕ)) (leaves : ℕ) (result : Result Exit Refusal) (a b : Side) → EndsAt (CourseGives (course.Load leaves) None (tree_text leaves) (world_text leaves)) result a b
-    → FilesEnd holds no_files (FilesGive (Load leaves)) result a b
+pub load_ends : (holds : Option (List ℕ → List ℕ)) (leaves : ℕ) (result : Result Exit Refusal) (a b : Side) → EndsAt (CourseGives (course.Load leaves) None (tree_text leaves) (world_text leaves)) AreUncalled result a b
+    → FilesEnd holds no_files (FilesGive (Load leaves)) BeginsNothing result a b
 load_ends holds leaves result a b ends = record { files = record { tree = []; world = []; rules = [] }; told = record { tree = tt; world = tt; rules = tt }; answers = ends }
 
 -- ---- Words
@@ -355,20 +356,32 @@ gave_after o result a b written faults same printed =
     (subst (λ (c : Option Moments). Gave o result (side b.written b.faults a.clock a.drivers) (side written faults c b.drivers)) (sym same.clock)
     (printed a.clock a.drivers b.drivers same.drivers)))
 
+-- without a call, no more was begun than a command may begin
+uncalled_begin : (c : Command) (files : Contents) (old new : List DriverState) → AreUncalled old new → FilesBegin c files old new
+uncalled_begin (Tick t w main) files old new same = same
+uncalled_begin (Live t w rounds main) files old new same = same
+uncalled_begin (Load leaves) files old new same = same
+uncalled_begin (Check t main) files old new same = same
+uncalled_begin (Dead t main) files old new same = same
+uncalled_begin (Plan w expand ticks period) files old new same = inl same
+uncalled_begin (Mock t w rules main) files old new same = same
+uncalled_begin (Ground w) files old new same = same
+uncalled_begin (GroundPlan w expand ticks period) files old new same = inl same
+
 -- a command that came to this was answered
 module _ (command : Command) (holds : Option (List ℕ → List ℕ)) (rose : Type 0) (IsUnread : File → Type 0) where
   abbrev Ended : Result Exit Refusal → Side → Side → Type 0
-  Ended result a b = CommandEnds rose IsUnread (FilesEnd holds (files_of command) (FilesGive command)) result a b
+  Ended result a b = CommandEnds rose IsUnread (FilesEnd holds (files_of command) (FilesGive command) (FilesBegin command)) result a b
 
   -- .. with an exit
   pub exit_answered : (exit : Exit) (a b : Side) → Ended (Ok exit) a b → CommandAnswered (Some command) holds rose IsUnread exit a b
   exit_answered exit a b (inl x) = absurd x
   exit_answered exit a b (inr f) = inr f
 
-  refused_answers : (P : Output → Type 0) (o : Option Output) (end : Exit) (a b : Side) (written : Option (List ℕ)) (faults : ℕ) → IfSome o P → IsUntouched a b
-      → MatchOption o ((end ≡ exit.Memory) × (written ≡ b.written)) (λ o. Printed o end b.written b.faults written faults) → Answers P end a (side written faults b.clock b.drivers)
-  refused_answers P None end a b written faults is same x = inr (x.0, x.1 ∙ same.written)
-  refused_answers P (Some o) end a b written faults is same x = inl (o, is, gave_after o end a b written faults same x)
+  refused_answers : (P : Output → Type 0) (H : Begun) (o : Option Output) (end : Exit) (a b : Side) (written : Option (List ℕ)) (faults : ℕ) → (AreUncalled a.drivers b.drivers → H a.drivers b.drivers) → IfSome o P → IsUntouched a b
+      → MatchOption o ((end ≡ exit.Memory) × (written ≡ b.written)) (λ o. Printed o end b.written b.faults written faults) → Answers P H end a (side written faults b.clock b.drivers)
+  refused_answers P H None end a b written faults begun is same x = inr (record { exit = x.0; written = x.1 ∙ same.written; clock = same.clock; drivers = begun same.drivers })
+  refused_answers P H (Some o) end a b written faults begun is same x = inl (o, is, gave_after o end a b written faults same x)
 
   -- .. with a refusal, whose line was then written
   pub refusal_answered : (r : Refusal) (exit : Exit) (a b : Side) (written : Option (List ℕ)) (faults : ℕ) → Ended (Err r) a b → IsRefused r exit b.written b.faults written faults
@@ -386,7 +399,8 @@ module _ (command : Command) (holds : Option (List ℕ → List ℕ)) (rose : Ty
   refusal_answered r exit a b written faults (inr f) refused = inr (record {
     files = f.files;
     told = f.told;
-    answers = at_more a.clock (λ moments. Ends (FilesGive command f.files moments a.drivers) (Err r) a b)
-        (λ moments. Answers (FilesGive command f.files moments a.drivers) exit a (side written faults b.clock b.drivers))
-        (λ moments x. refused_answers (FilesGive command f.files moments a.drivers) (refused_as r) exit a b written faults x.0 x.1 refused) f.answers;
+    answers = at_more a.clock (λ moments. Ends (FilesGive command f.files moments a.drivers) (FilesBegin command f.files) (Err r) a b)
+        (λ moments. Answers (FilesGive command f.files moments a.drivers) (FilesBegin command f.files) exit a (side written faults b.clock b.drivers))
+        (λ moments x. refused_answers (FilesGive command f.files moments a.drivers) (FilesBegin command f.files) (refused_as r) exit a b written faults
+        (uncalled_begin command f.files a.drivers b.drivers) x.0 x.1 refused) f.answers;
   })

@@ -1,5 +1,5 @@
 -- What a command gives that reads a ground file.
-use Rattle.std.proofs.Common.{◌≡◌, ℕ, ◌≤◌, List, inl, Option, length, refl, sym, ap, subst, Result, Ok, Err}
+use Rattle.std.proofs.Common.{◌≡◌, ℕ, ◌≤◌, List, inl, inr, Option, length, refl, sym, ap, subst, Result, Ok, Err}
 use Rattle.bt_command_line.specs.declared.exit.Exit.{Exit}
 use Rattle.bt_ground.specs.declared.fault.GroundFault.{GroundFault}
 use Rattle.bt_ground.specs.GroundFile.{Grounded, MakesWorld, reads_ground}
@@ -10,9 +10,9 @@ use Rattle.bt_output.specs.declared.refusal.Refusal.{Refusal}
 use Rattle.bt_output.specs.declared.refusal.Refusal.TheVariants as refusal
 use Rattle.bt_output.specs.Answers.{Printed, Side, side}
 use Rattle.bt_output.specs.Ends.{Ends, EndsAt}
-use Rattle.bt_output.specs.Grounds.{GroundGives, GroundPlanGives, GroundPlans, GroundedPlans, Grounds, ground_output}
-use Rattle.bt_output.specs.Output.{Output, ground_refused, stopped_as}
-use Rattle.bt_output.specs.Plans.{WorldPlans}
+use Rattle.bt_output.specs.Grounds.{GroundGives, GroundPlanBegins, GroundPlanGives, GroundPlans, GroundedPlans, Grounds, ground_output}
+use Rattle.bt_output.specs.Output.{AreUncalled, Output, ground_refused, stopped_as}
+use Rattle.bt_output.specs.Plans.{WorldBegun, WorldPlans}
 use Rattle.bt_output.proofs.Files.{LongAlone, alone, at_any, at_more, ends_more, long_is, match_false, match_true, refused_ends, short_is}
 use Rattle.bt_plan.specs.declared.ending.Limits.{Limits}
 use Rattle.bt_script.specs.declared.stop.Stop.{Stop}
@@ -36,15 +36,15 @@ module _ (bytes : List ℕ) (short : length bytes ≤ most_file_bytes) where
 
   -- the file has a fault
   pub ground_stopped : (stopped : Stop GroundFault) (a : Side) → (let r : Result Grounded (Stop GroundFault) = Err stopped in Gives r (λ said. said ≡ reads_ground bytes))
-      → EndsAt (Grounds (alone bytes)) (Err (stopped_as refusal.Ground stopped)) a a
-  ground_stopped (stop.Fault f) a said = refused_ends (Grounds (alone bytes)) (refusal.Ground f) a (λ moments. ground_gives (Err f) said)
-  ground_stopped stop.NoMemory a said = refused_ends (Grounds (alone bytes)) refusal.NoMemory a (λ moments. tt)
+      → EndsAt (Grounds (alone bytes)) AreUncalled (Err (stopped_as refusal.Ground stopped)) a a
+  ground_stopped (stop.Fault f) a said = refused_ends (Grounds (alone bytes)) AreUncalled (refusal.Ground f) a (λ moments. ground_gives (Err f) said)
+  ground_stopped stop.NoMemory a said = refused_ends (Grounds (alone bytes)) AreUncalled refusal.NoMemory a (λ moments. tt)
 
   -- its text was written
   pub ground_written : (g : Grounded) (exit : Exit) (written : Option (List ℕ)) (faults : ℕ) (a : Side) → (let r : Result Grounded (Stop GroundFault) = Ok g in Gives r (λ said. said ≡ reads_ground bytes))
-      → Printed (ground_output (Ok g)) exit a.written a.faults written faults → EndsAt (Grounds (alone bytes)) (Ok exit) a (side written faults a.clock a.drivers)
+      → Printed (ground_output (Ok g)) exit a.written a.faults written faults → EndsAt (Grounds (alone bytes)) AreUncalled (Ok exit) a (side written faults a.clock a.drivers)
   ground_written g exit written faults a said printed =
-      at_any a.clock (λ moments. Ends (GroundGives bytes) (Ok exit) a (side written faults a.clock a.drivers))
+      at_any a.clock (λ moments. Ends (GroundGives bytes) AreUncalled (Ok exit) a (side written faults a.clock a.drivers))
       (λ moments. inl (ground_output (Ok g), ground_gives (Ok g) said, printed a.clock a.drivers a.drivers (λ place. refl)))
 
 -- ---- Plans
@@ -56,22 +56,22 @@ module _ (limits : Limits) (bytes : List ℕ) (short : length bytes ≤ most_fil
 
   -- the file has a fault
   pub plan_stopped_at_file : (stopped : Stop GroundFault) (a : Side) → (let r : Result Grounded (Stop GroundFault) = Err stopped in Gives r (λ said. said ≡ reads_ground bytes))
-      → EndsAt (λ moments. GroundPlanGives limits bytes) (Err (stopped_as refusal.Ground stopped)) a a
+      → EndsAt (λ moments. GroundPlanGives limits bytes) (GroundPlanBegins limits bytes) (Err (stopped_as refusal.Ground stopped)) a a
   plan_stopped_at_file (stop.Fault f) a said =
-      refused_ends (λ moments. GroundPlanGives limits bytes) (refusal.Ground f) a (λ moments. plan_gives (Err f) a.drivers (ground_refused f) said refl)
-  plan_stopped_at_file stop.NoMemory a said = refused_ends (λ moments. GroundPlanGives limits bytes) refusal.NoMemory a (λ moments. tt)
+      refused_ends (λ moments. GroundPlanGives limits bytes) (GroundPlanBegins limits bytes) (refusal.Ground f) a (λ moments. plan_gives (Err f) a.drivers (ground_refused f) said refl)
+  plan_stopped_at_file stop.NoMemory a said = refused_ends (λ moments. GroundPlanGives limits bytes) (GroundPlanBegins limits bytes) refusal.NoMemory a (λ moments. tt)
 
   -- the world script that it stands for has a fault
   pub plan_stopped_at_text : (g : Grounded) (stopped : Stop GroundFault) (a : Side) → (let r : Result Grounded (Stop GroundFault) = Ok g in Gives r (λ said. said ≡ reads_ground bytes))
-      → (let r : Result World (Stop GroundFault) = Err stopped in Gives r (MakesWorld g)) → EndsAt (λ moments. GroundPlanGives limits bytes) (Err (stopped_as refusal.Ground stopped)) a a
+      → (let r : Result World (Stop GroundFault) = Err stopped in Gives r (MakesWorld g)) → EndsAt (λ moments. GroundPlanGives limits bytes) (GroundPlanBegins limits bytes) (Err (stopped_as refusal.Ground stopped)) a a
   plan_stopped_at_text g (stop.Fault f) a said makes =
-      refused_ends (λ moments. GroundPlanGives limits bytes) (refusal.Ground f) a (λ moments. plan_gives (Ok g) a.drivers (ground_refused f) said (Err f, makes, refl))
-  plan_stopped_at_text g stop.NoMemory a said makes = refused_ends (λ moments. GroundPlanGives limits bytes) refusal.NoMemory a (λ moments. tt)
+      refused_ends (λ moments. GroundPlanGives limits bytes) (GroundPlanBegins limits bytes) (refusal.Ground f) a (λ moments. plan_gives (Ok g) a.drivers (ground_refused f) said (Err f, makes, refl))
+  plan_stopped_at_text g stop.NoMemory a said makes = refused_ends (λ moments. GroundPlanGives limits bytes) (GroundPlanBegins limits bytes) refusal.NoMemory a (λ moments. tt)
 
   -- it describes a world
   pub plan_of_text : (g : Grounded) (w : World) (result : Result Exit Refusal) (a b : Side) → (let r : Result Grounded (Stop GroundFault) = Ok g in Gives r (λ said. said ≡ reads_ground bytes))
-      → MakesWorld g (Ok w) → EndsAt (λ moments. WorldPlans w limits) result a b → EndsAt (λ moments. GroundPlanGives limits bytes) result a b
+      → MakesWorld g (Ok w) → EndsAt (λ moments. WorldPlans w limits) (WorldBegun w limits) result a b → EndsAt (λ moments. GroundPlanGives limits bytes) (GroundPlanBegins limits bytes) result a b
   plan_of_text g w result a b said makes ends =
-      at_more a.clock (λ moments. Ends (WorldPlans w limits a.drivers) result a b) (λ moments. Ends (GroundPlanGives limits bytes a.drivers) result a b)
-      (λ moments. ends_more (WorldPlans w limits a.drivers) (GroundPlanGives limits bytes a.drivers)
-      (λ o is. plan_gives (Ok g) a.drivers o said (Ok w, makes, is)) result a b) ends
+      at_more a.clock (λ moments. Ends (WorldPlans w limits a.drivers) (WorldBegun w limits) result a b) (λ moments. Ends (GroundPlanGives limits bytes a.drivers) (GroundPlanBegins limits bytes) result a b)
+      (λ moments. ends_more (WorldPlans w limits a.drivers) (GroundPlanGives limits bytes a.drivers) (WorldBegun w limits) (GroundPlanBegins limits bytes)
+      (λ o is. plan_gives (Ok g) a.drivers o said (Ok w, makes, is)) (λ old new begun. inr (record { short = short; text = g; grounded = sym said; world = w; described = makes; begun = begun })) result a b) ends

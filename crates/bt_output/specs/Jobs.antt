@@ -7,26 +7,37 @@ use Rattle.bt_outside.specs.Moments.{Moments}
 use Rattle.bt_output.specs.declared.course.Course.TheVariants as course
 use Rattle.bt_output.specs.declared.print.Print.TheVariants as print
 use Rattle.bt_output.specs.Files.{Contents, Named, no_files, tree_alone, tree_and_world, tree_world_rules, world_alone}
-use Rattle.bt_output.specs.Grounds.{GroundPlans, Grounds}
-use Rattle.bt_output.specs.Output.{CourseGives, Giving, Mocks, Output, Prints, RunsOn, words_refused}
-use Rattle.bt_output.specs.Plans.{Plans}
+use Rattle.bt_output.specs.Grounds.{GroundBegins, GroundPlans, Grounds}
+use Rattle.bt_output.specs.Output.{Beginning, BeginsNothing, CourseGives, Giving, Mocks, Output, Prints, RunsOn, words_refused}
+use Rattle.bt_output.specs.Plans.{Begins, Plans}
+use Rattle.bt_plan.specs.declared.ending.Limits.{Limits}
 
--- what a command is about: the files that it names, and what files, moments and drivers have for its output
+-- what a command is about: the files that it names, what files, moments and drivers have for its output, and what it may
+-- have begun before this is known
 pub record Job : Type 1 where
   pub named : Named
   pub gives : Giving
+  pub begins : Beginning
 
 -- the job of each command; a load makes both of its files
 abbrev pub job_of : Command → Job
-job_of (Tick tree world main) = record { named = tree_and_world tree world; gives = RunsOn course.Script main }
-job_of (Live tree world rounds main) = record { named = tree_and_world tree world; gives = RunsOn (course.Rounds rounds) main }
-job_of (Load leaves) = record { named = no_files; gives = λ files. CourseGives (course.Load leaves) None (tree_text leaves) (world_text leaves) }
-job_of (Check tree main) = record { named = tree_alone tree; gives = Prints print.Whole main }
-job_of (Dead tree main) = record { named = tree_alone tree; gives = Prints print.Dead main }
-job_of (Plan world expand ticks period) = record { named = world_alone world; gives = Plans (record { expand = expand; ticks = ticks; period = period }) }
-job_of (Mock tree world rules main) = record { named = tree_world_rules tree world rules; gives = Mocks main }
-job_of (Ground world) = record { named = world_alone world; gives = Grounds }
-job_of (GroundPlan world expand ticks period) = record { named = world_alone world; gives = GroundPlans (record { expand = expand; ticks = ticks; period = period }) }
+job_of (Tick tree world main) = record { named = tree_and_world tree world; gives = RunsOn course.Script main; begins = BeginsNothing }
+job_of (Live tree world rounds main) = record { named = tree_and_world tree world; gives = RunsOn (course.Rounds rounds) main; begins = BeginsNothing }
+job_of (Load leaves) = record {
+  named = no_files;
+  gives = λ files. CourseGives (course.Load leaves) None (tree_text leaves) (world_text leaves);
+  begins = BeginsNothing;
+}
+job_of (Check tree main) = record { named = tree_alone tree; gives = Prints print.Whole main; begins = BeginsNothing }
+job_of (Dead tree main) = record { named = tree_alone tree; gives = Prints print.Dead main; begins = BeginsNothing }
+job_of (Plan world expand ticks period) =
+    let limits : Limits = record { expand = expand; ticks = ticks; period = period } in
+    record { named = world_alone world; gives = Plans limits; begins = Begins limits }
+job_of (Mock tree world rules main) = record { named = tree_world_rules tree world rules; gives = Mocks main; begins = BeginsNothing }
+job_of (Ground world) = record { named = world_alone world; gives = Grounds; begins = BeginsNothing }
+job_of (GroundPlan world expand ticks period) =
+    let limits : Limits = record { expand = expand; ticks = ticks; period = period } in
+    record { named = world_alone world; gives = GroundPlans limits; begins = GroundBegins limits }
 
 -- the files that a command names
 abbrev pub files_of : Command → Named
@@ -35,6 +46,10 @@ files_of command = (job_of command).named
 -- the output of a command over these bytes of the files that it names, these moments and these drivers
 abbrev pub FilesGive : Command → Giving
 FilesGive command = (job_of command).gives
+
+-- what a command may have begun before its output is known
+abbrev pub FilesBegin : Command → Beginning
+FilesBegin command = (job_of command).begins
 
 -- what a file holds that may be named
 abbrev pub held : (List ℕ → List ℕ) → Option (List ℕ) → List ℕ

@@ -9,10 +9,10 @@ ghost use Rattle.bt_outside.specs.Counts.{Rose};
 ghost use Rattle.bt_output.specs.Ends.{CommandEnds, EndsAt, FilesEnd};
 ghost use Rattle.bt_output.specs.Lent.{Stays, seen};
 ghost use Rattle.bt_output.specs.Files.{no_files, tree_alone, tree_and_world, tree_world_rules, world_alone};
-ghost use Rattle.bt_output.specs.Grounds.{GroundPlanGives, GroundPlans, Grounds};
-ghost use Rattle.bt_output.specs.Jobs.{FilesGive, files_of};
-ghost use Rattle.bt_output.specs.Output.{CourseGives, Mocks, Prints, RunsOn, ScriptMocks};
-ghost use Rattle.bt_output.specs.Plans.{PlanGives, Plans};
+ghost use Rattle.bt_output.specs.Grounds.{GroundBegins, GroundPlanBegins, GroundPlanGives, GroundPlans, Grounds};
+ghost use Rattle.bt_output.specs.Jobs.{FilesBegin, FilesGive, files_of};
+ghost use Rattle.bt_output.specs.Output.{AreUncalled, BeginsNothing, CourseGives, Mocks, Prints, RunsOn, ScriptMocks};
+ghost use Rattle.bt_output.specs.Plans.{Begins, PlanBegins, PlanGives, Plans};
 ghost use Rattle.bt_plan.specs.PlanRuns.{AreInRange};
 ghost use Rattle.bt_output.specs.Reads.{Unread, WordsUnread};
 ghost use Rattle.bt_trace.specs.Traces.{AreKept};
@@ -51,7 +51,7 @@ fn run_files<S: Shelf, K: Sink, C: Clock, D: Drivers>(
     requires tree { length tree.now ≤ most_file_bytes }
     requires world { length world.now ≤ most_file_bytes }
     requires quiet { NothingHeld (D.states outside.old.drivers.now) }
-    ensures ends { EndsAt (CourseGives course (option_copied main.entry) tree.now world.now) result
+    ensures ends { EndsAt (CourseGives course (option_copied main.entry) tree.now world.now) AreUncalled result
         (seen K.written K.faults C.moments D.states outside.old)
         (seen K.written K.faults C.moments D.states outside.new) }
     ensures stays { Stays S.faults K.faults D.states outside.old outside.new }
@@ -75,7 +75,7 @@ fn read_and_run<S: Shelf, K: Sink, C: Clock, D: Drivers>(
         let new = outside.new.shelf.now in
         CommandEnds (Rose (S.faults old) (S.faults new))
         (Unread S.read_gives (S.holds old) (tree_and_world tree.now world.now) old new)
-        (FilesEnd (S.holds old) (tree_and_world tree.now world.now) (RunsOn course (option_copied main.entry))) result
+        (FilesEnd (S.holds old) (tree_and_world tree.now world.now) (RunsOn course (option_copied main.entry)) BeginsNothing) result
         (seen K.written K.faults C.moments D.states outside.old)
         (seen K.written K.faults C.moments D.states outside.new) }
     ensures stays { Stays S.faults K.faults D.states outside.old outside.new }
@@ -100,7 +100,7 @@ fn make_and_run<S: Shelf, K: Sink, C: Clock, D: Drivers>(
 ) -> Result<Exit, Refusal>
     requires few { leaves ≤ most_leaves }
     requires quiet { NothingHeld (D.states outside.old.drivers.now) }
-    ensures ends { FilesEnd (S.holds outside.old.shelf.now) no_files (FilesGive (Load leaves)) result
+    ensures ends { FilesEnd (S.holds outside.old.shelf.now) no_files (FilesGive (Load leaves)) BeginsNothing result
         (seen K.written K.faults C.moments D.states outside.old)
         (seen K.written K.faults C.moments D.states outside.new) }
     ensures stays { Stays S.faults K.faults D.states outside.old outside.new }
@@ -131,7 +131,7 @@ fn read_and_print<S: Shelf, K: Sink, C: Clock, D: Drivers>(
         let new = outside.new.shelf.now in
         CommandEnds (Rose (S.faults old) (S.faults new))
         (Unread S.read_gives (S.holds old) (tree_alone tree.now) old new)
-        (FilesEnd (S.holds old) (tree_alone tree.now) (Prints print (option_copied main.entry))) result
+        (FilesEnd (S.holds old) (tree_alone tree.now) (Prints print (option_copied main.entry)) BeginsNothing) result
         (seen K.written K.faults C.moments D.states outside.old)
         (seen K.written K.faults C.moments D.states outside.new) }
     ensures stays { Stays S.faults K.faults D.states outside.old outside.new }
@@ -151,7 +151,7 @@ fn plan_file<S: Shelf, K: Sink, C: Clock, D: Drivers>(
     requires world { length world.now ≤ most_file_bytes }
     requires limits { AreInRange limits.now }
     requires quiet { NothingHeld (D.states outside.old.drivers.now) }
-    ensures ends { EndsAt (λ moments. PlanGives limits.now world.now) result
+    ensures ends { EndsAt (λ moments. PlanGives limits.now world.now) (PlanBegins limits.now world.now) result
         (seen K.written K.faults C.moments D.states outside.old)
         (seen K.written K.faults C.moments D.states outside.new) }
     ensures stays { Stays S.faults K.faults D.states outside.old outside.new }
@@ -173,7 +173,7 @@ fn read_and_plan<S: Shelf, K: Sink, C: Clock, D: Drivers>(
         let new = outside.new.shelf.now in
         CommandEnds (Rose (S.faults old) (S.faults new))
         (Unread S.read_gives (S.holds old) (world_alone world.now) old new)
-        (FilesEnd (S.holds old) (world_alone world.now) (Plans limits.now)) result
+        (FilesEnd (S.holds old) (world_alone world.now) (Plans limits.now) (Begins limits.now)) result
         (seen K.written K.faults C.moments D.states outside.old)
         (seen K.written K.faults C.moments D.states outside.new) }
     ensures stays { Stays S.faults K.faults D.states outside.old outside.new }
@@ -192,7 +192,7 @@ fn plan_ground<S: Shelf, K: Sink, C: Clock, D: Drivers>(
     requires bytes { length bytes.now ≤ most_file_bytes }
     requires limits { AreInRange limits.now }
     requires quiet { NothingHeld (D.states outside.old.drivers.now) }
-    ensures ends { EndsAt (λ moments. GroundPlanGives limits.now bytes.now) result
+    ensures ends { EndsAt (λ moments. GroundPlanGives limits.now bytes.now) (GroundPlanBegins limits.now bytes.now) result
         (seen K.written K.faults C.moments D.states outside.old)
         (seen K.written K.faults C.moments D.states outside.new) }
     ensures stays { Stays S.faults K.faults D.states outside.old outside.new }
@@ -215,7 +215,7 @@ fn read_and_plan_ground<S: Shelf, K: Sink, C: Clock, D: Drivers>(
         let new = outside.new.shelf.now in
         CommandEnds (Rose (S.faults old) (S.faults new))
         (Unread S.read_gives (S.holds old) (world_alone world.now) old new)
-        (FilesEnd (S.holds old) (world_alone world.now) (GroundPlans limits.now)) result
+        (FilesEnd (S.holds old) (world_alone world.now) (GroundPlans limits.now) (GroundBegins limits.now)) result
         (seen K.written K.faults C.moments D.states outside.old)
         (seen K.written K.faults C.moments D.states outside.new) }
     ensures stays { Stays S.faults K.faults D.states outside.old outside.new }
@@ -235,7 +235,7 @@ fn read_and_ground<S: Shelf, K: Sink, C: Clock, D: Drivers>(
         let new = outside.new.shelf.now in
         CommandEnds (Rose (S.faults old) (S.faults new))
         (Unread S.read_gives (S.holds old) (world_alone world.now) old new)
-        (FilesEnd (S.holds old) (world_alone world.now) Grounds) result
+        (FilesEnd (S.holds old) (world_alone world.now) Grounds BeginsNothing) result
         (seen K.written K.faults C.moments D.states outside.old)
         (seen K.written K.faults C.moments D.states outside.new) }
     ensures stays { Stays S.faults K.faults D.states outside.old outside.new }
@@ -259,7 +259,7 @@ fn mock_files<S: Shelf, K: Sink, C: Clock, D: Drivers>(
     requires world { length world.now ≤ most_file_bytes }
     requires rules { length rules.now ≤ most_file_bytes }
     requires quiet { NothingHeld (D.states outside.old.drivers.now) }
-    ensures ends { EndsAt (ScriptMocks (option_copied main.entry) tree.now world.now rules.now) result
+    ensures ends { EndsAt (ScriptMocks (option_copied main.entry) tree.now world.now rules.now) AreUncalled result
         (seen K.written K.faults C.moments D.states outside.old)
         (seen K.written K.faults C.moments D.states outside.new) }
     ensures stays { Stays S.faults K.faults D.states outside.old outside.new }
@@ -284,7 +284,7 @@ fn read_and_mock<S: Shelf, K: Sink, C: Clock, D: Drivers>(
         let new = outside.new.shelf.now in
         CommandEnds (Rose (S.faults old) (S.faults new))
         (Unread S.read_gives (S.holds old) (tree_world_rules tree.now world.now rules.now) old new)
-        (FilesEnd (S.holds old) (tree_world_rules tree.now world.now rules.now) (Mocks (option_copied main.entry))) result
+        (FilesEnd (S.holds old) (tree_world_rules tree.now world.now rules.now) (Mocks (option_copied main.entry)) BeginsNothing) result
         (seen K.written K.faults C.moments D.states outside.old)
         (seen K.written K.faults C.moments D.states outside.new) }
     ensures stays { Stays S.faults K.faults D.states outside.old outside.new }
@@ -326,7 +326,7 @@ fn run_command<S: Shelf, K: Sink, C: Clock, D: Drivers>(
         let command = command_seen command.entry in
         CommandEnds (Rose (S.faults old) (S.faults new))
         (Unread S.read_gives (S.holds old) (files_of command) old new)
-        (FilesEnd (S.holds old) (files_of command) (FilesGive command)) result
+        (FilesEnd (S.holds old) (files_of command) (FilesGive command) (FilesBegin command)) result
         (seen K.written K.faults C.moments D.states outside.old)
         (seen K.written K.faults C.moments D.states outside.new) }
     ensures stays { Stays S.faults K.faults D.states outside.old outside.new }

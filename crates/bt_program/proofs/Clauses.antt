@@ -11,9 +11,10 @@ use Rattle.bt_command_line.specs.declared.exit.Exit.{Exit}
 use Rattle.bt_command_line.specs.declared.exit.Exit.TheVariants as exit
 use Rattle.bt_refusals.specs.declared.fault.TreeFault.{TreeFault}
 use Rattle.bt_refusals.specs.declared.fault.TreeFault.TheVariants as fault
-use Rattle.bt_output.specs.Answers.{Answers, AreTold, AreUncalled, AtMoments, CommandAnswered, DriversLeft, FilesAnswered, Gave, IfTold, IsWhole, ReadFailed, Side, ToldIfNamed}
-use Rattle.bt_program.specs.Headline.{EachOutput, IsGiven, IsGroundOf, IsScriptOf, PlanReaches, ReachesIfPlan, UnreadLine, WholeOutput, moments_for}
-use Rattle.bt_output.specs.Plans.{IsPlanned, PlanGives, PlannedOr, Plans, ReadPlans, first_unserved, plan_exit, plan_output, reached_lines, refusal_for}
+use Rattle.bt_output.specs.Answers.{Answers, AreTold, AtMoments, CommandAnswered, DriversLeft, DriversWithin, FilesAnswered, Gave, IfTold, IsWhole, ReadFailed, Side, ToldIfNamed}
+use Rattle.bt_program.proofs.Begun.{CutLaw, files_unasked, gave_unasked, gave_within, ran_out_gave, uncalled_is_within, unread_called_none, unread_unasked}
+use Rattle.bt_program.specs.Headline.{EachOutput, IsGiven, IsGroundOf, IsNotLive, IsScriptOf, PlanReaches, ReachesIfPlan, UnreadLine, WholeOutput, moments_for}
+use Rattle.bt_output.specs.Plans.{Begins, IsPlanned, PlanGives, PlannedOr, Plans, ReadPlans, first_unserved, plan_exit, plan_output, reached_lines, refusal_for}
 use Rattle.bt_plan.specs.declared.ending.End.{End}
 use Rattle.bt_plan.specs.declared.ending.End.TheVariants.{Reached, NoTemplate, NoOrder, Expansions, StillRunning, Faulted}
 use Rattle.bt_plan.specs.declared.ending.Limits.{Limits}
@@ -33,9 +34,9 @@ use Rattle.std.specs.List.{concat}
 use Rattle.bt_output.specs.Files.{Contents, Named, world_alone}
 use Rattle.bt_ground.specs.declared.fault.GroundFault.{GroundFault}
 use Rattle.bt_ground.specs.GroundFile.{Grounded, MakesWorld, reads_ground, world_from}
-use Rattle.bt_output.specs.Grounds.{GroundGives, GroundPlanGives, GroundPlans, GroundedPlans, SaidPlans, ground_output}
-use Rattle.bt_output.specs.Jobs.{CommandGives, FilesGive, files_of, held, held_by}
-use Rattle.bt_output.specs.Output.{Given, Giving, MockGives, OrTooLong, Output, PrintGives, ReadGives, RunGives, Standing, TreeGives, WorldGives, given, ground_refused, is_too_long, itself, join_refused, joined_output, lack_of, mocked, no_goal, print_output, rules_refused, run_exit, standing_output, too_long, tree_refused, unread, words_refused, world_output, world_refused}
+use Rattle.bt_output.specs.Grounds.{GroundBegins, GroundGives, GroundPlanGives, GroundPlans, GroundedPlans, SaidPlans, ground_output}
+use Rattle.bt_output.specs.Jobs.{CommandGives, FilesBegin, FilesGive, files_of, held, held_by}
+use Rattle.bt_output.specs.Output.{AreUncalled, Beginning, Given, Giving, MockGives, OrTooLong, Output, PrintGives, ReadGives, RunGives, Standing, TreeGives, WorldGives, given, ground_refused, is_too_long, itself, join_refused, joined_output, lack_of, mocked, no_goal, print_output, rules_refused, run_exit, standing_output, too_long, tree_refused, unread, words_refused, world_output, world_refused}
 use Rattle.bt_output.specs.TreeFiles.{TreeReads, built, element_read, with_models}
 use Rattle.bt_command_line.specs.Words.{Command, Tick, Live, Load, Check, Dead, Plan, Mock, Ground, GroundPlan}
 use Rattle.bt_output.specs.declared.refusal.File.{File}
@@ -50,10 +51,9 @@ use Rattle.bt_model.specs.declared.world_fault.WorldFault.{WorldFault}
 use Rattle.bt_model.specs.Drivers.{DriverState}
 use Rattle.bt_model.specs.Run.{run_over}
 use Rattle.bt_model.specs.WorldFile.{ReadsWorld}
-use Rattle.bt_outside.specs.Appending.{Appended, AppendedPrefix}
+use Rattle.bt_outside.specs.Appending.{Appended}
 use Rattle.bt_outside.specs.Counts.{Rose}
 use Rattle.bt_outside.specs.Moments.{Moments}
-use Rattle.bt_outside.proofs.Appends.{AppendedPrefix-nothing}
 
 -- each file reads in one way: its bytes spell one element or have one fault, and never both, and they describe one world
 -- or have one fault; and a world is planned for in one way
@@ -156,11 +156,6 @@ one_files one (Ground w) files moments drivers x y p q = one_ground files.world 
 one_files one (GroundPlan w expand ticks period) files moments drivers x y p q = one_ground_plan one (limits_of expand ticks period) files.world drivers x y p q
 one_files one (Mock t w rules main) files moments drivers x y p q = one_mock one main files.tree files.world files.rules (given course.Script moments drivers) x y p q
 
--- nothing was written for want of memory
-nothing_gave : (o : Output) (result : Exit) (a b : Side) → result ≡ exit.Memory → b.written ≡ a.written → Gave o result a b
-nothing_gave o result a b e same =
-    subst (λ (r : Exit). Gave o r a b) (sym e) (subst (λ (z : Option (List ℕ)). AppendedPrefix a.written z o.bytes) (sym same) (AppendedPrefix-nothing a.written o.bytes))
-
 -- a given exit is that of the output, which was given whole
 whole_given : (o : Output) (result : Exit) (a b : Side) → IsGiven result → Gave o result a b → IsWhole o result a b
 whole_given o exit.Done a b i p = p
@@ -257,10 +252,10 @@ if_more (Some told) P Q more x = more told x
 
 -- what is so of some moments is so of those that have to be told
 needed : (c : Command) (files : Contents) (result : Exit) (a b : Side) (clock : Option Moments) →
-    AtMoments clock (λ moments. Answers (FilesGive c files moments a.drivers) result a b) → IfTold (moments_for (Some c) clock) (λ moments. Answers (FilesGive c files moments a.drivers) result a b)
+    AtMoments clock (λ moments. Answers (FilesGive c files moments a.drivers) (FilesBegin c files) result a b) → IfTold (moments_for (Some c) clock) (λ moments. Answers (FilesGive c files moments a.drivers) (FilesBegin c files) result a b)
 needed (Tick t w main) files result a b clock x = x.holds
 needed (Live t w rounds main) files result a b None x = tt
-needed (Live t w rounds main) files result a b (Some told) x = subst (λ (moments : Moments). Answers (FilesGive (Live t w rounds main) files moments a.drivers) result a b) x.told x.holds
+needed (Live t w rounds main) files result a b (Some told) x = subst (λ (moments : Moments). Answers (FilesGive (Live t w rounds main) files moments a.drivers) (FilesBegin (Live t w rounds main) files) result a b) x.told x.holds
 needed (Load leaves) files result a b clock x = x.holds
 needed (Check t main) files result a b clock x = x.holds
 needed (Dead t main) files result a b clock x = x.holds
@@ -273,17 +268,17 @@ needed (GroundPlan w expand ticks period) files result a b clock x = x.holds
 
 -- the files of a command were answered
 abbrev Answered : Option (List ℕ → List ℕ) → Command → Exit → Side → Side → Type 0
-Answered holds c result a b = FilesAnswered holds (files_of c) (FilesGive c) result a b
+Answered holds c result a b = FilesAnswered holds (files_of c) (FilesGive c) (FilesBegin c) result a b
 
 -- the clauses of a command
-module _ (one : OneReading) (c : Command) (result : Exit) (shelf : Type 0) (IsUnread : File → Type 0) (a b : Side) where
-  answered_gave : (files : Contents) (moments : Moments) (o : Output) → FilesGive c files moments a.drivers o → Answers (FilesGive c files moments a.drivers) result a b → Gave o result a b
+module _ (one : OneReading) (cuts : CutLaw) (c : Command) (result : Exit) (shelf : Type 0) (IsUnread : File → Type 0) (a b : Side) where
+  answered_gave : (files : Contents) (moments : Moments) (o : Output) → FilesGive c files moments a.drivers o → Answers (FilesGive c files moments a.drivers) (FilesBegin c files) result a b → Gave o result a b
   answered_gave files moments o p (inl x) = subst (λ (z : Output). Gave z result a b) (one_files one c files moments a.drivers x.0 o x.1 p) x.2
-  answered_gave files moments o p (inr y) = nothing_gave o result a b y.0 y.1
+  answered_gave files moments o p (inr y) = ran_out_gave cuts one.world c files moments o result a b p y
 
   each_answered : (h : List ℕ → List ℕ) (f : Answered (Some h) c result a b) → EachOutput (Some h) (Some c) a (λ o. Gave o result a b)
   each_answered h f =
-      if_more (moments_for (Some c) a.clock) (λ moments. Answers (FilesGive c f.files moments a.drivers) result a b) (λ moments. (o : Output) → CommandGives (Some c) h moments a.drivers o → Gave o result a b)
+      if_more (moments_for (Some c) a.clock) (λ moments. Answers (FilesGive c f.files moments a.drivers) (FilesBegin c f.files) result a b) (λ moments. (o : Output) → CommandGives (Some c) h moments a.drivers o → Gave o result a b)
       (λ moments answers o p. answered_gave f.files moments o (files_told h c f.files moments a.drivers o f.told p) answers)
       (needed c f.files result a b a.clock f.answers)
 
@@ -310,6 +305,16 @@ module _ (one : OneReading) (c : Command) (result : Exit) (shelf : Type 0) (IsUn
       (λ moments. (o : Output) → CommandGives (Some c) h moments a.drivers o → (shelf → ⊥) → (Rose a.faults b.faults → ⊥) → (result ≡ exit.Memory) ⊎ IsWhole o result a b)
       (λ moments each o p. complete_told o (each o p)) (each_told h x)
 
+  -- whatever is answered, no more was begun than in the run
+  pub begun_clause : (holds : Option (List ℕ → List ℕ)) → ReadFailed shelf IsUnread result a b ⊎ Answered holds c result a b → EachOutput holds (Some c) a (λ o. DriversWithin o.drivers a.drivers b.drivers)
+  begun_clause None x = tt
+  begun_clause (Some h) (inl r) =
+      each_always (moments_for (Some c) a.clock)
+      (λ moments o p. uncalled_is_within cuts one.world c (held_by h (files_of c)) moments a.drivers b.drivers o p (unread_called_none r.1 result a b r.3))
+  begun_clause (Some h) (inr f) =
+      if_more (moments_for (Some c) a.clock) (λ moments. (o : Output) → CommandGives (Some c) h moments a.drivers o → Gave o result a b) (λ moments. (o : Output) → CommandGives (Some c) h moments a.drivers o → DriversWithin o.drivers a.drivers b.drivers)
+      (λ moments each o p. gave_within o result a b (each o p)) (each_answered h f)
+
 -- the clauses of words that are no command
 module _ (result : Exit) (shelf : Type 0) (IsUnread : File → Type 0) (a b : Side) (gave : Gave words_refused result a b) where
   pub none_whole : (holds : Option (List ℕ → List ℕ)) → IsGiven result → WholeOutput holds None result a b
@@ -326,6 +331,10 @@ module _ (result : Exit) (shelf : Type 0) (IsUnread : File → Type 0) (a b : Si
   pub none_complete : (holds : Option (List ℕ → List ℕ)) → EachOutput holds None a (λ o. (shelf → ⊥) → (Rose a.faults b.faults → ⊥) → (result ≡ exit.Memory) ⊎ IsWhole o result a b)
   none_complete None = tt
   none_complete (Some h) = λ o e s k. whole_or_memory o result a b k (refused_gave o e)
+
+  pub none_begun : (holds : Option (List ℕ → List ℕ)) → EachOutput holds None a (λ o. DriversWithin o.drivers a.drivers b.drivers)
+  none_begun None = tt
+  none_begun (Some h) = λ o e. gave_within o result a b (refused_gave o e)
 
   none_exit : result ≡ exit.Read → ⊥
   none_exit is = let gave : Gave words_refused exit.Read a b = subst (λ (e : Exit). Gave words_refused e a b) is gave in let e = gave.0 in cc
@@ -455,25 +464,25 @@ not_words file.Rules e = cc
 
 -- what was given whole, and what a failed read gave
 module _ (c : Command) (result : Exit) (shelf : Type 0) (IsUnread : File → Type 0) (a b : Side) where
-  whole_answered : (h : List ℕ → List ℕ) (f : Answered (Some h) c result a b) → IsGiven result → (moments : Moments) → Answers (FilesGive c f.files moments a.drivers) result a b
+  whole_answered : (h : List ℕ → List ℕ) (f : Answered (Some h) c result a b) → IsGiven result → (moments : Moments) → Answers (FilesGive c f.files moments a.drivers) (FilesBegin c f.files) result a b
       → (o : Output) × CommandGives (Some c) h moments a.drivers o × IsWhole o result a b
   whole_answered h f given moments (inl x) = (x.0, told_files h c f.files moments a.drivers x.0 f.told x.1, whole_given x.0 result a b given x.2)
-  whole_answered h f given moments (inr y) = absurd (subst IsGiven y.0 given)
+  whole_answered h f given moments (inr y) = absurd (subst IsGiven y.exit given)
 
   pub whole_clause : (holds : Option (List ℕ → List ℕ)) → ReadFailed shelf IsUnread result a b ⊎ Answered holds c result a b → IsGiven result → WholeOutput holds (Some c) result a b
   whole_clause None x given = tt
   whole_clause (Some h) (inl r) given = absurd (not_given r.1 (subst IsGiven (sym (whole_given (unread r.1) result a b given r.3).0) given))
   whole_clause (Some h) (inr f) given =
-      if_more (moments_for (Some c) a.clock) (λ moments. Answers (FilesGive c f.files moments a.drivers) result a b) (λ moments. (o : Output) × CommandGives (Some c) h moments a.drivers o × IsWhole o result a b)
+      if_more (moments_for (Some c) a.clock) (λ moments. Answers (FilesGive c f.files moments a.drivers) (FilesBegin c f.files) result a b) (λ moments. (o : Output) × CommandGives (Some c) h moments a.drivers o × IsWhole o result a b)
       (whole_answered h f given) (needed c f.files result a b a.clock f.answers)
 
-  read_answered : (files : Contents) (moments : Moments) → result ≡ exit.Read → Answers (FilesGive c files moments a.drivers) result a b → ⊥
+  read_answered : (files : Contents) (moments : Moments) → result ≡ exit.Read → Answers (FilesGive c files moments a.drivers) (FilesBegin c files) result a b → ⊥
   read_answered files moments is (inl x) =
       let gave : Gave x.0 exit.Read a b = subst (λ (e : Exit). Gave x.0 e a b) is x.2 in
       subst IsOfFiles gave.0 (exit_of_files c files moments a.drivers x.0 x.1)
-  read_answered files moments is (inr y) = let e : exit.Memory ≡ exit.Read = sym y.0 ∙ is in cc
+  read_answered files moments is (inr y) = let e : exit.Memory ≡ exit.Read = sym y.exit ∙ is in cc
 
-  never_read : (clock : Option Moments) (files : Contents) → result ≡ exit.Read → AtMoments clock (λ moments. Answers (FilesGive c files moments a.drivers) result a b) → ⊥
+  never_read : (clock : Option Moments) (files : Contents) → result ≡ exit.Read → AtMoments clock (λ moments. Answers (FilesGive c files moments a.drivers) (FilesBegin c files) result a b) → ⊥
   never_read clock files is x = read_answered files x.moments is x.holds
 
   pub read_clause : (holds : Option (List ℕ → List ℕ)) → ReadFailed shelf IsUnread result a b ⊎ Answered holds c result a b → result ≡ exit.Read → shelf × UnreadLine IsUnread a b
@@ -482,13 +491,13 @@ module _ (c : Command) (result : Exit) (shelf : Type 0) (IsUnread : File → Typ
       (r.0, (r.1, r.2, gave.1, unread_left r.1 a b gave.2))
   read_clause holds (inr f) is = absurd (never_read a.clock f.files is f.answers)
 
-  words_answered : (files : Contents) (moments : Moments) → result ≡ exit.Words → Answers (FilesGive c files moments a.drivers) result a b → ⊥
+  words_answered : (files : Contents) (moments : Moments) → result ≡ exit.Words → Answers (FilesGive c files moments a.drivers) (FilesBegin c files) result a b → ⊥
   words_answered files moments is (inl x) =
       let gave : Gave x.0 exit.Words a b = subst (λ (e : Exit). Gave x.0 e a b) is x.2 in
       subst IsOfFiles gave.0 (exit_of_files c files moments a.drivers x.0 x.1)
-  words_answered files moments is (inr y) = let e : exit.Memory ≡ exit.Words = sym y.0 ∙ is in cc
+  words_answered files moments is (inr y) = let e : exit.Memory ≡ exit.Words = sym y.exit ∙ is in cc
 
-  never_words : (clock : Option Moments) (files : Contents) → result ≡ exit.Words → AtMoments clock (λ moments. Answers (FilesGive c files moments a.drivers) result a b) → ⊥
+  never_words : (clock : Option Moments) (files : Contents) → result ≡ exit.Words → AtMoments clock (λ moments. Answers (FilesGive c files moments a.drivers) (FilesBegin c files) result a b) → ⊥
   never_words clock files is x = words_answered files x.moments is x.holds
 
   -- words that are a command are not refused
@@ -498,14 +507,23 @@ module _ (c : Command) (result : Exit) (shelf : Type 0) (IsUnread : File → Typ
       not_words r.1 gave.0
   words_clause holds (inr f) is = never_words a.clock f.files is f.answers
 
-  write_answered : (files : Contents) (moments : Moments) → result ≡ exit.Write → Answers (FilesGive c files moments a.drivers) result a b → Rose a.faults b.faults
+  write_answered : (files : Contents) (moments : Moments) → result ≡ exit.Write → Answers (FilesGive c files moments a.drivers) (FilesBegin c files) result a b → Rose a.faults b.faults
   write_answered files moments is (inl x) = write_gave x.0 result a b is x.2
-  write_answered files moments is (inr y) = let e : exit.Memory ≡ exit.Write = sym y.0 ∙ is in cc
+  write_answered files moments is (inr y) = let e : exit.Memory ≡ exit.Write = sym y.exit ∙ is in cc
 
   -- a write failed
   pub write_clause : (holds : Option (List ℕ → List ℕ)) → ReadFailed shelf IsUnread result a b ⊎ Answered holds c result a b → result ≡ exit.Write → Rose a.faults b.faults
   write_clause holds (inl r) is = write_gave (unread r.1) result a b is r.3
   write_clause holds (inr f) is = write_answered f.files f.answers.moments is f.answers.holds
+
+  unasked_answered : (files : Contents) (moments : Moments) → IsNotLive (Some c) → Answers (FilesGive c files moments a.drivers) (FilesBegin c files) result a b → b.clock ≡ a.clock
+  unasked_answered files moments other (inl x) = gave_unasked x.0 result a b (files_unasked c files moments a.drivers x.0 other x.1) x.2
+  unasked_answered files moments other (inr y) = y.clock
+
+  -- the clock was not asked
+  pub unasked_clause : (holds : Option (List ℕ → List ℕ)) → IsNotLive (Some c) → ReadFailed shelf IsUnread result a b ⊎ Answered holds c result a b → b.clock ≡ a.clock
+  unasked_clause holds other (inl r) = gave_unasked (unread r.1) result a b (unread_unasked r.1) r.3
+  unasked_clause holds other (inr f) = unasked_answered f.files f.answers.moments other f.answers.holds
 
 -- ---- Plans
 
@@ -567,16 +585,16 @@ module _ (laws : PlanLaws) (limits : Limits) (holds : Option (List ℕ → List 
   by_length false script o Plans by p done written = by p done written
 
   -- an output was given whose file is not too long
-  module _ (Gives : Giving) (Plans : List ℕ → Output → Type 0)
+  module _ (Gives : Giving) (Begins : Beginning) (Plans : List ℕ → Output → Type 0)
       (opens : (files : Contents) (moments : Moments) (o : Output) → Gives files moments a.drivers o → OrTooLong files.world (too_long file.World) o (Plans files.world o))
       (by : (script : List ℕ) (o : Output) → Tells script → Plans script o → o.exit ≡ exit.Done → Appended a.written b.written o.bytes → Reaches)
     where
-      by_answer : (files : Contents) (moments : Moments) → Tells files.world → Answers (Gives files moments a.drivers) exit.Done a b → Reaches
+      by_answer : (files : Contents) (moments : Moments) → Tells files.world → Answers (Gives files moments a.drivers) (Begins files) exit.Done a b → Reaches
       by_answer files moments told (inl x) =
           by_length (is_too_long files.world) files.world x.0 (Plans files.world x.0) (by files.world x.0 told) (opens files moments x.0 x.1) x.2.0 x.2.1
-      by_answer files moments told (inr y) = let e : exit.Done ≡ exit.Memory = y.0 in cc
+      by_answer files moments told (inr y) = let e : exit.Done ≡ exit.Memory = y.exit in cc
 
-      pub reached_by : (shelf : Type 0) (IsUnread : File → Type 0) → ReadFailed shelf IsUnread exit.Done a b ⊎ FilesAnswered holds (world_alone name) Gives exit.Done a b → Reaches
+      pub reached_by : (shelf : Type 0) (IsUnread : File → Type 0) → ReadFailed shelf IsUnread exit.Done a b ⊎ FilesAnswered holds (world_alone name) Gives Begins exit.Done a b → Reaches
       reached_by shelf IsUnread (inl r) = absurd (not_given r.1 (subst IsGiven (sym r.3.0) tt))
       reached_by shelf IsUnread (inr f) = by_answer f.files f.answers.moments f.told.world f.answers.holds
 
@@ -587,8 +605,8 @@ module _ (laws : PlanLaws) (limits : Limits) (holds : Option (List ℕ → List 
   by_world (Ok world) script o told described p done written = by_plan laws limits holds name IsScriptOf a b world.goals (first_unserved a.drivers world.rows) script world o told described p done written
   by_world (Err fault) script o told described p done written = not_done laws limits holds name IsScriptOf a b o (world_refused fault) refl p done
 
-  pub reached_of : (shelf : Type 0) (IsUnread : File → Type 0) → ReadFailed shelf IsUnread exit.Done a b ⊎ FilesAnswered holds (world_alone name) (Plans limits) exit.Done a b → Reaches laws limits holds name IsScriptOf a b
-  reached_of = reached_by laws limits holds name IsScriptOf a b (Plans limits) (λ bytes o. (described : Result World WorldFault) × ReadsWorld bytes described × ReadPlans described limits a.drivers o)
+  pub reached_of : (shelf : Type 0) (IsUnread : File → Type 0) → ReadFailed shelf IsUnread exit.Done a b ⊎ FilesAnswered holds (world_alone name) (Plans limits) (Begins limits) exit.Done a b → Reaches laws limits holds name IsScriptOf a b
+  reached_of = reached_by laws limits holds name IsScriptOf a b (Plans limits) (Begins limits) (λ bytes o. (described : Result World WorldFault) × ReadsWorld bytes described × ReadPlans described limits a.drivers o)
       (λ files moments o p. p) (λ script o told p done written. by_world p.0 script o told p.1 p.2 done written)
 
 -- .. by the script that a ground file stands for
@@ -606,8 +624,8 @@ module _ (laws : PlanLaws) (limits : Limits) (holds : Option (List ℕ → List 
   by_ground (Ok g) script o told grounded p done written = by_said g p.1.read p.0 script o p.1.is told grounded p.1.reads p.2 done written
   by_ground (Err fault) script o told grounded p done written = not_done laws limits holds name IsGroundOf a b o (ground_refused fault) refl p done
 
-  pub ground_reached_of : (shelf : Type 0) (IsUnread : File → Type 0) → ReadFailed shelf IsUnread exit.Done a b ⊎ FilesAnswered holds (world_alone name) (GroundPlans limits) exit.Done a b → Reaches laws limits holds name IsGroundOf a b
-  ground_reached_of = reached_by laws limits holds name IsGroundOf a b (GroundPlans limits) (λ bytes o. GroundedPlans (reads_ground bytes) limits a.drivers o)
+  pub ground_reached_of : (shelf : Type 0) (IsUnread : File → Type 0) → ReadFailed shelf IsUnread exit.Done a b ⊎ FilesAnswered holds (world_alone name) (GroundPlans limits) (GroundBegins limits) exit.Done a b → Reaches laws limits holds name IsGroundOf a b
+  ground_reached_of = reached_by laws limits holds name IsGroundOf a b (GroundPlans limits) (GroundBegins limits) (λ bytes o. GroundedPlans (reads_ground bytes) limits a.drivers o)
       (λ files moments o p. p) (λ script o told p done written. by_ground (reads_ground script) script o told refl p done written)
 
 -- ---- Words
@@ -618,13 +636,21 @@ module _ (holds : Option (List ℕ → List ℕ)) (result : Exit) (shelf : Type 
   whole_of None gave = none_whole result shelf IsUnread a b gave holds
   whole_of (Some c) answered = whole_clause c result shelf IsUnread a b holds answered
 
-  pub each_of : OneReading → (command : Option Command) → CommandAnswered command holds shelf IsUnread result a b → EachOutput holds command a (λ o. Gave o result a b ⊎ ReadFailed shelf IsUnread result a b)
-  each_of one None gave = none_each result shelf IsUnread a b gave holds
-  each_of one (Some c) answered = each_clause one c result shelf IsUnread a b holds answered
+  pub each_of : OneReading → CutLaw → (command : Option Command) → CommandAnswered command holds shelf IsUnread result a b → EachOutput holds command a (λ o. Gave o result a b ⊎ ReadFailed shelf IsUnread result a b)
+  each_of one cuts None gave = none_each result shelf IsUnread a b gave holds
+  each_of one cuts (Some c) answered = each_clause one cuts c result shelf IsUnread a b holds answered
 
-  pub complete_of : OneReading → (command : Option Command) → CommandAnswered command holds shelf IsUnread result a b → EachOutput holds command a (λ o. (shelf → ⊥) → (Rose a.faults b.faults → ⊥) → (result ≡ exit.Memory) ⊎ IsWhole o result a b)
-  complete_of one None gave = none_complete result shelf IsUnread a b gave holds
-  complete_of one (Some c) answered = complete_clause one c result shelf IsUnread a b holds answered
+  pub complete_of : OneReading → CutLaw → (command : Option Command) → CommandAnswered command holds shelf IsUnread result a b → EachOutput holds command a (λ o. (shelf → ⊥) → (Rose a.faults b.faults → ⊥) → (result ≡ exit.Memory) ⊎ IsWhole o result a b)
+  complete_of one cuts None gave = none_complete result shelf IsUnread a b gave holds
+  complete_of one cuts (Some c) answered = complete_clause one cuts c result shelf IsUnread a b holds answered
+
+  pub begun_of : OneReading → CutLaw → (command : Option Command) → CommandAnswered command holds shelf IsUnread result a b → EachOutput holds command a (λ o. DriversWithin o.drivers a.drivers b.drivers)
+  begun_of one cuts None gave = none_begun result shelf IsUnread a b gave holds
+  begun_of one cuts (Some c) answered = begun_clause one cuts c result shelf IsUnread a b holds answered
+
+  pub unasked_of : (command : Option Command) → CommandAnswered command holds shelf IsUnread result a b → IsNotLive command → b.clock ≡ a.clock
+  unasked_of None gave other = gave_unasked words_refused result a b refl gave
+  unasked_of (Some c) answered other = unasked_clause c result shelf IsUnread a b holds other answered
 
   planned_done : PlanLaws → (command : Option Command) → CommandAnswered command holds shelf IsUnread exit.Done a b → ReachesIfPlan command holds a b
   planned_done laws None answered = tt

@@ -13,13 +13,20 @@ use bt_script::{Name, NoMemory, ScriptFault};
 use bt_text::{put_bytes, put_number, put_quoted};
 use std::alloc::Global;
 
-/// Puts a fault's name and a number after it.
-fn put_numbered(out: &mut Vec<u8>, name: &[u8], number: u32) -> Result<(), NoMemory>
+/// Puts a fault's name and a number after it, which may be a large one.
+fn put_sized(out: &mut Vec<u8>, name: &[u8], number: u64) -> Result<(), NoMemory>
     ensures { OnOk result (out.new.items ≡ out.old.items ++ numbered name.now number) }
 {
     put_bytes(out, name)?;
     put_bytes(out, b" ")?;
-    put_number(out, u64::from(number))
+    put_number(out, number)
+}
+
+/// Puts a fault's name and a number after it.
+fn put_numbered(out: &mut Vec<u8>, name: &[u8], number: u32) -> Result<(), NoMemory>
+    ensures { OnOk result (out.new.items ≡ out.old.items ++ numbered name.now number) }
+{
+    put_sized(out, name, u64::from(number))
 }
 
 /// Puts a fault's name and an ID after it.
@@ -228,15 +235,6 @@ pub fn rules_refusal(alloc: Global, fault: &MockFault) -> Result<Vec<u8>, NoMemo
     Ok(line)
 }
 
-/// Puts the words of a text that a ground file would stand for, which is too long.
-fn put_size(out: &mut Vec<u8>, size: u64) -> Result<(), NoMemory>
-    ensures { OnOk result (out.new.items ≡ out.old.items ++ numbered (codes "TooManyGround") size) }
-{
-    put_bytes(out, b"TooManyGround")?;
-    put_bytes(out, b" ")?;
-    put_number(out, size)
-}
-
 /// Puts the words of a fault of the world script that a ground file stands for.
 fn put_world_of(out: &mut Vec<u8>, line: u32, kind: WorldKind) -> Result<(), NoMemory>
     ensures { OnOk result (out.new.items ≡ out.old.items ++ (codes "World " ++ numbered (kind_word kind) line)) }
@@ -257,7 +255,7 @@ fn put_ground_fault(out: &mut Vec<u8>, fault: GroundFault) -> Result<(), NoMemor
         GroundFault::TooNested { line } => put_numbered(out, b"TooNested", line),
         GroundFault::TooMany { line } => put_numbered(out, b"TooMany", line),
         GroundFault::Unended { line } => put_numbered(out, b"Unended", line),
-        GroundFault::TooManyGround { size } => put_size(out, size),
+        GroundFault::TooManyGround { size } => put_sized(out, b"TooManyGround", size),
         GroundFault::World { line, kind } => put_world_of(out, line, kind),
     }
 }

@@ -1,23 +1,23 @@
 use Rattle.std.proofs.Common.{Some, arith}
 use Rattle.std.proofs.lemmas.Result.{err_from_is_err_and}
 use Rattle.std.specs.Option.{option_copied}
-use Rattle.bt_output.specs.Output.{Mocks}
+use Rattle.bt_output.specs.Output.{BeginsNothing, Mocks}
 use Rattle.bt_output.proofs.Files.{long_mock, long_mock_world, long_rules, rules_unread, tree_unread, world_unread}
 use Rattle.bt_output.proofs.command.read_and_mock.Goals as goal
 
 pub returns-in_err-tree-clause-ends : goal.returns-in_err-tree-clause-ends
 returns-in_err-tree-clause-ends g c =
     let p = err_from_is_err_and c.from_residual.result c.from_residual.ensures.1 in
-    rw (p.1, p.2) (tree_unread g.S.Shelf.read_gives g.S.Shelf.faults (g.S.Shelf.holds c.args.outside.now.shelf.now) (Mocks (option_copied c.args.main)) c.args.tree.now (Some c.args.rules.now) (Some c.args.world.now) (long_mock (option_copied c.args.main)) _ _ c.in_err-tree.field-0.0 _ c.in_err-tree.ensures.unread)
+    rw (p.1, p.2) (tree_unread g.S.Shelf.read_gives g.S.Shelf.faults (g.S.Shelf.holds c.args.outside.now.shelf.now) (Mocks (option_copied c.args.main)) BeginsNothing c.args.tree.now (Some c.args.rules.now) (Some c.args.world.now) (long_mock (option_copied c.args.main)) _ _ c.in_err-tree.field-0.0 _ c.in_err-tree.ensures.unread)
 
 pub returns-in_err-world-clause-ends : goal.returns-in_err-world-clause-ends
 returns-in_err-world-clause-ends g c =
     let p = err_from_is_err_and c.from_residual-in_err-world.result c.from_residual-in_err-world.ensures.1 in
-    rw (p.1, p.2) (world_unread g.S.Shelf.read_gives g.S.Shelf.faults (g.S.Shelf.holds c.args.outside.now.shelf.now) (Mocks (option_copied c.args.main)) c.args.tree.now (Some c.args.rules.now) c.args.world.now (long_mock_world (option_copied c.args.main)) _ _ _ _ c.in_err-world.field-0.0 _ c.in_ok-tree.ensures.count c.in_ok-tree.ensures.read (rw c.in_ok-tree.ensures.holds at c.in_err-world.ensures.unread))
+    rw (p.1, p.2) (world_unread g.S.Shelf.read_gives g.S.Shelf.faults (g.S.Shelf.holds c.args.outside.now.shelf.now) (Mocks (option_copied c.args.main)) BeginsNothing c.args.tree.now (Some c.args.rules.now) c.args.world.now (long_mock_world (option_copied c.args.main)) _ _ _ _ c.in_err-world.field-0.0 _ c.in_ok-tree.ensures.count c.in_ok-tree.ensures.read (rw c.in_ok-tree.ensures.holds at c.in_err-world.ensures.unread))
 
 pub returns-in_err-rules-clause-ends : goal.returns-in_err-rules-clause-ends
 returns-in_err-rules-clause-ends g c =
     let p = err_from_is_err_and c.from_residual-in_err-rules.result c.from_residual-in_err-rules.ensures.1 in
-    rw (p.1, p.2) (rules_unread g.S.Shelf.read_gives g.S.Shelf.faults (g.S.Shelf.holds c.args.outside.now.shelf.now) (Mocks (option_copied c.args.main)) c.args.tree.now c.args.world.now c.args.rules.now (long_rules (option_copied c.args.main)) _ _ _ _ _ _ c.in_err-rules.field-0.0 _
+    rw (p.1, p.2) (rules_unread g.S.Shelf.read_gives g.S.Shelf.faults (g.S.Shelf.holds c.args.outside.now.shelf.now) (Mocks (option_copied c.args.main)) BeginsNothing c.args.tree.now c.args.world.now c.args.rules.now (long_rules (option_copied c.args.main)) _ _ _ _ _ _ c.in_err-rules.field-0.0 _
     (omega (arith, c.in_ok-tree.ensures.count, c.in_ok-world.ensures.count)) c.in_ok-tree.ensures.read (rw c.in_ok-tree.ensures.holds at c.in_ok-world.ensures.read)
     (rw (c.in_ok-world.ensures.holds, c.in_ok-tree.ensures.holds) at c.in_err-rules.ensures.unread))

@@ -1,14 +1,14 @@
 use Rattle.std.proofs.Common.{None, inr}
 use Rattle.std.proofs.lemmas.Result.{err_from_is_err_and}
 use Rattle.std.specs.Option.{option_copied}
-use Rattle.bt_output.specs.Output.{Prints}
+use Rattle.bt_output.specs.Output.{BeginsNothing, Prints}
 use Rattle.bt_output.proofs.Files.{long_print, print_stopped, tree_printed, tree_unread}
 use Rattle.bt_output.proofs.command.read_and_print.Goals as goal
 
 pub returns-in_err-bytes-clause-ends : goal.returns-in_err-bytes-clause-ends
 returns-in_err-bytes-clause-ends g c =
     let p = err_from_is_err_and c.from_residual.result c.from_residual.ensures.1 in
-    rw (p.1, p.2) (tree_unread g.S.Shelf.read_gives g.S.Shelf.faults (g.S.Shelf.holds c.args.outside.now.shelf.now) (Prints c.args.print (option_copied c.args.main)) c.args.tree.now None None (long_print c.args.print (option_copied c.args.main)) _ _ c.in_err-bytes.field-0.0 _ c.in_err-bytes.ensures.unread)
+    rw (p.1, p.2) (tree_unread g.S.Shelf.read_gives g.S.Shelf.faults (g.S.Shelf.holds c.args.outside.now.shelf.now) (Prints c.args.print (option_copied c.args.main)) BeginsNothing c.args.tree.now None None (long_print c.args.print (option_copied c.args.main)) _ _ c.in_err-bytes.field-0.0 _ c.in_err-bytes.ensures.unread)
 
 pub returns-in_err-tree-clause-ends : goal.returns-in_err-tree-clause-ends
 returns-in_err-tree-clause-ends g c =
