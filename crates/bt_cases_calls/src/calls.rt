@@ -9,7 +9,7 @@ use bt_leaves::Conditions;
 use bt_outside::{MemClock, MemSink};
 use bt_program::add_driver;
 use bt_script::NoMemory;
-use bt_stage::{answer_with, run, run_with, shelf_of};
+use bt_stage::{TICK, answer, answer_with, run, run_with, shelf_of, shelf_of_rows};
 use std::alloc::Global;
 use std::test::Fail;
 
@@ -65,6 +65,54 @@ fn drivers_count_their_calls(rt: HostRuntime) -> Result<(), Fail> {
             want,
             "{nodes}"
         );
+    }
+    Ok(())
+}
+
+/// The exit of words whose write of this number fails, and what the drivers have counted.
+fn counted_at_failure(
+    alloc: Global,
+    words: &[&str],
+    nodes: &str,
+    lines: &str,
+    write: u64,
+) -> Result<String, NoMemory> {
+    let mut shelf = shelf_of_rows(alloc, nodes, lines)?;
+    let mut sink = MemSink::new(alloc, vec![in alloc; (write, 0)]?);
+    let mut clock = MemClock::new(Vec::new(alloc));
+    let ending = answer(alloc, words, &mut shelf, &mut sink, &mut clock)?;
+    Ok(format!(in alloc; "{:?}{}", ending.exit, ending.counts)?)
+}
+
+/// After a failed write a run begins nothing more, and halts what is held; what is printed of a tree,
+/// and a refusal, call no driver.
+#[test]
+fn a_failed_write_begins_nothing(rt: HostRuntime) -> Result<(), Fail> {
+    let lasting =
+        "fact x 1 / condition A is x == 1 / action B timed 300 / tick 1 / at 299 / tick 1 / at 300 / tick 1";
+    let table: [(&[&str], &str, u64, &str); 8] = [
+        (
+            &TICK,
+            "<Sequence><A/><B/></Sequence>",
+            0,
+            "Done; Condition 1 0 0 trail 1; Timed 1 2 0 trail 1000008000017",
+        ),
+        (
+            &TICK,
+            "<Sequence><A/><B/></Sequence>",
+            1,
+            "Write; Condition 1 0 0 trail 1; Timed 1 0 1 trail 1000006",
+        ),
+        (&TICK, "<Sequence><C/></Sequence>", 0, "World"),
+        (&TICK, "<Sequence><C/></Sequence>", 1, "Write"),
+        (&["check", "T"], "<Sequence><A/><B/></Sequence>", 1, "Write"),
+        (&["check", "T"], "<Sequence/>", 0, "Tree"),
+        (&["check", "T"], "<Sequence/>", 1, "Write"),
+        (&["dead", "T"], "<Sequence><A/><B/></Sequence>", 1, "Write"),
+    ];
+    for (words, nodes, write, want) in table {
+        let text = counted_at_failure(rt.alloc(), words, nodes, lasting, write)?;
+        assert_eq!(rt; text.as_str(), want, "{nodes}");
     }
     Ok(())
 }

@@ -1,5 +1,6 @@
-ghost use Rattle.std.specs.Prelude.{IfOk, length};
+ghost use Rattle.std.specs.Prelude.{IfOk, OnErr, length};
 ghost use Rattle.bt_loop.specs.Runs.{Setup, arenas_of};
+ghost use Rattle.bt_trace.specs.Cuts.{IsCut};
 ghost use Rattle.bt_trace.specs.Traces.{AreKept, CanAllCome, CanRun, trace_of};
 ghost use Rattle.bt_load.specs.Summaries.{IsLoad};
 
@@ -13,7 +14,8 @@ use bt_trace::{Counter, Ended, run_events};
 use std::alloc::Global;
 
 /// Runs a load of this number: makes the events in order, finishes all runners, and gives the line
-/// that sums up the run. No driver holds anything then, whatever is answered.
+/// that sums up the run. The error is want of memory, and then the drivers had the first calls of the
+/// run. No driver holds anything then, whatever is answered.
 pub fn run_load<D: Drivers>(
     alloc: Global,
     n: u32,
@@ -26,6 +28,8 @@ pub fn run_load<D: Drivers>(
     requires come { CanAllCome of.world runs.last events.now }
     ensures whole { IfOk result (λ told.
         IsLoad n of.tree (arenas_of runs) (length events.now) (D.states drivers.old) (D.states drivers.new) told.0.items told.1
+        (trace_of of (D.states drivers.old) runs events.now)) }
+    ensures cut { OnErr result (IsCut (arenas_of runs) (D.states drivers.old) (D.states drivers.new)
         (trace_of of (D.states drivers.old) runs events.now)) }
     ensures kept { AreKept (D.states drivers.old) (D.states drivers.new) }
 {

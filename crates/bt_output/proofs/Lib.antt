@@ -1,3 +1,4 @@
 pub mod Files
 pub mod Plans
 pub mod Runs
+pub mod Within

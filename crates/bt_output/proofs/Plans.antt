@@ -1,6 +1,6 @@
 -- What a command gives that plans.
 use Rattle.std.proofs.Common.{◌≡◌, ◌≢◌, ◌∙◌, ◌==◌, ℕ, ◌<◌, ◌≤◌, Bool, true, false, List, [], ◌∷◌, inl, inr, Option, Some, None, length, refl, sym, ap, subst, arith, Result, Ok, Err}
-use Rattle.std.specs.Prelude.{MatchOption}
+use Rattle.std.specs.Prelude.{option_map}
 use Rattle.std.specs.List.{All}
 use Rattle.std.proofs.lemmas.Bool.Decides.{nat_tests}
 use Rattle.std.proofs.lemmas.List.Elements.{All-cons, All-nil}
@@ -29,10 +29,10 @@ use Rattle.bt_output.specs.declared.refusal.Refusal.TheVariants as refusal
 use Rattle.bt_output.specs.Answers.{Gave, IsSpoken, IsWhole, PlanPrinted, Side, side}
 use Rattle.bt_output.specs.Ends.{CommandEnds, Ends, EndsAt, FilesEnd}
 use Rattle.bt_output.specs.Output.{Output, join_refused, no_goal, refused_as, stopped_as, too_long, world_refused}
-use Rattle.bt_output.specs.Plans.{IsPlanned, PlanGives, PlannedOr, Plans, ReadPlans, WorldPlans, first_unserved, plan_bytes, plan_exit, plan_output, refusal_for}
+use Rattle.bt_output.specs.Plans.{Begins, IsPlanned, PlanBegins, PlanGives, PlannedOr, Plans, ReadPlans, WorldBegun, WorldPlans, first_unserved, plan_bytes, plan_exit, plan_output, refusal_for}
 use Rattle.bt_output.specs.Reads.{IsUnread, Reading, Unread, WasRead}
 use Rattle.bt_output.proofs.Files.{at_any, at_more, ends_more, long_is, match_false, match_true, out_of_memory, refused_ends, short_is, still}
-use Rattle.bt_plan.specs.Answers.{IsPlan, StandsAlone}
+use Rattle.bt_plan.specs.Answers.{IsPlan, IsPlanCut, StandsAlone}
 use Rattle.bt_plan.specs.declared.ending.End.{End}
 use Rattle.bt_plan.specs.declared.ending.End.TheVariants.{Reached, NoTemplate, NoOrder, Expansions, StillRunning, Faulted}
 use Rattle.bt_plan.specs.declared.ending.Limits.{Limits}
@@ -115,8 +115,8 @@ no_goals world limits drivers none =
     subst (λ (goals : List ℕ). Planned goals (first_unserved drivers world.rows) world limits drivers no_goal) (sym none) refl
 
 -- a world without a goal is refused
-pub goal_lacks : (world : World) (limits : Limits) (a : Side) → world.goals ≡ [] → EndsAt (λ moments. WorldPlans world limits) (Err refusal.NoGoal) a a
-goal_lacks world limits a none = refused_ends (λ moments. WorldPlans world limits) refusal.NoGoal a (λ moments. no_goals world limits a.drivers none)
+pub goal_lacks : (world : World) (limits : Limits) (a : Side) → world.goals ≡ [] → EndsAt (λ moments. WorldPlans world limits) (WorldBegun world limits) (Err refusal.NoGoal) a a
+goal_lacks world limits a none = refused_ends (λ moments. WorldPlans world limits) (WorldBegun world limits) refusal.NoGoal a (λ moments. no_goals world limits a.drivers none)
 
 some_goals : (goals : List ℕ) (world : World) (limits : Limits) (drivers : List DriverState) (fault : JoinFault) → goals ≢ [] → Planned goals (Some fault) world limits drivers (join_refused fault)
 some_goals [] world limits drivers fault some = absurd (some refl)
@@ -124,8 +124,8 @@ some_goals (goal ∷ goals) world limits drivers fault some = refl
 
 -- a row lacks a driver
 pub driver_lacks : (world : World) (limits : Limits) (a : Side) (kind : DriverKind) → world.goals ≢ [] → first_unserved a.drivers world.rows ≡ Some (join.NoDriver kind)
-    → EndsAt (λ moments. WorldPlans world limits) (Err (refusal.Join (join.NoDriver kind))) a a
-driver_lacks world limits a kind some lack = refused_ends (λ moments. WorldPlans world limits) (refusal.Join (join.NoDriver kind)) a
+    → EndsAt (λ moments. WorldPlans world limits) (WorldBegun world limits) (Err (refusal.Join (join.NoDriver kind))) a a
+driver_lacks world limits a kind some lack = refused_ends (λ moments. WorldPlans world limits) (WorldBegun world limits) (refusal.Join (join.NoDriver kind)) a
     (λ moments. subst (λ (l : Option JoinFault). Planned world.goals l world limits a.drivers (join_refused (join.NoDriver kind))) (sym lack)
     (some_goals world.goals world limits a.drivers (join.NoDriver kind) some))
 
@@ -135,9 +135,9 @@ planned_goals (goal ∷ goals) world limits drivers output some is = is
 
 -- a plan was printed
 pub plan_ends : (world : World) (limits : Limits) (a : Side) (after : List DriverState) (planned : PlanEnd) (exit : Exit) (written : Option (List ℕ)) (faults : ℕ) → world.goals ≢ [] → first_unserved a.drivers world.rows ≡ None
-    → IsValidWorld world → IsPlan world limits a.drivers after planned → StandsAlone planned.end → PlanPrinted planned exit a.written a.faults written faults → EndsAt (λ moments. WorldPlans world limits) (Ok exit) a (side written faults a.clock after)
+    → IsValidWorld world → IsPlan world limits a.drivers after planned → StandsAlone planned.end → PlanPrinted planned exit a.written a.faults written faults → EndsAt (λ moments. WorldPlans world limits) (WorldBegun world limits) (Ok exit) a (side written faults a.clock after)
 plan_ends world limits a after planned exit written faults some lack valid run alone printed =
-    at_any a.clock (λ moments. Ends (WorldPlans world limits a.drivers) (Ok exit) a (side written faults a.clock after))
+    at_any a.clock (λ moments. Ends (WorldPlans world limits a.drivers) (WorldBegun world limits) (Ok exit) a (side written faults a.clock after))
     (λ moments. inl (
       plan_output planned after,
       subst (λ (l : Option JoinFault). Planned world.goals l world limits a.drivers (plan_output planned after)) (sym lack)
@@ -145,10 +145,16 @@ plan_ends world limits a after planned exit written faults some lack valid run a
       printed a.clock a.drivers after,
     ))
 
+unrefused : (goals : List ℕ) (lack : Option JoinFault) → goals ≢ [] → lack ≡ None → refusal_for goals lack ≡ None
+unrefused [] lack some none = absurd (some refl)
+unrefused (goal ∷ goals) lack some none = ap (option_map join_refused) none
+
 -- memory ran out in a plan
-pub plan_stopped : (world : World) (limits : Limits) (a : Side) (after : List DriverState) → EndsAt (λ moments. WorldPlans world limits) (Ok exit.Memory) a (side a.written a.faults a.clock after)
-plan_stopped world limits a after =
-    at_any a.clock (λ moments. Ends (WorldPlans world limits a.drivers) (Ok exit.Memory) a (side a.written a.faults a.clock after)) (λ moments. inr (refl, refl))
+pub plan_stopped : (world : World) (limits : Limits) (a : Side) (after : List DriverState) → world.goals ≢ [] → first_unserved a.drivers world.rows ≡ None → IsPlanCut world limits a.drivers after
+    → EndsAt (λ moments. WorldPlans world limits) (WorldBegun world limits) (Ok exit.Memory) a (side a.written a.faults a.clock after)
+plan_stopped world limits a after some lack cut =
+    at_any a.clock (λ moments. Ends (WorldPlans world limits a.drivers) (WorldBegun world limits) (Ok exit.Memory) a (side a.written a.faults a.clock after))
+    (λ moments. inr (record { exit = refl; written = refl; clock = refl; drivers = (unrefused world.goals (first_unserved a.drivers world.rows) some lack, cut) }))
 
 -- ---- Bytes
 
@@ -159,17 +165,17 @@ module _ (limits : Limits) (world : List ℕ) (short : length world ≤ most_fil
 
   -- the script could not be parsed
   pub script_stopped : (stopped : Stop WorldFault) (a : Side) → (let r : Result World (Stop WorldFault) = Err stopped in Gives r (ReadsWorld world))
-      → EndsAt (λ moments. PlanGives limits world) (Err (stopped_as refusal.World stopped)) a a
+      → EndsAt (λ moments. PlanGives limits world) (PlanBegins limits world) (Err (stopped_as refusal.World stopped)) a a
   script_stopped (stop.Fault f) a described =
-      refused_ends (λ moments. PlanGives limits world) (refusal.World f) a (λ moments. plan_gives (Err f) a.drivers (world_refused f) described refl)
-  script_stopped stop.NoMemory a described = refused_ends (λ moments. PlanGives limits world) refusal.NoMemory a (λ moments. tt)
+      refused_ends (λ moments. PlanGives limits world) (PlanBegins limits world) (refusal.World f) a (λ moments. plan_gives (Err f) a.drivers (world_refused f) described refl)
+  script_stopped stop.NoMemory a described = refused_ends (λ moments. PlanGives limits world) (PlanBegins limits world) refusal.NoMemory a (λ moments. tt)
 
   -- it was parsed
-  pub script_parsed : (w : World) (result : Result Exit Refusal) (a b : Side) → ReadsWorld world (Ok w) → EndsAt (λ moments. WorldPlans w limits) result a b → EndsAt (λ moments. PlanGives limits world) result a b
+  pub script_parsed : (w : World) (result : Result Exit Refusal) (a b : Side) → ReadsWorld world (Ok w) → EndsAt (λ moments. WorldPlans w limits) (WorldBegun w limits) result a b → EndsAt (λ moments. PlanGives limits world) (PlanBegins limits world) result a b
   script_parsed w result a b described ends =
-      at_more a.clock (λ moments. Ends (WorldPlans w limits a.drivers) result a b) (λ moments. Ends (PlanGives limits world a.drivers) result a b)
-      (λ moments. ends_more (WorldPlans w limits a.drivers) (PlanGives limits world a.drivers)
-      (λ o is. plan_gives (Ok w) a.drivers o described is) result a b) ends
+      at_more a.clock (λ moments. Ends (WorldPlans w limits a.drivers) (WorldBegun w limits) result a b) (λ moments. Ends (PlanGives limits world a.drivers) (PlanBegins limits world) result a b)
+      (λ moments. ends_more (WorldPlans w limits a.drivers) (PlanGives limits world a.drivers) (WorldBegun w limits) (PlanBegins limits world)
+      (λ o is. plan_gives (Ok w) a.drivers o described is) (λ old new begun. inr (record { short = short; world = w; described = described; begun = begun })) result a b) ends
 
 -- ---- Files
 
@@ -177,7 +183,7 @@ module _ (limits : Limits) (world : List ℕ) (short : length world ≤ most_fil
 module _ {Shelf : Type 0} (read_gives : Reading Shelf) (faults : Shelf → ℕ) (holds : Option (List ℕ → List ℕ)) (world : List ℕ) (limits : Limits) where
   abbrev Ended : Shelf → Shelf → Result Exit Refusal → Side → Side → Type 0
   Ended old new result a b =
-      CommandEnds (Rose (faults old) (faults new)) (Unread read_gives holds None (Some world) old new) (FilesEnd holds None (Some world) (Plans limits)) result a b
+      CommandEnds (Rose (faults old) (faults new)) (Unread read_gives holds None (Some world) old new) (FilesEnd holds None (Some world) (Plans limits) (Begins limits)) result a b
 
   -- it was not read
   pub script_unread : (old new : Shelf) (r : Refusal) (a : Side) → IsUnread read_gives faults holds file.World world r old new → Ended old new (Err r) a a
@@ -188,10 +194,10 @@ module _ {Shelf : Type 0} (read_gives : Reading Shelf) (faults : Shelf → ℕ) 
     world = u.1.bytes;
     is_tree = tt;
     is_world = u.1.told;
-    answers = refused_ends (Plans limits [] u.1.bytes) (refusal.TooLong which) a
+    answers = refused_ends (Plans limits [] u.1.bytes) (PlanBegins limits u.1.bytes) (refusal.TooLong which) a
         (λ moments. subst (λ (f : File). Plans limits [] u.1.bytes moments a.drivers (too_long f)) (sym u.0) (match_true _ _ _ (long_is u.1.bytes u.1.long) refl));
   })
-  script_unread old new refusal.NoMemory a u = inr (out_of_memory holds None (Some world) (Plans limits) a)
+  script_unread old new refusal.NoMemory a u = inr (out_of_memory holds None (Some world) (Plans limits) (Begins limits) a)
   script_unread old new refusal.Words a u = absurd u
   script_unread old new (refusal.Tree f) a u = absurd u
   script_unread old new (refusal.World f) a u = absurd u
@@ -200,5 +206,5 @@ module _ {Shelf : Type 0} (read_gives : Reading Shelf) (faults : Shelf → ℕ) 
 
   -- it was read
   pub script_read : (bytes : List ℕ) (old between new : Shelf) (result : Result Exit Refusal) (a b : Side) → WasRead read_gives holds world bytes old between
-      → EndsAt (λ moments. PlanGives limits bytes) result a b → Ended old new result a b
+      → EndsAt (λ moments. PlanGives limits bytes) (PlanBegins limits bytes) result a b → Ended old new result a b
   script_read bytes old between new result a b read ends = inr (record { tree = []; world = bytes; is_tree = tt; is_world = read.told; answers = ends })

@@ -25,7 +25,7 @@ use Rattle.bt_model.specs.declared.term.Tree.{Tree}
 use Rattle.bt_model.specs.declared.world.Event.{Event}
 use Rattle.bt_model.specs.declared.world.World.{World}
 use Rattle.bt_model.specs.declared.world_fault.WorldFault.{WorldFault}
-use Rattle.bt_model.specs.Drivers.{DriverState}
+use Rattle.bt_model.specs.Drivers.{DriverState, driver_at}
 use Rattle.bt_model.specs.Limits.{most_file_bytes}
 use Rattle.bt_model.specs.Lines.{line_names, quoted}
 use Rattle.bt_model.specs.PrintedTree.{tree_lines}
@@ -51,6 +51,19 @@ pub record Output : Type 0 where
   pub exit : Exit
   pub drivers : Option (List DriverState)
   pub asked : Asked
+
+-- ---- Drivers
+
+-- no driver was called
+abbrev pub AreUncalled : List DriverState → List DriverState → Type 0
+AreUncalled old new = (place : ℕ) → (driver_at new place).totals ≡ (driver_at old place).totals
+
+-- what may have become of the drivers before an output is known, by the bytes of a tree file and of a world file
+abbrev pub Beginning : Type 1
+Beginning = List ℕ → List ℕ → List DriverState → List DriverState → Type 0
+
+abbrev pub BeginsNothing : Beginning
+BeginsNothing = λ tree world. AreUncalled
 
 -- ---- Refusals
 

@@ -1,5 +1,5 @@
 -- The output of a plan: a refusal, or its steps, its end, and the tree that reaches the goals.
-use Rattle.std.specs.Prelude.{ℕ, ◌≡◌, List, [], ◌∷◌, ◌++◌, map, Option, Some, None, option_map, Result, Ok, Err}
+use Rattle.std.specs.Prelude.{ℕ, ◌≡◌, ◌≤◌, ◌⊎◌, List, [], ◌∷◌, ◌++◌, length, map, Option, Some, None, option_map, Result, Ok, Err}
 use Rattle.std.specs.List.{concat}
 use Rattle.std.specs.Option.{option_or}
 use Rattle.bt_arena.specs.declared.join_fault.JoinFault.{JoinFault}
@@ -10,12 +10,13 @@ use Rattle.bt_model.specs.declared.world.Row.{Row}
 use Rattle.bt_model.specs.declared.world.World.{World}
 use Rattle.bt_model.specs.declared.world_fault.WorldFault.{WorldFault}
 use Rattle.bt_model.specs.Drivers.{DriverState, kind_of_row, place_of_kind}
+use Rattle.bt_model.specs.Limits.{most_file_bytes}
 use Rattle.bt_model.specs.PrintedTree.{tree_lines}
 use Rattle.bt_model.specs.WorldFile.{ReadsWorld}
 use Rattle.bt_model.specs.Worlds.{IsValidWorld}
 use Rattle.bt_output.specs.declared.refusal.File.TheVariants as file
-use Rattle.bt_output.specs.Output.{Giving, Never, OrTooLong, Output, join_refused, no_goal, too_long, world_refused}
-use Rattle.bt_plan.specs.Answers.{IsPlan, StandsAlone}
+use Rattle.bt_output.specs.Output.{AreUncalled, Beginning, Giving, Never, OrTooLong, Output, join_refused, no_goal, too_long, world_refused}
+use Rattle.bt_plan.specs.Answers.{IsPlan, IsPlanCut, StandsAlone}
 use Rattle.bt_plan.specs.declared.ending.End.{End}
 use Rattle.bt_plan.specs.declared.ending.End.TheVariants.{Reached, NoTemplate, NoOrder, Expansions, StillRunning, Faulted}
 use Rattle.bt_plan.specs.declared.ending.Limits.{Limits}
@@ -89,3 +90,25 @@ PlanGives limits world drivers output =
 
 abbrev pub Plans : Limits → Giving
 Plans limits = λ tree world moments drivers. PlanGives limits world drivers
+
+-- ---- A plan that was cut off
+
+-- planning for a world had begun, which nothing refuses: no driver was asked to start and to go on more often than by the
+-- modelled runs with which a plan run begins
+abbrev pub WorldBegun : World → Limits → List DriverState → List DriverState → Type 0
+WorldBegun world limits old new =
+    (refusal_for world.goals (first_unserved old world.rows) ≡ None) × IsPlanCut world limits old new
+
+-- .. for the world that a file describes
+pub record FileBegun (limits : Limits) (file : List ℕ) (old new : List DriverState) : Type 0 where
+  pub short : length file ≤ most_file_bytes
+  pub world : World
+  pub described : ReadsWorld file (Ok world)
+  pub begun : WorldBegun world limits old new
+
+-- no driver was called, or planning had begun
+abbrev pub PlanBegins : Limits → List ℕ → List DriverState → List DriverState → Type 0
+PlanBegins limits world old new = AreUncalled old new ⊎ FileBegun limits world old new
+
+abbrev pub Begins : Limits → Beginning
+Begins limits = λ tree world. PlanBegins limits world

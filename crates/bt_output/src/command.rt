@@ -8,9 +8,9 @@ ghost use Rattle.bt_output.specs.Answers.{CommandAnswered, side};
 ghost use Rattle.bt_outside.specs.Counts.{Rose};
 ghost use Rattle.bt_output.specs.Ends.{CommandEnds, EndsAt, FilesEnd};
 ghost use Rattle.bt_output.specs.Lent.{Stays, seen};
-ghost use Rattle.bt_output.specs.Jobs.{FilesGive, tree_name, world_name};
-ghost use Rattle.bt_output.specs.Output.{Prints, RunsOn};
-ghost use Rattle.bt_output.specs.Plans.{PlanGives, Plans};
+ghost use Rattle.bt_output.specs.Jobs.{FilesBegin, FilesGive, tree_name, world_name};
+ghost use Rattle.bt_output.specs.Output.{AreUncalled, BeginsNothing, Prints, RunsOn};
+ghost use Rattle.bt_output.specs.Plans.{Begins, PlanBegins, PlanGives, Plans};
 ghost use Rattle.bt_plan.specs.PlanRuns.{AreInRange};
 ghost use Rattle.bt_output.specs.Reads.{Unread, WordsUnread};
 ghost use Rattle.bt_trace.specs.Traces.{AreKept};
@@ -46,7 +46,7 @@ fn run_files<S: Shelf, K: Sink, C: Clock, D: Drivers>(
     requires tree { length tree.now ≤ most_file_bytes }
     requires world { length world.now ≤ most_file_bytes }
     requires quiet { NothingHeld (D.states outside.old.drivers.now) }
-    ensures ends { EndsAt (RunsOn course (option_copied main.entry) tree.now world.now) result
+    ensures ends { EndsAt (RunsOn course (option_copied main.entry) tree.now world.now) AreUncalled result
         (seen K.written K.faults C.moments D.states outside.old)
         (seen K.written K.faults C.moments D.states outside.new) }
     ensures stays { Stays S.faults K.faults D.states outside.old outside.new }
@@ -70,7 +70,7 @@ fn read_and_run<S: Shelf, K: Sink, C: Clock, D: Drivers>(
         let new = outside.new.shelf.now in
         CommandEnds (Rose (S.faults old) (S.faults new))
         (Unread S.read_gives (S.holds old) (Some tree.now) (Some world.now) old new)
-        (FilesEnd (S.holds old) (Some tree.now) (Some world.now) (RunsOn course (option_copied main.entry))) result
+        (FilesEnd (S.holds old) (Some tree.now) (Some world.now) (RunsOn course (option_copied main.entry)) BeginsNothing) result
         (seen K.written K.faults C.moments D.states outside.old)
         (seen K.written K.faults C.moments D.states outside.new) }
     ensures stays { Stays S.faults K.faults D.states outside.old outside.new }
@@ -95,7 +95,7 @@ fn make_and_run<S: Shelf, K: Sink, C: Clock, D: Drivers>(
 ) -> Result<Exit, Refusal>
     requires few { leaves ≤ most_leaves }
     requires quiet { NothingHeld (D.states outside.old.drivers.now) }
-    ensures ends { FilesEnd (S.holds outside.old.shelf.now) None None (FilesGive (Load leaves)) result
+    ensures ends { FilesEnd (S.holds outside.old.shelf.now) None None (FilesGive (Load leaves)) BeginsNothing result
         (seen K.written K.faults C.moments D.states outside.old)
         (seen K.written K.faults C.moments D.states outside.new) }
     ensures stays { Stays S.faults K.faults D.states outside.old outside.new }
@@ -126,7 +126,7 @@ fn read_and_print<S: Shelf, K: Sink, C: Clock, D: Drivers>(
         let new = outside.new.shelf.now in
         CommandEnds (Rose (S.faults old) (S.faults new))
         (Unread S.read_gives (S.holds old) (Some tree.now) None old new)
-        (FilesEnd (S.holds old) (Some tree.now) None (Prints print (option_copied main.entry))) result
+        (FilesEnd (S.holds old) (Some tree.now) None (Prints print (option_copied main.entry)) BeginsNothing) result
         (seen K.written K.faults C.moments D.states outside.old)
         (seen K.written K.faults C.moments D.states outside.new) }
     ensures stays { Stays S.faults K.faults D.states outside.old outside.new }
@@ -146,7 +146,7 @@ fn plan_file<S: Shelf, K: Sink, C: Clock, D: Drivers>(
     requires world { length world.now ≤ most_file_bytes }
     requires limits { AreInRange limits.now }
     requires quiet { NothingHeld (D.states outside.old.drivers.now) }
-    ensures ends { EndsAt (λ moments. PlanGives limits.now world.now) result
+    ensures ends { EndsAt (λ moments. PlanGives limits.now world.now) (PlanBegins limits.now world.now) result
         (seen K.written K.faults C.moments D.states outside.old)
         (seen K.written K.faults C.moments D.states outside.new) }
     ensures stays { Stays S.faults K.faults D.states outside.old outside.new }
@@ -168,7 +168,7 @@ fn read_and_plan<S: Shelf, K: Sink, C: Clock, D: Drivers>(
         let new = outside.new.shelf.now in
         CommandEnds (Rose (S.faults old) (S.faults new))
         (Unread S.read_gives (S.holds old) None (Some world.now) old new)
-        (FilesEnd (S.holds old) None (Some world.now) (Plans limits.now)) result
+        (FilesEnd (S.holds old) None (Some world.now) (Plans limits.now) (Begins limits.now)) result
         (seen K.written K.faults C.moments D.states outside.old)
         (seen K.written K.faults C.moments D.states outside.new) }
     ensures stays { Stays S.faults K.faults D.states outside.old outside.new }
@@ -190,7 +190,7 @@ fn run_command<S: Shelf, K: Sink, C: Clock, D: Drivers>(
         let command = command_seen command.entry in
         CommandEnds (Rose (S.faults old) (S.faults new))
         (Unread S.read_gives (S.holds old) (tree_name command) (world_name command) old new)
-        (FilesEnd (S.holds old) (tree_name command) (world_name command) (FilesGive command)) result
+        (FilesEnd (S.holds old) (tree_name command) (world_name command) (FilesGive command) (FilesBegin command)) result
         (seen K.written K.faults C.moments D.states outside.old)
         (seen K.written K.faults C.moments D.states outside.new) }
     ensures stays { Stays S.faults K.faults D.states outside.old outside.new }

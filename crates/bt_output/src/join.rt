@@ -10,7 +10,7 @@ ghost use Rattle.bt_output.specs.Courses.{course_output};
 ghost use Rattle.bt_output.specs.Ends.{EndsAt};
 ghost use Rattle.bt_output.specs.declared.course.Course.TheVariants as course;
 ghost use Rattle.bt_output.specs.Lent.{Stays, seen};
-ghost use Rattle.bt_output.specs.Output.{JoinGives};
+ghost use Rattle.bt_output.specs.Output.{AreUncalled, JoinGives};
 ghost use Rattle.bt_trace.specs.Traces.{CanRun, state_in};
 
 use crate::course::Course;
@@ -125,7 +125,7 @@ pub fn join_and_run<S: Shelf, K: Sink, C: Clock, D: Drivers>(
     requires runnable { IsRunnable tree.now }
     requires valid_world { IsValidWorld world.now }
     requires quiet { NothingHeld (D.states outside.old.drivers.now) }
-    ensures ends { EndsAt (JoinGives of.tree of.world course) result
+    ensures ends { EndsAt (JoinGives of.tree of.world course) AreUncalled result
         (seen K.written K.faults C.moments D.states outside.old)
         (seen K.written K.faults C.moments D.states outside.new) }
     ensures stays { Stays S.faults K.faults D.states outside.old outside.new }

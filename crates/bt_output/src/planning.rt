@@ -4,7 +4,7 @@ ghost use Rattle.bt_model.specs.Drivers.{NothingHeld};
 ghost use Rattle.bt_model.specs.Worlds.{IsValidWorld};
 ghost use Rattle.bt_output.specs.Ends.{EndsAt};
 ghost use Rattle.bt_output.specs.Lent.{Stays, seen};
-ghost use Rattle.bt_output.specs.Plans.{WorldPlans, first_unserved};
+ghost use Rattle.bt_output.specs.Plans.{WorldBegun, WorldPlans, first_unserved};
 ghost use Rattle.bt_plan.specs.PlanRuns.{AreInRange};
 
 use crate::outside::Outside;
@@ -45,7 +45,7 @@ pub fn plan_and_print<S: Shelf, K: Sink, C: Clock, D: Drivers>(
     requires world { IsValidWorld world.now }
     requires limits { AreInRange limits.now }
     requires quiet { NothingHeld (D.states outside.old.drivers.now) }
-    ensures ends { EndsAt (λ moments drivers. WorldPlans world.now limits.now drivers) result
+    ensures ends { EndsAt (λ moments drivers. WorldPlans world.now limits.now drivers) (WorldBegun world.now limits.now) result
         (seen K.written K.faults C.moments D.states outside.old)
         (seen K.written K.faults C.moments D.states outside.new) }
     ensures stays { Stays S.faults K.faults D.states outside.old outside.new }

@@ -11,9 +11,10 @@ use Rattle.bt_command_line.specs.declared.exit.Exit.{Exit}
 use Rattle.bt_command_line.specs.declared.exit.Exit.TheVariants as exit
 use Rattle.bt_refusals.specs.declared.fault.TreeFault.{TreeFault}
 use Rattle.bt_refusals.specs.declared.fault.TreeFault.TheVariants as fault
-use Rattle.bt_output.specs.Answers.{Answers, AreUncalled, AtMoments, CommandAnswered, DriversLeft, FilesAnswered, Gave, IfTold, IsWhole, ReadFailed, Side, ToldIfNamed}
-use Rattle.bt_program.specs.Headline.{EachOutput, IsGiven, PlanReaches, ReachesIfPlan, UnreadLine, WholeOutput, moments_for}
-use Rattle.bt_output.specs.Plans.{IsPlanned, PlanGives, PlannedOr, Plans, ReadPlans, first_unserved, plan_exit, plan_output, reached_lines, refusal_for}
+use Rattle.bt_output.specs.Answers.{Answers, AtMoments, CommandAnswered, DriversLeft, DriversWithin, FilesAnswered, Gave, IfTold, IsWhole, ReadFailed, Side, ToldIfNamed}
+use Rattle.bt_program.proofs.Begun.{CutLaw, files_unasked, gave_unasked, gave_within, ran_out_gave, uncalled_is_within, unread_called_none, unread_unasked}
+use Rattle.bt_program.specs.Headline.{EachOutput, IsGiven, IsNotLive, PlanReaches, ReachesIfPlan, UnreadLine, WholeOutput, moments_for}
+use Rattle.bt_output.specs.Plans.{Begins, IsPlanned, PlanBegins, PlanGives, PlannedOr, Plans, ReadPlans, first_unserved, plan_exit, plan_output, reached_lines, refusal_for}
 use Rattle.bt_plan.specs.declared.ending.End.{End}
 use Rattle.bt_plan.specs.declared.ending.End.TheVariants.{Reached, NoTemplate, NoOrder, Expansions, StillRunning, Faulted}
 use Rattle.bt_plan.specs.declared.ending.Limits.{Limits}
@@ -30,8 +31,8 @@ use Rattle.bt_model.specs.Terms.{scope_count}
 use Rattle.bt_model.specs.Trees.{IsValid}
 use Rattle.bt_model.specs.Worlds.{IsValidWorld}
 use Rattle.std.specs.List.{concat}
-use Rattle.bt_output.specs.Jobs.{CommandGives, FilesGive, held_by, tree_name, world_name}
-use Rattle.bt_output.specs.Output.{Given, Output, PrintGives, RunGives, TreeGives, WorldGives, given, is_too_long, join_refused, joined_output, lack_of, no_goal, print_output, run_exit, too_long, tree_refused, unread, words_refused, world_output, world_refused}
+use Rattle.bt_output.specs.Jobs.{CommandGives, FilesBegin, FilesGive, held_by, tree_name, world_name}
+use Rattle.bt_output.specs.Output.{AreUncalled, Given, Output, PrintGives, RunGives, TreeGives, WorldGives, given, is_too_long, join_refused, joined_output, lack_of, no_goal, print_output, run_exit, too_long, tree_refused, unread, words_refused, world_output, world_refused}
 use Rattle.bt_output.specs.TreeFiles.{TreeReads, built, element_read, with_models}
 use Rattle.bt_command_line.specs.Words.{Command, Tick, Live, Load, Check, Dead, Plan}
 use Rattle.bt_output.specs.declared.refusal.File.{File}
@@ -45,10 +46,9 @@ use Rattle.bt_model.specs.declared.world_fault.WorldFault.{WorldFault}
 use Rattle.bt_model.specs.Drivers.{DriverState}
 use Rattle.bt_model.specs.Run.{run_over}
 use Rattle.bt_model.specs.WorldFile.{ReadsWorld}
-use Rattle.bt_outside.specs.Appending.{Appended, AppendedPrefix}
+use Rattle.bt_outside.specs.Appending.{Appended}
 use Rattle.bt_outside.specs.Counts.{Rose}
 use Rattle.bt_outside.specs.Moments.{Moments}
-use Rattle.bt_outside.proofs.Appends.{AppendedPrefix-nothing}
 
 -- each file reads in one way: its bytes spell one element or have one fault, and never both, and they describe one world
 -- or have one fault; and a world is planned for in one way
@@ -120,11 +120,6 @@ one_files one (Check t main) tree world moments drivers x y p q = one_print one 
 one_files one (Dead t main) tree world moments drivers x y p q = one_print one print.Dead main tree x y p q
 one_files one (Plan w expand ticks period) tree world moments drivers x y p q = one_plan one (limits_of expand ticks period) world drivers x y p q
 
--- nothing was written for want of memory
-nothing_gave : (o : Output) (result : Exit) (a b : Side) → result ≡ exit.Memory → b.written ≡ a.written → Gave o result a b
-nothing_gave o result a b e same =
-    subst (λ (r : Exit). Gave o r a b) (sym e) (subst (λ (z : Option (List ℕ)). AppendedPrefix a.written z o.bytes) (sym same) (AppendedPrefix-nothing a.written o.bytes))
-
 -- a given exit is that of the output, which was given whole
 whole_given : (o : Output) (result : Exit) (a b : Side) → IsGiven result → Gave o result a b → IsWhole o result a b
 whole_given o exit.Done a b i p = p
@@ -178,10 +173,10 @@ if_more (Some told) P Q more x = more told x
 
 -- what is so of some moments is so of those that have to be told
 needed : (c : Command) (tree world : List ℕ) (result : Exit) (a b : Side) (clock : Option Moments) →
-    AtMoments clock (λ moments. Answers (FilesGive c tree world moments a.drivers) result a b) → IfTold (moments_for (Some c) clock) (λ moments. Answers (FilesGive c tree world moments a.drivers) result a b)
+    AtMoments clock (λ moments. Answers (FilesGive c tree world moments a.drivers) (FilesBegin c tree world) result a b) → IfTold (moments_for (Some c) clock) (λ moments. Answers (FilesGive c tree world moments a.drivers) (FilesBegin c tree world) result a b)
 needed (Tick t w main) tree world result a b clock x = x.holds
 needed (Live t w rounds main) tree world result a b None x = tt
-needed (Live t w rounds main) tree world result a b (Some told) x = subst (λ (moments : Moments). Answers (FilesGive (Live t w rounds main) tree world moments a.drivers) result a b) x.told x.holds
+needed (Live t w rounds main) tree world result a b (Some told) x = subst (λ (moments : Moments). Answers (FilesGive (Live t w rounds main) tree world moments a.drivers) (FilesBegin (Live t w rounds main) tree world) result a b) x.told x.holds
 needed (Load leaves) tree world result a b clock x = x.holds
 needed (Check t main) tree world result a b clock x = x.holds
 needed (Dead t main) tree world result a b clock x = x.holds
@@ -191,17 +186,17 @@ needed (Plan w expand ticks period) tree world result a b clock x = x.holds
 
 -- the files of a command were answered
 abbrev Answered : Option (List ℕ → List ℕ) → Command → Exit → Side → Side → Type 0
-Answered holds c result a b = FilesAnswered holds (tree_name c) (world_name c) (FilesGive c) result a b
+Answered holds c result a b = FilesAnswered holds (tree_name c) (world_name c) (FilesGive c) (FilesBegin c) result a b
 
 -- the clauses of a command
-module _ (one : OneReading) (c : Command) (result : Exit) (shelf : Type 0) (IsUnread : File → Type 0) (a b : Side) where
-  answered_gave : (tree world : List ℕ) (moments : Moments) (o : Output) → FilesGive c tree world moments a.drivers o → Answers (FilesGive c tree world moments a.drivers) result a b → Gave o result a b
+module _ (one : OneReading) (cuts : CutLaw) (c : Command) (result : Exit) (shelf : Type 0) (IsUnread : File → Type 0) (a b : Side) where
+  answered_gave : (tree world : List ℕ) (moments : Moments) (o : Output) → FilesGive c tree world moments a.drivers o → Answers (FilesGive c tree world moments a.drivers) (FilesBegin c tree world) result a b → Gave o result a b
   answered_gave tree world moments o p (inl x) = subst (λ (z : Output). Gave z result a b) (one_files one c tree world moments a.drivers x.0 o x.1 p) x.2
-  answered_gave tree world moments o p (inr y) = nothing_gave o result a b y.0 y.1
+  answered_gave tree world moments o p (inr y) = ran_out_gave cuts one.world c tree world moments o result a b p y
 
   each_answered : (h : List ℕ → List ℕ) (f : Answered (Some h) c result a b) → EachOutput (Some h) (Some c) a (λ o. Gave o result a b)
   each_answered h f =
-      if_more (moments_for (Some c) a.clock) (λ moments. Answers (FilesGive c f.tree f.world moments a.drivers) result a b) (λ moments. (o : Output) → CommandGives (Some c) h moments a.drivers o → Gave o result a b)
+      if_more (moments_for (Some c) a.clock) (λ moments. Answers (FilesGive c f.tree f.world moments a.drivers) (FilesBegin c f.tree f.world) result a b) (λ moments. (o : Output) → CommandGives (Some c) h moments a.drivers o → Gave o result a b)
       (λ moments answers o p. answered_gave f.tree f.world moments o (files_told h c f.tree f.world moments a.drivers o f.is_tree f.is_world p) answers)
       (needed c f.tree f.world result a b a.clock f.answers)
 
@@ -228,6 +223,16 @@ module _ (one : OneReading) (c : Command) (result : Exit) (shelf : Type 0) (IsUn
       (λ moments. (o : Output) → CommandGives (Some c) h moments a.drivers o → (shelf → ⊥) → (Rose a.faults b.faults → ⊥) → (result ≡ exit.Memory) ⊎ IsWhole o result a b)
       (λ moments each o p. complete_told o (each o p)) (each_told h x)
 
+  -- whatever is answered, no more was begun than in the run
+  pub begun_clause : (holds : Option (List ℕ → List ℕ)) → ReadFailed shelf IsUnread result a b ⊎ Answered holds c result a b → EachOutput holds (Some c) a (λ o. DriversWithin o.drivers a.drivers b.drivers)
+  begun_clause None x = tt
+  begun_clause (Some h) (inl r) =
+      each_always (moments_for (Some c) a.clock)
+      (λ moments o p. uncalled_is_within cuts one.world c (held_by h (tree_name c)) (held_by h (world_name c)) moments a.drivers b.drivers o p (unread_called_none r.1 result a b r.3))
+  begun_clause (Some h) (inr f) =
+      if_more (moments_for (Some c) a.clock) (λ moments. (o : Output) → CommandGives (Some c) h moments a.drivers o → Gave o result a b) (λ moments. (o : Output) → CommandGives (Some c) h moments a.drivers o → DriversWithin o.drivers a.drivers b.drivers)
+      (λ moments each o p. gave_within o result a b (each o p)) (each_answered h f)
+
 -- the clauses of words that are no command
 module _ (result : Exit) (shelf : Type 0) (IsUnread : File → Type 0) (a b : Side) (gave : Gave words_refused result a b) where
   pub none_whole : (holds : Option (List ℕ → List ℕ)) → IsGiven result → WholeOutput holds None result a b
@@ -244,6 +249,10 @@ module _ (result : Exit) (shelf : Type 0) (IsUnread : File → Type 0) (a b : Si
   pub none_complete : (holds : Option (List ℕ → List ℕ)) → EachOutput holds None a (λ o. (shelf → ⊥) → (Rose a.faults b.faults → ⊥) → (result ≡ exit.Memory) ⊎ IsWhole o result a b)
   none_complete None = tt
   none_complete (Some h) = λ o e s k. whole_or_memory o result a b k (refused_gave o e)
+
+  pub none_begun : (holds : Option (List ℕ → List ℕ)) → EachOutput holds None a (λ o. DriversWithin o.drivers a.drivers b.drivers)
+  none_begun None = tt
+  none_begun (Some h) = λ o e. gave_within o result a b (refused_gave o e)
 
   none_exit : result ≡ exit.Read → ⊥
   none_exit is = let gave : Gave words_refused exit.Read a b = subst (λ (e : Exit). Gave words_refused e a b) is gave in let e = gave.0 in cc
@@ -351,25 +360,25 @@ not_words file.World e = cc
 
 -- what was given whole, and what a failed read gave
 module _ (c : Command) (result : Exit) (shelf : Type 0) (IsUnread : File → Type 0) (a b : Side) where
-  whole_answered : (h : List ℕ → List ℕ) (f : Answered (Some h) c result a b) → IsGiven result → (moments : Moments) → Answers (FilesGive c f.tree f.world moments a.drivers) result a b
+  whole_answered : (h : List ℕ → List ℕ) (f : Answered (Some h) c result a b) → IsGiven result → (moments : Moments) → Answers (FilesGive c f.tree f.world moments a.drivers) (FilesBegin c f.tree f.world) result a b
       → (o : Output) × CommandGives (Some c) h moments a.drivers o × IsWhole o result a b
   whole_answered h f given moments (inl x) = (x.0, told_files h c f.tree f.world moments a.drivers x.0 f.is_tree f.is_world x.1, whole_given x.0 result a b given x.2)
-  whole_answered h f given moments (inr y) = absurd (subst IsGiven y.0 given)
+  whole_answered h f given moments (inr y) = absurd (subst IsGiven y.exit given)
 
   pub whole_clause : (holds : Option (List ℕ → List ℕ)) → ReadFailed shelf IsUnread result a b ⊎ Answered holds c result a b → IsGiven result → WholeOutput holds (Some c) result a b
   whole_clause None x given = tt
   whole_clause (Some h) (inl r) given = absurd (not_given r.1 (subst IsGiven (sym (whole_given (unread r.1) result a b given r.3).0) given))
   whole_clause (Some h) (inr f) given =
-      if_more (moments_for (Some c) a.clock) (λ moments. Answers (FilesGive c f.tree f.world moments a.drivers) result a b) (λ moments. (o : Output) × CommandGives (Some c) h moments a.drivers o × IsWhole o result a b)
+      if_more (moments_for (Some c) a.clock) (λ moments. Answers (FilesGive c f.tree f.world moments a.drivers) (FilesBegin c f.tree f.world) result a b) (λ moments. (o : Output) × CommandGives (Some c) h moments a.drivers o × IsWhole o result a b)
       (whole_answered h f given) (needed c f.tree f.world result a b a.clock f.answers)
 
-  read_answered : (tree world : List ℕ) (moments : Moments) → result ≡ exit.Read → Answers (FilesGive c tree world moments a.drivers) result a b → ⊥
+  read_answered : (tree world : List ℕ) (moments : Moments) → result ≡ exit.Read → Answers (FilesGive c tree world moments a.drivers) (FilesBegin c tree world) result a b → ⊥
   read_answered tree world moments is (inl x) =
       let gave : Gave x.0 exit.Read a b = subst (λ (e : Exit). Gave x.0 e a b) is x.2 in
       subst IsOfFiles gave.0 (exit_of_files c tree world moments a.drivers x.0 x.1)
-  read_answered tree world moments is (inr y) = let e : exit.Memory ≡ exit.Read = sym y.0 ∙ is in cc
+  read_answered tree world moments is (inr y) = let e : exit.Memory ≡ exit.Read = sym y.exit ∙ is in cc
 
-  never_read : (clock : Option Moments) (tree world : List ℕ) → result ≡ exit.Read → AtMoments clock (λ moments. Answers (FilesGive c tree world moments a.drivers) result a b) → ⊥
+  never_read : (clock : Option Moments) (tree world : List ℕ) → result ≡ exit.Read → AtMoments clock (λ moments. Answers (FilesGive c tree world moments a.drivers) (FilesBegin c tree world) result a b) → ⊥
   never_read clock tree world is x = read_answered tree world x.moments is x.holds
 
   pub read_clause : (holds : Option (List ℕ → List ℕ)) → ReadFailed shelf IsUnread result a b ⊎ Answered holds c result a b → result ≡ exit.Read → shelf × UnreadLine IsUnread a b
@@ -378,13 +387,13 @@ module _ (c : Command) (result : Exit) (shelf : Type 0) (IsUnread : File → Typ
       (r.0, (r.1, r.2, gave.1, unread_left r.1 a b gave.2))
   read_clause holds (inr f) is = absurd (never_read a.clock f.tree f.world is f.answers)
 
-  words_answered : (tree world : List ℕ) (moments : Moments) → result ≡ exit.Words → Answers (FilesGive c tree world moments a.drivers) result a b → ⊥
+  words_answered : (tree world : List ℕ) (moments : Moments) → result ≡ exit.Words → Answers (FilesGive c tree world moments a.drivers) (FilesBegin c tree world) result a b → ⊥
   words_answered tree world moments is (inl x) =
       let gave : Gave x.0 exit.Words a b = subst (λ (e : Exit). Gave x.0 e a b) is x.2 in
       subst IsOfFiles gave.0 (exit_of_files c tree world moments a.drivers x.0 x.1)
-  words_answered tree world moments is (inr y) = let e : exit.Memory ≡ exit.Words = sym y.0 ∙ is in cc
+  words_answered tree world moments is (inr y) = let e : exit.Memory ≡ exit.Words = sym y.exit ∙ is in cc
 
-  never_words : (clock : Option Moments) (tree world : List ℕ) → result ≡ exit.Words → AtMoments clock (λ moments. Answers (FilesGive c tree world moments a.drivers) result a b) → ⊥
+  never_words : (clock : Option Moments) (tree world : List ℕ) → result ≡ exit.Words → AtMoments clock (λ moments. Answers (FilesGive c tree world moments a.drivers) (FilesBegin c tree world) result a b) → ⊥
   never_words clock tree world is x = words_answered tree world x.moments is x.holds
 
   -- words that are a command are not refused
@@ -394,14 +403,23 @@ module _ (c : Command) (result : Exit) (shelf : Type 0) (IsUnread : File → Typ
       not_words r.1 gave.0
   words_clause holds (inr f) is = never_words a.clock f.tree f.world is f.answers
 
-  write_answered : (tree world : List ℕ) (moments : Moments) → result ≡ exit.Write → Answers (FilesGive c tree world moments a.drivers) result a b → Rose a.faults b.faults
+  write_answered : (tree world : List ℕ) (moments : Moments) → result ≡ exit.Write → Answers (FilesGive c tree world moments a.drivers) (FilesBegin c tree world) result a b → Rose a.faults b.faults
   write_answered tree world moments is (inl x) = write_gave x.0 result a b is x.2
-  write_answered tree world moments is (inr y) = let e : exit.Memory ≡ exit.Write = sym y.0 ∙ is in cc
+  write_answered tree world moments is (inr y) = let e : exit.Memory ≡ exit.Write = sym y.exit ∙ is in cc
 
   -- a write failed
   pub write_clause : (holds : Option (List ℕ → List ℕ)) → ReadFailed shelf IsUnread result a b ⊎ Answered holds c result a b → result ≡ exit.Write → Rose a.faults b.faults
   write_clause holds (inl r) is = write_gave (unread r.1) result a b is r.3
   write_clause holds (inr f) is = write_answered f.tree f.world f.answers.moments is f.answers.holds
+
+  unasked_answered : (tree world : List ℕ) (moments : Moments) → IsNotLive (Some c) → Answers (FilesGive c tree world moments a.drivers) (FilesBegin c tree world) result a b → b.clock ≡ a.clock
+  unasked_answered tree world moments other (inl x) = gave_unasked x.0 result a b (files_unasked c tree world moments a.drivers x.0 other x.1) x.2
+  unasked_answered tree world moments other (inr y) = y.clock
+
+  -- the clock was not asked
+  pub unasked_clause : (holds : Option (List ℕ → List ℕ)) → IsNotLive (Some c) → ReadFailed shelf IsUnread result a b ⊎ Answered holds c result a b → b.clock ≡ a.clock
+  unasked_clause holds other (inl r) = gave_unasked (unread r.1) result a b (unread_unasked r.1) r.3
+  unasked_clause holds other (inr f) = unasked_answered f.tree f.world f.answers.moments other f.answers.holds
 
 -- ---- Plans
 
@@ -460,11 +478,11 @@ module _ (laws : PlanLaws) (limits : Limits) (holds : Option (List ℕ → List 
   by_length true script o told p done written = let e : exit.World ≡ exit.Done = sym (ap (λ (z : Output). z.exit) p) ∙ done in cc
   by_length false script o told p done written = by_world p.0 script o told p.1 p.2 done written
 
-  by_answer : (script : List ℕ) (moments : Moments) → ToldIfNamed holds (Some name) (λ bytes. script ≡ bytes) → Answers (PlanGives limits script a.drivers) exit.Done a b → Reaches
+  by_answer : (script : List ℕ) (moments : Moments) → ToldIfNamed holds (Some name) (λ bytes. script ≡ bytes) → Answers (PlanGives limits script a.drivers) (PlanBegins limits script) exit.Done a b → Reaches
   by_answer script moments told (inl x) = by_length (is_too_long script) script x.0 told x.1 x.2.0 x.2.1
-  by_answer script moments told (inr y) = let e : exit.Done ≡ exit.Memory = y.0 in cc
+  by_answer script moments told (inr y) = let e : exit.Done ≡ exit.Memory = y.exit in cc
 
-  pub reached_of : (shelf : Type 0) (IsUnread : File → Type 0) → ReadFailed shelf IsUnread exit.Done a b ⊎ FilesAnswered holds None (Some name) (Plans limits) exit.Done a b → Reaches
+  pub reached_of : (shelf : Type 0) (IsUnread : File → Type 0) → ReadFailed shelf IsUnread exit.Done a b ⊎ FilesAnswered holds None (Some name) (Plans limits) (Begins limits) exit.Done a b → Reaches
   reached_of shelf IsUnread (inl r) = absurd (not_given r.1 (subst IsGiven (sym r.3.0) tt))
   reached_of shelf IsUnread (inr f) = by_answer f.world f.answers.moments f.is_world f.answers.holds
 
@@ -476,13 +494,21 @@ module _ (holds : Option (List ℕ → List ℕ)) (result : Exit) (shelf : Type 
   whole_of None gave = none_whole result shelf IsUnread a b gave holds
   whole_of (Some c) answered = whole_clause c result shelf IsUnread a b holds answered
 
-  pub each_of : OneReading → (command : Option Command) → CommandAnswered command holds shelf IsUnread result a b → EachOutput holds command a (λ o. Gave o result a b ⊎ ReadFailed shelf IsUnread result a b)
-  each_of one None gave = none_each result shelf IsUnread a b gave holds
-  each_of one (Some c) answered = each_clause one c result shelf IsUnread a b holds answered
+  pub each_of : OneReading → CutLaw → (command : Option Command) → CommandAnswered command holds shelf IsUnread result a b → EachOutput holds command a (λ o. Gave o result a b ⊎ ReadFailed shelf IsUnread result a b)
+  each_of one cuts None gave = none_each result shelf IsUnread a b gave holds
+  each_of one cuts (Some c) answered = each_clause one cuts c result shelf IsUnread a b holds answered
 
-  pub complete_of : OneReading → (command : Option Command) → CommandAnswered command holds shelf IsUnread result a b → EachOutput holds command a (λ o. (shelf → ⊥) → (Rose a.faults b.faults → ⊥) → (result ≡ exit.Memory) ⊎ IsWhole o result a b)
-  complete_of one None gave = none_complete result shelf IsUnread a b gave holds
-  complete_of one (Some c) answered = complete_clause one c result shelf IsUnread a b holds answered
+  pub complete_of : OneReading → CutLaw → (command : Option Command) → CommandAnswered command holds shelf IsUnread result a b → EachOutput holds command a (λ o. (shelf → ⊥) → (Rose a.faults b.faults → ⊥) → (result ≡ exit.Memory) ⊎ IsWhole o result a b)
+  complete_of one cuts None gave = none_complete result shelf IsUnread a b gave holds
+  complete_of one cuts (Some c) answered = complete_clause one cuts c result shelf IsUnread a b holds answered
+
+  pub begun_of : OneReading → CutLaw → (command : Option Command) → CommandAnswered command holds shelf IsUnread result a b → EachOutput holds command a (λ o. DriversWithin o.drivers a.drivers b.drivers)
+  begun_of one cuts None gave = none_begun result shelf IsUnread a b gave holds
+  begun_of one cuts (Some c) answered = begun_clause one cuts c result shelf IsUnread a b holds answered
+
+  pub unasked_of : (command : Option Command) → CommandAnswered command holds shelf IsUnread result a b → IsNotLive command → b.clock ≡ a.clock
+  unasked_of None gave other = gave_unasked words_refused result a b refl gave
+  unasked_of (Some c) answered other = unasked_clause c result shelf IsUnread a b holds other answered
 
   planned_done : PlanLaws → (command : Option Command) → CommandAnswered command holds shelf IsUnread exit.Done a b → ReachesIfPlan command holds a b
   planned_done laws None answered = tt

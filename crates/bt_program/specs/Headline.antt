@@ -11,9 +11,9 @@ use Rattle.bt_plan.specs.declared.ending.Step.{Step}
 use Rattle.bt_plan.specs.Lines.{end_line, step_line}
 use Rattle.bt_plan.specs.Modelled.{ReachedAt}
 use Rattle.bt_text.specs.Names.{no_names}
-use Rattle.bt_output.specs.Answers.{AreUncalled, IfTold, IsWhole, Side, ToldIfNamed, no_moments}
+use Rattle.bt_output.specs.Answers.{IfTold, IsWhole, Side, ToldIfNamed, no_moments}
 use Rattle.bt_output.specs.Jobs.{CommandGives}
-use Rattle.bt_output.specs.Output.{Output, unread}
+use Rattle.bt_output.specs.Output.{AreUncalled, Output, unread}
 use Rattle.bt_command_line.specs.declared.exit.Exit.{Exit}
 use Rattle.bt_command_line.specs.declared.exit.Exit.TheVariants as exit
 use Rattle.bt_command_line.specs.Words.{Command, Live, Plan}
@@ -70,3 +70,8 @@ abbrev pub EachOutput : Option (List ℕ → List ℕ) → Option Command → Si
 EachOutput None command old P = Unit {0}
 EachOutput (Some holds) command old P = IfTold (moments_for command old.clock) (λ moments.
     (o : Output) → CommandGives command holds moments old.drivers o → P o)
+
+-- words that are no command, or another one than `live`
+abbrev pub IsNotLive : Option Command → Type 0
+IsNotLive (Some (Live tree world rounds main)) = ⊥
+IsNotLive _ = Unit {0}

@@ -1,9 +1,9 @@
 ghost use Rattle.std.specs.Prelude.{◌≡◌, ◌≤◌, ◌⊎◌, None, map};
-ghost use Rattle.bt_output.specs.Answers.{CommandAnswered, Gave, IsWhole, ReadFailed, side};
+ghost use Rattle.bt_output.specs.Answers.{CommandAnswered, DriversWithin, Gave, IsWhole, ReadFailed, side};
 ghost use Rattle.bt_output.specs.Output.{words_refused};
 ghost use Rattle.bt_output.specs.Reads.{WordsUnread};
 ghost use Rattle.bt_loop.specs.Steps.{IsSameRoster};
-ghost use Rattle.bt_program.specs.Headline.{EachOutput, IsGiven, ReachesIfPlan, UnreadLine, WholeOutput};
+ghost use Rattle.bt_program.specs.Headline.{EachOutput, IsGiven, IsNotLive, ReachesIfPlan, UnreadLine, WholeOutput};
 ghost use Rattle.bt_model.specs.Drivers.{NothingHeld};
 ghost use Rattle.bt_outside.specs.Counts.{Rose};
 ghost use Rattle.bt_command_line.specs.Words.{command_of};
@@ -14,7 +14,7 @@ use bt_driver::Driver;
 use bt_elements::{element_or_fault, one_element};
 use bt_output::run_words;
 use bt_outside::{Clock, Shelf, Sink};
-use bt_plan::laws::{plans_reach, plans_run_one_way};
+use bt_plan::laws::{plan_cuts_begin_within, plans_reach, plans_run_one_way};
 use bt_round_trip::printed_trees_read_back;
 use bt_script::Name;
 use bt_world::laws::worlds_read_one_way;
@@ -46,12 +46,23 @@ pub fn bt<S: Shelf, K: Sink, C: Clock>(
         (side (K.written out.old) (K.faults out.old) (C.moments clock.old) (map (λ b. state b) roster.old.items))
         (side (K.written out.new) (K.faults out.new) (C.moments clock.new) (map (λ b. state b) roster.new.items)) }
 
-    // The output was given, whole or a prefix of it, or a read failed.
+    // The output was given, whole or a prefix of it, or a read failed. After a prefix, at Write and
+    // Memory, no driver was asked to start or to go on more often than in the run, where no tree was run
+    // none was called, and a run by the clock asked it at most once a round.
     ensures each { let old = side (K.written out.old) (K.faults out.old) (C.moments clock.old) (map (λ b. state b) roster.old.items) in
         let new = side (K.written out.new) (K.faults out.new) (C.moments clock.new) (map (λ b. state b) roster.new.items) in
         EachOutput (S.holds shelf.old) (command_of words.now) old (λ o. Gave o result old new
         ⊎ ReadFailed (Rose (S.faults shelf.old) (S.faults shelf.new))
         (WordsUnread S.read_gives (S.holds shelf.old) (command_of words.now) shelf.old shelf.new) result old new) }
+
+    // Whatever is answered, also Write and Memory, no driver was asked to start or to go on more often than
+    // in the run of the definition, and where no tree was run, none was called.
+    ensures begun { let old = side (K.written out.old) (K.faults out.old) (C.moments clock.old) (map (λ b. state b) roster.old.items) in
+        EachOutput (S.holds shelf.old) (command_of words.now) old (λ o.
+        DriversWithin o.drivers old.drivers (map (λ b. state b) roster.new.items)) }
+
+    // Whatever is answered, no command but a run by the clock asks the clock.
+    ensures unasked { IsNotLive (command_of words.now) → C.moments clock.new ≡ C.moments clock.old }
 
     // Also where the shelf or the clock tells nothing: this is so of the output of some bytes of its
     // files, and of some moments.
@@ -92,6 +103,7 @@ pub fn bt<S: Shelf, K: Sink, C: Clock>(
     element_or_fault();
     worlds_read_one_way();
     plans_run_one_way();
+    plan_cuts_begin_within();
     plans_reach();
     printed_trees_read_back();
     let mut boxes = Boxes {

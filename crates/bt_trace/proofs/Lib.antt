@@ -5,5 +5,6 @@ pub mod Notes
 pub mod Parts
 pub mod Rests
 pub mod Steps
+pub mod Unbegun
 pub mod Watching
 pub mod Worlds

@@ -17,10 +17,11 @@ use Rattle.bt_loop.specs.Runs.{Setup}
 use Rattle.bt_trace.specs.declared.ended.Ended.{Ended}
 use Rattle.bt_trace.specs.declared.ended.Ended.TheVariants.{Done, Faulted}
 use Rattle.bt_trace.specs.Going.{HasGiven, LiveMade, Makes, MakesPart, RoundsMade, Stage, finishes_then, rounds_then, state_at}
-use Rattle.bt_trace.specs.Rounds.{AreBegun, AreMoments, WasAsked, events_then, fault_in, moments_after, nothing_more, round_of, taken}
+use Rattle.bt_trace.specs.Rounds.{AreBegun, AreMoments, CanBegin, WasAsked, events_then, fault_in, moments_after, nothing_more, round_of, taken}
 use Rattle.bt_trace.specs.Traces.{ended, state_in}
 use Rattle.bt_trace.proofs.Following.{round_next, rounds_front}
 use Rattle.bt_trace.proofs.Parts.{part_as, part_before, part_next, part_stopped, part_to}
+use Rattle.bt_trace.proofs.Unbegun.{none_begin}
 
 -- ---- A clock
 
@@ -110,6 +111,12 @@ module _ (of : Setup) (opened last : ℕ) (given : List ℕ) (s0 s1 : Stage) whe
   no_fault so_far =
       ap (λ (ms : List ℕ). fault_in of.tree of.world opened ms (state_at of s0)) (sym (append-nil given)) ∙ sym ((so_far []).goes nothing_more).fault
 
+  -- .. before the last one of them either
+  pub before_last : SoFar → fault_in of.tree of.world opened (take (length given - 1) given) (state_at of s0) ≡ None
+  before_last so_far =
+      rounds_front of.tree of.world opened (take (length given - 1) given) (drop (length given - 1) given) (state_at of s0)
+      (ap (λ (ms : List ℕ). fault_in of.tree of.world opened ms (state_at of s0)) (take-append-drop (length given - 1) given) ∙ no_fault so_far)
+
   module _ (moment at : ℕ) (is : at ≡ max moment last) where
     next_is : (later : List ℕ) (rest : RunState → Trace) → rounds_then of last (moment ∷ later) rest (state_at of s1) ≡ events_then of.tree of.world (round_of of.world.runners at) (rounds_then of at later rest) (state_at of s1)
     next_is later rest =
@@ -182,25 +189,29 @@ module _ (of : Setup) (rounds : ℕ) (s0 s1 : Stage) (asked left : Option Moment
   abbrev Rounds : List ℕ → (RunState → Trace) → Trace
   Rounds moments rest = rounds_then of Opened moments rest (state_at of s0)
 
+  -- whatever was answered, the rounds begun can begin
+  can_begin : (result : Result Ended TextStop) (p : RoundsMade of result rounds s0 s1 asked left) (later : List ℕ) → CanBegin of.tree of.world Opened (p.given ++ later) (state_at of s0) (length p.given)
+  can_begin result p later = record {
+    within = omega (arith, length-append p.given later);
+    before = ap (λ (ms : List ℕ). fault_in of.tree of.world Opened ms (state_at of s0)) (take-append-le (length p.given - 1) p.given later (omega arith)) ∙ p.before;
+  }
+
+  all_can : (result : Result Ended TextStop) (p : RoundsMade of result rounds s0 s1 asked left) (asked' : Option Moments) → HasGiven asked' left p.given → IfSome asked' (λ m. CanBegin of.tree of.world Opened (taken rounds m) (state_at of s0) (length p.given))
+  all_can result p None has = tt
+  all_can result p (Some m) has =
+      subst (λ (ms : List ℕ). CanBegin of.tree of.world Opened ms (state_at of s0) (length p.given)) (are_moments rounds (Some m) left p.given has p.within).given
+      (can_begin result p (to_come (rounds - length p.given) left))
+
   -- the rounds begun, where a fault ended them
   begun_last : (p : RoundsMade of (Ok Faulted) rounds s0 s1 asked left) (later : List ℕ) → AreBegun of.tree of.world Opened (p.given ++ later) (state_at of s0) (length p.given)
   begun_last p later = record {
-    within = omega (arith, length-append p.given later);
-    before = ap (λ (ms : List ℕ). fault_in of.tree of.world Opened ms (state_at of s0)) (take-append-le (length p.given - 1) p.given later (omega arith)) ∙ p.before refl;
+    can = can_begin (Ok Faulted) p later;
     ended = λ more. subst (λ (ms : List ℕ). IsSome (fault_in of.tree of.world Opened ms (state_at of s0))) (append-nil p.given ∙ sym (take_at p.given later (length p.given) refl)) (is_fault _ ((p.made [] (λ done. cc)).goes nothing_more).ends);
   }
 
   -- .. and where none did
   begun_all : (p : RoundsMade of (Ok Done) rounds s0 s1 asked left) → AreBegun of.tree of.world Opened p.given (state_at of s0) (length p.given)
-  begun_all p =
-      let none : fault_in of.tree of.world Opened p.given (state_at of s0) ≡ None =
-      ap (λ (ms : List ℕ). fault_in of.tree of.world Opened ms (state_at of s0)) (sym (append-nil p.given)) ∙ sym ((p.made [] (λ done. refl)).goes nothing_more).fault in
-      record {
-        within = omega arith;
-        before = rounds_front of.tree of.world Opened (take (length p.given - 1) p.given) (drop (length p.given - 1) p.given) (state_at of s0)
-            (ap (λ (ms : List ℕ). fault_in of.tree of.world Opened ms (state_at of s0)) (take-append-drop (length p.given - 1) p.given) ∙ none);
-        ended = λ more. absurd (omega (arith, more));
-      }
+  begun_all p = record { can = record { within = omega arith; before = p.before }; ended = λ more. absurd (omega (arith, more)) }
 
   last_begun : (p : RoundsMade of (Ok Faulted) rounds s0 s1 asked left) (asked' : Option Moments) → HasGiven asked' left p.given → IfSome asked' (λ m. AreBegun of.tree of.world Opened (taken rounds m) (state_at of s0) (length p.given))
   last_begun p None has = tt
@@ -231,7 +242,7 @@ module _ (of : Setup) (rounds : ℕ) (s0 s1 : Stage) (asked left : Option Moment
         (part_before of s0 s1 (Rounds p.given) (λ rest. rest (state_at of s1)) (Ok Done) Finishes
         (part_as of s0 s1 (Rounds (p.given ++ [])) (λ rest. rest (state_at of s1)) (Ok Done) (Rounds p.given) (λ rest. ap (λ (ms : List ℕ). Rounds ms rest) (append-nil p.given)) (p.made [] (λ done. refl))))
         (λ rest. refl) q;
-    asked = record { begun = length p.given; within = p.within; asked = p.told.left; begin = all_begun p result asked p.told; all = λ done. p.all refl };
+    asked = record { begun = length p.given; within = p.within; asked = p.told.left; can = all_can (Ok Done) p asked p.told; begin = all_begun p result asked p.told; all = λ done. p.all refl };
   }
 
   rounds_over : (result : Result Ended TextStop) → (result ≡ Ok Done → ⊥) → (p : RoundsMade of result rounds s0 s1 asked left) (later : List ℕ) → Makes of result s0 s1 (λ rest. Rounds (p.given ++ later) (Finishes rest))
@@ -245,7 +256,7 @@ module _ (of : Setup) (rounds : ℕ) (s0 s1 : Stage) (asked left : Option Moment
     moments = p.given ++ to_come (rounds - length p.given) left;
     are = are_moments rounds asked left p.given p.told p.within;
     made = rounds_over (Ok Faulted) (λ done. cc) p (to_come (rounds - length p.given) left);
-    asked = record { begun = length p.given; within = p.within; asked = p.told.left; begin = last_begun p asked p.told; all = λ done. cc };
+    asked = record { begun = length p.given; within = p.within; asked = p.told.left; can = all_can (Ok Faulted) p asked p.told; begin = last_begun p asked p.told; all = λ done. cc };
   }
 
   -- .. or it was stopped there
@@ -254,7 +265,7 @@ module _ (of : Setup) (rounds : ℕ) (s0 s1 : Stage) (asked left : Option Moment
     moments = p.given ++ to_come (rounds - length p.given) left;
     are = are_moments rounds asked left p.given p.told p.within;
     made = rounds_over (Err stopped) (λ done. cc) p (to_come (rounds - length p.given) left);
-    asked = record { begun = length p.given; within = p.within; asked = p.told.left; begin = none_begun stopped asked (λ m. AreBegun of.tree of.world Opened (taken rounds m) (state_at of s0) (length p.given)); all = λ done. cc };
+    asked = record { begun = length p.given; within = p.within; asked = p.told.left; can = all_can (Err stopped) p asked p.told; begin = none_begun stopped asked (λ m. AreBegun of.tree of.world Opened (taken rounds m) (state_at of s0) (length p.given)); all = λ done. cc };
   }
 
   pub live_over : (ends : Result Ended TextStop) → IsErr ends → RoundsMade of ends rounds s0 s1 asked left → LiveMade of ends rounds s0 s1 asked left
@@ -268,9 +279,14 @@ asked_nothing (Err stopped) err tree world rounds last s old = record {
   begun = 0;
   within = omega arith;
   asked = (given_none old).left;
+  can = could old;
   begin = none old;
   all = λ done. cc;
 } where
+  could : (o : Option Moments) → IfSome o (λ m. CanBegin tree world last (taken rounds m) s 0)
+  could None = tt
+  could (Some m) = none_begin tree world last (taken rounds m) s
+
   none : (o : Option Moments) → IfSome o (λ m. OnOk {T = Ended} {E = TextStop} (Err stopped) (AreBegun tree world last (taken rounds m) s 0))
   none None = tt
   none (Some m) = tt

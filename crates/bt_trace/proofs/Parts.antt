@@ -134,10 +134,6 @@ pub not_done : (result : Result Ended TextStop) {P : Type 0} → IsErr result �
 not_done (Err stopped) err done = cc
 not_done (Ok ending) err done = cc
 
-pub not_faulted : (result : Result Ended TextStop) {P : Type 0} → IsErr result → result ≡ Ok Faulted → P
-not_faulted (Err stopped) err faulted = cc
-not_faulted (Ok ending) err faulted = cc
-
 -- ---- Parts
 
 module _ (of : Setup) where

@@ -130,8 +130,8 @@ pub record HasGiven (old new : Option Moments) (given : List ℕ) : Type 0 where
 abbrev pub rounds_then : Setup → ℕ → List ℕ → (RunState → Trace) → RunState → Trace
 rounds_then of last moments rest s = events_then of.tree of.world (live_events of.world last moments) rest s
 
--- Rounds at the moments that the clock has given: where not all were made, the rounds at any later moments begin so. A
--- fault ends them in the last one of them.
+-- Rounds at the moments that the clock has given: where not all were made, the rounds at any later moments begin so. Those
+-- before the last one of them ended in no fault.
 pub record RoundsMade (of : Setup) (result : Result Ended TextStop) (rounds : ℕ) (old new : Stage) (asked left : Option Moments) : Type 0 where
   pub given : List ℕ
   pub within : length given ≤ rounds
@@ -139,7 +139,7 @@ pub record RoundsMade (of : Setup) (result : Result Ended TextStop) (rounds : �
   pub told : HasGiven asked left given
   pub made : (later : List ℕ) → (result ≡ Ok Done → later ≡ []) →
       Makes of result old new (λ rest. rounds_then of old.underway.runs.last (given ++ later) rest (state_at of old))
-  pub before : result ≡ Ok Faulted → fault_in of.tree of.world old.underway.runs.last (take (length given - 1) given) (state_at of old) ≡ None
+  pub before : fault_in of.tree of.world old.underway.runs.last (take (length given - 1) given) (state_at of old) ≡ None
 
 -- rounds were made at the clock's moments, and then all runners were finished
 pub record LiveMade (of : Setup) (result : Result Ended TextStop) (rounds : ℕ) (old new : Stage) (clock left : Option Moments) : Type 0 where

@@ -64,11 +64,14 @@ nothing_more s = record { blocks = []; calls = []; state = s; fault = None }
 abbrev pub fault_in : Tree → World → ℕ → List ℕ → RunState → Option RunFault
 fault_in tree world last moments s = (events_then tree world (live_events world last moments) nothing_more s).fault
 
--- so many of the rounds at these moments begin: those before the last one of them end in no fault, and with it a fault
--- ends them, or all have begun
-pub record AreBegun (tree : Tree) (world : World) (last : ℕ) (moments : List ℕ) (s : RunState) (begun : ℕ) : Type 0 where
+-- so many of the rounds at these moments can begin: those before the last one of them end in no fault
+pub record CanBegin (tree : Tree) (world : World) (last : ℕ) (moments : List ℕ) (s : RunState) (begun : ℕ) : Type 0 where
   pub within : begun ≤ length moments
   pub before : fault_in tree world last (take (begun - 1) moments) s ≡ None
+
+-- so many of them begin: with the last one a fault ends them, or all have begun
+pub record AreBegun (tree : Tree) (world : World) (last : ℕ) (moments : List ℕ) (s : RunState) (begun : ℕ) : Type 0 where
+  pub can : CanBegin tree world last moments s begun
   pub ended : begun < length moments → IsSome (fault_in tree world last (take begun moments) s)
 
 -- how often a clock was asked for the moments of so many rounds, with this answer: once for each round that began
@@ -76,5 +79,6 @@ pub record WasAsked (result : Result Ended TextStop) (tree : Tree) (world : Worl
   pub begun : ℕ
   pub within : begun ≤ rounds
   pub asked : new ≡ option_map (moments_after begun) old
+  pub can : IfSome old (λ m. CanBegin tree world last (taken rounds m) s begun)
   pub begin : IfSome old (λ m. OnOk result (AreBegun tree world last (taken rounds m) s begun))
   pub all : result ≡ Ok Done → begun ≡ rounds

@@ -1,5 +1,11 @@
-use Rattle.std.proofs.Common.{rules, ℕ, ◌≡◌, ◌∙◌, [], Some, ap, length}
+use Rattle.std.proofs.Common.{rules, ℕ, ◌≡◌, ◌∙◌, [], Some, ap, append-nil, length}
+use Rattle.std.proofs.lemmas.Result.{err_from_is_err_and}
+use Rattle.bt_loop.specs.Runs.{arenas_of}
+use Rattle.bt_model.specs.Run.{Trace}
 use Rattle.bt_model.specs.Terms.{node_count}
+use Rattle.bt_trace.proofs.Cuts.{cut_here}
+use Rattle.bt_trace.specs.Rounds.{nothing_more}
+use Rattle.bt_trace.specs.Traces.{trace_of}
 use Rattle.bt_trace.specs.declared.counts.Counts.{Counts}
 use Rattle.bt_load.specs.Summaries.{summary_line}
 use Rattle.bt_load.proofs.run.run_load.Goals as goal
@@ -22,6 +28,13 @@ returns-clause-whole g c =
           ∙ ap (λ (x : Counts). summary_line c.args.n (node_count g.of.tree.term) (length c.args.events.now) x) counted;
       drivers = p.drivers;
     }
+
+-- the line could not be made, after the whole run
+pub returns-in_err-line-clause-cut : goal.returns-in_err-line-clause-cut
+returns-in_err-line-clause-cut g c =
+    let p = err_from_is_err_and c.from_residual.result c.from_residual.ensures.1 in
+    let trace : Trace = trace_of g.of (g.D.Drivers.states c.args.drivers.now) c.args.runs c.args.events.now in
+    rw p.1 (cut_here (arenas_of c.args.runs) (g.D.Drivers.states c.args.drivers.now) (g.D.Drivers.states c.run_events.new.drivers) trace (nothing_more trace.state) trace.calls (append-nil trace.calls) c.in-Ok.ensures.leaves.whole.drivers)
 
 pub run_events-requires : goal.run_events-requires
 run_events-requires g c lifetimes live = (live, (search rules, (c.requires.1.0, c.requires.1.1)))

@@ -2,18 +2,19 @@ use Rattle.std.proofs.Common.{None}
 use Rattle.std.proofs.lemmas.Result.{err_from_is_err_and}
 use Rattle.bt_command_line.specs.Words.{Load}
 use Rattle.bt_output.specs.Jobs.{FilesGive}
+use Rattle.bt_output.specs.Output.{BeginsNothing}
 use Rattle.bt_output.proofs.Files.{load_ends, out_of_memory}
 use Rattle.bt_output.proofs.command.make_and_run.Goals as goal
 
 pub returns-in_err-tree-clause-ends : goal.returns-in_err-tree-clause-ends
 returns-in_err-tree-clause-ends g c =
     let p = err_from_is_err_and c.from_residual.result c.from_residual.ensures.1 in
-    rw (p.1, p.2) (out_of_memory (g.S.Shelf.holds c.args.outside.now.shelf.now) None None (FilesGive (Load c.args.leaves)) _)
+    rw (p.1, p.2) (out_of_memory (g.S.Shelf.holds c.args.outside.now.shelf.now) None None (FilesGive (Load c.args.leaves)) BeginsNothing _)
 
 pub returns-in_err-world-clause-ends : goal.returns-in_err-world-clause-ends
 returns-in_err-world-clause-ends g c =
     let p = err_from_is_err_and c.from_residual-in_err-world.result c.from_residual-in_err-world.ensures.1 in
-    rw (p.1, p.2) (out_of_memory (g.S.Shelf.holds c.args.outside.now.shelf.now) None None (FilesGive (Load c.args.leaves)) _)
+    rw (p.1, p.2) (out_of_memory (g.S.Shelf.holds c.args.outside.now.shelf.now) None None (FilesGive (Load c.args.leaves)) BeginsNothing _)
 
 pub returns-clause-ends : goal.returns-clause-ends
 returns-clause-ends g c =

@@ -7,7 +7,7 @@ pub returns-in_err-line-clause-gave : goal.returns-in_err-line-clause-gave
 returns-in_err-line-clause-gave g c =
     let p = err_from_is_err_and c.from_residual.result c.from_residual.ensures.1 in
     rw (p.1, p.2) (no_line g.of c.args.runs _ (g.D.Drivers.states c.run_load.new.drivers) c.requires.1.1.1.1.1.0 c.args.leaves c.args.events.now c.requires.1.1.1.1.1.1
-    (g.C.Clock.moments c.args.outside.now.clock.now) (g.K.Sink.written c.args.outside.now.out.now) (g.K.Sink.faults c.args.outside.now.out.now))
+    (g.C.Clock.moments c.args.outside.now.clock.now) (g.K.Sink.written c.args.outside.now.out.now) (g.K.Sink.faults c.args.outside.now.out.now) c.in_err-line.ensures.cut)
 
 pub returns-in_err-write_line-clause-gave : goal.returns-in_err-write_line-clause-gave
 returns-in_err-write_line-clause-gave g c =

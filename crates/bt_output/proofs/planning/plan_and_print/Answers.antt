@@ -23,3 +23,4 @@ returns-in-Ok-clause-ends g c =
 pub returns-in-Err-clause-ends : goal.returns-in-Err-clause-ends
 returns-in-Err-clause-ends g c =
     plan_stopped c.args.world.now c.args.limits.now (seen g.K.Sink.written g.K.Sink.faults g.C.Clock.moments g.D.Drivers.states c.args.outside.now) (g.D.Drivers.states c.plan.new.drivers)
+    (goals_some c.args.world.now.goals (rw c.list.ensures at (sym c.is_empty.ensures ∙ c.if-is_empty.false))) (rw c.list-2.ensures at c.in_default.ensures) c.in-Err.ensures.cut

@@ -3,8 +3,8 @@ use Rattle.std.proofs.Math.Nat.{le-max_right}
 use Rattle.bt_trace.specs.Rounds.{round_of}
 use Rattle.bt_trace.specs.Traces.{CanAllCome, last_moment}
 use Rattle.bt_trace.proofs.Following.{round_can_come, round_last}
-use Rattle.bt_trace.proofs.Lives.{before_it, given_next, given_none, one_more, round_is, round_on, round_over, rounds_all, rounds_stopped}
-use Rattle.bt_trace.proofs.Parts.{go_on, handed_on, not_done, not_faulted, part_none}
+use Rattle.bt_trace.proofs.Lives.{before_it, before_last, given_next, given_none, one_more, round_is, round_on, round_over, rounds_all, rounds_stopped}
+use Rattle.bt_trace.proofs.Parts.{go_on, handed_on, not_done, part_none}
 use Rattle.bt_trace.proofs.rounds.follow_clock.Goals as goal
 
 pub loop-init : goal.loop-init
@@ -19,7 +19,7 @@ returns-in_default g c =
       all = λ done. cc;
       told = given_next _ _ _ inv.0 c.now.result inv.2 c.now.ensures.passed c.now.ensures.given;
       made = λ later none. rounds_stopped g.of _ _ inv.0 _ _ inv.3 c.now.result later;
-      before = λ faulted. cc;
+      before = before_it g.of _ _ inv.0 _ _ c.now.result c.max-last.result c.max-last.ensures inv.3;
     }
 
 pub follow-requires : goal.follow-requires
@@ -43,7 +43,7 @@ returns-in_err-follow g c =
       made = λ later none.
           round_over g.of _ _ inv.0 _ _ c.now.result c.max-last.result c.max-last.ensures c.follow.result c.from_residual.result _ (handed_on _ _ _ c.in_err-follow.was c.from_residual.ensures.1)
           (λ done. not_done c.from_residual.result c.from_residual.ensures.0 done) inv.3 (round_is g.of c.follow.result _ _ _ _ is c.follow.ensures.made) later;
-      before = λ faulted. not_faulted c.from_residual.result c.from_residual.ensures.0 faulted;
+      before = before_it g.of _ _ inv.0 _ _ c.now.result c.max-last.result c.max-last.ensures inv.3;
     }
 
 pub returns-in-Faulted : goal.returns-in-Faulted
@@ -59,7 +59,7 @@ returns-in-Faulted g c =
       made = λ later none.
           round_over g.of _ _ inv.0 _ _ c.now.result c.max-last.result c.max-last.ensures c.follow.result _ _ (c.in_ok-follow.was ∙ ap Ok c.in-Faulted.is) (λ done. cc) inv.3
           (round_is g.of c.follow.result _ _ _ _ is c.follow.ensures.made) later;
-      before = λ faulted. before_it g.of _ _ inv.0 _ _ c.now.result c.max-last.result c.max-last.ensures inv.3;
+      before = before_it g.of _ _ inv.0 _ _ c.now.result c.max-last.result c.max-last.ensures inv.3;
     }
 
 pub loop-preserved : goal.loop-preserved
@@ -90,5 +90,5 @@ returns g c =
       all = λ done. omega (arith, inv.1, c.loop.auto.counter-end, c.loop-test.false);
       told = inv.2;
       made = λ later none. rounds_all g.of _ _ inv.0 _ _ inv.3 later (none refl);
-      before = λ faulted. cc;
+      before = before_last g.of _ _ inv.0 _ _ inv.3;
     }

@@ -1,0 +1,238 @@
+-- What the runs of a command have begun, and how often the clock was asked, whatever is answered.
+use Rattle.std.proofs.Common.{◌≡◌, ℕ, List, [], ◌∷◌, Bool, true, false, inl, inr, Option, Some, None, refl, sym, ap, subst, ◌∙◌, arith, MatchBool, Result, Ok, Err}
+use Rattle.std.specs.Prelude.{option_map}
+use Rattle.bt_arena.specs.declared.join_fault.JoinFault.{JoinFault}
+use Rattle.bt_command_line.specs.declared.exit.Exit.{Exit}
+use Rattle.bt_command_line.specs.declared.exit.Exit.TheVariants as exit
+use Rattle.bt_command_line.specs.Words.{Command, Tick, Live, Load, Check, Dead, Plan}
+use Rattle.bt_load.specs.Texts.{tree_text, world_text}
+use Rattle.bt_loop.proofs.Preparing.{run_same}
+use Rattle.bt_loop.specs.Served.{roster_after_run}
+use Rattle.bt_model.specs.declared.leaf.Totals.{Totals}
+use Rattle.bt_model.specs.declared.term.Tree.{Tree}
+use Rattle.bt_model.specs.declared.world.World.{World}
+use Rattle.bt_model.specs.declared.world_fault.WorldFault.{WorldFault}
+use Rattle.bt_model.specs.Drivers.{DriverState, driver_at}
+use Rattle.bt_model.specs.Run.{RunnerCall, opening, run_over}
+use Rattle.bt_model.specs.WorldFile.{ReadsWorld}
+use Rattle.bt_model.specs.Worlds.{IsValidWorld}
+use Rattle.bt_outside.proofs.Appends.{AppendedPrefix-nothing}
+use Rattle.bt_outside.specs.Appending.{AppendedPrefix}
+use Rattle.bt_outside.specs.Moments.{Moments}
+use Rattle.bt_output.proofs.Files.{short_is}
+use Rattle.bt_output.proofs.Within.{as_often, uncalled_within}
+use Rattle.bt_output.specs.Answers.{ClockLeft, ClockWithin, DriversLeft, DriversWithin, Gave, RanOut, Side}
+use Rattle.bt_output.specs.declared.course.Course.{Course}
+use Rattle.bt_output.specs.declared.course.Course.TheVariants as course
+use Rattle.bt_output.specs.declared.print.Print.{Print}
+use Rattle.bt_output.specs.declared.print.Print.TheVariants as print
+use Rattle.bt_output.specs.declared.refusal.File.{File}
+use Rattle.bt_output.specs.declared.refusal.File.TheVariants as file
+use Rattle.bt_output.specs.Jobs.{FilesBegin, FilesGive}
+use Rattle.bt_output.specs.Output.{AreUncalled, Asked, Given, Never, Output, PrintGives, RunGives, Times, TreeGives, UpToFault, given, is_too_long, joined_output, lack_of, line_of, print_output, run_output, too_long, tree_refused, unread, world_output, world_refused}
+use Rattle.bt_output.specs.Plans.{FileBegun, IsPlanned, PlanGives, PlannedOr, ReadPlans, first_unserved, refusal_for}
+use Rattle.bt_plan.specs.Answers.{IsPlan, IsPlanCut}
+use Rattle.bt_plan.specs.declared.ending.Limits.{Limits}
+use Rattle.bt_plan.specs.declared.ending.PlanEnd.{PlanEnd}
+use Rattle.bt_program.specs.Headline.{IsNotLive}
+use Rattle.bt_refusals.specs.declared.fault.TreeFault.{TreeFault}
+use Rattle.bt_trace.proofs.Unbegun.{none_begin}
+use Rattle.bt_trace.specs.Cuts.{HaveBegunWithin}
+use Rattle.bt_trace.specs.Rounds.{moments_after}
+
+-- ---- Outputs
+
+-- what is so of each line without a run, and of a run, is so of each output
+module _ (Q : Output → Type 0) (line : (bytes : List ℕ) (exit : Exit) → Q (line_of bytes exit)) where
+  same_output : (o z : Output) → o ≡ z → Q z → Q o
+  same_output o z e q = subst Q (sym e) q
+
+  by_length : (long : Bool) (o z : Output) (P : Type 0) → Q z → MatchBool long (o ≡ z) P → (P → Q o) → Q o
+  by_length true o z P q p more = same_output o z p q
+  by_length false o z P q p more = more p
+
+  by_lack : (lack : Option JoinFault) (tree : Tree) (world : World) (g : Given) → Q (run_output tree world g) → Q (joined_output lack tree world g)
+  by_lack None tree world g run = run
+  by_lack (Some fault) tree world g run = line _ exit.World
+
+  by_world : (described : Result World WorldFault) (tree : Tree) (g : Given) → ((world : World) → Q (run_output tree world g)) → Q (world_output described tree g)
+  by_world (Ok world) tree g run = by_lack (lack_of tree world g.drivers) tree world g (run world)
+  by_world (Err fault) tree g run = line _ exit.World
+
+  by_tree : (read : Result Tree TreeFault) (world : List ℕ) (g : Given) (o : Output) → ((tree : Tree) (world : World) → Q (run_output tree world g)) → TreeGives read world g o → Q o
+  by_tree (Ok tree) world g o run p = same_output o (world_output p.0 tree g) p.2 (by_world p.0 tree g (run tree))
+  by_tree (Err fault) world g o run p = same_output o (tree_refused fault) p (line _ exit.Tree)
+
+  of_run : (main : Option (List ℕ)) (tree world : List ℕ) (g : Given) (o : Output) → ((tree : Tree) (world : World) → Q (run_output tree world g)) → RunGives main tree world g o → Q o
+  of_run main tree world g o run p =
+      by_length (is_too_long tree) o (too_long file.Tree) _ (line _ exit.Tree) p
+      (λ p1. by_length (is_too_long world) o (too_long file.World) _ (line _ exit.World) p1 (λ p2. by_tree p2.0 world g o run p2.2))
+
+  printed : (print : Print) (read : Result Tree TreeFault) → Q (print_output print read)
+  printed print (Ok tree) = line _ exit.Done
+  printed print (Err fault) = line _ exit.Tree
+
+  of_print : (print : Print) (main : Option (List ℕ)) (tree : List ℕ) (o : Output) → PrintGives print main tree o → Q o
+  of_print print main tree o p = by_length (is_too_long tree) o (too_long file.Tree) _ (line _ exit.Tree) p (λ p1. same_output o (print_output print p1.0) p1.2 (printed print p1.0))
+
+  by_refusal : (goals : List ℕ) (lack : Option JoinFault) (world : World) (limits : Limits) (drivers : List DriverState) (o : Output) → (IsPlanned world limits drivers o → Q o) → PlannedOr (refusal_for goals lack) world limits drivers o → Q o
+  by_refusal [] lack world limits drivers o run p = same_output o _ p (line _ exit.World)
+  by_refusal (goal ∷ goals) (Some fault) world limits drivers o run p = same_output o _ p (line _ exit.World)
+  by_refusal (goal ∷ goals) None world limits drivers o run p = run p
+
+  by_script : (described : Result World WorldFault) (limits : Limits) (drivers : List DriverState) (o : Output) → ((world : World) → IsPlanned world limits drivers o → Q o) → ReadPlans described limits drivers o → Q o
+  by_script (Ok world) limits drivers o run p = by_refusal world.goals (first_unserved drivers world.rows) world limits drivers o (run world) p
+  by_script (Err fault) limits drivers o run p = same_output o (world_refused fault) p (line _ exit.World)
+
+  of_plan : (limits : Limits) (world : List ℕ) (drivers : List DriverState) (o : Output) → ((world : World) → IsPlanned world limits drivers o → Q o) → PlanGives limits world drivers o → Q o
+  of_plan limits world drivers o run p = by_length (is_too_long world) o (too_long file.World) _ (line _ exit.World) p (λ p1. by_script p1.0 limits drivers o run p1.2)
+
+-- ---- Drivers
+
+-- the drivers of a plan that was cut off were asked no more often than in the whole plan
+abbrev pub CutLaw : Type 0
+CutLaw = (world : World) (limits : Limits) (before now after : List DriverState) (planned : PlanEnd) → IsValidWorld world →
+    IsPlanCut world limits before now → IsPlan world limits before after planned → HaveBegunWithin before now after
+
+-- the limits of a plan
+abbrev limits_of : ℕ → ℕ → ℕ → Limits
+limits_of expand ticks period = record { expand = expand; ticks = ticks; period = period }
+
+-- moments that were not asked for
+all_ahead : (clock : Option Moments) → clock ≡ option_map (moments_after 0) clock
+all_ahead None = refl
+all_ahead (Some m) = refl
+
+still_within : (asked : Asked) (old new : Option Moments) → new ≡ old → ClockWithin asked old new
+still_within Never old new same = same
+still_within (Times times) old new same = (0, omega arith, same ∙ all_ahead old)
+still_within (UpToFault tree world moments) None new same = tt
+still_within (UpToFault tree world moments) (Some m) new same = (0, none_begin tree world 0 moments (opening tree world), same)
+
+-- a world file describes one world
+abbrev pub WorldLaw : Type 0
+WorldLaw = (bytes : List ℕ) (a b : Result World WorldFault) → ReadsWorld bytes a → ReadsWorld bytes b → a ≡ b
+
+-- what drivers were asked for is within what an output says of them
+abbrev Within : List DriverState → List DriverState → Output → Type 0
+Within old new o = DriversWithin o.drivers old new
+
+-- no driver was called
+module _ (old new : List DriverState) (same : AreUncalled old new) where
+  -- what was begun before a run is within it
+  before_run : (tree : Tree) (world : World) (calls : List RunnerCall) → HaveBegunWithin old new (roster_after_run tree world old calls)
+  before_run tree world calls place =
+      let risen = (run_same tree world old calls).totals place in
+      let starts : (driver_at new place).totals.starts ≡ (driver_at old place).totals.starts = ap (λ (t : Totals). t.starts) (same place) in
+      let runnings : (driver_at new place).totals.runnings ≡ (driver_at old place).totals.runnings = ap (λ (t : Totals). t.runnings) (same place) in
+      record {
+        starts = λ few. let more = risen.starts few in omega (arith, starts, more.0);
+        runnings = λ few. let more = risen.runnings few in omega (arith, runnings, more.0);
+      }
+
+  within_run : (course : Course) (main : Option (List ℕ)) (tree world : List ℕ) (moments : Moments) (o : Output) → RunGives main tree world (given course moments old) o → Within old new o
+  within_run course main tree world moments o p =
+      of_run (Within old new) (λ bytes exit. same) main tree world (given course moments old) o
+      (λ t w. before_run t w (run_over t w ((given course moments old).events w)).calls) p
+
+  not_planned : (world : World) (limits : Limits) → IsPlanCut world limits old new
+  not_planned world limits = record { trials = []; begins = inl refl; within = uncalled_within old new same }
+
+if_short : (long : Bool) (P Q : Type 0) → long ≡ false → MatchBool long P Q → Q
+if_short true P Q e p = cc
+if_short false P Q e p = p
+
+module _ (cuts : CutLaw) (worlds : WorldLaw) where
+  within_plan : (world : World) (limits : Limits) (old new : List DriverState) (o : Output) → IsPlanCut world limits old new → IsPlanned world limits old o → Within old new o
+  within_plan world limits old new o cut p = subst (Within old new) (sym p.is) (cuts world limits old new p.after p.planned p.valid cut p.run)
+
+  within_file : (limits : Limits) (file : List ℕ) (old new : List DriverState) (o : Output) → PlanGives limits file old o → FileBegun limits file old new → Within old new o
+  within_file limits file old new o p b =
+      let read = if_short (is_too_long file) _ _ (short_is file b.short) p in
+      let plans : ReadPlans (Ok b.world) limits old o = subst (λ (r : Result World WorldFault). ReadPlans r limits old o) (worlds file read.0 (Ok b.world) read.1 b.described) read.2 in
+      within_plan b.world limits old new o b.begun.1 (subst (λ (r : Option Output). PlannedOr r b.world limits old o) b.begun.0 plans)
+
+  -- no driver was called: that is within each output of a command
+  pub uncalled_is_within : (c : Command) (tree world : List ℕ) (moments : Moments) (old new : List DriverState) (o : Output) → FilesGive c tree world moments old o → AreUncalled old new → Within old new o
+  uncalled_is_within (Tick t w main) tree world moments old new o p same = within_run old new same course.Script main tree world moments o p
+  uncalled_is_within (Live t w rounds main) tree world moments old new o p same = within_run old new same (course.Rounds rounds) main tree world moments o p
+  uncalled_is_within (Load leaves) tree world moments old new o p same = within_run old new same (course.Load leaves) None (tree_text leaves) (world_text leaves) moments o p
+  uncalled_is_within (Check t main) tree world moments old new o p same = of_print (Within old new) (λ bytes exit. same) print.Whole main tree o p
+  uncalled_is_within (Dead t main) tree world moments old new o p same = of_print (Within old new) (λ bytes exit. same) print.Dead main tree o p
+  uncalled_is_within (Plan w expand ticks period) tree world moments old new o p same =
+      of_plan (Within old new) (λ bytes exit. same) (limits_of expand ticks period) world old o
+      (λ described planned. within_plan described (limits_of expand ticks period) old new o (not_planned old new same described (limits_of expand ticks period)) planned) p
+
+  -- .. and so is what a command may have begun before its output is known
+  begun_is_within : (c : Command) (tree world : List ℕ) (moments : Moments) (old new : List DriverState) (o : Output) → FilesGive c tree world moments old o → FilesBegin c tree world old new → Within old new o
+  begun_is_within (Tick t w main) tree world moments old new o p same = uncalled_is_within (Tick t w main) tree world moments old new o p same
+  begun_is_within (Live t w rounds main) tree world moments old new o p same = uncalled_is_within (Live t w rounds main) tree world moments old new o p same
+  begun_is_within (Load leaves) tree world moments old new o p same = uncalled_is_within (Load leaves) tree world moments old new o p same
+  begun_is_within (Check t main) tree world moments old new o p same = uncalled_is_within (Check t main) tree world moments old new o p same
+  begun_is_within (Dead t main) tree world moments old new o p same = uncalled_is_within (Dead t main) tree world moments old new o p same
+  begun_is_within (Plan w expand ticks period) tree world moments old new o p (inl same) = uncalled_is_within (Plan w expand ticks period) tree world moments old new o p same
+  begun_is_within (Plan w expand ticks period) tree world moments old new o p (inr b) = within_file (limits_of expand ticks period) world old new o p b
+
+  -- memory ran out before an output was known, of which a part was given, which is nothing
+  pub ran_out_gave : (c : Command) (tree world : List ℕ) (moments : Moments) (o : Output) (result : Exit) (a b : Side) → FilesGive c tree world moments a.drivers o → RanOut (FilesBegin c tree world) result a b → Gave o result a b
+  ran_out_gave c tree world moments o result a b p out =
+      subst (λ (e : Exit). Gave o e a b) (sym out.exit) (record {
+        written = subst (λ (z : Option (List ℕ)). AppendedPrefix a.written z o.bytes) (sym out.written) (AppendedPrefix-nothing a.written o.bytes);
+        drivers = begun_is_within c tree world moments a.drivers b.drivers o p out.drivers;
+        clock = still_within o.asked a.clock b.clock out.clock;
+      })
+
+left_within : (left : Option (List DriverState)) (old new : List DriverState) → DriversLeft left old new → DriversWithin left old new
+left_within None old new p = p
+left_within (Some after) old new p = as_often old new after p
+
+-- whatever was given, the run has begun no more than all of it begins
+pub gave_within : (o : Output) (result : Exit) (a b : Side) → Gave o result a b → Within a.drivers b.drivers o
+gave_within o exit.Done a b p = left_within o.drivers a.drivers b.drivers p.2
+gave_within o exit.Words a b p = left_within o.drivers a.drivers b.drivers p.2
+gave_within o exit.Tree a b p = left_within o.drivers a.drivers b.drivers p.2
+gave_within o exit.World a b p = left_within o.drivers a.drivers b.drivers p.2
+gave_within o exit.Fault a b p = left_within o.drivers a.drivers b.drivers p.2
+gave_within o exit.NoPlan a b p = left_within o.drivers a.drivers b.drivers p.2
+gave_within o exit.Read a b p = left_within o.drivers a.drivers b.drivers p.2
+gave_within o exit.Write a b p = p.1.drivers
+gave_within o exit.Memory a b p = p.drivers
+
+unread_uncalled : (f : File) (old new : List DriverState) → Within old new (unread f) → AreUncalled old new
+unread_uncalled file.Tree old new p = p
+unread_uncalled file.World old new p = p
+
+-- no driver was called where a file was not read
+pub unread_called_none : (f : File) (result : Exit) (a b : Side) → Gave (unread f) result a b → AreUncalled a.drivers b.drivers
+unread_called_none f result a b gave = unread_uncalled f a.drivers b.drivers (gave_within (unread f) result a b gave)
+
+-- ---- The clock
+
+abbrev IsUnasked : Output → Type 0
+IsUnasked o = o.asked ≡ Never
+
+-- an output that does not ask the clock leaves it, whatever is answered
+pub gave_unasked : (o : Output) (result : Exit) (a b : Side) → IsUnasked o → Gave o result a b → b.clock ≡ a.clock
+gave_unasked o exit.Done a b never p = subst (λ (k : Asked). ClockLeft k a.clock b.clock) never p.3
+gave_unasked o exit.Words a b never p = subst (λ (k : Asked). ClockLeft k a.clock b.clock) never p.3
+gave_unasked o exit.Tree a b never p = subst (λ (k : Asked). ClockLeft k a.clock b.clock) never p.3
+gave_unasked o exit.World a b never p = subst (λ (k : Asked). ClockLeft k a.clock b.clock) never p.3
+gave_unasked o exit.Fault a b never p = subst (λ (k : Asked). ClockLeft k a.clock b.clock) never p.3
+gave_unasked o exit.NoPlan a b never p = subst (λ (k : Asked). ClockLeft k a.clock b.clock) never p.3
+gave_unasked o exit.Read a b never p = subst (λ (k : Asked). ClockLeft k a.clock b.clock) never p.3
+gave_unasked o exit.Write a b never p = subst (λ (k : Asked). ClockWithin k a.clock b.clock) never p.1.clock
+gave_unasked o exit.Memory a b never p = subst (λ (k : Asked). ClockWithin k a.clock b.clock) never p.clock
+
+pub unread_unasked : (f : File) → IsUnasked (unread f)
+unread_unasked file.Tree = refl
+unread_unasked file.World = refl
+
+-- no output of a command but `live` asks it
+pub files_unasked : (c : Command) (tree world : List ℕ) (moments : Moments) (drivers : List DriverState) (o : Output) → IsNotLive (Some c) → FilesGive c tree world moments drivers o → IsUnasked o
+files_unasked (Tick t w main) tree world moments drivers o other p = of_run IsUnasked (λ bytes exit. refl) main tree world (given course.Script moments drivers) o (λ t w. refl) p
+files_unasked (Live t w rounds main) tree world moments drivers o other p = absurd other
+files_unasked (Load leaves) tree world moments drivers o other p = of_run IsUnasked (λ bytes exit. refl) None (tree_text leaves) (world_text leaves) (given (course.Load leaves) moments drivers) o (λ t w. refl) p
+files_unasked (Check t main) tree world moments drivers o other p = of_print IsUnasked (λ bytes exit. refl) print.Whole main tree o p
+files_unasked (Dead t main) tree world moments drivers o other p = of_print IsUnasked (λ bytes exit. refl) print.Dead main tree o p
+files_unasked (Plan w expand ticks period) tree world moments drivers o other p =
+    of_plan IsUnasked (λ bytes exit. refl) (limits_of expand ticks period) world drivers o (λ described planned. ap (λ (z : Output). z.asked) planned.is) p
