@@ -25,9 +25,9 @@ use Rattle.bt_output.specs.declared.refusal.Refusal.{Refusal}
 use Rattle.bt_output.specs.declared.refusal.Refusal.TheVariants as refusal
 use Rattle.bt_output.specs.Answers.{Answers, AreTold, AtMoments, CommandAnswered, Gave, IfTold, IsRefused, Printed, Side, ToldIfNamed, no_moments, side}
 use Rattle.bt_output.specs.Ends.{CommandEnds, Ends, EndsAt, FilesEnd, IsUntouched}
-use Rattle.bt_output.specs.Files.{Contents, Named, no_files, tree_alone, tree_and_world, tree_world_rules, world_alone}
+use Rattle.bt_output.specs.Files.{Contents, Named, no_files, tree_alone, tree_world_rules, world_alone}
 use Rattle.bt_output.specs.Jobs.{FilesBegin, FilesGive, files_of}
-use Rattle.bt_output.specs.Output.{AreUncalled, Beginning, BeginsNothing, Begun, CourseGives, Ending, Given, Giving, JoinGives, MockGives, Mocks, Output, PrintGives, Prints, ReadGives, RunGives, RunsOn, ScriptMocks, Standing, TreeGives, given, is_too_long, itself, joined_output, lack_of, mocked, print_output, refused_as, rules_refused, standing_output, stopped_as, too_long, tree_refused, unread, world_refused}
+use Rattle.bt_output.specs.Output.{AreUncalled, Beginning, BeginsNothing, Begun, CourseGives, Ending, Given, Giving, JoinGives, MockGives, Mocks, Output, PrintGives, Prints, ReadGives, RunGives, RunsOn, ScriptMocks, Standing, given, is_too_long, itself, mocked, print_output, refused_as, rules_refused, standing_output, stopped_as, too_long, tree_refused, unread, world_refused}
 use Rattle.bt_outside.specs.declared.shelf.ShelfFault.TheVariants as shelf
 use Rattle.bt_output.specs.Reads.{IsLong, IsUnread, Reading, Unread, WasRead}
 use Rattle.bt_output.specs.TreeFiles.{ReadsAs, TreeReads}

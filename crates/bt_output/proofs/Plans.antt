@@ -1,5 +1,5 @@
 -- What a command gives that plans.
-use Rattle.std.proofs.Common.{◌≡◌, ◌≢◌, ◌∙◌, ◌==◌, ℕ, ◌<◌, ◌≤◌, Bool, true, false, List, [], ◌∷◌, inl, inr, Option, Some, None, length, refl, sym, ap, subst, arith, Result, Ok, Err}
+use Rattle.std.proofs.Common.{◌≡◌, ◌≢◌, ◌==◌, ℕ, ◌≤◌, true, false, List, [], ◌∷◌, inl, inr, Option, Some, None, length, refl, sym, ap, subst, arith, Result, Ok, Err}
 use Rattle.std.specs.Prelude.{option_map}
 use Rattle.std.specs.List.{All}
 use Rattle.std.proofs.lemmas.Bool.Decides.{nat_tests}
@@ -19,18 +19,12 @@ use Rattle.bt_model.specs.Limits.{most_file_bytes}
 use Rattle.bt_model.specs.WorldFile.{ReadsWorld}
 use Rattle.bt_model.specs.Worlds.{IsValidWorld}
 use Rattle.bt_outside.specs.Appending.{Appended}
-use Rattle.bt_outside.specs.Counts.{Rose}
-use Rattle.bt_outside.specs.Files.{Told}
-use Rattle.bt_outside.specs.Moments.{Moments}
-use Rattle.bt_output.specs.declared.refusal.File.{File}
-use Rattle.bt_output.specs.declared.refusal.File.TheVariants as file
 use Rattle.bt_output.specs.declared.refusal.Refusal.{Refusal}
 use Rattle.bt_output.specs.declared.refusal.Refusal.TheVariants as refusal
 use Rattle.bt_output.specs.Answers.{Gave, IsSpoken, IsWhole, PlanPrinted, Side, side}
-use Rattle.bt_output.specs.Ends.{CommandEnds, Ends, EndsAt, FilesEnd}
-use Rattle.bt_output.specs.Output.{Output, join_refused, no_goal, refused_as, stopped_as, too_long, world_refused}
-use Rattle.bt_output.specs.Plans.{Begins, IsPlanned, PlanBegins, PlanGives, PlannedOr, Plans, ReadPlans, WorldBegun, WorldPlans, first_unserved, plan_bytes, plan_exit, plan_output, refusal_for}
-use Rattle.bt_output.specs.Reads.{IsUnread, Reading, Unread, WasRead}
+use Rattle.bt_output.specs.Ends.{Ends, EndsAt}
+use Rattle.bt_output.specs.Output.{Output, join_refused, no_goal, stopped_as, world_refused}
+use Rattle.bt_output.specs.Plans.{IsPlanned, PlanBegins, PlanGives, PlannedOr, Plans, ReadPlans, WorldBegun, WorldPlans, first_unserved, plan_bytes, plan_exit, plan_output, refusal_for}
 use Rattle.bt_output.proofs.Files.{LongAlone, at_any, at_more, ends_more, long_is, match_false, match_true, refused_ends, short_is}
 use Rattle.bt_plan.specs.Answers.{IsPlan, IsPlanCut, StandsAlone}
 use Rattle.bt_plan.specs.declared.ending.End.{End}

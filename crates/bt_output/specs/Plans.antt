@@ -18,7 +18,7 @@ use Rattle.bt_output.specs.declared.refusal.File.TheVariants as file
 use Rattle.bt_output.specs.Output.{AreUncalled, Beginning, Begun, Giving, Never, OrTooLong, Output, join_refused, no_goal, too_long, world_refused}
 use Rattle.bt_plan.specs.Answers.{IsPlan, IsPlanCut, StandsAlone}
 use Rattle.bt_plan.specs.declared.ending.End.{End}
-use Rattle.bt_plan.specs.declared.ending.End.TheVariants.{Reached, NoTemplate, NoOrder, Expansions, StillRunning, Faulted}
+use Rattle.bt_plan.specs.declared.ending.End.TheVariants.{Reached, Faulted}
 use Rattle.bt_plan.specs.declared.ending.Limits.{Limits}
 use Rattle.bt_plan.specs.declared.ending.PlanEnd.{PlanEnd}
 use Rattle.bt_plan.specs.Lines.{end_line, step_line}

@@ -1,5 +1,4 @@
-ghost use Rattle.std.specs.Prelude.{◌≤◌, IfOk, length};
-ghost use Rattle.bt_model.specs.Limits.{most_file_bytes};
+ghost use Rattle.std.specs.Prelude.{IfOk};
 ghost use Rattle.bt_model.specs.Trees.{IsRunnable, IsValid};
 ghost use Rattle.bt_output.specs.Output.{mocked};
 ghost use Rattle.bt_script.specs.Stops.{Gives};

@@ -34,7 +34,7 @@ use Rattle.bt_mock.specs.declared.fault.MockFault.{MockFault}
 use Rattle.bt_output.specs.Files.{Contents}
 use Rattle.bt_output.specs.Grounds.{GroundBegun, GroundGives, GroundPlanGives, GroundedPlans, SaidPlans, ground_output}
 use Rattle.bt_output.specs.Jobs.{FilesBegin, FilesGive}
-use Rattle.bt_output.specs.Output.{AreUncalled, Asked, Given, MockGives, Never, Output, PrintGives, ReadGives, RunGives, Standing, Times, TreeGives, UpToFault, given, ground_refused, is_too_long, itself, joined_output, lack_of, line_of, mocked, print_output, run_output, standing_output, too_long, tree_refused, unread, world_output, world_refused}
+use Rattle.bt_output.specs.Output.{AreUncalled, Asked, Given, MockGives, Never, Output, PrintGives, RunGives, Standing, Times, TreeGives, UpToFault, given, ground_refused, is_too_long, itself, joined_output, lack_of, line_of, mocked, print_output, run_output, standing_output, too_long, tree_refused, unread, world_output, world_refused}
 use Rattle.bt_output.specs.Plans.{FileBegun, IsPlanned, PlanGives, PlannedOr, ReadPlans, first_unserved, refusal_for}
 use Rattle.bt_plan.specs.Answers.{IsPlan, IsPlanCut}
 use Rattle.bt_plan.specs.declared.ending.Limits.{Limits}

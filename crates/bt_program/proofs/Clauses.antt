@@ -36,7 +36,7 @@ use Rattle.bt_ground.specs.declared.fault.GroundFault.{GroundFault}
 use Rattle.bt_ground.specs.GroundFile.{Grounded, MakesWorld, reads_ground, world_from}
 use Rattle.bt_output.specs.Grounds.{GroundBegins, GroundGives, GroundPlanGives, GroundPlans, GroundedPlans, SaidPlans, ground_output}
 use Rattle.bt_output.specs.Jobs.{CommandGives, FilesBegin, FilesGive, files_of, held, held_by}
-use Rattle.bt_output.specs.Output.{AreUncalled, Beginning, Given, Giving, MockGives, OrTooLong, Output, PrintGives, ReadGives, RunGives, Standing, TreeGives, WorldGives, given, ground_refused, is_too_long, itself, join_refused, joined_output, lack_of, mocked, no_goal, print_output, rules_refused, run_exit, standing_output, too_long, tree_refused, unread, words_refused, world_output, world_refused}
+use Rattle.bt_output.specs.Output.{AreUncalled, Beginning, Given, Giving, MockGives, OrTooLong, Output, PrintGives, ReadGives, RunGives, Standing, TreeGives, WorldGives, given, ground_refused, is_too_long, itself, join_refused, joined_output, lack_of, mocked, no_goal, print_output, run_exit, standing_output, too_long, tree_refused, unread, words_refused, world_output, world_refused}
 use Rattle.bt_output.specs.TreeFiles.{TreeReads, built, element_read, with_models}
 use Rattle.bt_command_line.specs.Words.{Command, Tick, Live, Load, Check, Dead, Plan, Mock, Ground, GroundPlan}
 use Rattle.bt_output.specs.declared.refusal.File.{File}
