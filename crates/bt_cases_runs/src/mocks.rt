@@ -92,12 +92,12 @@ static RUNS: [(&str, &str, &str, &str); 21] = [
         r#"{"SubstitutionRules":{"ta*":"AlwaysSuccess"}}"#,
         ALWAYS,
     ),
-    // A leaf may have the name of another node, as no tree file can say it.
+    // A leaf may have the name of another node, as no tree file can say it, and then no row.
     (
         "<A/>",
-        "condition Sequence when 1 / tick 1",
+        "tick 1",
         r#"{"SubstitutionRules":{"A":"Sequence"}}"#,
-        OTHER_LEAF,
+        "refused world NoRow 'Sequence'\nWorld",
     ),
     // Only the leaves of the tree that is run need a row.
     (
@@ -145,7 +145,7 @@ static RUNS: [(&str, &str, &str, &str); 21] = [
         "refused rules BadScript 'New' RealNumber 5\nRules",
     ),
     // The rules come after the tree and the world, and before the join.
-    ("<A>", "tick", "{", "refused tree Unmatched 58\nTree"),
+    ("<A>", "tick", "{", "refused tree Unmatched 47\nTree"),
     ("<A/>", "tick", "{", "refused world BadLine 2\nWorld"),
     ("<A/>", "tick 1", "{", "refused rules Json\nRules"),
     ("<A/>", "tick 1", "{}", "refused world NoRow 'A'\nWorld"),
@@ -197,7 +197,7 @@ fn the_reads_of_mocks_may_fail(rt: HostRuntime) -> Result<(), Fail> {
         (&[1_u64], "refused read tree\nRead"),
         (&[2], "refused read world\nRead"),
         (&[3], "refused read rules\nRead"),
-        (&[4], "refused tree Unmatched 58\nTree"),
+        (&[4], "refused tree Unmatched 47\nTree"),
     ] {
         let text = mocked(rt.alloc(), "<A>", "tick", none, fails)?;
         assert_eq!(rt; text.as_str(), want);
@@ -215,7 +215,7 @@ fn padded(alloc: Global, blanks: usize) -> Result<String, NoMemory> {
 fn rules_may_be_too_long(rt: HostRuntime) -> Result<(), Fail> {
     let alloc = rt.alloc();
     for (blanks, want) in [
-        (1_048_574, "refused tree Unmatched 58\nTree"),
+        (1_048_574, "refused tree Unmatched 47\nTree"),
         (1_048_575, "refused rules TooLong\nRules"),
     ] {
         let rules = padded(alloc, blanks)?;

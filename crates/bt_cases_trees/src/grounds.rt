@@ -7,7 +7,8 @@ use std::alloc::Global;
 use std::test::Fail;
 
 /// A robot among places.
-const PLACES: &str = "sort place kitchen hall / fact at 0 / forall X place / condition At_$X is at == #X / action Go_$X timed 100 / sets at = #X / end / goal At_hall";
+const PLACES: &str =
+    "sort place kitchen hall / fact at 0 / forall X place / condition At_$X is at == #X / action Go_$X timed 100 / sets at = #X / end / goal At_hall";
 
 const SCRIPT: &str = "\
 bt-world 1
@@ -146,7 +147,10 @@ fn sizes_are_told(rt: HostRuntime) -> Result<(), Fail> {
     let file = ground_of(alloc, lines.as_str())?;
     for word in ["ground", "gplan"] {
         let text = given(alloc, &[word, "W"], b"", file.as_bytes(), &[])?;
-        assert_eq!(rt; text.as_str(), "refused ground TooManyGround 1228811\nWorld");
+        assert_eq!(rt;
+            text.as_str(),
+            "refused ground TooManyGround 1228811\nWorld"
+        );
     }
     let long = " ".repeat(alloc, 1_048_577)?;
     let text = given(alloc, &["ground", "W"], b"", long.as_bytes(), &[])?;
@@ -168,10 +172,7 @@ fn cut(alloc: Global, write: u64, taken: u64) -> Result<String, NoMemory> {
 /// Writes of the lines of a script that fail.
 #[test]
 fn a_write_of_a_script_may_fail(rt: HostRuntime) -> Result<(), Fail> {
-    for (write, taken, want) in [
-        (1, 0, "Write false"),
-        (2, 4, "bt-world 1\nfactWrite false"),
-    ] {
+    for (write, taken, want) in [(1, 0, "Write false"), (2, 4, "bt-world 1\nfactWrite false")] {
         assert_eq!(rt; cut(rt.alloc(), write, taken)?.as_str(), want);
     }
     Ok(())
