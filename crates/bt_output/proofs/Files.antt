@@ -1,5 +1,5 @@
 -- What the files of a command give, and what a command comes to.
-use Rattle.std.proofs.Common.{◌≡◌, ◌∙◌, ℕ, ◌<◌, ◌≤◌, List, [], Bool, true, false, inl, inr, Option, Some, None, length, refl, sym, subst, arith, MatchBool, Result, Ok, Err}
+use Rattle.std.proofs.Common.{◌≡◌, ◌∙◌, ℕ, ◌<◌, ◌≤◌, List, [], Bool, true, false, inl, inr, Option, Some, None, length, refl, sym, ap, subst, arith, MatchBool, Result, Ok, Err}
 use Rattle.std.specs.Prelude.{IfSome, MatchOption}
 use Rattle.std.proofs.lemmas.Grind.{common_steps}
 use Rattle.bt_command_line.specs.declared.exit.Exit.{Exit}
@@ -117,13 +117,13 @@ module _ (P : Ending) (course : Course) (main : Option (List ℕ)) (stands : Sta
 
     -- the world script could not be parsed
     world_failed : (t : Tree) (stopped : Stop WorldFault) (a : Side) → ReadsAs (Ok t) main tree → (let r : Result World (Stop WorldFault) = Err stopped in Gives r (ReadsWorld world)) → EndsAt P AreUncalled (Err (stopped_as refusal.World stopped)) a a
-    world_failed t (stop.Fault f) a reads described = refused_ends P AreUncalled (refusal.World f) a (λ moments. gives moments a.drivers (world_refused f) (Ok t, reads, Err f, described, refl))
+    world_failed t (stop.Fault f) a reads described = refused_ends P AreUncalled (refusal.World f) a (λ moments. gives moments a.drivers (world_refused f) (Ok t, reads, (Err f, described, refl)))
     world_failed t stop.NoMemory a reads described = refused_ends P AreUncalled refusal.NoMemory a (λ moments. tt)
 
     -- there is no tree in the place of the one that was read
     place_failed : (t : Tree) (w : World) (stopped : Stop MockFault) (a : Side) → ReadsAs (Ok t) main tree → ReadsWorld world (Ok w) → (let r : Result Tree (Stop MockFault) = Err stopped in Makes r (stands t)) → EndsAt P AreUncalled (Err (stopped_as refusal.Rules stopped)) a a
     place_failed t w (stop.Fault f) a reads described none =
-        refused_ends P AreUncalled (refusal.Rules f) a (λ moments. gives moments a.drivers (rules_refused f) (Ok t, reads, Ok w, described, sym (ap (λ (s : Result Tree MockFault). standing_output s w (given course moments a.drivers)) none)))
+        refused_ends P AreUncalled (refusal.Rules f) a (λ moments. gives moments a.drivers (rules_refused f) (Ok t, reads, (Ok w, described, sym (ap (λ (s : Result Tree MockFault). standing_output s w (given course moments a.drivers)) none))))
     place_failed t w stop.NoMemory a reads described none = refused_ends P AreUncalled refusal.NoMemory a (λ moments. tt)
 
     -- all were parsed
@@ -131,7 +131,7 @@ module _ (P : Ending) (course : Course) (main : Option (List ℕ)) (stands : Sta
     all_read t standing w result a b reads described is ends =
         at_more a.clock (λ moments. Ends (JoinGives standing w course moments a.drivers) AreUncalled result a b) (λ moments. Ends (P moments a.drivers) AreUncalled result a b)
         (λ moments. ends_more (JoinGives standing w course moments a.drivers) (P moments a.drivers) AreUncalled AreUncalled
-        (λ o e. gives moments a.drivers o (Ok t, reads, Ok w, described, e ∙ sym (ap (λ (s : Result Tree MockFault). standing_output s w (given course moments a.drivers)) is))) (λ old new begun. begun) result a b) ends
+        (λ o e. gives moments a.drivers o (Ok t, reads, (Ok w, described, e ∙ sym (ap (λ (s : Result Tree MockFault). standing_output s w (given course moments a.drivers)) is)))) (λ old new begun. begun) result a b) ends
 
 -- the bytes of both files of a run
 module _ (course : Course) (main : Option (List ℕ)) (tree world : List ℕ) (st : length tree ≤ most_file_bytes) (sw : length world ≤ most_file_bytes) where
@@ -284,7 +284,7 @@ module _ {Shelf : Type 0} (read_gives : Reading Shelf) (faults : Shelf → ℕ) 
       → Over (tree_world_rules tree world rules) old new (Err r) a a
   rules_unread tree world rules long first second old between later new r a less read next u =
       refused_read (tree_world_rules tree world rules) file.Rules rules old later new r a less u
-      (λ failed. (between, read.gave, told_short holds tree first read.told read.short, later, next.gave, told_short holds world second next.told next.short, failed))
+      (λ failed. (between, read.gave, told_short holds tree first read.told read.short, (later, next.gave, told_short holds world second next.told next.short, failed)))
       (λ is. record {
         files = record { tree = first; world = second; rules = is.bytes };
         told = record { tree = read.told; world = next.told; rules = is.told };
@@ -323,15 +323,15 @@ module _ {Shelf : Type 0} (read_gives : Reading Shelf) (faults : Shelf → ℕ) 
 
 -- a tree file was read, of whose tree this is printed
 module _ (holds : Option (List ℕ → List ℕ)) (name : List ℕ) (print : Print) (main : Option (List ℕ)) (bytes : List ℕ) (told : Told holds name (λ file. bytes ≡ file)) (short : length bytes ≤ most_file_bytes) where
-  abbrev file : Contents
-  file = record { tree = bytes; world = []; rules = [] }
+  abbrev tree_of_file : Contents
+  tree_of_file = record { tree = bytes; world = []; rules = [] }
 
-  print_files : (result : Result Exit Refusal) (a b : Side) → EndsAt (Prints print main file) AreUncalled result a b → FilesEnd holds (tree_alone name) (Prints print main) BeginsNothing result a b
-  print_files result a b ends = record { files = file; told = record { tree = told; world = tt; rules = tt }; answers = ends }
+  print_files : (result : Result Exit Refusal) (a b : Side) → EndsAt (Prints print main tree_of_file) AreUncalled result a b → FilesEnd holds (tree_alone name) (Prints print main) BeginsNothing result a b
+  print_files result a b ends = record { files = tree_of_file; told = record { tree = told; world = tt; rules = tt }; answers = ends }
 
   pub print_stopped : (stopped : Stop TreeFault) (a : Side) → ReadsAs (Err stopped) main bytes → FilesEnd holds (tree_alone name) (Prints print main) BeginsNothing (Err (stopped_as refusal.Tree stopped)) a a
   print_stopped (stop.Fault f) a reads =
-      print_files (Err (refusal.Tree f)) a a (refused_ends (Prints print main file) AreUncalled (refusal.Tree f) a (λ moments. print_gives print main bytes (Err f) short reads))
+      print_files (Err (refusal.Tree f)) a a (refused_ends (Prints print main tree_of_file) AreUncalled (refusal.Tree f) a (λ moments. print_gives print main bytes (Err f) short reads))
   print_stopped stop.NoMemory a reads = out_of_memory holds (tree_alone name) (Prints print main) BeginsNothing a
 
   pub tree_printed : (t : Tree) (exit : Exit) (written : Option (List ℕ)) (faults : ℕ) (a : Side) → ReadsAs (Ok t) main bytes → Printed (print_output print (Ok t)) exit a.written a.faults written faults

@@ -6,12 +6,14 @@ use Rattle.bt_ground.specs.GroundFile.{Grounded, MakesWorld, reads_ground}
 use Rattle.bt_model.specs.declared.world.World.{World}
 use Rattle.bt_model.specs.Drivers.{DriverState}
 use Rattle.bt_model.specs.Limits.{most_file_bytes}
+use Rattle.bt_outside.specs.Files.{Told}
 use Rattle.bt_output.specs.declared.refusal.Refusal.{Refusal}
 use Rattle.bt_output.specs.declared.refusal.Refusal.TheVariants as refusal
 use Rattle.bt_output.specs.Answers.{Printed, Side, side}
-use Rattle.bt_output.specs.Ends.{Ends, EndsAt}
+use Rattle.bt_output.specs.Ends.{Ends, EndsAt, FilesEnd}
+use Rattle.bt_output.specs.Files.{world_alone}
 use Rattle.bt_output.specs.Grounds.{GroundGives, GroundPlanBegins, GroundPlanGives, GroundPlans, GroundedPlans, Grounds, ground_output}
-use Rattle.bt_output.specs.Output.{AreUncalled, Output, ground_refused, stopped_as}
+use Rattle.bt_output.specs.Output.{AreUncalled, BeginsNothing, Output, ground_refused, stopped_as}
 use Rattle.bt_output.specs.Plans.{WorldBegun, WorldPlans}
 use Rattle.bt_output.proofs.Files.{LongAlone, alone, at_any, at_more, ends_more, long_is, match_false, match_true, refused_ends, short_is}
 use Rattle.bt_plan.specs.declared.ending.Limits.{Limits}
@@ -35,17 +37,31 @@ module _ (bytes : List ℕ) (short : length bytes ≤ most_file_bytes) where
   ground_gives read said = match_false _ _ _ (short_is bytes short) (ap ground_output said)
 
   -- the file has a fault
-  pub ground_stopped : (stopped : Stop GroundFault) (a : Side) → (let r : Result Grounded (Stop GroundFault) = Err stopped in Gives r (λ said. said ≡ reads_ground bytes))
+  ground_stopped : (stopped : Stop GroundFault) (a : Side) → (let r : Result Grounded (Stop GroundFault) = Err stopped in Gives r (λ said. said ≡ reads_ground bytes))
       → EndsAt (Grounds (alone bytes)) AreUncalled (Err (stopped_as refusal.Ground stopped)) a a
   ground_stopped (stop.Fault f) a said = refused_ends (Grounds (alone bytes)) AreUncalled (refusal.Ground f) a (λ moments. ground_gives (Err f) said)
   ground_stopped stop.NoMemory a said = refused_ends (Grounds (alone bytes)) AreUncalled refusal.NoMemory a (λ moments. tt)
 
   -- its text was written
-  pub ground_written : (g : Grounded) (exit : Exit) (written : Option (List ℕ)) (faults : ℕ) (a : Side) → (let r : Result Grounded (Stop GroundFault) = Ok g in Gives r (λ said. said ≡ reads_ground bytes))
+  ground_written : (g : Grounded) (exit : Exit) (written : Option (List ℕ)) (faults : ℕ) (a : Side) → (let r : Result Grounded (Stop GroundFault) = Ok g in Gives r (λ said. said ≡ reads_ground bytes))
       → Printed (ground_output (Ok g)) exit a.written a.faults written faults → EndsAt (Grounds (alone bytes)) AreUncalled (Ok exit) a (side written faults a.clock a.drivers)
   ground_written g exit written faults a said printed =
       at_any a.clock (λ moments. Ends (GroundGives bytes) AreUncalled (Ok exit) a (side written faults a.clock a.drivers))
       (λ moments. inl (ground_output (Ok g), ground_gives (Ok g) said, printed a.clock a.drivers a.drivers (λ place. refl)))
+
+-- a ground file was read, whose text is written
+module _ (holds : Option (List ℕ → List ℕ)) (name bytes : List ℕ) (told : Told holds name (λ file. bytes ≡ file)) (short : length bytes ≤ most_file_bytes) where
+  ground_files : (result : Result Exit Refusal) (a b : Side) → EndsAt (Grounds (alone bytes)) AreUncalled result a b → FilesEnd holds (world_alone name) Grounds BeginsNothing result a b
+  ground_files result a b ends = record { files = alone bytes; told = record { tree = tt; world = told; rules = tt }; answers = ends }
+
+  pub ground_refuses : (stopped : Stop GroundFault) (a : Side) → (let r : Result Grounded (Stop GroundFault) = Err stopped in Gives r (λ said. said ≡ reads_ground bytes))
+      → FilesEnd holds (world_alone name) Grounds BeginsNothing (Err (stopped_as refusal.Ground stopped)) a a
+  ground_refuses stopped a said = ground_files (Err (stopped_as refusal.Ground stopped)) a a (ground_stopped bytes short stopped a said)
+
+  pub ground_printed : (g : Grounded) (exit : Exit) (written : Option (List ℕ)) (faults : ℕ) (a : Side) → (let r : Result Grounded (Stop GroundFault) = Ok g in Gives r (λ said. said ≡ reads_ground bytes))
+      → Printed (ground_output (Ok g)) exit a.written a.faults written faults → FilesEnd holds (world_alone name) Grounds BeginsNothing (Ok exit) a (side written faults a.clock a.drivers)
+  ground_printed g exit written faults a said printed =
+      ground_files (Ok exit) a (side written faults a.clock a.drivers) (ground_written bytes short g exit written faults a said printed)
 
 -- ---- Plans
 

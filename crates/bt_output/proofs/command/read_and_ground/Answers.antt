@@ -1,8 +1,9 @@
+use Rattle.std.proofs.Common.{inr}
 use Rattle.std.proofs.lemmas.Result.{err_from_is_err_and}
 use Rattle.bt_output.specs.Grounds.{Grounds}
 use Rattle.bt_output.specs.Output.{BeginsNothing}
-use Rattle.bt_output.proofs.Files.{alone_read, alone_unread}
-use Rattle.bt_output.proofs.Grounds.{ground_stopped, ground_written, long_ground}
+use Rattle.bt_output.proofs.Files.{alone_unread}
+use Rattle.bt_output.proofs.Grounds.{ground_printed, ground_refuses, long_ground}
 use Rattle.bt_output.proofs.command.read_and_ground.Goals as goal
 
 pub returns-in_err-bytes-clause-ends : goal.returns-in_err-bytes-clause-ends
@@ -14,9 +15,9 @@ pub returns-in_err-ground-clause-ends : goal.returns-in_err-ground-clause-ends
 returns-in_err-ground-clause-ends g c =
     let p = err_from_is_err_and c.from_residual-in_err-ground.result c.from_residual-in_err-ground.ensures.1 in
     let read = c.in_ok-bytes.ensures.read in
-    rw (p.1, p.2) (alone_read g.S.Shelf.read_gives g.S.Shelf.faults (g.S.Shelf.holds c.args.outside.now.shelf.now) Grounds BeginsNothing c.args.world.now _ _ _ _ _ _ _ read (ground_stopped _ read.short c.in_err-ground.field-0.0 _ (rw c.as_slice.ensures.value at c.in_err-ground.ensures)))
+    rw (p.1, p.2) (inr (ground_refuses (g.S.Shelf.holds c.args.outside.now.shelf.now) c.args.world.now _ read.told read.short c.in_err-ground.field-0.0 _ (rw c.as_slice.ensures.value at c.in_err-ground.ensures)))
 
 pub returns-clause-ends : goal.returns-clause-ends
 returns-clause-ends g c =
     let read = c.in_ok-bytes.ensures.read in
-    alone_read g.S.Shelf.read_gives g.S.Shelf.faults (g.S.Shelf.holds c.args.outside.now.shelf.now) Grounds BeginsNothing c.args.world.now _ _ _ _ _ _ _ read (ground_written _ read.short _ _ _ _ _ (rw c.as_slice.ensures.value at c.in_ok-ground.ensures) c.print_ground.ensures.printed)
+    inr (ground_printed (g.S.Shelf.holds c.args.outside.now.shelf.now) c.args.world.now _ read.told read.short _ _ _ _ _ (rw c.as_slice.ensures.value at c.in_ok-ground.ensures) c.print_ground.ensures.printed)
