@@ -25,7 +25,7 @@ use Rattle.bt_output.specs.declared.refusal.Refusal.{Refusal}
 use Rattle.bt_output.specs.declared.refusal.Refusal.TheVariants as refusal
 use Rattle.bt_output.specs.Answers.{Answers, AreTold, AtMoments, CommandAnswered, Gave, IfTold, IsRefused, Printed, Side, ToldIfNamed, no_moments, side}
 use Rattle.bt_output.specs.Ends.{CommandEnds, Ends, EndsAt, FilesEnd, IsUntouched}
-use Rattle.bt_output.specs.Files.{Contents, Named, no_files, tree_alone, tree_world_rules, world_alone}
+use Rattle.bt_output.specs.Files.{Contents, Named, no_files, tree_alone, tree_and_world, tree_world_rules, world_alone}
 use Rattle.bt_output.specs.Jobs.{FilesBegin, FilesGive, files_of}
 use Rattle.bt_output.specs.Output.{AreUncalled, Beginning, BeginsNothing, Begun, CourseGives, Ending, Given, Giving, JoinGives, MockGives, Mocks, Output, PrintGives, Prints, ReadGives, RunGives, RunsOn, ScriptMocks, Standing, given, is_too_long, itself, mocked, print_output, refused_as, rules_refused, standing_output, stopped_as, too_long, tree_refused, unread, world_refused}
 use Rattle.bt_outside.specs.declared.shelf.ShelfFault.TheVariants as shelf
@@ -295,6 +295,19 @@ module _ {Shelf : Type 0} (read_gives : Reading Shelf) (faults : Shelf → ℕ) 
   -- all were read
   pub files_read : (named : Named) (files : Contents) (old new : Shelf) (result : Result Exit Refusal) (a b : Side) → AreTold holds named files → EndsAt (Gives files) (Begins files) result a b → Over named old new result a b
   files_read named files old new result a b told ends = inr (record { files = files; told = told; answers = ends })
+
+-- both files of a run were read
+pub both_read : (holds : Option (List ℕ → List ℕ)) (tree world first second : List ℕ) (course : Course) (main : Option (List ℕ)) (result : Result Exit Refusal) (a b : Side) → Told holds tree (λ file. first ≡ file)
+    → Told holds world (λ file. second ≡ file) → EndsAt (CourseGives course main first second) AreUncalled result a b → FilesEnd holds (tree_and_world tree world) (RunsOn course main) BeginsNothing result a b
+both_read holds tree world first second course main result a b of_tree of_world ends =
+    record { files = record { tree = first; world = second; rules = [] }; told = record { tree = of_tree; world = of_world; rules = tt }; answers = ends }
+
+-- the three files of a run of mocks were read
+pub three_read : (holds : Option (List ℕ → List ℕ)) (tree world rules first second third : List ℕ) (main : Option (List ℕ)) (result : Result Exit Refusal) (a b : Side) → Told holds tree (λ file. first ≡ file)
+    → Told holds world (λ file. second ≡ file) → Told holds rules (λ file. third ≡ file) → EndsAt (ScriptMocks main first second third) AreUncalled result a b
+    → FilesEnd holds (tree_world_rules tree world rules) (Mocks main) BeginsNothing result a b
+three_read holds tree world rules first second third main result a b of_tree of_world of_rules ends =
+    record { files = record { tree = first; world = second; rules = third }; told = record { tree = of_tree; world = of_world; rules = of_rules }; answers = ends }
 
 -- the bytes of a world file alone
 abbrev pub alone : List ℕ → Contents

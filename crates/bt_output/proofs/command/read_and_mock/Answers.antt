@@ -1,8 +1,8 @@
-use Rattle.std.proofs.Common.{Some, arith}
+use Rattle.std.proofs.Common.{Some, arith, inr}
 use Rattle.std.proofs.lemmas.Result.{err_from_is_err_and}
 use Rattle.std.specs.Option.{option_copied}
 use Rattle.bt_output.specs.Output.{BeginsNothing, Mocks}
-use Rattle.bt_output.proofs.Files.{long_mock, long_mock_world, long_rules, rules_unread, tree_unread, world_unread}
+use Rattle.bt_output.proofs.Files.{long_mock, long_mock_world, long_rules, rules_unread, three_read, tree_unread, world_unread}
 use Rattle.bt_output.proofs.command.read_and_mock.Goals as goal
 
 pub returns-in_err-tree-clause-ends : goal.returns-in_err-tree-clause-ends
@@ -21,3 +21,9 @@ returns-in_err-rules-clause-ends g c =
     rw (p.1, p.2) (rules_unread g.S.Shelf.read_gives g.S.Shelf.faults (g.S.Shelf.holds c.args.outside.now.shelf.now) (Mocks (option_copied c.args.main)) BeginsNothing c.args.tree.now c.args.world.now c.args.rules.now (long_rules (option_copied c.args.main)) _ _ _ _ _ _ c.in_err-rules.field-0.0 _
     (omega (arith, c.in_ok-tree.ensures.count, c.in_ok-world.ensures.count)) c.in_ok-tree.ensures.read (rw c.in_ok-tree.ensures.holds at c.in_ok-world.ensures.read)
     (rw (c.in_ok-world.ensures.holds, c.in_ok-tree.ensures.holds) at c.in_err-rules.ensures.unread))
+
+pub returns-clause-ends : goal.returns-clause-ends
+returns-clause-ends g c =
+    inr (three_read (g.S.Shelf.holds c.args.outside.now.shelf.now) c.args.tree.now c.args.world.now c.args.rules.now _ _ _ (option_copied c.args.main) _ _ _ c.in_ok-tree.ensures.read.told (rw c.in_ok-tree.ensures.holds at c.in_ok-world.ensures.read.told)
+    (rw (c.in_ok-world.ensures.holds, c.in_ok-tree.ensures.holds) at c.in_ok-rules.ensures.read.told)
+    (rw (c.as_slice.ensures.value, c.as_slice-2.ensures.value, c.as_slice-3.ensures.value) at c.mock_files.ensures.ends))
