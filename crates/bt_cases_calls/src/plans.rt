@@ -93,27 +93,27 @@ fn plans_need_their_drivers(rt: HostRuntime) -> Result<(), Fail> {
     let alloc = rt.alloc();
     for (lines, without, with) in [
         (
-            "condition C when 1 / action T timed 0 / action G gate 1 / goal C",
+            "fact x 1 / condition C is x == 1 / action T timed 0 / action G gate 1 / goal C",
             "refused world NoDriver Condition\nWorld",
             "refused world NoDriver Timed\nWorld",
         ),
         (
-            "action G gate 1 / action T timed 0 / condition C when 1 / goal C",
+            "action G gate 1 / action T timed 0 / fact x 1 / condition C is x == 1 / goal C",
             "refused world NoDriver Gate\nWorld",
             "refused world NoDriver Gate\nWorld",
         ),
         (
-            "condition C when 1 / action R replay 0 S / goal C",
+            "fact x 1 / condition C is x == 1 / action R replay 0 S / goal C",
             "refused world NoDriver Condition\nWorld",
             "refused world NoDriver Replay\nWorld",
         ),
         (
-            "condition C when 0 / goal C",
+            "fact x 0 / condition C is x == 1 / goal C",
             "refused world NoDriver Condition\nWorld",
             "<!-- no plan NoTemplate C -->\nNoPlan",
         ),
         (
-            "condition C when 1 / action T timed 0",
+            "fact x 1 / condition C is x == 1 / action T timed 0",
             "refused world NoGoal\nWorld",
             "refused world NoGoal\nWorld",
         ),
