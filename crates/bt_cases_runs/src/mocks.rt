@@ -207,7 +207,9 @@ fn the_reads_of_mocks_may_fail(rt: HostRuntime) -> Result<(), Fail> {
 
 /// A rules file without rules, and with so many blanks.
 fn padded(alloc: Global, blanks: usize) -> Result<String, NoMemory> {
-    Ok(joined(alloc, &["{}", " ".repeat(alloc, blanks)?.as_str()])?)
+    let blanks = " ".repeat(alloc, blanks)?;
+    let text = joined(alloc, &["{}", blanks.as_str()])?;
+    Ok(text)
 }
 
 /// A rules file is refused by its length before the two others are read as what they are.
@@ -225,7 +227,7 @@ fn rules_may_be_too_long(rt: HostRuntime) -> Result<(), Fail> {
     Ok(())
 }
 
-/// What drivers have counted after rules are refused.
+/// Whether drivers hold anything after these rules, and what they have counted.
 fn counts(alloc: Global, rules: &str) -> Result<String, NoMemory> {
     let tree = tree_of(alloc, "<A/>")?;
     let world = world_of(alloc, "condition A when 1 / tick 1")?;
@@ -239,19 +241,13 @@ fn counts(alloc: Global, rules: &str) -> Result<String, NoMemory> {
     let mut sink = MemSink::new(alloc, Vec::new(alloc));
     let mut clock = MemClock::new(Vec::new(alloc));
     let ending = answer(alloc, &MOCK, &mut shelf, &mut sink, &mut clock)?;
-    Ok(joined(
-        alloc,
-        &[
-            if ending.holds { "held" } else { "" },
-            ending.counts.as_str(),
-        ],
-    )?)
+    Ok(format!(in alloc; "{}{}", ending.holds, ending.counts.as_str())?)
 }
 
 /// No driver is called where rules are refused.
 #[test]
 fn refused_rules_call_nothing(rt: HostRuntime) -> Result<(), Fail> {
-    for (rules, want) in [("{", ""), ("{}", "; Condition 1 0 0 trail 1")] {
+    for (rules, want) in [("{", "false"), ("{}", "false; Condition 1 0 0 trail 1")] {
         assert_eq!(rt; counts(rt.alloc(), rules)?.as_str(), want);
     }
     Ok(())
