@@ -124,13 +124,13 @@ fn ground_files_are_read(rt: HostRuntime) -> Result<(), Fail> {
 fn the_ground_file_may_fail(rt: HostRuntime) -> Result<(), Fail> {
     let alloc = rt.alloc();
     let file = ground_of(alloc, PLACES)?;
-    for (words, fails, want) in [
-        (["ground", "W"], &[1_u64], "refused read world\nRead"),
-        (["gplan", "W"], &[1], "refused read world\nRead"),
-        (["ground", "W"], &[2], SCRIPT),
-        (["gplan", "W"], &[2], PLAN),
+    for (word, failing, want) in [
+        ("ground", 1_u64, "refused read world\nRead"),
+        ("gplan", 1, "refused read world\nRead"),
+        ("ground", 2, SCRIPT),
+        ("gplan", 2, PLAN),
     ] {
-        let text = given(alloc, &words, b"", file.as_bytes(), fails)?;
+        let text = given(alloc, &[word, "W"], b"", file.as_bytes(), &[failing])?;
         assert_eq!(rt; text.as_str(), want);
     }
     Ok(())
