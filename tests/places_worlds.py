@@ -73,6 +73,34 @@ PLANS = [
 ]
 
 
+def ground(name: str, refused: str, place: str, said: str, text: str, words: str = "ground W") -> Case:
+    """A ground file that is refused."""
+    return Case(name, 4, f"refused ground {refused}\n", place, (said, f"({refused})"), ONE, text, words)
+
+
+def grounds_of(*rows: str) -> str:
+    """A ground file of these lines after its header."""
+    return "\n".join(["bt-ground 1", *rows]) + "\n"
+
+
+NESTED = ("forall A s", "forall B s", "forall C s")
+
+GROUNDS = [
+    ground("a ground file without its header", "Header 1", "W:1:1:", "`bt-ground 1`", "bt-ground 2\n"),
+    ground("a block of no variable", "BadLine 3", "W:3:1:", "has not its form", grounds_of("sort s a b", "forall x s")),
+    ground("a mark of no variable", "BadLine 2", "W:2:1:", "upper-case letters", grounds_of("fact f_$x 1")),
+    ground("a value twice", "DoubleName 2", "W:2:1:", "a second time", grounds_of("sort s a a")),
+    ground("a variable of no open block", "NoName 4", "W:4:3:", "no open block", grounds_of("sort s a", "forall X s", "  fact f_$Y 1", "end")),
+    ground("a fourth block", "TooNested 6", "W:6:1:", "three blocks", grounds_of("sort s a", *NESTED, "forall D s")),
+    ground("a seventeenth sort", "TooMany 18", "W:18:1:", "at most 16", grounds_of(*[f"sort s{n} a" for n in range(17)])),
+    ground("a block without its end", "Unended 4", "W:4:1:", "write `end`", grounds_of("sort s a", *NESTED[:2], "end", "fact x 1").replace("end\n", "", 1)),
+    ground("a script too long", "TooManyGround 1228811", "bt: error: W:", "1,048,576",
+           grounds_of(f"sort s {' '.join('abcdefghijklmnop')}", *NESTED, "x" * 299, "end", "end", "end")),
+    ground("a faulty line of the script", "World DoubleName 4", "W:4:1:", "comes from this one",
+           grounds_of("sort s a b", "forall X s", "fact f 1", "end"), "gplan W"),
+]
+
+
 def rules(name: str, refused: str, text: str, *said: str, nodes: str = ONE) -> Case:
     """Mock rules that are refused, or that make of a tree one that is."""
     return Case(name, 10, f"refused rules {refused}\n", "R: error:", said, nodes, lines("tick 1"), "mock T W R", rules=text)
@@ -117,4 +145,4 @@ WORDS = [
     words("an option of another command", "plan W --main M", "'--main' is no option of it"),
 ]
 
-CASES = WORLDS + UNASKED + PLANS + MOCKS + WORDS
+CASES = WORLDS + UNASKED + PLANS + GROUNDS + MOCKS + WORDS

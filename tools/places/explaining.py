@@ -2,6 +2,7 @@
 
 from typing import List
 
+from . import grounds
 from .faults import explained
 from .marks import Finding
 from .opening import open_file, opened
@@ -9,7 +10,7 @@ from .report import Note, Place, Report
 from .rows import lacking
 from .rules import fault_words
 from .source import MOST_BYTES, Source, read
-from .table import RULES, TREE, WORLD
+from .table import GROUND, RULES, TREE, WORLD
 from .traces import faulted
 from .trees import read_file
 from .words import Command, command_of, usage, wrong
@@ -27,6 +28,8 @@ def explanation(status: int, output: bytes, words: List[str]) -> List[str]:
         return []
     if status == 3:
         return of_tree(command, refused(text, "refused tree "))
+    if status == 4 and text.startswith("refused ground "):
+        return of_ground(command, refused(text, "refused ground "))
     if status == 4:
         return of_world(command, refused(text, "refused world "))
     if status == 10:
@@ -81,6 +84,19 @@ def of_world(command: Command, words: str) -> List[str]:
         return [f"{source.name}: error: {WORLD[kind].wrong} ({words}): {WORLD[kind].right}"]
     file = opened(command.tree, command.main) if kind == "NoRow" and command.rules is None else None
     return [] if file is None else lacking(file, world, words)
+
+
+def of_ground(command: Command, words: str) -> List[str]:
+    """The lines for a ground file that was refused."""
+    source = read(command.world or "")
+    fault = None if source is None or len(source.data) > MOST_BYTES else grounds.fault_of(source)
+    if source is None or fault is None or fault[0] != words:
+        return []
+    kind = GROUND[words.split(" ")[0]]
+    span = source.span_of_line(fault[1]) if fault[1] else None
+    place = None if span is None else Place(source, *span)
+    message = f"{kind.wrong} ({words})"
+    return Report("error", message if place else f"{source.name}: {message}", place, "", [kind.right]).lines()
 
 
 def of_rules(command: Command, words: str) -> List[str]:

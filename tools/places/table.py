@@ -65,6 +65,18 @@ WORLD: Dict[str, Kind] = {
     "NoGoal": Kind("the world script has no goal", "write `goal ID` for a condition with `is`"),
 }
 
+GROUND: Dict[str, Kind] = {
+    "Header": Kind("the file does not begin as a ground file", "its first line is `bt-ground 1`"),
+    "BadLine": Kind("the line has not its form or its place", "the forms are in docs/formats.md; `$` and `#` stand before upper-case letters"),
+    "DoubleName": Kind("a name stands a second time", "sorts, the values of a sort, and the variables of open blocks differ"),
+    "NoName": Kind("no earlier line has the sort, or no open block the variable", "write the sort above, or the line in a block of the variable"),
+    "TooNested": Kind("it would be the fourth open block", "at most three blocks stand in one another"),
+    "TooMany": Kind("it is the seventeenth sort", "a file has at most 16 sorts"),
+    "Unended": Kind("the block does not end", "write `end` after its lines"),
+    "TooManyGround": Kind("the world script would be too long", "it has at most 1,048,576 bytes; each block writes its lines once for each value"),
+    "World": Kind("the world script has a faulty line, which comes from this one", "`bt ground` writes the script; its forms are in docs/formats.md"),
+}
+
 RULES: Dict[str, Kind] = {
     "TooLong": Kind("the rules file is too long", "a file has at most 1,048,576 bytes"),
     "Json": Kind("the rules file is no JSON text", "the form of rules is in docs/formats.md"),
