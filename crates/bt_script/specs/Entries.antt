@@ -28,12 +28,6 @@ seen_number slot seen.Absent = Err (NoEntry slot)
 abbrev pub look_of : List Seen → ℕ → Result Value ExecFault
 look_of sights slot = seen_number slot (slice_index_or sights slot seen.Absent)
 
--- an entry that holds no text
-abbrev pub HoldsNoText : Option Value → Type 0
-HoldsNoText (Some (Int n)) = Unit {0}
-HoldsNoText (Some (Text t)) = ⊥
-HoldsNoText None = Unit {0}
-
 -- a value or a fault, and not want of memory
 abbrev pub IsAnswered : {X F : Type 0} → Result X (Stop F) → Type 0
 IsAnswered (Ok x) = Unit {0}

@@ -3,6 +3,7 @@ pub mod Entries
 pub mod Evaluation
 pub mod Grammar
 pub mod Identifiers
+pub mod Names
 pub mod Numbers
 pub mod Operators
 pub mod Options

@@ -225,7 +225,7 @@ fn word(alloc: Global, word: &[u8]) -> Result<Token, NoMemory>
     if word == b"false".as_slice() {
         return Ok(Token::Number(0));
     }
-    let name = Name::of(Vec::from_slice(alloc, word)?);
+    let name = Name::copied(alloc, word)?;
     Ok(Token::Word(name))
 }
 

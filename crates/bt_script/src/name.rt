@@ -1,4 +1,4 @@
-ghost use Rattle.std.specs.Prelude.{◌≡◌, IsUtf8, IfOk};
+ghost use Rattle.std.specs.Prelude.{◌≡◌, ◌≤◌, IsUtf8, IfOk, length, take};
 
 use crate::stop::NoMemory;
 use std::alloc::Global;
@@ -6,20 +6,28 @@ use std::cmp::Ordering;
 use std::hash::{Hash, Hasher};
 use std::marker::Model;
 
-/// Any UTF-8 text: an ID, a key, a file's name. Contracts see its bytes.
+/// The longest text that stands in a name itself.
+const MOST_SHORT: usize = 23;
+
+/// Any UTF-8 text: an ID, a key, a file's name. Contracts see its bytes. A text of up to 23 bytes stands in the name
+/// itself, so that most names take no memory.
 #[derive(Debug, Drop)]
 pub struct Name {
-    bytes: Vec<u8>,
+    long: Vec<u8>,
+    short: [u8; MOST_SHORT],
+    /// How many bytes of `short` are the text. 0 where `long` is the text.
+    len: u8,
 }
 
 impl Model for Name {
-    ghost use Rattle.std.specs.Prelude.{List, ℕ, IsUtf8};
+    ghost use Rattle.std.specs.Prelude.{List, ℕ, ◌≤◌, IsUtf8};
+    ghost use Rattle.bt_script.specs.Names.{text_of};
 
     ghost Value = { List ℕ };
 
-    ghost view = { λ name. name.bytes.items };
+    ghost view = { λ name. text_of name.len name.short name.long.items };
 
-    ghost invariant = { λ name. IsUtf8 name.bytes.items };
+    ghost invariant = { λ name. (name.len ≤ 23) × IsUtf8 (text_of name.len name.short name.long.items) };
 }
 
 impl Name {
@@ -28,7 +36,50 @@ impl Name {
         requires { IsUtf8 bytes.items }
         ensures { result ≡ bytes.items }
     {
-        Name { bytes }
+        if bytes.len() <= MOST_SHORT {
+            Name::short(*bytes.allocator(), bytes.as_slice())
+        } else {
+            Name::long(bytes)
+        }
+    }
+
+    /// A name with these bytes. `NoMemory` where an allocation fails.
+    pub fn copied(alloc: Global, bytes: &[u8]) -> Result<Name, NoMemory>
+        requires { IsUtf8 bytes.now }
+        ensures { IfOk result (λ name. name ≡ bytes.now) }
+    {
+        if bytes.len() <= MOST_SHORT {
+            Ok(Name::short(alloc, bytes))
+        } else {
+            Ok(Name::long(Vec::from_slice(alloc, bytes)?))
+        }
+    }
+
+    /// A name that keeps its bytes apart.
+    fn long(bytes: Vec<u8>) -> Name
+        requires { IsUtf8 bytes.items }
+        ensures { result ≡ bytes.items }
+    {
+        Name {
+            long: bytes,
+            short: [0; MOST_SHORT],
+            len: 0,
+        }
+    }
+
+    /// A name in which its bytes stand, which are few.
+    fn short(alloc: Global, bytes: &[u8]) -> Name
+        requires few { length bytes.now ≤ 23 }
+        requires utf8 { IsUtf8 bytes.now }
+        ensures { result ≡ bytes.now }
+    {
+        let mut short = [0; MOST_SHORT];
+        copy_in(&mut short, bytes);
+        Name {
+            long: Vec::new(alloc),
+            short,
+            len: bytes.len() as u8,
+        }
     }
 
     /// Lends the bytes, which are UTF-8.
@@ -36,24 +87,34 @@ impl Name {
         ensures bytes { result.now ≡ self.now }
         ensures utf8 { IsUtf8 self.now }
     {
-        self.bytes.as_slice()
-    }
-
-    /// Gives the bytes back. It allocates nothing.
-    pub fn into_vec(self) -> Vec<u8>
-        ensures { result.items ≡ self }
-    {
-        let Name { bytes } = self;
-        bytes
+        match usize::from(self.len) {
+            0 => self.long.as_slice(),
+            len => &self.short[..len],
+        }
     }
 
     /// An equal name. `NoMemory` where an allocation fails.
     pub fn copy(&self, alloc: Global) -> Result<Name, NoMemory>
         ensures { IfOk result (λ name. name ≡ self.now) }
     {
-        let bytes = Vec::from_slice(alloc, self.bytes.as_slice())?;
-        Ok(Name { bytes })
+        if self.len > 0 {
+            return Ok(Name {
+                long: Vec::new(alloc),
+                short: self.short,
+                len: self.len,
+            });
+        }
+        Ok(Name::long(Vec::from_slice(alloc, self.long.as_slice())?))
     }
+}
+
+/// Copies the bytes over the front of a room.
+fn copy_in(room: &mut [u8], bytes: &[u8])
+    requires { length bytes.now ≤ length room.old }
+    ensures text { take (length bytes.now) room.new ≡ bytes.now }
+    ensures len { length room.new ≡ length room.old }
+{
+    room[..bytes.len()].copy_from_slice(bytes);
 }
 
 impl PartialEq for Name {
@@ -66,7 +127,7 @@ impl PartialEq for Name {
     ghost laws = { Cmp.partial_equiv_from_equiv nat_list_eq_equiv };
 
     fn eq(&self, other: &Name) -> bool {
-        self.bytes.as_slice() == other.bytes.as_slice()
+        self.list() == other.list()
     }
 }
 
@@ -104,7 +165,7 @@ impl Ord for Name {
     ghost matches_eq = { texts_ties };
 
     fn cmp(&self, other: &Name) -> Ordering {
-        self.bytes.as_slice().cmp(other.bytes.as_slice())
+        self.list().cmp(other.list())
     }
 }
 
@@ -118,6 +179,6 @@ impl Hash for Name {
     ghost respects_eq = { Prim.search (hashing, rules) };
 
     fn hash<H: Hasher>(&self, state: &mut H) {
-        self.bytes.as_slice().hash(state);
+        self.list().hash(state);
     }
 }

@@ -25,7 +25,8 @@ impl StmtCode {
     pub fn postfix(&self) -> &Postfix
         ensures code { result.now.instrs ≡ expression self.now }
         ensures reach { code_reach result.now.instrs ≤ stmt_code_reach self.now }
-        ensures meets { (entries : List (Option Value)) → code_meets (entry_of entries) result.now.instrs ≡ stmt_code_meets self.now entries }
+        ensures meets { (entries : List (Option Value)) →
+            code_meets (entry_of entries) result.now.instrs ≡ stmt_code_meets self.now entries }
         ensures fault { (entries : List (Option Value)) (f : ExecFault) →
             code_value (entry_of entries) result.now.instrs ≡ Err f → (stmt_run self.now entries).answer ≡ Err f }
     {

@@ -112,8 +112,10 @@ fn turn_at<C, S: Stack<C>>(
     ensures room { IfOk result (λ next. fits_from S.room code.now next (length (S.values stack.new)) ≡ true) }
     ensures on { IfOk result (λ next. place < next) }
     ensures met { let look = S.gives slots.now in
-        meets_from look code.now place (S.values stack.old) ≡ false → IfOk result (λ next. meets_from look code.now next (S.values stack.new) ≡ false) }
-    ensures answered { S.numbers ≡ true → meets_from (S.gives slots.now) code.now place (S.values stack.old) ≡ false → IsAnswered result }
+        meets_from look code.now place (S.values stack.old) ≡ false →
+            IfOk result (λ next. meets_from look code.now next (S.values stack.new) ≡ false) }
+    ensures answered { S.numbers ≡ true →
+        meets_from (S.gives slots.now) code.now place (S.values stack.old) ≡ false → IsAnswered result }
 {
     match turn(&code[place], place + 1, slots, stack) {
         Ok(next) => Ok(next),
