@@ -10,9 +10,9 @@ ghost use Rattle.bt_elements.specs.Reading.{Scans, after_white, begins, followin
 use crate::mark::{Front, Mark, NoMark};
 use crate::reference::decode;
 use bt_script::{Items, Name, NoMemory, Stop, is_identifier_start, is_white};
+use indexmap::IndexSet;
 use memchr::{memchr2, memchr3};
 use std::alloc::Global;
-use std::collections::BTreeSet;
 
 /// Whether a name may begin with the byte.
 fn name_first(c: u8) -> bool
@@ -165,7 +165,7 @@ fn name_at(alloc: Global, bytes: &[u8]) -> Result<(Name, &[u8]), Stop<NoMark>>
         return Err(Stop::Fault(NoMark));
     }
     let (name, rest) = bytes.split_at(name_len(bytes));
-    let name = Name::of(Vec::from_slice(alloc, name)?);
+    let name = Name::copied(alloc, name)?;
     Ok((name, rest))
 }
 
@@ -271,7 +271,7 @@ pub fn single_names(alloc: Global, attributes: &[(Name, Name)]) -> Result<bool, 
     if attributes.len() <= FEW_NAMES {
         return Ok(few_single_names(attributes));
     }
-    let mut names = BTreeSet::new(alloc);
+    let mut names = IndexSet::new(alloc);
     for (name, _) in attributes {
         if !names.insert(name.list())? {
             return Ok(false);

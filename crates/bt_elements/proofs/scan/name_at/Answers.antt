@@ -1,12 +1,11 @@
-use Rattle.std.proofs.Common.{◌∙◌}
 use Rattle.bt_elements.specs.Marks.{is_name_rest}
 use Rattle.bt_elements.proofs.Cuts.{front_cut, rest_cut, name_stops}
 use Rattle.bt_elements.proofs.scan.name_at.Goals as goal
 
-pub of-name-requires : goal.of-name-requires
-of-name-requires c =
-    front_cut is_name_rest c.args.bytes.now c.in_ok-from_slice.field-0.items c.name_len.result name_stops c.requires
-    (c.in_ok-from_slice.ensures.items ∙ c.split_at.ensures.front) c.name_len.ensures.value
+pub copied-requires : goal.copied-requires
+copied-requires c =
+    front_cut is_name_rest c.args.bytes.now c.split_at.result.0.now c.name_len.result name_stops c.requires
+    c.split_at.ensures.front c.name_len.ensures.value
 
 pub returns-clause-utf8 : goal.returns-clause-utf8
 returns-clause-utf8 c =
