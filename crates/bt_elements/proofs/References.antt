@@ -42,6 +42,10 @@ decoded_plain (c ∷ cs) more h =
     let t = both (is_plain_byte c) (list_all is_plain_byte cs) h in
     rw t.0 (ap (λ (z : List ℕ). c ∷ z) (decoded_plain cs more t.1))
 
+-- a value without an `&` says itself
+pub all_plain : (value : List ℕ) → list_all is_plain_byte value ≡ true → decoded value ≡ value
+all_plain value h = ap decoded (sym (append-nil value)) ∙ decoded_plain value [] h ∙ append-nil value
+
 abbrev pub after_ampersand : List ℕ → ℕ → Option (ℕ × ℕ) → List ℕ
 after_ampersand cs c o = elim o [ Some r ↦ encode_utf8 r.0 ++ decoded_from r.1 cs | None ↦ c ∷ decoded_from 0 cs ]
 

@@ -110,8 +110,27 @@ fn push(said: &mut Vec<u8>, c: char) -> Result<(), NoMemory>
     Ok(())
 }
 
+/// Whether no reference begins in the value.
+fn is_plain(value: &[u8]) -> bool
+    ensures { result ≡ list_all is_plain_byte value.now }
+{
+    value.iter().all(|c| plain_byte(*c))
+}
+
 /// What a value says: each reference in it stands for its character. `NoMemory` where an allocation fails.
+#[tactic(auto, using(crate::proofs::References::all_plain))]
 pub fn decode(alloc: Global, value: &[u8]) -> Result<Name, NoMemory>
+    requires { IsUtf8 value.now }
+    ensures { IfOk result (λ name. name ≡ decoded value.now) }
+{
+    if is_plain(value) {
+        return Ok(Name::copied(alloc, value)?);
+    }
+    decode_references(alloc, value)
+}
+
+/// What a value says, part by part.
+fn decode_references(alloc: Global, value: &[u8]) -> Result<Name, NoMemory>
     requires { IsUtf8 value.now }
     ensures { IfOk result (λ name. name ≡ decoded value.now) }
 {

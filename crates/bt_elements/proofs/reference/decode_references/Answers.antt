@@ -5,7 +5,7 @@ use Rattle.std.specs.Str.{IsUtf8}
 use Rattle.bt_elements.specs.References.{decoded, reference_of}
 use Rattle.bt_elements.proofs.Cuts.{cut_following}
 use Rattle.bt_elements.proofs.References.{plain_cut, ampersand, ampersand_ascii, ampersand_utf8, last_part, reference_said, ampersand_said, after_reference}
-use Rattle.bt_elements.proofs.reference.decode.Goals as goal
+use Rattle.bt_elements.proofs.reference.decode_references.Goals as goal
 
 pub of-requires : goal.of-requires
 of-requires c =

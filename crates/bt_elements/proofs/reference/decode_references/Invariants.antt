@@ -1,7 +1,7 @@
 use Rattle.std.proofs.Common.{◌≡◌, ◌++◌, length}
 use Rattle.std.specs.Str.{IsUtf8}
 use Rattle.bt_elements.specs.References.{decoded}
-use Rattle.bt_elements.proofs.reference.decode.Given as goal
+use Rattle.bt_elements.proofs.reference.decode_references.Given as goal
 
 abbrev pub invariant-parts : goal.invariant-parts
 invariant-parts l = record {
