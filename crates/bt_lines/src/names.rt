@@ -18,13 +18,15 @@ pub fn name_of(alloc: Global, word: &[u8]) -> Result<Name, NoMemory>
     requires { IsTrue (worlds.is_name word.now) }
     ensures { IfOk result (λ name. name ≡ word.now) }
 {
-    let bytes = Vec::from_slice(alloc, word)?;
-    Ok(Name::of(bytes))
+    Name::copied(alloc, word)
 }
 
 /// The words as names. None where one of them is no name.
 pub fn names_of(alloc: Global, words: &[&[u8]]) -> Result<Option<Vec<Name>>, NoMemory>
-    ensures { IfOk result (λ names. MatchOption names (list_all worlds.is_name (map (λ word. word.now) words.now) ≡ false) (λ v. (list_all worlds.is_name (map (λ word. word.now) words.now) ≡ true) × (v.items ≡ map (λ word. word.now) words.now))) }
+    ensures { IfOk result (λ names.
+        MatchOption names (list_all worlds.is_name (map (λ word. word.now) words.now) ≡ false)
+        (λ v. (list_all worlds.is_name (map (λ word. word.now) words.now) ≡ true)
+        × (v.items ≡ map (λ word. word.now) words.now))) }
 {
     let mut names = Vec::new(alloc);
     for word in words {

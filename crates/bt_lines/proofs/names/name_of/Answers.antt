@@ -1,4 +1,4 @@
-use Rattle.std.proofs.Common.{◌≡◌, ℕ, true, List, subst, sym}
+use Rattle.std.proofs.Common.{◌≡◌, ℕ, true, List}
 use Rattle.std.specs.Str.{IsUtf8}
 use Rattle.bt_script.specs.Identifiers.{is_identifier}
 use Rattle.bt_script.proofs.Bools.{both}
@@ -10,5 +10,5 @@ use Rattle.bt_lines.proofs.names.name_of.Goals as goal
 IsUtf8-from_is_name : (word : List ℕ) → is_name word ≡ true → IsUtf8 word
 IsUtf8-from_is_name word h = IsUtf8-from_is_identifier word (both (is_identifier word) _ h).0
 
-pub of-requires : goal.of-requires
-of-requires c = subst IsUtf8 (sym c.in_ok-bytes.ensures.items) (IsUtf8-from_is_name c.args.word.now c.requires)
+pub copied-requires : goal.copied-requires
+copied-requires c = IsUtf8-from_is_name c.args.word.now c.requires
