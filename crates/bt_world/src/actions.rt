@@ -144,7 +144,8 @@ fn compare(
     requires named { IsTrue (worlds.is_name id.now) }
     requires canonical { numbers.is_canonical number.now ≡ true }
     requires open { reading.old.open_row ≡ None }
-    ensures { Leaves result reading.new (λ said. said ≡ ranged (is_int (signed_digits_value 10 number.now)) (with_comparison id.now fact.now op (signed_digits_value 10 number.now) reading.old)) }
+    ensures { let n = signed_digits_value 10 number.now in
+        Leaves result reading.new (λ said. said ≡ ranged (is_int n) (with_comparison id.now fact.now op n reading.old)) }
 {
     let Some(value) = int(number) else {
         return Err(Stop::Fault(WorldKind::Range));

@@ -23,7 +23,8 @@ pub record HasRoom (rows : List Row) (draft : Option Draft) : Type 0 where
 
 -- the ID and the ports of a row whose names are known and whose ports are not too many, or else the fault
 abbrev pub Allowed : Result (List ℕ × List (List ℕ)) (Stop WorldKind) → List ℕ → List (List ℕ) → RowSort → Reading → Type 0
-Allowed (Ok head) id ports sort r = (head.0 ≡ id) × (head.1 ≡ ports) × (knows_sort ports r.facts sort ≡ true) × (nat_lt most_ports (length ports) ≡ false)
+Allowed (Ok head) id ports sort r =
+    (head.0 ≡ id) × (head.1 ≡ ports) × (knows_sort ports r.facts sort ≡ true) × (nat_lt most_ports (length ports) ≡ false)
 Allowed (Err stop.NoMemory) id ports sort r = Unit {0}
 Allowed (Err (stop.Fault NoName)) id ports sort r = knows_sort ports r.facts sort ≡ false
 Allowed (Err (stop.Fault TooMany)) id ports sort r = (knows_sort ports r.facts sort ≡ true) × (nat_lt most_ports (length ports) ≡ true)
@@ -42,6 +43,7 @@ HeadChecked result id ports sort r = (is_double r id ports ≡ false) × Allowed
 -- a draft of a row that may be added, however it is, or the fault of its head
 abbrev pub DraftSays : Result Draft (Stop WorldKind) → Head → RowSort → Reading → Type 0
 DraftSays (Ok draft) head sort r =
-    (list_any (bytes_eq draft.id) (ids_of_rows r.rows) ≡ false) × ((add : Row → Reading → Result Reading WorldKind) → with_head head add sort r ≡ add (row_of draft) r)
+    (list_any (bytes_eq draft.id) (ids_of_rows r.rows) ≡ false)
+    × ((add : Row → Reading → Result Reading WorldKind) → with_head head add sort r ≡ add (row_of draft) r)
 DraftSays (Err stop.NoMemory) head sort r = Unit {0}
 DraftSays (Err (stop.Fault kind)) head sort r = (add : Row → Reading → Result Reading WorldKind) → with_head head add sort r ≡ Err kind

@@ -28,7 +28,8 @@ impl Model for Ports {
 impl Ports {
     /// These ports. None where one of them stands twice.
     pub fn of(alloc: Global, names: Vec<Name>) -> Result<Option<Ports>, NoMemory>
-        ensures { IfOk result (λ ports. MatchOption ports (repeats [] names.items ≡ true) (λ p. (repeats [] names.items ≡ false) × (p ≡ names.items))) }
+        ensures { IfOk result (λ ports.
+            MatchOption ports (repeats [] names.items ≡ true) (λ p. (repeats [] names.items ≡ false) × (p ≡ names.items))) }
     {
         let mut set = IndexSet::new(alloc);
         for name in names.as_slice() {

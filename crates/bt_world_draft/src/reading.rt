@@ -101,6 +101,17 @@ impl Reading {
     pub fn close(&mut self, alloc: Global) -> Result<(), NoMemory>
         ensures { OnOk result (self.new ≡ closed self.old) }
     {
+        if self.is_open() {
+            return self.close_open(alloc);
+        }
+        Ok(())
+    }
+
+    /// Takes the open action among the rows. It stands apart, since most lines find none and need no room for one.
+    #[inline(never)]
+    fn close_open(&mut self, alloc: Global) -> Result<(), NoMemory>
+        ensures { OnOk result (self.new ≡ closed self.old) }
+    {
         if let Some(draft) = self.draft.take() {
             self.rows.add(alloc, draft.into_row())?;
         }
@@ -298,7 +309,8 @@ impl Reading {
 
     /// Adds an output to the open action. The fault `BadLine` where none is open, and as for `Draft::add_out`.
     pub fn add_out(&mut self, out: Out) -> Result<(), Stop<WorldKind>>
-        ensures { Leaves result self.new (λ said. said ≡ with_open self.old.open_row self.old (row_with_out self.old.facts out.port out.expr)) }
+        ensures { Leaves result self.new (λ said.
+            said ≡ with_open self.old.open_row self.old (row_with_out self.old.facts out.port out.expr)) }
     {
         match &mut self.draft {
             Some(draft) => draft.add_out(&self.facts, out),
