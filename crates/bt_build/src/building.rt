@@ -8,7 +8,7 @@ ghost use Rattle.bt_build.specs.Reads.{main_of, main_read, most_levels, only_id,
 ghost use Rattle.bt_build.specs.Seen.{file_seen, trees_seen};
 
 use crate::fault::BuildFault;
-use crate::tree::{File, Numbers, read_node};
+use crate::tree::{File, Numbers, Place, read_node};
 use crate::trees::{Trees, not_root, tree_of, trees_of};
 use crate::version::{Version, version_in};
 use crate::working::is_within_work;
@@ -60,7 +60,6 @@ fn most_levels() -> u32
 
 /// The term of a root node, whose tree has this ID, and the numbers after it.
 fn read_root(
-    alloc: Global,
     file: &File<'_>,
     root: &Element,
     id: &Name,
@@ -72,7 +71,11 @@ fn read_root(
         scopes: 1,
     };
     let opened = [id];
-    read_node(alloc, file, most_levels(), root, opened.as_slice(), numbers)
+    let place = Place {
+        left: most_levels(),
+        opened: opened.as_slice(),
+    };
+    read_node(file, place, root, numbers)
 }
 
 /// The tree, if it is within the limits of slots and of work. Else the fault `TooManyKeys` or `TooMuchWork`.
@@ -98,7 +101,7 @@ fn root_read(
 ) -> Result<Tree, Stop<BuildFault>>
     ensures { Gives result (root_read (file_seen file.now) id.now root.now) }
 {
-    let (term, _) = read_root(alloc, file, root, id)?;
+    let (term, _) = read_root(file, root, id)?;
     let main = id.copy(alloc)?;
     within_limits(alloc, Tree { main, term })
 }
@@ -132,6 +135,7 @@ fn trees_read(
     ensures { Gives result (trees_read models.now (option_copied asked.entry) attributes.now version (trees_seen trees.entry.entries)) }
 {
     let file = File {
+        alloc,
         trees,
         models,
         version,

@@ -75,7 +75,16 @@ fn any_private(attributes: &[(Name, Name)]) -> bool
 
 /// No guards.
 fn no_guards() -> Guards
-    ensures { result ≡ record { failure_if = None; success_if = None; skip_if = None; while_true = None; on_success = None; on_failure = None; post = None; on_halted = None } }
+    ensures { result ≡ record {
+      failure_if = None;
+      success_if = None;
+      skip_if = None;
+      while_true = None;
+      on_success = None;
+      on_failure = None;
+      post = None;
+      on_halted = None;
+    } }
 {
     Guards {
         failure_if: None,
@@ -97,6 +106,7 @@ fn put(place: &mut Option<Script>, guard: Option<Script>)
 }
 
 /// Puts the guards of a node in their places, each looked for by its name. The fault is the first one's.
+#[inline(never)]
 fn put_guards(
     alloc: Global,
     uid: u32,

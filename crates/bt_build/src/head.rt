@@ -50,7 +50,7 @@ fn plain_head(alloc: Global, kind: Kind, id: &[u8]) -> Result<Option<Head>, NoMe
 {
     Ok(Some(Head {
         kind,
-        id: Name::of(Vec::from_slice(alloc, id)?),
+        id: Name::copied(alloc, id)?,
         form: Form::Plain,
     }))
 }
@@ -96,7 +96,8 @@ pub fn id_or_empty(alloc: Global, attributes: &[(Name, Name)]) -> Result<Name, N
 
 /// The node that an element is in a file of this version. None where it is none.
 pub fn head_of(alloc: Global, version: Version, element: &Element) -> Result<Option<Head>, NoMemory>
-    ensures { IfOk result (λ head. head ≡ head_of version (name_of element.now) (attributes_of element.now) (length (children_of element.now))) }
+    ensures { let e = element.now in
+        IfOk result (λ head. head ≡ head_of version (name_of e) (attributes_of e) (length (children_of e))) }
 {
     let name = element.name.list();
     let attributes = element.attributes.list();

@@ -29,7 +29,7 @@ fn with_port(
 {
     match value(alloc, range, name, text)? {
         Some(value) => {
-            let name = Name::of(Vec::from_slice(alloc, name)?);
+            let name = Name::copied(alloc, name)?;
             ports.push(Port { name, value })?;
             Ok(ports)
         }
@@ -44,11 +44,11 @@ fn with_attribute(
     with_code: bool,
     rules: Rules<'_>,
     ports: Vec<Port>,
-    name: &Name,
-    text: &Name,
+    attribute: &(Name, Name),
 ) -> Result<Vec<Port>, Stop<BuildFault>>
-    ensures { GivesList result (with_attribute uid with_code (rules_seen rules.entry) ports.items (name.now, text.now)) }
+    ensures { GivesList result (with_attribute uid with_code (rules_seen rules.entry) ports.items attribute.now) }
 {
+    let (name, text) = attribute;
     let name = name.list();
     if !is_port(with_code, name) {
         return Ok(ports);
@@ -72,8 +72,8 @@ fn written(
     ensures { GivesList result (with_written uid with_code (rules_seen rules.entry) [] attributes.now) }
 {
     let mut ports = Vec::new(alloc);
-    for (name, text) in attributes {
-        ports = with_attribute(alloc, uid, with_code, rules, ports, name, text)?;
+    for attribute in attributes {
+        ports = with_attribute(alloc, uid, with_code, rules, ports, attribute)?;
     }
     Ok(ports)
 }

@@ -26,9 +26,19 @@ pub struct Numbers {
 /// read.
 #[derive(Drop)]
 pub struct File<'a> {
+    pub alloc: Global,
     pub trees: Trees<'a>,
     pub models: &'a Manifest,
     pub version: Version,
+}
+
+/// Where a node stands.
+#[derive(Clone, Copy)]
+pub struct Place<'a> {
+    /// How many levels are left for it and for all below it.
+    pub left: u32,
+    /// The IDs of the trees that are being opened.
+    pub opened: &'a [&'a Name],
 }
 
 /// Whether the tree of this ID is being opened.
@@ -99,47 +109,45 @@ fn term_of(
     })
 }
 
-/// Some nodes, one after another, where so many levels are left for each, and the numbers after them; or the first
-/// fault.
+/// Some nodes, one after another, of which each stands at this place, and the numbers after them; or the first fault.
 #[cycle(walk)]
 fn nodes_by(
-    alloc: Global,
     file: &File<'_>,
-    left: u32,
-    opened: &[&Name],
+    place: Place<'_>,
     elements: &[Element],
     numbers: Numbers,
 ) -> Result<(Items<Term>, Numbers), Stop<BuildFault>>
-    ensures { Gives result (nodes_by (read_node (file_seen file.now) left) (ids_seen opened.now) elements.now numbers) }
+    ensures { let p = place.entry in
+        Gives result (nodes_by (read_node (file_seen file.now) p.left) (ids_seen p.opened.now) elements.now numbers) }
 {
-    let mut terms = Vec::with_capacity(alloc, elements.len())?;
+    let mut terms = Vec::with_capacity(file.alloc, elements.len())?;
     let mut so_far = numbers;
     for element in elements {
-        let (term, next) = read_node(alloc, file, left, element, opened, so_far)?;
+        let (term, next) = read_node(file, place, element, so_far)?;
         terms.push(term)?;
         so_far = next;
     }
     Ok((Items::of(terms), so_far))
 }
 
-/// A node of this kind and ID, with these elements as its children, and the numbers after it; or the first fault.
+/// The node that was counted last, of this kind and ID, with these elements as its children, and the numbers after it;
+/// or the first fault.
 #[cycle(walk)]
 fn node_of(
-    alloc: Global,
     file: &File<'_>,
-    left: u32,
+    place: Place<'_>,
     head: Head,
     attributes: &[(Name, Name)],
-    opened: &[&Name],
     children: &[Element],
     numbers: Numbers,
-    uid: u32,
 ) -> Result<(Term, Numbers), Stop<BuildFault>>
-    ensures { Gives result (node_of (file_seen file.now).models (read_node (file_seen file.now) left) head attributes.now (ids_seen opened.now) children.now numbers uid) }
+    ensures { let f = file_seen file.now in let p = place.entry in
+        Gives result (node_of f.models (read_node f p.left) head attributes.now (ids_seen p.opened.now)
+        children.now numbers numbers.nodes) }
 {
-    let content = content_in(alloc, uid, file.models, &head, attributes)?;
-    let (terms, numbers) = nodes_by(alloc, file, left, opened, children, numbers)?;
-    let term = term_of(alloc, head, attributes, content, terms)?;
+    let content = content_in(file.alloc, numbers.nodes, file.models, &head, attributes)?;
+    let (terms, numbers) = nodes_by(file, place, children, numbers)?;
+    let term = term_of(file.alloc, head, attributes, content, terms)?;
     Ok((term, numbers))
 }
 
@@ -147,23 +155,22 @@ fn node_of(
 /// `NoTree`, `Recursive`, `TooManyScopes` and `ChildCount`, in this order.
 #[cycle(walk)]
 fn opened_by(
-    alloc: Global,
     file: &File<'_>,
-    left: u32,
+    place: Place<'_>,
     head: Head,
     element: &Element,
-    opened: &[&Name],
     numbers: Numbers,
 ) -> Result<(Term, Numbers), Stop<BuildFault>>
     requires { numbers.nodes < 4096 }
-    ensures { Gives result (opened_by (file_seen file.now) (read_node (file_seen file.now) left) head element.now (ids_seen opened.now) numbers (tree_of head.id (file_seen file.now).trees)) }
+    ensures { let f = file_seen file.now in let p = place.entry in
+        Gives result (opened_by f (read_node f p.left) head element.now (ids_seen p.opened.now) numbers (tree_of head.id f.trees)) }
 {
     let Some(tree) = tree_of(&file.trees, &head.id) else {
-        let id = head.id.copy(alloc)?;
+        let id = head.id.copy(file.alloc)?;
         return Err(Stop::Fault(BuildFault::NoTree { id }));
     };
-    if is_opened(opened, &head.id) {
-        let id = head.id.copy(alloc)?;
+    if is_opened(place.opened, &head.id) {
+        let id = head.id.copy(file.alloc)?;
         return Err(Stop::Fault(BuildFault::Recursive { id }));
     }
     if numbers.scopes >= MOST_SCOPES {
@@ -174,42 +181,35 @@ fn opened_by(
     if !element.children.list().is_empty() || roots.len() != 1 {
         return Err(Stop::Fault(BuildFault::ChildCount { uid }));
     }
-    let own = head.id.copy(alloc)?;
-    let inner = with_opened(alloc, &*opened, &own)?;
+    let own = head.id.copy(file.alloc)?;
+    let inner = with_opened(file.alloc, &*place.opened, &own)?;
+    let inside = Place {
+        left: place.left,
+        opened: inner.as_slice(),
+    };
     let numbers = Numbers {
         nodes: uid,
         scopes: numbers.scopes + 1,
     };
     let attributes = element.attributes.list();
-    node_of(
-        alloc,
-        file,
-        left,
-        head,
-        attributes,
-        inner.as_slice(),
-        roots,
-        numbers,
-        uid,
-    )
+    node_of(file, inside, head, attributes, roots, numbers)
 }
 
 /// A node by its kind, and the numbers after it, or the first fault.
 #[cycle(walk)]
 fn node_by(
-    alloc: Global,
     file: &File<'_>,
-    left: u32,
+    place: Place<'_>,
     head: Head,
     element: &Element,
-    opened: &[&Name],
     numbers: Numbers,
 ) -> Result<(Term, Numbers), Stop<BuildFault>>
     requires { numbers.nodes < 4096 }
-    ensures { Gives result (node_by (file_seen file.now) (read_node (file_seen file.now) left) head element.now (ids_seen opened.now) numbers) }
+    ensures { let f = file_seen file.now in let p = place.entry in
+        Gives result (node_by f (read_node f p.left) head element.now (ids_seen p.opened.now) numbers) }
 {
     if is_subtree(head.kind) {
-        return opened_by(alloc, file, left, head, element, opened, numbers);
+        return opened_by(file, place, head, element, numbers);
     }
     let uid = numbers.nodes + 1;
     let children = element.children.list();
@@ -221,32 +221,33 @@ fn node_by(
         scopes: numbers.scopes,
     };
     let attributes = element.attributes.list();
-    node_of(
-        alloc, file, left, head, attributes, opened, children, numbers, uid,
-    )
+    node_of(file, place, head, attributes, children, numbers)
 }
 
-/// A node, where so many levels are left for it and for all below it, and the numbers after it; or the first fault.
+/// The node that stands at this place, and the numbers after it; or the first fault.
 #[cycle(walk)]
 pub fn read_node(
-    alloc: Global,
     file: &File<'_>,
-    left: u32,
+    place: Place<'_>,
     element: &Element,
-    opened: &[&Name],
     numbers: Numbers,
 ) -> Result<(Term, Numbers), Stop<BuildFault>>
-    ensures { Gives result (read_node (file_seen file.now) left element.now (ids_seen opened.now) numbers) }
+    ensures { let p = place.entry in
+        Gives result (read_node (file_seen file.now) p.left element.now (ids_seen p.opened.now) numbers) }
 {
     if numbers.nodes >= MOST_NODES {
         return Err(Stop::Fault(BuildFault::TooManyNodes));
     }
     let uid = numbers.nodes + 1;
-    if left == 0 {
+    if place.left == 0 {
         return Err(Stop::Fault(BuildFault::TooDeep { uid }));
     }
-    match head_of(alloc, file.version, element)? {
-        Some(head) => node_by(alloc, file, left - 1, head, element, opened, numbers),
+    let below = Place {
+        left: place.left - 1,
+        opened: place.opened,
+    };
+    match head_of(file.alloc, file.version, element)? {
+        Some(head) => node_by(file, below, head, element, numbers),
         None => Err(Stop::Fault(BuildFault::UnknownNode { uid })),
     }
 }

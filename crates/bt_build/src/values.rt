@@ -31,7 +31,7 @@ fn key_value(alloc: Global, key: &[u8]) -> Result<Option<PortValue>, NoMemory>
     if !is_identifier(key) {
         return Ok(None);
     }
-    Ok(Some(PortValue::Key(Name::of(Vec::from_slice(alloc, key)?))))
+    Ok(Some(PortValue::Key(Name::copied(alloc, key)?)))
 }
 
 /// What a text that is not in braces says at a port of this range. None where it may not stand there.

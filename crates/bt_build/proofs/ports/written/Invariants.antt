@@ -3,7 +3,7 @@ use Rattle.bt_build.specs.Content.{with_written}
 use Rattle.bt_build.specs.Seen.{rules_seen}
 use Rattle.bt_build.proofs.ports.written.Given as goal
 
-abbrev pub invariant-loop-name : goal.invariant-loop-name
-invariant-loop-name l =
-    with_written l.uid l.with_code (rules_seen l.rules) l.ports.items (drop l.name-index l.attributes)
+abbrev pub invariant-loop-attribute : goal.invariant-loop-attribute
+invariant-loop-attribute l =
+    with_written l.uid l.with_code (rules_seen l.rules) l.ports.items (drop l.attribute-index l.attributes)
     ≡ with_written l.uid l.with_code (rules_seen l.rules) [] l.attributes
