@@ -1,5 +1,5 @@
 -- A word that begins with a digit has no sign.
-use Rattle.std.proofs.Common.{◌≡◌, ℕ, ◌==◌, Bool, true, false, cond, List, ◌∷◌, ℤ, pos, neg_ℤ, drop, refl, arith}
+use Rattle.std.proofs.Common.{◌≡◌, ℕ, ◌==◌, true, false, List, ◌∷◌, pos, refl, arith}
 use Rattle.std.specs.Char.{is_ascii_digit}
 use Rattle.std.specs.Str.Parse.{digits_value, signed_digits_value}
 use Rattle.std.proofs.lemmas.Bool.Decides.{nat_tests}
