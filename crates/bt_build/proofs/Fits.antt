@@ -1,5 +1,5 @@
 -- Every node of a tree that is read fits its kind.
-use Rattle.std.proofs.Common.{◌≡◌, ℕ, zero, suc, ◌+◌, Bool, true, false, List, [], ◌∷◌, ◌++◌, map, length, codes, Option, Some, None, Result, Ok, Err, refl, ap, sym, ◌∙◌, subst}
+use Rattle.std.proofs.Common.{◌≡◌, ℕ, zero, suc, ◌+◌, Bool, true, false, List, [], ◌∷◌, ◌++◌, map, length, Option, Some, None, Result, Ok, Err, refl, ap, sym, ◌∙◌, subst}
 use Rattle.std.specs.Prelude.{not, ◌&&◌, nat_eq, nat_le, if◌then◌else◌, is_some, flat_map, IfOk}
 use Rattle.std.specs.List.{list_all, AllByRecursion}
 use Rattle.std.proofs.lemmas.List.{length-map}
@@ -20,7 +20,7 @@ use Rattle.bt_model.specs.declared.term.Tree.{Tree}
 use Rattle.bt_model.specs.BuiltIns.{takes}
 use Rattle.bt_model.specs.Names.{is_among}
 use Rattle.bt_model.specs.Trees.{IsValid, Node, NodeFits, nodes_of, nodes_step}
-use Rattle.bt_manifest.specs.Attributes.{Attributes, value_of}
+use Rattle.bt_manifest.specs.Attributes.{Attributes}
 use Rattle.bt_manifest.specs.Models.{Models, attributes_of, children_of, manifest_in, name_of}
 use Rattle.bt_manifest.specs.Steps.{go_on}
 use Rattle.bt_build.specs.declared.content.Content.{Content}
@@ -30,7 +30,7 @@ use Rattle.bt_build.specs.declared.head.Head.{Head}
 use Rattle.bt_build.specs.declared.tree.Numbers.{Numbers}
 use Rattle.bt_build.specs.Content.{content_in, refused_if}
 use Rattle.bt_build.specs.Heads.{head_of, id_or_empty}
-use Rattle.bt_build.specs.Reads.{File, Reader, Trees, is_subtree, is_tree, known, main_of, main_read, most_levels, named_read, no_numbers, node_in, node_of, node_with, nodes_by, not_root, one_node_more, one_scope_more, opened_by, plain_by, read_node, read_root, reads, root_read, roots_read, term_of, tree_of, trees_read, with_first, with_id, with_tree, with_trees, within_limits}
+use Rattle.bt_build.specs.Reads.{File, Reader, Trees, is_subtree, is_tree, known, main_of, main_read, most_levels, named_read, no_numbers, node_in, node_of, node_with, nodes_by, one_node_more, one_scope_more, opened_by, plain_by, read_node, read_root, reads, root_read, roots_read, term_of, tree_of, with_first, with_id, with_tree, with_trees, within_limits}
 use Rattle.bt_build.proofs.ContentFits.{ContentStands, Fitting, content_fits, content_stands}
 use Rattle.bt_build.proofs.ElementTexts.{element_stands, found, head_stands, id_stands, name_in_stands}
 use Rattle.bt_build.proofs.HeadFits.{HeadFits, head_fits}

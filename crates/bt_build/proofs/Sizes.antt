@@ -19,7 +19,7 @@ use Rattle.bt_manifest.specs.Models.{Models, attributes_of, children_of, name_of
 use Rattle.bt_manifest.specs.Steps.{go_on}
 use Rattle.bt_build.specs.declared.content.Content.{Content}
 use Rattle.bt_build.specs.declared.fault.BuildFault.{BuildFault}
-use Rattle.bt_build.specs.declared.fault.BuildFault.TheVariants.{Format, TooManyNodes, TooDeep, Recursive, TooManyScopes, ChildCount, TooManyKeys, TooMuchWork}
+use Rattle.bt_build.specs.declared.fault.BuildFault.TheVariants.{TooManyNodes, TooDeep, Recursive, TooManyScopes, ChildCount, TooManyKeys, TooMuchWork}
 use Rattle.bt_build.specs.declared.head.Head.{Head}
 use Rattle.bt_build.specs.declared.tree.Numbers.{Numbers}
 use Rattle.bt_build.specs.declared.version.Version.{Version}
