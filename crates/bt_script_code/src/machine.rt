@@ -113,7 +113,7 @@ fn turn_at<C, S: Stack<C>>(
     ensures on { IfOk result (λ next. place < next) }
     ensures met { let look = S.gives slots.now in
         meets_from look code.now place (S.values stack.old) ≡ false →
-            IfOk result (λ next. meets_from look code.now next (S.values stack.new) ≡ false) }
+        IfOk result (λ next. meets_from look code.now next (S.values stack.new) ≡ false) }
     ensures answered { S.numbers ≡ true →
         meets_from (S.gives slots.now) code.now place (S.values stack.old) ≡ false → IsAnswered result }
 {
