@@ -1,10 +1,10 @@
 ghost use Rattle.std.specs.Prelude.{◌≡◌, ◌++◌, ◌∷◌, ◌<◌, [], IfOk};
 ghost use Rattle.bt_script.specs.Stops.{Gives};
 ghost use Rattle.bt_model.specs.Names.{is_among};
-ghost use Rattle.bt_build.specs.Reads.{is_subtree, node_by, node_of, name_in, nodes_by, opened_by, read_node, term_of, tree_of};
+ghost use Rattle.bt_build.specs.Reads.{is_subtree, node_by, node_of, name_in, nodes_by, opened_by, read_node, tree_of};
 ghost use Rattle.bt_build.specs.Seen.{file_seen, ids_seen};
 
-use crate::content::{Content, content_in};
+use crate::content::content_in;
 use crate::fault::BuildFault;
 use crate::head::{Head, head_of};
 use crate::trees::{Trees, tree_of};
@@ -86,29 +86,6 @@ fn name_in(alloc: Global, attributes: &[(Name, Name)], id: &Name) -> Result<Name
     }
 }
 
-/// The node of what was read of it.
-fn term_of(
-    alloc: Global,
-    head: Head,
-    attributes: &[(Name, Name)],
-    content: Content,
-    children: Items<Term>,
-) -> Result<Term, NoMemory>
-    ensures { IfOk result (λ term. term ≡ term_of head attributes.now content children) }
-{
-    let name = name_in(alloc, attributes, &head.id)?;
-    Ok(Term {
-        kind: head.kind,
-        id: head.id,
-        name,
-        ports: content.ports,
-        code: content.code,
-        guards: content.guards,
-        autoremap: content.autoremap,
-        children,
-    })
-}
-
 /// Some nodes, one after another, of which each stands at this place, and the numbers after them; or the first fault.
 #[cycle(walk)]
 fn nodes_by(
@@ -147,7 +124,17 @@ fn node_of(
 {
     let content = content_in(file.alloc, numbers.nodes, file.models, &head, attributes)?;
     let (terms, numbers) = nodes_by(file, place, children, numbers)?;
-    let term = term_of(file.alloc, head, attributes, content, terms)?;
+    let name = name_in(file.alloc, attributes, &head.id)?;
+    let term = Term {
+        kind: head.kind,
+        id: head.id,
+        name,
+        ports: content.ports,
+        code: content.code,
+        guards: content.guards,
+        autoremap: content.autoremap,
+        children: terms,
+    };
     Ok((term, numbers))
 }
 
