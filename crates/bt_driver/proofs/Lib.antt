@@ -1,7 +1,10 @@
+pub mod Agreeing
 pub mod Applying
+pub mod Compiled
 pub mod Missing
 pub mod Outputs
 pub mod Padding
+pub mod Parts
 pub mod Placing
 pub mod Preparing
 pub mod Quiet

@@ -1,76 +1,76 @@
--- Names have the places that the leaf rule gives them.
-use Rattle.std.proofs.Common.{◌≡◌, ℕ, ◌+◌, ◌<◌, ◌≤◌, if◌then◌else◌, List, [], ◌∷◌, ◌++◌, length, map, Option, Some, None, IfSome, refl, ap, ◌∙◌, sym, subst, arith}
+-- Names with the places that the leaf rule gives them.
+use Rattle.std.proofs.Common.{◌≡◌, ℕ, ◌+◌, ◌<◌, ◌≤◌, true, false, if◌then◌else◌, List, [], ◌∷◌, length, map, inl, inr, refl, ap, sym, subst, ◌∙◌, arith}
 use Rattle.std.specs.List.{All, Contains}
 use Rattle.std.specs.Str.{bytes_eq}
-use Rattle.std.proofs.lemmas.List.{length-map, map-append}
-use Rattle.std.proofs.lemmas.List.Elements.{All-nil, All-cons, All-append}
-use Rattle.bt_script.specs.declared.syntax.Expr.{Expr}
-use Rattle.bt_script.specs.Scripts.{names_of}
-use Rattle.bt_script_code.specs.Sources.{slot_of}
+use Rattle.std.proofs.lemmas.List.{length-map}
+use Rattle.std.proofs.lemmas.List.Elements.{All-nil, All-cons, All-contains, All-contains_itself, All-map, All-weaker, Contains-append_cases}
+use Rattle.std.proofs.lemmas.Slice.Eq.{bytes_eq-Decides}
+use Rattle.bt_script_code.specs.Sources.{IsListed, slot_of}
 use Rattle.bt_model.specs.declared.world.Fact.{Fact}
 use Rattle.bt_model.specs.Drivers.{kind_of_sort, kind_of_way}
 use Rattle.bt_model.specs.Leaf.{place_from, place_of, way_of}
-use Rattle.bt_model.specs.Worlds.{IsExprOver, names_of_facts}
+use Rattle.bt_model.specs.Worlds.{names_of_facts}
 use Rattle.bt_model.specs.declared.world.RowSort.{RowSort}
 use Rattle.bt_model.specs.declared.world.RowSort.TheVariants as sort
-use Rattle.bt_driver.specs.Places.{IsReadable, IsReadableSort, IsSortOver, comparison_reach, placed, row_places}
+use Rattle.bt_driver.specs.Places.{with_places}
 
--- the slot of a name where these names come first, and others after them
-slot_in_front : (place : ℕ) (names : List (List ℕ)) (others : List (List ℕ × ℕ)) (name : List ℕ) →
-    slot_of (placed place names ++ others) name ≡ place_from place names name (slot_of others name)
-slot_in_front place [] others name = refl
-slot_in_front place (n ∷ ns) others name = ap (λ (k : ℕ). if bytes_eq n name then place else k) (slot_in_front (place + 1) ns others name)
+-- ---- names with places
 
--- the slot of a name where nothing comes after these names
-slot_at_end : (place : ℕ) (names : List (List ℕ)) (name : List ℕ) → slot_of (placed place names) name ≡ place_from place names name 0
-slot_at_end place [] name = refl
-slot_at_end place (n ∷ ns) name = ap (λ (k : ℕ). if bytes_eq n name then place else k) (slot_at_end (place + 1) ns name)
+module _ (place : List ℕ → ℕ) where
+  listed : (names : List (List ℕ)) → map (λ (pair : List ℕ × ℕ). pair.0) (with_places place names) ≡ names
+  listed [] = refl
+  listed (name ∷ names) = ap (λ ns. name ∷ ns) (listed names)
 
-slot_is : (ports : List (List ℕ)) (facts : List Fact) (name : List ℕ) → slot_of (row_places ports facts) name ≡ place_of ports facts name
-slot_is ports facts name =
-    slot_in_front 0 ports (placed 8 (names_of_facts facts)) name
-    ∙ ap (place_from 0 ports name) (slot_at_end 8 (names_of_facts facts) name)
+  -- each of these names is listed
+  pub all_listed : (names : List (List ℕ)) → All (IsListed (with_places place names)) names
+  all_listed names = subst (λ (ns : List (List ℕ)). All (Contains ns) names) (sym (listed names)) (All-contains_itself names)
 
--- the slots of a row's names are their places
-pub slots_are_places : (ports : List (List ℕ)) (facts : List Fact) → slot_of (row_places ports facts) ≡ place_of ports facts
-slots_are_places ports facts = λ i name. slot_is ports facts name i
+  true_not_false : true ≡ false → ⊥
+  true_not_false is = cc
 
--- the names, without their places
-placed_names : (place : ℕ) (names : List (List ℕ)) → map (λ (pair : List ℕ × ℕ). pair.0) (placed place names) ≡ names
-placed_names place [] = refl
-placed_names place (n ∷ ns) = ap (λ ns. n ∷ ns) (placed_names (place + 1) ns)
+  -- each of these names has its place
+  found : (names : List (List ℕ)) (name : List ℕ) → Contains names name → slot_of (with_places place names) name ≡ place name
+  found [] name has = absurd (omega (arith, has.1))
+  found (key ∷ keys) name has =
+      elim (bytes_eq key name) as (λ b. bytes_eq key name ≡ b → (if b then place key else slot_of (with_places place keys) name) ≡ place name) [
+        | true ↦ λ is. ap place ((bytes_eq-Decides key name).0 is)
+        | false ↦ λ is. elim (Contains-append_cases (key ∷ []) keys name has) [
+          | inl here ↦
+              let same : name ≡ key = All-contains (λ x. x ≡ key) (key ∷ []) name (All-cons (λ x. x ≡ key) key [] refl (All-nil (λ x. x ≡ key))) here in
+              let equal : bytes_eq key name ≡ true = (bytes_eq-Decides key name).1 (sym same) in
+              absurd (true_not_false (sym equal ∙ is))
+          | inr there ↦ found keys name there
+        ]
+      ] refl
 
-row_names : (ports : List (List ℕ)) (facts : List Fact) → map (λ (pair : List ℕ × ℕ). pair.0) (row_places ports facts) ≡ ports ++ names_of_facts facts
-row_names ports facts =
-    map-append (λ (pair : List ℕ × ℕ). pair.0) (placed 0 ports) (placed 8 (names_of_facts facts))
-    ∙ (λ i. placed_names 0 ports i ++ placed_names 8 (names_of_facts facts) i)
+  pub all_found : (names : List (List ℕ)) → All (λ name. slot_of (with_places place names) name ≡ place name) names
+  all_found names = All-weaker (Contains names) (λ name. slot_of (with_places place names) name ≡ place name) (found names) names (All-contains_itself names)
 
--- an expression over the ports and the facts can be compiled over their places
-pub readable : (ports : List (List ℕ)) (facts : List Fact) (e : Expr) → IsExprOver ports (names_of_facts facts) e → IsReadable (row_places ports facts) e
-readable ports facts e over = record {
-  named = subst (λ ns. All (Contains ns) (names_of e)) (sym (row_names ports facts)) over.named;
-  low = over.low;
-  textless = over.textless;
-}
+-- ---- the places of a row's names
 
-readable_if_there : (ports : List (List ℕ)) (facts : List Fact) (e : Option Expr) → IfSome e (IsExprOver ports (names_of_facts facts)) → IfSome e (IsReadable (row_places ports facts))
-readable_if_there ports facts None over = tt
-readable_if_there ports facts (Some e) over = readable ports facts e over
+-- a place from this one on is within a bound, as what stands for a name that is not there is
+place_within : (n place : ℕ) (names : List (List ℕ)) (name : List ℕ) (other : ℕ) → place + length names ≤ n → other < n → place_from place names name other < n
+place_within n place [] name other few low = low
+place_within n place (first ∷ names) name other few low =
+    elim (bytes_eq first name) as (λ b. (if b then place else place_from (place + 1) names name other) < n) [
+      | true ↦ omega arith
+      | false ↦ place_within n (place + 1) names name other (omega arith) low
+    ]
 
-pub readable_sort : (ports : List (List ℕ)) (facts : List Fact) (s : RowSort) → IsSortOver ports facts s → IsReadableSort (row_places ports facts) s
-readable_sort ports facts (sort.Is fact op value) valid = tt
-readable_sort ports facts (sort.When test) valid = readable ports facts test valid
-readable_sort ports facts (sort.Timed ms fails) valid = readable_if_there ports facts fails valid
-readable_sort ports facts (sort.Replay ms outcomes) valid = tt
-readable_sort ports facts (sort.Gate test) valid = readable ports facts test valid
+-- each name has the place of an input or of a fact
+place_below : (ports : List (List ℕ)) (facts : List Fact) → length ports ≤ 8 → (name : List ℕ) → place_of ports facts name < 8 + length facts
+place_below ports facts few name =
+    place_within (8 + length facts) 0 ports name (place_from 8 (names_of_facts facts) name 0) (omega arith)
+    (place_within (8 + length facts) 8 (names_of_facts facts) name 0 (omega (arith, length-map facts (λ (f : Fact). f.name))) (omega arith))
 
--- a comparison looks at a fact that is there
-pub comparison_within : (ports : List (List ℕ)) (facts : List Fact) (s : RowSort) → IsSortOver ports facts s → comparison_reach s ≤ 8 + length facts
-comparison_within ports facts (sort.Is fact op value) valid = omega (arith, valid)
-comparison_within ports facts (sort.When test) valid = omega arith
-comparison_within ports facts (sort.Timed ms fails) valid = omega arith
-comparison_within ports facts (sort.Replay ms outcomes) valid = omega arith
-comparison_within ports facts (sort.Gate test) valid = omega arith
+-- so does each of some names
+pub places_below : (ports : List (List ℕ)) (facts : List Fact) → length ports ≤ 8 → (names : List (List ℕ)) →
+    All (λ (pair : List ℕ × ℕ). pair.1 < 8 + length facts) (with_places (place_of ports facts) names)
+places_below ports facts few names =
+    All-map (λ (pair : List ℕ × ℕ). pair.1 < 8 + length facts) (λ (name : List ℕ). (name, place_of ports facts name)) names
+    (All-weaker (Contains names) (λ name. place_of ports facts name < 8 + length facts) (λ name _. place_below ports facts few name) names (All-contains_itself names))
+
+-- ---- kinds
 
 -- a row made ready has the kind of the row
 pub same_kind_of_row : (places : List ℕ → ℕ) (s : RowSort) → kind_of_way (way_of places s) ≡ kind_of_sort s
@@ -79,15 +79,3 @@ same_kind_of_row places (sort.When test) = refl
 same_kind_of_row places (sort.Timed ms fails) = refl
 same_kind_of_row places (sort.Replay ms outcomes) = refl
 same_kind_of_row places (sort.Gate test) = refl
-
--- each place is less than how many there are
-placed_below : (n place : ℕ) (names : List (List ℕ)) → place + length names ≤ n → All (λ (pair : List ℕ × ℕ). pair.1 < n) (placed place names)
-placed_below n place [] few = All-nil (λ (pair : List ℕ × ℕ). pair.1 < n)
-placed_below n place (name ∷ names) few =
-    All-cons (λ (pair : List ℕ × ℕ). pair.1 < n) (name, place) (placed (place + 1) names) (omega arith) (placed_below n (place + 1) names (omega arith))
-
-pub places_below : (ports : List (List ℕ)) (facts : List Fact) → length ports ≤ 8 → All (λ (pair : List ℕ × ℕ). pair.1 < 8 + length facts) (row_places ports facts)
-places_below ports facts few =
-    All-append (λ (pair : List ℕ × ℕ). pair.1 < 8 + length facts) (placed 0 ports) (placed 8 (names_of_facts facts))
-    (placed_below (8 + length facts) 0 ports (omega arith))
-    (placed_below (8 + length facts) 8 (names_of_facts facts) (omega (arith, length-map facts (λ (f : Fact). f.name))))

@@ -1,10 +1,6 @@
 -- The names that a row's expressions look at, with their places, and what must hold of the row.
-use Rattle.std.specs.Prelude.{◌≡◌, ℕ, ◌+◌, ◌<◌, ◌≤◌, List, [], ◌∷◌, ◌++◌, length, IfSome}
+use Rattle.std.specs.Prelude.{ℕ, ◌<◌, ◌≤◌, List, length, map, IfSome}
 use Rattle.std.specs.List.{All}
-use Rattle.bt_script.specs.declared.syntax.Expr.{Expr}
-use Rattle.bt_script.specs.Grammar.{height}
-use Rattle.bt_script.specs.Scripts.{names_of, texts_of}
-use Rattle.bt_script_code.specs.Sources.{IsListed}
 use Rattle.bt_model.specs.declared.world.Fact.{Fact}
 use Rattle.bt_model.specs.declared.world.Out.{Out}
 use Rattle.bt_model.specs.declared.world.Row.{Row}
@@ -13,33 +9,9 @@ use Rattle.bt_model.specs.Worlds.{IsExprOver, names_of_facts}
 use Rattle.bt_model.specs.declared.world.RowSort.{RowSort}
 use Rattle.bt_model.specs.declared.world.RowSort.TheVariants as sort
 
--- names with their places, counted from this one
-abbrev pub placed : ℕ → List (List ℕ) → List (List ℕ × ℕ)
-placed place [] = []
-placed place (name ∷ names) = (name, place) ∷ placed (place + 1) names
-
--- the input ports, then (from place 8 on) the facts
-abbrev pub row_places : List (List ℕ) → List Fact → List (List ℕ × ℕ)
-row_places ports facts = placed 0 ports ++ placed 8 (names_of_facts facts)
-
--- an expression over names with these places
-pub record IsReadable (places : List (List ℕ × ℕ)) (e : Expr) : Type 0 where
-  pub named : All (IsListed places) (names_of e)
-  pub low : height e ≤ 64
-  pub textless : texts_of e ≡ 0
-
--- how a row answers, over names with these places
-abbrev pub IsReadableSort : List (List ℕ × ℕ) → RowSort → Type 0
-IsReadableSort places (sort.Is fact op value) = Unit {0}
-IsReadableSort places (sort.When test) = IsReadable places test
-IsReadableSort places (sort.Timed ms fails) = IfSome fails (IsReadable places)
-IsReadableSort places (sort.Replay ms outcomes) = Unit {0}
-IsReadableSort places (sort.Gate test) = IsReadable places test
-
--- how many places a comparison looks at
-abbrev pub comparison_reach : RowSort → ℕ
-comparison_reach (sort.Is fact op value) = 8 + fact + 1
-comparison_reach _ = 0
+-- these names with their places
+abbrev pub with_places : (List ℕ → ℕ) → List (List ℕ) → List (List ℕ × ℕ)
+with_places place names = map {B = List ℕ × ℕ} (λ (name : List ℕ). (name, place name)) names
 
 -- ---- Rows that can be made ready
 

@@ -8,6 +8,7 @@ mod expression;
 mod facts;
 pub mod laws;
 mod looks;
+mod naming;
 mod outs;
 mod readying;
 mod roster;
