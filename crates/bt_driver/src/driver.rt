@@ -52,9 +52,11 @@ pub trait Driver: Drop {
         requires kind { kind_of_way (rule row.now).way ≡ (state self.old).kind }
         requires table { length facts.old ≡ row.now.facts }
         ensures reply { result ≡ (driver_answer (state self.old) instance (rule row.now) phase.Start inputs.now facts.old now).reply }
-        ensures state { state self.new ≡ after_call (state self.old) phase.Start instance (driver_answer (state self.old) instance (rule row.now) phase.Start inputs.now facts.old now).instance }
+        ensures state { state self.new ≡ after_call (state self.old) phase.Start instance
+            (driver_answer (state self.old) instance (rule row.now) phase.Start inputs.now facts.old now).instance }
         ensures facts { facts.new ≡ (driver_answer (state self.old) instance (rule row.now) phase.Start inputs.now facts.old now).facts }
-        ensures outs { outs.new ≡ outputs_after (driver_answer (state self.old) instance (rule row.now) phase.Start inputs.now facts.old now) outs.old };
+        ensures outs { outs.new ≡
+            outputs_after (driver_answer (state self.old) instance (rule row.now) phase.Start inputs.now facts.old now) outs.old };
 
     /// Goes on: the leaf of this instance is visited and is running. `now` is the time of the tick
     /// in milliseconds.
@@ -72,9 +74,11 @@ pub trait Driver: Drop {
         requires kind { kind_of_way (rule row.now).way ≡ (state self.old).kind }
         requires table { length facts.old ≡ row.now.facts }
         ensures reply { result ≡ (driver_answer (state self.old) instance (rule row.now) phase.Running inputs.now facts.old now).reply }
-        ensures state { state self.new ≡ after_call (state self.old) phase.Running instance (driver_answer (state self.old) instance (rule row.now) phase.Running inputs.now facts.old now).instance }
+        ensures state { state self.new ≡ after_call (state self.old) phase.Running instance
+            (driver_answer (state self.old) instance (rule row.now) phase.Running inputs.now facts.old now).instance }
         ensures facts { facts.new ≡ (driver_answer (state self.old) instance (rule row.now) phase.Running inputs.now facts.old now).facts }
-        ensures outs { outs.new ≡ outputs_after (driver_answer (state self.old) instance (rule row.now) phase.Running inputs.now facts.old now) outs.old };
+        ensures outs { outs.new ≡
+            outputs_after (driver_answer (state self.old) instance (rule row.now) phase.Running inputs.now facts.old now) outs.old };
 
     /// Halts the leaf of this instance: it is held no longer. The count of its completions stays.
     fn halted(&mut self, instance: u32)

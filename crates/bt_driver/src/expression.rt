@@ -22,7 +22,9 @@ pub struct ReadyExpr {
     /// Its value is always a number.
     pub ghost textless: { (formula code).texts ≡ 0 },
     /// A name that has no entry is an input's: facts are always there.
-    pub ghost missing: { (inputs : List Seen) (facts : List ℤ) (place : ℕ) → length inputs ≡ 8 → (formula code).reach ≤ 8 + length facts → (formula code).value (look_of (sights inputs facts)) ≡ Err (NoEntry place) → place < 8 },
+    pub ghost missing: { (inputs : List Seen) (facts : List ℤ) (place : ℕ) →
+        length inputs ≡ 8 → (formula code).reach ≤ 8 + length facts →
+        (formula code).value (look_of (sights inputs facts)) ≡ Err (NoEntry place) → place < 8 },
 }
 
 impl ReadyExpr {

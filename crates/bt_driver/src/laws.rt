@@ -12,7 +12,8 @@ ghost use Rattle.bt_driver.specs.Places.{CanBeReady};
 /// start, and there are as many facts as before.
 pub fn calls_keep()
     ensures held { (rule : Rule) (phase : Phase) (instance : Instance) (inputs : List Seen) (facts : List ℤ) (now : ℕ) →
-        (rule_answer rule phase instance inputs facts now).instance.since ≡ since_after (rule_answer rule phase instance inputs facts now).reply (start_of phase instance now) instance.since }
+        (rule_answer rule phase instance inputs facts now).instance.since ≡
+        since_after (rule_answer rule phase instance inputs facts now).reply (start_of phase instance now) instance.since }
     ensures facts { (rule : Rule) (phase : Phase) (instance : Instance) (inputs : List Seen) (facts : List ℤ) (now : ℕ) →
         length (rule_answer rule phase instance inputs facts now).facts ≡ length facts }
 {}

@@ -60,10 +60,14 @@ pub trait Drivers {
         requires free { (instance_at (states self.old) place instance).since ≡ None }
         requires kind { kind_of_way (rule row.now).way ≡ (driver_at (states self.old) place).kind }
         requires table { length facts.old ≡ row.now.facts }
-        ensures reply { result ≡ (roster_answer (states self.old) place instance (rule row.now) phase.Start inputs.now facts.old now).reply }
-        ensures states { states self.new ≡ roster_called (states self.old) place phase.Start instance (roster_answer (states self.old) place instance (rule row.now) phase.Start inputs.now facts.old now).instance }
-        ensures facts { facts.new ≡ (roster_answer (states self.old) place instance (rule row.now) phase.Start inputs.now facts.old now).facts }
-        ensures outs { outs.new ≡ outputs_after (roster_answer (states self.old) place instance (rule row.now) phase.Start inputs.now facts.old now) outs.old };
+        ensures reply { result ≡
+            (roster_answer (states self.old) place instance (rule row.now) phase.Start inputs.now facts.old now).reply }
+        ensures states { states self.new ≡ roster_called (states self.old) place phase.Start instance
+            (roster_answer (states self.old) place instance (rule row.now) phase.Start inputs.now facts.old now).instance }
+        ensures facts { facts.new ≡
+            (roster_answer (states self.old) place instance (rule row.now) phase.Start inputs.now facts.old now).facts }
+        ensures outs { outs.new ≡
+            outputs_after (roster_answer (states self.old) place instance (rule row.now) phase.Start inputs.now facts.old now) outs.old };
 
     /// Calls `running` of the driver at a place for one of its instances. `now` is in milliseconds.
     fn running(
@@ -80,10 +84,14 @@ pub trait Drivers {
         requires held { IsHeldBy (instance_at (states self.old) place instance) now }
         requires kind { kind_of_way (rule row.now).way ≡ (driver_at (states self.old) place).kind }
         requires table { length facts.old ≡ row.now.facts }
-        ensures reply { result ≡ (roster_answer (states self.old) place instance (rule row.now) phase.Running inputs.now facts.old now).reply }
-        ensures states { states self.new ≡ roster_called (states self.old) place phase.Running instance (roster_answer (states self.old) place instance (rule row.now) phase.Running inputs.now facts.old now).instance }
-        ensures facts { facts.new ≡ (roster_answer (states self.old) place instance (rule row.now) phase.Running inputs.now facts.old now).facts }
-        ensures outs { outs.new ≡ outputs_after (roster_answer (states self.old) place instance (rule row.now) phase.Running inputs.now facts.old now) outs.old };
+        ensures reply { result ≡
+            (roster_answer (states self.old) place instance (rule row.now) phase.Running inputs.now facts.old now).reply }
+        ensures states { states self.new ≡ roster_called (states self.old) place phase.Running instance
+            (roster_answer (states self.old) place instance (rule row.now) phase.Running inputs.now facts.old now).instance }
+        ensures facts { facts.new ≡
+            (roster_answer (states self.old) place instance (rule row.now) phase.Running inputs.now facts.old now).facts }
+        ensures outs { outs.new ≡
+            outputs_after (roster_answer (states self.old) place instance (rule row.now) phase.Running inputs.now facts.old now) outs.old };
 
     /// Calls `halted` of the driver at a place for one of its instances.
     fn halted(&mut self, place: usize, instance: u32)
@@ -137,9 +145,11 @@ fn start_one(
     requires kind { kind_of_way (rule row.now).way ≡ (state driver.old).kind }
     requires table { length facts.old ≡ row.now.facts }
     ensures reply { result ≡ (driver_answer (state driver.old) instance (rule row.now) phase.Start inputs.now facts.old now).reply }
-    ensures state { state driver.new ≡ after_call (state driver.old) phase.Start instance (driver_answer (state driver.old) instance (rule row.now) phase.Start inputs.now facts.old now).instance }
+    ensures state { state driver.new ≡ after_call (state driver.old) phase.Start instance
+        (driver_answer (state driver.old) instance (rule row.now) phase.Start inputs.now facts.old now).instance }
     ensures facts { facts.new ≡ (driver_answer (state driver.old) instance (rule row.now) phase.Start inputs.now facts.old now).facts }
-    ensures outs { outs.new ≡ outputs_after (driver_answer (state driver.old) instance (rule row.now) phase.Start inputs.now facts.old now) outs.old }
+    ensures outs { outs.new ≡
+        outputs_after (driver_answer (state driver.old) instance (rule row.now) phase.Start inputs.now facts.old now) outs.old }
 {
     driver.start(instance, row, inputs, facts, outs, now)
 }
@@ -159,9 +169,11 @@ fn run_one(
     requires kind { kind_of_way (rule row.now).way ≡ (state driver.old).kind }
     requires table { length facts.old ≡ row.now.facts }
     ensures reply { result ≡ (driver_answer (state driver.old) instance (rule row.now) phase.Running inputs.now facts.old now).reply }
-    ensures state { state driver.new ≡ after_call (state driver.old) phase.Running instance (driver_answer (state driver.old) instance (rule row.now) phase.Running inputs.now facts.old now).instance }
+    ensures state { state driver.new ≡ after_call (state driver.old) phase.Running instance
+        (driver_answer (state driver.old) instance (rule row.now) phase.Running inputs.now facts.old now).instance }
     ensures facts { facts.new ≡ (driver_answer (state driver.old) instance (rule row.now) phase.Running inputs.now facts.old now).facts }
-    ensures outs { outs.new ≡ outputs_after (driver_answer (state driver.old) instance (rule row.now) phase.Running inputs.now facts.old now) outs.old }
+    ensures outs { outs.new ≡
+        outputs_after (driver_answer (state driver.old) instance (rule row.now) phase.Running inputs.now facts.old now) outs.old }
 {
     driver.running(instance, row, inputs, facts, outs, now)
 }
@@ -205,7 +217,8 @@ pub fn prepare_all(roster: &mut Vec<Box<dyn Driver>>, counts: &[u32]) -> Result<
     requires counts { length counts.now ≤ length (map (λ b. state b) roster.old.items) }
     requires quiet { NothingHeld (map (λ b. state b) roster.old.items) }
     ensures ok { OnOk result (map (λ b. state b) roster.new.items ≡ roster_prepared (map (λ b. state b) roster.old.items) counts.now) }
-    ensures err { OnErr result ((done : ℕ) × (map (λ b. state b) roster.new.items ≡ roster_prepared (map (λ b. state b) roster.old.items) (take done counts.now))) }
+    ensures err { OnErr result ((done : ℕ) ×
+        (map (λ b. state b) roster.new.items ≡ roster_prepared (map (λ b. state b) roster.old.items) (take done counts.now))) }
     ensures quiet { NothingHeld (map (λ b. state b) roster.new.items) }
 {
     for (place, count) in counts.iter().enumerate() {
@@ -229,10 +242,18 @@ pub fn start_at(
     requires free { (instance_at (map (λ b. state b) roster.old.items) place instance).since ≡ None }
     requires kind { kind_of_way (rule row.now).way ≡ (driver_at (map (λ b. state b) roster.old.items) place).kind }
     requires table { length facts.old ≡ row.now.facts }
-    ensures reply { result ≡ (roster_answer (map (λ b. state b) roster.old.items) place instance (rule row.now) phase.Start inputs.now facts.old now).reply }
-    ensures states { map (λ b. state b) roster.new.items ≡ roster_called (map (λ b. state b) roster.old.items) place phase.Start instance (roster_answer (map (λ b. state b) roster.old.items) place instance (rule row.now) phase.Start inputs.now facts.old now).instance }
-    ensures facts { facts.new ≡ (roster_answer (map (λ b. state b) roster.old.items) place instance (rule row.now) phase.Start inputs.now facts.old now).facts }
-    ensures outs { outs.new ≡ outputs_after (roster_answer (map (λ b. state b) roster.old.items) place instance (rule row.now) phase.Start inputs.now facts.old now) outs.old }
+    ensures reply { result ≡
+        (roster_answer (map (λ b. state b) roster.old.items) place instance (rule row.now) phase.Start inputs.now facts.old now).reply }
+    ensures states { map (λ b. state b) roster.new.items ≡
+        roster_called (map (λ b. state b) roster.old.items) place phase.Start instance
+        (roster_answer (map (λ b. state b) roster.old.items) place instance
+        (rule row.now) phase.Start inputs.now facts.old now).instance }
+    ensures facts { facts.new ≡
+        (roster_answer (map (λ b. state b) roster.old.items) place instance (rule row.now) phase.Start inputs.now facts.old now).facts }
+    ensures outs { outs.new ≡
+        outputs_after
+        (roster_answer (map (λ b. state b) roster.old.items) place instance
+        (rule row.now) phase.Start inputs.now facts.old now) outs.old }
 {
     start_one(&mut roster[place], instance, row, inputs, facts, outs, now)
 }
@@ -252,10 +273,18 @@ pub fn run_at(
     requires held { IsHeldBy (instance_at (map (λ b. state b) roster.old.items) place instance) now }
     requires kind { kind_of_way (rule row.now).way ≡ (driver_at (map (λ b. state b) roster.old.items) place).kind }
     requires table { length facts.old ≡ row.now.facts }
-    ensures reply { result ≡ (roster_answer (map (λ b. state b) roster.old.items) place instance (rule row.now) phase.Running inputs.now facts.old now).reply }
-    ensures states { map (λ b. state b) roster.new.items ≡ roster_called (map (λ b. state b) roster.old.items) place phase.Running instance (roster_answer (map (λ b. state b) roster.old.items) place instance (rule row.now) phase.Running inputs.now facts.old now).instance }
-    ensures facts { facts.new ≡ (roster_answer (map (λ b. state b) roster.old.items) place instance (rule row.now) phase.Running inputs.now facts.old now).facts }
-    ensures outs { outs.new ≡ outputs_after (roster_answer (map (λ b. state b) roster.old.items) place instance (rule row.now) phase.Running inputs.now facts.old now) outs.old }
+    ensures reply { result ≡
+        (roster_answer (map (λ b. state b) roster.old.items) place instance (rule row.now) phase.Running inputs.now facts.old now).reply }
+    ensures states { map (λ b. state b) roster.new.items ≡
+        roster_called (map (λ b. state b) roster.old.items) place phase.Running instance
+        (roster_answer (map (λ b. state b) roster.old.items) place instance
+        (rule row.now) phase.Running inputs.now facts.old now).instance }
+    ensures facts { facts.new ≡
+        (roster_answer (map (λ b. state b) roster.old.items) place instance (rule row.now) phase.Running inputs.now facts.old now).facts }
+    ensures outs { outs.new ≡
+        outputs_after
+        (roster_answer (map (λ b. state b) roster.old.items) place instance
+        (rule row.now) phase.Running inputs.now facts.old now) outs.old }
 {
     run_one(&mut roster[place], instance, row, inputs, facts, outs, now)
 }

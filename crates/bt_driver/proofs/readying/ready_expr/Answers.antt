@@ -1,10 +1,9 @@
-use Rattle.std.proofs.Common.{◌≡◌, ℕ, ◌+◌, ◌<◌, List, length, ap, sym, subst, ◌∙◌}
+use Rattle.std.proofs.Common.{ℕ, ◌+◌, ◌<◌, List, length, ap, sym, subst, ◌∙◌}
 use Rattle.std.specs.List.{All}
 use Rattle.bt_script.specs.Scripts.{names_of}
 use Rattle.bt_script_code.specs.Programs.{Formula}
 use Rattle.bt_script_code.specs.Sources.{IsListed, slot_of}
 use Rattle.bt_model.specs.Leaf.{place_of}
-use Rattle.bt_driver.specs.Places.{with_places}
 use Rattle.bt_driver.proofs.Compiled.{same_number}
 use Rattle.bt_driver.proofs.Missing.{only_inputs_missing}
 use Rattle.bt_driver.proofs.Placing.{all_listed, places_below}
