@@ -18,7 +18,8 @@ use Rattle.bt_script.specs.Reading.{ReadsScript, bare, first_place, high_stmt}
 use Rattle.bt_script.specs.Scripts.{stmt_names}
 use Rattle.bt_script_code.specs.Sources.{IsCompilable, IsListed}
 use Rattle.bt_arena.specs.Resolving.{names_in_script}
-use Rattle.bt_arena.proofs.Parts.{All-left, All-right, and_left, and_right}
+use Rattle.bt_arena.proofs.Parts.{and_left, and_right}
+use Rattle.bt_driver.proofs.Parts.{All-left, All-right}
 
 -- ---- each expression has a token in the text
 

@@ -1,7 +1,7 @@
 -- A script that is compiled over the slots of its names does what it does in the scope of its node.
 use Rattle.std.proofs.Common.{◌≡◌, ℕ, ◌<◌, ◌≤◌, List, length, Option, Some, [], true, sym, ap, subst, ◌∙◌}
 use Rattle.std.specs.List.{All}
-use Rattle.std.proofs.lemmas.List.Elements.{All-map, All-same, All-weaker, All-contains_itself}
+use Rattle.std.proofs.lemmas.List.Elements.{All-map, All-same, All-weaker}
 use Rattle.bt_script.specs.declared.syntax.Script.{Script}
 use Rattle.bt_script_code.specs.declared.codes.Code.{Code}
 use Rattle.bt_script_code.specs.Codes.{program}
@@ -20,8 +20,8 @@ use Rattle.bt_arena.specs.Nodes.{IsCodeOf}
 use Rattle.bt_arena.specs.Resolving.{AreNamed, named_slot, names_in_script, port_keys, view_in, with_slots}
 use Rattle.bt_arena.specs.Sources.{slot_in_view, source_at, source_of}
 use Rattle.bt_arena.proofs.Agreeing.{same_program}
-use Rattle.bt_arena.proofs.Named.{listed, named_slot_is, named_within, port_named, slots_found}
-use Rattle.std.specs.List.{Contains}
+use Rattle.bt_arena.proofs.Named.{named_slot_is, named_within, port_named}
+use Rattle.bt_driver.proofs.Placing.{all_found, all_listed}
 use Rattle.std.proofs.lemmas.List.Elements.{All-head}
 
 module _ (tree : Tree) (world : World) (number : ℕ) where
@@ -30,7 +30,7 @@ module _ (tree : Tree) (world : World) (number : ℕ) where
   slot_below key named = subst (λ n. n < length (slots tree)) (sym (named_slot_is tree number key named)) (named_within tree number key named)
 
   pub names_listed : (keys : List (List ℕ × ℕ)) (names : List (List ℕ)) → keys ≡ with_slots tree number names → All (IsListed keys) names
-  names_listed keys names is = subst (λ (ks : List (List ℕ × ℕ)). All (IsListed ks) names) (sym is) (subst (λ (ns : List (List ℕ)). All (Contains ns) names) (sym (listed tree number names)) (All-contains_itself names))
+  names_listed keys names is = subst (λ (ks : List (List ℕ × ℕ)). All (IsListed ks) names) (sym is) (all_listed (named_slot tree number) names)
 
   pub compiled : (script : Script) (code : Code) (keys : List (List ℕ × ℕ)) → keys ≡ with_slots tree number (names_in_script script) → AreNamed tree number (names_in_script script)
       → program code ≡ program_of (slot_among keys) script.stmts → ((n : ℕ) → All (λ pair. pair.1 < n) keys → (program code).reach ≤ n)
@@ -38,7 +38,7 @@ module _ (tree : Tree) (world : World) (number : ℕ) where
   compiled script code keys is named means reaches =
       let names = names_in_script script in
       let found : All (λ name. slot_among keys name ≡ named_slot tree number name) names =
-      subst (λ (ks : List (List ℕ × ℕ)). All (λ name. slot_among ks name ≡ named_slot tree number name) names) (sym is) (slots_found tree number names) in
+      subst (λ (ks : List (List ℕ × ℕ)). All (λ name. slot_among ks name ≡ named_slot tree number name) names) (sym is) (all_found (named_slot tree number) names) in
       record {
         meaning = means ∙ same_program (slot_among keys) (slot_in_view (view_in tree world number)) script.stmts
             (λ k d within. found k d within ∙ named_slot_is tree number _ (named k d within));

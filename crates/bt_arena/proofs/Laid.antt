@@ -26,7 +26,8 @@ use Rattle.bt_arena.specs.Laying.{CanBeLaid, LeafIs, StandsIn}
 use Rattle.bt_arena.specs.Nodes.{IsFit, LeafStands}
 use Rattle.bt_arena.specs.Resolving.{AreNamed, GuardsAreNamed, names_if_there, names_in_script, port_keys}
 use Rattle.bt_arena.specs.Stands.{written}
-use Rattle.bt_arena.proofs.Parts.{All-left, All-right, each_left, each_right}
+use Rattle.bt_arena.proofs.Parts.{each_left, each_right}
+use Rattle.bt_driver.proofs.Parts.{All-left, All-right}
 
 -- ---- names
 

@@ -15,4 +15,5 @@ pub mod Parts
 pub mod Prepared
 pub mod Standing
 pub mod Static
+pub mod Unguarded
 pub mod Whole

@@ -16,7 +16,8 @@ use Rattle.bt_model.specs.Boards.{is_named, namings, port_of, same_cell, scope_o
 use Rattle.bt_board.proofs.CellOrder.{in_order_any}
 use Rattle.bt_board.proofs.Sound.{IsTrue_cell, namings_sound}
 use Rattle.bt_arena.specs.Resolving.{AreNamed, named_slot, port_keys, with_slots}
-use Rattle.bt_arena.proofs.Parts.{All-left, All-right, and_left, and_right, or_left, or_right}
+use Rattle.bt_arena.proofs.Parts.{and_left, and_right, or_left, or_right}
+use Rattle.bt_driver.proofs.Parts.{All-left, All-right}
 
 -- the slot of a name that the tree has one for
 pub named_slot_is : (tree : Tree) (number : ℕ) (key : List ℕ) → is_named tree number key ≡ true → named_slot tree number key ≡ slot_in (slots tree) (scope_of tree number key)
@@ -53,33 +54,6 @@ pub named_within : (tree : Tree) (number : ℕ) (key : List ℕ) → is_named tr
 named_within tree number key named =
     found_within (scope_of tree number key) (slots tree)
     (in_order_any (λ c. same_cell c (scope_of tree number key)) (map (λ (n : Naming). n.cell) (namings tree)) ∙ cell_named tree number key (namings tree) (namings_sound tree) named)
-
--- ---- names with their slots
-
-pub listed : (tree : Tree) (number : ℕ) (keys : List (List ℕ)) → map (λ (pair : List ℕ × ℕ). pair.0) (with_slots tree number keys) ≡ keys
-listed tree number [] = refl
-listed tree number (key ∷ keys) = ap (λ ks. key ∷ ks) (listed tree number keys)
-
-true_not_false : true ≡ false → ⊥
-true_not_false is = cc
-
--- each of these names has its slot
-found_slot : (tree : Tree) (number : ℕ) (keys : List (List ℕ)) (name : List ℕ) → Contains keys name → slot_among (with_slots tree number keys) name ≡ named_slot tree number name
-found_slot tree number [] name has = absurd (omega (arith, has.1))
-found_slot tree number (key ∷ keys) name has =
-    elim (bytes_eq key name) as (λ b. bytes_eq key name ≡ b → (if b then named_slot tree number key else slot_among (with_slots tree number keys) name) ≡ named_slot tree number name) [
-      | true ↦ λ is. ap (named_slot tree number) ((bytes_eq-Decides key name).0 is)
-      | false ↦ λ is. elim (Contains-append_cases (key ∷ []) keys name has) [
-        | inl here ↦
-            let same : name ≡ key = All-contains (λ x. x ≡ key) (key ∷ []) name (All-cons (λ x. x ≡ key) key [] refl (All-nil (λ x. x ≡ key))) here in
-            let equal : bytes_eq key name ≡ true = (bytes_eq-Decides key name).1 (sym same) in
-            absurd (true_not_false (sym equal ∙ is))
-        | inr there ↦ found_slot tree number keys name there
-      ]
-    ] refl
-
-pub slots_found : (tree : Tree) (number : ℕ) (keys : List (List ℕ)) → All (λ name. slot_among (with_slots tree number keys) name ≡ named_slot tree number name) keys
-slots_found tree number keys = All-weaker (Contains keys) (λ name. slot_among (with_slots tree number keys) name ≡ named_slot tree number name) (found_slot tree number keys) keys (All-contains_itself keys)
 
 -- ---- ports
 

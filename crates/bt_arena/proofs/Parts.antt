@@ -1,17 +1,8 @@
 -- The parts of a list whose items all have a property, and of a test made of two.
 use Rattle.std.proofs.Common.{◌≡◌, List, [], ◌∷◌, ◌++◌, Bool, true, false, ◌&&◌, ◌||◌, refl, ap}
-use Rattle.std.specs.List.{All, AllByRecursion}
-use Rattle.std.proofs.lemmas.List.Elements.{All-nil, All-cons, All-head, All-tail}
+use Rattle.std.specs.List.{AllByRecursion}
 
 module _ {X : Type 0} (P : X → Type 0) where
-  pub All-left : (xs ys : List X) → All P (xs ++ ys) → All P xs
-  All-left [] ys all = All-nil P
-  All-left (x ∷ xs) ys all = All-cons P x xs (All-head P x (xs ++ ys) all) (All-left xs ys (All-tail P x (xs ++ ys) all))
-
-  pub All-right : (xs ys : List X) → All P (xs ++ ys) → All P ys
-  All-right [] ys all = all
-  All-right (x ∷ xs) ys all = All-right xs ys (All-tail P x (xs ++ ys) all)
-
   pub each_left : (xs ys : List X) → AllByRecursion P (xs ++ ys) → AllByRecursion P xs
   each_left [] ys all = tt
   each_left (x ∷ xs) ys all = (all.0, each_left xs ys all.1)

@@ -1,6 +1,7 @@
 -- How a tree, a world and a roster fit together: what is missing for the leaves, and how many leaves each driver
 -- serves.
-use Rattle.std.specs.Prelude.{◌≡◌, ℕ, nat_eq, Bool, false, List, [], ◌∷◌, count_by, Option, Some, None, Result, Ok, Err}
+use Rattle.std.specs.Prelude.{◌≡◌, ℕ, nat_eq, Bool, false, List, [], ◌∷◌, map, count_by, Option, Some, None, Result, Ok, Err}
+use Rattle.std.specs.Borrow.{Bor}
 use Rattle.std.specs.Option.{option_or}
 use Rattle.bt_script.specs.declared.stop.Stop.{Stop}
 use Rattle.bt_script.specs.declared.stop.Stop.TheVariants as stop
@@ -10,6 +11,12 @@ use Rattle.bt_model.specs.Drivers.{DriverState, kind_of_row, place_of_kind}
 use Rattle.bt_model.specs.Leaves.{row_of}
 use Rattle.bt_arena.specs.declared.join_fault.JoinFault.{JoinFault}
 use Rattle.bt_arena.specs.declared.join_fault.JoinFault.TheVariants.{NoRow, NoDriver}
+
+-- ---- IDs
+
+-- some IDs that are lent
+abbrev pub ids_lent : List (Bor (List ℕ)) → List (List ℕ)
+ids_lent ids = map (λ id. id.now) ids
 
 -- ---- Faults
 

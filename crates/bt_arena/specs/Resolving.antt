@@ -1,5 +1,5 @@
 -- The keys of a tree's nodes, resolved in the scope of a number.
-use Rattle.std.specs.Prelude.{◌≡◌, ℕ, List, [], map, unwrap_or, true, Option, Some, None}
+use Rattle.std.specs.Prelude.{◌≡◌, ℕ, List, [], unwrap_or, true, Option, Some, None}
 use Rattle.std.specs.List.{All, flat_map}
 use Rattle.bt_script.specs.declared.syntax.Script.{Script}
 use Rattle.bt_script.specs.Scripts.{stmt_names}
@@ -9,6 +9,7 @@ use Rattle.bt_model.specs.declared.term.Tree.{Tree}
 use Rattle.bt_model.specs.declared.world.World.{World}
 use Rattle.bt_model.specs.Boards.{is_named, scope_of, slot_of, slots, value_keys}
 use Rattle.bt_model.specs.Sites.{View}
+use Rattle.bt_driver.specs.Places.{with_places}
 
 -- what a node in the scope of a number sees
 abbrev pub view_in : Tree → World → ℕ → View
@@ -20,7 +21,7 @@ named_slot tree number key = unwrap_or (slot_of tree number key) 0
 
 -- these keys with their slots
 abbrev pub with_slots : Tree → ℕ → List (List ℕ) → List (List ℕ × ℕ)
-with_slots tree number keys = map {B = List ℕ × ℕ} (λ (key : List ℕ). (key, named_slot tree number key)) keys
+with_slots tree number = with_places (named_slot tree number)
 
 -- a tree has a slot for each of these keys in the scope of a number
 abbrev pub AreNamed : Tree → ℕ → List (List ℕ) → Type 0

@@ -7,7 +7,7 @@ ghost use Rattle.bt_model.specs.Leaves.{row_of};
 ghost use Rattle.bt_model.specs.Terms.{leaf_ids, own_leaf_id};
 ghost use Rattle.bt_model.specs.Trees.{IsRunnable};
 ghost use Rattle.bt_model.specs.Worlds.{IsValidWorld};
-ghost use Rattle.bt_arena.specs.Joins.{Joins, first_missing, leaf_lacks, place_by};
+ghost use Rattle.bt_arena.specs.Joins.{Joins, first_missing, ids_lent, leaf_lacks, place_by};
 ghost use Rattle.bt_arena.specs.Laying.{counted_all};
 ghost use Rattle.bt_arena.specs.Nodes.{at_rest as rested};
 ghost use Rattle.bt_arena.specs.Made.{IsArenaOf};
@@ -29,12 +29,13 @@ use indexmap::IndexMap;
 use std::alloc::Global;
 
 /// Adds the ID of a node that is a leaf. The error is want of memory.
-fn add_own_id(alloc: Global, node: &Term, ids: &mut Vec<Name>) -> Result<(), NoMemory>
-    ensures { OnOk result (ids.new.items ≡ ids.old.items ++ own_leaf_id (out-Term node.now).kind (out-Term node.now).id) }
+fn add_own_id<'a>(node: &'a Term, ids: &mut Vec<&'a Name>) -> Result<(), NoMemory>
+    ensures { OnOk result (ids_lent ids.new.items ≡
+        ids_lent ids.old.items ++ own_leaf_id (out-Term node.now).kind (out-Term node.now).id) }
 {
     match node.kind {
         Kind::Leaf => {
-            ids.push(node.id.copy(alloc)?)?;
+            ids.push(&node.id)?;
             Ok(())
         }
         _ => Ok(()),
@@ -42,12 +43,12 @@ fn add_own_id(alloc: Global, node: &Term, ids: &mut Vec<Name>) -> Result<(), NoM
 }
 
 /// Adds the IDs of the leaves of a term, in pre-order. The error is want of memory.
-fn add_ids(alloc: Global, term: &Term, ids: &mut Vec<Name>) -> Result<(), NoMemory>
-    ensures { OnOk result (ids.new.items ≡ ids.old.items ++ leaf_ids term.now) }
+fn add_ids<'a>(term: &'a Term, ids: &mut Vec<&'a Name>) -> Result<(), NoMemory>
+    ensures { OnOk result (ids_lent ids.new.items ≡ ids_lent ids.old.items ++ leaf_ids term.now) }
 {
-    add_own_id(alloc, term, ids)?;
+    add_own_id(term, ids)?;
     for child in term.children.list() {
-        add_ids(alloc, child, ids)?;
+        add_ids(child, ids)?;
     }
     Ok(())
 }
@@ -83,18 +84,19 @@ fn place_of<D: Drivers>(
 /// first leaf for which something is missing.
 fn counts_of<D: Drivers>(
     alloc: Global,
-    ids: &[Name],
+    ids: &[&Name],
     world: &World,
     rows: &IndexMap<Name, u32>,
     drivers: &D,
 ) -> Result<Vec<u32>, Stop<JoinFault>>
     requires { Finds world.now.rows (get bytes_eq rows.now) }
-    ensures fault { Joins result (first_missing world.now.rows (D.states drivers.now) ids.now) }
-    ensures counts { IfOk result (λ counts. counts.items ≡ counted_all world.now (D.states drivers.now) ids.now (replicate (length (D.states drivers.now)) 0)) }
+    ensures fault { Joins result (first_missing world.now.rows (D.states drivers.now) (ids_lent ids.now)) }
+    ensures counts { IfOk result (λ counts.
+        counts.items ≡ counted_all world.now (D.states drivers.now) (ids_lent ids.now) (replicate (length (D.states drivers.now)) 0)) }
 {
     let mut counts = vec![in alloc; 0u32; drivers.count()]?;
     for id in ids {
-        let place = place_of(alloc, id, world, rows, drivers)?;
+        let place = place_of(alloc, *id, world, rows, drivers)?;
         next_instance(&mut counts, place)?;
     }
     Ok(counts)
@@ -140,17 +142,17 @@ fn totals_of<D: Drivers>(
 ) -> Result<Vec<u32>, Stop<JoinFault>>
     requires { Finds world.now.rows (get bytes_eq rows.now) }
     ensures fault { Joins result (first_missing world.now.rows (D.states drivers.now) (leaf_ids term.now)) }
-    ensures counts { IfOk result (λ counts. counts.items ≡ counted_all world.now (D.states drivers.now) (leaf_ids term.now) (replicate (length (D.states drivers.now)) 0)) }
+    ensures counts { IfOk result (λ counts.
+        counts.items ≡ counted_all world.now (D.states drivers.now) (leaf_ids term.now) (replicate (length (D.states drivers.now)) 0)) }
 {
     let mut ids = Vec::new(alloc);
-    add_ids(alloc, term, &mut ids)?;
+    add_ids(term, &mut ids)?;
     counts_of(alloc, ids.as_slice(), world, rows, drivers)
 }
 
 /// The arena of a runner, where `counts` says how many leaves of the tree each driver serves. The
 /// error is want of memory.
 fn arena_with<D: Drivers>(
-    alloc: Global,
     setting: &Setting,
     drivers: &D,
     counts: &[u32],
@@ -160,14 +162,16 @@ fn arena_with<D: Drivers>(
     requires world { IsValidWorld setting.now.world.now }
     requires found { Finds setting.now.world.now.rows (get bytes_eq setting.now.rows.now) }
     requires joined { first_missing setting.now.world.now.rows (D.states drivers.now) (leaf_ids setting.now.tree.now.term) ≡ None }
-    requires counts { counts.now ≡ counted_all setting.now.world.now (D.states drivers.now) (leaf_ids setting.now.tree.now.term) (replicate (length (D.states drivers.now)) 0) }
+    requires counts { counts.now ≡
+        counted_all setting.now.world.now (D.states drivers.now) (leaf_ids setting.now.tree.now.term)
+        (replicate (length (D.states drivers.now)) 0) }
     requires first { 1 ≤ runner }
     ensures { IfOk result (λ arena. IsArenaOf setting.now.tree.now setting.now.world.now (D.states drivers.now) runner arena) }
 {
-    let mut next = firsts_of(alloc, counts, runner)?;
-    let nodes = nodes_of(alloc, setting, drivers, &mut next)?;
-    let kept = at_rest(alloc, nodes.len())?;
-    let frames = frames_for(alloc, &setting.tree.term)?;
+    let mut next = firsts_of(setting.alloc, counts, runner)?;
+    let nodes = nodes_of(setting, drivers, &mut next)?;
+    let kept = at_rest(setting.alloc, nodes.len())?;
+    let frames = frames_for(setting.alloc, &setting.tree.term)?;
     Ok(Arena {
         runner,
         nodes,
@@ -200,10 +204,11 @@ pub fn arena_of<D: Drivers>(
     let rows = index_of(alloc, world.rows.list())?;
     let counts = totals_of(alloc, &tree.term, world, &rows, drivers)?;
     let setting = Setting {
+        alloc,
         tree,
         slots,
         world,
         rows: &rows,
     };
-    Ok(arena_with(alloc, &setting, drivers, counts.as_slice(), runner)?)
+    Ok(arena_with(&setting, drivers, counts.as_slice(), runner)?)
 }

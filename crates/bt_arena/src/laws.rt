@@ -16,9 +16,11 @@ ghost use Rattle.bt_arena.specs.Stands.{Beside, IsKeptAlike, Stands, memories_of
 
 /// A term that stands in an arena, opened: its node is there, and its children come after it.
 pub fn terms_stand_in_pre_order()
-    ensures stands { (t : Term) (nodes : List Node) (view : View) (uid : ℕ) → Stands t nodes view uid ↔ node_stands Term (λ c. c) Stands (out-Term t) nodes view uid }
+    ensures stands { (t : Term) (nodes : List Node) (view : View) (uid : ℕ) →
+        Stands t nodes view uid ↔ node_stands Term (λ c. c) Stands (out-Term t) nodes view uid }
     ensures memory { (t : Term) (uid : ℕ) (kept : List Kept) →
-        memory_of t uid kept ≡ remembered (kept_at kept uid).status (kept_at kept uid).memo (memories_of (out-Term t).children (uid + 1) kept) }
+        memory_of t uid kept ≡
+        remembered (kept_at kept uid).status (kept_at kept uid).memo (memories_of (out-Term t).children (uid + 1) kept) }
 {}
 
 /// The memory of a term is that of its own nodes. Where only the nodes of one of several terms in
@@ -31,7 +33,8 @@ pub fn memories_are_of_their_nodes()
     ensures change { (ts : List Term) (place uid : ℕ) (t : Term) (a b : List Kept) → place < length ts →
         Beside (uid_of ts uid place) (meaning (slice_index_or ts place t)).size a b →
         slice_set (memories_of ts uid a) place (memory_of (slice_index_or ts place t) (uid_of ts uid place) b) ≡ memories_of ts uid b }
-    ensures rest { (t : Term) (uid : ℕ) (kept : List Kept) → ((p : ℕ) → uid ≤ p → p < uid + (meaning t).size → kept_at kept p ≡ at_rest) → memory_of t uid kept ≡ idle t }
+    ensures rest { (t : Term) (uid : ℕ) (kept : List Kept) →
+        ((p : ℕ) → uid ≤ p → p < uid + (meaning t).size → kept_at kept p ≡ at_rest) → memory_of t uid kept ≡ idle t }
 {}
 
 /// A call for a leaf of an arena changes its instance alone, each leaf is served as before, and the
@@ -53,7 +56,8 @@ pub fn calls_change_one_instance()
 /// Where the drivers were prepared for as many instances as all runners need, each leaf of a runner's
 /// arena is served, and has an instance of its own.
 pub fn numbered_leaves_are_served()
-    ensures { (drivers : List DriverState) (nodes : List Node) (counts : List ℕ) (runner runners : ℕ) → AreNumbered drivers runner nodes → 1 ≤ runner → runner ≤ runners →
+    ensures { (drivers : List DriverState) (nodes : List Node) (counts : List ℕ) (runner runners : ℕ) →
+        AreNumbered drivers runner nodes → 1 ≤ runner → runner ≤ runners →
         length counts ≡ length drivers → ((p : ℕ) → p < length drivers → slice_index_or counts p 0 ≡ runners * served p nodes) →
         AreServed (roster_prepared drivers counts) nodes }
 {}

@@ -14,9 +14,9 @@ ghost use Rattle.bt_arena.specs.Rows.{Finds, counted_at};
 ghost use Rattle.bt_arena.specs.Stands.{uids_of, written};
 
 use crate::leaves::leaf_of;
-use crate::nodes::{Node, ReadyGuards};
+use crate::nodes::Node;
 use crate::ports::kind_sources;
-use crate::resolving::{Setting, ready_guards, ready_script};
+use crate::resolving::{Setting, no_guards, ready_guards, ready_script};
 use bt_driver::Drivers;
 use bt_model::{Kind, Term};
 use bt_script::{Items, NoMemory};
@@ -45,23 +45,24 @@ fn scope_under(kind: Kind, uid: u32, scope: u32) -> u32
 
 /// The node of a term, but without its size, the uids of its children and its leaf, which are set
 /// later. The error is want of memory.
-fn bare_node(alloc: Global, term: &Term, setting: &Setting, scope: u32) -> Result<Node, NoMemory>
+fn bare_node(term: &Term, setting: &Setting, scope: u32) -> Result<Node, NoMemory>
     requires code_fits { ScriptFits (out-Term term.now).code }
     requires guards_fit { GuardsFit (out-Term term.now).guards }
     requires code { AreNamed setting.now.tree.now scope (names_if_there (out-Term term.now).code) }
     requires guards { GuardsAreNamed setting.now.tree.now scope (out-Term term.now).guards }
     requires ports { AreNamed setting.now.tree.now scope (port_keys (out-Term term.now).ports) }
-    ensures { IfOk result (λ node. IsBareNode (view_in setting.now.tree.now setting.now.world.now scope) (written (out-Term term.now)) node) }
+    ensures { IfOk result (λ node.
+        IsBareNode (view_in setting.now.tree.now setting.now.world.now scope) (written (out-Term term.now)) node) }
 {
     let children = narrow(term.children.list().len())?;
-    let ports = kind_sources(alloc, term.kind, term.ports.list(), setting, scope)?;
-    let code = ready_script(alloc, &term.code, setting, scope)?;
-    let guards = ready_guards(alloc, &term.guards, setting, scope)?;
+    let ports = kind_sources(term.kind, term.ports.list(), setting, scope)?;
+    let code = ready_script(&term.code, setting, scope)?;
+    let guards = ready_guards(&term.guards, setting, scope)?;
     Ok(Node {
         kind: term.kind,
         size: 0,
         children,
-        child_uids: Items::of(Vec::new(alloc)),
+        child_uids: Items::of(Vec::new(setting.alloc)),
         code,
         guards,
         ports: Items::of(ports),
@@ -72,7 +73,6 @@ fn bare_node(alloc: Global, term: &Term, setting: &Setting, scope: u32) -> Resul
 /// The node of a term, but without its size and the uids of its children, which are set later. The
 /// error is want of memory.
 fn node_of<D: Drivers>(
-    alloc: Global,
     term: &Term,
     setting: &Setting,
     scope: u32,
@@ -85,16 +85,18 @@ fn node_of<D: Drivers>(
     requires code { AreNamed setting.now.tree.now scope (names_if_there (out-Term term.now).code) }
     requires guards { GuardsAreNamed setting.now.tree.now scope (out-Term term.now).guards }
     requires ports { AreNamed setting.now.tree.now scope (port_keys (out-Term term.now).ports) }
-    requires joined { first_missing setting.now.world.now.rows (D.states drivers.now) (own_leaf_id (out-Term term.now).kind (out-Term term.now).id) ≡ None }
+    requires joined { first_missing setting.now.world.now.rows (D.states drivers.now)
+        (own_leaf_id (out-Term term.now).kind (out-Term term.now).id) ≡ None }
     requires world { IsValidWorld setting.now.world.now }
     requires found { Finds setting.now.world.now.rows (get bytes_eq setting.now.rows.now) }
     requires places { length next.old ≡ length (D.states drivers.now) }
-    ensures node { IfOk result (λ node. IsNode (view_in setting.now.tree.now setting.now.world.now scope) (written (out-Term term.now)) 0 node) }
+    ensures node { IfOk result (λ node.
+        IsNode (view_in setting.now.tree.now setting.now.world.now scope) (written (out-Term term.now)) 0 node) }
     ensures is_next { IfOk result (λ node. IsNext (D.states drivers.now) next.old node.leaf) }
     ensures next { IfOk result (λ node. next.new ≡ counted_at (driver_of node.leaf) next.old) }
 {
-    let mut node = bare_node(alloc, term, setting, scope)?;
-    match leaf_of(alloc, term, setting, scope, drivers, next) {
+    let mut node = bare_node(term, setting, scope)?;
+    match leaf_of(term, setting, scope, drivers, next) {
         Ok(leaf) => {
             drop(replace(&mut node.leaf, leaf));
             Ok(node)
@@ -118,7 +120,9 @@ fn complete(node: &mut Node, size: u32, child_uids: Items<u32>)
 /// The error is want of memory.
 fn close(nodes: &mut Vec<Node>, place: usize, child_uids: Items<u32>) -> Result<(), NoMemory>
     requires { place < length nodes.old.items }
-    ensures { OnOk result (nodes.new.items ≡ slice_set nodes.old.items place (record (node_at nodes.old.items place) { size = length nodes.old.items - place; child_uids = child_uids })) }
+    ensures { OnOk result (nodes.new.items ≡
+        slice_set nodes.old.items place
+        (record (node_at nodes.old.items place) { size = length nodes.old.items - place; child_uids = child_uids })) }
 {
     let size = narrow(nodes.len() - place)?;
     complete(&mut nodes[place], size, child_uids);
@@ -128,7 +132,6 @@ fn close(nodes: &mut Vec<Node>, place: usize, child_uids: Items<u32>) -> Result<
 /// Adds a term of a tree after the nodes that are there. The error is want of memory.
 #[cycle(laying)]
 fn lay_term<D: Drivers>(
-    alloc: Global,
     term: &Term,
     setting: &Setting,
     scope: u32,
@@ -136,32 +139,26 @@ fn lay_term<D: Drivers>(
     next: &mut [u32],
     nodes: &mut Vec<Node>,
 ) -> Result<(), NoMemory>
-    requires can { CanBeLaid setting.now.tree.now setting.now.world.now (D.states drivers.now) (term.now ∷ []) (length nodes.old.items) scope }
+    requires can { CanBeLaid setting.now.tree.now setting.now.world.now (D.states drivers.now)
+        (term.now ∷ []) (length nodes.old.items) scope }
     requires world { IsValidWorld setting.now.world.now }
     requires found { Finds setting.now.world.now.rows (get bytes_eq setting.now.rows.now) }
     requires places { length next.old ≡ length (D.states drivers.now) }
-    ensures laid { OnOk result (AreLaid setting.now.tree.now setting.now.world.now (D.states drivers.now) (term.now ∷ []) scope nodes.old.items nodes.new.items next.old next.new) }
+    ensures laid { OnOk result (
+        AreLaid setting.now.tree.now setting.now.world.now (D.states drivers.now) (term.now ∷ []) scope
+        nodes.old.items nodes.new.items next.old next.new) }
 {
     let place = nodes.len();
     let uid = narrow(place)?;
-    nodes.push(node_of(alloc, term, setting, scope, drivers, next)?)?;
+    nodes.push(node_of(term, setting, scope, drivers, next)?)?;
     let inner = scope_under(term.kind, uid, scope);
-    let child_uids = lay_terms(
-        alloc,
-        term.children.list(),
-        setting,
-        inner,
-        drivers,
-        next,
-        nodes,
-    )?;
+    let child_uids = lay_terms(term.children.list(), setting, inner, drivers, next, nodes)?;
     close(nodes, place, Items::of(child_uids))
 }
 
 /// Adds some terms of a tree in order, and gives their uids. The error is want of memory.
 #[cycle(laying)]
 fn lay_terms<D: Drivers>(
-    alloc: Global,
     terms: &[Term],
     setting: &Setting,
     scope: u32,
@@ -173,13 +170,15 @@ fn lay_terms<D: Drivers>(
     requires world { IsValidWorld setting.now.world.now }
     requires found { Finds setting.now.world.now.rows (get bytes_eq setting.now.rows.now) }
     requires places { length next.old ≡ length (D.states drivers.now) }
-    ensures laid { OnOk result (AreLaid setting.now.tree.now setting.now.world.now (D.states drivers.now) terms.now scope nodes.old.items nodes.new.items next.old next.new) }
+    ensures laid { OnOk result (
+        AreLaid setting.now.tree.now setting.now.world.now (D.states drivers.now) terms.now scope
+        nodes.old.items nodes.new.items next.old next.new) }
     ensures uids { IfOk result (λ uids. uids.items ≡ uids_of terms.now (length nodes.old.items)) }
 {
-    let mut uids = Vec::new(alloc);
+    let mut uids = Vec::new(setting.alloc);
     for term in terms {
         uids.push(narrow(nodes.len())?)?;
-        lay_term(alloc, term, setting, scope, drivers, next, nodes)?;
+        lay_term(term, setting, scope, drivers, next, nodes)?;
     }
     Ok(uids)
 }
@@ -194,18 +193,7 @@ fn nobody(alloc: Global) -> Node
         children: 0,
         child_uids: Items::of(Vec::new(alloc)),
         code: None,
-        guards: ReadyGuards {
-            before: false,
-            after: false,
-            failure_if: None,
-            success_if: None,
-            skip_if: None,
-            while_true: None,
-            on_success: None,
-            on_failure: None,
-            post: None,
-            on_halted: None,
-        },
+        guards: no_guards(),
         ports: Items::of(Vec::new(alloc)),
         leaf: None,
     }
@@ -213,7 +201,6 @@ fn nobody(alloc: Global) -> Node
 
 /// The nodes of a tree by uid, or want of memory.
 pub(crate) fn nodes_of<D: Drivers>(
-    alloc: Global,
     setting: &Setting,
     drivers: &D,
     next: &mut [u32],
@@ -222,18 +209,12 @@ pub(crate) fn nodes_of<D: Drivers>(
     requires world { IsValidWorld setting.now.world.now }
     requires found { Finds setting.now.world.now.rows (get bytes_eq setting.now.rows.now) }
     requires places { length next.old ≡ length (D.states drivers.now) }
-    ensures laid { IfOk result (λ nodes. AreLaid setting.now.tree.now setting.now.world.now (D.states drivers.now) (setting.now.tree.now.term ∷ []) 0 (no_node ∷ []) nodes.items next.old next.new) }
+    ensures laid { IfOk result (λ nodes.
+        AreLaid setting.now.tree.now setting.now.world.now (D.states drivers.now)
+        (setting.now.tree.now.term ∷ []) 0 (no_node ∷ []) nodes.items next.old next.new) }
 {
-    let mut nodes = Vec::new(alloc);
-    nodes.push(nobody(alloc))?;
-    lay_term(
-        alloc,
-        &setting.tree.term,
-        setting,
-        0,
-        drivers,
-        next,
-        &mut nodes,
-    )?;
+    let mut nodes = Vec::new(setting.alloc);
+    nodes.push(nobody(setting.alloc))?;
+    lay_term(&setting.tree.term, setting, 0, drivers, next, &mut nodes)?;
     Ok(nodes)
 }

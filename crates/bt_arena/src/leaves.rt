@@ -21,7 +21,6 @@ use crate::rows::row_named;
 use bt_driver::{Drivers, kind_of, ready};
 use bt_model::{Kind, Port, Row, Term};
 use bt_script::{Items, NoMemory};
-use std::alloc::Global;
 
 /// Takes the next instance of the driver at this place. From 2^32 leaves on it is want of memory.
 pub(crate) fn next_instance(next: &mut [u32], place: usize) -> Result<u32, NoMemory>
@@ -41,7 +40,6 @@ pub(crate) fn next_instance(next: &mut [u32], place: usize) -> Result<u32, NoMem
 
 /// A leaf with these ports that follows a row, with its driver and its instance, or want of memory.
 fn leaf_with(
-    alloc: Global,
     ports: &[Port],
     row: &Row,
     driver: usize,
@@ -56,10 +54,10 @@ fn leaf_with(
     ensures driver { IfOk result (λ leaf. leaf.driver ≡ driver) }
     ensures instance { IfOk result (λ leaf. leaf.instance ≡ instance) }
 {
-    let inputs = input_sources(alloc, row.ports.list(), ports, setting, scope)?;
-    let outputs = output_sources(alloc, row.outs.list(), ports, setting, scope)?;
+    let inputs = input_sources(row.ports.list(), ports, setting, scope)?;
+    let outputs = output_sources(row.outs.list(), ports, setting, scope)?;
     Ok(ReadyLeaf {
-        row: ready(alloc, row, setting.world.facts.list())?,
+        row: ready(setting.alloc, row, setting.world.facts.list())?,
         driver,
         instance,
         inputs: Items::of(inputs),
@@ -71,7 +69,6 @@ fn leaf_with(
 /// the next one there. The error is want of memory.
 #[tactic(auto, unfolding(crate::specs::Laying::LeafIs, crate::specs::Laying::IsNext))]
 pub(crate) fn leaf_of<D: Drivers>(
-    alloc: Global,
     node: &Term,
     setting: &Setting,
     scope: u32,
@@ -79,11 +76,13 @@ pub(crate) fn leaf_of<D: Drivers>(
     next: &mut [u32],
 ) -> Result<Option<ReadyLeaf>, NoMemory>
     requires named { AreNamed setting.now.tree.now scope (port_keys (out-Term node.now).ports) }
-    requires joined { first_missing setting.now.world.now.rows (D.states drivers.now) (own_leaf_id (out-Term node.now).kind (out-Term node.now).id) ≡ None }
+    requires joined { first_missing setting.now.world.now.rows (D.states drivers.now)
+        (own_leaf_id (out-Term node.now).kind (out-Term node.now).id) ≡ None }
     requires world { IsValidWorld setting.now.world.now }
     requires found { Finds setting.now.world.now.rows (get bytes_eq setting.now.rows.now) }
     requires places { length next.old ≡ length (D.states drivers.now) }
-    ensures stands { IfOk result (λ leaf. LeafIs (view_in setting.now.tree.now setting.now.world.now scope) (written (out-Term node.now)) leaf) }
+    ensures stands { IfOk result (λ leaf.
+        LeafIs (view_in setting.now.tree.now setting.now.world.now scope) (written (out-Term node.now)) leaf) }
     ensures is_next { IfOk result (λ leaf. IsNext (D.states drivers.now) next.old leaf) }
     ensures next { IfOk result (λ leaf. next.new ≡ counted_at (driver_of leaf) next.old) }
 {
@@ -93,7 +92,7 @@ pub(crate) fn leaf_of<D: Drivers>(
                 Some(driver) => {
                     let instance = next_instance(next, driver)?;
                     let ports = node.ports.list();
-                    Ok(Some(leaf_with(alloc, ports, row, driver, instance, setting, scope)?))
+                    Ok(Some(leaf_with(ports, row, driver, instance, setting, scope)?))
                 }
                 None => unreachable!(),
             },

@@ -9,23 +9,22 @@ use crate::resolving::{Setting, source_at};
 use crate::source::Source;
 use bt_model::{Kind, Out, Port, PortRule, ports_of};
 use bt_script::{Name, NoMemory};
-use std::alloc::Global;
 
 /// What the ports of these rules are given, in order, or want of memory.
 fn rule_sources(
-    alloc: Global,
     rules: &[PortRule],
     ports: &[Port],
     setting: &Setting,
     scope: u32,
 ) -> Result<Vec<Source>, NoMemory>
     requires { AreNamed setting.now.tree.now scope (port_keys ports.now) }
-    ensures sources { IfOk result (λ sources. sources.items ≡ map (λ port. source_in (view_in setting.now.tree.now setting.now.world.now scope) ports.now port.name.now) rules.now) }
+    ensures sources { IfOk result (λ sources. sources.items ≡
+        map (λ port. source_in (view_in setting.now.tree.now setting.now.world.now scope) ports.now port.name.now) rules.now) }
     ensures slots { IfOk result (λ sources. All (IsSourceOf (length (cells setting.now.tree.now))) sources.items) }
 {
-    let mut sources = Vec::new(alloc);
+    let mut sources = Vec::new(setting.alloc);
     for rule in rules {
-        sources.push(source_at(alloc, ports, rule.name.as_bytes(), setting, scope)?)?;
+        sources.push(source_at(ports, rule.name.as_bytes(), setting, scope)?)?;
     }
     Ok(sources)
 }
@@ -33,53 +32,53 @@ fn rule_sources(
 /// What the ports of a built-in node are given, in the order of its kind's ports, or want of
 /// memory.
 pub(crate) fn kind_sources(
-    alloc: Global,
     kind: Kind,
     ports: &[Port],
     setting: &Setting,
     scope: u32,
 ) -> Result<Vec<Source>, NoMemory>
     requires { AreNamed setting.now.tree.now scope (port_keys ports.now) }
-    ensures sources { IfOk result (λ sources. sources.items ≡ map (λ port. source_in (view_in setting.now.tree.now setting.now.world.now scope) ports.now port.name) (rules_of kind)) }
+    ensures sources { IfOk result (λ sources. sources.items ≡
+        map (λ port. source_in (view_in setting.now.tree.now setting.now.world.now scope) ports.now port.name) (rules_of kind)) }
     ensures slots { IfOk result (λ sources. All (IsSourceOf (length (cells setting.now.tree.now))) sources.items) }
 {
-    rule_sources(alloc, ports_of(kind), ports, setting, scope)
+    rule_sources(ports_of(kind), ports, setting, scope)
 }
 
 /// What the ports of these names are given, in order, or want of memory.
 pub(crate) fn input_sources(
-    alloc: Global,
     names: &[Name],
     ports: &[Port],
     setting: &Setting,
     scope: u32,
 ) -> Result<Vec<Source>, NoMemory>
     requires { AreNamed setting.now.tree.now scope (port_keys ports.now) }
-    ensures sources { IfOk result (λ sources. sources.items ≡ map (λ name. source_in (view_in setting.now.tree.now setting.now.world.now scope) ports.now name) names.now) }
+    ensures sources { IfOk result (λ sources. sources.items ≡
+        map (λ name. source_in (view_in setting.now.tree.now setting.now.world.now scope) ports.now name) names.now) }
     ensures slots { IfOk result (λ sources. All (IsSourceOf (length (cells setting.now.tree.now))) sources.items) }
 {
-    let mut sources = Vec::new(alloc);
+    let mut sources = Vec::new(setting.alloc);
     for name in names {
-        sources.push(source_at(alloc, ports, name.list(), setting, scope)?)?;
+        sources.push(source_at(ports, name.list(), setting, scope)?)?;
     }
     Ok(sources)
 }
 
 /// What the ports of these outputs are given, in order, or want of memory.
 pub(crate) fn output_sources(
-    alloc: Global,
     outs: &[Out],
     ports: &[Port],
     setting: &Setting,
     scope: u32,
 ) -> Result<Vec<Source>, NoMemory>
     requires { AreNamed setting.now.tree.now scope (port_keys ports.now) }
-    ensures sources { IfOk result (λ sources. sources.items ≡ map (λ out. source_in (view_in setting.now.tree.now setting.now.world.now scope) ports.now out.port) outs.now) }
+    ensures sources { IfOk result (λ sources. sources.items ≡
+        map (λ out. source_in (view_in setting.now.tree.now setting.now.world.now scope) ports.now out.port) outs.now) }
     ensures slots { IfOk result (λ sources. All (IsSourceOf (length (cells setting.now.tree.now))) sources.items) }
 {
-    let mut sources = Vec::new(alloc);
+    let mut sources = Vec::new(setting.alloc);
     for out in outs {
-        sources.push(source_at(alloc, ports, out.port.list(), setting, scope)?)?;
+        sources.push(source_at(ports, out.port.list(), setting, scope)?)?;
     }
     Ok(sources)
 }

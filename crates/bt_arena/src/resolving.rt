@@ -3,7 +3,7 @@ ghost use Rattle.std.specs.Option.{option_copied};
 ghost use Rattle.bt_script.specs.Scripts.{names_of, stmt_names};
 ghost use Rattle.bt_model.specs.Boards.{port_of, slot_table, slots as cells};
 ghost use Rattle.bt_model.specs.Trees.{GuardsFit, ScriptFits};
-ghost use Rattle.bt_arena.specs.Nodes.{AreCompiled, IsCompiled, has_after, has_before};
+ghost use Rattle.bt_arena.specs.Nodes.{AreCompiled, IsCompiled, has_after, has_before, no_guards as without_guards};
 ghost use Rattle.bt_arena.specs.Resolving.{AreNamed, GuardsAreNamed, named_slot, names_if_there, names_in_script, port_keys, view_in, with_slots};
 ghost use Rattle.bt_arena.specs.Sources.{IsSourceOf, source_at as source_in};
 
@@ -16,9 +16,11 @@ use bt_script_code::{Code, compile};
 use indexmap::IndexMap;
 use std::alloc::Global;
 
-/// A tree with its slots, and a world with the numbers of its rows by their IDs.
+/// What stays the same while a tree is laid out: where memory comes from, the tree with its slots, and
+/// a world with the numbers of its rows by their IDs.
 #[derive(Drop)]
 pub(crate) struct Setting<'a> {
+    pub(crate) alloc: Global,
     pub(crate) tree: &'a Tree,
     pub(crate) slots: &'a Slots,
     pub(crate) world: &'a World,
@@ -35,7 +37,6 @@ fn slot_of(setting: &Setting, scope: u32, key: &Name) -> u32
 
 /// Adds a key with its slot. The error is want of memory.
 fn add_key(
-    alloc: Global,
     key: &Name,
     setting: &Setting,
     scope: u32,
@@ -43,13 +44,12 @@ fn add_key(
 ) -> Result<(), NoMemory>
     ensures { OnOk result (keys.new.items ≡ keys.old.items ++ with_slots setting.now.tree.now scope (key.now ∷ [])) }
 {
-    keys.push((key.copy(alloc)?, slot_of(setting, scope, key)))?;
+    keys.push((key.copy(setting.alloc)?, slot_of(setting, scope, key)))?;
     Ok(())
 }
 
 /// Adds the names of an expression with their slots. The error is want of memory.
 fn add_expr(
-    alloc: Global,
     e: &Expr,
     setting: &Setting,
     scope: u32,
@@ -59,23 +59,22 @@ fn add_expr(
 {
     match e {
         Expr::Num(_) | Expr::Lit(_) => Ok(()),
-        Expr::Look(name) => add_key(alloc, name, setting, scope, keys),
-        Expr::Group(a) | Expr::Unary(_, a) => add_expr(alloc, a.get(), setting, scope, keys),
+        Expr::Look(name) => add_key(name, setting, scope, keys),
+        Expr::Group(a) | Expr::Unary(_, a) => add_expr(a.get(), setting, scope, keys),
         Expr::Binary(_, a, b) => {
-            add_expr(alloc, a.get(), setting, scope, keys)?;
-            add_expr(alloc, b.get(), setting, scope, keys)
+            add_expr(a.get(), setting, scope, keys)?;
+            add_expr(b.get(), setting, scope, keys)
         }
         Expr::Choose(a, b, c) => {
-            add_expr(alloc, a.get(), setting, scope, keys)?;
-            add_expr(alloc, b.get(), setting, scope, keys)?;
-            add_expr(alloc, c.get(), setting, scope, keys)
+            add_expr(a.get(), setting, scope, keys)?;
+            add_expr(b.get(), setting, scope, keys)?;
+            add_expr(c.get(), setting, scope, keys)
         }
     }
 }
 
 /// Adds the names of a statement with their slots. The error is want of memory.
 fn add_stmt(
-    alloc: Global,
     stmt: &Stmt,
     setting: &Setting,
     scope: u32,
@@ -85,32 +84,26 @@ fn add_stmt(
 {
     match stmt {
         Stmt::Create(name, e) | Stmt::Assign(name, e) | Stmt::Change(_, name, e) => {
-            add_key(alloc, name, setting, scope, keys)?;
-            add_expr(alloc, e, setting, scope, keys)
+            add_key(name, setting, scope, keys)?;
+            add_expr(e, setting, scope, keys)
         }
-        Stmt::Plain(e) => add_expr(alloc, e, setting, scope, keys),
+        Stmt::Plain(e) => add_expr(e, setting, scope, keys),
     }
 }
 
 /// The names of a script with their slots, or want of memory.
-fn keys_of(
-    alloc: Global,
-    script: &Script,
-    setting: &Setting,
-    scope: u32,
-) -> Result<Vec<(Name, u32)>, NoMemory>
+fn keys_of(script: &Script, setting: &Setting, scope: u32) -> Result<Vec<(Name, u32)>, NoMemory>
     ensures { IfOk result (λ keys. keys.items ≡ with_slots setting.now.tree.now scope (names_in_script script.now)) }
 {
-    let mut keys = Vec::new(alloc);
+    let mut keys = Vec::new(setting.alloc);
     for stmt in script.stmts.list() {
-        add_stmt(alloc, stmt, setting, scope, &mut keys)?;
+        add_stmt(stmt, setting, scope, &mut keys)?;
     }
     Ok(keys)
 }
 
 /// A script compiled for the scope of this number, where there is one, or want of memory.
 pub(crate) fn ready_script(
-    alloc: Global,
     script: &Option<Script>,
     setting: &Setting,
     scope: u32,
@@ -122,15 +115,14 @@ pub(crate) fn ready_script(
     match script {
         None => Ok(None),
         Some(script) => {
-            let keys = keys_of(alloc, script, setting, scope)?;
-            Ok(Some(compile(alloc, script, keys.as_slice())?))
+            let keys = keys_of(script, setting, scope)?;
+            Ok(Some(compile(setting.alloc, script, keys.as_slice())?))
         }
     }
 }
 
 /// The guards of a node compiled for the scope of this number, or want of memory.
 pub(crate) fn ready_guards(
-    alloc: Global,
     guards: &Guards,
     setting: &Setting,
     scope: u32,
@@ -139,17 +131,49 @@ pub(crate) fn ready_guards(
     requires named { GuardsAreNamed setting.now.tree.now scope guards.now }
     ensures { IfOk result (λ ready. AreCompiled (view_in setting.now.tree.now setting.now.world.now scope) guards.now ready) }
 {
+    if is_before(guards) || is_after(guards) || guards.on_halted.is_some() {
+        return some_guards(guards, setting, scope);
+    }
+    Ok(no_guards())
+}
+
+/// No guards.
+pub(crate) fn no_guards() -> ReadyGuards
+    ensures { result ≡ without_guards }
+{
+    ReadyGuards {
+        before: false,
+        after: false,
+        failure_if: None,
+        success_if: None,
+        skip_if: None,
+        while_true: None,
+        on_success: None,
+        on_failure: None,
+        post: None,
+        on_halted: None,
+    }
+}
+
+/// The guards of a node that has some, compiled, or want of memory. It is not inlined, since few
+/// nodes have guards.
+#[inline(never)]
+fn some_guards(guards: &Guards, setting: &Setting, scope: u32) -> Result<ReadyGuards, NoMemory>
+    requires fit { GuardsFit guards.now }
+    requires named { GuardsAreNamed setting.now.tree.now scope guards.now }
+    ensures { IfOk result (λ ready. AreCompiled (view_in setting.now.tree.now setting.now.world.now scope) guards.now ready) }
+{
     Ok(ReadyGuards {
         before: is_before(guards),
         after: is_after(guards),
-        failure_if: ready_script(alloc, &guards.failure_if, setting, scope)?,
-        success_if: ready_script(alloc, &guards.success_if, setting, scope)?,
-        skip_if: ready_script(alloc, &guards.skip_if, setting, scope)?,
-        while_true: ready_script(alloc, &guards.while_true, setting, scope)?,
-        on_success: ready_script(alloc, &guards.on_success, setting, scope)?,
-        on_failure: ready_script(alloc, &guards.on_failure, setting, scope)?,
-        post: ready_script(alloc, &guards.post, setting, scope)?,
-        on_halted: ready_script(alloc, &guards.on_halted, setting, scope)?,
+        failure_if: ready_script(&guards.failure_if, setting, scope)?,
+        success_if: ready_script(&guards.success_if, setting, scope)?,
+        skip_if: ready_script(&guards.skip_if, setting, scope)?,
+        while_true: ready_script(&guards.while_true, setting, scope)?,
+        on_success: ready_script(&guards.on_success, setting, scope)?,
+        on_failure: ready_script(&guards.on_failure, setting, scope)?,
+        post: ready_script(&guards.post, setting, scope)?,
+        on_halted: ready_script(&guards.on_halted, setting, scope)?,
     })
 }
 
@@ -185,20 +209,20 @@ fn port_named<'a>(ports: &'a [Port], name: &[u8]) -> Option<&'a Port>
 /// What the port of this name is given, its key resolved in the scope of this number. The error is
 /// want of memory.
 pub(crate) fn source_at(
-    alloc: Global,
     ports: &[Port],
     name: &[u8],
     setting: &Setting,
     scope: u32,
 ) -> Result<Source, NoMemory>
     requires { AreNamed setting.now.tree.now scope (port_keys ports.now) }
-    ensures source { IfOk result (λ source. source ≡ source_in (view_in setting.now.tree.now setting.now.world.now scope) ports.now name.now) }
+    ensures source { IfOk result (λ source.
+        source ≡ source_in (view_in setting.now.tree.now setting.now.world.now scope) ports.now name.now) }
     ensures slot { IfOk result (λ source. IsSourceOf (length (cells setting.now.tree.now)) source) }
 {
     match port_named(ports, name) {
         None => Ok(Source::Absent),
         Some(port) => match &port.value {
-            PortValue::Lit(value) => Ok(Source::Lit(value.copy(alloc)?)),
+            PortValue::Lit(value) => Ok(Source::Lit(value.copy(setting.alloc)?)),
             PortValue::Key(key) => Ok(Source::Slot(slot_of(setting, scope, key))),
         },
     }

@@ -18,7 +18,8 @@ fn add_row(
     number: u32,
     index: &mut IndexMap<Name, u32>,
 ) -> Result<(), NoMemory>
-    ensures { OnOk result ((id : List ℕ) → get bytes_eq index.new id ≡ option_or (get bytes_eq index.old id) (if bytes_eq row.now.id id then Some number else None)) }
+    ensures { OnOk result ((id : List ℕ) →
+        get bytes_eq index.new id ≡ option_or (get bytes_eq index.old id) (if bytes_eq row.now.id id then Some number else None)) }
 {
     if !index.contains_key(&row.id) {
         index.insert(row.id.copy(alloc)?, number)?;

@@ -1,5 +1,5 @@
 use Rattle.std.proofs.Common.{◌≡◌, length, drop, replicate}
-use Rattle.bt_arena.specs.Joins.{first_missing}
+use Rattle.bt_arena.specs.Joins.{first_missing, ids_lent}
 use Rattle.bt_arena.specs.Laying.{counted_all}
 use Rattle.bt_arena.proofs.joining.counts_of.Given as goal
 
@@ -7,7 +7,7 @@ use Rattle.bt_arena.proofs.joining.counts_of.Given as goal
 -- all
 abbrev pub invariant-loop-id : goal.invariant-loop-id
 invariant-loop-id g l = record {
-  lacks : first_missing l.world.rows (g.D.Drivers.states l.drivers) (drop l.id-index l.ids) ≡ first_missing l.world.rows (g.D.Drivers.states l.drivers) l.ids;
-  counts : counted_all l.world (g.D.Drivers.states l.drivers) (drop l.id-index l.ids) l.counts.items ≡ counted_all l.world (g.D.Drivers.states l.drivers) l.ids (replicate (length (g.D.Drivers.states l.drivers)) 0);
+  lacks : first_missing l.world.rows (g.D.Drivers.states l.drivers) (ids_lent (drop l.id-index l.ids)) ≡ first_missing l.world.rows (g.D.Drivers.states l.drivers) (ids_lent l.ids);
+  counts : counted_all l.world (g.D.Drivers.states l.drivers) (ids_lent (drop l.id-index l.ids)) l.counts.items ≡ counted_all l.world (g.D.Drivers.states l.drivers) (ids_lent l.ids) (replicate (length (g.D.Drivers.states l.drivers)) 0);
   places : length l.counts.items ≡ length (g.D.Drivers.states l.drivers);
 }
