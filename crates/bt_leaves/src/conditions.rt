@@ -97,10 +97,14 @@ impl Conditions {
     fn answer(row: &ReadyRow, inputs: &Inputs, facts: &FactTable, outs: &mut Outs) -> Reply
         requires kind { kind_of_way (rule row.now).way ≡ driver.Condition }
         requires table { length facts.now ≡ row.now.facts }
-        ensures reply { (since now : ℕ) (before : Held) → result ≡ (answer_by (rule row.now).way (rule row.now) since before inputs.now facts.now now).reply }
-        ensures instance { (since now : ℕ) (before : Held) → left_by result before ≡ (answer_by (rule row.now).way (rule row.now) since before inputs.now facts.now now).instance }
-        ensures facts { (since now : ℕ) (before : Held) → facts.now ≡ (answer_by (rule row.now).way (rule row.now) since before inputs.now facts.now now).facts }
-        ensures outs { (since now : ℕ) (before : Held) → outs.new ≡ outputs_after (answer_by (rule row.now).way (rule row.now) since before inputs.now facts.now now) outs.old }
+        ensures reply { (since now : ℕ) (before : Held) →
+            result ≡ (answer_by (rule row.now).way (rule row.now) since before inputs.now facts.now now).reply }
+        ensures instance { (since now : ℕ) (before : Held) →
+            left_by result before ≡ (answer_by (rule row.now).way (rule row.now) since before inputs.now facts.now now).instance }
+        ensures facts { (since now : ℕ) (before : Held) →
+            facts.now ≡ (answer_by (rule row.now).way (rule row.now) since before inputs.now facts.now now).facts }
+        ensures outs { (since now : ℕ) (before : Held) →
+            outs.new ≡ outputs_after (answer_by (rule row.now).way (rule row.now) since before inputs.now facts.now now) outs.old }
     {
         match &row.sort {
             ReadySort::Is { fact, op, value } => {

@@ -47,7 +47,8 @@ impl Gate {
         ensures reply { result.0 ≡ (answer_by (rule row.now).way (rule row.now) since before inputs.now facts.old now).reply }
         ensures instance { result.1 ≡ (answer_by (rule row.now).way (rule row.now) since before inputs.now facts.old now).instance }
         ensures facts { facts.new ≡ (answer_by (rule row.now).way (rule row.now) since before inputs.now facts.old now).facts }
-        ensures outs { outs.new ≡ outputs_after (answer_by (rule row.now).way (rule row.now) since before inputs.now facts.old now) outs.old }
+        ensures outs { outs.new ≡
+            outputs_after (answer_by (rule row.now).way (rule row.now) since before inputs.now facts.old now) outs.old }
     {
         let ReadySort::Gate(test) = &row.sort else {
             unreachable!()
