@@ -1,7 +1,7 @@
 -- A script means the same over two maps of names to slots that agree on its names.
 use Rattle.std.proofs.Common.{◌≡◌, ℕ, ◌+◌, max, pos, ◌||◌, List, [], ◌∷◌, ◌++◌, map, refl, sym, ap, subst, ◌∙◌}
 use Rattle.std.specs.Prelude.{Option, Result}
-use Rattle.std.specs.List.{All, flat_map}
+use Rattle.std.specs.List.{flat_map}
 use Rattle.std.proofs.lemmas.List.Elements.{All-head, All-tail}
 use Rattle.bt_script.specs.declared.fault.ExecFault.{ExecFault}
 use Rattle.bt_script.specs.declared.syntax.Expr.{Expr, ind-Expr, map-Expr, fold-roll-Expr}

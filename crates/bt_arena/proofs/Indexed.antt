@@ -1,5 +1,5 @@
 -- Rows that are found by their IDs, one after the other.
-use Rattle.std.proofs.Common.{◌≡◌, ℕ, ◌+◌, ◌<◌, List, ◌∷◌, true, false, Option, Some, None, length, drop, get_or, if◌then◌else◌, refl, sym, ap, subst, ◌∙◌}
+use Rattle.std.proofs.Common.{◌≡◌, ℕ, ◌+◌, ◌<◌, List, [], ◌∷◌, true, false, Option, Some, None, length, drop, get_or, if◌then◌else◌, refl, sym, ap, subst, ◌∙◌}
 use Rattle.std.proofs.lemmas.List.{drop_more}
 use Rattle.std.proofs.lemmas.Option.{slice_get_read}
 use Rattle.std.specs.Option.{option_or}
@@ -7,6 +7,7 @@ use Rattle.std.specs.Str.{bytes_eq}
 use Rattle.std.specs.Prelude.{slice_get}
 use Rattle.bt_model.specs.declared.world.Row.{Row}
 use Rattle.bt_model.specs.Leaves.{row_of}
+use Rattle.bt_arena.specs.Rows.{row_by}
 
 -- the row that is found for an ID, or else that of the rows still to come
 abbrev pub found_or : Option ℕ → List Row → List Row → List ℕ → Option Row
@@ -33,3 +34,8 @@ finds_more rows number given row old new within is_row same added found id =
     let here : drop number rows ≡ row ∷ drop (number + 1) rows = drop_more rows number row within ∙ ap (λ (r : Row). r ∷ drop (number + 1) rows) (sym is_row) in
     ap (λ (o : Option ℕ). found_or o rows (drop (number + 1) rows) id) (added id ∙ ap (λ n. option_or (old id) (if bytes_eq row.id id then Some n else None)) same)
     ∙ found_first rows (drop (number + 1) rows) row number id (slice_get_read rows (length rows) number row refl within is_row) (old id) (subst (λ (left : List Row). found_or (old id) rows left id ≡ row_of rows id) here (found id))
+
+-- where no row is still to come, all are found
+pub none_left : (rows left : List Row) (number : Option ℕ) (id : List ℕ) → left ≡ [] → found_or number rows left id ≡ row_of rows id → row_by rows number ≡ row_of rows id
+none_left rows left (Some number) id none found = found
+none_left rows left None id none found = subst (λ (ls : List Row). row_of ls id ≡ row_of rows id) none found

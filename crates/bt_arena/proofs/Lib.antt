@@ -1,3 +1,4 @@
+pub mod Added
 pub mod Agreeing
 pub mod Compilable
 pub mod Compiled

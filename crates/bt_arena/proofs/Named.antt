@@ -1,13 +1,11 @@
 -- The names that a tree has slots for have the slots of their cells.
-use Rattle.std.proofs.Common.{◌≡◌, ℕ, ◌+◌, ◌<◌, List, [], ◌∷◌, true, false, cond, ◌||◌, ◌&&◌, nat_eq, Option, Some, None, inl, inr, map, length, if◌then◌else◌, unwrap_or, refl, sym, ap, subst, ◌∙◌, arith}
-use Rattle.std.specs.List.{All, AllByRecursion, Contains, list_any}
+use Rattle.std.proofs.Common.{◌≡◌, ℕ, ◌+◌, ◌<◌, List, [], ◌∷◌, true, false, cond, ◌||◌, ◌&&◌, nat_eq, Option, Some, None, inl, inr, map, length, if◌then◌else◌, unwrap_or, ap, subst, ◌∙◌, arith}
+use Rattle.std.specs.List.{AllByRecursion, list_any}
 use Rattle.std.specs.Prelude.{IfSome}
 use Rattle.std.specs.Str.{bytes_eq}
 use Rattle.std.proofs.lemmas.Bool.{or_cases}
 use Rattle.std.proofs.lemmas.Bool.Decides.{nat_tests}
-use Rattle.std.proofs.lemmas.List.Elements.{All-nil, All-cons, All-contains, All-contains_itself, All-weaker, Contains-append_cases}
 use Rattle.std.proofs.lemmas.Slice.Eq.{bytes_eq-Decides}
-use Rattle.bt_script_code.specs.Sources.{slot_of as slot_among}
 use Rattle.bt_model.specs.declared.cell.Cell.{Cell}
 use Rattle.bt_model.specs.declared.cell.Naming.{Naming}
 use Rattle.bt_model.specs.declared.term.Port.{Port}
@@ -15,7 +13,7 @@ use Rattle.bt_model.specs.declared.term.Tree.{Tree}
 use Rattle.bt_model.specs.Boards.{is_named, namings, port_of, same_cell, scope_of, slot_in, slots, value_keys}
 use Rattle.bt_board.proofs.CellOrder.{in_order_any}
 use Rattle.bt_board.proofs.Sound.{IsTrue_cell, namings_sound}
-use Rattle.bt_arena.specs.Resolving.{AreNamed, named_slot, port_keys, with_slots}
+use Rattle.bt_arena.specs.Resolving.{AreNamed, named_slot, port_keys}
 use Rattle.bt_arena.proofs.Parts.{and_left, and_right, or_left, or_right}
 use Rattle.bt_driver.proofs.Parts.{All-left, All-right}
 

@@ -10,7 +10,7 @@ neither : (a b : Bool) → a || b ≡ false → (a ≡ false) × (b ≡ false)
 neither true b is = absurd (cc)
 neither false b is = (refl, is)
 
-none_compiled : (view : View) (script : Option Script) → is_some script ≡ false → IsCompiled view script None
+pub none_compiled : (view : View) (script : Option Script) → is_some script ≡ false → IsCompiled view script None
 none_compiled view None is = tt
 none_compiled view (Some script) is = absurd (cc)
 

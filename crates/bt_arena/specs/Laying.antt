@@ -15,7 +15,7 @@ use Rattle.bt_driver.specs.Rules.{rule}
 use Rattle.bt_arena.specs.declared.nodes.Node.{Node}
 use Rattle.bt_arena.specs.declared.nodes.ReadyLeaf.{ReadyLeaf}
 use Rattle.bt_arena.specs.Joins.{first_missing, place_by}
-use Rattle.bt_arena.specs.Nodes.{AreCompiled, IsCompiled, LeafStands}
+use Rattle.bt_arena.specs.Nodes.{AreCompiled, IsCompiled, IsNode, LeafStands, no_guards}
 use Rattle.bt_arena.specs.Resolving.{AreNamed, view_in}
 use Rattle.bt_arena.specs.Rows.{counted_at}
 use Rattle.bt_arena.specs.Sources.{IsSourceOf, source_at}
@@ -39,15 +39,20 @@ pub record CanBeLaid (tree : Tree) (world : World) (drivers : List DriverState) 
 
 -- ---- Nodes
 
--- a node of an arena is this node of a term, apart from its size and its leaf
+-- a node of an arena is this node of a term, apart from its size and what is below it, its code and guards, and its leaf
 pub record IsBareNode (view : View) (written : TreeNode) (node : Node) : Type 0 where
   pub kind : node.kind ≡ written.kind
   pub size : node.size ≡ 0
   pub children : node.children ≡ written.children
-  pub code : IsCompiled view written.code node.code
-  pub guards : AreCompiled view written.guards node.guards
+  pub code : node.code ≡ None
+  pub guards : node.guards ≡ no_guards
   pub ports : node.ports ≡ map (λ (port : PortRule). source_at view written.ports port.name) (ports_of written.kind)
   pub slots : All (IsSourceOf (length view.slots)) node.ports
+
+-- a node of an arena has the code and the guards of this node of a term
+pub record IsScripted (view : View) (written : TreeNode) (node : Node) : Type 0 where
+  pub code : IsCompiled view written.code node.code
+  pub guards : AreCompiled view written.guards node.guards
 
 -- what must hold of a node's leaf
 unfoldable pub LeafIs : View → TreeNode → Option ReadyLeaf → Type 0
@@ -63,6 +68,12 @@ driver_of None = None
 unfoldable pub IsNext : List DriverState → List ℕ → Option ReadyLeaf → Type 0
 IsNext drivers next None = Unit {0}
 IsNext drivers next (Some leaf) = (place_of_kind drivers (kind_of_way (rule leaf.row).way) ≡ Some leaf.driver) × (leaf.instance ≡ slice_index_or next leaf.driver 0)
+
+-- a node of an arena is this node of a term, apart from its size and what is below it, and its leaf has the next instance
+pub record IsFilled (drivers : List DriverState) (view : View) (written : TreeNode) (node : Node) (next left : List ℕ) : Type 0 where
+  pub stands : IsNode view written 0 node
+  pub is_next : IsNext drivers next node.leaf
+  pub counted : left ≡ counted_at (driver_of node.leaf) next
 
 -- each leaf of some nodes has the first driver of its row's kind, and the next instance there
 abbrev pub AreNext : List DriverState → List ℕ → List Node → Type 0
@@ -80,6 +91,12 @@ counted_all world drivers [] counts = counts
 counted_all world drivers (id ∷ ids) counts = counted_all world drivers ids (counted_at (place_by (row_of world.rows id) drivers) counts)
 
 -- ---- What was added
+
+-- a node of a term was added to an arena, apart from its size and what is below it
+pub record IsAdded (drivers : List DriverState) (view : View) (written : TreeNode) (old new : List Node) (next left : List ℕ) : Type 0 where
+  pub node : Node
+  pub is : new ≡ old ++ node ∷ []
+  pub filled : IsFilled drivers view written node next left
 
 -- the nodes of some terms were added to an arena: they stand there, and their leaves have the next instances
 pub record AreLaid (tree : Tree) (world : World) (drivers : List DriverState) (ts : List Term) (number : ℕ) (old new : List Node) (next left : List ℕ) : Type 0 where

@@ -7,16 +7,18 @@ ghost use Rattle.bt_model.specs.Terms.{own_leaf_id};
 ghost use Rattle.bt_model.specs.Trees.{GuardsFit, ScriptFits};
 ghost use Rattle.bt_model.specs.Worlds.{IsValidWorld};
 ghost use Rattle.bt_arena.specs.Joins.{first_missing};
-ghost use Rattle.bt_arena.specs.Laying.{AreLaid, CanBeLaid, IsBareNode, IsNext, driver_of};
-ghost use Rattle.bt_arena.specs.Nodes.{IsFit, IsNode, node_at, nobody as no_node};
+ghost use Rattle.bt_arena.specs.Laying.{AreLaid, CanBeLaid, IsAdded, IsBareNode, IsFilled};
+ghost use Rattle.bt_arena.specs.Nodes.{IsFit, node_at, nobody as no_node};
 ghost use Rattle.bt_arena.specs.Resolving.{AreNamed, GuardsAreNamed, names_if_there, port_keys, view_in};
-ghost use Rattle.bt_arena.specs.Rows.{Finds, counted_at};
+ghost use Rattle.bt_arena.specs.Rows.{Finds};
 ghost use Rattle.bt_arena.specs.Stands.{uids_of, written};
 
 use crate::leaves::leaf_of;
-use crate::nodes::Node;
+use crate::nodes::{Node, ReadyLeaf};
 use crate::ports::kind_sources;
-use crate::resolving::{Setting, no_guards, ready_guards, ready_script};
+use crate::resolving::Setting;
+use crate::scripts::{give_scripts, no_guards};
+use crate::source::Source;
 use bt_driver::Drivers;
 use bt_model::{Kind, Term};
 use bt_script::{Items, NoMemory};
@@ -43,42 +45,40 @@ fn scope_under(kind: Kind, uid: u32, scope: u32) -> u32
     }
 }
 
-/// The node of a term, but without its size, the uids of its children and its leaf, which are set
-/// later. The error is want of memory.
-fn bare_node(term: &Term, setting: &Setting, scope: u32) -> Result<Node, NoMemory>
-    requires code_fits { ScriptFits (out-Term term.now).code }
-    requires guards_fit { GuardsFit (out-Term term.now).guards }
-    requires code { AreNamed setting.now.tree.now scope (names_if_there (out-Term term.now).code) }
-    requires guards { GuardsAreNamed setting.now.tree.now scope (out-Term term.now).guards }
-    requires ports { AreNamed setting.now.tree.now scope (port_keys (out-Term term.now).ports) }
-    ensures { IfOk result (λ node.
-        IsBareNode (view_in setting.now.tree.now setting.now.world.now scope) (written (out-Term term.now)) node) }
+/// A node of this kind with these ports and this many children, and with nothing else: what it lacks
+/// is set where it stands, since a node is large to move.
+fn bare_node(alloc: Global, kind: Kind, children: u32, ports: Vec<Source>) -> Node
+    ensures { result ≡ record no_node { kind = kind; children = children; ports = ports.items } }
 {
-    let children = narrow(term.children.list().len())?;
-    let ports = kind_sources(term.kind, term.ports.list(), setting, scope)?;
-    let code = ready_script(&term.code, setting, scope)?;
-    let guards = ready_guards(&term.guards, setting, scope)?;
-    Ok(Node {
-        kind: term.kind,
+    Node {
+        kind,
         size: 0,
         children,
-        child_uids: Items::of(Vec::new(setting.alloc)),
-        code,
-        guards,
+        child_uids: Items::of(Vec::new(alloc)),
+        code: None,
+        guards: no_guards(),
         ports: Items::of(ports),
         leaf: None,
-    })
+    }
 }
 
-/// The node of a term, but without its size and the uids of its children, which are set later. The
-/// error is want of memory.
-fn node_of<D: Drivers>(
+/// Gives a node its leaf.
+fn give_leaf(node: &mut Node, leaf: Option<ReadyLeaf>)
+    ensures { node.new ≡ record node.old { leaf = leaf } }
+{
+    drop(replace(&mut node.leaf, leaf));
+}
+
+/// Gives the bare node of a term its code, its guards and its leaf. The error is want of memory.
+fn fill<D: Drivers>(
+    node: &mut Node,
     term: &Term,
     setting: &Setting,
     scope: u32,
     drivers: &D,
     next: &mut [u32],
-) -> Result<Node, NoMemory>
+) -> Result<(), NoMemory>
+    requires bare { IsBareNode (view_in setting.now.tree.now setting.now.world.now scope) (written (out-Term term.now)) node.old }
     requires fit { IsFit (written (out-Term term.now)) }
     requires code_fits { ScriptFits (out-Term term.now).code }
     requires guards_fit { GuardsFit (out-Term term.now).guards }
@@ -90,22 +90,46 @@ fn node_of<D: Drivers>(
     requires world { IsValidWorld setting.now.world.now }
     requires found { Finds setting.now.world.now.rows (get bytes_eq setting.now.rows.now) }
     requires places { length next.old ≡ length (D.states drivers.now) }
-    ensures node { IfOk result (λ node.
-        IsNode (view_in setting.now.tree.now setting.now.world.now scope) (written (out-Term term.now)) 0 node) }
-    ensures is_next { IfOk result (λ node. IsNext (D.states drivers.now) next.old node.leaf) }
-    ensures next { IfOk result (λ node. next.new ≡ counted_at (driver_of node.leaf) next.old) }
+    ensures { OnOk result (
+        IsFilled (D.states drivers.now) (view_in setting.now.tree.now setting.now.world.now scope) (written (out-Term term.now))
+        node.new next.old next.new) }
 {
-    let mut node = bare_node(term, setting, scope)?;
-    match leaf_of(term, setting, scope, drivers, next) {
-        Ok(leaf) => {
-            drop(replace(&mut node.leaf, leaf));
-            Ok(node)
-        }
-        Err(NoMemory) => {
-            drop(node);
-            Err(NoMemory)
-        }
-    }
+    give_scripts(node, term, setting, scope)?;
+    let leaf = leaf_of(term, setting, scope, drivers, next)?;
+    give_leaf(node, leaf);
+    Ok(())
+}
+
+/// Adds the node of a term after the nodes that are there, but without its size and the uids of its
+/// children, which are set later. The error is want of memory.
+fn add_node<D: Drivers>(
+    term: &Term,
+    setting: &Setting,
+    scope: u32,
+    drivers: &D,
+    next: &mut [u32],
+    nodes: &mut Vec<Node>,
+) -> Result<(), NoMemory>
+    requires fit { IsFit (written (out-Term term.now)) }
+    requires code_fits { ScriptFits (out-Term term.now).code }
+    requires guards_fit { GuardsFit (out-Term term.now).guards }
+    requires code { AreNamed setting.now.tree.now scope (names_if_there (out-Term term.now).code) }
+    requires guards { GuardsAreNamed setting.now.tree.now scope (out-Term term.now).guards }
+    requires ports { AreNamed setting.now.tree.now scope (port_keys (out-Term term.now).ports) }
+    requires joined { first_missing setting.now.world.now.rows (D.states drivers.now)
+        (own_leaf_id (out-Term term.now).kind (out-Term term.now).id) ≡ None }
+    requires world { IsValidWorld setting.now.world.now }
+    requires found { Finds setting.now.world.now.rows (get bytes_eq setting.now.rows.now) }
+    requires places { length next.old ≡ length (D.states drivers.now) }
+    ensures { OnOk result (
+        IsAdded (D.states drivers.now) (view_in setting.now.tree.now setting.now.world.now scope) (written (out-Term term.now))
+        nodes.old.items nodes.new.items next.old next.new) }
+{
+    let place = nodes.len();
+    let children = narrow(term.children.list().len())?;
+    let ports = kind_sources(term.kind, term.ports.list(), setting, scope)?;
+    nodes.push(bare_node(setting.alloc, term.kind, children, ports))?;
+    fill(&mut nodes[place], term, setting, scope, drivers, next)
 }
 
 /// Gives a node its size and the uids of its children.
@@ -150,7 +174,7 @@ fn lay_term<D: Drivers>(
 {
     let place = nodes.len();
     let uid = narrow(place)?;
-    nodes.push(node_of(term, setting, scope, drivers, next)?)?;
+    add_node(term, setting, scope, drivers, next, nodes)?;
     let inner = scope_under(term.kind, uid, scope);
     let child_uids = lay_terms(term.children.list(), setting, inner, drivers, next, nodes)?;
     close(nodes, place, Items::of(child_uids))
@@ -183,22 +207,6 @@ fn lay_terms<D: Drivers>(
     Ok(uids)
 }
 
-/// The node at place 0, which belongs to no term.
-fn nobody(alloc: Global) -> Node
-    ensures { result ≡ no_node }
-{
-    Node {
-        kind: Kind::AlwaysSuccess,
-        size: 0,
-        children: 0,
-        child_uids: Items::of(Vec::new(alloc)),
-        code: None,
-        guards: no_guards(),
-        ports: Items::of(Vec::new(alloc)),
-        leaf: None,
-    }
-}
-
 /// The nodes of a tree by uid, or want of memory.
 pub(crate) fn nodes_of<D: Drivers>(
     setting: &Setting,
@@ -214,7 +222,12 @@ pub(crate) fn nodes_of<D: Drivers>(
         (setting.now.tree.now.term ∷ []) 0 (no_node ∷ []) nodes.items next.old next.new) }
 {
     let mut nodes = Vec::new(setting.alloc);
-    nodes.push(nobody(setting.alloc))?;
+    nodes.push(bare_node(
+        setting.alloc,
+        Kind::AlwaysSuccess,
+        0,
+        Vec::new(setting.alloc),
+    ))?;
     lay_term(&setting.tree.term, setting, 0, drivers, next, &mut nodes)?;
     Ok(nodes)
 }

@@ -15,6 +15,7 @@ mod notes;
 mod ports;
 mod resolving;
 mod rows;
+mod scripts;
 mod source;
 
 pub use arena::{

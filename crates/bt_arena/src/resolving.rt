@@ -3,7 +3,7 @@ ghost use Rattle.std.specs.Option.{option_copied};
 ghost use Rattle.bt_script.specs.Scripts.{names_of, stmt_names};
 ghost use Rattle.bt_model.specs.Boards.{port_of, slot_table, slots as cells};
 ghost use Rattle.bt_model.specs.Trees.{GuardsFit, ScriptFits};
-ghost use Rattle.bt_arena.specs.Nodes.{AreCompiled, IsCompiled, has_after, has_before, no_guards as without_guards};
+ghost use Rattle.bt_arena.specs.Nodes.{AreCompiled, IsCompiled, has_after, has_before};
 ghost use Rattle.bt_arena.specs.Resolving.{AreNamed, GuardsAreNamed, named_slot, names_if_there, names_in_script, port_keys, view_in, with_slots};
 ghost use Rattle.bt_arena.specs.Sources.{IsSourceOf, source_at as source_in};
 
@@ -131,38 +131,6 @@ pub(crate) fn ready_guards(
     requires named { GuardsAreNamed setting.now.tree.now scope guards.now }
     ensures { IfOk result (λ ready. AreCompiled (view_in setting.now.tree.now setting.now.world.now scope) guards.now ready) }
 {
-    if is_before(guards) || is_after(guards) || guards.on_halted.is_some() {
-        return some_guards(guards, setting, scope);
-    }
-    Ok(no_guards())
-}
-
-/// No guards.
-pub(crate) fn no_guards() -> ReadyGuards
-    ensures { result ≡ without_guards }
-{
-    ReadyGuards {
-        before: false,
-        after: false,
-        failure_if: None,
-        success_if: None,
-        skip_if: None,
-        while_true: None,
-        on_success: None,
-        on_failure: None,
-        post: None,
-        on_halted: None,
-    }
-}
-
-/// The guards of a node that has some, compiled, or want of memory. It is not inlined, since few
-/// nodes have guards.
-#[inline(never)]
-fn some_guards(guards: &Guards, setting: &Setting, scope: u32) -> Result<ReadyGuards, NoMemory>
-    requires fit { GuardsFit guards.now }
-    requires named { GuardsAreNamed setting.now.tree.now scope guards.now }
-    ensures { IfOk result (λ ready. AreCompiled (view_in setting.now.tree.now setting.now.world.now scope) guards.now ready) }
-{
     Ok(ReadyGuards {
         before: is_before(guards),
         after: is_after(guards),
@@ -178,7 +146,7 @@ fn some_guards(guards: &Guards, setting: &Setting, scope: u32) -> Result<ReadyGu
 }
 
 /// Whether a guard is there that may answer before a visit.
-fn is_before(guards: &Guards) -> bool
+pub(crate) fn is_before(guards: &Guards) -> bool
     ensures { result ≡ has_before guards.now }
 {
     guards.failure_if.is_some()
@@ -188,7 +156,7 @@ fn is_before(guards: &Guards) -> bool
 }
 
 /// Whether a guard is there that runs after an answer.
-fn is_after(guards: &Guards) -> bool
+pub(crate) fn is_after(guards: &Guards) -> bool
     ensures { result ≡ has_after guards.now }
 {
     guards.on_success.is_some() || guards.on_failure.is_some() || guards.post.is_some()

@@ -32,7 +32,7 @@ pub(crate) fn index_of(alloc: Global, rows: &[Row]) -> Result<IndexMap<Name, u32
     requires { length rows.now ≤ 1024 }
     ensures { IfOk result (λ index. Finds rows.now (get bytes_eq index)) }
 {
-    let mut index = IndexMap::new(alloc);
+    let mut index = IndexMap::with_capacity(alloc, rows.len())?;
     let mut number = 0u32;
     for row in rows {
         add_row(alloc, row, number, &mut index)?;

@@ -12,8 +12,8 @@ use Rattle.bt_arena.specs.Stands.{uids_of}
 use Rattle.bt_arena.proofs.Whole.{laid_length, laid_more, next_length, nothing_laid, term_laid, uids_more}
 use Rattle.bt_arena.proofs.laying.+laying.Goals as goal
 
-pub lay_term-node_of-requires : goal.lay_term-node_of-requires
-lay_term-node_of-requires g t c =
+pub lay_term-add_node-requires : goal.lay_term-add_node-requires
+lay_term-add_node-requires g t c =
     let drivers = g.D.Drivers.states c.args.drivers.now in
     let tree = c.args.setting.now.tree.now in
     let world = c.args.setting.now.world.now in
@@ -34,30 +34,33 @@ lay_term-node_of-requires g t c =
 
 pub lay_term-lay_terms-requires : goal.lay_term-lay_terms-requires
 lay_term-lay_terms-requires g t c = λ κs lives.
+    let added = c.in_ok-add_node.ensures in
     let uid = length c.args.nodes.now.items in
     let place : c.len-place.result ≡ uid = omega (arith, c.len-place.ensures, c.args.nodes.now.ok.0) in
-    let can = can_as c.args.setting.now.tree.now c.args.setting.now.world.now (g.D.Drivers.states c.args.drivers.now) (out-Term c.args.term.now).children c.list.result.now (uid + 1) (length c.push.new.self.items)
+    let can = can_as c.args.setting.now.tree.now c.args.setting.now.world.now (g.D.Drivers.states c.args.drivers.now) (out-Term c.args.term.now).children c.list.result.now (uid + 1) (length c.add_node.new.nodes.items)
     (children_scope_number (out-Term c.args.term.now).kind uid c.args.scope) c.scope_under-inner.result
     c.list.ensures
-    (ap length c.in_ok-push.ensures.items ∙ length-append c.args.nodes.now.items (c.in_ok-node_of.field-0 ∷ []))
+    (ap length added.is ∙ length-append c.args.nodes.now.items (added.node ∷ []))
     (c.scope_under-inner.ensures ∙ ap (λ u. children_scope_number (out-Term c.args.term.now).kind u c.args.scope) (c.in_ok-uid.ensures ∙ place))
     (can_below _ _ _ c.args.term.now uid c.args.scope c.requires.can) in
-    let places = next_length (driver_of c.in_ok-node_of.field-0.leaf) c.args.next.now c.node_of.new.next c.in_ok-node_of.ensures.next ∙ c.requires.places in
+    let places = next_length (driver_of added.node.leaf) c.args.next.now c.add_node.new.next added.filled.counted ∙ c.requires.places in
     (omega (arith, counts_below c.args.term.now, ap (λ (ts : List Term). sum (map node_count ts)) c.list.ensures, c.decreases), (λ a is. lives a is, (can, (c.requires.world, (c.requires.found, places)))))
 
 pub lay_term-close-requires : goal.lay_term-close-requires
 lay_term-close-requires g t c =
+    let added = c.in_ok-add_node.ensures in
     let laid = c.in_ok-child_uids.ensures.laid in
-    omega (arith, ap length laid.is, length-append c.push.new.self.items laid.added, ap length c.in_ok-push.ensures.items, length-append c.args.nodes.now.items (c.in_ok-node_of.field-0 ∷ []), c.len-place.ensures)
+    omega (arith, ap length laid.is, length-append c.add_node.new.nodes.items laid.added, ap length added.is, length-append c.args.nodes.now.items (added.node ∷ []), c.len-place.ensures)
 
 pub lay_term-returns : goal.lay_term-returns
 lay_term-returns g t c =
+    let added = c.in_ok-add_node.ensures in
     let place : c.len-place.result ≡ length c.args.nodes.now.items = omega (arith, c.len-place.ensures, c.args.nodes.now.ok.0) in record {
       laid = on_ok_weaker c.close.result
-          (λ is. term_laid _ _ _ c.args.term.now c.args.scope c.args.nodes.now.items c.push.new.self.items c.lay_terms.new.nodes.items c.close.new.nodes.items c.in_ok-node_of.field-0
-          c.args.next.now c.node_of.new.next c.lay_terms.new.next c.len-place.result c.in_ok-uid.uid c.list.result.now c.scope_under-inner.result c.of.result
-          place c.in_ok-uid.ensures c.in_ok-push.ensures.items c.list.ensures c.scope_under-inner.ensures
-          c.requires.can c.in_ok-node_of.ensures.node c.in_ok-node_of.ensures.is_next c.in_ok-node_of.ensures.next c.in_ok-child_uids.ensures.laid (c.of.ensures ∙ c.in_ok-child_uids.ensures.uids) is)
+          (λ is. term_laid _ _ _ c.args.term.now c.args.scope c.args.nodes.now.items c.add_node.new.nodes.items c.lay_terms.new.nodes.items c.close.new.nodes.items added.node
+          c.args.next.now c.add_node.new.next c.lay_terms.new.next c.len-place.result c.in_ok-uid.uid c.list.result.now c.scope_under-inner.result c.of.result
+          place c.in_ok-uid.ensures added.is c.list.ensures c.scope_under-inner.ensures
+          c.requires.can added.filled.stands added.filled.is_next added.filled.counted c.in_ok-child_uids.ensures.laid (c.of.ensures ∙ c.in_ok-child_uids.ensures.uids) is)
           c.close.ensures;
     }
 

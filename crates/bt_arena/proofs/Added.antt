@@ -1,0 +1,45 @@
+-- A node that is added bare, and then filled where it stands.
+use Rattle.std.proofs.Common.{◌≡◌, ℕ, List, [], ◌∷◌, ◌++◌, length, get_or, set, Option, ap, subst, sym, ◌∙◌}
+use Rattle.std.specs.List.{All}
+use Rattle.std.proofs.Math.Seq.{get_or-append_seam, set-append_seam}
+use Rattle.bt_model.specs.Drivers.{DriverState}
+use Rattle.bt_model.specs.Sites.{View}
+use Rattle.bt_model.specs.Trees.{Node as TreeNode}
+use Rattle.bt_arena.specs.declared.nodes.Node.{Node}
+use Rattle.bt_arena.specs.declared.nodes.ReadyLeaf.{ReadyLeaf}
+use Rattle.bt_arena.specs.declared.source.Source.{Source}
+use Rattle.bt_arena.specs.Laying.{IsBareNode, IsFilled, IsNext, IsScripted, LeafIs, driver_of}
+use Rattle.bt_arena.specs.Nodes.{IsFit}
+use Rattle.bt_arena.specs.Rows.{counted_at}
+use Rattle.bt_arena.specs.Sources.{IsSourceOf}
+use Rattle.bt_arena.proofs.Laid.{leaf_opened}
+
+-- an item that was added last
+module _ {X : Type 0} (old pushed : List X) (x : X) (place : ℕ) (is_pushed : pushed ≡ old ++ x ∷ []) (is_place : place ≡ length old) where
+  pub last_there : (d : X) → get_or pushed place d ≡ x
+  last_there d = (λ i. get_or (is_pushed i) (is_place i) d) ∙ get_or-append_seam old x [] d
+
+  pub last_given : (y : X) → set pushed place y ≡ old ++ y ∷ []
+  last_given y = (λ i. set (is_pushed i) (is_place i) y) ∙ set-append_seam old x [] y
+
+pub node_filled : (drivers : List DriverState) (view : View) (written : TreeNode) (old scripted new : Node) (leaf : Option ReadyLeaf) (next left : List ℕ) → IsFit written → IsBareNode view written old →
+    scripted ≡ record old { code = scripted.code; guards = scripted.guards } → IsScripted view written scripted →
+    LeafIs view written leaf → IsNext drivers next leaf → left ≡ counted_at (driver_of leaf) next → new ≡ record scripted { leaf = leaf } →
+    IsFilled drivers view written new next left
+node_filled drivers view written old scripted new leaf next left fit bare same scripts stands is_next counted is_new =
+    let ports : scripted.ports ≡ old.ports = ap (λ (n : Node). n.ports) same in
+    subst (λ (n : Node). IsFilled drivers view written n next left) (sym is_new) (record {
+      stands = record {
+        kind = ap (λ (n : Node). n.kind) same ∙ bare.kind;
+        size = ap (λ (n : Node). n.size) same ∙ bare.size;
+        children = ap (λ (n : Node). n.children) same ∙ bare.children;
+        code = scripts.code;
+        guards = scripts.guards;
+        ports = ports ∙ bare.ports;
+        slots = subst (λ (ps : List Source). All (IsSourceOf (length view.slots)) ps) (sym ports) bare.slots;
+        leaf = leaf_opened view written leaf stands;
+        fit = fit;
+      };
+      is_next = is_next;
+      counted = counted;
+    })
