@@ -10,4 +10,5 @@ pub mod Rosters
 pub mod Rows
 pub mod Scenes
 pub mod Sources
+pub mod Stages
 pub mod Stands

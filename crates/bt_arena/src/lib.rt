@@ -17,6 +17,7 @@ mod resolving;
 mod rows;
 mod scripts;
 mod source;
+mod stage;
 
 pub use arena::{
     Arena, keep, kept_by, leaf_count, leaves_at, memo, node, set_held, set_memo, set_status, status,
@@ -28,3 +29,4 @@ pub use joining::arena_of;
 pub use nodes::{Kept, Node, ReadyGuards, ReadyLeaf};
 pub use notes::{Notes, notes_of};
 pub use source::Source;
+pub use stage::Stage;

@@ -1,6 +1,7 @@
 pub mod Children
 pub mod Ending
 pub mod Halting
+pub mod Keeping
 pub mod Leaving
 pub mod Lent
 pub mod Releasing

@@ -1,7 +1,7 @@
 -- Where the nodes of a term stand in an arena, and which of them stay as they were.
-use Rattle.std.proofs.Common.{◌-◌, ◌≡◌, inl, inr, ℕ, ◌+◌, ◌<◌, ◌≤◌, List, [], ◌∷◌, map, length, slice_set, true, refl, sym, ap, subst, ◌∙◌, arith}
+use Rattle.std.proofs.Common.{◌≡◌, inl, inr, ℕ, ◌+◌, ◌<◌, ◌≤◌, List, [], ◌∷◌, map, length, true, sym, ap, subst, ◌∙◌, arith, Result, Ok, Err}
+use Rattle.std.specs.Prelude.{OnOk}
 use Rattle.std.proofs.lemmas.Bool.{cases_eq, cases_lt}
-use Rattle.std.proofs.lemmas.List.{get_or-set_other, get_or-set_same, length-set}
 use Rattle.std.proofs.lemmas.List.Sums.{sum_by-cons}
 use Rattle.bt_model.specs.declared.status.Status.TheVariants.{Idle, Running}
 use Rattle.bt_model.specs.declared.term.Term.{Term, Term-F, ind-Term, out-Term, out-roll-Term, roll-Term}
@@ -9,7 +9,7 @@ use Rattle.bt_model.specs.Sites.{Meaning, View, sizes}
 use Rattle.bt_model.specs.Visit.{meaning}
 use Rattle.bt_arena.specs.declared.nodes.Kept.{Kept}
 use Rattle.bt_arena.specs.declared.nodes.Node.{Node}
-use Rattle.bt_arena.specs.Nodes.{at_rest, kept_at, node_at}
+use Rattle.bt_arena.specs.Nodes.{kept_at, node_at}
 use Rattle.bt_arena.specs.Scenes.{Fits, Scene}
 use Rattle.bt_arena.specs.Stands.{Beside, StandAll, Stands, node_stands, view_under, written}
 use Rattle.bt_arena.proofs.Opened.{opened, size_out}
@@ -90,42 +90,18 @@ running_above nodes before after uid child beside below held = λ p leaf from to
       ]
     ]
 
--- what changed within a part changed within the whole
-pub beside_more : (uid size child below : ℕ) (k0 k1 k2 : List Kept) → uid ≤ child → child + below ≤ uid + size → Beside uid size k0 k1 → Beside child below k1 k2 → Beside uid size k0 k2
-beside_more uid size child below k0 k1 k2 low high one two = record {
-  below = λ p e. two.below p (omega (arith, e, low)) ∙ one.below p e;
-  above = λ p e. two.above p (omega (arith, e, high)) ∙ one.above p e;
-  as_many = two.as_many ∙ one.as_many;
-}
+-- RUNNING leaves are held where one node has come to rest, and no other has changed
+pub running_rested : (nodes : List Node) (before after : List Kept) (uid top : ℕ) → Beside uid 1 before after → (kept_at after uid).status ≡ Idle → RunningAreHeld nodes before top → RunningAreHeld nodes after top
+running_rested nodes before after uid top beside idle held = λ p leaf from to is running.
+    let same : kept_at after p ≡ kept_at before p → (kept_at after p).held ≡ true = λ e. ap (λ (k : Kept). k.held) e ∙ held p leaf from to is (ap (λ (k : Kept). k.status) (sym e) ∙ running) in
+    elim (cases_lt p uid) [
+      | inl left ↦ same (beside.below p left)
+      | inr right ↦ elim (cases_eq p uid) [
+        | inl here ↦ let never : Idle ≡ Running = sym idle ∙ ap (λ (q : ℕ). (kept_at after q).status) (sym here) ∙ running in cc
+        | inr other ↦ same (beside.above p (omega (arith, right, other)))
+      ]
+    ]
 
-pub beside_none : (uid size : ℕ) (k : List Kept) → Beside uid size k k
-beside_none uid size k = record { below = λ p e. refl; above = λ p e. refl; as_many = refl }
-
--- what changed below a node, and then at the node
-pub beside_node : (uid size : ℕ) (k0 k1 k2 : List Kept) → 1 ≤ size → Beside (uid + 1) (size - 1) k0 k1 → Beside uid 1 k1 k2 → Beside uid size k0 k2
-beside_node uid size k0 k1 k2 some below here =
-    beside_more uid size uid 1 k0 k1 k2 (omega arith) (omega (arith, some))
-    (beside_more uid size (uid + 1) (size - 1) k0 k0 k1 (omega arith) (omega (arith, some)) (beside_none uid size k0) below) here
-
--- a node that has become IDLE, where it was not RUNNING
-module _ (kept after : List Kept) (uid : ℕ) (within : uid < length kept) (is : after ≡ slice_set kept uid (record (kept_at kept uid) { status = Idle })) where
-  abbrev idle_now : Kept
-  idle_now = record (kept_at kept uid) { status = Idle }
-
-  pub beside_idle : (size : ℕ) → 1 ≤ size → Beside uid size kept after
-  beside_idle size some = record {
-    below = λ p e. ap (λ (k : List Kept). kept_at k p) is ∙ get_or-set_other kept uid p idle_now at_rest (λ same. absurd (omega (arith, e, same)));
-    above = λ p e. ap (λ (k : List Kept). kept_at k p) is ∙ get_or-set_other kept uid p idle_now at_rest (λ same. absurd (omega (arith, e, same, some)));
-    as_many = ap length is ∙ length-set kept uid idle_now;
-  }
-
-  pub running_idle : (nodes : List Node) (top : ℕ) → RunningAreHeld nodes kept top → RunningAreHeld nodes after top
-  running_idle nodes top held = λ p leaf from to is_leaf running. elim (cases_eq p uid) [
-    | inl same ↦
-        let now : kept_at after p ≡ idle_now = ap (λ (q : ℕ). kept_at after q) same ∙ ap (λ (k : List Kept). kept_at k uid) is ∙ get_or-set_same kept uid idle_now at_rest within in
-        let idle : Idle ≡ Running = ap (λ (k : Kept). k.status) (sym now) ∙ running in
-        cc
-    | inr other ↦
-        let as_before : kept_at after p ≡ kept_at kept p = ap (λ (k : List Kept). kept_at k p) is ∙ get_or-set_other kept uid p idle_now at_rest other in
-        ap (λ (k : Kept). k.held) as_before ∙ held p leaf from to is_leaf (ap (λ (k : Kept). k.status) (sym as_before) ∙ running)
-  ]
+pub rested_if_ok : {A E : Type 0} (nodes : List Node) (before after : List Kept) (uid top : ℕ) (r : Result A E) → Beside uid 1 before after → OnOk r ((kept_at after uid).status ≡ Idle) → RunningAreHeld nodes before top → OnOk r (RunningAreHeld nodes after top)
+rested_if_ok nodes before after uid top (Ok a) beside idle held = running_rested nodes before after uid top beside idle held
+rested_if_ok nodes before after uid top (Err e) beside idle held = tt

@@ -15,6 +15,7 @@ ghost use Rattle.bt_halting.specs.Halts.{RunningAreHeld};
 pub fn nodes_can_be_halted()
     ensures fits { (term : Term) (view : View) (uid : ℕ) (nodes : List Node) (s : Scene) → Fits term view uid nodes s →
         (p : ℕ) → uid ≤ p → p < uid + (node_at nodes uid).size → (c : Term) × (below : View) × Fits c below p nodes s }
-    ensures held { (term : Term) (view : View) (uid : ℕ) (nodes : List Node) (s : Scene) (moment : ℕ) (rows : List Row) → Fits term view uid nodes s →
-        Sound term rows None uid (memory_of term uid s.kept) (state_in nodes s moment) → RunningAreHeld nodes s.kept uid }
+    ensures held { (term : Term) (view : View) (uid : ℕ) (nodes : List Node) (s : Scene) (moment : ℕ) (rows : List Row) →
+        Fits term view uid nodes s → Sound term rows None uid (memory_of term uid s.kept) (state_in nodes s moment) →
+        RunningAreHeld nodes s.kept uid }
 {}

@@ -7,5 +7,5 @@ pub mod laws;
 mod quenching;
 mod resetting;
 
-pub use calls::{halt, quench, reset};
-pub use resetting::{halt_node, reset_children};
+pub use calls::quench;
+pub use resetting::{halt, reset, reset_children};

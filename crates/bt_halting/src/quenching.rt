@@ -1,11 +1,11 @@
 ghost use Rattle.std.specs.Prelude.{◌≡◌, ◌+◌, ◌<◌, ◌≤◌, ◌^◌, ◌++◌, ℕ, length, map, true, slice_set};
 ghost use Rattle.bt_model.specs.Drivers.{is_held};
 ghost use Rattle.bt_model.specs.Leaf.{released};
-ghost use Rattle.bt_model.specs.Run.{releases, quenched_notes};
+ghost use Rattle.bt_model.specs.Run.{quenched_notes};
 ghost use Rattle.bt_arena.specs.Nodes.{at_rest, kept_at, leaf_at};
 ghost use Rattle.bt_arena.specs.Rosters.{AreServed, instances_of, leaf_instance, leaves_in, roster_after};
 ghost use Rattle.bt_arena.specs.Scenes.{marks_of};
-ghost use Rattle.bt_halting.specs.Quenches.{releases_one};
+ghost use Rattle.bt_halting.specs.Quenches.{releases_at, releases_in};
 
 use bt_arena::{Kept, Node, Notes, keep, kept_by, node};
 use bt_driver::Drivers;
@@ -24,11 +24,13 @@ fn quench_leaf<D: Drivers>(
     requires marks { marks_of kept.now ≡ map is_held (instances_of nodes.now (D.states drivers.old)) }
     requires leaves { AreServed (D.states drivers.old) nodes.now }
     requires room { (kept_at kept.now uid).held ≡ true → 0 < notes.old.reserve }
-    ensures drivers { D.states drivers.new ≡ roster_after nodes.now (releases_one uid (leaf_instance (D.states drivers.old) (leaf_at nodes.now uid))) (D.states drivers.old) }
-    ensures instances { instances_of nodes.now (D.states drivers.new) ≡ slice_set (instances_of nodes.now (D.states drivers.old)) uid (released (leaf_instance (D.states drivers.old) (leaf_at nodes.now uid))) }
+    ensures drivers { let calls = releases_at nodes.now uid (D.states drivers.old) in
+        D.states drivers.new ≡ roster_after nodes.now calls (D.states drivers.old) }
+    ensures instances { let left = released (leaf_instance (D.states drivers.old) (leaf_at nodes.now uid)) in
+        instances_of nodes.now (D.states drivers.new) ≡ slice_set (instances_of nodes.now (D.states drivers.old)) uid left }
     ensures leaves { AreServed (D.states drivers.new) nodes.now }
-    ensures notes { notes.new.list ≡ notes.old.list ++ quenched_notes runner (releases_one uid (leaf_instance (D.states drivers.old) (leaf_at nodes.now uid))) }
-    ensures reserve { notes.new.reserve + length (releases_one uid (leaf_instance (D.states drivers.old) (leaf_at nodes.now uid))) ≡ notes.old.reserve }
+    ensures notes { notes.new.list ≡ notes.old.list ++ quenched_notes runner (releases_at nodes.now uid (D.states drivers.old)) }
+    ensures reserve { notes.new.reserve + length (releases_at nodes.now uid (D.states drivers.old)) ≡ notes.old.reserve }
     ensures full { notes.new.full ≡ notes.old.full }
 {
     match &node(nodes, uid).leaf {
@@ -55,13 +57,14 @@ pub fn quench_nodes<D: Drivers>(
     requires marks { marks_of kept.old ≡ map is_held (instances_of nodes.now (D.states drivers.old)) }
     requires leaves { AreServed (D.states drivers.old) nodes.now }
     requires room { leaves_in nodes.now ≤ notes.old.reserve }
-    ensures drivers { D.states drivers.new ≡ roster_after nodes.now (releases 0 (instances_of nodes.now (D.states drivers.old))) (D.states drivers.old) }
+    ensures drivers { let calls = releases_in nodes.now (D.states drivers.old) in
+        D.states drivers.new ≡ roster_after nodes.now calls (D.states drivers.old) }
     ensures instances { instances_of nodes.now (D.states drivers.new) ≡ map released (instances_of nodes.now (D.states drivers.old)) }
     ensures leaves { AreServed (D.states drivers.new) nodes.now }
     ensures rest { (uid : ℕ) → kept_at kept.new uid ≡ at_rest }
     ensures marks { marks_of kept.new ≡ map is_held (instances_of nodes.now (D.states drivers.new)) }
-    ensures notes { notes.new.list ≡ notes.old.list ++ quenched_notes runner (releases 0 (instances_of nodes.now (D.states drivers.old))) }
-    ensures reserve { notes.new.reserve + length (releases 0 (instances_of nodes.now (D.states drivers.old))) ≡ notes.old.reserve }
+    ensures notes { notes.new.list ≡ notes.old.list ++ quenched_notes runner (releases_in nodes.now (D.states drivers.old)) }
+    ensures reserve { notes.new.reserve + length (releases_in nodes.now (D.states drivers.old)) ≡ notes.old.reserve }
     ensures full { notes.new.full ≡ notes.old.full }
 {
     for uid in 0..nodes.len() as u32 {

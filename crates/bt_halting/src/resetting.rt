@@ -1,24 +1,21 @@
-ghost use Rattle.std.specs.Prelude.{◌≡◌, ◌≢◌, ◌+◌, ◌-◌, ◌<◌, ◌≤◌, ◌++◌, ℕ, ℤ, List, OnOk, OnErr, length, slice_set};
+ghost use Rattle.std.specs.Prelude.{◌≡◌, ◌+◌, ◌-◌, ◌<◌, ◌++◌, OnErr, OnOk, length};
 ghost use Rattle.bt_model.specs.declared.status.Status.TheVariants.{Idle, Running as IsRunning};
-ghost use Rattle.bt_model.specs.declared.term.Term.{Term, out-Term};
-ghost use Rattle.bt_model.specs.Sites.{View, children_of};
-ghost use Rattle.bt_model.specs.Steps.{resets, spans};
-ghost use Rattle.bt_model.specs.Visit.{change, halt, meaning};
+ghost use Rattle.bt_model.specs.declared.term.Term.{Term};
+ghost use Rattle.bt_model.specs.Sites.{View};
+ghost use Rattle.bt_model.specs.Steps.{spans};
+ghost use Rattle.bt_model.specs.Visit.{change};
 ghost use Rattle.bt_arena.specs.Nodes.{kept_at, node_at};
-ghost use Rattle.bt_arena.specs.Scenes.{Fits, scene, state_in};
-ghost use Rattle.bt_arena.specs.Stands.{Beside, memories_of, memory_of};
-ghost use Rattle.bt_arena.specs.Ends.{Meets, StaysFit};
-ghost use Rattle.bt_halting.specs.Halts.{RunningAreHeld, reset_if};
-ghost use Rattle.bt_nodes.specs.Here.{site_at};
+ghost use Rattle.bt_arena.specs.Stages.{FitsOn, IsSame, Keeps, MeetsOn, scene_on};
+ghost use Rattle.bt_arena.specs.Stands.{memory_of};
+ghost use Rattle.bt_nodes.specs.Here.{children_in};
+ghost use Rattle.bt_halting.specs.Halts.{RunningAreHeldOn, halt_on, idle_with, reset_if_on, reset_on, resets_on};
 
 use crate::endings::end_halt;
-use bt_arena::{Kept, Node, Notes, kept_by, node, set_status};
-use bt_board::Board;
+use bt_arena::{Stage, node, set_status};
 use bt_driver::Drivers;
 use bt_model::{NodeFault, Span, Status};
 use bt_nodes::note_change;
 use bt_script::{NoMemory, Stop};
-use std::alloc::Global;
 
 /// Whether a span has the child at this place.
 fn has(span: Span, place: u32) -> bool
@@ -36,79 +33,63 @@ fn has(span: Span, place: u32) -> bool
 /// Makes a node IDLE, with a note where it was not. The error is want of memory, and then nothing
 /// changes.
 #[inline(always)]
-fn become_idle(kept: &mut [Kept], uid: u32, notes: &mut Notes) -> Result<(), NoMemory>
-    requires { uid < length kept.old }
-    ensures kept { OnOk result (kept.new ≡ slice_set kept.old uid (record (kept_at kept.old uid) { status = Idle })) }
-    ensures notes { OnOk result (notes.new.list ≡ notes.old.list ++ change uid (kept_at kept.old uid).status Idle) }
-    ensures err { OnErr result (kept.new ≡ kept.old) }
-    ensures err_notes { OnErr result (notes.new.list ≡ notes.old.list) }
-    ensures reserve { notes.new.reserve ≡ notes.old.reserve }
-    ensures full { notes.new.full ≡ notes.old.full }
+fn become_idle<D: Drivers>(stage: &mut Stage<D>, uid: u32) -> Result<(), NoMemory>
+    requires { uid < length stage.old.kept.now }
+    ensures ok { let memo = (kept_at stage.old.kept.now uid).memo in
+        OnOk result (scene_on D.states stage.new ≡ idle_with (scene_on D.states stage.old) uid memo) }
+    ensures ok_notes { let status = (kept_at stage.old.kept.now uid).status in
+        OnOk result (stage.new.notes.now.list ≡ stage.old.notes.now.list ++ change uid status Idle) }
+    ensures err { OnErr result (scene_on D.states stage.new ≡ scene_on D.states stage.old) }
+    ensures err_notes { OnErr result (stage.new.notes.now.list ≡ stage.old.notes.now.list) }
+    ensures same { IsSame stage.old stage.new }
+    ensures reserve { stage.new.notes.now.reserve ≡ stage.old.notes.now.reserve }
 {
-    note_change(notes, uid, kept_by(kept, uid).status, Status::Idle)?;
-    set_status(kept, uid, Status::Idle);
+    let old = stage.kept[uid as usize].status;
+    note_change(stage.notes, uid, old, Status::Idle)?;
+    set_status(stage.kept, uid, Status::Idle);
     Ok(())
 }
 
-/// Resets the node with this uid, where `kept` is what the nodes keep: one that is RUNNING is
-/// halted, and any other becomes IDLE. The error is a fault of an `_onHalted`, or want of memory.
+/// Resets the node with this uid: one that is RUNNING is halted, and any other becomes IDLE. The
+/// error is a fault of an `_onHalted`, or want of memory; after either the caller quenches.
 #[inline(always)]
 #[cycle(resetting)]
-pub fn reset_node<D: Drivers>(
-    alloc: Global,
-    nodes: &[Node],
-    kept: &mut [Kept],
-    board: &mut Board,
-    drivers: &mut D,
-    uid: u32,
-    notes: &mut Notes,
-) -> Result<(), Stop<NodeFault>>
-    requires fits { (term : Term) × (view : View) × (facts : List ℤ) × Fits term view uid nodes.now (scene kept.old board.old facts (D.states drivers.old)) }
-    requires held { RunningAreHeld nodes.now kept.old uid }
-    ensures meets { (term : Term) (view : View) (facts : List ℤ) (moment : ℕ) → Fits term view uid nodes.now (scene kept.old board.old facts (D.states drivers.old)) →
-        Meets nodes.now moment (memory_of term uid) result (scene kept.old board.old facts (D.states drivers.old)) (scene kept.new board.new facts (D.states drivers.new)) notes.old.list notes.new.list
-        ((meaning term).reset view uid (memory_of term uid kept.old) (state_in nodes.now (scene kept.old board.old facts (D.states drivers.old)) moment)) }
-    ensures fits { (facts : List ℤ) → StaysFit nodes.now (scene kept.old board.old facts (D.states drivers.old)) (scene kept.new board.new facts (D.states drivers.new)) }
-    ensures held { OnOk result (RunningAreHeld nodes.now kept.new uid) }
-    ensures beside { Beside uid (node_at nodes.now uid).size kept.old kept.new }
-    ensures reserve { notes.old.reserve ≤ notes.new.reserve }
-    ensures full { notes.new.full ≡ notes.old.full }
+pub fn reset<D: Drivers>(stage: &mut Stage<D>, uid: u32) -> Result<(), Stop<NodeFault>>
+    requires fits { (term : Term) × (view : View) × FitsOn D.states stage.old uid term view }
+    requires held { RunningAreHeldOn stage.old uid }
+    ensures meets { (term : Term) (view : View) → FitsOn D.states stage.old uid term view →
+        MeetsOn D.states (memory_of term uid) result stage.old stage.new (reset_on D.states stage.old uid term view) }
+    ensures held { OnOk result (RunningAreHeldOn stage.new uid) }
+    ensures keeps { Keeps D.states uid (node_at stage.old.nodes.now uid).size stage.old stage.new }
+    ensures facts { stage.new.facts.now ≡ stage.old.facts.now }
 {
-    match kept_by(kept, uid).status {
-        Status::Running => halt_node(alloc, nodes, kept, board, drivers, uid, notes),
+    match stage.kept[uid as usize].status {
+        Status::Running => halt(stage, uid),
         _ => {
-            become_idle(kept, uid, notes)?;
+            become_idle(stage, uid)?;
             Ok(())
         }
     }
 }
 
-/// Halts the RUNNING node with this uid. The error is a fault of an `_onHalted`, or want of memory.
+/// Halts the RUNNING node with this uid: its children are reset in order; its memo is cleared, but
+/// the mark of a RunOnce stays; a leaf's driver is called `halted`; the status becomes IDLE; and
+/// then `_onHalted` runs. The error is a fault of such a script, or want of memory (out of memory);
+/// after either the caller quenches.
 #[inline(never)]
 #[cycle(resetting)]
-pub fn halt_node<D: Drivers>(
-    alloc: Global,
-    nodes: &[Node],
-    kept: &mut [Kept],
-    board: &mut Board,
-    drivers: &mut D,
-    uid: u32,
-    notes: &mut Notes,
-) -> Result<(), Stop<NodeFault>>
-    requires fits { (term : Term) × (view : View) × (facts : List ℤ) × Fits term view uid nodes.now (scene kept.old board.old facts (D.states drivers.old)) }
-    requires running { (kept_at kept.old uid).status ≡ IsRunning }
-    requires held { RunningAreHeld nodes.now kept.old uid }
-    ensures meets { (term : Term) (view : View) (facts : List ℤ) (moment : ℕ) → Fits term view uid nodes.now (scene kept.old board.old facts (D.states drivers.old)) →
-        Meets nodes.now moment (memory_of term uid) result (scene kept.old board.old facts (D.states drivers.old)) (scene kept.new board.new facts (D.states drivers.new)) notes.old.list notes.new.list
-        (halt (site_at view uid term) (memory_of term uid kept.old) (state_in nodes.now (scene kept.old board.old facts (D.states drivers.old)) moment)) }
-    ensures fits { (facts : List ℤ) → StaysFit nodes.now (scene kept.old board.old facts (D.states drivers.old)) (scene kept.new board.new facts (D.states drivers.new)) }
-    ensures held { OnOk result (RunningAreHeld nodes.now kept.new uid) }
-    ensures beside { Beside uid (node_at nodes.now uid).size kept.old kept.new }
-    ensures reserve { notes.old.reserve ≤ notes.new.reserve }
-    ensures full { notes.new.full ≡ notes.old.full }
+pub fn halt<D: Drivers>(stage: &mut Stage<D>, uid: u32) -> Result<(), Stop<NodeFault>>
+    requires fits { (term : Term) × (view : View) × FitsOn D.states stage.old uid term view }
+    requires running { (kept_at stage.old.kept.now uid).status ≡ IsRunning }
+    requires held { RunningAreHeldOn stage.old uid }
+    ensures meets { (term : Term) (view : View) → FitsOn D.states stage.old uid term view →
+        MeetsOn D.states (memory_of term uid) result stage.old stage.new (halt_on D.states stage.old uid term view) }
+    ensures held { OnOk result (RunningAreHeldOn stage.new uid) }
+    ensures keeps { Keeps D.states uid (node_at stage.old.nodes.now uid).size stage.old stage.new }
+    ensures facts { stage.new.facts.now ≡ stage.old.facts.now }
 {
-    reset_children(alloc, nodes, kept, board, drivers, uid, Span::All, notes)?;
-    end_halt(alloc, nodes, kept, board, drivers, uid, notes)
+    reset_children(stage, uid, Span::All)?;
+    end_halt(stage, uid)
 }
 
 /// Resets the children of the node with this uid that a span has, in order. It is inlined, since
@@ -117,39 +98,22 @@ pub fn halt_node<D: Drivers>(
 #[inline(always)]
 #[cycle(resetting)]
 pub fn reset_children<D: Drivers>(
-    alloc: Global,
-    nodes: &[Node],
-    kept: &mut [Kept],
-    board: &mut Board,
-    drivers: &mut D,
+    stage: &mut Stage<D>,
     uid: u32,
     span: Span,
-    notes: &mut Notes,
 ) -> Result<(), Stop<NodeFault>>
-    requires fits { (term : Term) × (view : View) × (facts : List ℤ) × Fits term view uid nodes.now (scene kept.old board.old facts (D.states drivers.old)) }
-    requires held { RunningAreHeld nodes.now kept.old uid }
-    ensures meets { (term : Term) (view : View) (facts : List ℤ) (moment : ℕ) → Fits term view uid nodes.now (scene kept.old board.old facts (D.states drivers.old)) →
-        Meets nodes.now moment (memories_of (out-Term term).children (uid + 1)) result (scene kept.old board.old facts (D.states drivers.old)) (scene kept.new board.new facts (D.states drivers.new)) notes.old.list notes.new.list
-        (resets span (children_of (site_at view uid term)) 0 (memories_of (out-Term term).children (uid + 1) kept.old) (state_in nodes.now (scene kept.old board.old facts (D.states drivers.old)) moment)) }
-    ensures fits { (facts : List ℤ) → StaysFit nodes.now (scene kept.old board.old facts (D.states drivers.old)) (scene kept.new board.new facts (D.states drivers.new)) }
-    ensures held { OnOk result (RunningAreHeld nodes.now kept.new uid) }
-    ensures beside { Beside (uid + 1) ((node_at nodes.now uid).size - 1) kept.old kept.new }
-    ensures reserve { notes.old.reserve ≤ notes.new.reserve }
-    ensures full { notes.new.full ≡ notes.old.full }
+    requires fits { (term : Term) × (view : View) × FitsOn D.states stage.old uid term view }
+    requires held { RunningAreHeldOn stage.old uid }
+    ensures meets { (term : Term) (view : View) → FitsOn D.states stage.old uid term view →
+        MeetsOn D.states (children_in term uid) result stage.old stage.new (resets_on D.states stage.old uid span term view) }
+    ensures held { OnOk result (RunningAreHeldOn stage.new uid) }
+    ensures keeps { Keeps D.states (uid + 1) ((node_at stage.old.nodes.now uid).size - 1) stage.old stage.new }
+    ensures facts { stage.new.facts.now ≡ stage.old.facts.now }
 {
     let mut child = uid + 1;
-    for place in 0..node(nodes, uid).children {
-        reset_wanted(
-            has(span, place),
-            alloc,
-            nodes,
-            kept,
-            board,
-            drivers,
-            child,
-            notes,
-        )?;
-        child += node(nodes, child).size;
+    for place in 0..node(stage.nodes, uid).children {
+        reset_wanted(stage, child, has(span, place))?;
+        child += node(stage.nodes, child).size;
     }
     Ok(())
 }
@@ -159,29 +123,17 @@ pub fn reset_children<D: Drivers>(
 #[inline(always)]
 #[cycle(resetting)]
 fn reset_wanted<D: Drivers>(
-    wanted: bool,
-    alloc: Global,
-    nodes: &[Node],
-    kept: &mut [Kept],
-    board: &mut Board,
-    drivers: &mut D,
+    stage: &mut Stage<D>,
     uid: u32,
-    notes: &mut Notes,
+    wanted: bool,
 ) -> Result<(), Stop<NodeFault>>
-    requires fits { (term : Term) × (view : View) × (facts : List ℤ) × Fits term view uid nodes.now (scene kept.old board.old facts (D.states drivers.old)) }
-    requires held { RunningAreHeld nodes.now kept.old uid }
-    ensures meets { (term : Term) (view : View) (facts : List ℤ) (moment : ℕ) → Fits term view uid nodes.now (scene kept.old board.old facts (D.states drivers.old)) →
-        Meets nodes.now moment (memory_of term uid) result (scene kept.old board.old facts (D.states drivers.old)) (scene kept.new board.new facts (D.states drivers.new)) notes.old.list notes.new.list
-        (reset_if wanted term view uid (memory_of term uid kept.old) (state_in nodes.now (scene kept.old board.old facts (D.states drivers.old)) moment)) }
-    ensures fits { (facts : List ℤ) → StaysFit nodes.now (scene kept.old board.old facts (D.states drivers.old)) (scene kept.new board.new facts (D.states drivers.new)) }
-    ensures held { OnOk result (RunningAreHeld nodes.now kept.new uid) }
-    ensures beside { Beside uid (node_at nodes.now uid).size kept.old kept.new }
-    ensures reserve { notes.old.reserve ≤ notes.new.reserve }
-    ensures full { notes.new.full ≡ notes.old.full }
+    requires fits { (term : Term) × (view : View) × FitsOn D.states stage.old uid term view }
+    requires held { RunningAreHeldOn stage.old uid }
+    ensures meets { (term : Term) (view : View) → FitsOn D.states stage.old uid term view →
+        MeetsOn D.states (memory_of term uid) result stage.old stage.new (reset_if_on D.states stage.old wanted uid term view) }
+    ensures held { OnOk result (RunningAreHeldOn stage.new uid) }
+    ensures keeps { Keeps D.states uid (node_at stage.old.nodes.now uid).size stage.old stage.new }
+    ensures facts { stage.new.facts.now ≡ stage.old.facts.now }
 {
-    if wanted {
-        reset_node(alloc, nodes, kept, board, drivers, uid, notes)
-    } else {
-        Ok(())
-    }
+    if wanted { reset(stage, uid) } else { Ok(()) }
 }

@@ -12,6 +12,7 @@ pub mod Quenched
 pub mod Resting
 pub mod Results
 pub mod Rising
+pub mod Seen
 pub mod Serving
 pub mod Stepping
 pub mod TickEnds

@@ -1,5 +1,6 @@
 -- How an event ends, after the part of its runner.
-use Rattle.std.specs.Prelude.{◌≡◌, ◌-◌, ◌≤◌, ◌<◌, ◌^◌, ℕ, ℤ, List, [], ◌++◌, ◌∷◌, length, map, slice_set, slice_index_or, Option, Result, Ok, Err}
+use Rattle.std.specs.Prelude.{◌≡◌, ◌-◌, ◌≤◌, ◌<◌, ◌^◌, ℕ, ℤ, List, [], ◌++◌, ◌∷◌, length, map, slice_set, slice_index_or}
+use Rattle.std.specs.Prelude.{Option, Result, Ok, Err}
 use Rattle.bt_script.specs.declared.stop.Stop.{Stop}
 use Rattle.bt_script.specs.declared.stop.Stop.TheVariants as stop
 use Rattle.bt_script.specs.declared.value.Value.{Value}
@@ -37,23 +38,33 @@ pub record CanTell (number : ℕ) (runs : Runs) : Type 0 where
   pub few_entries : length (nth_board runs.runners.items number) < 2 ^ 32
 
 -- what changed in the part of a runner was added to a block, and is told
-pub record IsTelling (number : ℕ) (facts : List ℤ) (boards : List (List (Option Value))) (old new : Told) (before after : Block) : Type 0 where
+pub record IsTelling (number : ℕ) (facts : List ℤ) (boards : List (List (Option Value))) (old new : Told) (before after : Block)
+    : Type 0 where
   pub header : after.header ≡ before.header
   pub changed : after.facts.items ≡ before.facts.items ++ changed_from 0 old.facts.items facts
-  pub entries : after.entries.items ≡ before.entries.items ++ changed_entries number 0 (entries_told old.boards.items number) (slice_index_or boards (number - 1) [])
+  pub entries :
+      after.entries.items
+      ≡ before.entries.items ++ changed_entries number 0 (entries_told old.boards.items number) (slice_index_or boards (number - 1) [])
   pub told : new.facts.items ≡ facts
-  pub told_entries : boards_told new.boards.items ≡ slice_set (boards_told old.boards.items) (number - 1) (slice_index_or boards (number - 1) [])
+  pub told_entries :
+      boards_told new.boards.items
+      ≡ slice_set (boards_told old.boards.items) (number - 1) (slice_index_or boards (number - 1) [])
 
 -- How an event ends after its runner's part: what changed is told; a fault has a note, and all runners are quenched;
 -- and want of memory (out of memory), whenever it comes, quenches them.
-abbrev pub Closing : Result (Unit {0}) (Stop NodeFault) → Result (Unit {0}) (Stop RunFault) → Tree → ℕ → List DriverState → List DriverState → Runs → Runs → Block → Block → Type 0
+abbrev pub Closing : Result (Unit {0}) (Stop NodeFault) → Result (Unit {0}) (Stop RunFault) → Tree → ℕ →
+    List DriverState → List DriverState → Runs → Runs → Block → Block → Type 0
 Closing (Ok a) (Ok b) tree number before after old new begun block =
-    IsTelling number old.facts (boards_in old.runners.items) old.told new.told begun block × (new ≡ record old { told = new.told }) × (block.notes ≡ begun.notes) × (after ≡ before)
-Closing (Ok a) (Err stop.NoMemory) tree number before after old new begun block = IsQuenched tree before after old new begun.notes.list block.notes.list
+    IsTelling number old.facts (boards_in old.runners.items) old.told new.told begun block
+    × (new ≡ record old { told = new.told }) × (block.notes ≡ begun.notes) × (after ≡ before)
+Closing (Ok a) (Err stop.NoMemory) tree number before after old new begun block =
+    IsQuenched tree before after old new begun.notes.list block.notes.list
 Closing (Err (stop.Fault f)) (Err (stop.Fault g)) tree number before after old new begun block =
     (g ≡ record { runner = number; uid = f.uid; cause = f.cause })
     × IsQuenched tree before after old new (begun.notes.list ++ Faulted number f.uid f.cause ∷ []) block.notes.list
     × IsTelling number old.facts (boards_in old.runners.items) old.told new.told begun block
-Closing (Err (stop.Fault f)) (Err stop.NoMemory) tree number before after old new begun block = IsQuenched tree before after old new (begun.notes.list ++ Faulted number f.uid f.cause ∷ []) block.notes.list
-Closing (Err stop.NoMemory) (Err stop.NoMemory) tree number before after old new begun block = IsQuenched tree before after old new begun.notes.list block.notes.list
+Closing (Err (stop.Fault f)) (Err stop.NoMemory) tree number before after old new begun block =
+    IsQuenched tree before after old new (begun.notes.list ++ Faulted number f.uid f.cause ∷ []) block.notes.list
+Closing (Err stop.NoMemory) (Err stop.NoMemory) tree number before after old new begun block =
+    IsQuenched tree before after old new begun.notes.list block.notes.list
 Closing _ _ tree number before after old new begun block = ⊥

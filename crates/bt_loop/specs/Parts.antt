@@ -13,7 +13,8 @@ use Rattle.bt_model.specs.declared.world.What.TheVariants as what
 use Rattle.bt_model.specs.declared.world.World.{World}
 use Rattle.bt_model.specs.Done.{Call, Done, State}
 use Rattle.bt_model.specs.Drivers.{DriverState}
-use Rattle.bt_model.specs.Run.{RunState, Runner, Stepped, reset_step, root_reset, root_view, runner_at, runner_calls, state_of, step_by, ticked, with_runner}
+use Rattle.bt_model.specs.Run.{RunState, Runner, Stepped, reset_step, root_reset, root_view, runner_at, runner_calls}
+use Rattle.bt_model.specs.Run.{state_of, step_by, ticked, with_runner}
 use Rattle.bt_model.specs.Sound.{Dated, Sound}
 use Rattle.bt_arena.specs.declared.nodes.Node.{Node}
 use Rattle.bt_arena.specs.Ends.{Meets}
@@ -102,14 +103,17 @@ abbrev pub state_of_all : Term → List DriverState → List ReadyRunner → Lis
 state_of_all term drivers runners facts last = record { runners = runners_in term drivers runners; facts = facts; last = last }
 
 -- a part was made to its end, with no fault or with this one
-pub record PartMade (term : Term) (number at : ℕ) (s : RunState) (arenas : List (List Node)) (before after : List DriverState) (runners : List ReadyRunner) (facts : List ℤ) (old new : List Note) (ending : Result (Unit {0}) NodeFault) (d : Done (Unit {0}) Memory) : Type 0 where
+pub record PartMade (term : Term) (number at : ℕ) (s : RunState) (arenas : List (List Node)) (before after : List DriverState)
+    (runners : List ReadyRunner) (facts : List ℤ) (old new : List Note) (ending : Result (Unit {0}) NodeFault) (d : Done (Unit {0}) Memory)
+    : Type 0 where
   pub answer : d.answer ≡ ending
   pub state : state_of_all term after runners facts at ≡ with_runner s number at d
   pub notes : new ≡ old ++ d.notes
   pub drivers : after ≡ roster_over arenas (runner_calls number d.calls) before
 
 -- a part was cut off: a prefix of its notes was added, and the drivers took the calls that these notes name
-pub record PartCut (number : ℕ) (arenas : List (List Node)) (before after : List DriverState) (old new : List Note) (d : Done (Unit {0}) Memory) : Type 0 where
+pub record PartCut (number : ℕ) (arenas : List (List Node)) (before after : List DriverState) (old new : List Note)
+    (d : Done (Unit {0}) Memory) : Type 0 where
   pub told : List Note
   pub untold : List Note
   pub made : List Call
@@ -120,7 +124,10 @@ pub record PartCut (number : ℕ) (arenas : List (List Node)) (before after : Li
   pub notes : new ≡ old ++ told
   pub drivers : after ≡ roster_over arenas (runner_calls number made) before
 
-abbrev pub PartEnds : Result (Unit {0}) (Stop NodeFault) → Term → ℕ → ℕ → RunState → List (List Node) → List DriverState → List DriverState → List ReadyRunner → List ℤ → List Note → List Note → Done (Unit {0}) Memory → Type 0
-PartEnds (Ok done) term number at s arenas before after runners facts old new d = PartMade term number at s arenas before after runners facts old new (Ok tt) d × (length d.calls ≡ calls_named d.notes)
-PartEnds (Err (stop.Fault f)) term number at s arenas before after runners facts old new d = PartMade term number at s arenas before after runners facts old new (Err f) d
+abbrev pub PartEnds : Result (Unit {0}) (Stop NodeFault) → Term → ℕ → ℕ → RunState → List (List Node) →
+    List DriverState → List DriverState → List ReadyRunner → List ℤ → List Note → List Note → Done (Unit {0}) Memory → Type 0
+PartEnds (Ok done) term number at s arenas before after runners facts old new d =
+    PartMade term number at s arenas before after runners facts old new (Ok tt) d × (length d.calls ≡ calls_named d.notes)
+PartEnds (Err (stop.Fault f)) term number at s arenas before after runners facts old new d =
+    PartMade term number at s arenas before after runners facts old new (Err f) d
 PartEnds (Err stop.NoMemory) term number at s arenas before after runners facts old new d = PartCut number arenas before after old new d

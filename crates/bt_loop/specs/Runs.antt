@@ -1,5 +1,6 @@
 -- The runs of a tree in a world: the state that they keep, and what holds of them between events.
-use Rattle.std.specs.Prelude.{◌≡◌, ◌+◌, ◌-◌, ◌*◌, ◌<◌, ◌^◌, ℕ, ℤ, List, [], ◌∷◌, length, map, sum, slice_get, slice_index_or, Option, Some, None, true}
+use Rattle.std.specs.Prelude.{◌≡◌, ◌+◌, ◌-◌, ◌*◌, ◌<◌, ◌^◌, ℕ, ℤ, List, [], ◌∷◌, length, map, sum, slice_get, slice_index_or}
+use Rattle.std.specs.Prelude.{Option, Some, None, true}
 use Rattle.bt_model.specs.declared.term.Term.{Term}
 use Rattle.bt_model.specs.declared.term.Tree.{Tree}
 use Rattle.bt_model.specs.declared.world.World.{World}
@@ -29,7 +30,8 @@ pub record Setup : Type 0 where
 
 -- what a runner keeps: the memory of its nodes, its blackboard, and its leaves' instances, which the drivers have
 abbrev pub runner_in : Term → List DriverState → ReadyRunner → Runner
-runner_in term drivers r = record { memory = memory_of term 1 r.arena.kept.items; board = r.board; instances = instances_of r.arena.nodes.items drivers }
+runner_in term drivers r =
+    record { memory = memory_of term 1 r.arena.kept.items; board = r.board; instances = instances_of r.arena.nodes.items drivers }
 
 abbrev pub runners_in : Term → List DriverState → List ReadyRunner → List Runner
 runners_in term drivers runners = map (runner_in term drivers) runners
@@ -61,7 +63,8 @@ nodes_of_runner arenas runner = slice_index_or arenas (runner - 1) []
 -- the drivers after these calls for leaves of runners, in order
 abbrev pub roster_over : List (List Node) → List RunnerCall → List DriverState → List DriverState
 roster_over arenas [] drivers = drivers
-roster_over arenas (c ∷ calls) drivers = roster_over arenas calls (leaf_called (leaf_at (nodes_of_runner arenas c.runner) c.call.uid) c.call drivers)
+roster_over arenas (c ∷ calls) drivers =
+    roster_over arenas calls (leaf_called (leaf_at (nodes_of_runner arenas c.runner) c.call.uid) c.call drivers)
 
 -- no two runners have an instance in common
 abbrev pub AreApart : List (List Node) → Type 0
@@ -87,14 +90,16 @@ HeldAreTheirs arenas drivers = (place instance : ℕ) → is_held (instance_at d
 -- ---- What holds of runs
 
 -- a runner's tree stands in its arena, with nothing else but place 0; the marks of the arena say what is held
-pub record RunnerFits (tree : Tree) (world : World) (facts : List ℤ) (drivers : List DriverState) (number : ℕ) (r : ReadyRunner) : Type 0 where
+pub record RunnerFits (tree : Tree) (world : World) (facts : List ℤ) (drivers : List DriverState) (number : ℕ) (r : ReadyRunner)
+    : Type 0 where
   pub numbered : r.arena.runner ≡ number
   pub fits : Fits tree.term (root_view tree world) 1 r.arena.nodes.items (scene r.arena.kept.items r.board facts drivers)
   pub nodes : length r.arena.nodes.items ≡ 1 + node_count tree.term
   pub nobody : leaf_at r.arena.nodes.items 0 ≡ None
 
 -- what holds of the runners of a world, even during an event
-pub record RunnersFit (tree : Tree) (world : World) (facts : List ℤ) (drivers : List DriverState) (runners : List ReadyRunner) : Type 0 where
+pub record RunnersFit (tree : Tree) (world : World) (facts : List ℤ) (drivers : List DriverState) (runners : List ReadyRunner)
+    : Type 0 where
   pub many : length runners ≡ world.runners
   pub each : (k : ℕ) (r : ReadyRunner) → slice_get runners k ≡ Some r → RunnerFits tree world facts drivers (k + 1) r
   pub apart : AreApart (arenas_in runners)
@@ -121,7 +126,8 @@ pub record AreRuns (tree : Tree) (world : World) (drivers : List DriverState) (r
 -- it serves
 abbrev pub wanted_from : Tree → World → List DriverState → ℕ → List DriverState → List ℕ
 wanted_from tree world drivers place [] = []
-wanted_from tree world drivers place (d ∷ ds) = world.runners * leaves_served world.rows drivers place (leaf_ids tree.term) ∷ wanted_from tree world drivers (place + 1) ds
+wanted_from tree world drivers place (d ∷ ds) =
+    world.runners * leaves_served world.rows drivers place (leaf_ids tree.term) ∷ wanted_from tree world drivers (place + 1) ds
 
 abbrev pub instances_wanted : Tree → World → List DriverState → List ℕ
 instances_wanted tree world drivers = wanted_from tree world drivers 0 drivers

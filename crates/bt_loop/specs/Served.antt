@@ -1,5 +1,6 @@
 -- Which driver serves a leaf and by which of its instances, said of a tree and a world, and what calls leave of drivers.
-use Rattle.std.specs.Prelude.{ℕ, ◌+◌, ◌-◌, ◌*◌, nat_le, if◌then◌else◌, List, [], ◌∷◌, map, take, count_by, slice_index_or, Option, Some, None}
+use Rattle.std.specs.Prelude.{ℕ, ◌+◌, ◌-◌, ◌*◌, nat_le, if◌then◌else◌, List, [], ◌∷◌, map, take, count_by, slice_index_or}
+use Rattle.std.specs.Prelude.{Option, Some, None}
 use Rattle.bt_model.specs.declared.term.Tree.{Tree}
 use Rattle.bt_model.specs.declared.world.World.{World}
 use Rattle.bt_model.specs.Drivers.{DriverState, roster_called, roster_prepared}
@@ -40,7 +41,8 @@ place_called runners places c = if nat_le c.runner runners then slice_index_or p
 
 -- the drivers after a call of the one at this place, for the instance of the call's leaf
 abbrev pub call_made : Option ℕ → List (Option ℕ) → RunnerCall → List DriverState → List DriverState
-call_made (Some place) places c drivers = roster_called drivers place c.call.phase (instance_number places c.runner place c.call.uid) c.call.left
+call_made (Some place) places c drivers =
+    roster_called drivers place c.call.phase (instance_number places c.runner place c.call.uid) c.call.left
 call_made None places c drivers = drivers
 
 -- the drivers after these calls for leaves of this many runners, in order

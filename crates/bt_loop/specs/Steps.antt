@@ -1,5 +1,6 @@
 -- What an event leaves of runs, compared with the definition's step.
-use Rattle.std.specs.Prelude.{◌≡◌, ◌≤◌, ◌+◌, ◌<◌, ◌^◌, ◌⊎◌, ℕ, List, ◌∷◌, ◌++◌, length, map, Some, None, IfSome, false, Result, Ok, Err, OnOk, OnErr}
+use Rattle.std.specs.Prelude.{◌≡◌, ◌≤◌, ◌+◌, ◌<◌, ◌^◌, ◌⊎◌, ℕ, List, ◌∷◌, ◌++◌, length, map}
+use Rattle.std.specs.Prelude.{Some, None, IfSome, false, Result, Ok, Err, OnOk, OnErr}
 use Rattle.bt_script.specs.declared.stop.Stop.{Stop}
 use Rattle.bt_script.specs.declared.stop.Stop.TheVariants as stop
 use Rattle.bt_model.specs.declared.fault.RunFault.{RunFault}

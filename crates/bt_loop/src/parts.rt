@@ -10,7 +10,7 @@ ghost use Rattle.bt_loop.specs.Parts.{CanAct, CanTake, MeetsPart, PartEnds, Stay
 ghost use Rattle.bt_loop.specs.Runs.{RunsFit, Setup, arenas_of, state_of_runs};
 
 use crate::runs::{ReadyRunner, Runs};
-use bt_arena::{Kept, Notes};
+use bt_arena::{Kept, Notes, Stage};
 use bt_driver::{Drivers, FactTable};
 use bt_halting::reset;
 use bt_model::{Answer, Header, NodeFault, Note, Status};
@@ -66,13 +66,13 @@ fn at_end(status: Status) -> Status
 
 /// Makes a root IDLE that has succeeded or failed, with a note. The error is want of memory, and
 /// then the root is unchanged.
-fn settle_root(kept: &mut Vec<Kept>, notes: &mut Notes) -> Result<(), NoMemory>
-    requires { 1 < length kept.old.items }
-    ensures kept { let root = kept_at kept.old.items 1 in
-        OnOk result (kept.new.items ≡ slice_set kept.old.items 1 (record root { status = settled root.status })) }
-    ensures notes { let root = kept_at kept.old.items 1 in
+fn settle_root(kept: &mut [Kept], notes: &mut Notes) -> Result<(), NoMemory>
+    requires { 1 < length kept.old }
+    ensures kept { let root = kept_at kept.old 1 in
+        OnOk result (kept.new ≡ slice_set kept.old 1 (record root { status = settled root.status })) }
+    ensures notes { let root = kept_at kept.old 1 in
         OnOk result (notes.new.list ≡ notes.old.list ++ change 1 root.status (settled root.status)) }
-    ensures err { OnErr result (kept.new.items ≡ kept.old.items) }
+    ensures err { OnErr result (kept.new ≡ kept.old) }
     ensures err_notes { OnErr result (notes.new.list ≡ notes.old.list) }
     ensures reserve { notes.new.reserve ≡ notes.old.reserve }
     ensures full { notes.new.full ≡ notes.old.full }
@@ -91,16 +91,16 @@ fn settle_root(kept: &mut Vec<Kept>, notes: &mut Notes) -> Result<(), NoMemory>
 fn end_tick(
     runner: u8,
     answer: Answer,
-    kept: &mut Vec<Kept>,
+    kept: &mut [Kept],
     notes: &mut Notes,
 ) -> Result<(), NoMemory>
-    requires { 1 < length kept.old.items }
-    ensures kept { let root = kept_at kept.old.items 1 in
-        OnOk result (kept.new.items ≡ slice_set kept.old.items 1 (record root { status = settled root.status })) }
-    ensures notes { let root = kept_at kept.old.items 1 in
+    requires { 1 < length kept.old }
+    ensures kept { let root = kept_at kept.old 1 in
+        OnOk result (kept.new ≡ slice_set kept.old 1 (record root { status = settled root.status })) }
+    ensures notes { let root = kept_at kept.old 1 in
         OnOk result (notes.new.list ≡ notes.old.list ++ Root runner answer ∷ change 1 root.status (settled root.status)) }
-    ensures err { OnErr result (kept.new.items ≡ kept.old.items) }
-    ensures err_notes { let root = kept_at kept.old.items 1 in
+    ensures err { OnErr result (kept.new ≡ kept.old) }
+    ensures err_notes { let root = kept_at kept.old 1 in
         OnErr result ((told : List NoteOf) × (untold : List NoteOf)
         × (told ++ untold ≡ Root runner answer ∷ change 1 root.status (settled root.status))
         × (calls_named told ≡ 0) × (notes.new.list ≡ notes.old.list ++ told)) }
@@ -109,6 +109,15 @@ fn end_tick(
 {
     notes.push(Note::Root { runner, answer })?;
     settle_root(kept, notes)
+}
+
+/// Ends a loan of what nodes keep. The prover follows a slice of a vector through a stage only where
+/// the slice is used again behind it.
+#[inline(always)]
+fn lent_back(kept: &mut [Kept])
+    ensures { kept.new ≡ kept.old }
+{
+    let _ = kept;
 }
 
 /// Ticks a runner at the time `at` in milliseconds: visits its root, adds the note of its answer,
@@ -136,48 +145,61 @@ fn tick_root<D: Drivers>(
     ensures full { notes.new.full ≡ notes.old.full }
 {
     let number = runner.arena.runner;
-    let answer = tick(
+    let kept: &mut [Kept] = &mut runner.arena.kept;
+    let mut stage = Stage {
         alloc,
-        &mut runner.arena,
-        &mut runner.board,
+        moment: at,
+        nodes: &runner.arena.nodes,
+        kept: &mut *kept,
+        board: &mut runner.board,
         facts,
         drivers,
-        at,
         notes,
-    )?;
-    end_tick(number, answer, &mut runner.arena.kept, notes)?;
+    };
+    let visited = tick(&mut stage, &mut runner.arena.frames);
+    lent_back(kept);
+    let answer = visited?;
+    end_tick(number, answer, kept, notes)?;
     Ok(())
 }
 
-/// Resets a runner's root, which changes no fact. The error is the fault of a node, or want of
-/// memory.
+/// Resets a runner's root at the time `at` in milliseconds, which changes no fact. The error is the
+/// fault of a node, or want of memory.
 fn reset_root<D: Drivers>(
     alloc: Global,
     runner: &mut ReadyRunner,
+    facts: &mut FactTable,
     drivers: &mut D,
+    at: u64,
     notes: &mut Notes,
 ) -> Result<(), Stop<NodeFault>>
-    requires can { (of : Setup) × (at : ℕ) × (facts : List ℤ) × CanAct of.tree of.world at facts (D.states drivers.old) runner.old }
-    ensures part { (of : Setup) (at : ℕ) (facts : List ℤ) → CanAct of.tree of.world at facts (D.states drivers.old) runner.old →
-        let old = scene_of runner.old facts (D.states drivers.old) in
-        let new = scene_of runner.new facts (D.states drivers.new) in
+    requires can { (of : Setup) × CanAct of.tree of.world at facts.old (D.states drivers.old) runner.old }
+    ensures part { (of : Setup) → CanAct of.tree of.world at facts.old (D.states drivers.old) runner.old →
+        let old = scene_of runner.old facts.old (D.states drivers.old) in
+        let new = scene_of runner.new facts.new (D.states drivers.new) in
         MeetsPart of Part.Halt at result runner.old old new notes.old.list notes.new.list }
-    ensures fits { (facts : List ℤ) →
-        let old = scene_of runner.old facts (D.states drivers.old) in
-        let new = scene_of runner.new facts (D.states drivers.new) in
+    ensures fits { let old = scene_of runner.old facts.old (D.states drivers.old) in
+        let new = scene_of runner.new facts.new (D.states drivers.new) in
         StaysFit runner.old.arena.nodes.items old new }
+    ensures facts { facts.new ≡ facts.old }
     ensures stays { StaysRunner runner.old runner.new }
     ensures reserve { notes.old.reserve ≤ notes.new.reserve }
     ensures full { notes.new.full ≡ notes.old.full }
 {
-    reset(
+    let kept: &mut [Kept] = &mut runner.arena.kept;
+    let mut stage = Stage {
         alloc,
-        &mut runner.arena,
-        &mut runner.board,
+        moment: at,
+        nodes: &runner.arena.nodes,
+        kept: &mut *kept,
+        board: &mut runner.board,
+        facts,
         drivers,
-        1,
         notes,
-    )
+    };
+    let done = reset(&mut stage, 1);
+    lent_back(kept);
+    done
 }
 
 /// Makes a runner's part of a turn. The error is the fault of a node, or want of memory.
@@ -203,7 +225,7 @@ fn make_part<D: Drivers>(
 {
     match turn.part {
         Part::Tick => tick_root(alloc, runner, facts, drivers, turn.at, notes),
-        Part::Halt | Part::Finish => reset_root(alloc, runner, drivers, notes),
+        Part::Halt | Part::Finish => reset_root(alloc, runner, facts, drivers, turn.at, notes),
     }
 }
 

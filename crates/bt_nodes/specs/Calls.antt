@@ -13,7 +13,7 @@ use Rattle.bt_model.specs.declared.memory.Memo.TheVariants.{Nothing}
 use Rattle.bt_model.specs.declared.status.Answer.{Answer}
 use Rattle.bt_model.specs.declared.status.Status.{Status}
 use Rattle.bt_model.specs.declared.status.Status.TheVariants as status
-use Rattle.bt_model.specs.Drivers.{DriverState, IsHeldBy, instance_at, roster_answer}
+use Rattle.bt_model.specs.Drivers.{DriverState, IsHeldBy, instance_at, roster_answer, roster_called}
 use Rattle.bt_model.specs.Leaf.{Answered, padded}
 use Rattle.bt_model.specs.Leaves.{phase_of, sight}
 use Rattle.bt_model.specs.Steps.{Given}
@@ -21,8 +21,11 @@ use Rattle.bt_driver.specs.Rules.{rule}
 use Rattle.bt_arena.specs.declared.nodes.ReadyLeaf.{ReadyLeaf}
 use Rattle.bt_arena.specs.declared.source.Source.{Source}
 use Rattle.bt_arena.specs.declared.source.Source.TheVariants.{Slot}
+use Rattle.bt_arena.specs.declared.stage.Stage.{Stage}
+use Rattle.bt_arena.specs.Nodes.{kept_at, leaf_at}
 use Rattle.bt_arena.specs.Rosters.{IsServed}
 use Rattle.bt_arena.specs.Sources.{IsSourceOf, source_value}
+use Rattle.bt_arena.specs.Stages.{IsSame}
 
 -- ---- Inputs and outputs
 
@@ -77,3 +80,34 @@ mark_left _ mark = false
 abbrev pub as_given : Result Answer (Stop NodeFault) → Result Given (Stop NodeFault)
 as_given (Ok answer) = Ok (record { answer = answer; memo = Nothing })
 as_given (Err stop) = Err stop
+
+-- ---- Calls on a stage
+
+-- a leaf on a stage can be called to begin, or to go on, as its status says
+abbrev pub PhaseOn : {D : Type 0} → (D → List DriverState) → Stage D → ℕ → Type 0
+PhaseOn states s uid =
+    (leaf : ReadyLeaf) → leaf_at s.nodes.now uid ≡ Some leaf →
+    IsInPhase (kept_at s.kept.now uid).status (instance_at (states s.drivers.now) leaf.driver leaf.instance) s.moment
+
+-- a leaf of this status can be called there
+abbrev pub CallableOn : {D : Type 0} → (D → List DriverState) → Stage D → Status → ReadyLeaf → Type 0
+CallableOn states s status leaf = CanBeCalled (length s.board.now) (length s.facts.now) (states s.drivers.now) status s.moment leaf
+
+-- what a call of its driver with these inputs leaves
+abbrev pub answer_to : {D : Type 0} → (D → List DriverState) → Stage D → Status → ReadyLeaf → List Seen → Answered
+answer_to states s status leaf inputs =
+    roster_answer (states s.drivers.now) leaf.driver leaf.instance (rule leaf.row) (phase_of status) inputs s.facts.now s.moment
+
+-- what a call of its driver with its own inputs leaves
+abbrev pub answer_on : {D : Type 0} → (D → List DriverState) → Stage D → Status → ReadyLeaf → Answered
+answer_on states s status leaf = leaf_answer leaf status s.board.now s.facts.now (states s.drivers.now) s.moment
+
+-- Its driver was called and gave this answer: the facts and its instance are those after the call, and what nodes keep
+-- and the notes are as they were.
+pub record WasAsked {D : Type 0} (states : D → List DriverState) (status : Status) (leaf : ReadyLeaf) (a : Answered) (old new : Stage D)
+    : Type 0 where
+  pub same : IsSame old new
+  pub kept : new.kept.now ≡ old.kept.now
+  pub notes : new.notes.now ≡ old.notes.now
+  pub facts : new.facts.now ≡ a.facts
+  pub drivers : states new.drivers.now ≡ roster_called (states old.drivers.now) leaf.driver (phase_of status) leaf.instance a.instance

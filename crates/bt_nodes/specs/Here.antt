@@ -3,20 +3,37 @@ use Rattle.std.specs.Prelude.{◌≡◌, ◌+◌, ◌<◌, ℕ, List, length, ma
 use Rattle.bt_script.specs.declared.stop.Stop.{Stop}
 use Rattle.bt_script.specs.declared.stop.Stop.TheVariants.{Fault}
 use Rattle.bt_model.specs.declared.fault.NodeFault.{NodeFault}
+use Rattle.bt_model.specs.declared.memory.Memory.{Memory}
+use Rattle.bt_model.specs.declared.status.Answer.{Answer}
 use Rattle.bt_model.specs.declared.term.Term.{Term, Term-F, out-Term}
 use Rattle.bt_model.specs.declared.term.Term.TheFolds.{map-Term}
-use Rattle.bt_model.specs.Drivers.{is_held}
+use Rattle.bt_model.specs.Done.{Done}
+use Rattle.bt_model.specs.Drivers.{DriverState, is_held}
+use Rattle.bt_model.specs.Leaves.{leaf_call, row_of}
 use Rattle.bt_model.specs.Sites.{Meaning, Site, View, sizes}
-use Rattle.bt_model.specs.Visit.{meaning, site_of}
+use Rattle.bt_model.specs.Steps.{Given}
+use Rattle.bt_model.specs.Visit.{ended, meaning, node_rule, ruled, site_of}
+use Rattle.bt_arena.specs.declared.nodes.Kept.{Kept}
 use Rattle.bt_arena.specs.declared.nodes.Node.{Node}
-use Rattle.bt_arena.specs.Nodes.{IsNode, node_at}
+use Rattle.bt_arena.specs.declared.stage.Stage.{Stage}
+use Rattle.bt_arena.specs.Nodes.{IsNode, kept_at, node_at}
 use Rattle.bt_arena.specs.Rosters.{AreServed, instances_of}
-use Rattle.bt_arena.specs.Scenes.{Scene, marks_of}
-use Rattle.bt_arena.specs.Stands.{written}
+use Rattle.bt_arena.specs.Scenes.{Scene, marks_of, state_in}
+use Rattle.bt_arena.specs.Stages.{scene_on, state_on}
+use Rattle.bt_arena.specs.Stands.{memories_of, written}
 
 -- a term at its place
 abbrev pub site_at : View → ℕ → Term → Site
 site_at view uid term = site_of (map-Term Term Meaning meaning (out-Term term)) view uid
+
+-- what the children of a term at this uid remember
+abbrev pub children_in : Term → ℕ → List Kept → List Memory
+children_in term uid = memories_of (out-Term term).children (uid + 1)
+
+-- the visit of a node of a term in a scene, from its rule on
+abbrev pub ruled_in : List Node → ℕ → Term → View → ℕ → Scene → Done Answer Memory
+ruled_in nodes moment term view uid s =
+    ruled (site_at view uid term) (kept_at s.kept uid).status (kept_at s.kept uid).memo (children_in term uid s.kept) (state_in nodes s moment)
 
 -- A node of a term is the one of this uid in an arena: the marks say which instances are held, the leaves are served,
 -- and there are as many slots and facts as the view has.
@@ -32,3 +49,28 @@ pub record FitsHere (term : Term-F Meaning) (view : View) (uid : ℕ) (nodes : L
 abbrev pub in_stop : {A : Type 0} → Result A NodeFault → Result A (Stop NodeFault)
 in_stop (Ok a) = Ok a
 in_stop (Err fault) = Err (Fault fault)
+
+-- ---- A node of a term on a stage
+
+-- it is the one of this uid
+abbrev pub FitsHereOn : {D : Type 0} → (D → List DriverState) → Stage D → ℕ → Term-F Meaning → View → Type 0
+FitsHereOn states s uid term view = FitsHere term view uid s.nodes.now (scene_on states s)
+
+-- its rule
+abbrev pub rule_on : {D : Type 0} → (D → List DriverState) → Stage D → ℕ → Term-F Meaning → View → List Memory → Done Given (List Memory)
+rule_on states s uid term view ms =
+    node_rule term.kind (site_of term view uid) (kept_at s.kept.now uid).status (kept_at s.kept.now uid).memo ms (state_on states s)
+
+-- the call of its driver, where it is a leaf
+abbrev pub call_on : {D : Type 0} → (D → List DriverState) → Stage D → ℕ → Term-F Meaning → View → List Memory → Done Given (List Memory)
+call_on states s uid term view ms =
+    leaf_call (row_of view.rows term.id) (site_of term view uid) (kept_at s.kept.now uid).status ms (state_on states s)
+
+-- its visit from its rule on
+abbrev pub ruled_on : {D : Type 0} → (D → List DriverState) → Stage D → ℕ → Term → View → Done Answer Memory
+ruled_on states s uid term view = ruled_in s.nodes.now s.moment term view uid (scene_on states s)
+
+-- the end of its visit with this answer and this memo
+abbrev pub ended_on : {D : Type 0} → (D → List DriverState) → Stage D → ℕ → Given → Term → View → Done Answer Memory
+ended_on states s uid given term view =
+    ended (site_at view uid term) (kept_at s.kept.now uid).status given (children_in term uid s.kept.now) (state_on states s)

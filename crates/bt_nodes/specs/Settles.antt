@@ -25,7 +25,8 @@ Settles r s d = SettlesWith tt r s d
 
 -- A guard was tried: where it answers, this is the answer of all; else the next guards go on from the state that is
 -- left.
-abbrev pub Tries : Result Bool (Stop NodeFault) → Answer → (State → Done (Option Answer) (Unit {0})) → State → Done (Option Answer) (Unit {0}) → Type 0
+abbrev pub Tries : Result Bool (Stop NodeFault) → Answer → (State → Done (Option Answer) (Unit {0})) → State →
+    Done (Option Answer) (Unit {0}) → Type 0
 Tries (Ok true) answer next s d = d ≡ done (Some answer) tt s
 Tries (Ok false) answer next s d = d ≡ next s
 Tries (Err (stop.Fault f)) answer next s d = d ≡ ends (Err f) tt s

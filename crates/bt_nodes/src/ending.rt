@@ -1,23 +1,20 @@
-ghost use Rattle.std.specs.Prelude.{◌≡◌, ◌+◌, ◌++◌, ◌<◌, ℕ, ℤ, List, OnOk, OnErr, length, slice_set};
+ghost use Rattle.std.specs.Prelude.{◌≡◌, ◌++◌, ◌<◌, List, OnOk, OnErr, length, slice_set};
 ghost use Rattle.bt_model.specs.declared.memory.Memory.{Memory};
-ghost use Rattle.bt_model.specs.declared.term.Term.{Term, Term-F, out-Term};
-ghost use Rattle.bt_model.specs.Drivers.{DriverState};
+ghost use Rattle.bt_model.specs.declared.term.Term.{Term, Term-F};
 ghost use Rattle.bt_model.specs.Sites.{Meaning, View, remembered};
+ghost use Rattle.bt_model.specs.Steps.{Given};
 ghost use Rattle.bt_model.specs.Visit.{change, ended, site_of, status_of};
-ghost use Rattle.bt_arena.specs.declared.nodes.Node.{Node as ArenaNode};
-ghost use Rattle.bt_arena.specs.Ends.{Meets, StaysFit};
 ghost use Rattle.bt_arena.specs.Nodes.{AreCompiled, kept_at};
-ghost use Rattle.bt_arena.specs.Scenes.{Fits, scene, state_in};
-ghost use Rattle.bt_arena.specs.Stands.{Beside, memories_of, memory_of};
-ghost use Rattle.bt_nodes.specs.Here.{site_at};
+ghost use Rattle.bt_arena.specs.Stages.{FitsOn, IsAside, IsSame, Keeps, MeetsOn, state_on};
+ghost use Rattle.bt_arena.specs.Stands.{memory_of};
+ghost use Rattle.bt_nodes.specs.Here.{ended_on};
 ghost use Rattle.bt_nodes.specs.Needs.{GuardsNeedAtMost};
 
 use crate::scripts::posts;
-use bt_arena::{Kept, Node, Notes, ReadyGuards, kept_by, node, set_memo, set_status};
-use bt_board::Board;
+use bt_arena::{Kept, Notes, ReadyGuards, Stage, kept_by, node, set_memo, set_status};
+use bt_driver::Drivers;
 use bt_model::{Answer, Memo, NodeFault, Note, Status};
 use bt_script::{NoMemory, Stop};
-use std::alloc::Global;
 
 /// The status of a node after this answer.
 fn status_of(answer: Answer) -> Status
@@ -57,35 +54,36 @@ fn keep_memo(kept: &mut [Kept], uid: u32, memo: Memo)
     }
 }
 
-/// Ends the visit of a node with these guards that has given an answer and a memo: the memo is
-/// kept, the scripts after the answer run, and then the status becomes that of the answer, with a
-/// note. The error is a fault of a script, or want of memory.
+/// Ends the visit of the node with this uid, which has these guards: the memo is kept, the scripts
+/// after the answer run, and then the status becomes that of the answer, with a note. The error is
+/// a fault of a script, or want of memory.
 #[inline(always)]
-fn end_node(
-    alloc: Global,
+fn end_node<D: Drivers>(
+    stage: &mut Stage<D>,
     guards: &ReadyGuards,
     uid: u32,
-    kept: &mut [Kept],
     answer: Answer,
     memo: Memo,
-    board: &mut Board,
-    notes: &mut Notes,
 ) -> Result<Answer, Stop<NodeFault>>
-    requires there { uid < length kept.old }
-    requires guards { GuardsNeedAtMost (length board.old) guards.now }
-    ensures meets { (nodes : List ArenaNode) (term : Term-F Meaning) (view : View) (ms : List Memory) (facts : List ℤ) (drivers : List DriverState) (now : ℕ) → AreCompiled view term.guards guards.now →
-        Meets nodes now (λ k. remembered (kept_at k uid).status (kept_at k uid).memo ms) result (scene kept.old board.old facts drivers) (scene kept.new board.new facts drivers) notes.old.list notes.new.list
-        (ended (site_of term view uid) (kept_at kept.old uid).status (record { answer = answer; memo = memo }) ms (state_in nodes (scene kept.old board.old facts drivers) now)) }
-    ensures kept { kept.new ≡ slice_set kept.old uid (record (kept_at kept.new uid) { held = (kept_at kept.old uid).held }) }
-    ensures slots { length board.new ≡ length board.old }
-    ensures reserve { notes.new.reserve ≡ notes.old.reserve }
-    ensures full { notes.new.full ≡ notes.old.full }
+    requires there { uid < length stage.old.kept.now }
+    requires guards { GuardsNeedAtMost (length stage.old.board.now) guards.now }
+    ensures meets { (term : Term-F Meaning) (view : View) (ms : List Memory) → AreCompiled view term.guards guards.now →
+        let given : Given = record { answer = answer; memo = memo } in
+        let end = ended (site_of term view uid) (kept_at stage.old.kept.now uid).status given ms (state_on D.states stage.old) in
+        MeetsOn D.states (λ kept. remembered (kept_at kept uid).status (kept_at kept uid).memo ms) result stage.old stage.new end }
+    ensures kept { let mark = (kept_at stage.old.kept.now uid).held in
+        stage.new.kept.now ≡ slice_set stage.old.kept.now uid (record (kept_at stage.new.kept.now uid) { held = mark }) }
+    ensures slots { length stage.new.board.now ≡ length stage.old.board.now }
+    ensures same { IsSame stage.old stage.new }
+    ensures reserve { stage.new.notes.now.reserve ≡ stage.old.notes.now.reserve }
+    ensures aside { IsAside D.states stage.old stage.new }
 {
-    keep_memo(kept, uid, memo);
-    posts(alloc, guards, uid, answer, board)?;
+    keep_memo(stage.kept, uid, memo);
+    posts(stage.alloc, guards, uid, answer, stage.board)?;
+    let old = stage.kept[uid as usize].status;
     let status = status_of(answer);
-    note_change(notes, uid, kept_by(kept, uid).status, status)?;
-    set_status(kept, uid, status);
+    note_change(stage.notes, uid, old, status)?;
+    set_status(stage.kept, uid, status);
     Ok(answer)
 }
 
@@ -93,26 +91,22 @@ fn end_node(
 /// the scripts after the answer run, and then the status becomes that of the answer, with a note.
 /// The error is a fault of a script, which leaves the status as it was, or want of memory.
 #[inline(always)]
-pub fn end_visit(
-    alloc: Global,
-    nodes: &[Node],
-    kept: &mut [Kept],
-    board: &mut Board,
+pub fn end_visit<D: Drivers>(
+    stage: &mut Stage<D>,
     uid: u32,
     answer: Answer,
     memo: Memo,
-    notes: &mut Notes,
 ) -> Result<Answer, Stop<NodeFault>>
-    requires fits { (term : Term) × (view : View) × (facts : List ℤ) × (drivers : List DriverState) × Fits term view uid nodes.now (scene kept.old board.old facts drivers) }
-    ensures meets { (term : Term) (view : View) (facts : List ℤ) (drivers : List DriverState) (moment : ℕ) → Fits term view uid nodes.now (scene kept.old board.old facts drivers) →
-        Meets nodes.now moment (memory_of term uid) result (scene kept.old board.old facts drivers) (scene kept.new board.new facts drivers) notes.old.list notes.new.list
-        (ended (site_at view uid term) (kept_at kept.old uid).status (record { answer = answer; memo = memo }) (memories_of (out-Term term).children (uid + 1) kept.old) (state_in nodes.now (scene kept.old board.old facts drivers) moment)) }
-    ensures fits { (facts : List ℤ) (drivers : List DriverState) → StaysFit nodes.now (scene kept.old board.old facts drivers) (scene kept.new board.new facts drivers) }
-    ensures kept { kept.new ≡ slice_set kept.old uid (record (kept_at kept.new uid) { held = (kept_at kept.old uid).held }) }
-    ensures beside { Beside uid 1 kept.old kept.new }
-    ensures reserve { notes.new.reserve ≡ notes.old.reserve }
-    ensures full { notes.new.full ≡ notes.old.full }
+    requires fits { (term : Term) × (view : View) × FitsOn D.states stage.old uid term view }
+    ensures meets { (term : Term) (view : View) → FitsOn D.states stage.old uid term view →
+        MeetsOn D.states (memory_of term uid) result stage.old stage.new
+        (ended_on D.states stage.old uid (record { answer = answer; memo = memo }) term view) }
+    ensures kept { let mark = (kept_at stage.old.kept.now uid).held in
+        stage.new.kept.now ≡ slice_set stage.old.kept.now uid (record (kept_at stage.new.kept.now uid) { held = mark }) }
+    ensures keeps { Keeps D.states uid 1 stage.old stage.new }
+    ensures reserve { stage.new.notes.now.reserve ≡ stage.old.notes.now.reserve }
+    ensures aside { IsAside D.states stage.old stage.new }
 {
-    let guards = &node(nodes, uid).guards;
-    end_node(alloc, guards, uid, kept, answer, memo, board, notes)
+    let guards = &node(stage.nodes, uid).guards;
+    end_node(stage, guards, uid, answer, memo)
 }

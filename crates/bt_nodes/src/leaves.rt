@@ -3,25 +3,23 @@ ghost use Rattle.std.specs.List.{All};
 ghost use Rattle.bt_script.specs.declared.cells.Seen.TheVariants.{Absent};
 ghost use Rattle.bt_model.specs.declared.memory.Memory.{Memory};
 ghost use Rattle.bt_model.specs.declared.term.Term.{Term-F};
-ghost use Rattle.bt_model.specs.Drivers.{instance_at, roster_answer, roster_called};
+ghost use Rattle.bt_model.specs.Drivers.{instance_at};
 ghost use Rattle.bt_model.specs.Leaf.{outputs_after, padded};
-ghost use Rattle.bt_model.specs.Leaves.{called, leaf_call, phase_of, reply_answer, reply_notes, row_of};
+ghost use Rattle.bt_model.specs.Leaves.{called, phase_of, reply_answer, reply_notes};
 ghost use Rattle.bt_model.specs.Sites.{Meaning, View};
-ghost use Rattle.bt_model.specs.Visit.{site_of};
-ghost use Rattle.bt_driver.specs.Rules.{rule};
-ghost use Rattle.bt_arena.specs.declared.nodes.Node.{Node};
-ghost use Rattle.bt_arena.specs.Ends.{Meets, StaysFit};
+ghost use Rattle.bt_arena.specs.Ends.{StaysFit};
 ghost use Rattle.bt_arena.specs.Nodes.{kept_at, leaf_at};
 ghost use Rattle.bt_arena.specs.Rosters.{IsServed};
-ghost use Rattle.bt_arena.specs.Scenes.{scene, state_in};
 ghost use Rattle.bt_arena.specs.Sources.{IsSourceOf};
-ghost use Rattle.bt_nodes.specs.Calls.{CanBeCalled, IsInPhase, as_given, board_left, leaf_answer, mark_left, number_written, outputs_written, seen_inputs};
-ghost use Rattle.bt_nodes.specs.Here.{FitsHere, in_stop};
+ghost use Rattle.bt_arena.specs.Stages.{IsSame, MeetsOn, scene_on};
+ghost use Rattle.bt_nodes.specs.Calls.{CallableOn, IsInPhase, WasAsked, answer_on, answer_to, as_given, board_left, mark_left};
+ghost use Rattle.bt_nodes.specs.Calls.{number_written, outputs_written, seen_inputs};
+ghost use Rattle.bt_nodes.specs.Here.{FitsHereOn, call_on, in_stop};
 
 use crate::sources::seen_of;
-use bt_arena::{Kept, Notes, ReadyLeaf, Source, kept_by, set_held};
+use bt_arena::{Kept, Notes, ReadyLeaf, Source, Stage, set_held};
 use bt_board::Board;
-use bt_driver::{Drivers, FactTable, Inputs, Outs};
+use bt_driver::{Drivers, Inputs, Outs};
 use bt_model::{Answer, NodeFault, Note, Reply, Status};
 use bt_script::{Cells, Seen, Stop};
 
@@ -70,68 +68,63 @@ fn write_outputs(sources: &[Source], outputs: &[i64], board: &mut Board)
     }
 }
 
-/// Calls the driver of a leaf of this status: `running` where it is RUNNING, else `start`. `now` is
-/// in milliseconds.
+/// Calls the driver of a leaf of this status: `running` where it is RUNNING, else `start`.
 #[inline(always)]
 fn call_driver<D: Drivers>(
+    stage: &mut Stage<D>,
     leaf: &ReadyLeaf,
     status: Status,
     inputs: &Inputs,
-    facts: &mut FactTable,
     outs: &mut Outs,
-    drivers: &mut D,
-    now: u64,
 ) -> Reply
-    requires table { length facts.old ≡ leaf.now.row.facts }
-    requires served { IsServed (D.states drivers.old) leaf.now }
-    requires phase { IsInPhase status (instance_at (D.states drivers.old) leaf.now.driver leaf.now.instance) now }
-    ensures reply { result ≡ (roster_answer (D.states drivers.old) leaf.now.driver leaf.now.instance (rule leaf.now.row) (phase_of status) inputs.now facts.old now).reply }
-    ensures states { D.states drivers.new ≡ roster_called (D.states drivers.old) leaf.now.driver (phase_of status) leaf.now.instance (roster_answer (D.states drivers.old) leaf.now.driver leaf.now.instance (rule leaf.now.row) (phase_of status) inputs.now facts.old now).instance }
-    ensures facts { facts.new ≡ (roster_answer (D.states drivers.old) leaf.now.driver leaf.now.instance (rule leaf.now.row) (phase_of status) inputs.now facts.old now).facts }
-    ensures outs { outs.new ≡ outputs_after (roster_answer (D.states drivers.old) leaf.now.driver leaf.now.instance (rule leaf.now.row) (phase_of status) inputs.now facts.old now) outs.old }
+    requires table { length stage.old.facts.now ≡ leaf.now.row.facts }
+    requires served { IsServed (D.states stage.old.drivers.now) leaf.now }
+    requires phase { let instance = instance_at (D.states stage.old.drivers.now) leaf.now.driver leaf.now.instance in
+        IsInPhase status instance stage.old.moment }
+    ensures reply { result ≡ (answer_to D.states stage.old status leaf.now inputs.now).reply }
+    ensures asked { WasAsked D.states status leaf.now (answer_to D.states stage.old status leaf.now inputs.now) stage.old stage.new }
+    ensures board { stage.new.board.now ≡ stage.old.board.now }
+    ensures outs { outs.new ≡ outputs_after (answer_to D.states stage.old status leaf.now inputs.now) outs.old }
 {
     match status {
-        Status::Running => drivers.running(
+        Status::Running => stage.drivers.running(
             leaf.driver,
             leaf.instance,
             &leaf.row,
             inputs,
-            facts,
+            stage.facts,
             outs,
-            now,
+            stage.moment,
         ),
-        _ => drivers.start(
+        _ => stage.drivers.start(
             leaf.driver,
             leaf.instance,
             &leaf.row,
             inputs,
-            facts,
+            stage.facts,
             outs,
-            now,
+            stage.moment,
         ),
     }
 }
 
-/// Calls the driver of a leaf of this status with its inputs. `now` is in milliseconds.
+/// Calls the driver of a leaf of this status with its inputs.
 #[inline(always)]
 fn call_with_inputs<D: Drivers>(
+    stage: &mut Stage<D>,
     leaf: &ReadyLeaf,
     status: Status,
-    board: &Board,
-    facts: &mut FactTable,
     outs: &mut Outs,
-    drivers: &mut D,
-    now: u64,
 ) -> Reply
-    requires { CanBeCalled (length board.now) (length facts.old) (D.states drivers.old) status now leaf.now }
-    ensures reply { result ≡ (leaf_answer leaf.now status board.now facts.old (D.states drivers.old) now).reply }
-    ensures states { D.states drivers.new ≡ roster_called (D.states drivers.old) leaf.now.driver (phase_of status) leaf.now.instance (leaf_answer leaf.now status board.now facts.old (D.states drivers.old) now).instance }
-    ensures facts { facts.new ≡ (leaf_answer leaf.now status board.now facts.old (D.states drivers.old) now).facts }
-    ensures outs { outs.new ≡ outputs_after (leaf_answer leaf.now status board.now facts.old (D.states drivers.old) now) outs.old }
+    requires { CallableOn D.states stage.old status leaf.now }
+    ensures reply { result ≡ (answer_on D.states stage.old status leaf.now).reply }
+    ensures asked { WasAsked D.states status leaf.now (answer_on D.states stage.old status leaf.now) stage.old stage.new }
+    ensures board { stage.new.board.now ≡ stage.old.board.now }
+    ensures outs { outs.new ≡ outputs_after (answer_on D.states stage.old status leaf.now) outs.old }
 {
     let mut inputs = [Seen::Absent; 8];
-    see_inputs(leaf.inputs.list(), board, &mut inputs);
-    call_driver(leaf, status, &inputs, facts, outs, drivers, now)
+    see_inputs(leaf.inputs.list(), stage.board, &mut inputs);
+    call_driver(stage, leaf, status, &inputs, outs)
 }
 
 /// Writes the outputs of a call whose reply was SUCCESS.
@@ -150,30 +143,22 @@ fn write_answer(reply: Reply, leaf: &ReadyLeaf, outs: &Outs, board: &mut Board)
     }
 }
 
-/// Calls the driver of a leaf of this status with its inputs, and writes its outputs. `now` is in
-/// milliseconds.
+/// Calls the driver of a leaf of this status with its inputs, and writes its outputs.
 #[inline(always)]
-fn make_call<D: Drivers>(
-    leaf: &ReadyLeaf,
-    status: Status,
-    board: &mut Board,
-    facts: &mut FactTable,
-    drivers: &mut D,
-    now: u64,
-) -> Reply
-    requires { CanBeCalled (length board.old) (length facts.old) (D.states drivers.old) status now leaf.now }
-    ensures reply { result ≡ (leaf_answer leaf.now status board.old facts.old (D.states drivers.old) now).reply }
-    ensures states { D.states drivers.new ≡ roster_called (D.states drivers.old) leaf.now.driver (phase_of status) leaf.now.instance (leaf_answer leaf.now status board.old facts.old (D.states drivers.old) now).instance }
-    ensures facts { facts.new ≡ (leaf_answer leaf.now status board.old facts.old (D.states drivers.old) now).facts }
-    ensures board { let a = leaf_answer leaf.now status board.old facts.old (D.states drivers.old) now in board.new ≡ board_left a.reply leaf.now.outputs a.outputs board.old }
-    ensures slots { length board.new ≡ length board.old }
+fn make_call<D: Drivers>(stage: &mut Stage<D>, leaf: &ReadyLeaf, status: Status) -> Reply
+    requires { CallableOn D.states stage.old status leaf.now }
+    ensures reply { result ≡ (answer_on D.states stage.old status leaf.now).reply }
+    ensures asked { WasAsked D.states status leaf.now (answer_on D.states stage.old status leaf.now) stage.old stage.new }
+    ensures board { let a = answer_on D.states stage.old status leaf.now in
+        stage.new.board.now ≡ board_left a.reply leaf.now.outputs a.outputs stage.old.board.now }
+    ensures slots { length stage.new.board.now ≡ length stage.old.board.now }
 {
     let mut outs = Outs::new();
     let reply = match leaf.inputs.list() {
-        [] => call_driver(leaf, status, &NO_INPUTS, facts, &mut outs, drivers, now),
-        _ => call_with_inputs(leaf, status, board, facts, &mut outs, drivers, now),
+        [] => call_driver(stage, leaf, status, &NO_INPUTS, &mut outs),
+        _ => call_with_inputs(stage, leaf, status, &mut outs),
     };
-    write_answer(reply, leaf, &outs, board);
+    write_answer(reply, leaf, &outs, stage.board);
     reply
 }
 
@@ -236,33 +221,26 @@ fn tell(
 /// Calls the driver of the leaf with this uid, with its inputs: `running` where it is RUNNING, else
 /// `start`. On SUCCESS its outputs are written. The place of the note is reserved before the call,
 /// so that each call that was made has its note. The error is the leaf's fault, or want of memory,
-/// which comes before the call. `now` is in milliseconds.
+/// which comes before the call.
 #[inline(always)]
 pub fn leaf_call<D: Drivers>(
+    stage: &mut Stage<D>,
     leaf: &ReadyLeaf,
     uid: u32,
-    kept: &mut [Kept],
-    board: &mut Board,
-    facts: &mut FactTable,
-    drivers: &mut D,
-    now: u64,
-    notes: &mut Notes,
 ) -> Result<Answer, Stop<NodeFault>>
-    requires there { uid < length kept.old }
-    requires callable { CanBeCalled (length board.old) (length facts.old) (D.states drivers.old) (kept_at kept.old uid).status now leaf.now }
-    ensures meets { (nodes : List Node) (term : Term-F Meaning) (view : View) (ms : List Memory) → leaf_at nodes uid ≡ Some leaf.now →
-        FitsHere term view uid nodes (scene kept.old board.old facts.old (D.states drivers.old)) →
-        Meets nodes now (λ _. ms) (as_given result) (scene kept.old board.old facts.old (D.states drivers.old)) (scene kept.new board.new facts.new (D.states drivers.new)) notes.old.list notes.new.list
-        (leaf_call (row_of view.rows term.id) (site_of term view uid) (kept_at kept.old uid).status ms (state_in nodes (scene kept.old board.old facts.old (D.states drivers.old)) now)) }
-    ensures fits { (nodes : List Node) → leaf_at nodes uid ≡ Some leaf.now →
-        StaysFit nodes (scene kept.old board.old facts.old (D.states drivers.old)) (scene kept.new board.new facts.new (D.states drivers.new)) }
-    ensures kept { kept.new ≡ slice_set kept.old uid (record (kept_at kept.old uid) { held = (kept_at kept.new uid).held }) }
-    ensures reserve { notes.old.reserve ≤ notes.new.reserve }
-    ensures full { notes.new.full ≡ notes.old.full }
+    requires here { leaf_at stage.old.nodes.now uid ≡ Some leaf.now }
+    requires there { uid < length stage.old.kept.now }
+    requires callable { CallableOn D.states stage.old (kept_at stage.old.kept.now uid).status leaf.now }
+    ensures meets { (term : Term-F Meaning) (view : View) (ms : List Memory) → FitsHereOn D.states stage.old uid term view →
+        MeetsOn D.states (λ _. ms) (as_given result) stage.old stage.new (call_on D.states stage.old uid term view ms) }
+    ensures fits { StaysFit stage.old.nodes.now (scene_on D.states stage.old) (scene_on D.states stage.new) }
+    ensures kept { let mark = (kept_at stage.new.kept.now uid).held in
+        stage.new.kept.now ≡ slice_set stage.old.kept.now uid (record (kept_at stage.old.kept.now uid) { held = mark }) }
+    ensures same { IsSame stage.old stage.new }
 {
-    notes.room()?;
-    let status = kept_by(kept, uid).status;
-    let reply = make_call(leaf, status, board, facts, drivers, now);
-    mark(reply, uid, kept);
-    tell(reply, status, uid, notes)
+    stage.notes.room()?;
+    let status = stage.kept[uid as usize].status;
+    let reply = make_call(stage, leaf, status);
+    mark(reply, uid, stage.kept);
+    tell(reply, status, uid, stage.notes)
 }

@@ -3,7 +3,8 @@ ghost use Rattle.std.specs.List.{All};
 ghost use Rattle.bt_model.specs.declared.built_ins.Range.TheVariants.{Duration, Turns as TurnRange};
 ghost use Rattle.bt_model.specs.declared.term.Term.{Term-F};
 ghost use Rattle.bt_model.specs.Done.{State};
-ghost use Rattle.bt_model.specs.Ports.{is_negative, new_memo, parallel_start, picked, since_start, skip_picked, threshold, turns_start, within};
+ghost use Rattle.bt_model.specs.Ports.{is_negative, new_memo, parallel_start, picked, since_start};
+ghost use Rattle.bt_model.specs.Ports.{skip_picked, threshold, turns_start, within};
 ghost use Rattle.bt_model.specs.Rules.Decorators.{mark_of};
 ghost use Rattle.bt_model.specs.Rules.Sequences.{index_of};
 ghost use Rattle.bt_model.specs.Sites.{Meaning, View};
@@ -168,7 +169,8 @@ pub fn start_memo(
 ) -> Result<(), NodeFault>
     requires { HasPorts (length board.now) node.now }
     ensures starts { (term : Term-F Meaning) (view : View) (whole : ℕ) (s : State) → IsNode view (written term) whole node.now →
-        with_memo result memo.new ≡ or_bad_port uid (new_memo term.kind (site_of term view uid) memo.old (record s { board = board.now; moment = now })) }
+        let started = new_memo term.kind (site_of term view uid) memo.old (record s { board = board.now; moment = now }) in
+        with_memo result memo.new ≡ or_bad_port uid started }
     ensures err { OnErr result (memo.new ≡ memo.old) }
 {
     or_bad_port(uid, start_of(node, memo, board, now))

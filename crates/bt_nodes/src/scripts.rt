@@ -5,7 +5,8 @@ ghost use Rattle.bt_script.specs.Stops.{Gives};
 ghost use Rattle.bt_script_code.specs.Codes.{program};
 ghost use Rattle.bt_model.specs.declared.term.Term.{Term-F};
 ghost use Rattle.bt_model.specs.Done.{Done, State, follow};
-ghost use Rattle.bt_model.specs.Scripts.{goes_on, guard, guards_answer, posts, script_cause, script_holds, script_if_there, script_run, truth_of};
+ghost use Rattle.bt_model.specs.Scripts.{goes_on, guard, guards_answer, posts, script_cause};
+ghost use Rattle.bt_model.specs.Scripts.{script_holds, script_if_there, script_run, truth_of};
 ghost use Rattle.bt_model.specs.Sites.{Meaning, View};
 ghost use Rattle.bt_model.specs.Visit.{site_of};
 ghost use Rattle.bt_arena.specs.Nodes.{AreCompiled, IsCodeOf, IsCompiled};
@@ -191,7 +192,8 @@ fn is_answered(
     board: &mut Board,
 ) -> Result<bool, Stop<NodeFault>>
     requires { NeedsAtMost (length board.old) code.now }
-    ensures tries { (term : Term-F Meaning) (view : View) (script : Option Script) (s : State) (answer : Answer) (next : State → Done (Option Answer) (Unit {0})) → IsCompiled view script code.now →
+    ensures tries { (term : Term-F Meaning) (view : View) (script : Option Script) (s : State) (answer : Answer) →
+        (next : State → Done (Option Answer) (Unit {0})) → IsCompiled view script code.now →
         Tries result answer next (on_board board.new s) (guard (site_of term view uid) script truth answer next (on_board board.old s)) }
     ensures slots { length board.new ≡ length board.old }
     ensures memory { script_meets code.now board.old ≡ false → IsAnswered result }
@@ -307,8 +309,10 @@ fn both_if_there(
 ) -> Result<(), Stop<NodeFault>>
     requires first { NeedsAtMost (length board.old) first.now }
     requires second { NeedsAtMost (length board.old) second.now }
-    ensures settles { (term : Term-F Meaning) (view : View) (one other : Option Script) (s : State) → IsCompiled view one first.now → IsCompiled view other second.now →
-        Settles result (on_board board.new s) (follow (script_if_there (site_of term view uid) one (on_board board.old s)) (λ _. tt) (λ _ _ s1. script_if_there (site_of term view uid) other s1)) }
+    ensures settles { (term : Term-F Meaning) (view : View) (one other : Option Script) (s : State) →
+        IsCompiled view one first.now → IsCompiled view other second.now →
+        let begun = script_if_there (site_of term view uid) one (on_board board.old s) in
+        Settles result (on_board board.new s) (follow begun (λ _. tt) (λ _ _ s1. script_if_there (site_of term view uid) other s1)) }
     ensures slots { length board.new ≡ length board.old }
     ensures memory { then_meets first.now (script_meets second.now) board.old ≡ false → IsAnswered result }
 {

@@ -85,20 +85,6 @@ child_there (c ∷ cs) nodes view first place at stand within is =
 
 -- ---- What changes among other nodes
 
-pub beside_same : (uid size : ℕ) (a : List Kept) → Beside uid size a a
-beside_same uid size a = record { below = λ p e. refl; above = λ p e. refl; as_many = refl }
-
-pub beside_both : {uid size uid1 size1 uid2 size2 : ℕ} {a b c : List Kept} → Beside uid1 size1 a b → Beside uid2 size2 b c →
-    uid ≤ uid1 → uid1 + size1 ≤ uid + size → uid ≤ uid2 → uid2 + size2 ≤ uid + size → Beside uid size a c
-beside_both k l low1 high1 low2 high2 = record {
-  below = λ p e. l.below p (omega (arith, e, low2)) ∙ k.below p (omega (arith, e, low1));
-  above = λ p e. l.above p (omega (arith, e, high2)) ∙ k.above p (omega (arith, e, high1));
-  as_many = l.as_many ∙ k.as_many;
-}
-
-pub beside_more : {uid size uid1 size1 : ℕ} {a b : List Kept} → Beside uid1 size1 a b → uid ≤ uid1 → uid1 + size1 ≤ uid + size → Beside uid size a b
-beside_more {uid} {size} {b = b} k low high = beside_both k (beside_same uid size b) low high (omega arith) (omega arith)
-
 -- the nodes of a term are as many as its size in the arena says
 pub beside_sized : (term : Term) (uid size : ℕ) (a b : List Kept) → size ≡ (meaning term).size → Beside uid size a b → Beside uid (meaning term).size a b
 beside_sized term uid size a b is k = subst (λ (n : ℕ). Beside uid n a b) is k

@@ -5,8 +5,6 @@ use Rattle.std.specs.Prelude.{IfOk, IsErrAnd}
 use Rattle.bt_script.specs.declared.stop.Stop.{Stop}
 use Rattle.bt_script.specs.declared.stop.Stop.TheVariants as stop
 use Rattle.bt_script.specs.declared.value.Value.{Value}
-use Rattle.bt_model.specs.declared.built_ins.Class.{Class}
-use Rattle.bt_model.specs.declared.built_ins.Class.TheVariants as class
 use Rattle.bt_model.specs.declared.fault.NodeFault.{NodeFault}
 use Rattle.bt_model.specs.declared.fault.PortId.{PortId}
 use Rattle.bt_model.specs.declared.memory.Memo.{Memo}
@@ -22,7 +20,7 @@ use Rattle.bt_model.specs.declared.term.Kind.{Kind}
 use Rattle.bt_model.specs.declared.term.Kind.TheVariants.{AlwaysSuccess, AlwaysFailure, ScriptNode, ScriptCondition, Leaf}
 use Rattle.bt_model.specs.declared.term.Term.{Term, Term-F, fold_out-Term, out-Term}
 use Rattle.bt_model.specs.declared.term.Term.TheFolds.{map-Term}
-use Rattle.bt_model.specs.BuiltIns.{class_of, has_rule, of_parent}
+use Rattle.bt_model.specs.BuiltIns.{has_rule}
 use Rattle.bt_model.specs.Done.{Done, State, following, done, ends, follow}
 use Rattle.bt_model.specs.Drivers.{DriverState, instance_at}
 use Rattle.bt_model.specs.Leaves.{row_of}
@@ -38,13 +36,16 @@ use Rattle.bt_model.specs.Visit.{begun, change, continued, ended, guarded, halt,
 use Rattle.bt_arena.specs.declared.nodes.Kept.{Kept}
 use Rattle.bt_arena.specs.declared.nodes.Node.{Node}
 use Rattle.bt_arena.specs.declared.nodes.ReadyLeaf.{ReadyLeaf}
+use Rattle.bt_arena.specs.declared.stage.Stage.{Stage}
 use Rattle.bt_arena.specs.Ends.{IsMade, Meets, StaysFit}
 use Rattle.bt_arena.specs.Nodes.{IsNode, at_rest, kept_at, leaf_at, node_at}
 use Rattle.bt_arena.specs.Scenes.{Fits, Scene, scene, state_in}
+use Rattle.bt_arena.specs.Stages.{IsSame, scene_on}
 use Rattle.bt_arena.specs.Stands.{Beside, memory_of, written}
 use Rattle.bt_arena.proofs.Framed.{all_sizes, sizes_cons}
 use Rattle.bt_arena.proofs.Opened.{memory_out, opened, size_out}
 use Rattle.bt_arena.proofs.Follows.{stopped}
+use Rattle.bt_arena.proofs.Staged.{beside_both, beside_more, beside_none, earlier, later}
 use Rattle.bt_halting.proofs.Within.{stands_within}
 use Rattle.bt_laws.proofs.Acts.{as_many_statuses}
 use Rattle.bt_laws.proofs.Beginnings.{Begins}
@@ -59,10 +60,10 @@ use Rattle.bt_nodes.proofs.Settled.{settles_met}
 use Rattle.bt_nodes.proofs.Standing.{beside_one, children_same, fits_here, stays_fit}
 use Rattle.bt_tick.specs.Machine.{Turn}
 use Rattle.bt_tick.specs.Machine as turn
-use Rattle.bt_nodes.specs.Here.{site_at}
+use Rattle.bt_nodes.specs.Here.{children_in, ruled_in, ruled_on, site_at}
 use Rattle.bt_tick.specs.declared.machine.Entered.TheVariants as entered
-use Rattle.bt_tick.specs.Turns.{CanBegin, CanFollow, CanGoOn, CanPick, CanVisit, ChildrenSound, Comes, Goes, GoesTo, Starts, children_in, cost, goes_by, kind_of, left_of, memory_in, number, ruled_in, started_in, turn_after, visit_in}
-use Rattle.bt_tick.proofs.Children.{beside_both, beside_more, beside_same, terms}
+use Rattle.bt_tick.specs.Turns.{CanBegin, CanFollow, CanFollowOn, CanGoOn, CanPick, CanVisit, ChildrenSound, Comes, Goes, GoesTo, Starts, TakesTurn, cost, goes_by, kind_of, left_of, memory_in, number, started_in, turn_after, visit_in}
+use Rattle.bt_tick.proofs.Children.{terms}
 use Rattle.bt_tick.proofs.Bounds.{begins_less, visits_few}
 use Rattle.bt_tick.proofs.Held.{leaf_kind, sound_opened}
 use Rattle.bt_tick.proofs.Moving.{as_many_kept, back_of, ends_so, kind_is, node_fits, node_there, number_is, size_is}
@@ -70,15 +71,6 @@ use Rattle.bt_tick.proofs.Passing.{comes_both, comes_same, met_after, none_told,
 use Rattle.bt_tick.proofs.Starting.{begins_so, picks_so}
 
 -- ---- Kinds
-
-leaf_class : (c : Class) → of_parent c ≡ false → c ≡ class.Leaf
-leaf_class class.Control e = cc
-leaf_class class.Decorator e = cc
-leaf_class class.SubTree e = cc
-leaf_class class.Leaf e = refl
-
-pub class_alone : (kind : Kind) → has_rule kind ≡ false → class_of kind ≡ class.Leaf
-class_alone kind e = leaf_class (class_of kind) e
 
 node_rule_is : (kind : Kind) (site : Site) (st : Status) (memo : Memo) (ms : List Memory) (s : State) → has_rule kind ≡ true → node_rule kind site st memo ms s ≡ kind_rule site memo ms s
 node_rule_is AlwaysSuccess site st memo ms s e = cc
@@ -317,38 +309,37 @@ module _ {nodes : List Node} {moment : ℕ} {term : Term} {view : View} {uid : �
     stays = stays;
   }
 
-  module _ (with_rule : has_rule (kind_of term) ≡ true) (n : List Note) (k : Kept) (read : k ≡ kept_at s.kept uid) where
+  module _ (with_rule : has_rule (kind_of term) ≡ true) where
     -- a node with children goes on by its moves
-    pub goes_follow : (place : ℕ) → Ok place ≡ or_bad_port uid (picked (kind_of term) (site_at view uid term) k.memo (state_in nodes s moment)) →
+    pub goes_follow : (n : List Note) (place : ℕ) → Ok place ≡ or_bad_port uid (picked (kind_of term) (site_at view uid term) (kept_at s.kept uid).memo (state_in nodes s moment)) →
         Goes nodes moment term view uid (Ok (turn_after uid s.kept (entered.Begins place))) s s n n (ruled_in nodes moment term view uid s)
-    goes_follow place is = record {
-      ends = follows_on nodes moment term view uid s n follow with_rule place (subst (λ (x : Kept). Ok place ≡ or_bad_port uid (picked (kind_of term) (site_at view uid term) x.memo (state_in nodes s moment))) read is);
-      beside = beside_same uid (meaning term).size s.kept;
+    goes_follow n place is = record {
+      ends = follows_on nodes moment term view uid s n follow with_rule place is;
+      beside = beside_none uid (meaning term).size s.kept;
       stays = λ t v u fits. fits;
     }
 
     -- a bad port ends the visit of such a node
-    pub goes_fault : (f : NodeFault) → Err f ≡ or_bad_port uid (picked (kind_of term) (site_at view uid term) k.memo (state_in nodes s moment)) →
+    pub goes_fault : (n : List Note) (f : NodeFault) → Err f ≡ or_bad_port uid (picked (kind_of term) (site_at view uid term) (kept_at s.kept uid).memo (state_in nodes s moment)) →
         Goes nodes moment term view uid (Err (stop.Fault f)) s s n n (ruled_in nodes moment term view uid s)
-    goes_fault f is = record {
-      ends = faulted nodes moment term uid s s n f (ruled_in nodes moment term view uid s) refl
-          (rule_faults nodes moment term view uid s with_rule f (subst (λ (x : Kept). Err f ≡ or_bad_port uid (picked (kind_of term) (site_at view uid term) x.memo (state_in nodes s moment))) read is));
-      beside = beside_same uid (meaning term).size s.kept;
+    goes_fault n f is = record {
+      ends = faulted nodes moment term uid s s n f (ruled_in nodes moment term view uid s) refl (rule_faults nodes moment term view uid s with_rule f is);
+      beside = beside_none uid (meaning term).size s.kept;
       stays = λ t v u fits. fits;
     }
 
     -- and its first turn is less than its visit
-    pub begin_less : (place : ℕ) → Ok place ≡ or_bad_port uid (picked (kind_of term) (site_at view uid term) k.memo (state_in nodes s moment)) → 1 + left_of (node_at nodes uid) (kept_at s.kept uid).memo 0 < cost (node_at nodes uid).size
+    pub begin_less : (place : ℕ) → Ok place ≡ or_bad_port uid (picked (kind_of term) (site_at view uid term) (kept_at s.kept uid).memo (state_in nodes s moment)) →
+        1 + left_of (node_at nodes uid) (kept_at s.kept uid).memo 0 < cost (node_at nodes uid).size
     begin_less place is =
-        let memo : k.memo ≡ (kept_at s.kept uid).memo = ap (λ (x : Kept). x.memo) read in
-        let pick : CanPick (kind_of term) place = picks_so (kind_of term) (site_at view uid term) k.memo (state_in nodes s moment) place (picked_so uid place _ is) in
-        let fits : FitsStart (kind_of term) (number term) k.memo place = subst (λ (m : Memo). FitsStart (kind_of term) (number term) m place) (sym memo) (follow.begins with_rule place pick) in
+        let memo : Memo = (kept_at s.kept uid).memo in
+        let pick : CanPick (kind_of term) place = picks_so (kind_of term) (site_at view uid term) memo (state_in nodes s moment) place (picked_so uid place _ is) in
+        let fits : FitsStart (kind_of term) (number term) memo place = follow.begins with_rule place pick in
         let many : number term < 2 ^ 30 = omega (arith, number_few (out-Term term).children, size_out term, stands_within term nodes view uid follow.can.fits.stands, follow.can.fits.few) in
-        let few : visits_left (node_at nodes uid).kind (node_at nodes uid).children k.memo 0 ≤ 2 ^ 32 + 1 =
-        subst (λ (kd : Kind). visits_left kd (node_at nodes uid).children k.memo 0 ≤ 2 ^ 32 + 1) (sym (kind_is follow.can.fits))
-        (subst (λ (m : ℕ). visits_left (kind_of term) m k.memo 0 ≤ 2 ^ 32 + 1) (sym (number_is follow.can.fits)) (visits_few (kind_of term) (number term) k.memo place many fits)) in
-        subst (λ (m : Memo). 1 + left_of (node_at nodes uid) m 0 < cost (node_at nodes uid).size) memo
-        (begins_less (node_at nodes uid) k.memo (omega (arith, size_is follow.can.fits, size_out term)) few)
+        let few : visits_left (node_at nodes uid).kind (node_at nodes uid).children memo 0 ≤ 2 ^ 32 + 1 =
+        subst (λ (kd : Kind). visits_left kd (node_at nodes uid).children memo 0 ≤ 2 ^ 32 + 1) (sym (kind_is follow.can.fits))
+        (subst (λ (m : ℕ). visits_left (kind_of term) m memo 0 ≤ 2 ^ 32 + 1) (sym (number_is follow.can.fits)) (visits_few (kind_of term) (number term) memo place many fits)) in
+        begins_less (node_at nodes uid) memo (omega (arith, size_is follow.can.fits, size_out term)) few
 
 -- ---- A part of a visit, and the part after it
 
@@ -378,7 +369,7 @@ module _ (nodes : List Node) (moment : ℕ) (term : Term) (view : View) (uid : �
   script_stays = λ t v u fits. record { stands = fits.stands; few = fits.few; marks = fits.marks; leaves = fits.leaves; slots = slots ∙ fits.slots; facts = fits.facts }
 
   pub script_beside : Beside uid (meaning term).size before.kept after_script.kept
-  script_beside = beside_same uid (meaning term).size kept
+  script_beside = beside_none uid (meaning term).size kept
 
   module _ {A : Type 0} (d : Done A (Unit {0})) (go : A → Unit {0} → State → Done Answer Memory) (is : visit_in nodes moment term view uid before ≡ follow d (λ _. memory_in term uid before) go) where
     -- a script of the node ended with a fault or for want of memory
@@ -469,12 +460,9 @@ module _ (nodes : List Node) (moment : ℕ) (term : Term) (view : View) (uid : �
 
   module _ (o : Option Answer) where
     -- a guard has answered
-    pub answers_so : (a : Answer) → o ≡ Some a → (k : Kept) → k ≡ kept_at kept uid →
-        guarded o its m (state_in nodes second moment) ≡ ended its (kept_at kept uid).status (record { answer = a; memo = k.memo }) (children_in term uid kept) (state_in nodes second moment)
-    answers_so a is k read =
-        ap (λ (x : Option Answer). guarded x its m (state_in nodes second moment)) is
-        ∙ guard_answers nodes moment term view uid second a
-        ∙ ap (λ (x : Kept). ended its (kept_at kept uid).status (record { answer = a; memo = x.memo }) (children_in term uid kept) (state_in nodes second moment)) (sym read)
+    pub answers_so : (a : Answer) → o ≡ Some a →
+        guarded o its m (state_in nodes second moment) ≡ ended its (kept_at kept uid).status (record { answer = a; memo = (kept_at kept uid).memo }) (children_in term uid kept) (state_in nodes second moment)
+    answers_so a is = ap (λ (x : Option Answer). guarded x its m (state_in nodes second moment)) is ∙ guard_answers nodes moment term view uid second a
 
     -- no guard has answered, and the node does not start
     pub keeps_so : o ≡ None → starts (kind_of term) (kept_at kept uid).memo ≡ false → guarded o its m (state_in nodes second moment) ≡ ruled_in nodes moment term view uid second
@@ -498,10 +486,9 @@ ended_goes nodes moment term view uid r s s1 n0 n1 d stays beside k = record {
 -- ---- A start
 
 -- whether a node starts, as the code reads it
-pub starts_here : {term : Term} {view : View} {uid : ℕ} {nodes : List Node} {s : Scene} (fits : Fits term view uid nodes s) (node : Node) (k : Kept) → node ≡ node_at nodes uid → k ≡ kept_at s.kept uid → (b : Bool) → b ≡ starts node.kind k.memo →
-    starts (kind_of term) (kept_at s.kept uid).memo ≡ b
-starts_here fits node k is read b e =
-    (λ i. starts ((sym (ap (λ (n : Node). n.kind) is ∙ kind_is fits)) i) (sym read i).memo) ∙ sym e
+pub starts_here : {term : Term} {view : View} {uid : ℕ} {nodes : List Node} {s : Scene} (fits : Fits term view uid nodes s) (node : Node) → node ≡ node_at nodes uid →
+    (b : Bool) → b ≡ starts node.kind (kept_at s.kept uid).memo → starts (kind_of term) (kept_at s.kept uid).memo ≡ b
+starts_here {uid = uid} {s = s} fits node is b e = ap (λ (k : Kind). starts k (kept_at s.kept uid).memo) (sym (ap (λ (n : Node). n.kind) is ∙ kind_is fits)) ∙ sym e
 
 changes : (uid : ℕ) (st : Status) → is_running st ≡ false → change uid st status.Running ≡ Changed uid st status.Running ∷ []
 changes uid status.Running e = cc
@@ -609,9 +596,6 @@ module _ (keeps : (t : Term) → Keeps (meaning t) (Sound t)) (nodes : List Node
         not_both : (b : Bool) → b ≡ true → b ≡ false → ⊥
         not_both b holds fails = cc
 
-pub starts_kind : {term : Term} {view : View} {uid : ℕ} {nodes : List Node} {s : Scene} (fits : Fits term view uid nodes s) → starts (node_at nodes uid).kind (kept_at s.kept uid).memo ≡ true → starts (kind_of term) (kept_at s.kept uid).memo ≡ true
-starts_kind {uid = uid} {s = s} fits e = ap (λ (k : Kind). starts k (kept_at s.kept uid).memo) (sym (kind_is fits)) ∙ e
-
 -- there was want of memory for the note
 pub starts_stopped : (nodes : List Node) (moment : ℕ) (term : Term) (view : View) (uid : ℕ) (s : Scene) (n0 n1 : List Note) (r : Result (Unit {0}) (Stop NodeFault)) → IsErrAnd r (λ x. x ≡ stop.NoMemory) → n1 ≡ n0 → Starts nodes moment term view uid r s s n0 n1
 starts_stopped nodes moment term view uid s n0 n1 r is same =
@@ -637,3 +621,19 @@ one_within term uid a b k = beside_more k (omega arith) (omega (arith, size_out 
 pub start_stops : (nodes : List Node) (moment : ℕ) (term : Term) (view : View) (uid : ℕ) (e : Stop NodeFault) (s s1 : Scene) (n0 n1 : List Note) → StaysFit nodes s s1 → Beside uid 1 s.kept s1.kept →
     Starts nodes moment term view uid (Err e) s s1 n0 n1 → Goes nodes moment term view uid (Err e) s s1 n0 n1 (started_in nodes moment term view uid s)
 start_stops nodes moment term view uid e s s1 n0 n1 stays beside k = record { ends = k; beside = one_within term uid s.kept s1.kept beside; stays = stays }
+
+-- ---- On a later stage
+
+module _ {D : Type 0} (states : D → List DriverState) {old new : Stage D} (same : IsSame old new) (uid : ℕ) where
+  -- the rule of a node can still be applied
+  pub follow_later : (term : Term) (view : View) → CanFollow old.nodes.now old.moment term view uid (scene_on states new) → CanFollowOn states new uid term view
+  follow_later term view follow = later same (λ nodes moment. CanFollow nodes moment term view uid (scene_on states new)) follow
+
+  -- and what it does is the same
+  pub follow_earlier : (r : Result Turn (Stop NodeFault)) →
+      ((term : Term) (view : View) → CanFollowOn states new uid term view → TakesTurn states new new uid term view r (ruled_on states new uid term view)) →
+      (term : Term) (view : View) → CanFollow old.nodes.now old.moment term view uid (scene_on states new) →
+      Goes old.nodes.now old.moment term view uid r (scene_on states new) (scene_on states new) new.notes.now.list new.notes.now.list (ruled_in old.nodes.now old.moment term view uid (scene_on states new))
+  follow_earlier r goes =
+      earlier same (λ nodes moment. (term : Term) (view : View) → CanFollow nodes moment term view uid (scene_on states new) →
+      Goes nodes moment term view uid r (scene_on states new) (scene_on states new) new.notes.now.list new.notes.now.list (ruled_in nodes moment term view uid (scene_on states new))) goes

@@ -22,8 +22,10 @@ use Rattle.bt_arena.proofs.Opened.{memory_out, size_out}
 use Rattle.bt_arena.specs.Ends.{Meets, StaysFit}
 use Rattle.bt_arena.proofs.Follows.{stopped}
 use Rattle.bt_arena.specs.declared.frame.Frame.{Frame}
-use Rattle.bt_tick.specs.Turns.{AllLeave, Comes, StackIs, Waiting, WaitsFor, child_of_waiting, children_in, goes_following, kind_of, number, resume, ruled_by}
-use Rattle.bt_tick.proofs.Children.{beside_both, child_inside}
+use Rattle.bt_arena.proofs.Staged.{beside_both, beside_more}
+use Rattle.bt_nodes.specs.Here.{children_in}
+use Rattle.bt_tick.specs.Turns.{AllLeave, Comes, StackIs, Waiting, WaitsFor, child_of_waiting, goes_following, kind_of, number, resume, ruled_by}
+use Rattle.bt_tick.proofs.Children.{child_inside}
 use Rattle.bt_tick.proofs.Passing.{follow_after}
 
 -- ---- What comes after notes and calls
@@ -109,9 +111,7 @@ module _ (nodes : List Node) (moment : ℕ) (root : Term) (first : ℕ) where
       }
 
       pub beside_above : Beside w.frame.uid (meaning w.term).size s.kept s1.kept
-      beside_above = beside_both (beside_here beside) (beside_here beside_none) (omega (arith, within_node.0)) (omega (arith, within_node.1)) (omega (arith, within_node.0)) (omega (arith, within_node.1)) where
-        beside_none : Beside uid (meaning term).size s1.kept s1.kept
-        beside_none = record { below = λ p e. refl; above = λ p e. refl; as_many = refl }
+      beside_above = beside_more (beside_here beside) (omega (arith, within_node.0)) (omega (arith, within_node.1))
 
   -- where only nodes of the term have changed that the topmost visit waits for, the frames are still those of the
   -- visits that wait

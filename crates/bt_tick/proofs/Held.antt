@@ -23,10 +23,11 @@ use Rattle.bt_arena.specs.Stands.{StandAll, Stands, memories_of, memory_of, view
 use Rattle.bt_arena.proofs.Framed.{all_sizes, sized, sizes_cons}
 use Rattle.bt_arena.proofs.Opened.{memory_out, opened}
 use Rattle.bt_arena.specs.Scenes.{Fits, Scene, state_in}
+use Rattle.bt_nodes.specs.Here.{children_in}
 use Rattle.bt_halting.specs.Halts.{RunningAreHeld}
 use Rattle.bt_halting.proofs.Sounding.{sound_marks}
 use Rattle.bt_model.specs.BuiltIns.{has_rule}
-use Rattle.bt_tick.specs.Turns.{CanGoOn, children_in, kind_of}
+use Rattle.bt_tick.specs.Turns.{CanGoOn, kind_of}
 use Rattle.bt_tick.proofs.Children.{size_stands, sound_out}
 
 -- the rules of a node with a memory of these parts

@@ -4,6 +4,7 @@ pub mod Depths
 pub mod Entering
 pub mod Frames
 pub mod Held
+pub mod Later
 pub mod Moving
 pub mod Passing
 pub mod Stacks

@@ -38,6 +38,7 @@ use Rattle.bt_arena.specs.Stands.{Beside, StandAll, memory_of, uid_of, view_unde
 use Rattle.bt_arena.proofs.Framed.{memory_at_place}
 use Rattle.bt_arena.proofs.Follows.{done_met, stopped}
 use Rattle.bt_arena.proofs.Opened.{memory_out, opened, size_out}
+use Rattle.bt_arena.proofs.Staged.{beside_both, beside_more}
 use Rattle.bt_laws.proofs.Acts.{AllLeft}
 use Rattle.bt_laws.proofs.Children.{Keeps, SoundAll}
 use Rattle.bt_laws.proofs.Resting.{Rested, span_leaves}
@@ -49,9 +50,9 @@ use Rattle.bt_tick.specs.declared.machine.Next.{Next}
 use Rattle.bt_tick.specs.Machine.{Step}
 use Rattle.bt_tick.specs.Machine.{Turn}
 use Rattle.bt_tick.specs.Machine as turn
-use Rattle.bt_nodes.specs.Here.{site_at}
-use Rattle.bt_tick.specs.Turns.{CanGoOn, ChildrenSound, Comes, Goes, GoesOnBy, GoesTo, TurnDoes, children_in, goes_by, kind_of, memory_in, number, passes_over, ruled_by, turn_to, turn_with, turned}
-use Rattle.bt_tick.proofs.Children.{beside_both, beside_more, child_seen, terms}
+use Rattle.bt_nodes.specs.Here.{children_in, site_at}
+use Rattle.bt_tick.specs.Turns.{CanGoOn, ChildrenSound, Comes, Goes, GoesOnBy, GoesTo, TurnDoes, goes_by, kind_of, memory_in, number, passes_over, ruled_by, turn_to, turn_with, turned}
+use Rattle.bt_tick.proofs.Children.{child_seen, terms}
 use Rattle.bt_tick.proofs.Passing.{comes_both, follow_follow, met_after, met_comes, part_made}
 
 -- ---- The node

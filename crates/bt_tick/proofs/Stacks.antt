@@ -25,15 +25,16 @@ use Rattle.bt_arena.proofs.Framed.{memory_at_place}
 use Rattle.bt_arena.proofs.Opened.{opened}
 use Rattle.bt_arena.specs.Ends.{Meets, StaysFit}
 use Rattle.bt_arena.proofs.Follows.{done_met}
+use Rattle.bt_arena.proofs.Staged.{beside_none}
 use Rattle.bt_laws.proofs.Children.{Keeps}
 use Rattle.bt_laws.proofs.Seats.{Seat}
 use Rattle.bt_arena.specs.declared.frame.Frame.{Frame}
 use Rattle.bt_tick.specs.Machine.{Step}
 use Rattle.bt_tick.specs.Machine.{Turn}
 use Rattle.bt_tick.specs.Machine as turn
-use Rattle.bt_nodes.specs.Here.{site_at}
-use Rattle.bt_tick.specs.Turns.{AllLeave, CanGoOn, CanVisit, ChildLeaves, ChildrenSound, Comes, Goes, Going, GoesOnBy, StackIs, Waiting, WaitsBy, WaitsFor, child_of_waiting, children_in, goes_following, kind_of, memory_in, number, resume, ruled_by, visit_in}
-use Rattle.bt_tick.proofs.Children.{beside_same, child_seen, child_stands, seat_at, terms}
+use Rattle.bt_nodes.specs.Here.{children_in, site_at}
+use Rattle.bt_tick.specs.Turns.{AllLeave, CanGoOn, CanVisit, ChildLeaves, ChildrenSound, Comes, Goes, Going, GoesOnBy, StackIs, Waiting, WaitsBy, WaitsFor, child_of_waiting, goes_following, kind_of, memory_in, number, resume, ruled_by, visit_in}
+use Rattle.bt_tick.proofs.Children.{child_seen, child_stands, seat_at, terms}
 use Rattle.bt_tick.proofs.Frames.{all_stops, children_now, leave_comes, node_kept, resume_comes, stack_stays}
 use Rattle.bt_tick.proofs.Passing.{comes_both, comes_same, follow_follow, met_after, none_told}
 
@@ -123,7 +124,7 @@ module _ (keeps : (t : Term) → Keeps (meaning t) (Sound t)) (nodes : List Node
       view_is = refl;
       uid_is = refl;
       fits = k.can.fits;
-      beside = beside_same frame.child (meaning child).size s.kept;
+      beside = beside_none frame.child (meaning child).size s.kept;
       sound = k.can.sound;
       dated = k.can.dated;
       moment_is = refl;

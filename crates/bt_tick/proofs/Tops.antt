@@ -129,7 +129,7 @@ reached_as {nodes} {moment} {root} {first} {stack = stack} {s0 = s0} {s1 = s1} {
 -- ---- Work
 
 -- the bound on the turns still to come where a node goes on
-going_work : (nodes : List Node) (heard : Heard) (stack below : List Frame) (frame : Frame) → stack ≡ below ++ frame ∷ [] →
+pub going_work : (nodes : List Node) (heard : Heard) (stack below : List Frame) (frame : Frame) → stack ≡ below ++ frame ∷ [] →
     next_work nodes (next.GoOn heard) stack ≡ turn_work nodes (turn.GoOn (step_of frame heard)) + stack_work nodes below
 going_work nodes heard stack below frame is =
     ap (λ (f : Frame). turn_work nodes (turn.GoOn (step_of f heard)) + stack_work nodes (below_of stack)) (top_is stack stack below frame (length stack) refl refl is)

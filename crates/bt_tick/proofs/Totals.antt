@@ -4,6 +4,7 @@ use Rattle.std.proofs.Math.Nat.{min-le_left}
 use Rattle.std.proofs.lemmas.Bool.{cases_lt}
 use Rattle.std.proofs.lemmas.List.{set_past}
 use Rattle.std.proofs.lemmas.List.Sums.{sum_by-set}
+use Rattle.std.specs.List.{AllByRecursion}
 use Rattle.bt_script.specs.declared.stop.Stop.{Stop}
 use Rattle.bt_script.specs.declared.stop.Stop.TheVariants as stop
 use Rattle.bt_model.specs.declared.fault.NodeFault.{NodeFault}
@@ -14,17 +15,26 @@ use Rattle.bt_model.specs.declared.leaf.Phase.TheVariants as phase
 use Rattle.bt_model.specs.declared.leaf.Totals.{Totals}
 use Rattle.bt_model.specs.declared.note.Note.{Note}
 use Rattle.bt_model.specs.declared.status.Answer.{Answer}
+use Rattle.bt_model.specs.declared.term.Term.{Term}
 use Rattle.bt_model.specs.Done.{Call, Done}
 use Rattle.bt_model.specs.Drivers.{DriverState, after_call, counted, driver_at, new_driver, raised, roster_called}
+use Rattle.bt_model.specs.Sites.{View}
 use Rattle.bt_model.specs.Sound.{begins, begun_calls}
+use Rattle.bt_model.specs.Terms.{work_of}
+use Rattle.bt_model.specs.Trees.{NodeRuns, nodes_of}
 use Rattle.bt_arena.specs.declared.nodes.Kept.{Kept}
 use Rattle.bt_arena.specs.declared.nodes.Node.{Node}
 use Rattle.bt_arena.specs.declared.nodes.ReadyLeaf.{ReadyLeaf}
 use Rattle.bt_arena.specs.Ends.{Meets}
 use Rattle.bt_arena.specs.Nodes.{leaf_at}
 use Rattle.bt_arena.specs.Rosters.{leaf_called, roster_after}
+use Rattle.bt_arena.specs.declared.stage.Stage.{Stage}
 use Rattle.bt_arena.specs.Scenes.{Scene}
+use Rattle.bt_arena.specs.Stages.{MeetsOn, scene_on, state_on}
+use Rattle.bt_arena.specs.Stands.{memory_of}
 use Rattle.bt_laws.proofs.Spending.{begun_both}
+use Rattle.bt_laws.proofs.TermWork.{term_bounded}
+use Rattle.bt_tick.specs.Turns.{CanVisitOn, visit_on}
 use Rattle.bt_tick.specs.Work.{begun_by}
 
 abbrev begun_one : DriverState → ℕ
@@ -57,7 +67,7 @@ after_most nodes [] ds = omega arith
 after_most nodes (c ∷ cs) ds = omega (arith, after_most nodes cs (leaf_called (leaf_at nodes c.uid) c ds), leaf_most (leaf_at nodes c.uid) c ds)
 
 -- the totals rise by no more than the calls of the definition, whatever the answer
-pub totals_most : {M : Type 0} (nodes : List Node) (moment : ℕ) (memory : List Kept → M) (r : Result Answer (Stop NodeFault)) (s s1 : Scene) (n0 n1 : List Note) (d : Done Answer M) (work : ℕ) →
+totals_most : {M : Type 0} (nodes : List Node) (moment : ℕ) (memory : List Kept → M) (r : Result Answer (Stop NodeFault)) (s s1 : Scene) (n0 n1 : List Note) (d : Done Answer M) (work : ℕ) →
     begun_calls d.calls ≤ work → Meets nodes moment memory r s s1 n0 n1 d → begun_by s1.drivers ≤ begun_by s.drivers + work
 totals_most nodes moment memory (Ok a) s s1 n0 n1 d work most m =
     let after : begun_by s1.drivers ≡ begun_by (roster_after nodes d.calls s.drivers) = ap (λ (x : List DriverState). begun_by x) m.0.drivers in
@@ -69,3 +79,10 @@ totals_most nodes moment memory (Err stop.NoMemory) s s1 n0 n1 d work most m =
     let after : begun_by s1.drivers ≡ begun_by (roster_after nodes m.made s.drivers) = ap (λ (x : List DriverState). begun_by x) m.drivers in
     let all : begun_calls (m.made ++ m.unmade) ≡ begun_calls d.calls = ap begun_calls m.all_calls in
     omega (arith, most, after, after_most nodes m.made s.drivers, all, begun_both m.made m.unmade)
+
+-- of a visit on a stage, by the work of the tree
+pub spent_on : {D : Type 0} (states : D → List DriverState) (old new : Stage D) (r : Result Answer (Stop NodeFault)) (term : Term) (view : View) → CanVisitOn states old 1 term view → AllByRecursion NodeRuns (nodes_of term) →
+    MeetsOn states (memory_of term 1) r old new (visit_on states old 1 term view) → begun_by (states new.drivers.now) ≤ begun_by (states old.drivers.now) + work_of term
+spent_on states old new r term view can fit m =
+    totals_most old.nodes.now old.moment (memory_of term 1) r (scene_on states old) (scene_on states new) old.notes.now.list new.notes.now.list (visit_on states old 1 term view) (work_of term)
+    ((term_bounded term).visit fit view 1 (memory_of term 1 old.kept.now) (state_on states old) can.sound) m

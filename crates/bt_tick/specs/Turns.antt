@@ -1,5 +1,5 @@
 -- What is still to come of a visit, and the turns of which it is made.
-use Rattle.std.specs.Prelude.{◌≡◌, ◌+◌, ◌-◌, ◌*◌, ◌^◌, ◌<◌, ◌≤◌, ℕ, zero, suc, sum_by, List, [], ◌∷◌, ◌++◌, length, slice_index_or, take, Bool, true, false, Some, None, Result, Ok, Err}
+use Rattle.std.specs.Prelude.{◌≡◌, ◌+◌, ◌-◌, ◌*◌, ◌^◌, ◌<◌, ◌≤◌, ℕ, zero, suc, sum_by, List, [], ◌∷◌, ◌++◌, length, slice_index_or, take, Bool, true, false, Some, None, Result, Ok, Err, IfOk}
 use Rattle.bt_script.specs.declared.stop.Stop.{Stop}
 use Rattle.bt_model.specs.declared.fault.NodeFault.{NodeFault}
 use Rattle.bt_model.specs.declared.memory.Memo.{Memo}
@@ -11,10 +11,11 @@ use Rattle.bt_model.specs.declared.note.Note.{Note}
 use Rattle.bt_model.specs.declared.status.Answer.{Answer}
 use Rattle.bt_model.specs.declared.status.Status.{Status}
 use Rattle.bt_model.specs.declared.term.Kind.{Kind}
-use Rattle.bt_model.specs.declared.term.Kind.TheVariants.{Parallel, Switch, Leaf, ScriptNode, ScriptCondition, AlwaysSuccess, AlwaysFailure}
+use Rattle.bt_model.specs.declared.term.Kind.TheVariants.{Parallel, Switch}
 use Rattle.bt_model.specs.declared.term.Term.{Term, out-Term}
 use Rattle.bt_model.specs.BuiltIns.{has_rule}
 use Rattle.bt_model.specs.Done.{Call, Done, State, following, done, follow}
+use Rattle.bt_model.specs.Drivers.{DriverState}
 use Rattle.bt_model.specs.Moves.{Fits as FitsMoves, FitsStart, after, next_place, rest, visits_left}
 use Rattle.bt_model.specs.Sites.{View, children_of, placed, remembered}
 use Rattle.bt_model.specs.Sound.{Dated, Leaves, Sound, Sounds, held_at, is_held}
@@ -22,13 +23,15 @@ use Rattle.bt_model.specs.Steps.{Rule, is_completed, visit}
 use Rattle.bt_model.specs.Visit.{ended, meaning, ruled, started, status_of}
 use Rattle.bt_arena.specs.declared.nodes.Kept.{Kept}
 use Rattle.bt_arena.specs.declared.nodes.Node.{Node}
+use Rattle.bt_arena.specs.declared.stage.Stage.{Stage}
 use Rattle.bt_arena.specs.Nodes.{kept_at, node_at}
 use Rattle.bt_arena.specs.Noted.{calls_named}
 use Rattle.bt_arena.specs.Rosters.{roster_after}
 use Rattle.bt_arena.specs.Scenes.{Fits, Scene, state_in}
-use Rattle.bt_arena.specs.Stands.{Beside, memories_of, memory_of, uid_of, view_under, written}
+use Rattle.bt_arena.specs.Stages.{scene_on}
+use Rattle.bt_arena.specs.Stands.{Beside, memory_of, uid_of, view_under, written}
 use Rattle.bt_arena.specs.Ends.{Meets, StaysFit}
-use Rattle.bt_nodes.specs.Here.{site_at}
+use Rattle.bt_nodes.specs.Here.{children_in, ruled_in, site_at}
 use Rattle.bt_arena.specs.declared.frame.Frame.{Frame}
 use Rattle.bt_tick.specs.declared.machine.Entered.{Entered}
 use Rattle.bt_tick.specs.declared.machine.Next.{Next}
@@ -36,8 +39,7 @@ use Rattle.bt_tick.specs.declared.machine.Next.TheVariants as next
 use Rattle.bt_tick.specs.declared.machine.Entered.TheVariants.{Begins, Answers}
 use Rattle.bt_tick.specs.declared.machine.Reached.{Reached}
 use Rattle.bt_tick.specs.declared.machine.Reached.TheVariants as reached
-use Rattle.bt_tick.specs.Machine.{Step}
-use Rattle.bt_tick.specs.Machine.{Turn}
+use Rattle.bt_tick.specs.Machine.{Step, Turn}
 use Rattle.bt_tick.specs.Machine as turn
 
 -- ---- What is done and what is still to come
@@ -57,9 +59,6 @@ abbrev pub ruled_by : Term → View → ℕ → Status → Memo → Rule → Lis
 ruled_by term view uid status memo rule ms s =
     follow (rule (children_of (site_at view uid term)) ms s) (λ ms1. remembered status memo ms1)
     (λ g ms1 s1. ended (site_at view uid term) status g ms1 s1)
-
-abbrev pub children_in : Term → ℕ → List Kept → List Memory
-children_in term uid kept = memories_of (out-Term term).children (uid + 1) kept
 
 abbrev pub memory_in : Term → ℕ → Scene → Memory
 memory_in term uid s = memory_of term uid s.kept
@@ -113,11 +112,6 @@ pub record CanFollow (nodes : List Node) (moment : ℕ) (term : Term) (view : Vi
   pub can : CanGoOn nodes moment term view uid s
   pub begins : has_rule (kind_of term) ≡ true → CanBegin (kind_of term) (number term) (kept_at s.kept uid).memo
   pub held : has_rule (kind_of term) ≡ false → held_at (state_in nodes s moment) uid ≡ Some (is_held (kept_at s.kept uid).status (kind_of term))
-
--- the visit of a node, from its rule on
-abbrev pub ruled_in : List Node → ℕ → Term → View → ℕ → Scene → Done Answer Memory
-ruled_in nodes moment term view uid s =
-    ruled (site_at view uid term) (kept_at s.kept uid).status (kept_at s.kept uid).memo (children_in term uid s.kept) (state_in nodes s moment)
 
 -- the visit of a node, from its start on
 abbrev pub started_in : List Node → ℕ → Term → View → ℕ → Scene → Done Answer Memory
@@ -344,3 +338,50 @@ next_work nodes (next.Back a) stack = stack_work nodes (below_of stack)
 abbrev pub reached_work : List Node → Reached → List Frame → ℕ
 reached_work nodes (reached.Child uid) stack = next_work nodes (next.Enter uid) stack
 reached_work nodes (reached.End a) stack = 0
+
+-- ---- On a stage
+
+-- the term that stands there from this uid on can be visited
+abbrev pub CanVisitOn : {D : Type 0} → (D → List DriverState) → Stage D → ℕ → Term → View → Type 0
+CanVisitOn states s uid term view = CanVisit s.nodes.now s.moment term view uid (scene_on states s)
+
+-- its rule can be applied
+abbrev pub CanFollowOn : {D : Type 0} → (D → List DriverState) → Stage D → ℕ → Term → View → Type 0
+CanFollowOn states s uid term view = CanFollow s.nodes.now s.moment term view uid (scene_on states s)
+
+-- its visit
+abbrev pub visit_on : {D : Type 0} → (D → List DriverState) → Stage D → ℕ → Term → View → Done Answer Memory
+visit_on states s uid term view = visit_in s.nodes.now s.moment term view uid (scene_on states s)
+
+-- On the way from one stage to the other a turn of its visit was made, or stopped.
+abbrev pub TakesTurn : {D : Type 0} → (D → List DriverState) → Stage D → Stage D → ℕ → Term → View → Result Turn (Stop NodeFault) → Done Answer Memory → Type 0
+TakesTurn states old new uid term view result whole =
+    Goes old.nodes.now old.moment term view uid result (scene_on states old) (scene_on states new) old.notes.now.list new.notes.now.list whole
+
+-- On the way from one stage to the other its node has started, or its start stopped.
+abbrev pub StartsOn : {D : Type 0} → (D → List DriverState) → Stage D → Stage D → ℕ → Term → View → Result (Unit {0}) (Stop NodeFault) → Type 0
+StartsOn states old new uid term view result =
+    Starts old.nodes.now old.moment term view uid result (scene_on states old) (scene_on states new) old.notes.now.list new.notes.now.list
+
+-- Where its node was entered on the way from one stage to the other, less work is left than its whole visit has.
+abbrev pub LeavesLess : {D : Type 0} → ℕ → Stage D → Stage D → Result Entered (Stop NodeFault) → Type 0
+LeavesLess uid old new result =
+    IfOk result (λ entered. turn_work old.nodes.now (turn_after uid new.kept.now entered) < turn_work old.nodes.now (turn.Enter uid))
+
+-- its node can make its next move, in the middle of its visit
+abbrev pub CanMoveOn : {D : Type 0} → (D → List DriverState) → Stage D → ℕ → Term → View → Type 0
+CanMoveOn states s uid term view = CanGoOn s.nodes.now s.moment term view uid (scene_on states s)
+
+-- its node goes on with what it hears, and this is still to come
+abbrev pub StepsOn : {D : Type 0} → (D → List DriverState) → Stage D → Term → View → Step → Done Answer Memory → Type 0
+StepsOn states s term view step next = GoesOnBy s.nodes.now s.moment term view step.uid step (scene_on states s) next
+
+-- The visit of a root that began in this scene, after these notes, came to what comes next and this stack of all frames.
+abbrev pub CameOn : {D : Type 0} → (D → List DriverState) → Stage D → Term → Next → List Frame → Scene → List Note → Done Answer Memory → Type 0
+CameOn states s root next stack start told whole =
+    GoingOn s.nodes.now s.moment root 1 next stack start (scene_on states s) told s.notes.now.list whole
+
+-- It came from one stage to the other and on to a child, or it ended.
+abbrev pub ReachesOn : {D : Type 0} → (D → List DriverState) → Stage D → Stage D → Term → Result Reached (Stop NodeFault) → List Frame → Scene → List Note → Done Answer Memory → Type 0
+ReachesOn states old new root result stack start told whole =
+    Reaches old.nodes.now old.moment root 1 result stack start (scene_on states old) (scene_on states new) told new.notes.now.list whole

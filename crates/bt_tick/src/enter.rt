@@ -1,28 +1,22 @@
-ghost use Rattle.std.specs.Prelude.{◌≡◌, ◌≢◌, ◌≤◌, ◌<◌, ℕ, ℤ, List, IfOk, length, true, false};
-ghost use Rattle.bt_model.specs.declared.note.Note.{Note as NoteOf};
+ghost use Rattle.std.specs.Prelude.{◌≡◌, true, false};
 ghost use Rattle.bt_model.specs.declared.status.Status.TheVariants.{Running};
 ghost use Rattle.bt_model.specs.declared.term.Term.{Term};
-ghost use Rattle.bt_model.specs.Drivers.{DriverState};
+ghost use Rattle.bt_model.specs.BuiltIns.{has_rule};
 ghost use Rattle.bt_model.specs.Shapes.{is_running};
 ghost use Rattle.bt_model.specs.Sites.{View};
 ghost use Rattle.bt_model.specs.Visit.{starts};
-ghost use Rattle.bt_arena.specs.Ends.{Meets, StaysFit};
 ghost use Rattle.bt_arena.specs.Nodes.{kept_at, node_at};
-ghost use Rattle.bt_arena.specs.Scenes.{scene};
-ghost use Rattle.bt_arena.specs.Stands.{Beside};
-ghost use Rattle.bt_tick.specs.Machine as turn;
-ghost use Rattle.bt_model.specs.BuiltIns.{has_rule};
-ghost use Rattle.bt_tick.specs.Turns.{CanFollow, CanVisit, Goes, Starts, kind_of, ruled_in, turn_after, turn_work, turned, visit_in};
+ghost use Rattle.bt_arena.specs.Stages.{IsAside, IsSame, Keeps};
+ghost use Rattle.bt_nodes.specs.Here.{ruled_on};
+ghost use Rattle.bt_tick.specs.Turns.{CanFollowOn, CanVisitOn, LeavesLess, StartsOn, TakesTurn, turned, visit_on};
 
 use crate::machine::Entered;
-use bt_arena::{Kept, Node, Notes, kept_by, node, set_status};
-use bt_board::Board;
-use bt_driver::{Drivers, FactTable};
-use bt_halting::halt_node;
+use bt_arena::{Stage, node, set_status};
+use bt_driver::Drivers;
+use bt_halting::halt;
 use bt_model::{Answer, Kind, Memo, NodeFault, Note, Status, has_rule};
 use bt_nodes::{end_visit, goes_on, guards_answer, picked, start_memo, visit_alone};
 use bt_script::Stop;
-use std::alloc::Global;
 
 /// Whether a node of this kind with this memo starts: one with children does, except a RunOnce with
 /// a mark.
@@ -39,22 +33,15 @@ fn starts(kind: Kind, memo: Memo) -> bool
 /// Begins the rule of the node with this uid, which has children. The answer says what is picked
 /// for the visit; the error is the fault of the port that decides it.
 #[inline(always)]
-fn begin_rule(
-    nodes: &[Node],
-    kept: &[Kept],
-    board: &Board,
-    uid: u32,
-) -> Result<Entered, Stop<NodeFault>>
-    requires can { (moment : ℕ) × (term : Term) × (view : View) × (facts : List ℤ) × (drivers : List DriverState) × CanFollow nodes.now moment term view uid (scene kept.now board.now facts drivers) }
-    requires ruled { has_rule (node_at nodes.now uid).kind ≡ true }
-    ensures goes { (moment : ℕ) (term : Term) (view : View) (facts : List ℤ) (drivers : List DriverState) (notes : List NoteOf) → CanFollow nodes.now moment term view uid (scene kept.now board.now facts drivers) →
-        Goes nodes.now moment term view uid (turned uid kept.now result) (scene kept.now board.now facts drivers) (scene kept.now board.now facts drivers) notes notes
-        (ruled_in nodes.now moment term view uid (scene kept.now board.now facts drivers)) }
-    ensures work { IfOk result (λ entered. turn_work nodes.now (turn_after uid kept.now entered) < turn_work nodes.now (turn.Enter uid)) }
+fn begin_rule<D: Drivers>(stage: &Stage<D>, uid: u32) -> Result<Entered, Stop<NodeFault>>
+    requires can { (term : Term) × (view : View) × CanFollowOn D.states stage.now uid term view }
+    requires ruled { has_rule (node_at stage.now.nodes.now uid).kind ≡ true }
+    ensures goes { let s = stage.now in (term : Term) (view : View) → CanFollowOn D.states s uid term view →
+        TakesTurn D.states s s uid term view (turned uid s.kept.now result) (ruled_on D.states s uid term view) }
+    ensures work { LeavesLess uid stage.now stage.now result }
 {
-    let here = node(nodes, uid);
-    let memo = kept_by(kept, uid).memo;
-    match picked(here, uid, memo, board) {
+    let memo = stage.kept[uid as usize].memo;
+    match picked(node(stage.nodes, uid), uid, memo, stage.board) {
         Ok(picked) => Ok(Entered::Begins(picked)),
         Err(fault) => Err(Stop::Fault(fault)),
     }
@@ -62,161 +49,109 @@ fn begin_rule(
 
 /// Applies the rule of the node with this uid, from its status and its memo on: a node with
 /// children goes on by moves, and any other has its whole visit. The error is a fault, or want of
-/// memory (out of memory). `now` is in milliseconds.
+/// memory (out of memory).
 #[inline(always)]
-fn follow_rule<D: Drivers>(
-    alloc: Global,
-    nodes: &[Node],
-    kept: &mut [Kept],
-    board: &mut Board,
-    facts: &mut FactTable,
-    drivers: &mut D,
-    uid: u32,
-    now: u64,
-    notes: &mut Notes,
-) -> Result<Entered, Stop<NodeFault>>
-    requires can { (term : Term) × (view : View) × CanFollow nodes.now now term view uid (scene kept.old board.old facts.old (D.states drivers.old)) }
-    ensures goes { (term : Term) (view : View) → CanFollow nodes.now now term view uid (scene kept.old board.old facts.old (D.states drivers.old)) →
-        Goes nodes.now now term view uid (turned uid kept.new result) (scene kept.old board.old facts.old (D.states drivers.old)) (scene kept.new board.new facts.new (D.states drivers.new)) notes.old.list notes.new.list
-        (ruled_in nodes.now now term view uid (scene kept.old board.old facts.old (D.states drivers.old))) }
-    ensures reserve { notes.old.reserve ≤ notes.new.reserve }
-    ensures full { notes.new.full ≡ notes.old.full }
-    ensures work { IfOk result (λ entered. turn_work nodes.now (turn_after uid kept.new entered) < turn_work nodes.now (turn.Enter uid)) }
+fn follow_rule<D: Drivers>(stage: &mut Stage<D>, uid: u32) -> Result<Entered, Stop<NodeFault>>
+    requires can { (term : Term) × (view : View) × CanFollowOn D.states stage.old uid term view }
+    ensures goes { (term : Term) (view : View) → CanFollowOn D.states stage.old uid term view →
+        TakesTurn D.states stage.old stage.new uid term view
+        (turned uid stage.new.kept.now result) (ruled_on D.states stage.old uid term view) }
+    ensures same { IsSame stage.old stage.new }
+    ensures work { LeavesLess uid stage.old stage.new result }
 {
-    let here = node(nodes, uid);
-    if !has_rule(here.kind) {
-        let answer = visit_alone(alloc, nodes, kept, board, facts, drivers, uid, now, notes)?;
+    if !has_rule(node(stage.nodes, uid).kind) {
+        let answer = visit_alone(stage, uid)?;
         return Ok(Entered::Answers(answer));
     }
-    begin_rule(nodes, kept, board, uid)
+    begin_rule(stage, uid)
 }
 
 /// Starts the node with this uid, which is not RUNNING: it becomes RUNNING, with a note, and gets a
-/// new memo. The error is the fault of a port, or want of memory. `now` is in milliseconds.
+/// new memo. The error is the fault of a port, or want of memory.
 #[inline(always)]
-fn start(
-    nodes: &[Node],
-    kept: &mut [Kept],
-    board: &Board,
-    uid: u32,
-    now: u64,
-    notes: &mut Notes,
-) -> Result<(), Stop<NodeFault>>
-    requires can { (term : Term) × (view : View) × (facts : List ℤ) × (drivers : List DriverState) × CanVisit nodes.now now term view uid (scene kept.old board.now facts drivers) }
-    requires rests { is_running (kept_at kept.old uid).status ≡ false }
-    requires starts { starts (node_at nodes.now uid).kind (kept_at kept.old uid).memo ≡ true }
-    ensures starts { (term : Term) (view : View) (facts : List ℤ) (drivers : List DriverState) → CanVisit nodes.now now term view uid (scene kept.old board.now facts drivers) →
-        Starts nodes.now now term view uid result (scene kept.old board.now facts drivers) (scene kept.new board.now facts drivers) notes.old.list notes.new.list }
-    ensures stays { (facts : List ℤ) (drivers : List DriverState) → StaysFit nodes.now (scene kept.old board.now facts drivers) (scene kept.new board.now facts drivers) }
-    ensures beside { Beside uid 1 kept.old kept.new }
-    ensures reserve { notes.old.reserve ≤ notes.new.reserve }
-    ensures full { notes.new.full ≡ notes.old.full }
+fn start<D: Drivers>(stage: &mut Stage<D>, uid: u32) -> Result<(), Stop<NodeFault>>
+    requires can { (term : Term) × (view : View) × CanVisitOn D.states stage.old uid term view }
+    requires rests { is_running (kept_at stage.old.kept.now uid).status ≡ false }
+    requires starts { starts (node_at stage.old.nodes.now uid).kind (kept_at stage.old.kept.now uid).memo ≡ true }
+    ensures starts { (term : Term) (view : View) → CanVisitOn D.states stage.old uid term view →
+        StartsOn D.states stage.old stage.new uid term view result }
+    ensures keeps { Keeps D.states uid 1 stage.old stage.new }
+    ensures board { stage.new.board.now ≡ stage.old.board.now }
+    ensures aside { IsAside D.states stage.old stage.new }
 {
-    let old = kept_by(kept, uid).status;
-    notes.push(Note::Changed {
+    let old = stage.kept[uid as usize].status;
+    stage.notes.push(Note::Changed {
         uid,
         old,
         new: Status::Running,
     })?;
-    set_status(kept, uid, Status::Running);
-    let memo = &mut kept[uid as usize].memo;
-    match start_memo(node(nodes, uid), uid, memo, board, now) {
+    set_status(stage.kept, uid, Status::Running);
+    let memo = &mut stage.kept[uid as usize].memo;
+    match start_memo(node(stage.nodes, uid), uid, memo, stage.board, stage.moment) {
         Ok(()) => Ok(()),
         Err(fault) => Err(Stop::Fault(fault)),
     }
 }
 
 /// Begins a visit of the node with this uid, which is not RUNNING: its guards answer, or it starts.
-/// The error is a fault, or want of memory. `now` is in milliseconds.
+/// The error is a fault, or want of memory.
 #[inline(always)]
-fn begin<D: Drivers>(
-    alloc: Global,
-    nodes: &[Node],
-    kept: &mut [Kept],
-    board: &mut Board,
-    facts: &mut FactTable,
-    drivers: &mut D,
-    uid: u32,
-    now: u64,
-    notes: &mut Notes,
-) -> Result<Entered, Stop<NodeFault>>
-    requires can { (term : Term) × (view : View) × CanVisit nodes.now now term view uid (scene kept.old board.old facts.old (D.states drivers.old)) }
-    requires rests { is_running (kept_at kept.old uid).status ≡ false }
-    ensures goes { (term : Term) (view : View) → CanVisit nodes.now now term view uid (scene kept.old board.old facts.old (D.states drivers.old)) →
-        Goes nodes.now now term view uid (turned uid kept.new result) (scene kept.old board.old facts.old (D.states drivers.old)) (scene kept.new board.new facts.new (D.states drivers.new)) notes.old.list notes.new.list
-        (visit_in nodes.now now term view uid (scene kept.old board.old facts.old (D.states drivers.old))) }
-    ensures reserve { notes.old.reserve ≤ notes.new.reserve }
-    ensures full { notes.new.full ≡ notes.old.full }
-    ensures work { IfOk result (λ entered. turn_work nodes.now (turn_after uid kept.new entered) < turn_work nodes.now (turn.Enter uid)) }
+fn begin<D: Drivers>(stage: &mut Stage<D>, uid: u32) -> Result<Entered, Stop<NodeFault>>
+    requires can { (term : Term) × (view : View) × CanVisitOn D.states stage.old uid term view }
+    requires rests { is_running (kept_at stage.old.kept.now uid).status ≡ false }
+    ensures goes { (term : Term) (view : View) → CanVisitOn D.states stage.old uid term view →
+        TakesTurn D.states stage.old stage.new uid term view
+        (turned uid stage.new.kept.now result) (visit_on D.states stage.old uid term view) }
+    ensures same { IsSame stage.old stage.new }
+    ensures work { LeavesLess uid stage.old stage.new result }
 {
-    let here = node(nodes, uid);
-    if let Some(answer) = guards_answer(alloc, &here.guards, uid, board)? {
-        let memo = kept_by(kept, uid).memo;
-        let given = end_visit(alloc, nodes, kept, board, uid, answer, memo, notes)?;
+    let here = node(stage.nodes, uid);
+    if let Some(answer) = guards_answer(stage.alloc, &here.guards, uid, stage.board)? {
+        let memo = stage.kept[uid as usize].memo;
+        let given = end_visit(stage, uid, answer, memo)?;
         return Ok(Entered::Answers(given));
     }
-    if !starts(here.kind, kept_by(kept, uid).memo) {
-        return follow_rule(alloc, nodes, kept, board, facts, drivers, uid, now, notes);
+    if !starts(here.kind, stage.kept[uid as usize].memo) {
+        return follow_rule(stage, uid);
     }
-    start(nodes, kept, board, uid, now, notes)?;
+    start(stage, uid)?;
     // A node that starts has children.
-    begin_rule(nodes, kept, board, uid)
+    begin_rule(stage, uid)
 }
 
 /// Goes on with the node with this uid, which is RUNNING, or halts it where its `_while` is false,
-/// and answers SKIPPED. The error is a fault, or want of memory. `now` is in milliseconds.
+/// and answers SKIPPED. The error is a fault, or want of memory.
 #[inline(always)]
-fn resume<D: Drivers>(
-    alloc: Global,
-    nodes: &[Node],
-    kept: &mut [Kept],
-    board: &mut Board,
-    facts: &mut FactTable,
-    drivers: &mut D,
-    uid: u32,
-    now: u64,
-    notes: &mut Notes,
-) -> Result<Entered, Stop<NodeFault>>
-    requires can { (term : Term) × (view : View) × CanVisit nodes.now now term view uid (scene kept.old board.old facts.old (D.states drivers.old)) }
-    requires running { (kept_at kept.old uid).status ≡ Running }
-    ensures goes { (term : Term) (view : View) → CanVisit nodes.now now term view uid (scene kept.old board.old facts.old (D.states drivers.old)) →
-        Goes nodes.now now term view uid (turned uid kept.new result) (scene kept.old board.old facts.old (D.states drivers.old)) (scene kept.new board.new facts.new (D.states drivers.new)) notes.old.list notes.new.list
-        (visit_in nodes.now now term view uid (scene kept.old board.old facts.old (D.states drivers.old))) }
-    ensures reserve { notes.old.reserve ≤ notes.new.reserve }
-    ensures full { notes.new.full ≡ notes.old.full }
-    ensures work { IfOk result (λ entered. turn_work nodes.now (turn_after uid kept.new entered) < turn_work nodes.now (turn.Enter uid)) }
+fn resume<D: Drivers>(stage: &mut Stage<D>, uid: u32) -> Result<Entered, Stop<NodeFault>>
+    requires can { (term : Term) × (view : View) × CanVisitOn D.states stage.old uid term view }
+    requires running { (kept_at stage.old.kept.now uid).status ≡ Running }
+    ensures goes { (term : Term) (view : View) → CanVisitOn D.states stage.old uid term view →
+        TakesTurn D.states stage.old stage.new uid term view
+        (turned uid stage.new.kept.now result) (visit_on D.states stage.old uid term view) }
+    ensures same { IsSame stage.old stage.new }
+    ensures work { LeavesLess uid stage.old stage.new result }
 {
-    if goes_on(alloc, &node(nodes, uid).guards, uid, board)? {
-        return follow_rule(alloc, nodes, kept, board, facts, drivers, uid, now, notes);
+    let guards = &node(stage.nodes, uid).guards;
+    if goes_on(stage.alloc, guards, uid, stage.board)? {
+        return follow_rule(stage, uid);
     }
-    halt_node(alloc, nodes, kept, board, drivers, uid, notes)?;
+    halt(stage, uid)?;
     Ok(Entered::Answers(Answer::Skipped))
 }
 
 /// Visits the node with this uid, up to its answer or to where it goes on by moves. The error is a
-/// fault, or want of memory. `now` is in milliseconds.
+/// fault, or want of memory.
 #[inline(always)]
-pub(crate) fn enter<D: Drivers>(
-    alloc: Global,
-    nodes: &[Node],
-    kept: &mut [Kept],
-    board: &mut Board,
-    facts: &mut FactTable,
-    drivers: &mut D,
-    uid: u32,
-    now: u64,
-    notes: &mut Notes,
-) -> Result<Entered, Stop<NodeFault>>
-    requires can { (term : Term) × (view : View) × CanVisit nodes.now now term view uid (scene kept.old board.old facts.old (D.states drivers.old)) }
-    ensures goes { (term : Term) (view : View) → CanVisit nodes.now now term view uid (scene kept.old board.old facts.old (D.states drivers.old)) →
-        Goes nodes.now now term view uid (turned uid kept.new result) (scene kept.old board.old facts.old (D.states drivers.old)) (scene kept.new board.new facts.new (D.states drivers.new)) notes.old.list notes.new.list
-        (visit_in nodes.now now term view uid (scene kept.old board.old facts.old (D.states drivers.old))) }
-    ensures reserve { notes.old.reserve ≤ notes.new.reserve }
-    ensures full { notes.new.full ≡ notes.old.full }
-    ensures work { IfOk result (λ entered. turn_work nodes.now (turn_after uid kept.new entered) < turn_work nodes.now (turn.Enter uid)) }
+pub(crate) fn enter<D: Drivers>(stage: &mut Stage<D>, uid: u32) -> Result<Entered, Stop<NodeFault>>
+    requires can { (term : Term) × (view : View) × CanVisitOn D.states stage.old uid term view }
+    ensures goes { (term : Term) (view : View) → CanVisitOn D.states stage.old uid term view →
+        TakesTurn D.states stage.old stage.new uid term view
+        (turned uid stage.new.kept.now result) (visit_on D.states stage.old uid term view) }
+    ensures same { IsSame stage.old stage.new }
+    ensures work { LeavesLess uid stage.old stage.new result }
 {
-    match kept_by(kept, uid).status {
-        Status::Running => resume(alloc, nodes, kept, board, facts, drivers, uid, now, notes),
-        _ => begin(alloc, nodes, kept, board, facts, drivers, uid, now, notes),
+    match stage.kept[uid as usize].status {
+        Status::Running => resume(stage, uid),
+        _ => begin(stage, uid),
     }
 }

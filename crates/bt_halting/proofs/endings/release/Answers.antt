@@ -1,25 +1,53 @@
-use Rattle.std.proofs.Common.{◌≡◌, ◌∷◌, ◌++◌, [], Some, sym, ap, ◌∙◌}
+use Rattle.std.proofs.Common.{◌≡◌, ◌∷◌, ◌++◌, [], Some, refl, sym, ap, ◌∙◌, arith}
 use Rattle.bt_model.specs.declared.note.Note.TheVariants.{Halted}
 use Rattle.bt_arena.specs.declared.nodes.Node.{Node}
 use Rattle.bt_arena.specs.Nodes.{leaf_at}
 use Rattle.bt_arena.specs.Noted.{Noted}
+use Rattle.bt_nodes.proofs.Standing.{beside_one}
+use Rattle.bt_halting.proofs.Ending.{fits_still}
 use Rattle.bt_halting.proofs.Releasing.{released_marks, released_met, released_serves, marked_is_held}
+use Rattle.bt_halting.proofs.Within.{kept_there, node_there}
 use Rattle.bt_halting.proofs.endings.release.Goals as goal
+
+pub node-requires : goal.node-requires
+node-requires g c = let f = c.requires.fits in omega (arith, node_there f.0 f.1 c.args.uid c.args.stage.now.nodes.now _ f.2)
 
 pub halted-requires-clause-held : goal.halted-requires-clause-held
 halted-requires-clause-held g c =
-    let is : leaf_at c.args.nodes.now c.args.uid ≡ Some c.in-Some.leaf = ap (λ (n : Node). n.leaf) (sym c.node.ensures) ∙ c.in-Some.is in
-    marked_is_held c.args.nodes.now c.args.kept.now _ c.args.uid c.in-Some.leaf is c.requires.marks (c.requires.held c.in-Some.leaf is)
+    let f = c.requires.fits in
+    let is : leaf_at c.args.stage.now.nodes.now c.args.uid ≡ Some c.in-Some.leaf = ap (λ (n : Node). n.leaf) (sym c.node.ensures) ∙ c.in-Some.is in
+    marked_is_held c.args.stage.now.nodes.now c.args.stage.now.kept.now _ c.args.uid c.in-Some.leaf is f.2.marks (c.requires.held c.in-Some.leaf is)
+
+pub set_held-requires : goal.set_held-requires
+set_held-requires g c = let f = c.requires.fits in kept_there f.0 f.1 c.args.uid c.args.stage.now.nodes.now _ f.2
 
 pub returns-in_ok-room-in-Some-clause-ok : goal.returns-in_ok-room-in-Some-clause-ok
-returns-in_ok-room-in-Some-clause-ok g c = λ moment board facts.
+returns-in_ok-room-in-Some-clause-ok g c =
     let noted = ap (λ (n : Noted). n.list) c.push_reserved.ensures ∙ ap (λ (n : Noted). n.list ++ Halted c.args.uid ∷ []) c.in_ok-room-in-Some.ensures.ok in
-    released_met _ c.args.kept.now _ _ _ (ap (λ (n : Node). n.leaf) (sym c.node.ensures) ∙ c.in-Some.is) c.requires.leaves _ c.halted.ensures moment _ board facts _ _ noted
+    let f = c.requires.fits in
+    let before = c.args.stage.now in
+    released_met _ before.kept.now _ _ _ (ap (λ (n : Node). n.leaf) (sym c.node.ensures) ∙ c.in-Some.is) f.2.leaves _ c.halted.ensures before.moment _ before.board.now before.facts.now _ _ noted
 
-pub returns-in_ok-room-in-Some-clause-marks : goal.returns-in_ok-room-in-Some-clause-marks
-returns-in_ok-room-in-Some-clause-marks g c =
-    released_marks _ c.args.kept.now _ _ _ (ap (λ (n : Node). n.leaf) (sym c.node.ensures) ∙ c.in-Some.is) c.requires.leaves _ c.halted.ensures _ c.set_held.ensures c.requires.marks
-
-pub returns-in_ok-room-in-Some-clause-leaves : goal.returns-in_ok-room-in-Some-clause-leaves
-returns-in_ok-room-in-Some-clause-leaves g c =
-    released_serves _ c.args.kept.now _ _ _ (ap (λ (n : Node). n.leaf) (sym c.node.ensures) ∙ c.in-Some.is) c.requires.leaves _ c.halted.ensures
+pub returns-in_ok-room-in-Some-clause-keeps : goal.returns-in_ok-room-in-Some-clause-keeps
+returns-in_ok-room-in-Some-clause-keeps g c =
+    let f = c.requires.fits in
+    let before = c.args.stage.now in
+    let is = ap (λ (n : Node). n.leaf) (sym c.node.ensures) ∙ c.in-Some.is in
+    record {
+      same = record {
+        moment = refl;
+        nodes = refl;
+        kept = refl;
+        board = refl;
+        facts = refl;
+        drivers = refl;
+        notes = refl;
+        reserve = omega (arith, ap (λ (n : Noted). n.reserve) c.push_reserved.ensures, ap (λ (n : Noted). n.reserve) c.in_ok-room-in-Some.ensures.ok);
+        full = ap (λ (n : Noted). n.full) c.push_reserved.ensures ∙ ap (λ (n : Noted). n.full) c.in_ok-room-in-Some.ensures.ok;
+      };
+      beside = beside_one before.kept.now c.set_held.new.kept c.args.uid _ c.set_held.ensures;
+      stays =
+          let marks = released_marks before.nodes.now before.kept.now _ _ _ is f.2.leaves _ c.halted.ensures _ c.set_held.ensures f.2.marks in
+          let served = released_serves before.nodes.now before.kept.now _ _ _ is f.2.leaves _ c.halted.ensures in
+          fits_still before.nodes.now _ _ marks served refl refl;
+    }

@@ -1,153 +1,237 @@
-use Rattle.std.proofs.Common.{◌≤◌, ◌+◌, ◌<◌, refl, ap, ◌∙◌, arith}
+use Rattle.std.proofs.Common.{◌≡◌, ◌≤◌, ◌+◌, ◌<◌, ℕ, List, Ok, Err, length, refl, sym, ap, subst, ◌∙◌, arith}
 use Rattle.bt_script.specs.declared.stop.Stop.TheVariants as stop
+use Rattle.bt_model.specs.declared.status.Status.TheVariants.{Idle}
 use Rattle.bt_model.specs.declared.term.Term.{out-Term}
+use Rattle.bt_model.specs.Sites.{remembered}
+use Rattle.bt_model.specs.Visit.{cleared, halted}
 use Rattle.bt_arena.specs.declared.nodes.Node.{Node}
-use Rattle.bt_arena.specs.Nodes.{node_at}
-use Rattle.bt_arena.specs.Stands.{view_under, written}
-use Rattle.bt_arena.proofs.Called.{marks_same}
+use Rattle.bt_arena.specs.Nodes.{kept_at, node_at}
+use Rattle.bt_arena.specs.Rosters.{instances_of}
+use Rattle.bt_arena.specs.Scenes.{state_in}
+use Rattle.bt_arena.specs.Stages.{scene_on}
+use Rattle.bt_arena.specs.Stands.{Beside, memory_of, view_under, written}
+use Rattle.bt_arena.proofs.Staged.{fits_later, keeps_none, keeps_still, keeps_then, meets_earlier, same_both}
+use Rattle.bt_nodes.specs.Here.{children_in, site_at}
+use Rattle.bt_halting.specs.Halts.{RunningAreHeld, reset_if}
 use Rattle.bt_halting.proofs.Children.{none_reset}
-use Rattle.bt_halting.proofs.Ending.{fits_still, nothing_cut}
+use Rattle.bt_halting.proofs.Ending.{nothing_cut}
 use Rattle.bt_halting.proofs.Halting.{halt_ended, halt_stopped, idle_met, reset_of_running}
+use Rattle.bt_halting.proofs.Keeping.{idle_here, keeps_idle}
 use Rattle.bt_nodes.proofs.Following.{stops_with}
 use Rattle.bt_halting.proofs.Turns.{no_turn, not_turned, turn, turned}
-use Rattle.bt_halting.proofs.Within.{all_there, beside_idle, beside_more, beside_node, beside_none, kept_there, node_there, running_above, running_below, running_idle, size_is}
+use Rattle.bt_halting.proofs.Within.{all_there, kept_there, node_there, running_above, rested_if_ok, running_below, running_rested, size_is}
 use Rattle.bt_halting.proofs.resetting.+resetting.Goals as goal
 
-pub halt_node-returns-in_err-reset_children-clause-meets : goal.halt_node-returns-in_err-reset_children-clause-meets
-halt_node-returns-in_err-reset_children-clause-meets g t c = λ term view facts moment fits.
+pub halt-returns-in_err-reset_children-clause-meets : goal.halt-returns-in_err-reset_children-clause-meets
+halt-returns-in_err-reset_children-clause-meets g t c = λ term view fits.
     rw (stops_with _ _ c.from_residual.ensures.1)
-    (halt_stopped c.args.nodes.now moment term view c.args.uid _ _ c.requires.running _ _ _ c.reset_children.ensures.beside _ (c.in_err-reset_children.ensures.meets term view facts moment fits))
+    (halt_stopped c.args.stage.now.nodes.now c.args.stage.now.moment term view c.args.uid _ _ c.requires.running _ _ _ c.reset_children.ensures.keeps.beside _ (c.in_err-reset_children.ensures.meets term view fits))
 
-pub halt_node-end_halt-requires-clause-held : goal.halt_node-end_halt-requires-clause-held
-halt_node-end_halt-requires-clause-held g t c = λ leaf is.
+pub halt-returns-in_err-reset_children-clause-keeps : goal.halt-returns-in_err-reset_children-clause-keeps
+halt-returns-in_err-reset_children-clause-keeps g t c =
     let f = c.requires.fits in
-    let same = c.reset_children.ensures.beside.below c.args.uid (omega arith) in
-    let some : c.args.uid < c.args.uid + (node_at c.args.nodes.now c.args.uid).size = omega (arith, size_is f.0 f.1 c.args.uid c.args.nodes.now _ f.3) in
-    rw same (c.requires.held c.args.uid leaf (omega arith) some is c.requires.running)
+    let some : 1 ≤ (node_at c.args.stage.now.nodes.now c.args.uid).size = omega (arith, size_is f.0 f.1 c.args.uid c.args.stage.now.nodes.now _ f.2) in
+    keeps_then g.D.Drivers.states c.args.uid _ (c.args.uid + 1) _ _ _ _ (omega arith) (omega (arith, some)) (keeps_none g.D.Drivers.states c.args.uid _ _) c.reset_children.ensures.keeps
 
-pub halt_node-returns-clause-meets : goal.halt_node-returns-clause-meets
-halt_node-returns-clause-meets g t c = λ term view facts moment fits.
-    halt_ended c.args.nodes.now moment term view c.args.uid _ _ c.requires.running _ _ _ c.reset_children.ensures.beside _ _ _ (c.in_ok-reset_children.ensures.meets term view facts moment fits)
-    (c.end_halt.ensures.meets term view facts moment (c.reset_children.ensures.fits facts term view c.args.uid fits))
-
-pub halt_node-returns-clause-beside : goal.halt_node-returns-clause-beside
-halt_node-returns-clause-beside g t c =
+pub halt-end_halt-requires : goal.halt-end_halt-requires
+halt-end_halt-requires g t c =
     let f = c.requires.fits in
-    let some : 1 ≤ (node_at c.args.nodes.now c.args.uid).size = omega (arith, size_is f.0 f.1 c.args.uid c.args.nodes.now _ f.3) in
-    beside_node c.args.uid (node_at c.args.nodes.now c.args.uid).size c.args.kept.now c.reset_children.new.kept c.end_halt.new.kept some c.reset_children.ensures.beside c.end_halt.ensures.beside
+    let keeps = c.reset_children.ensures.keeps in
+    let here = keeps.beside.below c.args.uid (omega arith) in
+    let nodes = c.args.stage.now.nodes.now in
+    let some : c.args.uid < c.args.uid + (node_at nodes c.args.uid).size = omega (arith, size_is f.0 f.1 c.args.uid nodes _ f.2) in
+    record {
+      fits = (f.0, f.1, fits_later g.D.Drivers.states _ _ keeps.same f.0 f.1 c.args.uid (keeps.stays f.0 f.1 c.args.uid f.2));
+      running = rw here c.requires.running;
+      held = λ leaf is. rw here (c.requires.held c.args.uid leaf (omega arith) some (rw (← keeps.same.nodes) is) c.requires.running);
+    }
+
+pub halt-returns-clause-meets : goal.halt-returns-clause-meets
+halt-returns-clause-meets g t c = λ term view fits.
+    let states = g.D.Drivers.states in
+    let before = c.args.stage.now in
+    let between = c.reset_children.new.stage in
+    let keeps = c.reset_children.ensures.keeps in
+    halt_ended before.nodes.now before.moment term view c.args.uid _ _ c.requires.running _ _ _ keeps.beside _ _ _ (c.in_ok-reset_children.ensures.meets term view fits)
+    (meets_earlier states before between c.end_halt.new.stage keeps.same (memory_of term c.args.uid) c.end_halt.result (λ nodes moment. halted (site_at view c.args.uid term) (remembered Idle (cleared (kept_at between.kept.now c.args.uid).memo) (children_in term c.args.uid between.kept.now)) (state_in nodes (scene_on states between) moment))
+    (c.end_halt.ensures.meets term view (fits_later states before between keeps.same term view c.args.uid (keeps.stays term view c.args.uid fits))))
+
+pub halt-returns-clause-keeps : goal.halt-returns-clause-keeps
+halt-returns-clause-keeps g t c =
+    let states = g.D.Drivers.states in
+    let f = c.requires.fits in
+    let some : 1 ≤ (node_at c.args.stage.now.nodes.now c.args.uid).size = omega (arith, size_is f.0 f.1 c.args.uid c.args.stage.now.nodes.now _ f.2) in
+    let whole = keeps_then states c.args.uid _ (c.args.uid + 1) _ _ _ _ (omega arith) (omega (arith, some)) (keeps_none states c.args.uid _ _) c.reset_children.ensures.keeps in
+    keeps_then states c.args.uid _ c.args.uid 1 _ _ _ (omega arith) (omega (arith, some)) whole c.end_halt.ensures.keeps
+
+pub halt-returns-clause-held : goal.halt-returns-clause-held
+halt-returns-clause-held g t c =
+    let between = c.reset_children.new.stage in
+    let after = c.end_halt.new.stage in
+    let keeps = c.end_halt.ensures.keeps in
+    rested_if_ok after.nodes.now between.kept.now after.kept.now c.args.uid c.args.uid c.end_halt.result keeps.beside c.end_halt.ensures.status
+    (subst (λ (ns : List Node). RunningAreHeld ns between.kept.now c.args.uid) (λ j. (sym keeps.same.nodes j).now) c.in_ok-reset_children.ensures.held)
 
 pub reset_children-overflow_add-child : goal.reset_children-overflow_add-child
 reset_children-overflow_add-child g t c =
-    let f = c.requires.fits in omega (arith, node_there f.0 f.1 c.args.uid c.args.nodes.now _ f.3, f.3.few)
+    let f = c.requires.fits in omega (arith, node_there f.0 f.1 c.args.uid c.args.stage.now.nodes.now _ f.2, f.2.few)
 
 pub reset_children-node-requires : goal.reset_children-node-requires
-reset_children-node-requires g t c = let f = c.requires.fits in node_there f.0 f.1 c.args.uid c.args.nodes.now _ f.3
+reset_children-node-requires g t c = let f = c.requires.fits in node_there f.0 f.1 c.args.uid c.args.stage.now.nodes.now _ f.2
 
 pub reset_children-loop-place-init : goal.reset_children-loop-place-init
 reset_children-loop-place-init g t c = record {
-  fits = λ facts term view uid fits. fits;
+  keeps = keeps_none g.D.Drivers.states _ _ _;
   held = c.requires.held;
-  beside = beside_none _ _ _;
-  reserve = omega arith;
-  full = refl;
-  still = λ term view facts moment fits. none_reset c.args.nodes.now moment c.args.span (view_under view c.args.uid (written (out-Term term))) (out-Term term).children (c.args.uid + 1) _ _;
+  facts = refl;
+  still = λ term view fits. none_reset c.args.stage.now.nodes.now c.args.stage.now.moment c.args.span (view_under view c.args.uid (written (out-Term term))) (out-Term term).children (c.args.uid + 1) _ _;
 }
 
 pub reset_children-reset_wanted-requires : goal.reset_children-reset_wanted-requires
 reset_children-reset_wanted-requires g t c =
+    let nodes = c.args.stage.now.nodes.now in
+    let at = c.loop-place.stage in
+    let child = c.loop-place.child in
     let f = c.requires.fits in
-    let fits = c.loop-place.invariant.fits f.2 f.0 f.1 c.args.uid f.3 in
-    let w = turn c.args.nodes.now 0 c.args.span f.0 f.1 c.args.uid _ _ c.loop-place.place c.loop-place.child _ _ fits (c.loop-place.invariant.still f.0 f.1 f.2 0 f.3) (rw c.node.ensures at c.loop-place-test.true) in
-    let smaller : (node_at c.args.nodes.now c.loop-place.child).size < (node_at c.args.nodes.now c.args.uid).size = omega (arith, w.low, w.high) in
-    λ κs lives. (omega (arith, smaller, c.decreases), (λ a is. lives a is, ((w.next.child, view_under f.1 c.args.uid (written (out-Term f.0)), f.2, w.fits), running_below c.args.nodes.now c.loop-place.kept c.args.uid c.loop-place.child (omega (arith, w.low)) w.high c.loop-place.invariant.held)))
+    let i = c.loop-place.invariant in
+    let w = turn nodes c.args.stage.now.moment c.args.span f.0 f.1 c.args.uid _ _ c.loop-place.place child _ _ (i.keeps.stays f.0 f.1 c.args.uid f.2) (i.still f.0 f.1 f.2) (rw c.node.ensures at c.loop-place-test.true) in
+    let child_size : (node_at at.nodes.now child).size ≡ (node_at nodes child).size = λ j. (node_at (i.keeps.same.nodes j).now child).size in
+    let size : (node_at at.nodes.now c.args.uid).size ≡ (node_at nodes c.args.uid).size = λ j. (node_at (i.keeps.same.nodes j).now c.args.uid).size in
+    let below = view_under f.1 c.args.uid (written (out-Term f.0)) in
+    let smaller : (node_at at.nodes.now child).size < (node_at nodes c.args.uid).size = omega (arith, w.low, w.high, child_size) in
+    λ κs lives. (
+      omega (arith, smaller, c.decreases),
+      (
+        λ a is. lives a is,
+        (
+          (w.next.child, below, fits_later g.D.Drivers.states _ at i.keeps.same w.next.child below child w.fits),
+          running_below at.nodes.now at.kept.now c.args.uid child (omega (arith, w.low)) (omega (arith, w.high, child_size, size)) i.held,
+        ),
+      ),
+    )
 
 pub reset_children-returns-in_err-reset_wanted-clause-meets : goal.reset_children-returns-in_err-reset_wanted-clause-meets
-reset_children-returns-in_err-reset_wanted-clause-meets g t c = λ term view facts moment fit.
-    let fits = c.loop-place.invariant.fits facts term view c.args.uid fit in
-    let k = c.loop-place.invariant.still term view facts moment fit in
-    let w = turn c.args.nodes.now moment c.args.span term view c.args.uid _ _ c.loop-place.place c.loop-place.child _ _ fits k (rw c.node.ensures at c.loop-place-test.true) in
+reset_children-returns-in_err-reset_wanted-clause-meets g t c = λ term view fit.
+    let nodes = c.args.stage.now.nodes.now in
+    let at = c.loop-place.stage in
+    let child = c.loop-place.child in
+    let i = c.loop-place.invariant in
+    let fits = i.keeps.stays term view c.args.uid fit in
+    let k = i.still term view fit in
+    let w = turn nodes c.args.stage.now.moment c.args.span term view c.args.uid _ _ c.loop-place.place child _ _ fits k (rw c.node.ensures at c.loop-place-test.true) in
+    let below = view_under view c.args.uid (written (out-Term term)) in
+    let beside = subst (λ (size : ℕ). Beside child size at.kept.now c.reset_wanted.new.stage.kept.now) (λ j. (node_at (i.keeps.same.nodes j).now child).size) c.reset_wanted.ensures.keeps.beside in
     rw (stops_with _ _ c.from_residual.ensures.1)
-    (not_turned c.args.nodes.now moment c.args.span term view c.args.uid _ _ c.loop-place.place c.loop-place.child _ _ fits k w c.has.result c.has.ensures _ _ c.reset_wanted.ensures.beside _
-    (c.in_err-reset_wanted.ensures.meets w.next.child (view_under view c.args.uid (written (out-Term term))) facts moment w.fits))
+    (not_turned nodes c.args.stage.now.moment c.args.span term view c.args.uid _ _ c.loop-place.place child _ _ fits k w c.has.result c.has.ensures _ _ beside _
+    (meets_earlier g.D.Drivers.states c.args.stage.now at c.reset_wanted.new.stage i.keeps.same (memory_of w.next.child child) (Err c.in_err-reset_wanted.field-0.0) (λ nodes moment. reset_if c.has.result w.next.child below child (memory_of w.next.child child at.kept.now) (state_in nodes (scene_on g.D.Drivers.states at) moment))
+    (c.in_err-reset_wanted.ensures.meets w.next.child below (fits_later g.D.Drivers.states _ at i.keeps.same w.next.child below child w.fits))))
 
-pub reset_children-returns-in_err-reset_wanted-clause-beside : goal.reset_children-returns-in_err-reset_wanted-clause-beside
-reset_children-returns-in_err-reset_wanted-clause-beside g t c =
+pub reset_children-returns-in_err-reset_wanted-clause-keeps : goal.reset_children-returns-in_err-reset_wanted-clause-keeps
+reset_children-returns-in_err-reset_wanted-clause-keeps g t c =
+    let nodes = c.args.stage.now.nodes.now in
+    let child = c.loop-place.child in
     let f = c.requires.fits in
-    let fits = c.loop-place.invariant.fits f.2 f.0 f.1 c.args.uid f.3 in
-    let w = turn c.args.nodes.now 0 c.args.span f.0 f.1 c.args.uid _ _ c.loop-place.place c.loop-place.child _ _ fits (c.loop-place.invariant.still f.0 f.1 f.2 0 f.3) (rw c.node.ensures at c.loop-place-test.true) in
-    beside_more _ _ c.loop-place.child _ c.args.kept.now c.loop-place.kept _ w.low (omega (arith, w.high, size_is f.0 f.1 c.args.uid c.args.nodes.now _ f.3)) c.loop-place.invariant.beside c.reset_wanted.ensures.beside
+    let i = c.loop-place.invariant in
+    let w = turn nodes c.args.stage.now.moment c.args.span f.0 f.1 c.args.uid _ _ c.loop-place.place child _ _ (i.keeps.stays f.0 f.1 c.args.uid f.2) (i.still f.0 f.1 f.2) (rw c.node.ensures at c.loop-place-test.true) in
+    let child_size : (node_at c.loop-place.stage.nodes.now child).size ≡ (node_at nodes child).size = λ j. (node_at (i.keeps.same.nodes j).now child).size in
+    keeps_then g.D.Drivers.states _ _ child _ _ _ _ w.low (omega (arith, w.high, child_size, size_is f.0 f.1 c.args.uid nodes _ f.2)) i.keeps c.reset_wanted.ensures.keeps
 
 pub reset_children-node-requires-in-loop-place : goal.reset_children-node-requires-in-loop-place
 reset_children-node-requires-in-loop-place g t c =
+    let nodes = c.args.stage.now.nodes.now in
     let f = c.requires.fits in
-    let fits = c.loop-place.invariant.fits f.2 f.0 f.1 c.args.uid f.3 in
-    let w = turn c.args.nodes.now 0 c.args.span f.0 f.1 c.args.uid _ _ c.loop-place.place c.loop-place.child _ _ fits (c.loop-place.invariant.still f.0 f.1 f.2 0 f.3) (rw c.node.ensures at c.loop-place-test.true) in
-    node_there _ _ _ _ _ w.fits
+    let i = c.loop-place.invariant in
+    let same = same_both i.keeps.same c.reset_wanted.ensures.keeps.same in
+    let w = turn nodes c.args.stage.now.moment c.args.span f.0 f.1 c.args.uid _ _ c.loop-place.place c.loop-place.child _ _ (i.keeps.stays f.0 f.1 c.args.uid f.2) (i.still f.0 f.1 f.2) (rw c.node.ensures at c.loop-place-test.true) in
+    subst (λ (ns : List Node). c.loop-place.child < length ns) (λ j. (sym same.nodes j).now) (node_there _ _ _ _ _ w.fits)
 
 pub reset_children-overflow_add-child-in-loop-place : goal.reset_children-overflow_add-child-in-loop-place
 reset_children-overflow_add-child-in-loop-place g t c =
+    let nodes = c.args.stage.now.nodes.now in
+    let child = c.loop-place.child in
     let f = c.requires.fits in
-    let fits = c.loop-place.invariant.fits f.2 f.0 f.1 c.args.uid f.3 in
-    let w = turn c.args.nodes.now 0 c.args.span f.0 f.1 c.args.uid _ _ c.loop-place.place c.loop-place.child _ _ fits (c.loop-place.invariant.still f.0 f.1 f.2 0 f.3) (rw c.node.ensures at c.loop-place-test.true) in
-    omega (arith, all_there _ _ _ _ _ w.fits, ap (λ (n : Node). n.size) c.node-in-loop-place.ensures, f.3.few)
+    let i = c.loop-place.invariant in
+    let same = same_both i.keeps.same c.reset_wanted.ensures.keeps.same in
+    let w = turn nodes c.args.stage.now.moment c.args.span f.0 f.1 c.args.uid _ _ c.loop-place.place child _ _ (i.keeps.stays f.0 f.1 c.args.uid f.2) (i.still f.0 f.1 f.2) (rw c.node.ensures at c.loop-place-test.true) in
+    let size : (node_at c.reset_wanted.new.stage.nodes.now child).size ≡ (node_at nodes child).size = λ j. (node_at (same.nodes j).now child).size in
+    omega (arith, all_there _ _ _ _ _ w.fits, ap (λ (n : Node). n.size) c.node-in-loop-place.ensures, size, f.2.few)
 
 pub reset_children-loop-place-preserved : goal.reset_children-loop-place-preserved
 reset_children-loop-place-preserved g t c =
+    let states = g.D.Drivers.states in
+    let before = c.args.stage.now in
+    let at = c.loop-place.stage in
+    let after = c.reset_wanted.new.stage in
+    let child = c.loop-place.child in
     let f = c.requires.fits in
-    let fits = c.loop-place.invariant.fits f.2 f.0 f.1 c.args.uid f.3 in
-    let w = turn c.args.nodes.now 0 c.args.span f.0 f.1 c.args.uid _ _ c.loop-place.place c.loop-place.child _ _ fits (c.loop-place.invariant.still f.0 f.1 f.2 0 f.3) (rw c.node.ensures at c.loop-place-test.true) in
+    let i = c.loop-place.invariant in
+    let keeps = c.reset_wanted.ensures.keeps in
+    let same = same_both i.keeps.same keeps.same in
+    let w = turn before.nodes.now before.moment c.args.span f.0 f.1 c.args.uid _ _ c.loop-place.place child _ _ (i.keeps.stays f.0 f.1 c.args.uid f.2) (i.still f.0 f.1 f.2) (rw c.node.ensures at c.loop-place-test.true) in
+    let child_size : (node_at at.nodes.now child).size ≡ (node_at before.nodes.now child).size = λ j. (node_at (i.keeps.same.nodes j).now child).size in
+    let beside = subst (λ (size : ℕ). Beside child size at.kept.now after.kept.now) child_size keeps.beside in
     record {
-      fits = λ facts term view uid fit. c.reset_wanted.ensures.fits facts term view uid (c.loop-place.invariant.fits facts term view uid fit);
-      held = running_above c.args.nodes.now c.loop-place.kept c.reset_wanted.new.kept c.args.uid c.loop-place.child c.reset_wanted.ensures.beside c.in_ok-reset_wanted.ensures.held c.loop-place.invariant.held;
-      beside = beside_more _ _ c.loop-place.child _ c.args.kept.now c.loop-place.kept _ w.low (omega (arith, w.high, size_is f.0 f.1 c.args.uid c.args.nodes.now _ f.3)) c.loop-place.invariant.beside c.reset_wanted.ensures.beside;
-      reserve = omega (arith, c.loop-place.invariant.reserve, c.reset_wanted.ensures.reserve);
-      full = c.reset_wanted.ensures.full ∙ c.loop-place.invariant.full;
-      still = λ term view facts moment fit.
-          let fits_so = c.loop-place.invariant.fits facts term view c.args.uid fit in
-          let k = c.loop-place.invariant.still term view facts moment fit in
-          let v = turn c.args.nodes.now moment c.args.span term view c.args.uid _ _ c.loop-place.place c.loop-place.child _ _ fits_so k (rw c.node.ensures at c.loop-place-test.true) in
-          turned c.args.nodes.now moment c.args.span term view c.args.uid _ _ c.loop-place.place c.loop-place.child _ _ fits_so k v c.has.result c.has.ensures _ _ c.reset_wanted.ensures.beside
-          (c.in_ok-reset_wanted.ensures.meets v.next.child (view_under view c.args.uid (written (out-Term term))) facts moment v.fits)
-          c.node-in-loop-place.result.now.size (ap (λ (n : Node). n.size) c.node-in-loop-place.ensures);
+      keeps = keeps_then states _ _ child _ _ _ _ w.low (omega (arith, w.high, child_size, size_is f.0 f.1 c.args.uid before.nodes.now _ f.2)) i.keeps keeps;
+      held =
+          let size : (node_at at.nodes.now child).size ≡ (node_at after.nodes.now child).size = λ j. (node_at (sym keeps.same.nodes j).now child).size in
+          running_above after.nodes.now at.kept.now after.kept.now c.args.uid child (subst (λ (by : ℕ). Beside child by at.kept.now after.kept.now) size keeps.beside) c.in_ok-reset_wanted.ensures.held
+          (subst (λ (ns : List Node). RunningAreHeld ns at.kept.now c.args.uid) (λ j. (sym keeps.same.nodes j).now) i.held);
+      facts = c.reset_wanted.ensures.facts ∙ i.facts;
+      still = λ term view fit.
+          let fits = i.keeps.stays term view c.args.uid fit in
+          let k = i.still term view fit in
+          let below = view_under view c.args.uid (written (out-Term term)) in
+          let v = turn before.nodes.now before.moment c.args.span term view c.args.uid _ _ c.loop-place.place child _ _ fits k (rw c.node.ensures at c.loop-place-test.true) in
+          turned before.nodes.now before.moment c.args.span term view c.args.uid _ _ c.loop-place.place child _ _ fits k v c.has.result c.has.ensures _ _ beside
+          (meets_earlier states before at after i.keeps.same (memory_of v.next.child child) (Ok tt) (λ nodes moment. reset_if c.has.result v.next.child below child (memory_of v.next.child child at.kept.now) (state_in nodes (scene_on states at) moment))
+          (c.in_ok-reset_wanted.ensures.meets v.next.child below (fits_later states before at i.keeps.same v.next.child below child v.fits)))
+          c.node-in-loop-place.result.now.size (ap (λ (n : Node). n.size) c.node-in-loop-place.ensures ∙ (λ j. (node_at (same.nodes j).now child).size));
     }
 
 pub reset_children-returns-clause-meets : goal.reset_children-returns-clause-meets
-reset_children-returns-clause-meets g t c = λ term view facts moment fit.
-    no_turn c.args.nodes.now moment c.args.span term view c.args.uid _ _ c.loop-place.place c.loop-place.child _ _ (c.loop-place.invariant.fits facts term view c.args.uid fit) (c.loop-place.invariant.still term view facts moment fit) (rw c.node.ensures at c.loop-place-test.false)
+reset_children-returns-clause-meets g t c = λ term view fit.
+    let i = c.loop-place.invariant in
+    no_turn c.args.stage.now.nodes.now c.args.stage.now.moment c.args.span term view c.args.uid _ _ c.loop-place.place c.loop-place.child _ _ (i.keeps.stays term view c.args.uid fit) (i.still term view fit) (rw c.node.ensures at c.loop-place-test.false)
 
-pub reset_node-kept_by-requires : goal.reset_node-kept_by-requires
-reset_node-kept_by-requires g t c = let f = c.requires.fits in kept_there f.0 f.1 c.args.uid c.args.nodes.now _ f.3
+pub reset-bounds : goal.reset-bounds
+reset-bounds g t c = let f = c.requires.fits in kept_there f.0 f.1 c.args.uid c.args.stage.now.nodes.now _ f.2
 
-pub reset_node-become_idle-requires : goal.reset_node-become_idle-requires
-reset_node-become_idle-requires g t c = let f = c.requires.fits in kept_there f.0 f.1 c.args.uid c.args.nodes.now _ f.3
+pub reset-become_idle-requires : goal.reset-become_idle-requires
+reset-become_idle-requires g t c = let f = c.requires.fits in kept_there f.0 f.1 c.args.uid c.args.stage.now.nodes.now _ f.2
 
-pub reset_node-returns-in_err-become_idle-in_default : goal.reset_node-returns-in_err-become_idle-in_default
-reset_node-returns-in_err-become_idle-in_default g t c = record {
-  meets = λ term view facts moment fits.
-      rw (stops_with c.from_residual.result stop.NoMemory c.from_residual.ensures.1)
-      (nothing_cut c.args.nodes.now _ _ _ _ _ refl c.in_err-become_idle-in_default.ensures.err_notes);
-  fits = λ facts term view uid fits. rw c.in_err-become_idle-in_default.ensures.err fits;
-  held = rw (stops_with c.from_residual.result stop.NoMemory c.from_residual.ensures.1) tt;
-  beside = rw c.in_err-become_idle-in_default.ensures.err (beside_none _ _ _);
-  reserve = omega (arith, c.become_idle.ensures.reserve);
-  full = c.become_idle.ensures.full;
-}
-
-pub reset_node-returns-in_ok-become_idle-in_default : goal.reset_node-returns-in_ok-become_idle-in_default
-reset_node-returns-in_ok-become_idle-in_default g t c =
-    let f = c.requires.fits in
-    let within = kept_there f.0 f.1 c.args.uid c.args.nodes.now _ f.3 in
-    let is = c.in_ok-become_idle-in_default.ensures.kept in
+pub reset-returns-in_err-become_idle-in_default : goal.reset-returns-in_err-become_idle-in_default
+reset-returns-in_err-become_idle-in_default g t c =
+    let e = c.in_err-become_idle-in_default.ensures.err in
     record {
-      meets = λ term view facts moment fits.
-          idle_met c.args.nodes.now moment term view c.args.uid _ _ (rw c.kept_by.ensures at c.in_default.not-Running) _ _ within is refl refl c.in_ok-become_idle-in_default.ensures.notes;
-      fits = λ facts term view uid fits. fits_still c.args.nodes.now _ _ (rw is (marks_same c.args.kept.now c.args.uid _ refl ∙ fits.marks)) fits.leaves refl refl term view uid fits;
-      held = running_idle c.args.kept.now c.become_idle.new.kept c.args.uid within is c.args.nodes.now c.args.uid c.requires.held;
-      beside = beside_idle c.args.kept.now c.become_idle.new.kept c.args.uid within is _ (omega (arith, size_is f.0 f.1 c.args.uid c.args.nodes.now _ f.3));
-      reserve = omega (arith, c.become_idle.ensures.reserve);
-      full = c.become_idle.ensures.full;
+      meets = λ term view fits.
+          rw (stops_with c.from_residual.result stop.NoMemory c.from_residual.ensures.1)
+          (nothing_cut c.args.stage.now.nodes.now _ _ _ _ _ (λ i. (e i).drivers) c.in_err-become_idle-in_default.ensures.err_notes);
+      held = rw (stops_with c.from_residual.result stop.NoMemory c.from_residual.ensures.1) tt;
+      keeps = keeps_still g.D.Drivers.states c.args.uid _ _ _ c.become_idle.ensures.same e;
+      facts = λ i. (e i).facts;
     }
 
-pub reset_node-returns-in-Running-clause-meets : goal.reset_node-returns-in-Running-clause-meets
-reset_node-returns-in-Running-clause-meets g t c = λ term view facts moment fits.
-    rw (reset_of_running term view c.args.uid c.args.kept.now _ (rw c.kept_by.ensures at c.in-Running.is)) (c.halt_node.ensures.meets term view facts moment fits)
+pub reset-returns-in_ok-become_idle-in_default : goal.reset-returns-in_ok-become_idle-in_default
+reset-returns-in_ok-become_idle-in_default g t c =
+    let states = g.D.Drivers.states in
+    let before = c.args.stage.now in
+    let nodes = before.nodes.now in
+    let f = c.requires.fits in
+    let within = kept_there f.0 f.1 c.args.uid nodes _ f.2 in
+    let same = c.become_idle.ensures.same in
+    let e = c.in_ok-become_idle-in_default.ensures.ok in
+    let idle = keeps_idle states c.args.uid _ _ _ same e in
+    let some : 1 ≤ (node_at nodes c.args.uid).size = omega (arith, size_is f.0 f.1 c.args.uid nodes _ f.2) in
+    record {
+      meets = λ term view fits.
+          idle_met nodes before.moment term view c.args.uid _ _ c.in_default.not-Running _ _ within (λ i. (e i).kept)
+          (λ i. record { board = (sym e i).board; facts = (sym e i).facts; instances = instances_of nodes (sym e i).drivers; moment = before.moment })
+          (λ i. (e i).drivers) c.in_ok-become_idle-in_default.ensures.ok_notes;
+      held = rw same.nodes (running_rested nodes before.kept.now c.become_idle.new.stage.kept.now c.args.uid c.args.uid idle.beside (idle_here states c.args.uid _ before c.become_idle.new.stage within e) c.requires.held);
+      keeps = keeps_then states c.args.uid _ c.args.uid 1 _ _ _ (omega arith) (omega (arith, some)) (keeps_none states c.args.uid _ before) idle;
+      facts = λ i. (e i).facts;
+    }
+
+pub reset-returns-in-Running-clause-meets : goal.reset-returns-in-Running-clause-meets
+reset-returns-in-Running-clause-meets g t c = λ term view fits.
+    rw (reset_of_running term view c.args.uid c.args.stage.now.kept.now _ c.in-Running.is) (c.halt.ensures.meets term view fits)

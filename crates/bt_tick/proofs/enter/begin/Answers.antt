@@ -1,20 +1,17 @@
-use Rattle.std.proofs.Common.{◌≡◌, true, false, Ok, Err, arith, sym, ap, ◌∙◌}
-use Rattle.bt_arena.specs.declared.nodes.Node.{Node}
-use Rattle.bt_arena.specs.Scenes.{scene, state_in}
+use Rattle.std.proofs.Common.{◌≡◌, true, false, Ok, Err, arith, sym, ◌∙◌}
+use Rattle.bt_arena.specs.Stages.{state_on}
 use Rattle.bt_laws.proofs.Keeping.{term_keeps}
-use Rattle.bt_laws.proofs.Visits.{starts_with_rule}
 use Rattle.bt_nodes.proofs.Needed.{guards_need}
-use Rattle.bt_model.specs.BuiltIns.{has_rule}
 use Rattle.bt_tick.proofs.Bounds.{cost_positive}
-use Rattle.bt_tick.proofs.Entering.{answers_so, as_node, begin_ends, begin_goes, begins_so_far, can_keep, ended_goes, goes_after, keeps_so, node_here, one_within, start_stops, starts_here, still_can}
+use Rattle.bt_tick.proofs.Entering.{answers_so, as_node, begin_ends, begin_goes, begins_so_far, can_keep, ended_goes, follow_earlier, follow_later, goes_after, keeps_so, node_here, one_within, start_stops, starts_here, still_can}
 use Rattle.bt_tick.proofs.Moving.{as_many_kept, node_there, turned_with}
 use Rattle.bt_tick.proofs.enter.begin.Goals as goal
 
 pub node-here-requires : goal.node-here-requires
 node-here-requires g c = let (term, view, can) = c.requires.can in node_there can.fits
 
-pub kept_by-memo-requires : goal.kept_by-memo-requires
-kept_by-memo-requires g c =
+pub bounds-stage-uid : goal.bounds-stage-uid
+bounds-stage-uid g c =
     let (term, view, can) = c.requires.can in
     omega (arith, node_there can.fits, as_many_kept can.fits)
 
@@ -26,28 +23,30 @@ guards_answer-requires g c =
 pub returns-in_err-answer-clause-goes : goal.returns-in_err-answer-clause-goes
 returns-in_err-answer-clause-goes g c = λ term view can.
     turned_with _ _ _ _ _ _ _ _ _ _ _ _ c.from_residual.ensures.1
-    (begin_ends _ _ term view _ _ _ _ _ _ _ c.in_err-answer.ensures.slots c.requires.rests _ (c.in_err-answer.ensures.settles (as_node term) view (state_in c.args.nodes.now (scene c.args.kept.now c.args.board.now c.args.facts.now (g.D.Drivers.states c.args.drivers.now)) c.args.now) (node_here term view _ _ _ can.fits c.node-here.result.now c.node-here.ensures).guards))
+    (begin_ends _ _ term view _ _ _ _ _ _ _ c.in_err-answer.ensures.slots c.requires.rests _ (c.in_err-answer.ensures.settles (as_node term) view (state_on g.D.Drivers.states c.args.stage.now) (node_here term view _ _ _ can.fits c.node-here.result.now c.node-here.ensures).guards))
 
 pub returns-in_err-given-clause-goes : goal.returns-in_err-given-clause-goes
 returns-in_err-given-clause-goes g c = λ term view can.
+    let settled = c.in_ok-answer.ensures.settles (as_node term) view (state_on g.D.Drivers.states c.args.stage.now) (node_here term view _ _ _ can.fits c.node-here.result.now c.node-here.ensures).guards in
     let still = still_can term_keeps _ _ term view _ _ _ _ _ _ c.in_ok-answer.ensures.slots can in
     turned_with _ _ _ _ _ _ _ _ _ _ _ _ c.from_residual-in_err-given.ensures.1
-    (begin_goes _ _ term view _ _ _ _ _ _ c.args.notes.now.list c.in_ok-answer.ensures.slots c.requires.rests c.in_ok-answer.field-0 (c.in_ok-answer.ensures.settles (as_node term) view (state_in c.args.nodes.now (scene c.args.kept.now c.args.board.now c.args.facts.now (g.D.Drivers.states c.args.drivers.now)) c.args.now) (node_here term view _ _ _ can.fits c.node-here.result.now c.node-here.ensures).guards) _
-    (answers_so _ _ term view _ _ _ _ _ _ c.args.notes.now.list c.in_ok-answer.ensures.slots c.in_ok-answer.field-0 c.in-Some.answer c.in-Some.is c.kept_by-memo.result c.kept_by-memo.ensures) _ _ _
-    (ended_goes _ _ term view _ (Err c.in_err-given.field-0.0) _ _ _ _ _ (c.in_err-given.ensures.fits _ _) c.in_err-given.ensures.beside (c.in_err-given.ensures.meets term view _ _ c.args.now still.fits)))
+    (begin_goes _ _ term view _ _ _ _ _ _ c.args.stage.now.notes.now.list c.in_ok-answer.ensures.slots c.requires.rests c.in_ok-answer.field-0 settled _
+    (answers_so _ _ term view _ _ _ _ _ _ c.args.stage.now.notes.now.list c.in_ok-answer.ensures.slots c.in_ok-answer.field-0 c.in-Some.answer c.in-Some.is) _ _ _
+    (ended_goes _ _ term view _ (Err c.in_err-given.field-0.0) _ _ _ _ _ c.in_err-given.ensures.keeps.stays c.in_err-given.ensures.keeps.beside (c.in_err-given.ensures.meets term view still.fits)))
 
 pub returns-in-Some-clause-goes : goal.returns-in-Some-clause-goes
 returns-in-Some-clause-goes g c = λ term view can.
+    let settled = c.in_ok-answer.ensures.settles (as_node term) view (state_on g.D.Drivers.states c.args.stage.now) (node_here term view _ _ _ can.fits c.node-here.result.now c.node-here.ensures).guards in
     let still = still_can term_keeps _ _ term view _ _ _ _ _ _ c.in_ok-answer.ensures.slots can in
-    begin_goes _ _ term view _ _ _ _ _ _ c.args.notes.now.list c.in_ok-answer.ensures.slots c.requires.rests c.in_ok-answer.field-0 (c.in_ok-answer.ensures.settles (as_node term) view (state_in c.args.nodes.now (scene c.args.kept.now c.args.board.now c.args.facts.now (g.D.Drivers.states c.args.drivers.now)) c.args.now) (node_here term view _ _ _ can.fits c.node-here.result.now c.node-here.ensures).guards) _
-    (answers_so _ _ term view _ _ _ _ _ _ c.args.notes.now.list c.in_ok-answer.ensures.slots c.in_ok-answer.field-0 c.in-Some.answer c.in-Some.is c.kept_by-memo.result c.kept_by-memo.ensures) _ _ _
-    (ended_goes _ _ term view _ (Ok c.in_ok-given.given) _ _ _ _ _ (c.in_ok-given.ensures.fits _ _) c.in_ok-given.ensures.beside (c.in_ok-given.ensures.meets term view _ _ c.args.now still.fits))
+    begin_goes _ _ term view _ _ _ _ _ _ c.args.stage.now.notes.now.list c.in_ok-answer.ensures.slots c.requires.rests c.in_ok-answer.field-0 settled _
+    (answers_so _ _ term view _ _ _ _ _ _ c.args.stage.now.notes.now.list c.in_ok-answer.ensures.slots c.in_ok-answer.field-0 c.in-Some.answer c.in-Some.is) _ _ _
+    (ended_goes _ _ term view _ (Ok c.in_ok-given.given) _ _ _ _ _ c.in_ok-given.ensures.keeps.stays c.in_ok-given.ensures.keeps.beside (c.in_ok-given.ensures.meets term view still.fits))
 
 pub returns-in-Some-clause-work : goal.returns-in-Some-clause-work
 returns-in-Some-clause-work g c = cost_positive _
 
-pub kept_by-requires : goal.kept_by-requires
-kept_by-requires g c =
+pub bounds-stage-uid-2 : goal.bounds-stage-uid-2
+bounds-stage-uid-2 g c =
     let (term, view, can) = c.requires.can in
     omega (arith, node_there can.fits, as_many_kept can.fits)
 
@@ -56,49 +55,47 @@ follow_rule-requires g c =
     let (term, view, can) = c.requires.can in
     let still = still_can term_keeps _ _ term view _ _ _ _ _ _ c.in_ok-answer.ensures.slots can in
     let b : c.starts.result ≡ false = cc in
-    record { can = (term, view, can_keep term_keeps _ _ term view _ _ still c.requires.rests (starts_here can.fits c.node-here.result.now c.kept_by.result c.node-here.ensures c.kept_by.ensures c.starts.result c.starts.ensures ∙ b)) }
+    record { can = (term, view, can_keep term_keeps _ _ term view _ _ still c.requires.rests (starts_here can.fits c.node-here.result.now c.node-here.ensures c.starts.result c.starts.ensures ∙ b)) }
 
 pub returns-then-not-starts-clause-goes : goal.returns-then-not-starts-clause-goes
 returns-then-not-starts-clause-goes g c = λ term view can.
+    let settled = c.in_ok-answer.ensures.settles (as_node term) view (state_on g.D.Drivers.states c.args.stage.now) (node_here term view _ _ _ can.fits c.node-here.result.now c.node-here.ensures).guards in
     let still = still_can term_keeps _ _ term view _ _ _ _ _ _ c.in_ok-answer.ensures.slots can in
     let b : c.starts.result ≡ false = cc in
-    let none = starts_here can.fits c.node-here.result.now c.kept_by.result c.node-here.ensures c.kept_by.ensures c.starts.result c.starts.ensures ∙ b in
-    begin_goes _ _ term view _ _ _ _ _ _ c.args.notes.now.list c.in_ok-answer.ensures.slots c.requires.rests c.in_ok-answer.field-0 (c.in_ok-answer.ensures.settles (as_node term) view (state_in c.args.nodes.now (scene c.args.kept.now c.args.board.now c.args.facts.now (g.D.Drivers.states c.args.drivers.now)) c.args.now) (node_here term view _ _ _ can.fits c.node-here.result.now c.node-here.ensures).guards) _
-    (keeps_so _ _ term view _ _ _ _ _ _ c.args.notes.now.list c.in_ok-answer.ensures.slots c.in_ok-answer.field-0 c.in_default.is none) _ _ _
+    let none = starts_here can.fits c.node-here.result.now c.node-here.ensures c.starts.result c.starts.ensures ∙ b in
+    begin_goes _ _ term view _ _ _ _ _ _ c.args.stage.now.notes.now.list c.in_ok-answer.ensures.slots c.requires.rests c.in_ok-answer.field-0 settled _
+    (keeps_so _ _ term view _ _ _ _ _ _ c.args.stage.now.notes.now.list c.in_ok-answer.ensures.slots c.in_ok-answer.field-0 c.in_default.is none) _ _ _
     (c.follow_rule.ensures.goes term view (can_keep term_keeps _ _ term view _ _ still c.requires.rests none))
 
 pub start-requires-clause-can : goal.start-requires-clause-can
 start-requires-clause-can g c =
     let (term, view, can) = c.requires.can in
-    (term, view, c.args.facts.now, g.D.Drivers.states c.args.drivers.now, still_can term_keeps _ _ term view _ _ _ _ _ _ c.in_ok-answer.ensures.slots can)
+    (term, view, still_can term_keeps _ _ term view _ _ _ _ _ _ c.in_ok-answer.ensures.slots can)
 
 pub returns-in_err-start-clause-goes : goal.returns-in_err-start-clause-goes
 returns-in_err-start-clause-goes g c = λ term view can.
+    let settled = c.in_ok-answer.ensures.settles (as_node term) view (state_on g.D.Drivers.states c.args.stage.now) (node_here term view _ _ _ can.fits c.node-here.result.now c.node-here.ensures).guards in
     let still = still_can term_keeps _ _ term view _ _ _ _ _ _ c.in_ok-answer.ensures.slots can in
     let b : c.starts.result ≡ true = cc in
-    let start = starts_here can.fits c.node-here.result.now c.kept_by.result c.node-here.ensures c.kept_by.ensures c.starts.result c.starts.ensures ∙ b in
+    let start = starts_here can.fits c.node-here.result.now c.node-here.ensures c.starts.result c.starts.ensures ∙ b in
     turned_with _ _ _ _ _ _ _ _ _ _ _ _ c.from_residual-in_err-start.ensures.1
-    (begin_goes _ _ term view _ _ _ _ _ _ c.args.notes.now.list c.in_ok-answer.ensures.slots c.requires.rests c.in_ok-answer.field-0 (c.in_ok-answer.ensures.settles (as_node term) view (state_in c.args.nodes.now (scene c.args.kept.now c.args.board.now c.args.facts.now (g.D.Drivers.states c.args.drivers.now)) c.args.now) (node_here term view _ _ _ can.fits c.node-here.result.now c.node-here.ensures).guards) _
-    (begins_so_far _ _ term view _ _ _ _ _ _ c.args.notes.now.list c.in_ok-answer.ensures.slots c.in_ok-answer.field-0 c.in_default.is start) _ _ _
-    (start_stops _ _ term view _ _ _ _ _ _ (c.in_err-start.ensures.stays _ _) c.in_err-start.ensures.beside (c.in_err-start.ensures.starts term view _ _ still)))
+    (begin_goes _ _ term view _ _ _ _ _ _ c.args.stage.now.notes.now.list c.in_ok-answer.ensures.slots c.requires.rests c.in_ok-answer.field-0 settled _
+    (begins_so_far _ _ term view _ _ _ _ _ _ c.args.stage.now.notes.now.list c.in_ok-answer.ensures.slots c.in_ok-answer.field-0 c.in_default.is start) _ _ _
+    (start_stops _ _ term view _ _ _ _ _ _ c.in_err-start.ensures.keeps.stays c.in_err-start.ensures.keeps.beside (c.in_err-start.ensures.starts term view still)))
 
 pub begin_rule-requires-clause-can : goal.begin_rule-requires-clause-can
 begin_rule-requires-clause-can g c =
     let (term, view, can) = c.requires.can in
     let still = still_can term_keeps _ _ term view _ _ _ _ _ _ c.in_ok-answer.ensures.slots can in
-    (c.args.now, term, view, c.args.facts.now, g.D.Drivers.states c.args.drivers.now, (c.in_ok-start.ensures.starts term view c.args.facts.now (g.D.Drivers.states c.args.drivers.now) still).0)
-
-pub begin_rule-requires-clause-ruled : goal.begin_rule-requires-clause-ruled
-begin_rule-requires-clause-ruled g c =
-    let b : c.starts.result ≡ true = cc in
-    ap (λ (n : Node). has_rule n.kind) (sym c.node-here.ensures) ∙ starts_with_rule c.node-here.result.now.kind c.kept_by.result.memo (sym c.starts.ensures ∙ b)
+    (term, view, follow_later g.D.Drivers.states c.in_ok-start.ensures.keeps.same c.args.uid term view (c.in_ok-start.ensures.starts term view still).0)
 
 pub returns-clause-goes : goal.returns-clause-goes
 returns-clause-goes g c = λ term view can.
+    let settled = c.in_ok-answer.ensures.settles (as_node term) view (state_on g.D.Drivers.states c.args.stage.now) (node_here term view _ _ _ can.fits c.node-here.result.now c.node-here.ensures).guards in
     let still = still_can term_keeps _ _ term view _ _ _ _ _ _ c.in_ok-answer.ensures.slots can in
     let b : c.starts.result ≡ true = cc in
-    let start = starts_here can.fits c.node-here.result.now c.kept_by.result c.node-here.ensures c.kept_by.ensures c.starts.result c.starts.ensures ∙ b in
-    let started = c.in_ok-start.ensures.starts term view c.args.facts.now (g.D.Drivers.states c.args.drivers.now) still in
-    begin_goes _ _ term view _ _ _ _ _ _ c.args.notes.now.list c.in_ok-answer.ensures.slots c.requires.rests c.in_ok-answer.field-0 (c.in_ok-answer.ensures.settles (as_node term) view (state_in c.args.nodes.now (scene c.args.kept.now c.args.board.now c.args.facts.now (g.D.Drivers.states c.args.drivers.now)) c.args.now) (node_here term view _ _ _ can.fits c.node-here.result.now c.node-here.ensures).guards) _
-    (begins_so_far _ _ term view _ _ _ _ _ _ c.args.notes.now.list c.in_ok-answer.ensures.slots c.in_ok-answer.field-0 c.in_default.is start) _ _ _
-    (goes_after _ _ term view _ _ _ _ _ _ _ _ _ _ started.1 (one_within term _ _ _ c.in_ok-start.ensures.beside) (c.in_ok-start.ensures.stays _ _) (c.begin_rule.ensures.goes c.args.now term view c.args.facts.now (g.D.Drivers.states c.args.drivers.now) _ started.0))
+    let start = starts_here can.fits c.node-here.result.now c.node-here.ensures c.starts.result c.starts.ensures ∙ b in
+    let started = c.in_ok-start.ensures.starts term view still in
+    begin_goes _ _ term view _ _ _ _ _ _ c.args.stage.now.notes.now.list c.in_ok-answer.ensures.slots c.requires.rests c.in_ok-answer.field-0 settled _
+    (begins_so_far _ _ term view _ _ _ _ _ _ c.args.stage.now.notes.now.list c.in_ok-answer.ensures.slots c.in_ok-answer.field-0 c.in_default.is start) _ _ _
+    (goes_after _ _ term view _ _ _ _ _ _ _ _ _ _ started.1 (one_within term _ _ _ c.in_ok-start.ensures.keeps.beside) c.in_ok-start.ensures.keeps.stays (follow_earlier g.D.Drivers.states c.in_ok-start.ensures.keeps.same c.args.uid _ c.begin_rule.ensures.goes term view started.0))

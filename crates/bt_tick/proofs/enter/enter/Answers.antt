@@ -2,7 +2,7 @@ use Rattle.std.proofs.Common.{arith}
 use Rattle.bt_tick.proofs.Moving.{as_many_kept, node_there}
 use Rattle.bt_tick.proofs.enter.enter.Goals as goal
 
-pub kept_by-requires : goal.kept_by-requires
-kept_by-requires g c =
+pub bounds : goal.bounds
+bounds g c =
     let (term, view, can) = c.requires.can in
     omega (arith, node_there can.fits, as_many_kept can.fits)

@@ -1,4 +1,4 @@
-use Rattle.std.proofs.Common.{◌≡◌, ◌-◌, ◌<◌, ℤ, List, Ok, Err, ap, arith, length, refl, sym, ◌∙◌}
+use Rattle.std.proofs.Common.{◌≡◌, ◌-◌, ◌<◌, ℕ, List, Ok, Err, ap, arith, length, refl, sym, ◌∙◌}
 use Rattle.std.specs.List.{refill}
 use Rattle.std.specs.Prelude.{slice_set}
 use Rattle.bt_model.specs.declared.memory.Memory.{Memory}
@@ -6,13 +6,17 @@ use Rattle.bt_model.specs.declared.note.Note.{Note}
 use Rattle.bt_model.specs.declared.status.Answer.{Answer}
 use Rattle.bt_model.specs.declared.term.Term.{Term}
 use Rattle.bt_model.specs.Done.{Done}
+use Rattle.bt_arena.proofs.Staged.{earlier, same_both}
 use Rattle.bt_laws.proofs.Keeping.{term_keeps}
 use Rattle.bt_arena.specs.declared.frame.Frame.{Frame}
+use Rattle.bt_arena.specs.declared.nodes.Node.{Node}
 use Rattle.bt_arena.specs.Ends.{StaysFit}
-use Rattle.bt_arena.specs.Scenes.{Scene, scene}
+use Rattle.bt_arena.specs.Scenes.{Scene}
+use Rattle.bt_arena.specs.Stages.{scene_on}
 use Rattle.bt_tick.specs.declared.machine.Next.{Next}
 use Rattle.bt_tick.specs.declared.machine.Next.TheVariants as next
-use Rattle.bt_tick.specs.Turns.{GoingOn, next_work, stack_work, step_of}
+use Rattle.bt_tick.specs.Turns.{CameOn, GoingOn, next_work, stack_work, step_of}
+use Rattle.bt_tick.proofs.Later.{StepsBy, step_later}
 use Rattle.bt_tick.proofs.Stacks.{back_answers, back_made, can_step, step_made, step_stays, step_stops}
 use Rattle.bt_tick.proofs.Tops.{comes_as, going_on, gone_back, less_heard, less_on_top, one_on_top, reached_with, top_written, went_on}
 use Rattle.bt_tick.proofs.visiting.reach_child.Goals as goal
@@ -21,58 +25,62 @@ use Rattle.bt_tick.proofs.visiting.reach_child.Given.{Over}
 
 pub overflow_sub-top : goal.overflow_sub-top
 overflow_sub-top g c =
-    let (root, facts, start, told, whole, came) = c.requires.going in
-    omega (arith, one_on_top (c.loop-child.invariant.all root facts start told whole came).0, c.len-top.ensures.value)
+    let (root, start, told, whole, came) = c.requires.going in
+    omega (arith, one_on_top (c.loop-child.invariant.all root start told whole came).0, c.len-top.ensures.value)
 
 pub bounds-as_mut_slice-top : goal.bounds-as_mut_slice-top
 bounds-as_mut_slice-top g c =
-    let (root, facts, start, told, whole, came) = c.requires.going in
-    omega (arith, one_on_top (c.loop-child.invariant.all root facts start told whole came).0, c.len-top.ensures.value, ap length c.as_mut_slice.ensures.value)
+    let (root, start, told, whole, came) = c.requires.going in
+    omega (arith, one_on_top (c.loop-child.invariant.all root start told whole came).0, c.len-top.ensures.value, ap length c.as_mut_slice.ensures.value)
 
 pub go_on-requires : goal.go_on-requires
 go_on-requires g c =
-    let (root, facts, start, told, whole, came) = c.requires.going in
-    let (below, is, going) = going_on _ _ c.as_mut_slice.ensures.value c.len-top.ensures.value (c.loop-child.invariant.all root facts start told whole came).0 in
+    let (root, start, told, whole, came) = c.requires.going in
+    let (below, is, going) = going_on _ _ c.as_mut_slice.ensures.value c.len-top.ensures.value (c.loop-child.invariant.all root start told whole came).0 in
     let (t, v, rest, by) = can_step term_keeps _ _ refl going in
-    record { can = (t, v, facts, rest, by) }
+    record { can = (t, v, rest, step_later c.loop-child.invariant.same by) }
 
 pub returns-in_err-child-clause-reaches : goal.returns-in_err-child-clause-reaches
-returns-in_err-child-clause-reaches g c = λ root facts start told whole came.
-    let (below, is, going) = going_on _ _ c.as_mut_slice.ensures.value c.len-top.ensures.value (c.loop-child.invariant.all root facts start told whole came).0 in
-    let fit = step_stays term_keeps _ _ _ _ (Err c.in_err-child.field-0.0) refl going (λ t v rest k. c.in_err-child.ensures.goes t v facts rest k) in
-    reached_with _ _ _ _ _ _ _ _ _ _ _ _ _ c.from_residual.ensures.1 (λ t v u fits. fit t v u ((c.loop-child.invariant.all root facts start told whole came).1 t v u fits))
-    (step_stops term_keeps _ _ _ _ _ refl going (λ t v rest k. c.in_err-child.ensures.goes t v facts rest k))
+returns-in_err-child-clause-reaches g c = λ root start told whole came.
+    let (below, is, going) = going_on _ _ c.as_mut_slice.ensures.value c.len-top.ensures.value (c.loop-child.invariant.all root start told whole came).0 in
+    let goes = earlier c.loop-child.invariant.same (StepsBy g.D.Drivers.states c.loop-child.stage c.go_on.new.stage _ _) c.in_err-child.ensures.goes in
+    let fit = step_stays term_keeps _ _ _ _ (Err c.in_err-child.field-0.0) refl going goes in
+    reached_with _ _ _ _ _ _ _ _ _ _ _ _ _ c.from_residual.ensures.1 (λ t v u fits. fit t v u ((c.loop-child.invariant.all root start told whole came).1 t v u fits))
+    (step_stops term_keeps _ _ _ _ _ refl going goes)
 
 -- the node on top of the stack went on: the visit of the root came to what comes next
-went : (g : Over) (c : In_ok-child g) (root : Term) (facts : List ℤ) (start : Scene) (told : List Note) (whole : Done Answer Memory) →
-    GoingOn c.args.nodes.now c.args.now root 1 (next.GoOn c.args.first) c.args.stack.now.items start (scene c.args.kept.now c.args.board.now facts (g.D.Drivers.states c.args.drivers.now)) told c.args.notes.now.list whole →
-    GoingOn c.args.nodes.now c.args.now root 1 c.in_ok-child.field-0 (refill (length c.loop-child.stack.items) c.loop-child.stack.items (slice_set c.as_mut_slice.result.now (c.len-top.result - 1) c.go_on.new.frame)) start (scene c.go_on.new.kept c.go_on.new.board facts (g.D.Drivers.states c.go_on.new.drivers)) told c.go_on.new.notes.list whole
-    × StaysFit c.args.nodes.now (scene c.args.kept.now c.args.board.now facts (g.D.Drivers.states c.args.drivers.now)) (scene c.go_on.new.kept c.go_on.new.board facts (g.D.Drivers.states c.go_on.new.drivers))
-went g c root facts start told whole came =
-    let (below, is, going) = going_on _ _ c.as_mut_slice.ensures.value c.len-top.ensures.value (c.loop-child.invariant.all root facts start told whole came).0 in
-    let fit = step_stays term_keeps _ _ _ _ (Ok _) refl going (λ t v rest k. c.in_ok-child.ensures.goes t v facts rest k) in (
-      went_on term_keeps below c.go_on.new.frame c.in_ok-child.ensures.child (top_written _ _ below _ _ _ c.as_mut_slice.ensures.value c.len-top.ensures.value is) (step_made term_keeps _ _ _ _ refl going (λ t v rest k. c.in_ok-child.ensures.goes t v facts rest k)),
-      λ t v u fits. fit t v u ((c.loop-child.invariant.all root facts start told whole came).1 t v u fits),
+went : (g : Over) (c : In_ok-child g) (root : Term) (start : Scene) (told : List Note) (whole : Done Answer Memory) →
+    CameOn g.D.Drivers.states c.args.stage.now root (next.GoOn c.args.first) c.args.stack.now.items start told whole →
+    GoingOn c.args.stage.now.nodes.now c.args.stage.now.moment root 1 c.in_ok-child.field-0 (refill (length c.loop-child.stack.items) c.loop-child.stack.items (slice_set c.as_mut_slice.result.now (c.len-top.result - 1) c.go_on.new.frame)) start (scene_on g.D.Drivers.states c.go_on.new.stage) told c.go_on.new.stage.notes.now.list whole
+    × StaysFit c.args.stage.now.nodes.now (scene_on g.D.Drivers.states c.args.stage.now) (scene_on g.D.Drivers.states c.go_on.new.stage)
+went g c root start told whole came =
+    let (below, is, going) = going_on _ _ c.as_mut_slice.ensures.value c.len-top.ensures.value (c.loop-child.invariant.all root start told whole came).0 in
+    let goes = earlier c.loop-child.invariant.same (StepsBy g.D.Drivers.states c.loop-child.stage c.go_on.new.stage _ _) c.in_ok-child.ensures.goes in
+    let fit = step_stays term_keeps _ _ _ _ (Ok _) refl going goes in (
+      went_on term_keeps below c.go_on.new.frame c.in_ok-child.ensures.child (top_written _ _ below _ _ _ c.as_mut_slice.ensures.value c.len-top.ensures.value is) (step_made term_keeps _ _ _ _ refl going goes),
+      λ t v u fits. fit t v u ((c.loop-child.invariant.all root start told whole came).1 t v u fits),
     )
 
 -- and fewer turns are still to come
-less : (g : Over) (c : In_ok-child g) (b : Next) → c.in_ok-child.field-0 ≡ b → next_work c.args.nodes.now b (refill (length c.loop-child.stack.items) c.loop-child.stack.items (slice_set c.as_mut_slice.result.now (c.len-top.result - 1) c.go_on.new.frame)) < next_work c.args.nodes.now (next.GoOn c.loop-child.heard) c.loop-child.stack.items
+less : (g : Over) (c : In_ok-child g) (b : Next) → c.in_ok-child.field-0 ≡ b → next_work c.args.stage.now.nodes.now b (refill (length c.loop-child.stack.items) c.loop-child.stack.items (slice_set c.as_mut_slice.result.now (c.len-top.result - 1) c.go_on.new.frame)) < next_work c.args.stage.now.nodes.now (next.GoOn c.loop-child.heard) c.loop-child.stack.items
 less g c b comes =
-    let (root, facts, start, told, whole, came) = c.requires.going in
-    let (below, is, going) = going_on _ _ c.as_mut_slice.ensures.value c.len-top.ensures.value (c.loop-child.invariant.all root facts start told whole came).0 in
-    less_on_top _ _ b c.loop-child.heard _ _ below _ _ comes is (top_written _ _ below _ _ _ c.as_mut_slice.ensures.value c.len-top.ensures.value is) c.in_ok-child.ensures.child c.in_ok-child.ensures.work
+    let (root, start, told, whole, came) = c.requires.going in
+    let (below, is, going) = going_on _ _ c.as_mut_slice.ensures.value c.len-top.ensures.value (c.loop-child.invariant.all root start told whole came).0 in
+    earlier c.loop-child.invariant.same
+    (λ (ns : List Node) (m : ℕ). next_work ns b (refill (length c.loop-child.stack.items) c.loop-child.stack.items (slice_set c.as_mut_slice.result.now (c.len-top.result - 1) c.go_on.new.frame)) < next_work ns (next.GoOn c.loop-child.heard) c.loop-child.stack.items)
+    (less_on_top _ _ b c.loop-child.heard _ _ below _ _ comes is (top_written _ _ below _ _ _ c.as_mut_slice.ensures.value c.len-top.ensures.value is) c.in_ok-child.ensures.child c.in_ok-child.ensures.work)
 
 pub returns-in-Enter-clause-reaches : goal.returns-in-Enter-clause-reaches
-returns-in-Enter-clause-reaches g c = λ root facts start told whole came.
-    let (going, stays) = went g (goal.at.returns-in-Enter-clause-reaches g c).In_ok-child root facts start told whole came in
+returns-in-Enter-clause-reaches g c = λ root start told whole came.
+    let (going, stays) = went g (goal.at.returns-in-Enter-clause-reaches g c).In_ok-child root start told whole came in
     record { ends = comes_as c.in-Enter.is going; stays = stays }
 
 pub returns-in-Enter-clause-work : goal.returns-in-Enter-clause-work
 returns-in-Enter-clause-work g c = omega (arith, less g (goal.at.returns-in-Enter-clause-work g c).In_ok-child (next.Enter c.in-Enter.child) c.in-Enter.is, c.loop-child.invariant.work)
 
 pub returns-in-None-clause-reaches : goal.returns-in-None-clause-reaches
-returns-in-None-clause-reaches g c = λ root facts start told whole came.
-    let (going, stays) = went g (goal.at.returns-in-None-clause-reaches g c).In_ok-child root facts start told whole came in
+returns-in-None-clause-reaches g c = λ root start told whole came.
+    let (going, stays) = went g (goal.at.returns-in-None-clause-reaches g c).In_ok-child root start told whole came in
     let (left, taken, back) = gone_back c.in-Back.is going in
     record { ends = back_answers term_keeps _ _ refl (sym taken ∙ sym c.pop.ensures.rest ∙ c.in-None.ensures.none refl) back; stays = stays }
 
@@ -83,13 +91,13 @@ pub loop-child-preserved-in-GoOn : goal.loop-child-preserved-in-GoOn
 loop-child-preserved-in-GoOn g c =
     let at = (goal.at.loop-child-preserved-in-GoOn g c).In_ok-child in
     record {
-      all = λ root facts start told whole came.
-          let (going, stays) = went g at root facts start told whole came in
+      all = λ root start told whole came.
+          let (going, stays) = went g at root start told whole came in
           (comes_as c.in-GoOn.is going, stays);
+      same = same_both c.loop-child.invariant.same c.in_ok-child.ensures.same;
+      facts = c.in_ok-child.ensures.facts ∙ c.loop-child.invariant.facts;
       work = omega (arith, less g at (next.GoOn c.in-GoOn.next) c.in-GoOn.is, c.loop-child.invariant.work);
       room = c.loop-child.invariant.room;
-      reserve = omega (arith, c.in_ok-child.ensures.reserve, c.loop-child.invariant.reserve);
-      full = c.in_ok-child.ensures.full ∙ c.loop-child.invariant.full;
     }
 
 pub loop-child-smaller : goal.loop-child-smaller
@@ -98,8 +106,8 @@ loop-child-smaller g c =
     omega (
       arith,
       less g (goal.at.loop-child-smaller g c).In_ok-child (next.Back c.in-Back.answer) c.in-Back.is,
-      ap (λ (fs : List Frame). stack_work c.args.nodes.now fs) c.pop.ensures.rest,
-      less_heard c.args.nodes.now c.in-Some.next _ under frame c.in-Back.answer stands hears,
+      ap (λ (fs : List Frame). stack_work c.args.stage.now.nodes.now fs) c.pop.ensures.rest,
+      less_heard c.args.stage.now.nodes.now c.in-Some.next _ under frame c.in-Back.answer stands hears,
     )
 
 pub loop-child-preserved : goal.loop-child-preserved
@@ -107,20 +115,20 @@ loop-child-preserved g c =
     let at = (goal.at.loop-child-preserved g c).In_ok-child in
     let (under, frame, stands, hears) = c.in-Some.ensures.some c.in-Some.next refl in
     record {
-      all = λ root facts start told whole came.
-          let (going, stays) = went g at root facts start told whole came in
+      all = λ root start told whole came.
+          let (going, stays) = went g at root start told whole came in
           let (left, taken, back) = gone_back c.in-Back.is going in (
             record { came = (under, frame, stands, back_made term_keeps _ _ frame under (step_of frame c.in-Some.next) refl (sym taken ∙ sym c.pop.ensures.rest ∙ stands) (ap (step_of frame) hears) back) },
             stays,
           );
+      same = same_both c.loop-child.invariant.same c.in_ok-child.ensures.same;
+      facts = c.in_ok-child.ensures.facts ∙ c.loop-child.invariant.facts;
       work = omega (
         arith,
         less g at (next.Back c.in-Back.answer) c.in-Back.is,
-        ap (λ (fs : List Frame). stack_work c.args.nodes.now fs) c.pop.ensures.rest,
-        less_heard c.args.nodes.now c.in-Some.next _ under frame c.in-Back.answer stands hears,
+        ap (λ (fs : List Frame). stack_work c.args.stage.now.nodes.now fs) c.pop.ensures.rest,
+        less_heard c.args.stage.now.nodes.now c.in-Some.next _ under frame c.in-Back.answer stands hears,
         c.loop-child.invariant.work,
       );
       room = omega (arith, c.pop.ensures.capacity, c.loop-child.invariant.room);
-      reserve = omega (arith, c.in_ok-child.ensures.reserve, c.loop-child.invariant.reserve);
-      full = c.in_ok-child.ensures.full ∙ c.loop-child.invariant.full;
     }

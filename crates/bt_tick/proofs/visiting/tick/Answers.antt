@@ -1,14 +1,235 @@
-use Rattle.std.proofs.Common.{List, sym, subst}
-use Rattle.bt_arena.specs.declared.nodes.Kept.{Kept}
+use Rattle.std.proofs.Common.{◌≡◌, ◌+◌, ◌<◌, ◌≤◌, ℕ, List, [], ◌∷◌, ◌++◌, Ok, Err, ap, arith, refl, sym, ◌∙◌}
+use Rattle.bt_model.specs.declared.term.Term.{Term}
+use Rattle.bt_model.specs.Sites.{View}
+use Rattle.bt_model.specs.Terms.{depth_of}
+use Rattle.bt_arena.proofs.Staged.{earlier, same_both, same_here}
+use Rattle.bt_laws.proofs.Keeping.{term_keeps}
+use Rattle.bt_arena.specs.declared.frame.Frame.{Frame}
 use Rattle.bt_arena.specs.declared.nodes.Node.{Node}
-use Rattle.bt_arena.specs.Scenes.{scene}
-use Rattle.bt_laws.proofs.TermWork.{term_bounded}
-use Rattle.bt_tick.specs.Turns.{CanVisit}
-use Rattle.bt_tick.proofs.Totals.{totals_most}
+use Rattle.bt_arena.specs.Ends.{StaysFit}
+use Rattle.bt_arena.specs.Stages.{scene_on}
+use Rattle.bt_tick.specs.declared.machine.Next.TheVariants as next
+use Rattle.bt_tick.specs.declared.machine.Reached.{Reached}
+use Rattle.bt_tick.specs.Machine.{Turn}
+use Rattle.bt_tick.specs.Machine as turn
+use Rattle.bt_tick.specs.Turns.{CanVisitOn, Going, GoingOn, next_work, reached_work, stack_work, step_of, turn_after, turn_work, visit_on}
+use Rattle.bt_tick.proofs.Depths.{level_left}
+use Rattle.bt_tick.proofs.Moving.{as_many_kept, node_there}
+use Rattle.bt_tick.proofs.Passing.{met_with}
+use Rattle.bt_tick.proofs.Later.{EntersBy, ReachesBy, came_later, can_later}
+use Rattle.bt_tick.proofs.Stacks.{as_turn, back_answers, back_made, begins, can_again, can_enter, cut_here, enter_made, enter_stops, on_stack}
+use Rattle.bt_tick.proofs.Tops.{going_work, less_heard, reached_as}
+use Rattle.bt_tick.proofs.Totals.{spent_on}
 use Rattle.bt_tick.proofs.visiting.tick.Goals as goal
+use Rattle.bt_tick.proofs.visiting.tick.Goals.{In_ok-picked, Joined-branch-2, in-Begins+in_ok-push-in-Begins, in-Answers+in-Some}
+use Rattle.bt_tick.proofs.visiting.tick.Given.{Over}
 
-pub returns-clause-work : goal.returns-clause-work
-returns-clause-work g c = λ term view can fit.
-    let kept = subst (λ (ks : List Kept). CanVisit c.args.arena.now.nodes.items c.args.now term view 1 (scene ks c.args.board.now c.args.facts.now (g.D.Drivers.states c.args.drivers.now))) (sym c.deref_mut.ensures.value) can in
-    let lent = subst (λ (ns : List Node). CanVisit ns c.args.now term view 1 (scene c.deref_mut.result.now c.args.board.now c.args.facts.now (g.D.Drivers.states c.args.drivers.now))) (sym c.deref.ensures.value) kept in
-    totals_most _ _ _ _ _ _ _ _ _ _ ((term_bounded term).visit fit view 1 _ _ lent.sound) (c.visit.ensures.meets term view lent)
+pub loop-picked-init : goal.loop-picked-init
+loop-picked-init g c = record {
+  all = λ term view can. record { came = on_stack term_keeps _ _ (sym c.clear.ensures.items) (begins term_keeps _ _ view can) };
+  stays = λ term view uid fits. fits;
+  same = same_here _;
+  room = omega (arith, c.clear.ensures.capacity);
+  enough = λ term view can deep. c.clear.ensures.capacity;
+}
+
+pub returns-in_err-picked-clause-meets : goal.returns-in_err-picked-clause-meets
+returns-in_err-picked-clause-meets g c = λ term view can.
+    let goes = earlier c.loop-picked.invariant.same (EntersBy g.D.Drivers.states c.loop-picked.stage c.enter.new.stage _ (Err _)) c.in_err-picked.ensures.goes in
+    met_with _ _ _ _ _ _ _ _ _ _ c.from_residual.ensures.1
+    (enter_stops term_keeps _ _ _ _ _ refl (c.loop-picked.invariant.all term view can).came goes)
+
+pub returns-in_err-picked-clause-work : goal.returns-in_err-picked-clause-work
+returns-in_err-picked-clause-work g c = λ term view can fit. spent_on g.D.Drivers.states c.args.stage.now c.enter.new.stage _ term view can fit (returns-in_err-picked-clause-meets g c term view can)
+
+-- the node was entered: the visit of the root came to its turn
+came : (g : Over) (c : In_ok-picked g) (term : Term) (view : View) → CanVisitOn g.D.Drivers.states c.args.stage.now 1 term view →
+    Going c.args.stage.now.nodes.now c.args.stage.now.moment term 1 (turn_after c.loop-picked.uid c.enter.new.stage.kept.now c.in_ok-picked.field-0) c.loop-picked.frames.items (scene_on g.D.Drivers.states c.args.stage.now) (scene_on g.D.Drivers.states c.enter.new.stage) c.args.stage.now.notes.now.list c.enter.new.stage.notes.now.list
+    (visit_on g.D.Drivers.states c.args.stage.now 1 term view)
+came g c term view can =
+    let goes = earlier c.loop-picked.invariant.same (EntersBy g.D.Drivers.states c.loop-picked.stage c.enter.new.stage _ (Ok _)) c.in_ok-picked.ensures.goes in
+    enter_made term_keeps _ _ _ _ refl (c.loop-picked.invariant.all term view can).came goes
+
+-- what fitted the arena where the visit began still fits, and the node that was entered is there
+still_fits : (g : Over) (c : In_ok-picked g) → StaysFit c.args.stage.now.nodes.now (scene_on g.D.Drivers.states c.args.stage.now) (scene_on g.D.Drivers.states c.enter.new.stage)
+still_fits g c =
+    let (term, view, can) = c.requires.can in
+    let (t, v, by) = can_enter term_keeps _ _ refl (c.loop-picked.invariant.all term view can).came in
+    let goes = earlier c.loop-picked.invariant.same (EntersBy g.D.Drivers.states c.loop-picked.stage c.enter.new.stage _ (Ok _)) c.in_ok-picked.ensures.goes in
+    λ t1 v1 u fits. (goes t v by).stays t1 v1 u (c.loop-picked.invariant.stays t1 v1 u fits)
+
+pub bounds-stage-uid : goal.bounds-stage-uid
+bounds-stage-uid g c =
+    let (term, view, can) = c.requires.can in
+    let (t, v, by) = can_enter term_keeps _ _ refl (c.loop-picked.invariant.all term view can).came in
+    let goes = earlier c.loop-picked.invariant.same (EntersBy g.D.Drivers.states c.loop-picked.stage c.enter.new.stage _ (Ok _)) c.in_ok-picked.ensures.goes in
+    let still = (goes t v by).stays t v _ by.fits in
+    omega (arith, node_there {term = t} {view = v} still, as_many_kept {term = t} {view = v} still)
+
+pub returns-in_err-push-in-Begins-clause-meets : goal.returns-in_err-push-in-Begins-clause-meets
+returns-in_err-push-in-Begins-clause-meets g c = λ term view can.
+    met_with _ _ _ _ _ _ _ _ _ _ c.from_residual-in_err-push-in-Begins.ensures.1
+    (cut_here term_keeps _ _ (came g (goal.at.returns-in_err-push-in-Begins-clause-meets g c).In_ok-picked term view can))
+
+pub returns-in_err-push-in-Begins-clause-work : goal.returns-in_err-push-in-Begins-clause-work
+returns-in_err-push-in-Begins-clause-work g c = λ term view can fit. spent_on g.D.Drivers.states c.args.stage.now c.enter.new.stage _ term view can fit (returns-in_err-push-in-Begins-clause-meets g c term view can)
+
+pub returns-in_err-push-in-Begins-clause-fits : goal.returns-in_err-push-in-Begins-clause-fits
+returns-in_err-push-in-Begins-clause-fits g c = still_fits g (goal.at.returns-in_err-push-in-Begins-clause-fits g c).In_ok-picked
+
+pub returns-in-None-clause-meets : goal.returns-in-None-clause-meets
+returns-in-None-clause-meets g c = λ term view can.
+    back_answers term_keeps _ _ (ap (turn_after c.loop-picked.uid _) c.in-Answers.is) (c.in-None.ensures.none refl) (came g (goal.at.returns-in-None-clause-meets g c).In_ok-picked term view can)
+
+pub returns-in-None-clause-work : goal.returns-in-None-clause-work
+returns-in-None-clause-work g c = λ term view can fit. spent_on g.D.Drivers.states c.args.stage.now c.enter.new.stage (Ok c.in-Answers.answer) term view can fit (returns-in-None-clause-meets g c term view can)
+
+pub returns-in-None-clause-again : goal.returns-in-None-clause-again
+returns-in-None-clause-again g c = λ term view can.
+    let at = (goal.at.returns-in-None-clause-again g c).In_ok-picked in
+    can_later (same_both c.loop-picked.invariant.same c.in_ok-picked.ensures.same)
+    (can_again term_keeps _ _ term view 1 _ _ _ _ c.in-Answers.answer can (still_fits g at)
+    (back_answers term_keeps _ _ (ap (turn_after c.loop-picked.uid _) c.in-Answers.is) (c.in-None.ensures.none refl) (came g at term view can)))
+
+-- the node on top of the stack goes on after the node that was entered
+hears : (g : Over) (c : Joined-branch-2 g) (term : Term) (view : View) → CanVisitOn g.D.Drivers.states c.args.stage.now 1 term view →
+    GoingOn c.args.stage.now.nodes.now c.args.stage.now.moment term 1 (next.GoOn c.match-branch-2.heard) c.match-branch-2.frames.items (scene_on g.D.Drivers.states c.args.stage.now) (scene_on g.D.Drivers.states c.enter.new.stage) c.args.stage.now.notes.now.list c.enter.new.stage.notes.now.list
+    (visit_on g.D.Drivers.states c.args.stage.now 1 term view)
+hears g c term view can =
+    let goes = earlier c.loop-picked.invariant.same (EntersBy g.D.Drivers.states c.loop-picked.stage c.enter.new.stage _ (Ok _)) c.in_ok-picked.ensures.goes in
+    let going = enter_made term_keeps _ _ _ _ refl (c.loop-picked.invariant.all term view can).came goes in
+    elim c.match-branch-2.branch [
+      | in-Begins+in_ok-push-in-Begins w ↦ record {
+        came = (
+          c.loop-picked.frames.items,
+          w.begun.result,
+          (λ i. (w.frames-is i).items) ∙ w.in_ok-push-in-Begins.ensures.ok,
+          as_turn term_keeps _ _ (ap (turn_after c.loop-picked.uid _) w.in-Begins.is ∙ (λ i. turn.GoOn (step_of (sym w.begun.ensures i) (sym w.heard-is i)))) going,
+        );
+      }
+      | in-Answers+in-Some w ↦
+          let (below, frame, is, heard) = w.in-Some.ensures.some w.in-Some.heard refl in
+          record {
+            came = (
+              below,
+              frame,
+              (λ i. (w.frames-is i).items) ∙ is,
+              back_made term_keeps _ _ frame below (step_of frame c.match-branch-2.heard) (ap (turn_after c.loop-picked.uid _) w.in-Answers.is) is (ap (step_of frame) (w.heard-is ∙ heard)) going,
+            );
+          }
+    ]
+
+-- and the room of the stack is as the contract says
+room : (g : Over) (c : Joined-branch-2 g) → c.args.frames.now.capacity ≤ c.match-branch-2.frames.capacity
+room g c = elim c.match-branch-2.branch [
+  | in-Begins+in_ok-push-in-Begins w ↦ let same : c.match-branch-2.frames.capacity ≡ w.push.new.self.capacity = λ i. (w.frames-is i).capacity in omega (arith, same, w.in_ok-push-in-Begins.ensures.capacity, c.loop-picked.invariant.room)
+  | in-Answers+in-Some w ↦ let same : c.match-branch-2.frames.capacity ≡ c.loop-picked.frames.capacity = λ i. (w.frames-is i).capacity in omega (arith, same, c.loop-picked.invariant.room)
+]
+
+enough : (g : Over) (c : Joined-branch-2 g) (term : Term) (view : View) → CanVisitOn g.D.Drivers.states c.args.stage.now 1 term view → depth_of term ≤ c.args.frames.now.capacity → c.match-branch-2.frames.capacity ≡ c.args.frames.now.capacity
+enough g c term view can deep = elim c.match-branch-2.branch [
+  | in-Begins+in_ok-push-in-Begins w ↦
+      let left = level_left _ _ _ _ _ _ _ _ _ _ _ (c.loop-picked.invariant.all term view can).came in
+      let same = c.loop-picked.invariant.enough term view can deep in
+      (λ i. (w.frames-is i).capacity) ∙ w.in_ok-push-in-Begins.ensures.had_room (omega (arith, left, same, deep)) ∙ same
+  | in-Answers+in-Some w ↦ (λ i. (w.frames-is i).capacity) ∙ c.loop-picked.invariant.enough term view can deep
+]
+
+-- and what is still to come is no more than the turn of that node and the frames below it have
+no_more : (g : Over) (c : Joined-branch-2 g) → next_work c.args.stage.now.nodes.now (next.GoOn c.match-branch-2.heard) c.match-branch-2.frames.items
+    ≤ turn_work c.args.stage.now.nodes.now (turn_after c.loop-picked.uid c.enter.new.stage.kept.now c.in_ok-picked.field-0) + stack_work c.args.stage.now.nodes.now c.loop-picked.frames.items
+no_more g c =
+    let nodes = c.args.stage.now.nodes.now in
+    elim c.match-branch-2.branch [
+      | in-Begins+in_ok-push-in-Begins w ↦
+          let stacked : c.match-branch-2.frames.items ≡ c.loop-picked.frames.items ++ w.begun.result ∷ [] = (λ i. (w.frames-is i).items) ∙ w.in_ok-push-in-Begins.ensures.ok in
+          let turns : turn_work nodes (turn_after c.loop-picked.uid c.enter.new.stage.kept.now c.in_ok-picked.field-0) ≡ turn_work nodes (turn.GoOn (step_of w.begun.result c.match-branch-2.heard)) =
+          ap (λ (t : Turn). turn_work nodes t) (ap (turn_after c.loop-picked.uid _) w.in-Begins.is ∙ (λ i. turn.GoOn (step_of (sym w.begun.ensures i) (sym w.heard-is i)))) in
+          omega (arith, going_work nodes c.match-branch-2.heard c.match-branch-2.frames.items c.loop-picked.frames.items w.begun.result stacked, turns)
+      | in-Answers+in-Some w ↦
+          let (below, frame, is, heard) = w.in-Some.ensures.some w.in-Some.heard refl in
+          let same : c.match-branch-2.frames.items ≡ c.loop-picked.frames.items = λ i. (w.frames-is i).items in
+          let work : stack_work nodes c.match-branch-2.frames.items ≡ stack_work nodes c.loop-picked.frames.items = ap (λ (fs : List Frame). stack_work nodes fs) same in
+          omega (arith, less_heard nodes c.match-branch-2.heard c.match-branch-2.frames.items below frame w.in-Answers.answer (same ∙ is) (w.heard-is ∙ heard), work)
+    ]
+
+pub reach_child-requires : goal.reach_child-requires
+reach_child-requires g c =
+    let (term, view, can) = c.requires.can in
+    let came = came_later (same_both c.loop-picked.invariant.same c.in_ok-picked.ensures.same) (hears g (goal.at.reach_child-requires g c).Joined-branch-2 term view can) in
+    record { going = (term, _, _, _, came) }
+
+pub returns-in_err-child-clause-meets : goal.returns-in_err-child-clause-meets
+returns-in_err-child-clause-meets g c = λ term view can.
+    let since = same_both c.loop-picked.invariant.same c.in_ok-picked.ensures.same in
+    let reaches = earlier since (ReachesBy g.D.Drivers.states c.enter.new.stage c.reach_child.new.stage _ (Err _) _ _) c.in_err-child.ensures.reaches in
+    met_with _ _ _ _ _ _ _ _ _ _ c.from_residual-in_err-child.ensures.1 (reaches term _ _ _ (hears g (goal.at.returns-in_err-child-clause-meets g c).Joined-branch-2 term view can)).ends
+
+pub returns-in_err-child-clause-work : goal.returns-in_err-child-clause-work
+returns-in_err-child-clause-work g c = λ term view can fit. spent_on g.D.Drivers.states c.args.stage.now c.reach_child.new.stage _ term view can fit (returns-in_err-child-clause-meets g c term view can)
+
+pub returns-in_err-child-clause-fits : goal.returns-in_err-child-clause-fits
+returns-in_err-child-clause-fits g c =
+    let (term, view, can) = c.requires.can in
+    let at = goal.at.returns-in_err-child-clause-fits g c in
+    let since = same_both c.loop-picked.invariant.same c.in_ok-picked.ensures.same in
+    let reaches = earlier since (ReachesBy g.D.Drivers.states c.enter.new.stage c.reach_child.new.stage _ (Err _) _ _) c.in_err-child.ensures.reaches in
+    λ t v u fits. (reaches term _ _ _ (hears g at.Joined-branch-2 term view can)).stays t v u (still_fits g at.In_ok-picked t v u fits)
+
+pub returns-in_err-child-clause-enough : goal.returns-in_err-child-clause-enough
+returns-in_err-child-clause-enough g c = λ term view can deep. c.in_err-child.ensures.room ∙ enough g (goal.at.returns-in_err-child-clause-enough g c).Joined-branch-2 term view can deep
+
+pub returns-in-End-clause-meets : goal.returns-in-End-clause-meets
+returns-in-End-clause-meets g c = λ term view can.
+    let since = same_both c.loop-picked.invariant.same c.in_ok-picked.ensures.same in
+    let reaches = earlier since (ReachesBy g.D.Drivers.states c.enter.new.stage c.reach_child.new.stage _ (Ok _) _ _) c.in_ok-child.ensures.reaches in
+    reached_as c.in-End.is (reaches term _ _ _ (hears g (goal.at.returns-in-End-clause-meets g c).Joined-branch-2 term view can))
+
+pub returns-in-End-clause-work : goal.returns-in-End-clause-work
+returns-in-End-clause-work g c = λ term view can fit. spent_on g.D.Drivers.states c.args.stage.now c.reach_child.new.stage (Ok c.in-End.answer) term view can fit (returns-in-End-clause-meets g c term view can)
+
+pub returns-in-End-clause-again : goal.returns-in-End-clause-again
+returns-in-End-clause-again g c = λ term view can.
+    let at = goal.at.returns-in-End-clause-again g c in
+    let since = same_both c.loop-picked.invariant.same c.in_ok-picked.ensures.same in
+    let reaches = earlier since (ReachesBy g.D.Drivers.states c.enter.new.stage c.reach_child.new.stage _ (Ok _) _ _) c.in_ok-child.ensures.reaches in
+    let reached = reaches term _ _ _ (hears g at.Joined-branch-2 term view can) in
+    can_later (same_both since c.in_ok-child.ensures.same)
+    (can_again term_keeps _ _ term view 1 _ _ _ _ c.in-End.answer can (λ t v u fits. reached.stays t v u (still_fits g at.In_ok-picked t v u fits)) (reached_as c.in-End.is reached))
+
+pub returns-in-End-clause-fits : goal.returns-in-End-clause-fits
+returns-in-End-clause-fits g c =
+    let (term, view, can) = c.requires.can in
+    let at = goal.at.returns-in-End-clause-fits g c in
+    let since = same_both c.loop-picked.invariant.same c.in_ok-picked.ensures.same in
+    let reaches = earlier since (ReachesBy g.D.Drivers.states c.enter.new.stage c.reach_child.new.stage _ (Ok _) _ _) c.in_ok-child.ensures.reaches in
+    λ t v u fits. (reaches term _ _ _ (hears g at.Joined-branch-2 term view can)).stays t v u (still_fits g at.In_ok-picked t v u fits)
+
+pub returns-in-End-clause-enough : goal.returns-in-End-clause-enough
+returns-in-End-clause-enough g c = λ term view can deep. c.in_ok-child.ensures.room ∙ enough g (goal.at.returns-in-End-clause-enough g c).Joined-branch-2 term view can deep
+
+pub loop-picked-smaller : goal.loop-picked-smaller
+loop-picked-smaller g c =
+    let nodes = c.args.stage.now.nodes.now in
+    let since = same_both c.loop-picked.invariant.same c.in_ok-picked.ensures.same in
+    let entered = earlier c.loop-picked.invariant.same
+    (λ (ns : List Node) (m : ℕ). turn_work ns (turn_after c.loop-picked.uid c.enter.new.stage.kept.now c.in_ok-picked.field-0) < turn_work ns (turn.Enter c.loop-picked.uid)) c.in_ok-picked.ensures.work in
+    let reached = earlier since
+    (λ (ns : List Node) (m : ℕ). reached_work ns c.in_ok-child.field-0 c.reach_child.new.stack.items < next_work ns (next.GoOn c.match-branch-2.heard) c.match-branch-2.frames.items) c.in_ok-child.ensures.work in
+    let child : reached_work nodes c.in_ok-child.field-0 c.reach_child.new.stack.items ≡ next_work nodes (next.Enter c.in-Child.child) c.reach_child.new.stack.items =
+    ap (λ (r : Reached). reached_work nodes r c.reach_child.new.stack.items) c.in-Child.is in
+    omega (arith, entered, reached, child, no_more g (goal.at.loop-picked-smaller g c).Joined-branch-2)
+
+pub loop-picked-preserved : goal.loop-picked-preserved
+loop-picked-preserved g c =
+    let at = goal.at.loop-picked-preserved g c in
+    let since = same_both c.loop-picked.invariant.same c.in_ok-picked.ensures.same in
+    let reaches = earlier since (ReachesBy g.D.Drivers.states c.enter.new.stage c.reach_child.new.stage _ (Ok _) _ _) c.in_ok-child.ensures.reaches in
+    let (term, view, can) = c.requires.can in
+    record {
+      all = λ term1 view1 can1. reached_as c.in-Child.is (reaches term1 _ _ _ (hears g at.Joined-branch-2 term1 view1 can1));
+      stays = λ t v u fits. (reaches term _ _ _ (hears g at.Joined-branch-2 term view can)).stays t v u (still_fits g at.In_ok-picked t v u fits);
+      same = same_both since c.in_ok-child.ensures.same;
+      room = omega (arith, c.in_ok-child.ensures.room, room g at.Joined-branch-2);
+      enough = λ term1 view1 can1 deep. c.in_ok-child.ensures.room ∙ enough g at.Joined-branch-2 term1 view1 can1 deep;
+    }

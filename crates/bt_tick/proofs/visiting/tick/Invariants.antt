@@ -1,0 +1,25 @@
+use Rattle.std.proofs.Common.{◌≡◌, ◌≤◌}
+use Rattle.bt_model.specs.declared.term.Term.{Term}
+use Rattle.bt_model.specs.Sites.{View}
+use Rattle.bt_model.specs.Terms.{depth_of}
+use Rattle.bt_arena.specs.Ends.{StaysFit}
+use Rattle.bt_arena.specs.Stages.{IsSame, scene_on}
+use Rattle.bt_tick.specs.declared.machine.Next.TheVariants as next
+use Rattle.bt_tick.specs.Turns.{CanVisitOn, GoingOn, next_work, visit_on}
+use Rattle.bt_tick.proofs.visiting.tick.Given as goal
+
+-- the visit of the root came to the visit of this node, with this stack
+abbrev pub invariant-loop-picked : goal.invariant-loop-picked
+invariant-loop-picked g l = record {
+  all : (term : Term) (view : View) → CanVisitOn g.D.Drivers.states l.fn.stage 1 term view →
+      GoingOn l.fn.stage.nodes.now l.fn.stage.moment term 1 (next.Enter l.uid) l.frames.items (scene_on g.D.Drivers.states l.fn.stage) (scene_on g.D.Drivers.states l.stage) l.fn.stage.notes.now.list l.stage.notes.now.list
+      (visit_on g.D.Drivers.states l.fn.stage 1 term view);
+  stays : StaysFit l.fn.stage.nodes.now (scene_on g.D.Drivers.states l.fn.stage) (scene_on g.D.Drivers.states l.stage);
+  same : IsSame l.fn.stage l.stage;
+  room : l.fn.frames.capacity ≤ l.frames.capacity;
+  enough : (term : Term) (view : View) → CanVisitOn g.D.Drivers.states l.fn.stage 1 term view →
+      depth_of term ≤ l.fn.frames.capacity → l.frames.capacity ≡ l.fn.frames.capacity;
+}
+
+abbrev pub decreases-loop-picked : goal.decreases-loop-picked
+decreases-loop-picked g l = next_work l.fn.stage.nodes.now (next.Enter l.uid) l.frames.items
