@@ -1,5 +1,5 @@
 -- Where a node stands, and what the slab says of the node above it.
-use Rattle.std.proofs.Common.{◌≡◌, ◌≢◌, ℕ, zero, suc, ◌+◌, ◌-◌, ◌<◌, ◌≤◌, ◌==◌, max, nat_eq, nat_lt, Bool, true, false, cond, ◌&&◌, if◌then◌else◌, List, [], ◌∷◌, ◌++◌, length, Option, Some, None, refl, ap, sym, ◌∙◌, subst, arith, inl, inr}
+use Rattle.std.proofs.Common.{◌≡◌, ℕ, zero, suc, ◌+◌, ◌-◌, ◌≤◌, ◌==◌, nat_eq, nat_lt, Bool, true, false, cond, ◌&&◌, if◌then◌else◌, List, [], ◌∷◌, ◌++◌, length, Option, Some, None, refl, ap, sym, ◌∙◌, subst, arith, inl, inr}
 use Rattle.std.specs.Prelude.{option_map, position}
 use Rattle.std.specs.List.{find, position_from}
 use Rattle.std.specs.Option.{option_and_then, option_or}
@@ -11,9 +11,9 @@ use Rattle.bt_expand.specs.declared.node.Node.{Node}
 use Rattle.bt_expand.specs.declared.node.Part.{Part}
 use Rattle.bt_expand.specs.Forests.{Forest, Empty, Tree, Ancestor, Place, after_first, below_first, count, height, is_sequence, node_at, place_of, times, tops}
 use Rattle.bt_expand.specs.Stands.{Keeps, Stands}
-use Rattle.bt_expand.proofs.Counted.{chosen, is_other, is_same, one_of, one_same, skipped, test_same, tested}
+use Rattle.bt_expand.proofs.Counted.{chosen, is_same, one_same, skipped, test_same, tested}
 use Rattle.bt_expand.proofs.Expansions.{node_found}
-use Rattle.bt_expand.proofs.Places.{AtTop, Climbs, Under, climbs, place_counts}
+use Rattle.bt_expand.proofs.Places.{Climbs, climbs, place_counts}
 use Rattle.bt_expand.proofs.Regrown.{in_tops}
 use Rattle.bt_expand.proofs.Standing.{kept_at, same_node, tops_are}
 use Rattle.bt_reorder.specs.declared.raising.Move.{Move}

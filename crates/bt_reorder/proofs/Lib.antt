@@ -4,5 +4,7 @@ pub mod Listed
 pub mod Raised
 pub mod Swaps
 pub mod Threats
+pub mod Untouched
+pub mod Walked
 pub mod Whence
 pub mod Within

@@ -1,18 +1,18 @@
 -- The slab after a move stands for the raised tree.
-use Rattle.std.proofs.Common.{◌≡◌, ◌≢◌, ℕ, zero, suc, ◌+◌, ◌-◌, ◌*◌, ◌<◌, ◌≤◌, max, nat_eq, Bool, true, false, if◌then◌else◌, List, [], ◌∷◌, ◌++◌, length, Option, Some, None, refl, ap, sym, ◌∙◌, subst, arith, inl, inr}
+use Rattle.std.proofs.Common.{◌≡◌, ◌≢◌, ℕ, suc, ◌+◌, ◌-◌, ◌<◌, ◌≤◌, true, List, [], ◌∷◌, length, Option, Some, None, refl, ap, sym, ◌∙◌, subst, arith, inl, inr}
 use Rattle.std.specs.Prelude.{option_map}
 use Rattle.std.specs.List.{find}
 use Rattle.std.specs.Option.{option_map_or}
 use Rattle.std.proofs.lemmas.List.{length-append}
-use Rattle.slab.specs.Slab.{Slab, get, slab_len}
+use Rattle.slab.specs.Slab.{Slab, get}
 use Rattle.bt_model.specs.declared.world.World.{World}
 use Rattle.bt_expand.specs.declared.node.Node.{Node}
 use Rattle.bt_expand.specs.declared.node.Part.{Part}
 use Rattle.bt_expand.specs.declared.node.Part.TheVariants.{Goals}
 use Rattle.bt_expand.specs.declared.plan_tree.PlanTree.{PlanTree}
-use Rattle.bt_expand.specs.Forests.{Forest, Empty, Tree, Ancestor, Place, added_by, ancestors, changed_below, count, height, node_at, part_at, place_of, times, tops, total}
+use Rattle.bt_expand.specs.Forests.{Forest, Empty, Tree, Ancestor, Place, added_by, ancestors, changed_below, count, height, part_at, place_of, times, tops, total}
 use Rattle.bt_expand.specs.Growth.{Edits}
-use Rattle.bt_expand.specs.Stands.{IsSequenceOf, Keeps, PartFits, PartsFit, Stands, StandsFor}
+use Rattle.bt_expand.specs.Stands.{IsSequenceOf, Keeps, Stands, StandsFor}
 use Rattle.bt_expand.proofs.Counted.{changed_here, changed_other, is_other, is_same, one_of, tested, total-changed}
 use Rattle.bt_expand.proofs.Expansions.{node_counts, node_found, part_node}
 use Rattle.bt_expand.proofs.NewNodes.{edited_as, edited_keeps, edited_len, edited_other}

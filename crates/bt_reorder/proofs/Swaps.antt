@@ -1,11 +1,11 @@
 -- Neighbours that change places.
-use Rattle.std.proofs.Common.{◌≡◌, ◌≢◌, ℕ, zero, suc, ◌+◌, ◌*◌, ◌<◌, ◌≤◌, max, List, [], ◌∷◌, ◌++◌, length, Option, Some, None, refl, ap, sym, ◌∙◌, subst, arith, slice_set, slice_index_or}
-use Rattle.slab.specs.Slab.{Slab, get, slab_len}
+use Rattle.std.proofs.Common.{◌≡◌, ◌≢◌, ℕ, zero, suc, ◌<◌, List, [], ◌∷◌, length, Option, refl, ap, sym, ◌∙◌, subst, arith, slice_set, slice_index_or}
+use Rattle.slab.specs.Slab.{Slab}
 use Rattle.bt_expand.specs.declared.node.Node.{Node}
 use Rattle.bt_expand.specs.declared.node.Part.{Part}
 use Rattle.bt_expand.specs.declared.node.Part.TheVariants.{Goals, Sequence, Fallback, Condition, Action}
 use Rattle.bt_expand.specs.Forests.{Forest, Empty, Tree, height, total}
-use Rattle.bt_expand.specs.Stands.{Keeps, PartFits, PartsFit, Stands}
+use Rattle.bt_expand.specs.Stands.{PartFits, PartsFit, Stands}
 use Rattle.bt_reorder.specs.Looked.{swapped}
 use Rattle.bt_reorder.specs.Raising.{swap_at}
 

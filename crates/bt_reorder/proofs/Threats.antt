@@ -1,10 +1,9 @@
 -- The heads that an action threatens, as the slab has them and as the tree has them.
-use Rattle.std.proofs.Common.{◌≡◌, ◌≢◌, ℕ, zero, suc, ◌+◌, ◌-◌, ◌<◌, ◌≤◌, max, Bool, true, false, cond, if◌then◌else◌, List, [], ◌∷◌, ◌++◌, length, map, take, get_or, Option, Some, None, refl, ap, sym, ◌∙◌, subst, arith, inl, inr, append-nil, append_assoc, drop}
+use Rattle.std.proofs.Common.{◌≡◌, ℕ, ◌≤◌, Bool, true, false, cond, if◌then◌else◌, List, [], ◌∷◌, ◌++◌, map, Option, Some, None, refl, ap, sym, ◌∙◌, append-nil, append_assoc}
 use Rattle.std.specs.Prelude.{option_map, slice_get}
-use Rattle.std.specs.List.{filter, find, flat_map}
+use Rattle.std.specs.List.{filter, find}
 use Rattle.std.specs.Option.{option_and_then, option_map_or, option_or, option_to_list}
-use Rattle.std.proofs.lemmas.Grind.{flat_map-append}
-use Rattle.slab.specs.Slab.{Slab, get}
+use Rattle.slab.specs.Slab.{Slab}
 use Rattle.bt_model.specs.declared.world.Row.{Row}
 use Rattle.bt_model.specs.declared.world.World.{World}
 use Rattle.bt_domain.specs.declared.effects.Test.{Test}
@@ -14,21 +13,17 @@ use Rattle.bt_expand.specs.declared.node.Part.{Part}
 use Rattle.bt_expand.specs.declared.node.Part.TheVariants.{Goals, Sequence, Fallback, Condition, Action}
 use Rattle.bt_expand.specs.declared.plan_tree.PlanTree.{PlanTree}
 use Rattle.bt_expand.specs.declared.rule.Rule.{Rule}
-use Rattle.bt_expand.specs.Forests.{Forest, Empty, Tree, Ancestor, Place, ancestors, height, is_sequence, joined, node_at, place_of, size, times, tops}
-use Rattle.bt_expand.specs.Rows.{effects_of, row_threatens, rule_of, test_of}
+use Rattle.bt_expand.specs.Forests.{Forest, Empty, Tree, Ancestor, Place, ancestors, is_sequence, joined, place_of, times, tops}
+use Rattle.bt_expand.specs.Rows.{row_threatens, rule_of, test_of}
 use Rattle.bt_expand.specs.Growth.{rule_effects}
 use Rattle.bt_expand.specs.Stands.{Keeps, Stands, StandsFor}
-use Rattle.bt_expand.proofs.Counted.{height-le_size, total-joined, one_of, one_same}
-use Rattle.bt_expand.proofs.Expansions.{node_found, rule_effects_is, rule_test_is}
-use Rattle.bt_expand.proofs.Places.{placed}
+use Rattle.bt_expand.proofs.Expansions.{rule_effects_is, rule_test_is}
 use Rattle.bt_expand.proofs.Searched.{find_alike}
-use Rattle.bt_expand.proofs.Split.{Split, split_all, split_height, split_last, stands_none}
-use Rattle.bt_expand.proofs.Standing.{tops_are}
-use Rattle.bt_reorder.specs.declared.conflicts.Head.{Head}
+use Rattle.bt_reorder.specs.declared.heads.Head.{Head}
 use Rattle.bt_reorder.specs.Conflicts.{Pair, actions, conflicts_of, conflicts_with, first_condition, head_of, heads, heads_before, heads_in, outer_of, own_actions}
-use Rattle.bt_reorder.specs.Looked.{condition_at, condition_in, first_child, first_threat, head_at, head_in, keys_before, rule_threatens, threat_at, threat_in, threatened}
-use Rattle.bt_reorder.proofs.Climbed.{Above, above_at, above_height, before_at, no_parent, some_parent}
-use Rattle.bt_reorder.proofs.Listed.{find-append, first-append, first_mapped}
+use Rattle.bt_reorder.specs.Looked.{condition_in, first_child, first_threat, head_at, head_in, keys_before, rule_threatens, threat_in, threatened}
+use Rattle.bt_reorder.proofs.Climbed.{Above, before_at}
+use Rattle.bt_reorder.proofs.Listed.{find-append, first_mapped}
 
 pub rule_threatens_is : (rows : List Row) (action condition : ℕ) → rule_threatens (map rule_of rows) action condition ≡ row_threatens rows action condition
 rule_threatens_is rows action condition =
@@ -58,7 +53,7 @@ module _ (s : Slab Node) where
   head_step key children below stands (Sequence row) = refl
   head_step key children below stands (Action row) = refl
 
-  head_is : (parent : Option ℕ) (key : ℕ) (part : Part) (children : List ℕ) (below : Forest) → Keeps s parent key part children → Stands s (Some key) children below →
+  pub head_is : (parent : Option ℕ) (key : ℕ) (part : Part) (children : List ℕ) (below : Forest) → Keeps s parent key part children → Stands s (Some key) children below →
       head_of key part below ≡ option_to_list (head_at s key)
   head_is parent key part children below keeps stands =
       head_step key children below stands part
@@ -132,7 +127,7 @@ module _ (world : World) (t : PlanTree) (tree : Forest) (st : StandsFor t world 
   own_none key action place found none =
       own_first key action place found ∙ ap (λ (up : List Ancestor). option_map (λ (head : ℕ). (key, head)) (key_found t.nodes t.rules action (heads_before (outer_of up)))) none
 
-actions-joined : (f g : Forest) → actions (joined f g) ≡ actions f ++ actions g
+pub actions-joined : (f g : Forest) → actions (joined f g) ≡ actions f ++ actions g
 actions-joined Empty g = refl
 actions-joined (Tree key part below rest) g =
     ap (λ (l : List Head). own_actions key part (actions below) ++ l) (actions-joined rest g) ∙ sym (append_assoc (own_actions key part (actions below)) (actions rest) (actions g))
@@ -144,70 +139,6 @@ own_other key (Sequence row) below other = refl
 own_other key Fallback below other = refl
 own_other key (Condition row) below other = refl
 
-none_first : (xs : List Pair) → slice_get xs 0 ≡ None → xs ≡ []
+pub none_first : (xs : List Pair) → slice_get xs 0 ≡ None → xs ≡ []
 none_first [] none = refl
 none_first (x ∷ xs) none = absurd (cc none)
-
--- a walk through the trees with these keys, up to a place
-module _ (t : PlanTree) (keys : List ℕ) (i : ℕ) (within : i < length keys) (levels : ℕ) (some : 1 ≤ levels)
-    (before : (world : World) (tree : Forest) (parent : Option ℕ) (f : Forest) → StandsFor t world tree → ((k : ℕ) → times k f ≤ times k tree) → Stands t.nodes parent (take i keys) f → height f ≤ levels →
-    conflicts_of world.rows tree (actions f) ≡ [])
-    (found : Option Pair)
-    (here : (world : World) (tree : Forest) (node : Node) (below : Forest) → StandsFor t world tree → ((k : ℕ) → times k below ≤ times k tree) → 1 ≤ times (get_or keys i 0) tree →
-    get t.nodes (get_or keys i 0) ≡ Some node → Stands t.nodes (Some (get_or keys i 0)) node.children.items below → height below ≤ levels - 1 →
-    found ≡ slice_get (conflicts_of world.rows tree (own_actions (get_or keys i 0) node.part (actions below))) 0)
-    (world : World) (tree : Forest) (parent : Option ℕ) (f : Forest) (st : StandsFor t world tree) (inside : (k : ℕ) → times k f ≤ times k tree) (low : height f ≤ levels)
-  where
-    module _ (left right : List ℕ) (split : Split t.nodes parent left (get_or keys i 0) right f) where
-      abbrev own : List Head
-      own = own_actions (get_or keys i 0) split.part (actions split.below)
-
-      split_times : (k : ℕ) → times k f ≡ times k split.left + (one_of (get_or keys i 0) k + (times k split.below + times k split.right))
-      split_times k = ap (times k) split.is ∙ total-joined (λ n x. one_of n k) split.left (Tree (get_or keys i 0) split.part split.below split.right)
-
-      found_own : found ≡ slice_get (conflicts_of world.rows tree own) 0
-      found_own =
-          let high = split_height t.nodes parent left (get_or keys i 0) right f split in
-          let all = split_times (get_or keys i 0) in
-          let one : one_of (get_or keys i 0) (get_or keys i 0) ≡ 1 = one_same (get_or keys i 0) (get_or keys i 0) refl in
-          let fits = inside (get_or keys i 0) in
-          here world tree split.keeps.node split.below st (λ (k : ℕ). let more = split_times k in let fits = inside k in omega (arith, more, fits)) (omega (arith, all, one, fits)) split.keeps.there
-          (subst (λ (l : List ℕ). Stands t.nodes (Some (get_or keys i 0)) l split.below) (sym split.keeps.children_are) split.stands_below) (omega (arith, high, low, some))
-          ∙ ap (λ (x : Part). slice_get (conflicts_of world.rows tree (own_actions (get_or keys i 0) x (actions split.below))) 0) split.keeps.part_is
-
-      all_actions : actions f ≡ actions split.left ++ (own ++ actions split.right)
-      all_actions = ap actions split.is ∙ actions-joined split.left (Tree (get_or keys i 0) split.part split.below split.right)
-
-      all_conflicts : conflicts_of world.rows tree (actions f) ≡ conflicts_of world.rows tree (actions split.left) ++ (conflicts_of world.rows tree own ++ conflicts_of world.rows tree (actions split.right))
-      all_conflicts =
-          let step : Head → List Pair = λ n. conflicts_with world.rows n (heads_before (outer_of (ancestors n.key tree))) in
-          ap (conflicts_of world.rows tree) all_actions ∙ flat_map-append step (actions split.left) (own ++ actions split.right)
-          ∙ ap (λ (l : List Pair). conflicts_of world.rows tree (actions split.left) ++ l) (flat_map-append step own (actions split.right))
-
-      none_left : Stands t.nodes parent (take i keys) split.left → conflicts_of world.rows tree (actions split.left) ≡ []
-      none_left stands =
-          let high = split_height t.nodes parent left (get_or keys i 0) right f split in
-          before world tree parent split.left st (λ (k : ℕ). let more = split_times k in let fits = inside k in omega (arith, more, fits)) stands (omega (arith, high, low))
-
-    -- the first conflict is found at the place
-    pub conflict_found : Stands t.nodes parent keys f → (pair : Pair) → found ≡ Some pair → Some pair ≡ slice_get (conflicts_of world.rows tree (actions f)) 0
-    conflict_found stands pair is =
-        let split = split_all t.nodes parent keys i f within stands in
-        let left = take i keys in
-        let right = drop (suc i) keys in
-        let own_is : slice_get (conflicts_of world.rows tree (own left right split)) 0 ≡ Some pair = sym (found_own left right split) ∙ is in
-        sym (ap (λ (l : List Pair). slice_get l 0) (all_conflicts left right split
-        ∙ ap (λ (l : List Pair). l ++ (conflicts_of world.rows tree (own left right split) ++ conflicts_of world.rows tree (actions split.right))) (none_left left right split split.stands_left))
-        ∙ first-append (conflicts_of world.rows tree (own left right split)) (conflicts_of world.rows tree (actions split.right))
-        ∙ ap (λ (o : Option Pair). option_or o (slice_get (conflicts_of world.rows tree (actions split.right)) 0)) own_is)
-
-    -- or there is none up to the place and at it
-    pub conflict_passed : Stands t.nodes parent (take (i + 1) keys) f → found ≡ None → conflicts_of world.rows tree (actions f) ≡ []
-    conflict_passed stands is =
-        let split = split_last t.nodes parent keys i f within stands in
-        let left = take i keys in
-        let own_is : conflicts_of world.rows tree (own left [] split) ≡ [] = none_first (conflicts_of world.rows tree (own left [] split)) (sym (found_own left [] split) ∙ is) in
-        let rest_is : conflicts_of world.rows tree (actions split.right) ≡ [] = ap (λ (g : Forest). conflicts_of world.rows tree (actions g)) (stands_none t.nodes parent split.right split.stands_right) in
-        all_conflicts left [] split
-        ∙ ap (λ (l : List Pair). l ++ (conflicts_of world.rows tree (own left [] split) ++ conflicts_of world.rows tree (actions split.right))) (none_left left [] split split.stands_left)
-        ∙ ap (λ (l : List Pair). l ++ conflicts_of world.rows tree (actions split.right)) own_is ∙ rest_is

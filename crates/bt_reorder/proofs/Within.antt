@@ -9,7 +9,7 @@ use Rattle.bt_expand.specs.declared.node.Part.TheVariants.{Goals, Sequence, Fall
 use Rattle.bt_expand.specs.Forests.{Forest, Empty, Tree, Ancestor, Place, ancestors, is_sequence, place_of, times}
 use Rattle.bt_expand.specs.Rows.{row_threatens}
 use Rattle.bt_expand.proofs.Counted.{is_other, is_same, one_same, tested}
-use Rattle.bt_reorder.specs.declared.conflicts.Head.{Head}
+use Rattle.bt_reorder.specs.declared.heads.Head.{Head}
 use Rattle.bt_reorder.specs.Conflicts.{Pair, actions, conflicts, conflicts_with, first_condition, head_of, heads, heads_before, heads_in, outer_of, own_actions}
 use Rattle.bt_reorder.proofs.Whence.{first_place, other_place}
 use Rattle.bt_reorder.proofs.Elements.{all_both, all_filter, all_first, all_flat_of, all_map}

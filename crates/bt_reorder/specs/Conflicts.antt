@@ -6,7 +6,7 @@ use Rattle.bt_expand.specs.declared.node.Part.{Part}
 use Rattle.bt_expand.specs.declared.node.Part.TheVariants.{Fallback, Condition, Action}
 use Rattle.bt_expand.specs.Forests.{Forest, Empty, Tree, Ancestor, ancestors, is_sequence}
 use Rattle.bt_expand.specs.Rows.{row_threatens}
-use Rattle.bt_reorder.specs.declared.conflicts.Head.{Head}
+use Rattle.bt_reorder.specs.declared.heads.Head.{Head}
 
 -- ---- Heads
 

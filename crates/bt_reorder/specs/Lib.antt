@@ -1,3 +1,4 @@
 pub mod Conflicts
 pub mod Looked
 pub mod Raising
+pub mod Reads

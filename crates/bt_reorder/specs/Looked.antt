@@ -1,5 +1,5 @@
 -- What is looked up in the slab of a plan tree for conflicts and raises.
-use Rattle.std.specs.Prelude.{◌≡◌, ℕ, zero, suc, ◌-◌, ◌==◌, Bool, false, if◌then◌else◌, List, [], ◌∷◌, Option, Some, None, option_map, position}
+use Rattle.std.specs.Prelude.{ℕ, zero, suc, ◌-◌, ◌==◌, Bool, false, if◌then◌else◌, List, [], ◌∷◌, Option, Some, None, position}
 use Rattle.std.specs.Option.{option_and_then, option_map_or, option_or}
 use Rattle.slab.specs.Slab.{Slab, get}
 use Rattle.bt_domain.specs.declared.effects.Test.{Test}
@@ -10,7 +10,7 @@ use Rattle.bt_expand.specs.declared.node.Part.TheVariants.{Fallback, Condition}
 use Rattle.bt_expand.specs.declared.rule.Rule.{Rule}
 use Rattle.bt_expand.specs.Forests.{Ancestor, count, is_sequence}
 use Rattle.bt_expand.specs.Growth.{rule_effects, rule_test}
-use Rattle.bt_reorder.specs.declared.conflicts.Head.{Head}
+use Rattle.bt_reorder.specs.declared.heads.Head.{Head}
 use Rattle.bt_reorder.specs.declared.raising.Move.{Move}
 
 -- ---- Heads

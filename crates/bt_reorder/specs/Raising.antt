@@ -1,10 +1,10 @@
 -- How a new sequence is raised.
-use Rattle.std.specs.Prelude.{◌≡◌, ℕ, zero, suc, ◌-◌, ◌&&◌, nat_lt, Bool, true, false, List, Option, Some, None, option_map}
+use Rattle.std.specs.Prelude.{◌≡◌, ℕ, zero, suc, ◌-◌, ◌&&◌, nat_lt, Bool, Option, Some, option_map}
 use Rattle.std.specs.List.{find}
 use Rattle.bt_model.specs.declared.world.World.{World}
 use Rattle.bt_expand.specs.declared.node.Part.{Part}
 use Rattle.bt_expand.specs.declared.plan_tree.PlanTree.{PlanTree}
-use Rattle.bt_expand.specs.Forests.{Forest, Empty, Tree, Ancestor, ancestors, changed_below, count, is_sequence, part_at}
+use Rattle.bt_expand.specs.Forests.{Forest, Tree, Ancestor, ancestors, changed_below, count, is_sequence, part_at}
 use Rattle.bt_expand.specs.Stands.{StandsFor}
 
 -- the tree at this place and the next one change places

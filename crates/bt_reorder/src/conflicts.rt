@@ -1,31 +1,26 @@
 //! The first conflict of a plan tree.
 
-ghost use Rattle.std.specs.Prelude.{◌≡◌, ◌≤◌, ℕ, Option, Some, None, [], ◌∷◌, length, option_map, slice_get};
+ghost use Rattle.std.specs.Prelude.{◌≡◌, ◌≤◌, ℕ, Option, Some, [], ◌∷◌, length, option_map, slice_get};
 ghost use Rattle.std.specs.List.{find};
 ghost use Rattle.slab.specs.Slab.{get};
 ghost use Rattle.bt_model.specs.declared.world.World.{World};
 ghost use Rattle.bt_expand.specs.declared.node.Node.{Node};
-ghost use Rattle.bt_expand.specs.Forests.{AreApart, Forest, Place, height, place_of, times};
+ghost use Rattle.bt_expand.specs.Forests.{Forest, Place, height, place_of};
 ghost use Rattle.bt_expand.specs.Growth.{rule_effects};
-ghost use Rattle.bt_expand.specs.Stands.{Stands, StandsFor};
-ghost use Rattle.bt_reorder.specs.Conflicts.{actions, conflicts, conflicts_of, heads_before, own_actions};
-ghost use Rattle.bt_reorder.specs.Looked.{condition_at, first_threat, head_at, keys_before, rule_threatens, threat_at, threat_in};
+ghost use Rattle.bt_expand.specs.Stands.{StandsFor};
+ghost use Rattle.bt_reorder.specs.Conflicts.{actions, conflicts, conflicts_of, heads_before, outer_of, own_actions};
+ghost use Rattle.bt_reorder.specs.Looked.{first_threat, keys_before, rule_threatens, threat_at, threat_in};
+ghost use Rattle.bt_reorder.specs.Reads.{AreRead, IsPlaced};
 
+use crate::heads::head_at;
 use crate::raising::{is_sequence, parent_of, place_among};
+use crate::reads::{FACTS, Read, add_head, touches};
 use bt_domain::threatens;
 use bt_expand::{Node, Part, PlanTree, Rule};
 use bt_model::Set;
-use slab::Slab;
-
-/// A head: the key of a condition, and its row.
-#[derive(Clone, Copy, Debug, PartialEq, Eq)]
-pub(crate) struct Head {
-    pub key: usize,
-    pub row: u32,
-}
 
 /// The effects of the action of this row.
-fn effects_of(rules: &[Rule], row: u32) -> &[Set]
+pub(crate) fn effects_of(rules: &[Rule], row: u32) -> &[Set]
     ensures { result.now ≡ rule_effects rules.now row }
 {
     match rules.get(row as usize) {
@@ -44,28 +39,6 @@ fn row_threatens(rules: &[Rule], action: u32, condition: u32) -> bool
             None => false,
         },
         None => false,
-    }
-}
-
-/// The condition of this key.
-fn condition_at(nodes: &Slab<Node>, key: usize) -> Option<Head>
-    ensures { result ≡ condition_at nodes.now key }
-{
-    match nodes.get(key)?.part {
-        Part::Condition(row) => Some(Head { key, row }),
-        _ => None,
-    }
-}
-
-/// The head of a sequence's child.
-fn head_at(nodes: &Slab<Node>, key: usize) -> Option<Head>
-    ensures { result ≡ head_at nodes.now key }
-{
-    let node = nodes.get(key)?;
-    match node.part {
-        Part::Condition(row) => Some(Head { key, row }),
-        Part::Fallback => condition_at(nodes, *node.children.as_slice().first()?),
-        Part::Goals | Part::Sequence(_) | Part::Action(_) => None,
     }
 }
 
@@ -118,8 +91,9 @@ fn threat_in(t: &PlanTree, action: u32, parent: usize, key: usize) -> Option<usi
 /// The first head before a node, in the sequences above it from outside inwards, that the action of
 /// this row threatens. There are at most so many nodes above it.
 fn threat_above(t: &PlanTree, action: u32, key: usize, levels: usize) -> Option<usize>
-    ensures { (world : World) (tree : Forest) (place : Place) → StandsFor t.now world tree → place_of key tree ≡ Some place → length place.above ≤ levels
-        → result ≡ option_map (λ head. head.key) (find (λ head. rule_threatens t.now.rules action head.row) (heads_before place.above)) }
+    ensures { (world : World) (tree : Forest) (place : Place) → StandsFor t.now world tree → place_of key tree ≡ Some place →
+        length place.above ≤ levels →
+        result ≡ option_map (λ head. head.key) (find (λ head. rule_threatens t.now.rules action head.row) (heads_before place.above)) }
 {
     if levels == 0 {
         return None;
@@ -135,8 +109,8 @@ fn threat_above(t: &PlanTree, action: u32, key: usize, levels: usize) -> Option<
 
 /// The first conflict of the action of this key and row.
 fn own_conflict(t: &PlanTree, action: u32, key: usize) -> Option<(usize, usize)>
-    ensures { (world : World) (tree : Forest) (place : Place) → StandsFor t.now world tree → place_of key tree ≡ Some place
-        → result ≡ slice_get (conflicts_of world.rows tree (record { key = key; row = action } ∷ [])) 0 }
+    ensures { (world : World) (tree : Forest) (place : Place) → StandsFor t.now world tree → place_of key tree ≡ Some place →
+        result ≡ slice_get (conflicts_of world.rows tree (record { key = key; row = action } ∷ [])) 0 }
 {
     let Some(parent) = parent_of(&t.nodes, key) else {
         return None;
@@ -147,36 +121,68 @@ fn own_conflict(t: &PlanTree, action: u32, key: usize) -> Option<(usize, usize)>
     }
 }
 
-/// The first conflict in some trees that have at most so many levels.
+/// The first conflict of the action of this key and row, where `read` has every fact that a head before
+/// it reads, in the sequences above its own. An action that touches none of these facts has none.
+fn action_conflict(t: &PlanTree, action: u32, key: usize, read: &Read) -> Option<(usize, usize)>
+    ensures { (world : World) (tree : Forest) (place : Place) → StandsFor t.now world tree → place_of key tree ≡ Some place →
+        AreRead t.now.rules read.now (heads_before (outer_of place.above)) →
+        result ≡ slice_get (conflicts_of world.rows tree (record { key = key; row = action } ∷ [])) 0 }
+{
+    if touches(effects_of(t.rules.list(), action), read) {
+        own_conflict(t, action, key)
+    } else {
+        None
+    }
+}
+
+/// The first conflict below a node, where there are at most so many levels. `read` has every fact that
+/// a head reads before the node.
 #[cycle(walk)]
-fn conflict_in(t: &PlanTree, keys: &[usize], levels: usize) -> Option<(usize, usize)>
-    ensures { (world : World) (tree : Forest) (parent : Option ℕ) (f : Forest) → StandsFor t.now world tree → ((k : ℕ) → times k f ≤ times k tree)
-        → Stands t.now.nodes parent keys.now f → height f ≤ levels → result ≡ slice_get (conflicts_of world.rows tree (actions f)) 0 }
+fn conflict_in(t: &PlanTree, node: &Node, levels: usize, read: &Read) -> Option<(usize, usize)>
+    ensures { (world : World) (tree : Forest) (key : ℕ) (place : Place) (below : Forest) →
+        IsPlaced t.now world tree key place node.now below →
+        height below ≤ levels → AreRead t.now.rules read.now (heads_before place.above) →
+        result ≡ slice_get (conflicts_of world.rows tree (actions below)) 0 }
 {
     if levels == 0 {
         return None;
     }
+    let keys = node.children.as_slice();
+    if keys.is_empty() {
+        return None;
+    }
+    let mut within = *read;
     for key in keys {
-        if let Some(pair) = conflict_at(t, *key, levels - 1) {
+        if let Some(pair) = conflict_at(t, *key, levels - 1, read, &within) {
             return Some(pair);
         }
+        add_head(t, node.part, *key, &mut within);
     }
     None
 }
 
-/// The first conflict in the tree of a node, with at most so many levels below it.
+/// The first conflict in the tree of a node, with at most so many levels below it. `read` has every
+/// fact that a head reads before the node, and `outer` those before the sequence in which it stands.
 #[cycle(walk)]
-fn conflict_at(t: &PlanTree, key: usize, levels: usize) -> Option<(usize, usize)>
-    ensures { (world : World) (tree : Forest) (node : Node) (below : Forest) → StandsFor t.now world tree → ((k : ℕ) → times k below ≤ times k tree) → 1 ≤ times key tree
-        → get t.now.nodes key ≡ Some node → Stands t.now.nodes (Some key) node.children.items below → height below ≤ levels
-        → result ≡ slice_get (conflicts_of world.rows tree (own_actions key node.part (actions below))) 0 }
+fn conflict_at(
+    t: &PlanTree,
+    key: usize,
+    levels: usize,
+    outer: &Read,
+    read: &Read,
+) -> Option<(usize, usize)>
+    ensures { (world : World) (tree : Forest) (place : Place) (node : Node) (below : Forest) →
+        IsPlaced t.now world tree key place node below →
+        height below ≤ levels → AreRead t.now.rules outer.now (heads_before (outer_of place.above)) →
+        AreRead t.now.rules read.now (heads_before place.above) →
+        result ≡ slice_get (conflicts_of world.rows tree (own_actions key node.part (actions below))) 0 }
 {
     let Some(node) = t.nodes.get(key) else {
         return None;
     };
     match node.part {
-        Part::Action(row) => own_conflict(t, row, key),
-        _ => conflict_in(t, &node.children, levels),
+        Part::Action(row) => action_conflict(t, row, key, outer),
+        _ => conflict_in(t, node, levels, read),
     }
 }
 
@@ -186,5 +192,6 @@ fn conflict_at(t: &PlanTree, key: usize, levels: usize) -> Option<(usize, usize)
 pub fn conflict(t: &PlanTree) -> Option<(usize, usize)>
     ensures { (world : World) (tree : Forest) → StandsFor t.now world tree → result ≡ slice_get (conflicts world.rows tree) 0 }
 {
-    conflict_in(t, &[t.root], t.nodes.len())
+    let none = [false; FACTS];
+    conflict_at(t, t.root, t.nodes.len(), &none, &none)
 }

@@ -2,7 +2,9 @@
 #![tactic(auto)]
 
 mod conflicts;
+mod heads;
 mod raising;
+mod reads;
 
 pub use conflicts::conflict;
 pub use raising::raise;

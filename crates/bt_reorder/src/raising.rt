@@ -60,8 +60,9 @@ fn left_of(nodes: &Slab<Node>, parent: usize, key: usize) -> Option<usize>
 /// The move in the nearest sequence above a node in which the child on the way down has a left
 /// neighbour. There are at most so many nodes above it.
 fn find_move(nodes: &Slab<Node>, key: usize, levels: usize) -> Option<Move>
-    ensures { (root : ℕ) (tree : Forest) (place : Place) → Stands nodes.now None (root ∷ []) tree → AreApart tree → place_of key tree ≡ Some place → length place.above ≤ levels
-        → result ≡ option_map move_in (find can_move place.above) }
+    ensures { (root : ℕ) (tree : Forest) (place : Place) → Stands nodes.now None (root ∷ []) tree → AreApart tree →
+        place_of key tree ≡ Some place → length place.above ≤ levels →
+        result ≡ option_map move_in (find can_move place.above) }
 {
     if levels == 0 {
         return None;
@@ -88,7 +89,8 @@ fn swap_neighbours(keys: &mut [usize], place: usize)
 /// Two children of a node change places.
 fn swap_children(nodes: &mut Slab<Node>, change: Move)
     requires { (node : Node) × (get nodes.old change.parent ≡ Some node) × (change.place + 1 < length node.children.items) }
-    ensures { (node : Node) → get nodes.old change.parent ≡ Some node → Edits nodes.old nodes.new change.parent node.parent (swapped change.place node.children.items) node }
+    ensures { (node : Node) → get nodes.old change.parent ≡ Some node →
+        Edits nodes.old nodes.new change.parent node.parent (swapped change.place node.children.items) node }
 {
     if let Some(node) = nodes.get_mut(change.parent) {
         swap_neighbours(&mut node.children, change.place);

@@ -1,8 +1,6 @@
-use Rattle.std.proofs.Common.{◌≡◌, ◌+◌, ◌*◌, ◌≤◌, ℕ, [], Option, take}
-use Rattle.bt_model.specs.declared.world.World.{World}
-use Rattle.bt_expand.specs.Forests.{Forest, height, times}
-use Rattle.bt_expand.specs.Stands.{Stands, StandsFor}
-use Rattle.bt_reorder.specs.Conflicts.{actions, conflicts_of}
+use Rattle.std.proofs.Common.{◌+◌, ◌*◌, take}
+use Rattle.bt_reorder.proofs.Untouched.{HasAdded}
+use Rattle.bt_reorder.proofs.Walked.{HavePassed}
 use Rattle.bt_reorder.proofs.conflicts.+walk.Given as goal
 
 abbrev pub decreases-conflict_in : goal.decreases-conflict_in
@@ -11,7 +9,7 @@ decreases-conflict_in l = 2 * l.levels
 abbrev pub decreases-conflict_at : goal.decreases-conflict_at
 decreases-conflict_at l = 2 * l.levels + 1
 
--- the trees that were passed have no conflict
+-- the children that were passed have no conflict, and what their heads read was added
 abbrev pub invariant-conflict_in-loop-key : goal.invariant-conflict_in-loop-key
-invariant-conflict_in-loop-key l = (world : World) (tree : Forest) (parent : Option ℕ) (f : Forest) → StandsFor l.t world tree → ((k : ℕ) → times k f ≤ times k tree) →
-    Stands l.t.nodes parent (take l.key-index l.keys) f → height f ≤ l.levels → conflicts_of world.rows tree (actions f) ≡ []
+invariant-conflict_in-loop-key l =
+    HavePassed l.t l.node (take l.key-index l.keys) l.levels l.read × HasAdded l.t l.node.part (take l.key-index l.keys) l.read l.within

@@ -1,9 +1,14 @@
-use Rattle.std.proofs.Common.{None, ◌≤◌, arith}
+use Rattle.std.proofs.Common.{ap, ◌∙◌, arith}
+use Rattle.std.specs.Prelude.{slice_get}
 use Rattle.bt_expand.proofs.Counted.{height-le_size}
+use Rattle.bt_reorder.proofs.Walked.{root_placed, top}
 use Rattle.bt_reorder.proofs.conflicts.conflict.Goals as goal
 
 pub returns : goal.returns
 returns c = λ world tree st.
+    let root = root_placed world c.args.t.now tree st in
     let high = height-le_size tree in
     let whole = st.whole in
-    c.conflict_in.ensures world tree None tree st (λ k. omega arith) st.nodes (omega (arith, high, whole, c.len.ensures))
+    let lower = root.lower in
+    c.conflict_at.ensures world tree top root.node root.below root.at (omega (arith, high, whole, lower, c.len.ensures)) tt tt
+    ∙ ap (λ l. slice_get l 0) root.conflicts_are

@@ -1,4 +1,4 @@
-use Rattle.std.proofs.Common.{◌≡◌, sym, ◌∙◌}
+use Rattle.std.proofs.Common.{sym, ◌∙◌}
 use Rattle.bt_reorder.proofs.Listed.{found_threat, no_threat, passed_threat}
 use Rattle.bt_reorder.proofs.conflicts.first_threat.Goals as goal
 

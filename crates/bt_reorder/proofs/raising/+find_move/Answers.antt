@@ -1,10 +1,8 @@
-use Rattle.std.proofs.Common.{◌≡◌, ◌≤◌, ◌+◌, ℕ, List, [], ◌∷◌, Option, Some, None, length, refl, ap, sym, ◌∙◌, subst, arith}
+use Rattle.std.proofs.Common.{◌≡◌, ◌+◌, ℕ, List, Some, None, length, ap, sym, ◌∙◌, arith}
 use Rattle.std.specs.Prelude.{option_map}
 use Rattle.std.specs.List.{find}
 use Rattle.slab.specs.Slab.{get}
-use Rattle.bt_expand.specs.declared.node.Node.{Node}
-use Rattle.bt_expand.specs.Forests.{Ancestor, Place, place_of}
-use Rattle.bt_reorder.specs.declared.raising.Move.{Move}
+use Rattle.bt_expand.specs.Forests.{Ancestor, place_of}
 use Rattle.bt_reorder.specs.Looked.{left_of, move_in}
 use Rattle.bt_reorder.specs.Raising.{can_move}
 use Rattle.bt_reorder.proofs.Climbed.{above_at, move_here, move_on, no_parent, some_parent}

@@ -1,4 +1,4 @@
-use Rattle.std.proofs.Common.{◌≡◌, refl, arith}
+use Rattle.std.proofs.Common.{refl, arith}
 use Rattle.bt_reorder.proofs.Climbed.{above_height}
 use Rattle.bt_reorder.proofs.Raised.{change_within, chosen, no_raise, place_is, raises}
 use Rattle.bt_expand.proofs.Counted.{height-le_size}

@@ -1,0 +1,32 @@
+-- Which facts are read by the heads before a node.
+use Rattle.std.specs.Prelude.{◌≡◌, ℕ, ◌≤◌, Bool, true, List, Some, slice_index_or}
+use Rattle.std.specs.List.{AllByRecursion}
+use Rattle.slab.specs.Slab.{get}
+use Rattle.bt_model.specs.declared.world.World.{World}
+use Rattle.bt_domain.specs.declared.effects.Test.{Test}
+use Rattle.bt_expand.specs.declared.node.Node.{Node}
+use Rattle.bt_expand.specs.declared.plan_tree.PlanTree.{PlanTree}
+use Rattle.bt_expand.specs.declared.rule.Rule.{Rule}
+use Rattle.bt_expand.specs.Forests.{Forest, Place, place_of, times}
+use Rattle.bt_expand.specs.Growth.{rule_test}
+use Rattle.bt_expand.specs.Stands.{Stands, StandsFor}
+use Rattle.bt_reorder.specs.declared.heads.Head.{Head}
+
+-- whether the fact of this number is read, as one past the table is
+abbrev pub is_read : List Bool → ℕ → Bool
+is_read read fact = slice_index_or read fact true
+
+-- the fact that a head tests is read
+abbrev pub IsRead : List Rule → List Bool → Head → Type 0
+IsRead rules read head = (test : Test) → rule_test rules head.row ≡ Some test → is_read read test.fact ≡ true
+
+abbrev pub AreRead : List Rule → List Bool → List Head → Type 0
+AreRead rules read heads = AllByRecursion (IsRead rules read) heads
+
+-- a node of a plan tree: where it stands, and the trees below it
+pub record IsPlaced (t : PlanTree) (world : World) (tree : Forest) (key : ℕ) (place : Place) (node : Node) (below : Forest) : Type 0 where
+  pub stands : StandsFor t world tree
+  pub place_is : place_of key tree ≡ Some place
+  pub there : get t.nodes key ≡ Some node
+  pub below_stands : Stands t.nodes (Some key) node.children.items below
+  pub inside : (k : ℕ) → times k below ≤ times k tree

@@ -1,0 +1,72 @@
+//! Which facts heads read.
+
+ghost use Rattle.std.specs.Prelude.{◌≡◌, ℕ, Some, true};
+ghost use Rattle.std.specs.List.{list_any};
+ghost use Rattle.bt_domain.specs.declared.effects.Test.{Test};
+ghost use Rattle.bt_expand.specs.Forests.{is_sequence};
+ghost use Rattle.bt_expand.specs.Growth.{rule_test};
+ghost use Rattle.bt_reorder.specs.declared.heads.Head.{Head};
+ghost use Rattle.bt_reorder.specs.Looked.{head_at};
+ghost use Rattle.bt_reorder.specs.Reads.{IsRead, is_read};
+
+use crate::heads::head_at;
+use crate::raising::is_sequence;
+use bt_expand::{Part, PlanTree, Rule};
+use bt_model::Set;
+
+/// As many facts as a world may have.
+pub(crate) const FACTS: usize = 1024;
+
+/// For each fact whether it is read, by its number.
+pub(crate) type Read = [bool; FACTS];
+
+/// Whether a fact is read. One past the table counts as read.
+fn is_read(read: &[bool], fact: u32) -> bool
+    ensures { result ≡ is_read read.now fact }
+{
+    match read.get(fact as usize) {
+        Some(own) => *own,
+        None => true,
+    }
+}
+
+/// Whether one of these effects touches a fact that is read.
+pub(crate) fn touches(effects: &[Set], read: &[bool]) -> bool
+    ensures { result ≡ list_any (λ effect. is_read read.now effect.fact) effects.now }
+{
+    effects.iter().any(|effect| is_read(read, effect.fact))
+}
+
+/// A fact is read from now on.
+fn add_fact(read: &mut [bool], fact: u32)
+    ensures kept { (own : ℕ) → is_read read.old own ≡ true → is_read read.new own ≡ true }
+    ensures added { is_read read.new fact ≡ true }
+{
+    if (fact as usize) < read.len() {
+        read[fact as usize] = true;
+    }
+}
+
+/// The fact that the condition of this row tests, if it compares one, is read from now on.
+fn add_test(rules: &[Rule], row: u32, read: &mut [bool])
+    ensures kept { (own : ℕ) → is_read read.old own ≡ true → is_read read.new own ≡ true }
+    ensures added { (test : Test) → rule_test rules.now row ≡ Some test → is_read read.new test.fact ≡ true }
+{
+    if let Some(rule) = rules.get(row as usize) {
+        if let Some(test) = &rule.test {
+            add_fact(read, test.fact);
+        }
+    }
+}
+
+/// What the head of a child reads is read from now on, where the child stands in a sequence.
+pub(crate) fn add_head(t: &PlanTree, part: Part, key: usize, read: &mut [bool])
+    ensures kept { (own : ℕ) → is_read read.old own ≡ true → is_read read.new own ≡ true }
+    ensures added { (head : Head) → is_sequence part ≡ true → head_at t.now.nodes key ≡ Some head → IsRead t.now.rules read.new head }
+{
+    if is_sequence(part) {
+        if let Some(head) = head_at(&t.nodes, key) {
+            add_test(t.rules.list(), head.row, read);
+        }
+    }
+}
