@@ -1,10 +1,10 @@
 -- What is counted over forests, and what changes of it.
-use Rattle.std.proofs.Common.{◌≡◌, ◌≢◌, ℕ, suc, ◌+◌, ◌*◌, ◌<◌, ◌≤◌, ◌==◌, max, nat_eq, Bool, true, false, if◌then◌else◌, zero, List, [], ◌∷◌, ◌++◌, map, length, Option, Some, None, refl, ap, sym, ◌∙◌, subst, arith, ◌⊎◌, inl, inr}
-use Rattle.std.specs.Option.{option_or, option_map}
+use Rattle.std.proofs.Common.{◌≡◌, ◌≢◌, ℕ, suc, ◌+◌, ◌≤◌, ◌==◌, max, nat_eq, Bool, true, false, if◌then◌else◌, zero, List, [], ◌∷◌, ◌++◌, length, Option, Some, None, refl, ap, sym, ◌∙◌, subst, arith, ◌⊎◌, inl, inr}
+use Rattle.std.specs.Option.{option_or}
 use Rattle.std.proofs.lemmas.Bool.Decides.{nat_tests}
 use Rattle.bt_expand.specs.declared.node.Part.{Part}
 use Rattle.bt_expand.specs.declared.node.Part.TheVariants.{Goals, Sequence, Fallback, Condition, Action}
-use Rattle.bt_expand.specs.Forests.{Forest, Empty, Tree, AreApart, changed_below, count, height, joined, node_at, place_of, size, subtrees, times, tops, total}
+use Rattle.bt_expand.specs.Forests.{Forest, Empty, Tree, changed_below, height, joined, node_at, size, times, tops, total}
 use Rattle.bt_expand.specs.Expansion.{grown, leaves, wrapped}
 
 -- ---- One key

@@ -20,11 +20,12 @@ use Rattle.bt_expand.specs.declared.rule.Rule.{Rule}
 use Rattle.bt_expand.specs.Expanded.{Chooses, Expands, GrowsAt}
 use Rattle.bt_expand.specs.Expansion.{NewKeys, expanded, expanded_below, goal_tree, grown, leaves, new_sequence, tried}
 use Rattle.bt_expand.specs.Forests.{Forest, Empty, Tree, Ancestor, changed_below, is_fallback, part_at, size, subtrees, height}
-use Rattle.bt_expand.specs.Growth.{Adds, AddsLast, Wraps, branch_tree, parts_of, rule_needs}
+use Rattle.bt_expand.specs.Growth.{Adds, all_achievers_by, branch_tree, parts_of, rule_needs}
 use Rattle.bt_expand.specs.Rows.{needs_of, row_achieves, rule_of}
 use Rattle.bt_expand.specs.Stands.{IsConditionOf, PartsFit, StandsFor}
 use Rattle.bt_expand.proofs.Counted.{height-leaves, one_of, one_same, size-leaves}
 use Rattle.bt_expand.proofs.Expansions.{Stood, rule_needs_is, stood_condition, untried_is}
+use Rattle.bt_expand.proofs.Indexed.{all_achievers_are}
 use Rattle.bt_expand.proofs.Regrown.{last_sequence, regrown_last, regrown_new, regrown_parts, regrown_stands, regrown_wraps, wrap_after}
 use Rattle.bt_expand.proofs.Standing.{stands_by}
 
@@ -126,10 +127,10 @@ some_length : (xs : List ℕ) → xs ≢ [] → 1 ≤ length xs
 some_length [] some = absurd (some refl)
 some_length (x ∷ xs) some = omega arith
 
-pub first_stands : (world : World) → IsValidWorld world → world.goals ≢ [] → (t : PlanTree) (keys : List ℕ) (room : Slab Node) → t.rules ≡ map rule_of world.rows → t.templates ≡ templates_of world.rows →
+pub first_stands : (world : World) → IsValidWorld world → world.goals ≢ [] → (t : PlanTree) (keys : List ℕ) (room : Slab Node) → t.rules ≡ map rule_of world.rows → t.templates ≡ templates_of world.rows → t.achievers ≡ all_achievers_by t.rules t.templates →
     slab_len room ≡ 0 → Adds room t.nodes None (t.root ∷ []) (branch_tree t.root Goals keys (map Condition world.goals)) → length keys ≡ length (map Condition world.goals) →
     StandsFor t world (goal_tree t.root keys world.goals)
-first_stands world valid goal t keys room rules templates none adds counted =
+first_stands world valid goal t keys room rules templates achievers none adds counted =
     let many = length-map world.goals Condition in
     let some = some_length world.goals goal in
     let few = valid.goals.few in
@@ -140,6 +141,7 @@ first_stands world valid goal t keys room rules templates none adds counted =
       valid = valid;
       rules = rules;
       templates = templates;
+      achievers = all_achievers_are world.rows t achievers rules templates;
       nodes = adds.stands;
       apart = record { once = adds.apart };
       whole = omega (arith, len, none);
@@ -271,6 +273,7 @@ room_stands world t tree room st = record {
   valid = st.valid;
   rules = st.rules;
   templates = st.templates;
+  achievers = st.achievers;
   nodes = stands_by t.nodes (record t.nodes { capacity = room }) None (t.root ∷ []) tree (λ (k : ℕ) (node : Node) has there. there) st.nodes;
   apart = st.apart;
   whole = st.whole;

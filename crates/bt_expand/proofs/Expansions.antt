@@ -1,9 +1,9 @@
 -- The slab after an expansion stands for the expanded tree.
-use Rattle.std.proofs.Common.{◌≡◌, ◌≢◌, ℕ, zero, suc, ◌+◌, ◌*◌, ◌<◌, ◌≤◌, ◌==◌, nat_eq, Bool, true, false, not, ◌&&◌, ◌||◌, if◌then◌else◌, List, [], ◌∷◌, ◌++◌, length, map, Option, Some, None, refl, ap, sym, ◌∙◌, subst, arith, inl, inr}
+use Rattle.std.proofs.Common.{◌≡◌, ◌≢◌, ℕ, zero, suc, ◌≤◌, ◌==◌, nat_eq, Bool, false, not, ◌&&◌, ◌||◌, if◌then◌else◌, List, [], ◌∷◌, ◌++◌, map, Option, Some, None, refl, ap, sym, ◌∙◌, subst, arith, inl, inr}
 use Rattle.std.specs.Prelude.{slice_get, option_map}
 use Rattle.std.specs.List.{filter, find, list_any}
 use Rattle.std.specs.Option.{option_and_then, option_map_or, option_or}
-use Rattle.slab.specs.Slab.{Slab, get, slab_len}
+use Rattle.slab.specs.Slab.{Slab, get}
 use Rattle.bt_model.specs.declared.world.Row.{Row}
 use Rattle.bt_model.specs.declared.world.World.{World}
 use Rattle.bt_domain.specs.declared.effects.Test.{Test}
@@ -17,12 +17,12 @@ use Rattle.bt_expand.specs.declared.plan_tree.PlanTree.{PlanTree}
 use Rattle.bt_expand.specs.declared.rule.Rule.{Rule}
 use Rattle.bt_expand.specs.Expanded.{is_open}
 use Rattle.bt_expand.specs.Expansion.{condition_row, sequence_rows, tried, tried_below, untried, untried_of}
-use Rattle.bt_expand.specs.Forests.{Forest, Empty, Tree, Ancestor, Place, ancestors, below_at, is_fallback, node_at, part_at, place_of, times, tops}
+use Rattle.bt_expand.specs.Forests.{Forest, Empty, Tree, Ancestor, Place, ancestors, is_fallback, node_at, part_at, place_of, times, tops}
 use Rattle.bt_expand.specs.Growth.{fallback_children, is_sequence_of, names_sequence, rule_achieves, rule_effects, rule_needs, rule_test, site_in, site_of}
 use Rattle.bt_expand.specs.Rows.{effects_of, needs_of, row_achieves, rule_of, test_of}
 use Rattle.bt_expand.specs.Stands.{Keeps, Stands, StandsFor}
-use Rattle.bt_expand.proofs.Counted.{chosen, is_same, none_at, one_of, one_same, skipped, test_same, tested, zero_or}
-use Rattle.bt_expand.proofs.Places.{AtTop, Climbs, Under, climbs, place_counts, placed}
+use Rattle.bt_expand.proofs.Counted.{chosen, none_at, one_of, skipped, test_same, tested, zero_or}
+use Rattle.bt_expand.proofs.Places.{Climbs, climbs, place_counts, placed}
 use Rattle.bt_expand.proofs.Searched.{find_alike, first_passing}
 use Rattle.bt_expand.proofs.Standing.{kept_at, same_node, tops_are}
 

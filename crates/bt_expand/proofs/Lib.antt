@@ -1,6 +1,7 @@
 pub mod Counted
 pub mod Expands
 pub mod Expansions
+pub mod Indexed
 pub mod NewNodes
 pub mod Places
 pub mod Regrown

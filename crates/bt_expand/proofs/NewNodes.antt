@@ -1,18 +1,18 @@
 -- New nodes in a slab, and what they stand for.
-use Rattle.std.proofs.Common.{◌≡◌, ◌≢◌, ℕ, zero, suc, ◌+◌, ◌-◌, ◌<◌, ◌≤◌, ◌==◌, nat_eq, Bool, true, false, cond, if◌then◌else◌, List, [], ◌∷◌, ◌++◌, length, map, Option, Some, None, refl, ap, sym, ◌∙◌, subst, arith, add-one, inl, inr, slice_set, get_or, set, take}
-use Rattle.std.specs.Prelude.{position, count_by, is_some, sum_by}
+use Rattle.std.proofs.Common.{◌≡◌, ◌≢◌, ℕ, zero, suc, ◌+◌, ◌-◌, ◌<◌, ◌≤◌, ◌==◌, nat_eq, Bool, cond, if◌then◌else◌, List, [], ◌∷◌, ◌++◌, length, map, Option, Some, None, refl, ap, sym, ◌∙◌, subst, arith, inl, inr, slice_set, get_or, set, take}
+use Rattle.std.specs.Prelude.{count_by, is_some, sum_by}
 use Rattle.std.specs.List.{position_from}
-use Rattle.std.proofs.lemmas.List.{get_or-set_other, get_or-set_same, length-append, length-map, length-take-le, map-append, take_all, take_more}
+use Rattle.std.proofs.lemmas.List.{get_or-set_other, get_or-set_same, length-append, length-map, length-take-le, map-append, take_more}
 use Rattle.std.proofs.lemmas.List.Sums.{sum_by-set}
 use Rattle.std.proofs.lemmas.Bool.Decides.{nat_tests}
-use Rattle.slab.specs.Slab.{Slab, Updates, get, slab_len, with_value}
+use Rattle.slab.specs.Slab.{Slab, get, slab_len}
 use Rattle.bt_expand.specs.declared.node.Node.{Node}
 use Rattle.bt_expand.specs.declared.node.Part.{Part}
 use Rattle.bt_expand.specs.declared.node.Part.TheVariants.{Condition, Action}
 use Rattle.bt_expand.specs.Expansion.{leaves}
-use Rattle.bt_expand.specs.Forests.{Forest, Empty, Tree, joined, size, times, total}
-use Rattle.bt_expand.specs.Growth.{Adds, AddsNode, Edits, blank, branch_tree, parts_of, replaced}
-use Rattle.bt_expand.specs.Stands.{Keeps, Stands}
+use Rattle.bt_expand.specs.Forests.{Forest, Empty, Tree, joined, size, times}
+use Rattle.bt_expand.specs.Growth.{Adds, AddsNode, Edits, blank, parts_of, replaced}
+use Rattle.bt_expand.specs.Stands.{Keeps}
 use Rattle.bt_expand.proofs.Counted.{chosen, one_of, one_other, one_same, skipped, tested, total-joined}
 use Rattle.bt_expand.proofs.Standing.{stands_by, stands_joined, vacant_lacks}
 

@@ -1,14 +1,14 @@
 -- Where keys stand in a forest, and how the slab leads from a node to the one above it.
-use Rattle.std.proofs.Common.{◌≡◌, ◌≢◌, ℕ, zero, suc, ◌+◌, ◌<◌, ◌≤◌, nat_eq, Bool, true, false, if◌then◌else◌, List, [], ◌∷◌, ◌++◌, length, Option, Some, None, refl, ap, sym, ◌∙◌, subst, arith, inl, inr}
+use Rattle.std.proofs.Common.{◌≡◌, ◌≢◌, ℕ, ◌≤◌, nat_eq, true, false, List, [], ◌∷◌, ◌++◌, Option, Some, None, refl, ap, sym, ◌∙◌, subst, arith, inl, inr}
 use Rattle.std.specs.Prelude.{option_map}
-use Rattle.std.specs.Option.{option_or, option_map_or}
+use Rattle.std.specs.Option.{option_or}
 use Rattle.std.proofs.lemmas.Bool.Decides.{nat_tests}
-use Rattle.slab.specs.Slab.{Slab, get}
+use Rattle.slab.specs.Slab.{Slab}
 use Rattle.bt_expand.specs.declared.node.Node.{Node}
 use Rattle.bt_expand.specs.declared.node.Part.{Part}
-use Rattle.bt_expand.specs.Forests.{Forest, Empty, Tree, Ancestor, Place, after_first, ancestors, below_first, node_at, place_of, times, tops}
+use Rattle.bt_expand.specs.Forests.{Forest, Empty, Tree, Ancestor, Place, after_first, below_first, node_at, place_of, times, tops}
 use Rattle.bt_expand.specs.Stands.{Keeps, Stands}
-use Rattle.bt_expand.proofs.Counted.{chosen, is_other, is_same, lacks_below, lacks_here, lacks_rest, one_of, one_other, one_same, only_here, skipped, test_other, tested, zero_or}
+use Rattle.bt_expand.proofs.Counted.{chosen, is_same, lacks_below, lacks_here, lacks_rest, one_same, only_here, skipped, test_other, tested, zero_or}
 
 -- what the first tree gives, or else the others
 abbrev next_place : ℕ → ℕ → Part → Forest → Forest → Option Place

@@ -1,6 +1,6 @@
 -- The slab after an expansion stands for the expanded tree.
-use Rattle.std.proofs.Common.{◌≡◌, ◌≢◌, ℕ, zero, suc, ◌+◌, ◌*◌, ◌<◌, ◌≤◌, nat_eq, Bool, true, false, if◌then◌else◌, List, [], ◌∷◌, ◌++◌, length, map, Option, Some, None, refl, ap, sym, ◌∙◌, subst, arith, inl, inr}
-use Rattle.std.specs.Prelude.{option_map, slice_get}
+use Rattle.std.proofs.Common.{◌≡◌, ◌≢◌, ℕ, ◌+◌, ◌≤◌, nat_eq, Bool, true, false, if◌then◌else◌, List, [], ◌∷◌, ◌++◌, length, Option, Some, None, refl, ap, sym, ◌∙◌, subst, arith, inl, inr}
+use Rattle.std.specs.Prelude.{option_map}
 use Rattle.std.specs.Option.{option_or}
 use Rattle.slab.specs.Slab.{Slab, get, slab_len}
 use Rattle.bt_model.specs.declared.world.World.{World}
@@ -10,7 +10,7 @@ use Rattle.bt_expand.specs.declared.node.Part.TheVariants.{Goals, Sequence, Fall
 use Rattle.bt_expand.specs.declared.plan_tree.PlanTree.{PlanTree}
 use Rattle.bt_expand.specs.Expansion.{grown, wrapped}
 use Rattle.bt_expand.specs.Forests.{Forest, Empty, Tree, added_by, changed_below, height, is_fallback, joined, node_at, part_at, size, subtrees, times, tops, total}
-use Rattle.bt_expand.specs.Growth.{Adds, AddsLast, AddsNode, Edits, Wraps, blank, branch_tree, replaced}
+use Rattle.bt_expand.specs.Growth.{AddsLast, Edits, Wraps, blank, branch_tree, replaced}
 use Rattle.bt_expand.specs.Stands.{Keeps, PartFits, PartsFit, Stands, StandsFor}
 use Rattle.bt_expand.proofs.Counted.{changed_here, changed_other, chosen, height-changed, height-grown, is_other, is_same, one_of, one_other, one_same, skipped, test_other, test_same, tested, total-changed, total-joined, total-wrapped, zero_or}
 use Rattle.bt_expand.proofs.Expansions.{Stood, node_counts, node_found, part_node}
@@ -159,6 +159,7 @@ module _ (world : World) (t : PlanTree) (tree : Forest) (st : StandsFor t world 
     valid = st.valid;
     rules = st.rules;
     templates = st.templates;
+    achievers = st.achievers;
     nodes = g.stands;
     apart = record {
       once = λ key.

@@ -1,8 +1,8 @@
 -- Trees that stand side by side, taken apart at a key.
-use Rattle.std.proofs.Common.{◌≡◌, ◌≢◌, ℕ, zero, suc, ◌+◌, ◌<◌, ◌≤◌, max, List, [], ◌∷◌, ◌++◌, length, take, drop, get_or, Option, Some, None, refl, ap, sym, ◌∙◌, subst, arith, append_assoc, ◌⊎◌, inl, inr}
+use Rattle.std.proofs.Common.{◌≡◌, ℕ, zero, suc, ◌+◌, ◌<◌, ◌≤◌, max, List, [], ◌∷◌, ◌++◌, length, take, drop, get_or, Option, Some, refl, ap, sym, ◌∙◌, subst, arith, append_assoc, ◌⊎◌, inl, inr}
 use Rattle.std.specs.Prelude.{slice_get}
 use Rattle.std.proofs.lemmas.List.{length-append, take_more}
-use Rattle.slab.specs.Slab.{Slab, get}
+use Rattle.slab.specs.Slab.{Slab}
 use Rattle.bt_expand.specs.declared.node.Node.{Node}
 use Rattle.bt_expand.specs.declared.node.Part.{Part}
 use Rattle.bt_expand.specs.Forests.{Forest, Empty, Tree, height, joined, keys_of, size, times}

@@ -1,12 +1,12 @@
 -- What a slab of nodes stands for, before and after a change.
-use Rattle.std.proofs.Common.{◌≡◌, ◌≢◌, ℕ, zero, suc, ◌+◌, ◌<◌, ◌≤◌, nat_eq, Bool, true, false, if◌then◌else◌, List, [], ◌∷◌, ◌++◌, length, Option, Some, None, refl, ap, sym, ◌∙◌, subst, arith, inl, inr}
+use Rattle.std.proofs.Common.{◌≡◌, ◌≢◌, ℕ, ◌≤◌, nat_eq, List, ◌∷◌, ◌++◌, Option, Some, None, refl, ap, sym, ◌∙◌, subst, arith, inl, inr}
 use Rattle.std.specs.Option.{option_or}
 use Rattle.slab.specs.Slab.{Slab, get}
 use Rattle.bt_expand.specs.declared.node.Node.{Node}
 use Rattle.bt_expand.specs.declared.node.Part.{Part}
 use Rattle.bt_expand.specs.Forests.{Forest, Empty, Tree, changed_below, joined, node_at, times, tops}
 use Rattle.bt_expand.specs.Stands.{Keeps, Stands}
-use Rattle.bt_expand.proofs.Counted.{changed_here, changed_other, chosen, is_other, is_same, lacks_below, lacks_here, lacks_rest, none_at, one_of, one_other, one_same, only_here, skipped, tested, zero_or}
+use Rattle.bt_expand.proofs.Counted.{changed_here, changed_other, chosen, is_other, is_same, lacks_below, lacks_here, lacks_rest, one_of, one_other, one_same, only_here, skipped, tested}
 
 -- ---- One slab
 

@@ -1,6 +1,6 @@
 -- The behavior tree of a plan tree is valid.
-use Rattle.std.proofs.Common.{◌≡◌, ◌≢◌, ℕ, zero, suc, ◌+◌, ◌*◌, ◌<◌, ◌≤◌, max, nat_le, Bool, true, false, if◌then◌else◌, List, [], ◌∷◌, ◌++◌, length, map, Option, Some, None, refl, ap, sym, ◌∙◌, subst, arith, append-nil}
-use Rattle.std.specs.Prelude.{codes, sum, sum_by}
+use Rattle.std.proofs.Common.{◌≡◌, ◌≢◌, ℕ, ◌+◌, ◌*◌, ◌≤◌, true, false, List, [], ◌∷◌, ◌++◌, length, map, None, refl, ap, sym, ◌∙◌, subst, arith, append-nil}
+use Rattle.std.specs.Prelude.{codes, sum}
 use Rattle.std.specs.List.{AllByRecursion, flat_map}
 use Rattle.std.proofs.lemmas.Bool.Decides.{nat_tests}
 use Rattle.std.proofs.lemmas.Grind.{flat_map-append}
@@ -11,14 +11,14 @@ use Rattle.bt_script.specs.Texts.{value_stands}
 use Rattle.bt_model.specs.declared.cell.Naming.{Naming}
 use Rattle.bt_model.specs.declared.term.Kind.{Kind}
 use Rattle.bt_model.specs.declared.term.Kind.TheVariants.{ReactiveSequence, ReactiveFallback, Leaf}
-use Rattle.bt_model.specs.declared.term.Term.{Term, Term-F, fold-Term, fold-roll-Term, roll-Term}
+use Rattle.bt_model.specs.declared.term.Term.{Term, Term-F, fold-roll-Term, roll-Term}
 use Rattle.bt_model.specs.declared.term.Tree.{Tree as Planned}
 use Rattle.bt_model.specs.declared.world.Row.{Row}
 use Rattle.bt_model.specs.declared.world.World.{World}
-use Rattle.bt_model.specs.Boards.{Scope, Standing, children_scope, children_scope_number, in_order, main_scope, namings, namings_at, slots, standing, standing_all, standing_from, standing_step}
-use Rattle.bt_model.specs.BuiltIns.{has_code, kind_named, named_kinds, takes}
+use Rattle.bt_model.specs.Boards.{Scope, Standing, children_scope, children_scope_number, in_order, main_scope, namings, namings_at, slots, standing_all, standing_from, standing_step}
+use Rattle.bt_model.specs.BuiltIns.{named_kinds}
 use Rattle.bt_model.specs.Terms.{depth_of, node_count, own_scopes, scope_count, times_of, work_of}
-use Rattle.bt_model.specs.Trees.{CodeFits, GuardsFit, IdFits, IsValid, IsWithinLimits, Node, NodeFits, TextsFit, autoremap_fits, nodes_of, nodes_step, ports_fit}
+use Rattle.bt_model.specs.Trees.{GuardsFit, IsValid, Node, NodeFits, TextsFit, nodes_of, nodes_step}
 use Rattle.bt_model.specs.Worlds.{IsValidWorld}
 use Rattle.bt_expand.specs.declared.node.Part.{Part}
 use Rattle.bt_expand.specs.declared.node.Part.TheVariants.{Goals, Sequence, Fallback, Condition, Action}

@@ -1,15 +1,14 @@
 -- What walks over the slab find, tree by tree.
-use Rattle.std.proofs.Common.{◌≡◌, ◌≢◌, ℕ, zero, suc, ◌+◌, ◌-◌, ◌<◌, ◌≤◌, max, List, [], ◌∷◌, ◌++◌, length, take, drop, get_or, Option, Some, None, Result, Ok, Err, refl, ap, sym, ◌∙◌, subst, arith, append-nil}
+use Rattle.std.proofs.Common.{◌≡◌, ◌≢◌, ℕ, suc, ◌+◌, ◌-◌, ◌<◌, ◌≤◌, List, [], ◌∷◌, ◌++◌, length, take, drop, get_or, Option, Some, None, refl, ap, sym, ◌∙◌, subst, arith}
 use Rattle.std.specs.Prelude.{slice_get}
 use Rattle.slab.specs.Slab.{Slab, get}
-use Rattle.bt_model.specs.declared.term.Term.{Term, Term-F, roll-Term}
+use Rattle.bt_model.specs.declared.term.Term.{Term, roll-Term}
 use Rattle.bt_model.specs.declared.world.Row.{Row}
 use Rattle.bt_expand.specs.declared.node.Node.{Node}
 use Rattle.bt_expand.specs.declared.node.Part.{Part}
 use Rattle.bt_expand.specs.Forests.{Forest, Empty, Tree, height, joined, keys_of, size}
-use Rattle.bt_expand.specs.Numbers.{Numbered}
 use Rattle.bt_expand.specs.Planned.{kind_of, part_id, plain_node, terms_of}
-use Rattle.bt_expand.specs.Stands.{Keeps, Stands}
+use Rattle.bt_expand.specs.Stands.{Stands}
 use Rattle.bt_expand.proofs.Split.{Split, get-append_left, get-append_right, keys-joined, length-keys, split_all, split_height, split_last, split_size, stands_none}
 
 module _ (s : Slab Node) (keys : List ℕ) (i : ℕ) (within : i < length keys) where

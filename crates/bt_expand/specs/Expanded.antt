@@ -1,5 +1,5 @@
 -- What an expansion leaves.
-use Rattle.std.specs.Prelude.{◌≡◌, ℕ, ◌+◌, ◌&&◌, Bool, true, false, not, List, length, Option, Some, slice_get}
+use Rattle.std.specs.Prelude.{◌≡◌, ℕ, ◌+◌, ◌&&◌, Bool, true, false, not, List, length, Some, slice_get}
 use Rattle.std.specs.List.{list_any}
 use Rattle.slab.specs.Slab.{Slab, get}
 use Rattle.bt_model.specs.declared.world.World.{World}
@@ -31,6 +31,10 @@ pub record Expands (after : PlanTree) (world : World) (tree : Forest) (key added
 abbrev pub is_open : PlanTree → ℕ → List ℕ → Template → Bool
 is_open t condition tried template =
     rule_achieves t.rules condition template.row && not (list_any (names_sequence t.nodes template.row) tried)
+
+-- a template that has no sequence among these
+abbrev pub is_new : Slab Node → List ℕ → Template → Bool
+is_new s tried template = not (list_any (names_sequence s template.row) tried)
 
 -- how the slab grows at a condition that stands in a fallback, or elsewhere
 abbrev pub GrowsAt : Bool → Slab Node → Slab Node → ℕ → ℕ → ℕ → Part → List Part → Type 0

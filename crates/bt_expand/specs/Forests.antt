@@ -1,8 +1,8 @@
 -- Plan trees: terms with a key at each node, and what is read and changed at a key.
-use Rattle.std.specs.Prelude.{◌≡◌, ℕ, suc, ◌+◌, ◌≤◌, ◌==◌, max, Bool, true, false, if◌then◌else◌, List, [], ◌∷◌, ◌++◌, Option, Some, None, option_map}
+use Rattle.std.specs.Prelude.{ℕ, ◌+◌, ◌≤◌, ◌==◌, max, Bool, true, false, if◌then◌else◌, List, [], ◌∷◌, ◌++◌, Option, Some, None, option_map}
 use Rattle.std.specs.Option.{option_or, option_map_or}
 use Rattle.bt_expand.specs.declared.node.Part.{Part}
-use Rattle.bt_expand.specs.declared.node.Part.TheVariants.{Goals, Sequence, Fallback, Condition, Action}
+use Rattle.bt_expand.specs.declared.node.Part.TheVariants.{Goals, Sequence, Fallback}
 
 -- Trees in order. The first has the key of its root, what the root is, and the trees below it; then come the others.
 -- A plan tree is a forest of one.

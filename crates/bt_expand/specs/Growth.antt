@@ -1,14 +1,16 @@
 -- How the slab of a plan tree grows, step by step.
 use Rattle.std.specs.Prelude.{◌≡◌, ℕ, ◌+◌, ◌≤◌, ◌==◌, Bool, false, if◌then◌else◌, List, [], ◌∷◌, ◌++◌, length, map, Option, Some, None, slice_get}
+use Rattle.std.specs.List.{filter}
 use Rattle.std.specs.Option.{option_and_then, option_map_or}
 use Rattle.slab.specs.Slab.{Slab, Updates, get, slab_len, with_value}
 use Rattle.bt_model.specs.declared.world.Set.{Set}
 use Rattle.bt_domain.specs.declared.effects.Test.{Test}
+use Rattle.bt_domain.specs.declared.template.Template.{Template}
 use Rattle.bt_domain.specs.Effects.{achieves}
 use Rattle.bt_expand.specs.declared.expanding.Site.{Site}
 use Rattle.bt_expand.specs.declared.node.Node.{Node}
 use Rattle.bt_expand.specs.declared.node.Part.{Part}
-use Rattle.bt_expand.specs.declared.node.Part.TheVariants.{Goals, Sequence, Fallback, Condition, Action}
+use Rattle.bt_expand.specs.declared.node.Part.TheVariants.{Sequence, Fallback, Condition, Action}
 use Rattle.bt_expand.specs.declared.rule.Rule.{Rule}
 use Rattle.bt_expand.specs.Expansion.{leaves}
 use Rattle.bt_expand.specs.Forests.{Forest, Empty, Tree, size, times}
@@ -111,6 +113,22 @@ rule_needs rules row = option_map_or (λ (rule : Rule). rule.needs) (slice_get r
 
 abbrev pub rule_effects : List Rule → ℕ → List Set
 rule_effects rules row = option_map_or (λ (rule : Rule). rule.effects) (slice_get rules row) []
+
+-- whether the action of a template may turn a test true
+abbrev pub is_achiever : List Rule → Option Test → Template → Bool
+is_achiever rules test template = option_map_or (λ (own : Test). achieves own (rule_effects rules template.row)) test false
+
+-- the templates that achieve a test, in order
+abbrev pub achievers_by : List Rule → List Template → Option Test → List Template
+achievers_by rules templates test = filter (is_achiever rules test) templates
+
+-- .. for each row those of its test
+abbrev pub all_achievers_by : List Rule → List Template → List (List Template)
+all_achievers_by rules templates = map (λ (rule : Rule). achievers_by rules templates rule.test) rules
+
+-- .. which are kept by row
+abbrev pub achievers_at : List (List Template) → ℕ → List Template
+achievers_at achievers row = option_map_or (λ (own : List Template). own) (slice_get achievers row) []
 
 abbrev pub rule_achieves : List Rule → ℕ → ℕ → Bool
 rule_achieves rules condition action = option_map_or (λ (test : Test). achieves test (rule_effects rules action)) (rule_test rules condition) false

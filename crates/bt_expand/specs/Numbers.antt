@@ -1,8 +1,8 @@
 -- The numbers and the rows of nodes.
-use Rattle.std.specs.Prelude.{◌≡◌, ℕ, ◌+◌, List, Option, Some, None, Result, Ok, Err, slice_get}
+use Rattle.std.specs.Prelude.{◌≡◌, ℕ, ◌+◌, Option, Some, None, Result, Ok, Err, slice_get}
 use Rattle.std.specs.Option.{option_and_then}
 use Rattle.bt_expand.specs.declared.node.Part.{Part}
-use Rattle.bt_expand.specs.declared.node.Part.TheVariants.{Goals, Sequence, Fallback, Condition, Action}
+use Rattle.bt_expand.specs.declared.node.Part.TheVariants.{Sequence, Condition, Action}
 use Rattle.bt_expand.specs.Forests.{Forest, keys_of, part_at, size}
 
 -- the row of a node, if it has one

@@ -1,15 +1,15 @@
 -- What the slab of a plan tree stands for.
-use Rattle.std.specs.Prelude.{◌≡◌, ◌≢◌, ℕ, suc, ◌+◌, ◌*◌, ◌≤◌, ◌<◌, List, [], ◌∷◌, length, map, Option, Some, None}
+use Rattle.std.specs.Prelude.{◌≡◌, ◌≢◌, ℕ, ◌+◌, ◌*◌, ◌≤◌, ◌<◌, List, [], ◌∷◌, length, map, Option, Some, None}
 use Rattle.slab.specs.Slab.{Slab, get, slab_len}
 use Rattle.bt_model.specs.declared.world.World.{World}
 use Rattle.bt_model.specs.Worlds.{IsValidWorld}
 use Rattle.bt_domain.specs.Templates.{templates_of}
 use Rattle.bt_expand.specs.declared.node.Node.{Node}
 use Rattle.bt_expand.specs.declared.node.Part.{Part}
-use Rattle.bt_expand.specs.declared.node.Part.TheVariants.{Goals, Sequence, Fallback, Condition, Action}
+use Rattle.bt_expand.specs.declared.node.Part.TheVariants.{Goals, Sequence, Condition, Action}
 use Rattle.bt_expand.specs.declared.plan_tree.PlanTree.{PlanTree}
 use Rattle.bt_expand.specs.Forests.{Forest, Empty, Tree, AreApart, height, part_at, size, subtrees}
-use Rattle.bt_expand.specs.Rows.{rule_of}
+use Rattle.bt_expand.specs.Rows.{achievers_of, rule_of}
 
 -- the slab has a node with this key, below this parent, with these children
 pub record Keeps (s : Slab Node) (parent : Option ℕ) (key : ℕ) (part : Part) (children : List ℕ) : Type 0 where
@@ -50,6 +50,7 @@ pub record StandsFor (t : PlanTree) (world : World) (tree : Forest) : Type 0 whe
   pub valid : IsValidWorld world
   pub rules : t.rules ≡ map rule_of world.rows
   pub templates : t.templates ≡ templates_of world.rows
+  pub achievers : t.achievers ≡ map (achievers_of world.rows) world.rows
   pub nodes : Stands t.nodes None (t.root ∷ []) tree
   pub apart : AreApart tree
   pub whole : size tree ≡ slab_len t.nodes

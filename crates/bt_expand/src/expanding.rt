@@ -10,17 +10,17 @@ ghost use Rattle.bt_expand.specs.declared.expanding.ExpandFault.TheVariants.{NoU
 ghost use Rattle.bt_expand.specs.declared.node.Node.{Node};
 ghost use Rattle.bt_expand.specs.declared.node.Part.TheVariants.{Sequence};
 ghost use Rattle.bt_expand.specs.Expansion.{untried};
-ghost use Rattle.bt_expand.specs.Expanded.{Chooses, Expands, GrowsAt, is_open};
+ghost use Rattle.bt_expand.specs.Expanded.{Chooses, Expands, GrowsAt, is_new, is_open};
 ghost use Rattle.bt_expand.specs.Forests.{Forest, is_fallback};
-ghost use Rattle.bt_expand.specs.Growth.{fallback_children, names_sequence, parts_of, rule_achieves, rule_effects, rule_needs, site_of};
+ghost use Rattle.bt_expand.specs.Growth.{fallback_children, names_sequence, parts_of, rule_needs, site_of};
 ghost use Rattle.bt_expand.specs.Stands.{IsConditionOf, StandsFor};
 
+use crate::achievers::achievers_at;
 use crate::growing::{Branch, add_last, wrap};
 use crate::node::{Node, Part};
 use crate::plan_tree::PlanTree;
 use crate::rule::Rule;
-use bt_domain::{Template, achieves};
-use bt_model::Set;
+use bt_domain::Template;
 use bt_script::{NoMemory, Stop};
 use slab::Slab;
 use std::alloc::Global;
@@ -100,48 +100,32 @@ fn needs_of(rules: &[Rule], row: u32) -> &[u32]
     }
 }
 
-/// The effects of the action of this row.
-fn effects_of(rules: &[Rule], row: u32) -> &[Set]
-    ensures { result.now ≡ rule_effects rules.now row }
+/// Whether a template has no sequence among the tried ones.
+fn is_new(nodes: &Slab<Node>, tried: &[usize], template: Template) -> bool
+    ensures { result ≡ is_new nodes.now tried.now template }
 {
-    match rules.get(row as usize) {
-        Some(rule) => rule.effects.list(),
-        None => &[],
-    }
+    !is_among(nodes, tried, template.row)
 }
 
-/// Whether the action of the second row may turn the condition of the first one true.
-fn row_achieves(rules: &[Rule], condition: u32, action: u32) -> bool
-    ensures { result ≡ rule_achieves rules.now condition action }
+/// The first of some templates that has no sequence among the tried ones.
+fn first_new(nodes: &Slab<Node>, tried: &[usize], achievers: &[Template]) -> Option<Template>
+    ensures { result ≡ find (is_new nodes.now tried.now) achievers.now }
 {
-    match rules.get(condition as usize) {
-        Some(rule) => match &rule.test {
-            Some(test) => achieves(test, effects_of(rules, action)),
-            None => false,
-        },
-        None => false,
+    for template in achievers {
+        if is_new(nodes, tried, *template) {
+            return Some(*template);
+        }
     }
-}
-
-/// Whether a template achieves the condition of this row, and has no sequence among the tried ones.
-fn is_untried(t: &PlanTree, condition: u32, tried: &[usize], template: Template) -> bool
-    ensures { result ≡ is_open t.now condition tried.now template }
-{
-    row_achieves(t.rules.list(), condition, template.row)
-        && !is_among(&t.nodes, tried, template.row)
+    None
 }
 
 /// The first template that achieves the condition of this row and has no sequence among the tried
 /// ones.
 fn next_template(t: &PlanTree, condition: u32, tried: &[usize]) -> Option<Template>
-    ensures { result ≡ find (is_open t.now condition tried.now) t.now.templates }
+    ensures { (world : World) (tree : Forest) → StandsFor t.now world tree →
+        result ≡ find (is_open t.now condition tried.now) t.now.templates }
 {
-    for template in t.templates.list() {
-        if is_untried(t, condition, tried, *template) {
-            return Some(*template);
-        }
-    }
-    None
+    first_new(&t.nodes, tried, achievers_at(t.achievers.list(), condition))
 }
 
 /// Whether this is the key of a fallback.
@@ -182,7 +166,8 @@ fn grow_at(
     branch: &Branch<'_>,
 ) -> Result<usize, NoMemory>
     ensures added { IfOk result (λ added. (node : Node) → get nodes.old parent ≡ Some node →
-        GrowsAt (is_fallback node.part) nodes.old nodes.new parent key added branch.now.part (parts_of branch.now.conditions.now branch.now.action)) }
+        GrowsAt (is_fallback node.part) nodes.old nodes.new parent key added branch.now.part
+        (parts_of branch.now.conditions.now branch.now.action)) }
     ensures kept { OnErr result (nodes.new ≡ record nodes.old { capacity = nodes.new.capacity }) }
 {
     if is_fallback(nodes, parent) {
@@ -202,7 +187,8 @@ fn add_sequence(
     choice: Choice,
 ) -> Result<usize, NoMemory>
     ensures added { IfOk result (λ added. (node : Node) → get nodes.old choice.parent ≡ Some node →
-        GrowsAt (is_fallback node.part) nodes.old nodes.new choice.parent key added (Sequence choice.row) (parts_of (rule_needs rules.now choice.row) (Some choice.row))) }
+        GrowsAt (is_fallback node.part) nodes.old nodes.new choice.parent key added (Sequence choice.row)
+        (parts_of (rule_needs rules.now choice.row) (Some choice.row))) }
     ensures kept { OnErr result (nodes.new ≡ record nodes.old { capacity = nodes.new.capacity }) }
 {
     let branch = Branch {
@@ -218,8 +204,10 @@ fn add_sequence(
 /// the sequence. Every key names the same node as before. Refused, also for want of memory, the tree is as it was.
 pub fn expand(alloc: Global, t: &mut PlanTree, key: usize) -> Result<usize, Stop<ExpandFault>>
     requires { (world : World) × (tree : Forest) × StandsFor t.old world tree × IsConditionOf tree key }
-    ensures added { IfOk result (λ added. (world : World) (tree : Forest) → StandsFor t.old world tree → IsConditionOf tree key → Expands t.new world tree key added) }
-    ensures untried { (world : World) (tree : Forest) → StandsFor t.old world tree → IsConditionOf tree key → (result ≡ Err (Fault NoUntried)) ↔ (untried world.rows key tree ≡ []) }
+    ensures added { IfOk result (λ added. (world : World) (tree : Forest) → StandsFor t.old world tree → IsConditionOf tree key →
+        Expands t.new world tree key added) }
+    ensures untried { (world : World) (tree : Forest) → StandsFor t.old world tree → IsConditionOf tree key →
+        (result ≡ Err (Fault NoUntried)) ↔ (untried world.rows key tree ≡ []) }
     ensures kept { OnErr result (t.new ≡ record t.old { nodes = record t.old.nodes { capacity = t.new.nodes.capacity } }) }
     ensures stands { OnErr result ((world : World) (tree : Forest) → StandsFor t.old world tree → StandsFor t.new world tree) }
 {

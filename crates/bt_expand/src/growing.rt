@@ -45,7 +45,8 @@ fn add_leaf(
 )
     requires room { HasRoomFor nodes.old 1 }
     requires place { HasPlaceFor keys.old 1 }
-    ensures added { (key : ℕ) × AddsNode nodes.old nodes.new key (blank part (Some parent)) × (keys.new.items ≡ keys.old.items ++ key ∷ []) }
+    ensures added { (key : ℕ) × AddsNode nodes.old nodes.new key (blank part (Some parent)) ×
+        (keys.new.items ≡ keys.old.items ++ key ∷ []) }
     ensures capacity { nodes.new.capacity ≡ nodes.old.capacity }
     ensures places { keys.new.capacity ≡ keys.old.capacity }
 {
@@ -133,7 +134,8 @@ fn replace_key(keys: &mut [usize], old: usize, new: usize)
 
 /// One child of a node gives way to another.
 fn replace_child(nodes: &mut Slab<Node>, key: usize, old: usize, new: usize)
-    ensures { (node : Node) → get nodes.old key ≡ Some node → Edits nodes.old nodes.new key node.parent (replaced old new node.children.items) node }
+    ensures { (node : Node) → get nodes.old key ≡ Some node →
+        Edits nodes.old nodes.new key node.parent (replaced old new node.children.items) node }
 {
     if let Some(node) = nodes.get_mut(key) {
         replace_key(&mut node.children, old, new);
@@ -231,7 +233,8 @@ pub(crate) fn add_last(
     parent: usize,
     branch: &Branch<'_>,
 ) -> Result<usize, NoMemory>
-    ensures added { IfOk result (λ key. AddsLast nodes.old nodes.new parent key branch.now.part (parts_of branch.now.conditions.now branch.now.action)) }
+    ensures added { IfOk result (λ key. AddsLast nodes.old nodes.new parent key branch.now.part
+        (parts_of branch.now.conditions.now branch.now.action)) }
     ensures kept { OnErr result (nodes.new ≡ record nodes.old { capacity = nodes.new.capacity }) }
 {
     let keys = leaf_keys(alloc, branch)?;
@@ -252,7 +255,8 @@ pub(crate) fn wrap(
     condition: usize,
     branch: &Branch<'_>,
 ) -> Result<usize, NoMemory>
-    ensures added { IfOk result (λ key. Wraps nodes.old nodes.new parent condition key branch.now.part (parts_of branch.now.conditions.now branch.now.action)) }
+    ensures added { IfOk result (λ key. Wraps nodes.old nodes.new parent condition key branch.now.part
+        (parts_of branch.now.conditions.now branch.now.action)) }
     ensures kept { OnErr result (nodes.new ≡ record nodes.old { capacity = nodes.new.capacity }) }
 {
     let keys = leaf_keys(alloc, branch)?;

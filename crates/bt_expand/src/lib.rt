@@ -2,6 +2,7 @@
 //! one slab of nodes that is edited in place.
 #![tactic(auto)]
 
+mod achievers;
 mod expanding;
 mod growing;
 mod node;

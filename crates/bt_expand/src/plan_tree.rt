@@ -4,6 +4,7 @@ ghost use Rattle.bt_expand.specs.Expansion.{goal_tree};
 ghost use Rattle.bt_expand.specs.Rows.{rule_of};
 ghost use Rattle.bt_expand.specs.Stands.{StandsFor};
 
+use crate::achievers::all_achievers;
 use crate::growing::{Branch, add_branch, leaf_keys, reserve};
 use crate::node::{Node, Part};
 use crate::rule::Rule;
@@ -22,6 +23,8 @@ pub struct PlanTree {
     pub rules: Items<Rule>,
     /// The templates of the world, in order.
     pub templates: Items<Template>,
+    /// For each row of the world the templates that achieve its condition, in order.
+    pub achievers: Items<Items<Template>>,
 }
 
 /// What planning needs of a row.
@@ -52,10 +55,12 @@ fn rules_of(alloc: Global, rows: &[Row]) -> Result<Items<Rule>, NoMemory>
 pub fn plan_tree_of(alloc: Global, world: &World) -> Result<PlanTree, NoMemory>
     requires valid { IsValidWorld world.now }
     requires goal { world.now.goals ≢ [] }
-    ensures { IfOk result (λ t. (keys : List ℕ) × (length keys ≡ length world.now.goals) × StandsFor t world.now (goal_tree t.root keys world.now.goals)) }
+    ensures { IfOk result (λ t. (keys : List ℕ) × (length keys ≡ length world.now.goals) ×
+        StandsFor t world.now (goal_tree t.root keys world.now.goals)) }
 {
     let rules = rules_of(alloc, world.rows.list())?;
     let templates = templates(alloc, world)?;
+    let achievers = all_achievers(alloc, rules.list(), templates.as_slice())?;
     let branch = Branch {
         part: Part::Goals,
         conditions: world.goals.list(),
@@ -70,5 +75,6 @@ pub fn plan_tree_of(alloc: Global, world: &World) -> Result<PlanTree, NoMemory>
         root,
         rules,
         templates: Items::of(templates),
+        achievers,
     })
 }

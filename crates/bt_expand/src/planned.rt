@@ -103,7 +103,8 @@ fn terms_of(
     keys: &[usize],
     levels: usize,
 ) -> Result<Items<Term>, NoMemory>
-    ensures { IfOk result (λ terms. (parent : Option ℕ) (f : Forest) → Stands nodes.now parent keys.now f → height f ≤ levels → terms ≡ terms_of rows.now f) }
+    ensures { IfOk result (λ terms. (parent : Option ℕ) (f : Forest) → Stands nodes.now parent keys.now f → height f ≤ levels →
+        terms ≡ terms_of rows.now f) }
 {
     let mut terms = Vec::with_capacity(alloc, keys.len())?;
     if levels == 0 {
@@ -127,8 +128,9 @@ fn term_of(
     node: &Node,
     levels: usize,
 ) -> Result<Term, NoMemory>
-    ensures { IfOk result (λ term. (key : ℕ) (below : Forest) → Stands nodes.now (Some key) node.now.children.items below → height below ≤ levels
-        → term ≡ roll-Term (plain_node (kind_of node.now.part) (part_id rows.now node.now.part) (terms_of rows.now below))) }
+    ensures { IfOk result (λ term. (key : ℕ) (below : Forest) → Stands nodes.now (Some key) node.now.children.items below →
+        height below ≤ levels →
+        term ≡ roll-Term (plain_node (kind_of node.now.part) (part_id rows.now node.now.part) (terms_of rows.now below))) }
 {
     let children = terms_of(alloc, nodes, rows, &node.children, levels)?;
     plain_node(alloc, rows, node.part, children)

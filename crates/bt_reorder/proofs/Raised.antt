@@ -84,6 +84,7 @@ module _ (world : World) (t : PlanTree) (tree : Forest) (st : StandsFor t world 
     valid = st.valid;
     rules = st.rules;
     templates = st.templates;
+    achievers = st.achievers;
     nodes = stands_now;
     apart = record { once = λ key. let same = totals (λ k x. one_of k key) in let few = st.apart.once key in omega (arith, same, few) };
     whole =

@@ -1,18 +1,10 @@
-use Rattle.std.proofs.Common.{◌≡◌, ℕ, List, [], Option, Some, None, refl, ap, sym, ◌∙◌}
-use Rattle.std.specs.Prelude.{MatchOption}
+use Rattle.std.proofs.Common.{◌≡◌, ℕ, List, Some, ap, sym, ◌∙◌}
 use Rattle.std.specs.List.{find}
-use Rattle.std.specs.Option.{option_and_then}
 use Rattle.slab.specs.Slab.{get}
-use Rattle.bt_model.specs.declared.world.World.{World}
-use Rattle.bt_domain.specs.declared.template.Template.{Template}
 use Rattle.bt_expand.specs.declared.expanding.Site.{Site}
-use Rattle.bt_expand.specs.declared.node.Node.{Node}
-use Rattle.bt_expand.specs.declared.node.Part.TheVariants.{Condition}
 use Rattle.bt_expand.specs.Expanded.{is_open}
 use Rattle.bt_expand.specs.Expansion.{untried}
-use Rattle.bt_expand.specs.Forests.{Forest}
-use Rattle.bt_expand.specs.Growth.{fallback_children, site_in, site_of}
-use Rattle.bt_expand.specs.Stands.{IsConditionOf, StandsFor}
+use Rattle.bt_expand.specs.Growth.{fallback_children}
 use Rattle.bt_expand.proofs.Expansions.{next_is, site_stood, stood_condition}
 use Rattle.bt_expand.proofs.Searched.{none_first}
 use Rattle.bt_expand.proofs.expanding.choose.Goals as goal
@@ -32,7 +24,7 @@ returns-in_default-next_template c = λ world tree st is.
     ∙ ap (λ part. fallback_children part at.keeps_a.node.children.items) at.keeps_a.part_is ∙ ap (λ (ks : List ℕ). fallback_children at.a.part ks) at.keeps_a.children_are in
     none_first (untried world.rows c.args.key tree)
     (sym (next_is world t tree st c.args.key is.0 is.1 at) ∙ ap (λ (ks : List ℕ). find (is_open t is.0 ks) t.templates) (sym tried_is)
-    ∙ ap (λ (site : Site). find (is_open t site.row c.fallback_children-tried.result.now) t.templates) (sym site_is) ∙ sym c.next_template.ensures ∙ c.in_default-next_template.is)
+    ∙ ap (λ (site : Site). find (is_open t site.row c.fallback_children-tried.result.now) t.templates) (sym site_is) ∙ sym (c.next_template.ensures world tree st) ∙ c.in_default-next_template.is)
 
 pub returns : goal.returns
 returns c = λ world tree st is.
@@ -44,7 +36,7 @@ returns c = λ world tree st is.
     ∙ ap (λ part. fallback_children part at.keeps_a.node.children.items) at.keeps_a.part_is ∙ ap (λ (ks : List ℕ). fallback_children at.a.part ks) at.keeps_a.children_are in
     record {
       first = sym (next_is world t tree st c.args.key is.0 is.1 at) ∙ ap (λ (ks : List ℕ). find (is_open t is.0 ks) t.templates) (sym tried_is)
-          ∙ ap (λ (site : Site). find (is_open t site.row c.fallback_children-tried.result.now) t.templates) (sym site_is) ∙ sym c.next_template.ensures ∙ c.in-Some-next_template.is;
+          ∙ ap (λ (site : Site). find (is_open t site.row c.fallback_children-tried.result.now) t.templates) (sym site_is) ∙ sym (c.next_template.ensures world tree st) ∙ c.in-Some-next_template.is;
       node = at.keeps.node;
       there = at.keeps.there;
       parent_is = at.keeps.parent_is ∙ ap (λ (site : Site). Some site.parent) (sym site_is);

@@ -2,7 +2,6 @@ use Rattle.std.proofs.Common.{◌≡◌, ◌+◌, ◌≤◌, ℕ, List, Some, []
 use Rattle.std.proofs.lemmas.List.{length-append, take_all}
 use Rattle.bt_expand.specs.declared.node.Part.TheVariants.{Condition}
 use Rattle.bt_expand.specs.Expansion.{leaves}
-use Rattle.bt_expand.specs.Forests.{size}
 use Rattle.bt_expand.specs.Growth.{Adds}
 use Rattle.bt_expand.proofs.NewNodes.{adds_next, adds_none, size-leaves_all, taken_condition, taken_count}
 use Rattle.bt_expand.proofs.growing.add_conditions.Goals as goal

@@ -1,5 +1,4 @@
-use Rattle.std.proofs.Common.{◌≡◌, ◌++◌, ◌∷◌, [], List, ℕ, ap, sym, ◌∙◌, subst, Some}
-use Rattle.slab.specs.Slab.{get}
+use Rattle.std.proofs.Common.{◌++◌, ◌∷◌, [], List, ℕ, ap, ◌∙◌, subst, Some}
 use Rattle.bt_expand.specs.Growth.{Edits, branch_tree, parts_of}
 use Rattle.bt_expand.proofs.NewNodes.{adds_from}
 use Rattle.bt_expand.proofs.growing.add_last.Goals as goal

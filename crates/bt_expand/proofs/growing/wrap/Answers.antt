@@ -1,4 +1,4 @@
-use Rattle.std.proofs.Common.{◌≡◌, ◌∷◌, [], List, ℕ, ap, sym, ◌∙◌, subst, Some}
+use Rattle.std.proofs.Common.{List, ℕ, subst, Some}
 use Rattle.bt_expand.specs.declared.node.Part.TheVariants.{Fallback}
 use Rattle.bt_expand.specs.Growth.{Edits, blank}
 use Rattle.bt_expand.proofs.NewNodes.{adds_node_from}

@@ -1,7 +1,7 @@
-use Rattle.std.proofs.Common.{◌≡◌, ◌≢◌, ◌+◌, ◌-◌, ◌≤◌, ℕ, [], ◌∷◌, None, Result, Ok, Err, Some, refl, ap, sym, ◌∙◌, subst, arith}
+use Rattle.std.proofs.Common.{◌≡◌, ◌-◌, ℕ, None, Result, Ok, Err, Some, refl, ap, sym, ◌∙◌, arith}
 use Rattle.std.specs.Prelude.{slice_get}
 use Rattle.std.specs.Result.{result_unwrap_or}
-use Rattle.bt_expand.specs.Forests.{height, keys_of, size}
+use Rattle.bt_expand.specs.Forests.{keys_of}
 use Rattle.bt_expand.specs.Numbers.{Numbered}
 use Rattle.bt_expand.proofs.Counted.{height-le_size}
 use Rattle.bt_expand.proofs.Split.{key_counts}

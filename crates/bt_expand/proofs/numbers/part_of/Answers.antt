@@ -1,8 +1,8 @@
-use Rattle.std.proofs.Common.{◌≡◌, ℕ, [], ◌∷◌, Option, Some, None, ap, sym, ◌∙◌}
+use Rattle.std.proofs.Common.{◌≡◌, [], ◌∷◌, Option, Some, None, ap, sym, ◌∙◌}
 use Rattle.std.specs.Prelude.{option_map}
 use Rattle.bt_expand.specs.declared.node.Node.{Node}
 use Rattle.bt_expand.specs.declared.node.Part.{Part}
-use Rattle.bt_expand.specs.Forests.{Forest, part_at}
+use Rattle.bt_expand.specs.Forests.{Forest}
 use Rattle.bt_expand.proofs.Expansions.{node_found}
 use Rattle.bt_expand.proofs.Standing.{kept_at}
 use Rattle.bt_expand.proofs.numbers.part_of.Goals as goal

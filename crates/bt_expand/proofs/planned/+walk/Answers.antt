@@ -1,6 +1,5 @@
-use Rattle.std.proofs.Common.{◌≡◌, ◌≤◌, ℕ, List, [], Option, length, take, ap, sym, ◌∙◌, subst, arith}
+use Rattle.std.proofs.Common.{ℕ, List, ap, sym, ◌∙◌, subst, arith}
 use Rattle.std.proofs.lemmas.List.{take_all}
-use Rattle.bt_model.specs.declared.term.Term.{Term}
 use Rattle.bt_expand.specs.Planned.{terms_of}
 use Rattle.bt_expand.specs.Stands.{Stands}
 use Rattle.bt_expand.proofs.Split.{no_levels, stands_none}

@@ -1,4 +1,4 @@
-use Rattle.std.proofs.Common.{◌≡◌, ◌≤◌, ℕ, List, [], ◌∷◌, Option, Some, None, refl, ap, sym, ◌∙◌, subst, arith}
+use Rattle.std.proofs.Common.{◌≡◌, ℕ, List, [], ◌∷◌, Some, None, ap, sym, ◌∙◌, subst, arith}
 use Rattle.bt_model.specs.declared.term.Term.{Term, roll-Term}
 use Rattle.bt_model.specs.declared.world.Row.{Row}
 use Rattle.bt_expand.specs.declared.node.Node.{Node}
