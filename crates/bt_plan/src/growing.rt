@@ -165,7 +165,8 @@ pub fn grow(
 ) -> Result<Option<End>, NoMemory>
     requires { (tree : Forest) × StandsFor t.old world.now tree × (subtrees tree ≤ 120) }
     ensures { IfOk result (λ end. (trial : Trial) → StandsFor t.old world.now trial.tree →
-        Decides world.now limits.now trial Fails → notes.now ≡ last_notes world.now limits.now trial → length steps.old.items ≤ limits.now.expand
+        Decides world.now limits.now trial Fails → notes.now ≡ last_notes world.now limits.now trial →
+        length steps.old.items ≤ limits.now.expand
         → GoesOrEnds t.new world.now limits.now (length steps.old.items) trial steps.old.items steps.new.items end) }
 {
     let places = failed(alloc, t, notes)?;
