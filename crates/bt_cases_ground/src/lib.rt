@@ -6,8 +6,6 @@ mod faults;
 #[cfg(test)]
 mod long;
 #[cfg(test)]
-mod plans;
-#[cfg(test)]
 mod stage;
 #[cfg(test)]
 mod texts;

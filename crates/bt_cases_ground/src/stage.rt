@@ -2,9 +2,9 @@
 
 ghost use Rattle.std.specs.Prelude.{◌≤◌, length};
 
-use bt_ground::{Ground, GroundFault, TextStop, read_ground, world_of, write_ground};
+use bt_ground::{Ground, GroundFault, read_ground, world_of, write_ground};
 use bt_model::WorldKind;
-use bt_outside::SureSink;
+use bt_outside::{SinkFault, SureSink};
 use bt_script::{NoMemory, Stop};
 use std::alloc::Global;
 
@@ -44,8 +44,8 @@ fn written(alloc: Global, ground: &Ground) -> Result<String, NoMemory> {
     let mut sink = SureSink::new(alloc);
     match write_ground(&mut sink, ground) {
         Ok(()) => {}
-        Err(TextStop::WriteFault) => return Ok(String::from_str(alloc, "a fault of the sink")?),
-        Err(TextStop::NoMemory) => return Err(NoMemory),
+        Err(SinkFault::Failed) => return Ok(String::from_str(alloc, "a fault of the sink")?),
+        Err(SinkFault::NoMemory) => return Err(NoMemory),
     }
     let text = str::from_utf8(sink.list()).unwrap_or("?");
     Ok(String::from_str(alloc, text)?)

@@ -39,10 +39,53 @@ const PLAN: &str = "\
 </root>
 Done";
 
+/// Four rooms, in each of which the light is to be put on.
+const ROOMS: &str =
+    "sort room hall kitchen study attic / forall X room / fact lit_$X 0 / condition Lit_$X is lit_$X == 1 / action Light_$X timed 100 / sets lit_$X = 1 / end / forall X room / goal Lit_$X / end";
+
+const ROOMS_PLAN: &str = "\
+<!-- expand 2 Lit_hall Light_hall raises 0 -->
+<!-- expand 6 Lit_kitchen Light_kitchen raises 0 -->
+<!-- expand 10 Lit_study Light_study raises 0 -->
+<!-- expand 14 Lit_attic Light_attic raises 0 -->
+<!-- reached tick 5 -->
+<root BTCPP_format=\"4\" main_tree_to_execute=\"Plan\">
+  <BehaviorTree ID=\"Plan\">
+    <ReactiveSequence>
+      <ReactiveFallback>
+        <Lit_hall/>
+        <ReactiveSequence>
+          <Light_hall/>
+        </ReactiveSequence>
+      </ReactiveFallback>
+      <ReactiveFallback>
+        <Lit_kitchen/>
+        <ReactiveSequence>
+          <Light_kitchen/>
+        </ReactiveSequence>
+      </ReactiveFallback>
+      <ReactiveFallback>
+        <Lit_study/>
+        <ReactiveSequence>
+          <Light_study/>
+        </ReactiveSequence>
+      </ReactiveFallback>
+      <ReactiveFallback>
+        <Lit_attic/>
+        <ReactiveSequence>
+          <Light_attic/>
+        </ReactiveSequence>
+      </ReactiveFallback>
+    </ReactiveSequence>
+  </BehaviorTree>
+</root>
+Done";
+
 /// Words, the lines of a ground file, and what is answered.
-static GROUNDS: [(&[&str], &str, &str); 18] = [
+static GROUNDS: [(&[&str], &str, &str); 19] = [
     (&["ground", "W"], PLACES, SCRIPT),
     (&["gplan", "W"], PLACES, PLAN),
+    (&["gplan", "W"], ROOMS, ROOMS_PLAN),
     (
         &["gplan", "W", "--expand", "0"],
         PLACES,

@@ -1,5 +1,5 @@
 -- Lines that are replaced in one text are replaced one by one.
-use Rattle.std.proofs.Common.{◌≡◌, ℕ, ◌+◌, Bool, true, false, ◌&&◌, ◌==◌, if◌then◌else◌, List, [], ◌∷◌, ◌++◌, ◌<◌, map, length, drop, get_or, refl, sym, ◌∙◌, ap, append_assoc, arith}
+use Rattle.std.proofs.Common.{◌≡◌, ℕ, ◌+◌, Bool, true, false, ◌&&◌, ◌==◌, if◌then◌else◌, List, [], ◌∷◌, ◌++◌, ◌<◌, map, length, drop, get_or, refl, sym, ◌∙◌, ap, append_assoc, append-nil, arith}
 use Rattle.std.proofs.lemmas.Bool.Decides.{nat_tests}
 use Rattle.std.specs.List.{list_all}
 use Rattle.std.proofs.lemmas.Grind.{flat_map-append}
@@ -50,10 +50,6 @@ flat-append : (xs ys : List Line) → flat_lines (xs ++ ys) ≡ record { text = 
 flat-append xs ys =
     ap (λ t. let f : FlatLines = record { text = t; origins = map (λ line. line.origin) (xs ++ ys) } in f) (flat_map-append (λ (line : Line). line.text ++ 10 ∷ []) xs ys)
     ∙ ap (λ o. let f : FlatLines = record { text = flat_text xs ++ flat_text ys; origins = o } in f) (map-append (λ (line : Line). line.origin) xs ys)
-
-pub append-nil : {A : Type 0} (xs : List A) → xs ++ [] ≡ xs
-append-nil [] = refl
-append-nil (x ∷ xs) = ap (λ t. x ∷ t) (append-nil xs)
 
 filled_after : (x : ℕ) (value : List ℕ) (place : ℕ) → (10 == x) ≡ false → (lines before : List Line) →
     (let f : FlatLines = record { text = flat_text before ++ filled x value place (flat_text lines); origins = map (λ line. line.origin) before ++ map (λ line. line.origin) lines } in f)

@@ -1,9 +1,8 @@
 -- A text that is written piece by piece.
-use Rattle.std.proofs.Common.{◌≡◌, ℕ, zero, suc, ◌==◌, true, List, [], ◌∷◌, ◌++◌, length, take, drop, Option, refl, sym, ◌∙◌, ap, subst, append_assoc, arith}
+use Rattle.std.proofs.Common.{◌≡◌, ℕ, zero, suc, ◌==◌, true, List, [], ◌∷◌, ◌++◌, length, take, drop, Option, refl, sym, ◌∙◌, ap, subst, append_assoc, append-nil, arith}
 use Rattle.bt_outside.specs.Appending.{Appended, AppendedPrefix}
 use Rattle.bt_outside.proofs.Appends.{Appended-nil, Appended-trans, AppendedPrefix-after, AppendedPrefix-longer}
 use Rattle.bt_ground.specs.Writing.{IsUnderway}
-use Rattle.bt_ground.proofs.Flat.{append-nil}
 
 pub nothing_written : (text rest : List ℕ) (old : Option (List ℕ)) → rest ≡ text → IsUnderway text rest old old
 nothing_written text rest old is = record { said = []; parts = sym is; appended = Appended-nil old }

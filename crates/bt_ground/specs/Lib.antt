@@ -6,5 +6,4 @@ pub mod Readings
 pub mod Seen
 pub mod Sizes
 pub mod Sound
-pub mod Stops
 pub mod Writing

@@ -23,4 +23,4 @@ pub use fault::GroundFault;
 pub use ground::Ground;
 pub use read::read_ground;
 pub use world::world_of;
-pub use write::{TextStop, write_ground};
+pub use write::write_ground;

@@ -4,6 +4,7 @@ ghost use Rattle.bt_ground.specs.GroundFile as file;
 ghost use Rattle.bt_ground.specs.GroundFile.{nothing_read, reads_ground, with_lines};
 ghost use Rattle.bt_ground.specs.Readings.{Leaves};
 ghost use Rattle.bt_ground.specs.Sound.{is_short, IsSound};
+ghost use Rattle.bt_model.specs.Limits.{most_file_bytes};
 ghost use Rattle.bt_world.specs.Readings.{Gives};
 
 use crate::fault::GroundFault;
@@ -21,7 +22,7 @@ use std::alloc::Global;
 /// `Unended`, else `TooManyGround`, for which no text is made. `NoMemory` (want of memory, that is, out of memory), here
 /// and below, where an allocation fails.
 pub fn read_ground(alloc: Global, bytes: &[u8]) -> Result<Ground, Stop<GroundFault>>
-    requires { length bytes.now ≤ 1048576 }
+    requires { length bytes.now ≤ most_file_bytes }
     ensures { Gives result (λ said. said ≡ reads_ground bytes.now) }
 {
     let parts = parts(alloc, bytes, b'\n')?;

@@ -6,29 +6,6 @@ ghost use Rattle.bt_outside.specs.Counts.{Rose};
 use crate::ground::Ground;
 use bt_outside::{Sink, SinkFault};
 
-/// Why a text was not written to its end.
-#[derive(Clone, Copy, Debug, PartialEq, Eq)]
-pub enum TextStop {
-    /// The sink failed: its count of failures rose.
-    WriteFault,
-    /// The sink had want of memory (out of memory).
-    NoMemory,
-}
-
-impl From<SinkFault> for TextStop {
-    ghost use Rattle.std.specs.Prelude.{◌≡◌};
-    ghost use Rattle.bt_ground.specs.Stops.{text_stop};
-
-    ghost from_gives = { λ fault stop. stop ≡ text_stop fault };
-
-    fn from(fault: SinkFault) -> TextStop {
-        match fault {
-            SinkFault::Failed => TextStop::WriteFault,
-            SinkFault::NoMemory => TextStop::NoMemory,
-        }
-    }
-}
-
 /// How many bytes stand before the first line feed.
 fn until_feed(text: &[u8]) -> usize
     ensures { result ≡ position_or_len (λ b. b == 10) text.now }
@@ -45,11 +22,11 @@ fn line_len(text: &[u8]) -> usize
 }
 
 /// Writes the text of the world script by one write a line. After a stop a prefix of it was written.
-/// `TextStop::WriteFault` comes only where the sink's count of failures rose in this call.
-pub fn write_ground<K: Sink>(out: &mut K, g: &Ground) -> Result<(), TextStop>
+/// `SinkFault::Failed` comes only where the sink's count of failures rose in this call.
+pub fn write_ground<K: Sink>(out: &mut K, g: &Ground) -> Result<(), SinkFault>
     ensures whole { OnOk result (Appended (K.written out.old) (K.written out.new) g.now.text) }
     ensures prefix { AppendedPrefix (K.written out.old) (K.written out.new) g.now.text }
-    ensures failed { IsErrOf result TextStop.WriteFault → Rose (K.faults out.old) (K.faults out.new) }
+    ensures failed { IsErrOf result SinkFault.Failed → Rose (K.faults out.old) (K.faults out.new) }
     ensures count { K.faults out.old ≤ K.faults out.new }
 {
     let mut rest = g.text();

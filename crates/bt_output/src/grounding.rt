@@ -3,8 +3,8 @@ ghost use Rattle.bt_output.specs.Answers.{Printed};
 ghost use Rattle.bt_output.specs.Grounds.{ground_output};
 
 use bt_command_line::Exit;
-use bt_ground::{Ground, TextStop, write_ground};
-use bt_outside::Sink;
+use bt_ground::{Ground, write_ground};
+use bt_outside::{Sink, SinkFault};
 
 /// Writes the world script that a ground file stands for.
 pub fn print_ground<K: Sink>(ground: &Ground, out: &mut K) -> Exit
@@ -14,7 +14,7 @@ pub fn print_ground<K: Sink>(ground: &Ground, out: &mut K) -> Exit
 {
     match write_ground(out, ground) {
         Ok(()) => Exit::Done,
-        Err(TextStop::WriteFault) => Exit::Write,
-        Err(TextStop::NoMemory) => Exit::Memory,
+        Err(SinkFault::Failed) => Exit::Write,
+        Err(SinkFault::NoMemory) => Exit::Memory,
     }
 }

@@ -171,7 +171,8 @@ fn write_reached<K: Sink>(alloc: Global, end: &End, out: &mut K) -> Result<(), T
 /// `TextStop::WriteFault` comes only where the sink's count of failures rose in this call.
 #[tactic(auto, using(bt_outside::proofs::Appends::appending))]
 fn write_end<K: Sink>(alloc: Global, end: &End, out: &mut K) -> Result<(), TextStop>
-    ensures whole { OnOk result (Appended (K.written out.old) (K.written out.new) (end_line no_names end.now ++ concat (reached_lines end.now))) }
+    ensures whole { OnOk result
+        (Appended (K.written out.old) (K.written out.new) (end_line no_names end.now ++ concat (reached_lines end.now))) }
     ensures prefix { AppendedPrefix (K.written out.old) (K.written out.new) (end_line no_names end.now ++ concat (reached_lines end.now)) }
     ensures failed { IsErrOf result TextStop.WriteFault → Rose (K.faults out.old) (K.faults out.new) }
     ensures count { K.faults out.old ≤ K.faults out.new }
