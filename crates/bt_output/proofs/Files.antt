@@ -16,18 +16,24 @@ use Rattle.bt_outside.specs.Counts.{Rose}
 use Rattle.bt_outside.specs.Files.{Told}
 use Rattle.bt_outside.specs.Moments.{Moments}
 use Rattle.bt_outside.proofs.Rises.{Rose-after}
-use Rattle.bt_output.specs.declared.course.Course.{Course}
-use Rattle.bt_output.specs.declared.course.Course.TheVariants as course
-use Rattle.bt_output.specs.declared.print.Print.{Print}
-use Rattle.bt_output.specs.declared.refusal.File.{File}
-use Rattle.bt_output.specs.declared.refusal.File.TheVariants as file
-use Rattle.bt_output.specs.declared.refusal.Refusal.{Refusal}
-use Rattle.bt_output.specs.declared.refusal.Refusal.TheVariants as refusal
-use Rattle.bt_output.specs.Answers.{Answers, AreTold, AtMoments, CommandAnswered, Gave, IfTold, IsRefused, Printed, Side, ToldIfNamed, no_moments, side}
-use Rattle.bt_output.specs.Ends.{CommandEnds, Ends, EndsAt, FilesEnd, IsUntouched}
+use Rattle.bt_courses.specs.declared.course.Course.{Course}
+use Rattle.bt_courses.specs.declared.course.Course.TheVariants as course
+use Rattle.bt_printing.specs.declared.print.Print.{Print}
+use Rattle.bt_refusals.specs.declared.refusal.File.{File}
+use Rattle.bt_refusals.specs.declared.refusal.File.TheVariants as file
+use Rattle.bt_refusals.specs.declared.refusal.Refusal.{Refusal}
+use Rattle.bt_refusals.specs.declared.refusal.Refusal.TheVariants as refusal
+use Rattle.bt_answers.specs.Answers.{Answers, Gave, Printed, Side, side}
+use Rattle.bt_output.specs.Answers.{AreTold, CommandAnswered, ToldIfNamed}
+use Rattle.bt_refusals.specs.Refused.{IsRefused, refused_as, stopped_as, too_long, tree_refused, unread, world_refused}
+use Rattle.bt_output.specs.Ends.{CommandEnds, FilesEnd}
+use Rattle.bt_refusals.specs.Ends.{Ends, EndsAt, IsUntouched}
 use Rattle.bt_output.specs.Files.{Contents, Named, no_files, tree_alone, tree_and_world, tree_world_rules, world_alone}
 use Rattle.bt_output.specs.Jobs.{FilesBegin, FilesGive, files_of}
-use Rattle.bt_output.specs.Output.{AreUncalled, Beginning, BeginsNothing, Begun, CourseGives, Ending, Given, Giving, JoinGives, MockGives, Mocks, Output, PrintGives, Prints, ReadGives, RunGives, RunsOn, ScriptMocks, Standing, given, is_too_long, itself, mocked, print_output, refused_as, rules_refused, standing_output, stopped_as, too_long, tree_refused, unread, world_refused}
+use Rattle.bt_answers.specs.Output.{AreUncalled, Begun, Ending, Output}
+use Rattle.bt_output.specs.Gives.{Beginning, BeginsNothing, CourseGives, Giving, MockGives, Mocks, PrintGives, Prints, ReadGives, RunGives, RunsOn, ScriptMocks, Standing, StandingGives, is_too_long, itself, mocked, standing_output}
+use Rattle.bt_courses.specs.Runs.{Given, JoinGives, given}
+use Rattle.bt_printing.specs.Printed.{print_output}
 use Rattle.bt_outside.specs.declared.shelf.ShelfFault.TheVariants as shelf
 use Rattle.bt_output.specs.Reads.{IsLong, IsUnread, Reading, Unread, WasRead}
 use Rattle.bt_output.specs.TreeFiles.{ReadsAs, TreeReads}
@@ -37,43 +43,8 @@ use Rattle.bt_script.specs.Stops.{Gives as Makes}
 use Rattle.bt_world.specs.Readings.{Gives}
 use Rattle.bt_script.specs.declared.stop.Stop.{Stop}
 use Rattle.bt_script.specs.declared.stop.Stop.TheVariants as stop
-
--- ---- Moments
-
--- the moments of a clock, or none
-abbrev pub some_moments : Option Moments → Moments
-some_moments None = no_moments
-some_moments (Some told) = told
-
-some_told : (clock : Option Moments) → IfTold clock (λ told. some_moments clock ≡ told)
-some_told None = tt
-some_told (Some told) = refl
-
--- a fact of any moments, and one that follows
-pub at_any : (clock : Option Moments) (P : Moments → Type 0) → ((moments : Moments) → P moments) → AtMoments clock P
-at_any clock P p = record { moments = some_moments clock; told = some_told clock; holds = p (some_moments clock) }
-
-pub at_more : (clock : Option Moments) (P Q : Moments → Type 0) → ((moments : Moments) → P moments → Q moments) → AtMoments clock P → AtMoments clock Q
-at_more clock P Q more x = record { moments = x.moments; told = x.told; holds = more x.moments x.holds }
-
--- ---- Ends
-
--- nothing was done
-pub still : (s : Side) → IsUntouched s s
-still s = record { written = refl; faults = refl; clock = refl; drivers = λ place. refl }
-
-some_more : (o : Option Output) (P Q : Output → Type 0) → ((o : Output) → P o → Q o) → IfSome o P → IfSome o Q
-some_more None P Q more x = tt
-some_more (Some o) P Q more x = more o x
-
-pub ends_more : (P Q : Output → Type 0) (H K : Begun) → ((o : Output) → P o → Q o) → ((old new : List DriverState) → H old new → K old new) → (result : Result Exit Refusal) (a b : Side) → Ends P H result a b → Ends Q K result a b
-ends_more P Q H K more further (Ok exit) a b (inl x) = inl (x.0, more x.0 x.1, x.2)
-ends_more P Q H K more further (Ok exit) a b (inr x) = inr (record { exit = x.exit; written = x.written; clock = x.clock; drivers = further a.drivers b.drivers x.drivers })
-ends_more P Q H K more further (Err r) a b x = (some_more (refused_as r) P Q more x.0, x.1)
-
--- a refusal whose output is one of these, or that has none
-pub refused_ends : (P : Ending) (H : Begun) (r : Refusal) (a : Side) → ((moments : Moments) → IfSome (refused_as r) (P moments a.drivers)) → EndsAt P H (Err r) a a
-refused_ends P H r a p = at_any a.clock (λ moments. Ends (P moments a.drivers) H (Err r) a a) (λ moments. (p moments, still a))
+use Rattle.bt_answers.proofs.Moments.{at_any, at_more}
+use Rattle.bt_refusals.proofs.Ends.{ends_more, refused_ends, still}
 
 -- ---- Lengths
 
@@ -120,18 +91,12 @@ module _ (P : Ending) (course : Course) (main : Option (List ℕ)) (stands : Sta
     world_failed t (stop.Fault f) a reads described = refused_ends P AreUncalled (refusal.World f) a (λ moments. gives moments a.drivers (world_refused f) (Ok t, reads, (Err f, described, refl)))
     world_failed t stop.NoMemory a reads described = refused_ends P AreUncalled refusal.NoMemory a (λ moments. tt)
 
-    -- there is no tree in the place of the one that was read
-    place_failed : (t : Tree) (w : World) (stopped : Stop MockFault) (a : Side) → ReadsAs (Ok t) main tree → ReadsWorld world (Ok w) → (let r : Result Tree (Stop MockFault) = Err stopped in Makes r (stands t)) → EndsAt P AreUncalled (Err (stopped_as refusal.Rules stopped)) a a
-    place_failed t w (stop.Fault f) a reads described none =
-        refused_ends P AreUncalled (refusal.Rules f) a (λ moments. gives moments a.drivers (rules_refused f) (Ok t, reads, (Ok w, described, sym (ap (λ (s : Result Tree MockFault). standing_output s w (given course moments a.drivers)) none))))
-    place_failed t w stop.NoMemory a reads described none = refused_ends P AreUncalled refusal.NoMemory a (λ moments. tt)
-
-    -- all were parsed
-    all_read : (t standing : Tree) (w : World) (result : Result Exit Refusal) (a b : Side) → ReadsAs (Ok t) main tree → ReadsWorld world (Ok w) → stands t ≡ Ok standing → EndsAt (JoinGives standing w course) AreUncalled result a b → EndsAt P AreUncalled result a b
-    all_read t standing w result a b reads described is ends =
-        at_more a.clock (λ moments. Ends (JoinGives standing w course moments a.drivers) AreUncalled result a b) (λ moments. Ends (P moments a.drivers) AreUncalled result a b)
-        (λ moments. ends_more (JoinGives standing w course moments a.drivers) (P moments a.drivers) AreUncalled AreUncalled
-        (λ o e. gives moments a.drivers o (Ok t, reads, (Ok w, described, e ∙ sym (ap (λ (s : Result Tree MockFault). standing_output s w (given course moments a.drivers)) is)))) (λ old new begun. begun) result a b) ends
+    -- both were parsed, and what stands in the place of the tree was run
+    place_ended : (t : Tree) (w : World) (result : Result Exit Refusal) (a b : Side) → ReadsAs (Ok t) main tree → ReadsWorld world (Ok w) → EndsAt (StandingGives (stands t) w course) AreUncalled result a b → EndsAt P AreUncalled result a b
+    place_ended t w result a b reads described ends =
+        at_more a.clock (λ moments. Ends (StandingGives (stands t) w course moments a.drivers) AreUncalled result a b) (λ moments. Ends (P moments a.drivers) AreUncalled result a b)
+        (λ moments. ends_more (StandingGives (stands t) w course moments a.drivers) (P moments a.drivers) AreUncalled AreUncalled
+        (λ o e. gives moments a.drivers o (Ok t, reads, (Ok w, described, e))) (λ old new begun. begun) result a b) ends
 
 -- the bytes of both files of a run
 module _ (course : Course) (main : Option (List ℕ)) (tree world : List ℕ) (st : length tree ≤ most_file_bytes) (sw : length world ≤ most_file_bytes) where
@@ -145,7 +110,7 @@ module _ (course : Course) (main : Option (List ℕ)) (tree world : List ℕ) (s
   world_stopped t stopped a reads described = world_failed (CourseGives course main tree world) course main itself tree world runs t stopped a reads described
 
   pub both_parsed : (t : Tree) (w : World) (result : Result Exit Refusal) (a b : Side) → ReadsAs (Ok t) main tree → ReadsWorld world (Ok w) → EndsAt (JoinGives t w course) AreUncalled result a b → EndsAt (CourseGives course main tree world) AreUncalled result a b
-  both_parsed t w result a b reads described ends = all_read (CourseGives course main tree world) course main itself tree world runs t t w result a b reads described refl ends
+  both_parsed t w result a b reads described ends = place_ended (CourseGives course main tree world) course main itself tree world runs t w result a b reads described ends
 
 -- the bytes of the three files of a run of mocks
 module _ (main : Option (List ℕ)) (tree world rules : List ℕ) (st : length tree ≤ most_file_bytes) (sw : length world ≤ most_file_bytes) (sr : length rules ≤ most_file_bytes) where
@@ -158,11 +123,23 @@ module _ (main : Option (List ℕ)) (tree world rules : List ℕ) (st : length t
   pub mock_world_stopped : (t : Tree) (stopped : Stop WorldFault) (a : Side) → ReadsAs (Ok t) main tree → (let r : Result World (Stop WorldFault) = Err stopped in Gives r (ReadsWorld world)) → EndsAt (ScriptMocks main tree world rules) AreUncalled (Err (stopped_as refusal.World stopped)) a a
   mock_world_stopped t stopped a reads described = world_failed (ScriptMocks main tree world rules) course.Script main (mocked rules) tree world mocks t stopped a reads described
 
-  pub rules_stopped : (t : Tree) (w : World) (stopped : Stop MockFault) (a : Side) → ReadsAs (Ok t) main tree → ReadsWorld world (Ok w) → (let r : Result Tree (Stop MockFault) = Err stopped in Makes r (mocked rules t)) → EndsAt (ScriptMocks main tree world rules) AreUncalled (Err (stopped_as refusal.Rules stopped)) a a
-  rules_stopped t w stopped a reads described none = place_failed (ScriptMocks main tree world rules) course.Script main (mocked rules) tree world mocks t w stopped a reads described none
+  pub both_mocked : (t : Tree) (w : World) (result : Result Exit Refusal) (a b : Side) → ReadsAs (Ok t) main tree → ReadsWorld world (Ok w) → EndsAt (StandingGives (mocked rules t) w course.Script) AreUncalled result a b → EndsAt (ScriptMocks main tree world rules) AreUncalled result a b
+  both_mocked t w result a b reads described ends = place_ended (ScriptMocks main tree world rules) course.Script main (mocked rules) tree world mocks t w result a b reads described ends
 
-  pub all_parsed : (t standing : Tree) (w : World) (result : Result Exit Refusal) (a b : Side) → ReadsAs (Ok t) main tree → ReadsWorld world (Ok w) → mocked rules t ≡ Ok standing → EndsAt (JoinGives standing w course.Script) AreUncalled result a b → EndsAt (ScriptMocks main tree world rules) AreUncalled result a b
-  all_parsed t standing w result a b reads described is ends = all_read (ScriptMocks main tree world rules) course.Script main (mocked rules) tree world mocks t standing w result a b reads described is ends
+-- the rules of a file make of a tree what is run in a world
+module _ (rules : List ℕ) (tree : Tree) (world : World) where
+  -- they make none
+  pub rules_stopped : (stopped : Stop MockFault) (a : Side) → (let r : Result Tree (Stop MockFault) = Err stopped in Makes r (mocked rules tree)) → EndsAt (StandingGives (mocked rules tree) world course.Script) AreUncalled (Err (stopped_as refusal.Rules stopped)) a a
+  rules_stopped (stop.Fault f) a none =
+      refused_ends (StandingGives (mocked rules tree) world course.Script) AreUncalled (refusal.Rules f) a (λ moments. sym (ap (λ (s : Result Tree MockFault). standing_output s world (given course.Script moments a.drivers)) none))
+  rules_stopped stop.NoMemory a none = refused_ends (StandingGives (mocked rules tree) world course.Script) AreUncalled refusal.NoMemory a (λ moments. tt)
+
+  -- it was run
+  pub mocked_ran : (standing : Tree) (result : Result Exit Refusal) (a b : Side) → mocked rules tree ≡ Ok standing → EndsAt (JoinGives standing world course.Script) AreUncalled result a b → EndsAt (StandingGives (mocked rules tree) world course.Script) AreUncalled result a b
+  mocked_ran standing result a b is ends =
+      at_more a.clock (λ moments. Ends (JoinGives standing world course.Script moments a.drivers) AreUncalled result a b) (λ moments. Ends (StandingGives (mocked rules tree) world course.Script moments a.drivers) AreUncalled result a b)
+      (λ moments. ends_more (JoinGives standing world course.Script moments a.drivers) (StandingGives (mocked rules tree) world course.Script moments a.drivers) AreUncalled AreUncalled
+      (λ o e. e ∙ sym (ap (λ (s : Result Tree MockFault). standing_output s world (given course.Script moments a.drivers)) is)) (λ old new begun. begun) result a b) ends
 
 -- ---- Files
 

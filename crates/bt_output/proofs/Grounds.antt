@@ -7,15 +7,21 @@ use Rattle.bt_model.specs.declared.world.World.{World}
 use Rattle.bt_model.specs.Drivers.{DriverState}
 use Rattle.bt_model.specs.Limits.{most_file_bytes}
 use Rattle.bt_outside.specs.Files.{Told}
-use Rattle.bt_output.specs.declared.refusal.Refusal.{Refusal}
-use Rattle.bt_output.specs.declared.refusal.Refusal.TheVariants as refusal
-use Rattle.bt_output.specs.Answers.{Printed, Side, side}
-use Rattle.bt_output.specs.Ends.{Ends, EndsAt, FilesEnd}
+use Rattle.bt_refusals.specs.declared.refusal.Refusal.{Refusal}
+use Rattle.bt_refusals.specs.declared.refusal.Refusal.TheVariants as refusal
+use Rattle.bt_answers.specs.Answers.{Printed, Side, side}
+use Rattle.bt_refusals.specs.Ends.{Ends, EndsAt}
+use Rattle.bt_output.specs.Ends.{FilesEnd}
 use Rattle.bt_output.specs.Files.{world_alone}
-use Rattle.bt_output.specs.Grounds.{GroundGives, GroundPlanBegins, GroundPlanGives, GroundPlans, GroundedPlans, Grounds, ground_output}
-use Rattle.bt_output.specs.Output.{AreUncalled, BeginsNothing, Output, ground_refused, stopped_as}
-use Rattle.bt_output.specs.Plans.{WorldBegun, WorldPlans}
-use Rattle.bt_output.proofs.Files.{LongAlone, alone, at_any, at_more, ends_more, long_is, match_false, match_true, refused_ends, short_is}
+use Rattle.bt_output.specs.Grounds.{GroundGives, GroundPlanBegins, GroundPlanGives, GroundPlans, GroundedPlans, Grounds}
+use Rattle.bt_printing.specs.Printed.{ground_output}
+use Rattle.bt_answers.specs.Output.{AreUncalled, Output}
+use Rattle.bt_output.specs.Gives.{BeginsNothing}
+use Rattle.bt_refusals.specs.Refused.{ground_refused, stopped_as}
+use Rattle.bt_planning.specs.Plans.{WorldBegun, WorldPlans}
+use Rattle.bt_output.proofs.Files.{LongAlone, alone, long_is, match_false, match_true, short_is}
+use Rattle.bt_answers.proofs.Moments.{at_any, at_more}
+use Rattle.bt_refusals.proofs.Ends.{ends_more, refused_ends}
 use Rattle.bt_plan.specs.declared.ending.Limits.{Limits}
 use Rattle.bt_script.specs.declared.stop.Stop.{Stop}
 use Rattle.bt_script.specs.declared.stop.Stop.TheVariants as stop

@@ -1,5 +1,3 @@
 pub mod Files
 pub mod Grounds
 pub mod Plans
-pub mod Runs
-pub mod Within

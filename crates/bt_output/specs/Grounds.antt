@@ -1,22 +1,19 @@
 -- The output of a ground file, and of a plan for the world script that it stands for.
-use Rattle.std.specs.Prelude.{ℕ, ◌≡◌, ◌≤◌, ◌⊎◌, List, None, length, Result, Ok, Err}
-use Rattle.bt_command_line.specs.declared.exit.Exit.TheVariants as exit
+use Rattle.std.specs.Prelude.{ℕ, ◌≡◌, List, length, Result, Ok, Err, ◌≤◌, ◌⊎◌}
+use Rattle.bt_refusals.specs.declared.refusal.File.TheVariants as file
 use Rattle.bt_ground.specs.declared.fault.GroundFault.{GroundFault}
-use Rattle.bt_ground.specs.GroundFile.{Grounded, MakesWorld, reads_ground}
 use Rattle.bt_model.specs.declared.world.World.{World}
 use Rattle.bt_model.specs.Drivers.{DriverState}
 use Rattle.bt_model.specs.Limits.{most_file_bytes}
-use Rattle.bt_output.specs.declared.refusal.File.TheVariants as file
-use Rattle.bt_output.specs.Output.{AreUncalled, Beginning, Begun, Giving, Never, OrTooLong, Output, ground_refused, too_long}
-use Rattle.bt_output.specs.Plans.{WorldBegun, WorldPlans}
+use Rattle.bt_planning.specs.Plans.{WorldBegun, WorldPlans}
+use Rattle.bt_answers.specs.Output.{AreUncalled, Begun, Output}
+use Rattle.bt_output.specs.Gives.{Beginning, Giving, OrTooLong}
+use Rattle.bt_refusals.specs.Refused.{too_long, ground_refused}
 use Rattle.bt_plan.specs.declared.ending.Limits.{Limits}
+use Rattle.bt_ground.specs.GroundFile.{Grounded, MakesWorld, reads_ground}
+use Rattle.bt_printing.specs.Printed.{ground_output}
 
--- the text of a ground file, or its refusal
-abbrev pub ground_output : Result Grounded GroundFault → Output
-ground_output (Ok g) = record { bytes = g.text; exit = exit.Done; drivers = None; asked = Never }
-ground_output (Err fault) = ground_refused fault
-
--- .. over the bytes of the file
+-- what a ground file gives, over its bytes
 abbrev pub GroundGives : List ℕ → Output → Type 0
 GroundGives bytes output = OrTooLong bytes (too_long file.World) output (output ≡ ground_output (reads_ground bytes))
 

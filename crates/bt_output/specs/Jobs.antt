@@ -4,11 +4,13 @@ use Rattle.bt_command_line.specs.Words.{Command, Tick, Live, Load, Check, Dead, 
 use Rattle.bt_load.specs.Texts.{tree_text, world_text}
 use Rattle.bt_model.specs.Drivers.{DriverState}
 use Rattle.bt_outside.specs.Moments.{Moments}
-use Rattle.bt_output.specs.declared.course.Course.TheVariants as course
-use Rattle.bt_output.specs.declared.print.Print.TheVariants as print
+use Rattle.bt_courses.specs.declared.course.Course.TheVariants as course
+use Rattle.bt_printing.specs.declared.print.Print.TheVariants as print
 use Rattle.bt_output.specs.Files.{Contents, Named, no_files, tree_alone, tree_and_world, tree_world_rules, world_alone}
 use Rattle.bt_output.specs.Grounds.{GroundBegins, GroundPlans, Grounds}
-use Rattle.bt_output.specs.Output.{Beginning, BeginsNothing, CourseGives, Giving, Mocks, Output, Prints, RunsOn, words_refused}
+use Rattle.bt_output.specs.Gives.{Beginning, BeginsNothing, CourseGives, Giving, Mocks, Prints, RunsOn}
+use Rattle.bt_answers.specs.Output.{Output}
+use Rattle.bt_refusals.specs.Refused.{words_refused}
 use Rattle.bt_output.specs.Plans.{Begins, Plans}
 use Rattle.bt_plan.specs.declared.ending.Limits.{Limits}
 

@@ -1,11 +1,9 @@
 pub mod Answers
-pub mod Courses
 pub mod Ends
 pub mod Files
+pub mod Gives
 pub mod Grounds
 pub mod Jobs
-pub mod Lent
-pub mod Output
 pub mod Plans
 pub mod Reads
 pub mod TreeFiles

@@ -6,10 +6,10 @@ use Rattle.bt_outside.specs.Counts.{Rose}
 use Rattle.bt_outside.specs.Files.{Told}
 use Rattle.bt_outside.specs.declared.shelf.ShelfFault.{ShelfFault}
 use Rattle.bt_outside.specs.declared.shelf.ShelfFault.TheVariants as fault
-use Rattle.bt_output.specs.declared.refusal.File.{File}
-use Rattle.bt_output.specs.declared.refusal.File.TheVariants as file
-use Rattle.bt_output.specs.declared.refusal.Refusal.{Refusal}
-use Rattle.bt_output.specs.declared.refusal.Refusal.TheVariants as refusal
+use Rattle.bt_refusals.specs.declared.refusal.File.{File}
+use Rattle.bt_refusals.specs.declared.refusal.File.TheVariants as file
+use Rattle.bt_refusals.specs.declared.refusal.Refusal.{Refusal}
+use Rattle.bt_refusals.specs.declared.refusal.Refusal.TheVariants as refusal
 use Rattle.bt_output.specs.Files.{Named}
 use Rattle.bt_output.specs.Jobs.{files_of}
 

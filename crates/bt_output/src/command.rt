@@ -4,36 +4,40 @@ ghost use Rattle.bt_command_line.specs.Commands.{IsInRange, command_seen};
 ghost use Rattle.bt_command_line.specs.Words.{Load, command_of};
 ghost use Rattle.bt_model.specs.Drivers.{NothingHeld};
 ghost use Rattle.bt_model.specs.Limits.{most_file_bytes, most_leaves};
-ghost use Rattle.bt_output.specs.Answers.{CommandAnswered, side};
+ghost use Rattle.bt_model.specs.Trees.{IsValid};
+ghost use Rattle.bt_model.specs.Worlds.{IsValidWorld};
+ghost use Rattle.bt_courses.specs.declared.course.Course.TheVariants as course;
+ghost use Rattle.bt_output.specs.Answers.{CommandAnswered};
+ghost use Rattle.bt_answers.specs.Answers.{side};
 ghost use Rattle.bt_outside.specs.Counts.{Rose};
-ghost use Rattle.bt_output.specs.Ends.{CommandEnds, EndsAt, FilesEnd};
-ghost use Rattle.bt_output.specs.Lent.{Stays, seen};
+ghost use Rattle.bt_output.specs.Ends.{CommandEnds, FilesEnd};
+ghost use Rattle.bt_refusals.specs.Ends.{EndsAt};
+ghost use Rattle.bt_answers.specs.Lent.{Stays, seen};
 ghost use Rattle.bt_output.specs.Files.{no_files, tree_alone, tree_and_world, tree_world_rules, world_alone};
 ghost use Rattle.bt_output.specs.Grounds.{GroundBegins, GroundPlanBegins, GroundPlanGives, GroundPlans, Grounds};
 ghost use Rattle.bt_output.specs.Jobs.{FilesBegin, FilesGive, files_of};
-ghost use Rattle.bt_output.specs.Output.{AreUncalled, BeginsNothing, CourseGives, Mocks, Prints, RunsOn, ScriptMocks};
+ghost use Rattle.bt_answers.specs.Output.{AreUncalled};
+ghost use Rattle.bt_output.specs.Gives.{BeginsNothing, CourseGives, Mocks, Prints, RunsOn, ScriptMocks, StandingGives, mocked};
 ghost use Rattle.bt_output.specs.Plans.{Begins, PlanBegins, PlanGives, Plans};
 ghost use Rattle.bt_plan.specs.PlanRuns.{AreInRange};
 ghost use Rattle.bt_output.specs.Reads.{Unread, WordsUnread};
 ghost use Rattle.bt_trace.specs.Traces.{AreKept};
 
-use crate::course::Course;
-use crate::grounding::print_ground;
-use crate::join::join_and_run;
 use crate::mocking::mock_tree;
-use crate::outside::Outside;
-use crate::planning::plan_and_print;
-use crate::print::Print;
-use crate::printing::print_tree;
 use crate::reading::read_file;
-use crate::refusal::{File, Refusal, write_refusal};
 use crate::tree_file::parse_tree;
+use bt_answers::Outside;
 use bt_command_line::{Command, Exit, read_command};
+use bt_courses::{Course, join_and_run};
 use bt_driver::Drivers;
 use bt_ground::{read_ground, world_of};
 use bt_load::{load_tree, load_world};
+use bt_model::{Tree, World};
 use bt_outside::{Clock, Shelf, Sink};
 use bt_plan::Limits;
+use bt_planning::plan_and_print;
+use bt_printing::{Print, print_ground, print_tree};
+use bt_refusals::{File, Refusal, write_refusal};
 use bt_script::Name;
 use bt_world::read_world;
 use std::alloc::Global;
@@ -57,8 +61,19 @@ fn run_files<S: Shelf, K: Sink, C: Clock, D: Drivers>(
     ensures stays { Stays S.faults K.faults D.states outside.old outside.new }
 {
     let tree = parse_tree(alloc, tree, main)?;
-    let world = read_world(alloc, world)?;
-    join_and_run(alloc, &tree, &world, course, outside)
+    // What is large is dropped by a call, here and below, which is proved once.
+    match read_world(alloc, world) {
+        Ok(world) => {
+            let ended = join_and_run(alloc, &tree, &world, course, outside);
+            drop(world);
+            drop(tree);
+            ended
+        }
+        Err(stopped) => {
+            drop(tree);
+            Err(Refusal::from(stopped))
+        }
+    }
 }
 
 /// Reads both files of a run, and runs the tree of the one in the world of the other.
@@ -138,7 +153,9 @@ fn read_and_print<S: Shelf, K: Sink, C: Clock, D: Drivers>(
 {
     let bytes = read_file(alloc, File::Tree, tree, outside.shelf)?;
     let tree = parse_tree(alloc, bytes.as_slice(), main)?;
-    Ok(print_tree(alloc, &tree, print, outside.out))
+    let exit = print_tree(alloc, &tree, print, outside.out);
+    drop(tree);
+    Ok(exit)
 }
 
 /// Plans for the goals of the world of these bytes of a world script.
@@ -157,7 +174,9 @@ fn plan_file<S: Shelf, K: Sink, C: Clock, D: Drivers>(
     ensures stays { Stays S.faults K.faults D.states outside.old outside.new }
 {
     let world = read_world(alloc, world)?;
-    plan_and_print(alloc, &world, limits, outside)
+    let ended = plan_and_print(alloc, &world, limits, outside);
+    drop(world);
+    ended
 }
 
 /// Reads a world script and plans for its goals.
@@ -199,7 +218,9 @@ fn plan_ground<S: Shelf, K: Sink, C: Clock, D: Drivers>(
 {
     let ground = read_ground(alloc, bytes)?;
     let world = world_of(alloc, &ground)?;
-    plan_and_print(alloc, &world, limits, outside)
+    let ended = plan_and_print(alloc, &world, limits, outside);
+    drop(world);
+    ended
 }
 
 /// Reads a ground file and plans for the goals of the world script that it stands for.
@@ -245,6 +266,32 @@ fn read_and_ground<S: Shelf, K: Sink, C: Clock, D: Drivers>(
     Ok(print_ground(&ground, outside.out))
 }
 
+/// Runs what the rules of these bytes of a rules file make of a tree, in a world.
+fn run_mocked<S: Shelf, K: Sink, C: Clock, D: Drivers>(
+    alloc: Global,
+    tree: &Tree,
+    world: &World,
+    rules: &[u8],
+    outside: &mut Outside<S, K, C, D>,
+) -> Result<Exit, Refusal>
+    requires tree { IsValid tree.now }
+    requires world { IsValidWorld world.now }
+    requires quiet { NothingHeld (D.states outside.old.drivers.now) }
+    ensures ends { EndsAt (StandingGives (mocked rules.now tree.now) world.now course.Script) AreUncalled result
+        (seen K.written K.faults C.moments D.states outside.old)
+        (seen K.written K.faults C.moments D.states outside.new) }
+    ensures stays { Stays S.faults K.faults D.states outside.old outside.new }
+{
+    match mock_tree(alloc, tree, rules) {
+        Ok(mocked) => {
+            let ended = join_and_run(alloc, &mocked, world, Course::Script, outside);
+            drop(mocked);
+            ended
+        }
+        Err(stopped) => Err(Refusal::from(stopped)),
+    }
+}
+
 /// Runs what the rules of these bytes of a rules file make of the tree of these bytes of a tree file, in
 /// the world of these bytes of a world script.
 fn mock_files<S: Shelf, K: Sink, C: Clock, D: Drivers>(
@@ -265,9 +312,18 @@ fn mock_files<S: Shelf, K: Sink, C: Clock, D: Drivers>(
     ensures stays { Stays S.faults K.faults D.states outside.old outside.new }
 {
     let tree = parse_tree(alloc, tree, main)?;
-    let world = read_world(alloc, world)?;
-    let mocked = mock_tree(alloc, &tree, rules)?;
-    join_and_run(alloc, &mocked, &world, Course::Script, outside)
+    match read_world(alloc, world) {
+        Ok(world) => {
+            let ended = run_mocked(alloc, &tree, &world, rules, outside);
+            drop(world);
+            drop(tree);
+            ended
+        }
+        Err(stopped) => {
+            drop(tree);
+            Err(Refusal::from(stopped))
+        }
+    }
 }
 
 /// Reads a tree file, a world script and a rules file, and runs what the rules make of the tree.
@@ -384,7 +440,11 @@ fn run_or_refuse<S: Shelf, K: Sink, C: Clock, D: Drivers>(
     match read_command(words) {
         Some(command) => match run_command(alloc, command, outside) {
             Ok(exit) => exit,
-            Err(refusal) => write_refusal(alloc, &refusal, outside.out),
+            Err(refusal) => {
+                let exit = write_refusal(alloc, &refusal, outside.out);
+                drop(refusal);
+                exit
+            }
         },
         None => write_refusal(alloc, &Refusal::Words, outside.out),
     }

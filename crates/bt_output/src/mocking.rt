@@ -1,6 +1,6 @@
 ghost use Rattle.std.specs.Prelude.{IfOk};
 ghost use Rattle.bt_model.specs.Trees.{IsRunnable, IsValid};
-ghost use Rattle.bt_output.specs.Output.{mocked};
+ghost use Rattle.bt_output.specs.Gives.{mocked};
 ghost use Rattle.bt_script.specs.Stops.{Gives};
 
 use bt_mock::{MockFault, read_rules, substitute};

@@ -1,9 +1,9 @@
 ghost use Rattle.std.specs.Prelude.{◌≡◌, ◌≤◌, IfErr, IfOk};
 ghost use Rattle.bt_output.specs.Reads.{IsUnread, WasRead};
 
-use crate::refusal::{File, Refusal};
 use bt_model::MOST_FILE_BYTES;
 use bt_outside::{Shelf, ShelfFault};
+use bt_refusals::{File, Refusal};
 use bt_script::Name;
 use std::alloc::Global;
 

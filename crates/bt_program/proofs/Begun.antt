@@ -20,22 +20,27 @@ use Rattle.bt_outside.proofs.Appends.{AppendedPrefix-nothing}
 use Rattle.bt_outside.specs.Appending.{AppendedPrefix}
 use Rattle.bt_outside.specs.Moments.{Moments}
 use Rattle.bt_output.proofs.Files.{short_is}
-use Rattle.bt_output.proofs.Within.{as_often, uncalled_within}
-use Rattle.bt_output.specs.Answers.{ClockLeft, ClockWithin, DriversLeft, DriversWithin, Gave, RanOut, Side}
-use Rattle.bt_output.specs.declared.course.Course.{Course}
-use Rattle.bt_output.specs.declared.course.Course.TheVariants as course
-use Rattle.bt_output.specs.declared.print.Print.{Print}
-use Rattle.bt_output.specs.declared.print.Print.TheVariants as print
-use Rattle.bt_output.specs.declared.refusal.File.{File}
-use Rattle.bt_output.specs.declared.refusal.File.TheVariants as file
+use Rattle.bt_courses.proofs.Within.{as_often, uncalled_within}
+use Rattle.bt_answers.specs.Answers.{ClockLeft, ClockWithin, DriversLeft, DriversWithin, Gave, RanOut, Side}
+use Rattle.bt_courses.specs.declared.course.Course.{Course}
+use Rattle.bt_courses.specs.declared.course.Course.TheVariants as course
+use Rattle.bt_printing.specs.declared.print.Print.{Print}
+use Rattle.bt_printing.specs.declared.print.Print.TheVariants as print
+use Rattle.bt_refusals.specs.declared.refusal.File.{File}
+use Rattle.bt_refusals.specs.declared.refusal.File.TheVariants as file
 use Rattle.bt_ground.specs.declared.fault.GroundFault.{GroundFault}
 use Rattle.bt_ground.specs.GroundFile.{Grounded, MakesWorld, reads_ground, world_from}
 use Rattle.bt_mock.specs.declared.fault.MockFault.{MockFault}
 use Rattle.bt_output.specs.Files.{Contents}
-use Rattle.bt_output.specs.Grounds.{GroundBegun, GroundGives, GroundPlanGives, GroundedPlans, SaidPlans, ground_output}
+use Rattle.bt_output.specs.Grounds.{GroundBegun, GroundGives, GroundPlanGives, GroundedPlans, SaidPlans}
+use Rattle.bt_printing.specs.Printed.{ground_output, print_output}
 use Rattle.bt_output.specs.Jobs.{FilesBegin, FilesGive}
-use Rattle.bt_output.specs.Output.{AreUncalled, Asked, Given, MockGives, Never, Output, PrintGives, RunGives, Standing, Times, TreeGives, UpToFault, given, ground_refused, is_too_long, itself, joined_output, lack_of, line_of, mocked, print_output, run_output, standing_output, too_long, tree_refused, unread, world_output, world_refused}
-use Rattle.bt_output.specs.Plans.{FileBegun, IsPlanned, PlanGives, PlannedOr, ReadPlans, first_unserved, refusal_for}
+use Rattle.bt_answers.specs.Output.{AreUncalled, Asked, Never, Output, Times, UpToFault, line_of}
+use Rattle.bt_courses.specs.Runs.{Given, given, joined_output, lack_of, run_output}
+use Rattle.bt_output.specs.Gives.{MockGives, PrintGives, RunGives, Standing, TreeGives, is_too_long, itself, mocked, standing_output, world_output}
+use Rattle.bt_refusals.specs.Refused.{ground_refused, too_long, tree_refused, unread, world_refused}
+use Rattle.bt_output.specs.Plans.{FileBegun, PlanGives, ReadPlans}
+use Rattle.bt_planning.specs.Plans.{IsPlanned, PlannedOr, first_unserved, refusal_for}
 use Rattle.bt_plan.specs.Answers.{IsPlan, IsPlanCut}
 use Rattle.bt_plan.specs.declared.ending.Limits.{Limits}
 use Rattle.bt_plan.specs.declared.ending.PlanEnd.{PlanEnd}

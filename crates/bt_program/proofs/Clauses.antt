@@ -4,17 +4,19 @@ use Rattle.bt_elements.specs.declared.element.Element.{Element}
 use Rattle.bt_elements.specs.declared.element.ElementFault.{ElementFault}
 use Rattle.bt_elements.specs.Elements.{Spells}
 use Rattle.bt_elements.specs.Faults.{ElementFaultOf}
-use Rattle.bt_output.specs.declared.course.Course.TheVariants as course
-use Rattle.bt_output.specs.declared.print.Print.{Print}
-use Rattle.bt_output.specs.declared.print.Print.TheVariants as print
+use Rattle.bt_courses.specs.declared.course.Course.TheVariants as course
+use Rattle.bt_printing.specs.declared.print.Print.{Print}
+use Rattle.bt_printing.specs.declared.print.Print.TheVariants as print
 use Rattle.bt_command_line.specs.declared.exit.Exit.{Exit}
 use Rattle.bt_command_line.specs.declared.exit.Exit.TheVariants as exit
 use Rattle.bt_refusals.specs.declared.fault.TreeFault.{TreeFault}
 use Rattle.bt_refusals.specs.declared.fault.TreeFault.TheVariants as fault
-use Rattle.bt_output.specs.Answers.{Answers, AreTold, AtMoments, CommandAnswered, DriversLeft, DriversWithin, FilesAnswered, Gave, IfTold, IsWhole, ReadFailed, Side, ToldIfNamed}
+use Rattle.bt_answers.specs.Answers.{Answers, AtMoments, DriversLeft, DriversWithin, Gave, IfTold, IsWhole, Side}
+use Rattle.bt_output.specs.Answers.{AreTold, CommandAnswered, FilesAnswered, ReadFailed, ToldIfNamed}
 use Rattle.bt_program.proofs.Begun.{CutLaw, files_unasked, gave_unasked, gave_within, ran_out_gave, uncalled_is_within, unread_called_none, unread_unasked}
 use Rattle.bt_program.specs.Headline.{EachOutput, IsGiven, IsGroundOf, IsNotLive, IsScriptOf, PlanReaches, ReachesIfPlan, UnreadLine, WholeOutput, moments_for}
-use Rattle.bt_output.specs.Plans.{Begins, IsPlanned, PlanGives, PlannedOr, Plans, ReadPlans, first_unserved, plan_exit, plan_output, reached_lines, refusal_for}
+use Rattle.bt_output.specs.Plans.{Begins, PlanGives, Plans, ReadPlans}
+use Rattle.bt_planning.specs.Plans.{IsPlanned, PlannedOr, first_unserved, plan_exit, plan_output, reached_lines, refusal_for}
 use Rattle.bt_plan.specs.declared.ending.End.{End}
 use Rattle.bt_plan.specs.declared.ending.End.TheVariants.{Reached, NoTemplate, NoOrder, Expansions, StillRunning, Faulted}
 use Rattle.bt_plan.specs.declared.ending.Limits.{Limits}
@@ -34,13 +36,17 @@ use Rattle.std.specs.List.{concat}
 use Rattle.bt_output.specs.Files.{Contents, Named, world_alone}
 use Rattle.bt_ground.specs.declared.fault.GroundFault.{GroundFault}
 use Rattle.bt_ground.specs.GroundFile.{Grounded, MakesWorld, reads_ground, world_from}
-use Rattle.bt_output.specs.Grounds.{GroundBegins, GroundGives, GroundPlanGives, GroundPlans, GroundedPlans, SaidPlans, ground_output}
+use Rattle.bt_output.specs.Grounds.{GroundBegins, GroundGives, GroundPlanGives, GroundPlans, GroundedPlans, SaidPlans}
+use Rattle.bt_printing.specs.Printed.{ground_output, print_output}
 use Rattle.bt_output.specs.Jobs.{CommandGives, FilesBegin, FilesGive, files_of, held, held_by}
-use Rattle.bt_output.specs.Output.{AreUncalled, Beginning, Given, Giving, MockGives, OrTooLong, Output, PrintGives, ReadGives, RunGives, Standing, TreeGives, WorldGives, given, ground_refused, is_too_long, itself, join_refused, joined_output, lack_of, mocked, no_goal, print_output, run_exit, standing_output, too_long, tree_refused, unread, words_refused, world_output, world_refused}
+use Rattle.bt_answers.specs.Output.{AreUncalled, Output}
+use Rattle.bt_output.specs.Gives.{Beginning, Giving, MockGives, OrTooLong, PrintGives, ReadGives, RunGives, Standing, TreeGives, WorldGives, is_too_long, itself, mocked, standing_output, world_output}
+use Rattle.bt_courses.specs.Runs.{Given, given, joined_output, lack_of, run_exit}
+use Rattle.bt_refusals.specs.Refused.{ground_refused, join_refused, no_goal, too_long, tree_refused, unread, words_refused, world_refused}
 use Rattle.bt_output.specs.TreeFiles.{TreeReads, built, element_read, with_models}
 use Rattle.bt_command_line.specs.Words.{Command, Tick, Live, Load, Check, Dead, Plan, Mock, Ground, GroundPlan}
-use Rattle.bt_output.specs.declared.refusal.File.{File}
-use Rattle.bt_output.specs.declared.refusal.File.TheVariants as file
+use Rattle.bt_refusals.specs.declared.refusal.File.{File}
+use Rattle.bt_refusals.specs.declared.refusal.File.TheVariants as file
 use Rattle.bt_arena.specs.declared.join_fault.JoinFault.{JoinFault}
 use Rattle.bt_load.specs.Texts.{tree_text, world_text}
 use Rattle.bt_mock.specs.declared.fault.MockFault.{MockFault}

@@ -12,13 +12,15 @@ use Rattle.bt_plan.specs.declared.ending.Step.{Step}
 use Rattle.bt_plan.specs.Lines.{end_line, step_line}
 use Rattle.bt_plan.specs.Modelled.{ReachedAt}
 use Rattle.bt_text.specs.Names.{no_names}
-use Rattle.bt_output.specs.Answers.{IfTold, IsWhole, Side, ToldIfNamed, no_moments}
+use Rattle.bt_answers.specs.Answers.{IfTold, IsWhole, Side, no_moments}
+use Rattle.bt_output.specs.Answers.{ToldIfNamed}
 use Rattle.bt_output.specs.Jobs.{CommandGives}
-use Rattle.bt_output.specs.Output.{AreUncalled, Output, unread}
+use Rattle.bt_answers.specs.Output.{AreUncalled, Output}
+use Rattle.bt_refusals.specs.Refused.{unread}
 use Rattle.bt_command_line.specs.declared.exit.Exit.{Exit}
 use Rattle.bt_command_line.specs.declared.exit.Exit.TheVariants as exit
 use Rattle.bt_command_line.specs.Words.{Command, Live, Plan, GroundPlan}
-use Rattle.bt_output.specs.declared.refusal.File.{File}
+use Rattle.bt_refusals.specs.declared.refusal.File.{File}
 use Rattle.bt_outside.specs.Appending.{Appended}
 use Rattle.bt_outside.specs.Moments.{Moments}
 

@@ -1,6 +1,7 @@
 ghost use Rattle.std.specs.Prelude.{◌≡◌, ◌≤◌, ◌⊎◌, None, map};
-ghost use Rattle.bt_output.specs.Answers.{CommandAnswered, DriversWithin, Gave, IsWhole, ReadFailed, side};
-ghost use Rattle.bt_output.specs.Output.{words_refused};
+ghost use Rattle.bt_output.specs.Answers.{CommandAnswered, ReadFailed};
+ghost use Rattle.bt_answers.specs.Answers.{DriversWithin, Gave, IsWhole, side};
+ghost use Rattle.bt_refusals.specs.Refused.{words_refused};
 ghost use Rattle.bt_output.specs.Reads.{WordsUnread};
 ghost use Rattle.bt_loop.specs.Steps.{IsSameRoster};
 ghost use Rattle.bt_program.specs.Headline.{EachOutput, IsGiven, IsNotLive, ReachesIfPlan, UnreadLine, WholeOutput};

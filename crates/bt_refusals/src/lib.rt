@@ -1,8 +1,10 @@
-//! The line for each refusal of a tree, a world, their join, mock rules, or a ground file.
+//! Why a command has no output of its own, and the line that says so: of a tree, a world, their join, mock rules,
+//! a ground file, and of files that can't be read.
 #![tactic(auto)]
 
 mod fault;
+mod line;
 mod refusal;
 
 pub use fault::TreeFault;
-pub use refusal::{ground_refusal, join_refusal, rules_refusal, tree_refusal, world_refusal};
+pub use refusal::{File, Refusal, write_refusal};

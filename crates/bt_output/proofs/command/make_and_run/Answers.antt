@@ -2,7 +2,7 @@ use Rattle.std.proofs.lemmas.Result.{err_from_is_err_and}
 use Rattle.bt_command_line.specs.Words.{Load}
 use Rattle.bt_output.specs.Files.{no_files}
 use Rattle.bt_output.specs.Jobs.{FilesGive}
-use Rattle.bt_output.specs.Output.{BeginsNothing}
+use Rattle.bt_output.specs.Gives.{BeginsNothing}
 use Rattle.bt_output.proofs.Files.{load_ends, out_of_memory}
 use Rattle.bt_output.proofs.command.make_and_run.Goals as goal
 

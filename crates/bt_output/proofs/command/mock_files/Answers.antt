@@ -1,6 +1,6 @@
 use Rattle.std.proofs.lemmas.Result.{err_from_is_err_and}
 use Rattle.std.specs.Option.{option_copied}
-use Rattle.bt_output.proofs.Files.{all_parsed, mock_tree_stopped, mock_world_stopped, rules_stopped}
+use Rattle.bt_output.proofs.Files.{both_mocked, mock_tree_stopped, mock_world_stopped}
 use Rattle.bt_output.proofs.command.mock_files.Goals as goal
 
 pub returns-in_err-tree-clause-ends : goal.returns-in_err-tree-clause-ends
@@ -8,16 +8,10 @@ returns-in_err-tree-clause-ends g c =
     let p = err_from_is_err_and c.from_residual.result c.from_residual.ensures.1 in
     rw (p.1, p.2) (mock_tree_stopped (option_copied c.args.main) c.args.tree.now c.args.world.now c.args.rules.now c.requires.tree c.requires.world c.requires.rules c.in_err-tree.field-0.0 _ c.in_err-tree.ensures.reads)
 
-pub returns-in_err-world-clause-ends : goal.returns-in_err-world-clause-ends
-returns-in_err-world-clause-ends g c =
-    let p = err_from_is_err_and c.from_residual-in_err-world.result c.from_residual-in_err-world.ensures.1 in
-    rw (p.1, p.2) (mock_world_stopped (option_copied c.args.main) c.args.tree.now c.args.world.now c.args.rules.now c.requires.tree c.requires.world c.requires.rules _ c.in_err-world.field-0.0 _ c.in_ok-tree.ensures.reads c.in_err-world.ensures.reads)
+pub returns-in-Ok-clause-ends : goal.returns-in-Ok-clause-ends
+returns-in-Ok-clause-ends g c =
+    both_mocked (option_copied c.args.main) c.args.tree.now c.args.world.now c.args.rules.now c.requires.tree c.requires.world c.requires.rules _ _ _ _ _ c.in_ok-tree.ensures.reads c.in-Ok.ensures.reads c.run_mocked-ended.ensures.ends
 
-pub returns-in_err-mocked-clause-ends : goal.returns-in_err-mocked-clause-ends
-returns-in_err-mocked-clause-ends g c =
-    let p = err_from_is_err_and c.from_residual-in_err-mocked.result c.from_residual-in_err-mocked.ensures.1 in
-    rw (p.1, p.2) (rules_stopped (option_copied c.args.main) c.args.tree.now c.args.world.now c.args.rules.now c.requires.tree c.requires.world c.requires.rules _ _ c.in_err-mocked.field-0.0 _ c.in_ok-tree.ensures.reads c.in_ok-world.ensures.reads c.in_err-mocked.ensures.mocked)
-
-pub returns-clause-ends : goal.returns-clause-ends
-returns-clause-ends g c =
-    all_parsed (option_copied c.args.main) c.args.tree.now c.args.world.now c.args.rules.now c.requires.tree c.requires.world c.requires.rules _ _ _ _ _ _ c.in_ok-tree.ensures.reads c.in_ok-world.ensures.reads c.in_ok-mocked.ensures.mocked c.join_and_run.ensures.ends
+pub returns-in-Err-clause-ends : goal.returns-in-Err-clause-ends
+returns-in-Err-clause-ends g c =
+    rw c.from.ensures (mock_world_stopped (option_copied c.args.main) c.args.tree.now c.args.world.now c.args.rules.now c.requires.tree c.requires.world c.requires.rules _ c.in-Err.stopped _ c.in_ok-tree.ensures.reads c.in-Err.ensures.reads)

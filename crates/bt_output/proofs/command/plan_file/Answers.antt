@@ -9,4 +9,4 @@ returns-in_err-world-clause-ends g c =
 
 pub returns-clause-ends : goal.returns-clause-ends
 returns-clause-ends g c =
-    script_parsed c.args.limits.now c.args.world.now c.requires.world _ _ _ _ c.in_ok-world.ensures.reads c.plan_and_print.ensures.ends
+    script_parsed c.args.limits.now c.args.world.now c.requires.world _ _ _ _ c.in_ok-world.ensures.reads c.plan_and_print-ended.ensures.ends

@@ -14,4 +14,4 @@ returns-in_err-world-clause-ends g c =
 
 pub returns-clause-ends : goal.returns-clause-ends
 returns-clause-ends g c =
-    plan_of_text c.args.limits.now c.args.bytes.now c.requires.bytes _ _ _ _ _ c.in_ok-ground.ensures c.in_ok-world.ensures.reads c.plan_and_print.ensures.ends
+    plan_of_text c.args.limits.now c.args.bytes.now c.requires.bytes _ _ _ _ _ c.in_ok-ground.ensures c.in_ok-world.ensures.reads c.plan_and_print-ended.ensures.ends

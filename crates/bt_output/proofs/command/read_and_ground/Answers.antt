@@ -1,7 +1,7 @@
 use Rattle.std.proofs.Common.{inr}
 use Rattle.std.proofs.lemmas.Result.{err_from_is_err_and}
 use Rattle.bt_output.specs.Grounds.{Grounds}
-use Rattle.bt_output.specs.Output.{BeginsNothing}
+use Rattle.bt_output.specs.Gives.{BeginsNothing}
 use Rattle.bt_output.proofs.Files.{alone_unread}
 use Rattle.bt_output.proofs.Grounds.{ground_printed, ground_refuses, long_ground}
 use Rattle.bt_output.proofs.command.read_and_ground.Goals as goal

@@ -1,7 +1,7 @@
 use Rattle.std.proofs.Common.{Some, arith, inr}
 use Rattle.std.proofs.lemmas.Result.{err_from_is_err_and}
 use Rattle.std.specs.Option.{option_copied}
-use Rattle.bt_output.specs.Output.{BeginsNothing, Mocks}
+use Rattle.bt_output.specs.Gives.{BeginsNothing, Mocks}
 use Rattle.bt_output.proofs.Files.{long_mock, long_mock_world, long_rules, rules_unread, three_read, tree_unread, world_unread}
 use Rattle.bt_output.proofs.command.read_and_mock.Goals as goal
 

@@ -1,7 +1,7 @@
 use Rattle.std.proofs.Common.{None, inr}
 use Rattle.std.proofs.lemmas.Result.{err_from_is_err_and}
 use Rattle.std.specs.Option.{option_copied}
-use Rattle.bt_output.specs.Output.{BeginsNothing, Prints}
+use Rattle.bt_output.specs.Gives.{BeginsNothing, Prints}
 use Rattle.bt_output.proofs.Files.{long_print, print_stopped, tree_printed, tree_unread}
 use Rattle.bt_output.proofs.command.read_and_print.Goals as goal
 
@@ -19,4 +19,4 @@ returns-in_err-tree-clause-ends g c =
 pub returns-clause-ends : goal.returns-clause-ends
 returns-clause-ends g c =
     let read = c.in_ok-bytes.ensures.read in
-    inr (tree_printed (g.S.Shelf.holds c.args.outside.now.shelf.now) c.args.tree.now c.args.print (option_copied c.args.main) _ read.told read.short _ _ _ _ _ (rw c.as_slice.ensures.value at c.in_ok-tree.ensures.reads) c.print_tree.ensures.printed)
+    inr (tree_printed (g.S.Shelf.holds c.args.outside.now.shelf.now) c.args.tree.now c.args.print (option_copied c.args.main) _ read.told read.short _ _ _ _ _ (rw c.as_slice.ensures.value at c.in_ok-tree.ensures.reads) c.print_tree-exit.ensures.printed)

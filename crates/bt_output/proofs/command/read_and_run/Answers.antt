@@ -1,7 +1,7 @@
 use Rattle.std.proofs.Common.{None, Some, inr}
 use Rattle.std.proofs.lemmas.Result.{err_from_is_err_and}
 use Rattle.std.specs.Option.{option_copied}
-use Rattle.bt_output.specs.Output.{BeginsNothing, RunsOn}
+use Rattle.bt_output.specs.Gives.{BeginsNothing, RunsOn}
 use Rattle.bt_output.proofs.Files.{both_read, long_run, long_world, tree_unread, world_unread}
 use Rattle.bt_output.proofs.command.read_and_run.Goals as goal
 

@@ -8,11 +8,10 @@ returns-in_err-tree-clause-ends g c =
     let p = err_from_is_err_and c.from_residual.result c.from_residual.ensures.1 in
     rw (p.1, p.2) (tree_stopped c.args.course (option_copied c.args.main) c.args.tree.now c.args.world.now c.requires.tree c.requires.world c.in_err-tree.field-0.0 _ c.in_err-tree.ensures.reads)
 
-pub returns-in_err-world-clause-ends : goal.returns-in_err-world-clause-ends
-returns-in_err-world-clause-ends g c =
-    let p = err_from_is_err_and c.from_residual-in_err-world.result c.from_residual-in_err-world.ensures.1 in
-    rw (p.1, p.2) (world_stopped c.args.course (option_copied c.args.main) c.args.tree.now c.args.world.now c.requires.tree c.requires.world _ c.in_err-world.field-0.0 _ c.in_ok-tree.ensures.reads c.in_err-world.ensures.reads)
+pub returns-in-Ok-clause-ends : goal.returns-in-Ok-clause-ends
+returns-in-Ok-clause-ends g c =
+    both_parsed c.args.course (option_copied c.args.main) c.args.tree.now c.args.world.now c.requires.tree c.requires.world _ _ _ _ _ c.in_ok-tree.ensures.reads c.in-Ok.ensures.reads c.join_and_run-ended.ensures.ends
 
-pub returns-clause-ends : goal.returns-clause-ends
-returns-clause-ends g c =
-    both_parsed c.args.course (option_copied c.args.main) c.args.tree.now c.args.world.now c.requires.tree c.requires.world _ _ _ _ _ c.in_ok-tree.ensures.reads c.in_ok-world.ensures.reads c.join_and_run.ensures.ends
+pub returns-in-Err-clause-ends : goal.returns-in-Err-clause-ends
+returns-in-Err-clause-ends g c =
+    rw c.from.ensures (world_stopped c.args.course (option_copied c.args.main) c.args.tree.now c.args.world.now c.requires.tree c.requires.world _ c.in-Err.stopped _ c.in_ok-tree.ensures.reads c.in-Err.ensures.reads)

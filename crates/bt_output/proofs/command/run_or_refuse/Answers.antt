@@ -9,11 +9,11 @@ returns-in-Ok-clause-answered g c =
 
 pub returns-in-Err-clause-answered : goal.returns-in-Err-clause-answered
 returns-in-Err-clause-answered g c =
-    rw c.in-Some.ensures.command (refusal_answered (command_seen c.in-Some.command) (g.S.Shelf.holds c.args.outside.now.shelf.now) _ _ c.in-Err.refusal _ _ _ _ _ c.in-Err.ensures.ends c.write_refusal.ensures.refused)
+    rw c.in-Some.ensures.command (refusal_answered (command_seen c.in-Some.command) (g.S.Shelf.holds c.args.outside.now.shelf.now) _ _ c.in-Err.refusal _ _ _ _ _ c.in-Err.ensures.ends c.write_refusal-exit.ensures.refused)
 
 pub returns-in-None-clause-answered : goal.returns-in-None-clause-answered
 returns-in-None-clause-answered g c =
-    rw c.in-None.ensures.command (c.write_refusal-in-None.ensures.refused (g.C.Clock.moments c.args.outside.now.clock.now) _ _ (λ place. refl))
+    rw c.in-None.ensures.command (c.write_refusal.ensures.refused (g.C.Clock.moments c.args.outside.now.clock.now) _ _ (λ place. refl))
 
 pub returns-in-Err-clause-stays : goal.returns-in-Err-clause-stays
 returns-in-Err-clause-stays g c =
@@ -25,5 +25,5 @@ returns-in-Err-clause-stays g c =
       drivers = s.drivers;
       kept = s.kept;
       read_count = s.read_count;
-      count = omega (arith, s.count, c.write_refusal.ensures.count);
+      count = omega (arith, s.count, c.write_refusal-exit.ensures.count);
     }

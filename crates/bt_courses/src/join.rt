@@ -1,0 +1,138 @@
+ghost use Rattle.std.specs.Prelude.{◌≡◌};
+ghost use Rattle.bt_loop.specs.Runs.{Setup, arenas_of};
+ghost use Rattle.bt_model.specs.Drivers.{NothingHeld};
+ghost use Rattle.bt_model.specs.Lines.{line_names};
+ghost use Rattle.bt_model.specs.Run.{opening};
+ghost use Rattle.bt_model.specs.Trees.{IsRunnable};
+ghost use Rattle.bt_model.specs.Worlds.{IsValidWorld};
+ghost use Rattle.bt_answers.specs.Answers.{AtMoments, Gave};
+ghost use Rattle.bt_courses.specs.Courses.{exit_of, course_output};
+ghost use Rattle.bt_refusals.specs.Ends.{EndsAt};
+ghost use Rattle.bt_courses.specs.declared.course.Course.TheVariants as course;
+ghost use Rattle.bt_answers.specs.Lent.{Stays, seen};
+ghost use Rattle.bt_answers.specs.Output.{AreUncalled};
+ghost use Rattle.bt_courses.specs.Runs.{JoinGives};
+ghost use Rattle.bt_trace.specs.Traces.{CanRun, state_in};
+
+use crate::course::Course;
+use bt_answers::Outside;
+use bt_board::slots_of;
+use bt_command_line::Exit;
+use bt_driver::Drivers;
+use bt_load::run_load;
+use bt_loop::{Runs, make_runs};
+use bt_model::{Event, Tree, World};
+use bt_outside::{Clock, Shelf, Sink};
+use bt_refusals::Refusal;
+use bt_text::{Names, TextStop, names_of, write_line};
+use bt_trace::{Ended, Writer, run_events, run_rounds};
+use std::alloc::Global;
+
+/// The exit of a run that ended so.
+fn exit_of(ended: Result<Ended, TextStop>) -> Exit
+    ensures { result ≡ exit_of ended }
+{
+    match ended {
+        Ok(Ended::Done) => Exit::Done,
+        Ok(Ended::Faulted) => Exit::Fault,
+        Err(TextStop::WriteFault) => Exit::Write,
+        Err(TextStop::NoMemory) => Exit::Memory,
+    }
+}
+
+/// Runs a load of so many leaves, and writes the line that sums it up.
+#[tactic(auto, using(crate::proofs::Runs::all_come))]
+fn run_summed<S: Shelf, K: Sink, C: Clock, D: Drivers>(
+    alloc: Global,
+    leaves: u32,
+    runs: Runs,
+    events: &[Event],
+    outside: &mut Outside<S, K, C, D>,
+) -> Result<Ended, TextStop>
+    ghost of: { Setup }
+    requires runs { CanRun of (D.states outside.old.drivers.now) runs }
+    requires opening { state_in of (D.states outside.old.drivers.now) runs ≡ opening of.tree of.world }
+    requires events { events.now ≡ of.world.events }
+    ensures gave { AtMoments (C.moments outside.old.clock.now) (λ moments.
+        Gave (course_output of (arenas_of runs) (course.Load leaves) moments (D.states outside.old.drivers.now)) (exit_of result)
+        (seen K.written K.faults C.moments D.states outside.old)
+        (seen K.written K.faults C.moments D.states outside.new)) }
+    ensures stays { Stays S.faults K.faults D.states outside.old outside.new }
+{
+    let (line, ended) = run_load(alloc, leaves, runs, events, outside.drivers)?;
+    write_line(outside.out, line.as_slice())?;
+    Ok(ended)
+}
+
+/// Runs what was joined, on its course: the trace of its events is written, or the line that sums up a
+/// load.
+fn run<S: Shelf, K: Sink, C: Clock, D: Drivers>(
+    alloc: Global,
+    runs: Runs,
+    events: &[Event],
+    names: &Names,
+    course: Course,
+    outside: &mut Outside<S, K, C, D>,
+) -> Exit
+    ghost of: { Setup }
+    requires runs { CanRun of (D.states outside.old.drivers.now) runs }
+    requires opening { state_in of (D.states outside.old.drivers.now) runs ≡ opening of.tree of.world }
+    requires events { events.now ≡ of.world.events }
+    requires names { names.now ≡ line_names of.tree of.world }
+    ensures gave { AtMoments (C.moments outside.old.clock.now) (λ moments.
+        Gave (course_output of (arenas_of runs) course moments (D.states outside.old.drivers.now)) result
+        (seen K.written K.faults C.moments D.states outside.old)
+        (seen K.written K.faults C.moments D.states outside.new)) }
+    ensures stays { Stays S.faults K.faults D.states outside.old outside.new }
+{
+    match course {
+        Course::Script => {
+            let mut writer = Writer {
+                names,
+                out: outside.out,
+            };
+            exit_of(run_events(alloc, runs, events, outside.drivers, &mut writer))
+        }
+        Course::Rounds(rounds) => {
+            let mut writer = Writer {
+                names,
+                out: outside.out,
+            };
+            exit_of(run_rounds(
+                alloc,
+                runs,
+                rounds,
+                outside.clock,
+                outside.drivers,
+                &mut writer,
+            ))
+        }
+        Course::Load(leaves) => exit_of(run_summed(alloc, leaves, runs, events, outside)),
+    }
+}
+
+/// Joins a tree with a world and the drivers and runs it, where every leaf has a row and its row a
+/// driver; else it is refused for the first leaf that lacks one.
+pub fn join_and_run<S: Shelf, K: Sink, C: Clock, D: Drivers>(
+    alloc: Global,
+    tree: &Tree,
+    world: &World,
+    course: Course,
+    outside: &mut Outside<S, K, C, D>,
+) -> Result<Exit, Refusal>
+    ghost of: { Setup }
+    requires tree { tree.now ≡ of.tree }
+    requires world { world.now ≡ of.world }
+    requires runnable { IsRunnable tree.now }
+    requires valid_world { IsValidWorld world.now }
+    requires quiet { NothingHeld (D.states outside.old.drivers.now) }
+    ensures ends { EndsAt (JoinGives of.tree of.world course) AreUncalled result
+        (seen K.written K.faults C.moments D.states outside.old)
+        (seen K.written K.faults C.moments D.states outside.new) }
+    ensures stays { Stays S.faults K.faults D.states outside.old outside.new }
+{
+    let slots = slots_of(alloc, tree)?;
+    let names = names_of(alloc, tree, world, &slots)?;
+    let runs = make_runs(alloc, tree, &slots, world, outside.drivers)?;
+    Ok(run(alloc, runs, world.events.list(), &names, course, outside))
+}

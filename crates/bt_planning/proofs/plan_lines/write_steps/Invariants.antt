@@ -1,0 +1,14 @@
+use Rattle.std.proofs.Common.{◌≤◌, map, take}
+use Rattle.std.specs.List.{concat}
+use Rattle.bt_outside.specs.Appending.{Appended}
+use Rattle.bt_plan.specs.Lines.{step_line}
+use Rattle.bt_planning.proofs.plan_lines.write_steps.Given as goal
+
+abbrev pub invariant-loop-step : goal.invariant-loop-step
+invariant-loop-step g l =
+    let written = g.K.Sink.written in
+    let faults = g.K.Sink.faults in
+    record {
+      text : Appended (written l.fn.out) (written l.out) (concat (map step_line (take l.step-index l.steps)));
+      count : faults l.fn.out ≤ faults l.out;
+    }

@@ -1,0 +1,13 @@
+//! What a command prints by the sink alone: a tree with its counts, its dead nodes, and the world script that a
+//! ground file stands for.
+#![tactic(auto)]
+
+mod dead_nodes;
+mod grounding;
+mod nodes;
+mod print;
+mod printing;
+
+pub use grounding::print_ground;
+pub use print::Print;
+pub use printing::print_tree;

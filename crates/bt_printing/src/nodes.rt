@@ -1,0 +1,40 @@
+ghost use Rattle.std.specs.Prelude.{◌≡◌, ◌<◌, ◌^◌, ◌++◌, OnOk};
+ghost use Rattle.bt_build.specs.Seen.{ids_seen};
+ghost use Rattle.bt_model.specs.Terms.{node_count};
+ghost use Rattle.bt_printing.specs.Printed.{id_of, node_ids};
+
+use bt_model::Term;
+use bt_script::{Name, NoMemory};
+
+/// The number of nodes of a term.
+pub fn nodes_of(term: &Term) -> u32
+    requires { node_count term.now < 2 ^ 32 }
+    ensures { result ≡ node_count term.now }
+{
+    let mut count = 1;
+    for child in term.children.list() {
+        count += nodes_of(child);
+    }
+    count
+}
+
+/// Adds the IDs of the nodes of a term, in pre-order. The error is want of memory.
+pub fn add_ids<'a>(term: &'a Term, ids: &mut Vec<&'a Name>) -> Result<(), NoMemory>
+    ensures { OnOk result (ids_seen ids.new.items ≡ ids_seen ids.old.items ++ node_ids term.now) }
+{
+    ids.push(&term.id)?;
+    for child in term.children.list() {
+        add_ids(child, ids)?;
+    }
+    Ok(())
+}
+
+/// The ID of the node with this uid; empty where there is no such node.
+pub fn id_of<'a>(ids: &[&'a Name], uid: u32) -> &'a [u8]
+    ensures { result.now ≡ id_of (ids_seen ids.now) uid }
+{
+    match ids.get(uid.saturating_sub(1) as usize) {
+        Some(id) => id.list(),
+        None => b"",
+    }
+}
