@@ -68,6 +68,32 @@ Done";
 const DOOR: &str =
     "<root BTCPP_format=\"4\"><BehaviorTree ID=\"MainTree\"><Sequence><Fallback><Inverter><IsDoorClosed/></Inverter><SubTree ID=\"DoorClosed\"/></Fallback><PassThroughDoor/></Sequence></BehaviorTree><BehaviorTree ID=\"DoorClosed\"><Fallback><OpenDoor/><RetryUntilSuccessful num_attempts=\"5\"><PickLock/></RetryUntilSuccessful><SmashDoor/></Fallback></BehaviorTree></root>";
 
+/// Words, a tree file, the reads of it that fail, and what is answered.
+static FILES: [(&[&str], &str, &[u64], &str); 7] = [
+    (&["dead", "T"], OPENED_TWICE, &[], OPENED_TWICE_DEAD),
+    (
+        &["dead", "T", "--main", "S"],
+        OPENED_TWICE,
+        &[],
+        "dead 0 of 2\nDone",
+    ),
+    (
+        &["dead", "T", "--main", "MainTree"],
+        DOOR,
+        &[],
+        "dead 0 of 11\nDone",
+    ),
+    (&["dead", "T"], DOOR, &[], "refused tree NoMain\nTree"),
+    (
+        &["dead", "none"],
+        DOOR,
+        &[],
+        "refused tree Unmatched 0\nTree",
+    ),
+    (&["dead", "T"], DOOR, &[1], "refused read tree\nRead"),
+    (&["dead", "T"], OPENED_TWICE, &[2], OPENED_TWICE_DEAD),
+];
+
 /// The dead nodes of trees of these nodes.
 #[test]
 fn dead_nodes_have_their_lines(rt: HostRuntime) -> Result<(), Fail> {
@@ -82,33 +108,10 @@ fn dead_nodes_have_their_lines(rt: HostRuntime) -> Result<(), Fail> {
 /// The dead nodes of whole files, over words and with reads that fail.
 #[test]
 fn dead_nodes_of_files(rt: HostRuntime) -> Result<(), Fail> {
-    let table: [(&[&str], &str, &[u64], &str); 7] = [
-        (&["dead", "T"], OPENED_TWICE, &[], OPENED_TWICE_DEAD),
-        (
-            &["dead", "T", "--main", "S"],
-            OPENED_TWICE,
-            &[],
-            "dead 0 of 2\nDone",
-        ),
-        (
-            &["dead", "T", "--main", "MainTree"],
-            DOOR,
-            &[],
-            "dead 0 of 11\nDone",
-        ),
-        (&["dead", "T"], DOOR, &[], "refused tree NoMain\nTree"),
-        (
-            &["dead", "none"],
-            DOOR,
-            &[],
-            "refused tree Unmatched 0\nTree",
-        ),
-        (&["dead", "T"], DOOR, &[1], "refused read tree\nRead"),
-        (&["dead", "T"], OPENED_TWICE, &[2], OPENED_TWICE_DEAD),
-    ];
-    for (words, tree, fails, want) in table {
+    let rows = &FILES;
+    for (words, tree, fails, want) in rows {
         let text = given(rt.alloc(), words, tree.as_bytes(), b"", fails)?;
-        assert_eq!(rt; text.as_str(), want);
+        assert_eq!(rt; text.as_str(), *want);
     }
     Ok(())
 }
