@@ -9,7 +9,7 @@ use bt_leaves::Conditions;
 use bt_outside::{MemClock, MemSink};
 use bt_program::add_driver;
 use bt_script::NoMemory;
-use bt_stage::{TICK, answer, answer_with, run, run_with, shelf_of, shelf_of_rows};
+use bt_testbed::{TICK, answer, answer_with, run, run_with, shelf_of, shelf_of_rows};
 use std::alloc::Global;
 use std::test::Fail;
 

@@ -3,7 +3,7 @@
 use bt_command_line::Exit;
 use bt_outside::{Clock, MemClock, MemSink};
 use bt_script::NoMemory;
-use bt_stage::{answer, shelf_of_rows};
+use bt_testbed::{answer, shelf_of_rows};
 use std::alloc::Global;
 use std::test::Fail;
 

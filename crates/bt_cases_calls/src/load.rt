@@ -2,7 +2,7 @@
 
 use bt_outside::{MemClock, MemSink};
 use bt_script::NoMemory;
-use bt_stage::{Ending, answer, shelf_of};
+use bt_testbed::{Ending, answer, shelf_of};
 use std::alloc::Global;
 use std::test::Fail;
 

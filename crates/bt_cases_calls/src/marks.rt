@@ -6,7 +6,7 @@ use bt_leaves::{Conditions, Timed};
 use bt_outside::{MemSink, Sink, SinkFault};
 use bt_program::add_driver;
 use bt_script::NoMemory;
-use bt_stage::run_with;
+use bt_testbed::run_with;
 use std::alloc::{AllocError, Global};
 use std::cell::Cell;
 use std::rc::Rc;

@@ -8,7 +8,7 @@ use bt_leaves::Conditions;
 use bt_outside::{MemClock, MemSink};
 use bt_program::add_driver;
 use bt_script::NoMemory;
-use bt_stage::{answer, answer_with, shelf_of_rows};
+use bt_testbed::{answer, answer_with, shelf_of_rows};
 use std::alloc::Global;
 use std::test::Fail;
 

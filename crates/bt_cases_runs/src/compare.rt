@@ -1,7 +1,7 @@
 //! Rows of runs.
 
 use bt_script::NoMemory;
-use bt_stage::ran;
+use bt_testbed::ran;
 use std::alloc::Global;
 use std::process::Abort;
 

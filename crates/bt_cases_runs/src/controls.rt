@@ -1,7 +1,7 @@
 //! Runs of control nodes.
 
 use crate::compare::compare_rows;
-use bt_stage::{TICK, given, world_of};
+use bt_testbed::{TICK, given, world_of};
 use std::test::Fail;
 
 pub const TWO_CHECKS: &str = "\

@@ -1,7 +1,7 @@
 //! Runs of decorators.
 
 use crate::compare::compare_rows;
-use bt_stage::ran;
+use bt_testbed::ran;
 use std::alloc::{AllocError, Global};
 use std::test::Fail;
 

@@ -6,7 +6,7 @@ use crate::runners::{ONE_FAULTS, WAITS, sixteen, sixteen_trace};
 use bt_command_line::Exit;
 use bt_outside::MemSink;
 use bt_script::NoMemory;
-use bt_stage::run;
+use bt_testbed::run;
 use std::alloc::Global;
 use std::test::Fail;
 

@@ -1,7 +1,7 @@
 //! Halts, and faults within them: what stops, in which order, and what a quench halts.
 
 use crate::compare::compare_rows;
-use bt_stage::{joined, ran};
+use bt_testbed::{joined, ran};
 use std::test::Fail;
 
 const THREE_HELD: &str = "\

@@ -2,7 +2,7 @@
 
 use bt_outside::{MemClock, MemSink};
 use bt_script::NoMemory;
-use bt_stage::{answer, given_by, joined, shelf_with_rules, tree_of, world_of};
+use bt_testbed::{answer, given_by, joined, shelf_with_rules, tree_of, world_of};
 use std::alloc::Global;
 use std::test::Fail;
 

@@ -1,7 +1,7 @@
 //! Several runners over one world.
 
 use crate::compare::compare_rows;
-use bt_stage::ran;
+use bt_testbed::ran;
 use std::alloc::{AllocError, Global};
 use std::test::Fail;
 

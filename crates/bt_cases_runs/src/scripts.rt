@@ -1,7 +1,7 @@
 //! Runs of script nodes, guards, ports and blackboards.
 
 use crate::compare::compare_rows;
-use bt_stage::{TICK, given, world_of};
+use bt_testbed::{TICK, given, world_of};
 use std::test::Fail;
 
 const JOINED: &str = "\

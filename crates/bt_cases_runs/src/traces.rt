@@ -1,7 +1,7 @@
 //! Whole traces, from the first line to the exit.
 
 use crate::compare::compare_rows;
-use bt_stage::{joined, ran};
+use bt_testbed::{joined, ran};
 use std::test::Fail;
 
 const TWO_CHECKS: &str = "<Sequence><A/><B/></Sequence>";

@@ -2,7 +2,7 @@
 
 use bt_outside::{MemClock, MemSink};
 use bt_script::NoMemory;
-use bt_stage::{answer, answered, given, shelf_of_rows};
+use bt_testbed::{answer, answered, given, shelf_of_rows};
 use std::alloc::Global;
 use std::test::Fail;
 

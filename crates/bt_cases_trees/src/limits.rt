@@ -1,7 +1,7 @@
 //! How deep and how large a tree may be.
 
 use bt_script::NoMemory;
-use bt_stage::given;
+use bt_testbed::given;
 use std::alloc::{AllocError, Global};
 use std::test::Fail;
 

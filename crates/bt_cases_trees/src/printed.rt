@@ -1,6 +1,6 @@
 //! Trees that are printed, and read again.
 
-use bt_stage::given;
+use bt_testbed::given;
 use std::test::Fail;
 
 /// A file as Groot2 saves it.

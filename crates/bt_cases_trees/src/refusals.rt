@@ -1,6 +1,6 @@
 //! Tree files and world files that are refused, and reads that fail.
 
-use bt_stage::{answered, given};
+use bt_testbed::{answered, given};
 use std::test::Fail;
 
 const TICK: [&str; 3] = ["tick", "T", "W"];

@@ -1,6 +1,6 @@
 //! Which words are commands, and which of them are refused.
 
-use bt_stage::answered;
+use bt_testbed::answered;
 use std::test::Fail;
 
 const TWO_CHECKS: &str = "<Sequence><A/><B/></Sequence>";
