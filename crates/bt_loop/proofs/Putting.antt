@@ -88,8 +88,8 @@ module _ (tree : Tree) (world : World) (runners : List ReadyRunner) (facts : Lis
         (λ k x at other. ap (λ (xs : List Instance). let one : Runner = record { memory = memory_of t 1 x.arena.kept.items; board = x.board; instances = xs } in one) (others_same k x at other))
 
     -- and all fit again
-    pub fit_put : new.arena.runner ≡ r.arena.runner → Fits t (root_view tree world) 1 a (scene_of new facts1 drivers1) → RunnersFit tree world facts1 drivers1 (set runners i new)
-    fit_put number fits1 = record {
+    pub fit_put : new.arena.runner ≡ r.arena.runner → r.arena.frames.capacity ≤ new.arena.frames.capacity → Fits t (root_view tree world) 1 a (scene_of new facts1 drivers1) → RunnersFit tree world facts1 drivers1 (set runners i new)
+    fit_put number room fits1 = record {
       many = length-set runners i new ∙ fit.many;
       each = λ k y at. elim (set_is runners i new k y at) [
         | inl here ↦ subst (λ (x : ReadyRunner). RunnerFits tree world facts1 drivers1 (k + 1) x) here.1 (record {
@@ -97,6 +97,7 @@ module _ (tree : Tree) (world : World) (runners : List ReadyRunner) (facts : Lis
           fits = subst (λ (ns : List Node). Fits t (root_view tree world) 1 ns (scene_of new facts1 drivers1)) (sym nodes) fits1;
           nodes = ap length nodes ∙ (fit.each i r is).nodes;
           nobody = ap (λ (ns : List Node). leaf_at ns 0) nodes ∙ (fit.each i r is).nobody;
+          deep = omega (arith, room, (fit.each i r is).deep);
         })
         | inr there ↦
             let was : RunnerFits tree world facts drivers (k + 1) y = fit.each k y there.1 in
@@ -106,6 +107,7 @@ module _ (tree : Tree) (world : World) (runners : List ReadyRunner) (facts : Lis
                   (other_fits a y.arena.nodes.items (apart_from k y there.1 there.0) t (root_view tree world) y.arena.kept.items y.board facts facts1 calls drivers are fits1.facts was.fits);
               nodes = was.nodes;
               nobody = was.nobody;
+              deep = was.deep;
             }
       ];
       apart = subst AreApart (sym arenas_same) fit.apart;

@@ -70,7 +70,7 @@ quenching_none tree world facts before old told fit = record { fit = fit; notes 
 
 module _ (tree : Tree) (world : World) (facts : List ℤ) (i : ℕ) (before now : List DriverState) (old rs : List ReadyRunner) (told noted : List Note) (so_far : Quenching tree world facts i before now old rs told noted)
     (r : ReadyRunner) (is : slice_get rs i ≡ Some r) (new : ReadyRunner) (now1 : List DriverState) (noted1 : List Note)
-    (nodes : new.arena.nodes.items ≡ r.arena.nodes.items) (number : new.arena.runner ≡ r.arena.runner)
+    (nodes : new.arena.nodes.items ≡ r.arena.nodes.items) (number : new.arena.runner ≡ r.arena.runner) (frames : new.arena.frames ≡ r.arena.frames)
     (stays : StaysFit r.arena.nodes.items (scene_of r facts now) (scene_of new facts now1))
     (gone : runner_by tree.term r.arena.nodes.items new now1 ≡ quenched_runner tree (runner_in tree.term now r))
     (called : now1 ≡ roster_after r.arena.nodes.items (releases 0 (instances_of r.arena.nodes.items now)) now)
@@ -114,7 +114,7 @@ module _ (tree : Tree) (world : World) (facts : List ℤ) (i : ℕ) (before now 
   -- and one more is
   pub quenching_more : Quenching tree world facts (i + 1) before now1 old (set rs i new) told noted1
   quenching_more = record {
-    fit = fit_put tree world rs facts now so_far.fit i r is new facts now1 nodes calls called number (stays t (root_view tree world) 1 (so_far.fit.each i r is).fits);
+    fit = fit_put tree world rs facts now so_far.fit i r is new facts now1 nodes calls called number (let same : new.arena.frames.capacity ≡ r.arena.frames.capacity = λ j. (frames j).capacity in omega (arith, same)) (stays t (root_view tree world) 1 (so_far.fit.each i r is).fits);
     notes =
         (λ j. notes1 j ++ quench_notes (i + 1 + 1) (rest_same j))
         ∙ ap (λ n. (noted ++ quenched_notes n calls) ++ quench_notes (i + 1 + 1) (drop (i + 1) all)) number_is

@@ -82,6 +82,7 @@ fit_facts tree world facts facts1 drivers rs same fit = record {
         fits = record { stands = was.fits.stands; few = was.fits.few; marks = was.fits.marks; leaves = was.fits.leaves; slots = was.fits.slots; facts = same ∙ was.fits.facts };
         nodes = was.nodes;
         nobody = was.nobody;
+        deep = was.deep;
       };
   apart = fit.apart;
   theirs = fit.theirs;

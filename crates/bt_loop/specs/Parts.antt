@@ -85,10 +85,11 @@ MeetsPart of part at result r old new told noted =
     Meets r.arena.nodes.items at (memory_of of.tree.term 1) result old new told noted
     (part_of part of.tree of.world r.arena.runner (memory_of of.tree.term 1 old.kept) (state_in r.arena.nodes.items old at))
 
--- what no event changes of a runner
+-- what no event changes of a runner, and that its room for visits under way does not shrink
 pub record StaysRunner (old new : ReadyRunner) : Type 0 where
   pub nodes : new.arena.nodes.items ≡ old.arena.nodes.items
   pub number : new.arena.runner ≡ old.arena.runner
+  pub room : old.arena.frames.capacity ≤ new.arena.frames.capacity
 
 -- ---- All runners
 

@@ -1,5 +1,5 @@
 -- The runs of a tree in a world: the state that they keep, and what holds of them between events.
-use Rattle.std.specs.Prelude.{◌≡◌, ◌+◌, ◌-◌, ◌*◌, ◌<◌, ◌^◌, ℕ, ℤ, List, [], ◌∷◌, length, map, sum, slice_get, slice_index_or}
+use Rattle.std.specs.Prelude.{◌≡◌, ◌+◌, ◌-◌, ◌*◌, ◌<◌, ◌≤◌, ◌^◌, ℕ, ℤ, List, [], ◌∷◌, length, map, sum, slice_get, slice_index_or}
 use Rattle.std.specs.Prelude.{Option, Some, None, true}
 use Rattle.bt_model.specs.declared.term.Term.{Term}
 use Rattle.bt_model.specs.declared.term.Tree.{Tree}
@@ -8,7 +8,7 @@ use Rattle.bt_model.specs.Boards.{slots}
 use Rattle.bt_model.specs.Drivers.{DriverState, instance_at, is_held}
 use Rattle.bt_model.specs.Run.{RunState, Runner, RunnerCall, root_view}
 use Rattle.bt_model.specs.Sound.{RunSteady}
-use Rattle.bt_model.specs.Terms.{leaf_ids, node_count}
+use Rattle.bt_model.specs.Terms.{depth_of, leaf_ids, node_count}
 use Rattle.bt_arena.specs.Joins.{leaves_served}
 use Rattle.bt_arena.specs.declared.nodes.Node.{Node}
 use Rattle.bt_arena.specs.declared.nodes.ReadyLeaf.{ReadyLeaf}
@@ -89,13 +89,15 @@ HeldAreTheirs arenas drivers = (place instance : ℕ) → is_held (instance_at d
 
 -- ---- What holds of runs
 
--- a runner's tree stands in its arena, with nothing else but place 0; the marks of the arena say what is held
+-- a runner's tree stands in its arena, with nothing else but place 0; the marks of the arena say what is held; and
+-- there is room for the visits that can be under way at once
 pub record RunnerFits (tree : Tree) (world : World) (facts : List ℤ) (drivers : List DriverState) (number : ℕ) (r : ReadyRunner)
     : Type 0 where
   pub numbered : r.arena.runner ≡ number
   pub fits : Fits tree.term (root_view tree world) 1 r.arena.nodes.items (scene r.arena.kept.items r.board facts drivers)
   pub nodes : length r.arena.nodes.items ≡ 1 + node_count tree.term
   pub nobody : leaf_at r.arena.nodes.items 0 ≡ None
+  pub deep : depth_of tree.term ≤ r.arena.frames.capacity
 
 -- what holds of the runners of a world, even during an event
 pub record RunnersFit (tree : Tree) (world : World) (facts : List ℤ) (drivers : List DriverState) (runners : List ReadyRunner)

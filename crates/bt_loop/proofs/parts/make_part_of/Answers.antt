@@ -32,7 +32,7 @@ returns-clause-fit g c = λ of can.
     let acted = c.make_part.ensures.part of (can_act of.tree of.world c.args.turn.at before c.args.runs.now can.are can.ahead (c.args.turn.runner - 1) _ at) in
     let made = calls_of r.arena.nodes.items c.args.turn.at (memory_of of.tree.term 1) c.make_part.result (scene_of r c.args.runs.now.facts before) (scene_of c.make_part.new.runner c.make_part.new.facts after) _ _ _ acted in
     fit_put of.tree of.world c.args.runs.now.runners.items c.args.runs.now.facts before fit (c.args.turn.runner - 1) r at c.make_part.new.runner c.make_part.new.facts after c.make_part.ensures.stays.nodes made.0 made.1
-    c.make_part.ensures.stays.number (c.make_part.ensures.fits of.tree.term (root_view of.tree of.world) 1 (fit.each (c.args.turn.runner - 1) r at).fits)
+    c.make_part.ensures.stays.number c.make_part.ensures.stays.room (c.make_part.ensures.fits of.tree.term (root_view of.tree of.world) 1 (fit.each (c.args.turn.runner - 1) r at).fits)
 
 pub returns-clause-arenas : goal.returns-clause-arenas
 returns-clause-arenas g c =

@@ -32,7 +32,7 @@ loop-place-preserved g c =
       (λ of facts fit.
           let so_far = l.invariant.0 of facts fit in
           let fits = (so_far.fit.each l.place r at).fits in
-          quenching_more of.tree of.world facts l.place _ _ c.args.runners.now.items l.runners.items _ _ so_far r at new _ _ q.nodes q.same_runner (q.fits r.board facts) (q.runner of.tree (root_view of.tree of.world) r.board facts fits) q.drivers q.notes),
+          quenching_more of.tree of.world facts l.place _ _ c.args.runners.now.items l.runners.items _ _ so_far r at new _ _ q.nodes q.same_runner q.frames (q.fits r.board facts) (q.runner of.tree (root_view of.tree of.world) r.board facts fits) q.drivers q.notes),
       omega (arith, l.invariant.1, room_at l.runners.items c.args.runners.now.items l.place r at l.invariant.2, q.reserve, few_notes (g.D.Drivers.states l.drivers) 0 r.arena.nodes.items),
       map-set_same (λ (x : ReadyRunner). x.arena.nodes.items) l.runners.items l.place new r (q.nodes ∙ ap (λ (x : ReadyRunner). x.arena.nodes.items) (sym (get_or_from_slice_get l.runners.items l.place r r at))) ∙ l.invariant.2,
       map-set_same (λ (x : ReadyRunner). x.board) l.runners.items l.place new r (ap (λ (x : ReadyRunner). x.board) (sym (get_or_from_slice_get l.runners.items l.place r r at))) ∙ l.invariant.3,
