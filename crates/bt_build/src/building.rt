@@ -16,7 +16,7 @@ use bt_board::is_within_slots;
 use bt_elements::{Element, Elements};
 use bt_manifest::{Manifest, attribute};
 use bt_model::{MOST_DEPTH, MOST_KEYS, MOST_WORK, Term, Tree};
-use bt_script::{Name, NoMemory, Stop};
+use bt_script::{Boxed, Name, NoMemory, Stop};
 use std::alloc::Global;
 
 /// The ID of the only tree. None where the file has none or several.
@@ -63,7 +63,7 @@ fn read_root(
     file: &File<'_>,
     root: &Element,
     id: &Name,
-) -> Result<(Term, Numbers), Stop<BuildFault>>
+) -> Result<(Boxed<Term>, Numbers), Stop<BuildFault>>
     ensures { Gives result (read_root (file_seen file.now) root.now id.now) }
 {
     let numbers = Numbers {
@@ -103,6 +103,7 @@ fn root_read(
 {
     let (term, _) = read_root(file, root, id)?;
     let main = id.copy(alloc)?;
+    let term = term.into_inner();
     within_limits(alloc, Tree { main, term })
 }
 

@@ -1,10 +1,11 @@
-ghost use Rattle.std.specs.Prelude.{◌≡◌, ◌++◌, ◌∷◌, ◌<◌, [], IfOk};
+ghost use Rattle.std.specs.Prelude.{◌≡◌, ◌++◌, ◌∷◌, ◌<◌, [], IfOk, OnOk};
 ghost use Rattle.bt_script.specs.Stops.{Gives};
 ghost use Rattle.bt_model.specs.Names.{is_among};
-ghost use Rattle.bt_build.specs.Reads.{is_subtree, node_by, node_of, name_in, nodes_by, opened_by, read_node, tree_of};
+ghost use Rattle.bt_build.specs.Content.{content_in};
+ghost use Rattle.bt_build.specs.Reads.{is_subtree, node_by, node_of, name_in, nodes_by, opened_by, read_node, term_of, tree_of};
 ghost use Rattle.bt_build.specs.Seen.{file_seen, ids_seen};
 
-use crate::content::content_in;
+use crate::content::{Content, content_in};
 use crate::fault::BuildFault;
 use crate::head::{Head, head_of};
 use crate::trees::{Trees, tree_of};
@@ -12,7 +13,7 @@ use crate::version::Version;
 use bt_elements::Element;
 use bt_manifest::{Manifest, attribute};
 use bt_model::{Kind, MOST_NODES, MOST_SCOPES, Term, takes};
-use bt_script::{Items, Name, NoMemory, Stop};
+use bt_script::{Boxed, Items, Name, NoMemory, Stop};
 use std::alloc::Global;
 
 /// How many nodes and scopes there are so far, the main scope included.
@@ -86,6 +87,59 @@ fn name_in(alloc: Global, attributes: &[(Name, Name)], id: &Name) -> Result<Name
     }
 }
 
+/// What the attributes of a node say, or the first fault. It waits on the heap while the children are read, since the
+/// stack holds a level for each node above.
+#[inline(never)]
+fn boxed_content(
+    alloc: Global,
+    uid: u32,
+    models: &Manifest,
+    head: &Head,
+    attributes: &[(Name, Name)],
+) -> Result<Boxed<Content>, Stop<BuildFault>>
+    ensures { Gives result (content_in uid models.now head.now.kind head.now.id head.now.form attributes.now) }
+{
+    let content = content_in(alloc, uid, models, head, attributes)?;
+    Ok(Boxed::of(alloc, content)?)
+}
+
+/// A node of all that was read. It is large, and goes up by its place on the heap.
+#[inline(never)]
+fn term_of(
+    alloc: Global,
+    head: Head,
+    attributes: &[(Name, Name)],
+    content: Boxed<Content>,
+    children: Items<Term>,
+) -> Result<Boxed<Term>, NoMemory>
+    ensures { IfOk result (λ term. term ≡ term_of head attributes.now content children) }
+{
+    let name = name_in(alloc, attributes, &head.id)?;
+    let content = content.into_inner();
+    Boxed::of(
+        alloc,
+        Term {
+            kind: head.kind,
+            id: head.id,
+            name,
+            ports: content.ports,
+            code: content.code,
+            guards: content.guards,
+            autoremap: content.autoremap,
+            children,
+        },
+    )
+}
+
+/// Adds a node after the others.
+#[inline(never)]
+fn add_term(terms: &mut Vec<Term>, term: Boxed<Term>) -> Result<(), NoMemory>
+    ensures { OnOk result (terms.new.items ≡ terms.old.items ++ term ∷ []) }
+{
+    terms.push(term.into_inner())?;
+    Ok(())
+}
+
 /// Some nodes, one after another, of which each stands at this place, and the numbers after them; or the first fault.
 #[cycle(walk)]
 fn nodes_by(
@@ -101,7 +155,7 @@ fn nodes_by(
     let mut so_far = numbers;
     for element in elements {
         let (term, next) = read_node(file, place, element, so_far)?;
-        terms.push(term)?;
+        add_term(&mut terms, term)?;
         so_far = next;
     }
     Ok((Items::of(terms), so_far))
@@ -117,24 +171,14 @@ fn node_of(
     attributes: &[(Name, Name)],
     children: &[Element],
     numbers: Numbers,
-) -> Result<(Term, Numbers), Stop<BuildFault>>
+) -> Result<(Boxed<Term>, Numbers), Stop<BuildFault>>
     ensures { let f = file_seen file.now in let p = place.entry in
         Gives result (node_of f.models (read_node f p.left) head attributes.now (ids_seen p.opened.now)
         children.now numbers numbers.nodes) }
 {
-    let content = content_in(file.alloc, numbers.nodes, file.models, &head, attributes)?;
+    let content = boxed_content(file.alloc, numbers.nodes, file.models, &head, attributes)?;
     let (terms, numbers) = nodes_by(file, place, children, numbers)?;
-    let name = name_in(file.alloc, attributes, &head.id)?;
-    let term = Term {
-        kind: head.kind,
-        id: head.id,
-        name,
-        ports: content.ports,
-        code: content.code,
-        guards: content.guards,
-        autoremap: content.autoremap,
-        children: terms,
-    };
+    let term = term_of(file.alloc, head, attributes, content, terms)?;
     Ok((term, numbers))
 }
 
@@ -147,7 +191,7 @@ fn opened_by(
     head: Head,
     element: &Element,
     numbers: Numbers,
-) -> Result<(Term, Numbers), Stop<BuildFault>>
+) -> Result<(Boxed<Term>, Numbers), Stop<BuildFault>>
     requires { numbers.nodes < 4096 }
     ensures { let f = file_seen file.now in let p = place.entry in
         Gives result (opened_by f (read_node f p.left) head element.now (ids_seen p.opened.now) numbers (tree_of head.id f.trees)) }
@@ -190,7 +234,7 @@ fn node_by(
     head: Head,
     element: &Element,
     numbers: Numbers,
-) -> Result<(Term, Numbers), Stop<BuildFault>>
+) -> Result<(Boxed<Term>, Numbers), Stop<BuildFault>>
     requires { numbers.nodes < 4096 }
     ensures { let f = file_seen file.now in let p = place.entry in
         Gives result (node_by f (read_node f p.left) head element.now (ids_seen p.opened.now) numbers) }
@@ -218,7 +262,7 @@ pub fn read_node(
     place: Place<'_>,
     element: &Element,
     numbers: Numbers,
-) -> Result<(Term, Numbers), Stop<BuildFault>>
+) -> Result<(Boxed<Term>, Numbers), Stop<BuildFault>>
     ensures { let p = place.entry in
         Gives result (read_node (file_seen file.now) p.left element.now (ids_seen p.opened.now) numbers) }
 {

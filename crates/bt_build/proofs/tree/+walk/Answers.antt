@@ -58,7 +58,7 @@ nodes_by-loop-element-preserved t c =
     let opened = ids_seen c.args.place.opened.now in
     let within : c.loop-element.element-index < length c.args.elements.now = omega arith in
     let more = following_more below opened c.args.elements.now c.loop-element.element-index c.element-item.result c.loop-element.so_far c.in_ok-term.next c.loop-element.terms.items c.in_ok-term.term within c.element-item.is c.in_ok-term.ensures in
-    rw c.in_ok-push.ensures.items (sym more ∙ c.loop-element.invariant)
+    rw c.in_ok-add_term.ensures (sym more ∙ c.loop-element.invariant)
 
 pub nodes_by-returns-in_err-term : goal.nodes_by-returns-in_err-term
 nodes_by-returns-in_err-term t c =
