@@ -1,16 +1,16 @@
-ghost use Rattle.std.specs.Prelude.{◌≡◌, ◌++◌, IfOk, codes, map};
+ghost use Rattle.std.specs.Prelude.{◌≡◌, ◌++◌, ◌∷◌, [], IfOk, OnOk, codes, map};
 ghost use Rattle.bt_script.specs.Stops.{Gives};
-ghost use Rattle.bt_model.specs.declared.term.Term.{out-Term};
+ghost use Rattle.bt_model.specs.declared.term.Term.{out-Term, roll-Term};
 ghost use Rattle.bt_model.specs.Trees.{IsRunnable};
 ghost use Rattle.bt_mock.specs.FitRules.{RulesFit};
-ghost use Rattle.bt_mock.specs.Substitutions.{inside, replaced, substitute, with_mocks};
+ghost use Rattle.bt_mock.specs.Substitutions.{by_rule, inside, replaced, rule_of, substitute, with_children, with_mocks};
 
 use crate::fault::MockFault;
 use crate::limits::within_limits;
 use crate::nodes::{by_rule, with_children};
 use crate::rules::Rules;
 use bt_model::{Kind, Term, Tree};
-use bt_script::{Items, Name, NoMemory, Stop};
+use bt_script::{Boxed, Items, Name, NoMemory, Stop};
 use std::alloc::Global;
 
 /// The path of a node of this name: what the paths here begin with, and then the name.
@@ -31,6 +31,41 @@ fn inside_tree(alloc: Global, above: &[u8], name: &Name) -> Result<Vec<u8>, NoMe
     Ok(path)
 }
 
+/// Adds a term after the others. Terms are large, and come by their places on the heap, since the stack holds a level
+/// for each node above.
+#[inline(never)]
+fn add_term(terms: &mut Vec<Term>, term: Boxed<Term>) -> Result<(), NoMemory>
+    ensures { OnOk result (terms.new.items ≡ terms.old.items ++ term ∷ []) }
+{
+    terms.push(term.into_inner())?;
+    Ok(())
+}
+
+/// What takes the place of a node without children, where its path begins with this text.
+#[inline(never)]
+fn leaf_replaced(
+    alloc: Global,
+    rules: &Rules,
+    node: &Term,
+    above: &[u8],
+) -> Result<Boxed<Term>, NoMemory>
+    ensures { IfOk result (λ term. term ≡ by_rule rules.now.configurations
+        (rule_of rules.now.rules (above.now ++ (out-Term node.now).name)) (with_children (out-Term node.now) [])) }
+{
+    let path = path_of(alloc, above, &node.name)?;
+    let term = by_rule(alloc, rules, path.as_slice(), node)?;
+    Boxed::of(alloc, term)
+}
+
+/// The node over these children.
+#[inline(never)]
+fn over_children(alloc: Global, node: &Term, children: Items<Term>) -> Result<Boxed<Term>, NoMemory>
+    ensures { IfOk result (λ term. term ≡ roll-Term (with_children (out-Term node.now) children)) }
+{
+    let term = with_children(alloc, node, children)?;
+    Boxed::of(alloc, term)
+}
+
 /// Some terms with their nodes replaced by rules, where the paths of their nodes begin with this text.
 #[cycle(terms)]
 fn all_replaced(
@@ -43,7 +78,7 @@ fn all_replaced(
 {
     let mut all = Vec::with_capacity(alloc, terms.len())?;
     for term in terms {
-        all.push(replaced(alloc, rules, term, above)?)?;
+        add_term(&mut all, replaced(alloc, rules, term, above)?)?;
     }
     Ok(Items::of(all))
 }
@@ -72,15 +107,19 @@ fn children_replaced(
 
 /// A term with its nodes replaced by rules, where the paths of its nodes begin with this text.
 #[cycle(terms)]
-fn replaced(alloc: Global, rules: &Rules, term: &Term, above: &[u8]) -> Result<Term, NoMemory>
+fn replaced(
+    alloc: Global,
+    rules: &Rules,
+    term: &Term,
+    above: &[u8],
+) -> Result<Boxed<Term>, NoMemory>
     ensures { IfOk result (λ t. t ≡ replaced rules.now term.now above.now) }
 {
     if term.children.list().is_empty() {
-        let path = path_of(alloc, above, &term.name)?;
-        return by_rule(alloc, rules, path.as_slice(), term);
+        return leaf_replaced(alloc, rules, term, above);
     }
     let children = children_replaced(alloc, rules, term, above)?;
-    with_children(alloc, term, children)
+    over_children(alloc, term, children)
 }
 
 /// The tree with its nodes without children replaced by the rules. Its faults are the four limits of trees, of the
@@ -90,7 +129,7 @@ pub fn substitute(alloc: Global, tree: &Tree, rules: &Rules) -> Result<Tree, Sto
     ensures gives { Gives result (substitute tree.now rules.now) }
     ensures runnable { IsRunnable tree.now → RulesFit rules.now → IfOk result IsRunnable }
 {
-    let term = replaced(alloc, rules, &tree.term, &[])?;
+    let term = replaced(alloc, rules, &tree.term, &[])?.into_inner();
     let main = tree.main.copy(alloc)?;
     within_limits(alloc, Tree { main, term })
 }

@@ -12,4 +12,4 @@ replaced-returns t c =
     let some : (out-Term term).children ≢ [] =
     λ none. true≢false (sym (c.is_empty.ensures ∙ ap (λ (terms : List Term). length terms == 0) (c.list.ensures ∙ none)) ∙ c.if-is_empty.false) in
     let becomes = ap (λ (children : List Term). roll-Term (with_children (out-Term term) children)) c.in_ok-children.ensures ∙ sym (replaced-inner c.args.rules.now term c.args.above.now some) in
-    subst (λ (t : Term). IfOk c.with_children.result (λ r. r ≡ t)) becomes c.with_children.ensures
+    subst (λ (t : Term). IfOk c.over_children.result (λ r. r ≡ t)) becomes c.over_children.ensures

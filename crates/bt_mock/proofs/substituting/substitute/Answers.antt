@@ -1,4 +1,4 @@
-use Rattle.std.proofs.Common.{◌≡◌, subst}
+use Rattle.std.proofs.Common.{◌≡◌, ◌∙◌, subst}
 use Rattle.bt_script.specs.Stops.{Gives}
 use Rattle.bt_model.specs.declared.term.Tree.{Tree}
 use Rattle.bt_mock.specs.Substitutions.{with_mocks, within_limits}
@@ -7,6 +7,7 @@ use Rattle.bt_mock.proofs.substituting.substitute.Goals as goal
 
 pub returns-clause-runnable : goal.returns-clause-runnable
 returns-clause-runnable c = λ can fit.
-    let mocked : record { main = c.in_ok-main.main; term = c.in_ok-term.term } ≡ with_mocks c.args.tree.now c.args.rules.now = λ i. record { main = c.in_ok-main.ensures i; term = c.in_ok-term.ensures i } in
+    let replaced = c.into_inner-term.ensures ∙ c.in_ok-replaced.ensures in
+    let mocked : record { main = c.in_ok-main.main; term = c.into_inner-term.result } ≡ with_mocks c.args.tree.now c.args.rules.now = λ i. record { main = c.in_ok-main.ensures i; term = replaced i } in
     gives_runnable c.args.tree.now c.args.rules.now can fit c.within_limits.result
     (subst (λ (tree : Tree). Gives c.within_limits.result (within_limits tree)) mocked c.within_limits.ensures)
