@@ -1,5 +1,5 @@
 -- The entries of a tree's names are its table of slots, and the table gives the slot of each of its names.
-use Rattle.std.proofs.Common.{◌≡◌, ℕ, zero, suc, ◌<◌, List, [], ◌∷◌, Bool, true, false, cond, ◌||◌, Option, Some, None, map, length, get_or, find, if◌then◌else◌, refl, sym, ap, subst, ◌∙◌, arith}
+use Rattle.std.proofs.Common.{◌≡◌, ℕ, zero, suc, ◌<◌, List, [], ◌∷◌, Bool, true, false, true≢false, not, cond, ◌||◌, Option, Some, None, map, length, get_or, find, if◌then◌else◌, refl, sym, ap, subst, ◌∙◌, arith}
 use Rattle.std.specs.List.{All, AllByRecursion, Contains, list_any}
 use Rattle.std.specs.List.Sorted.{IsStrictlySortedBy}
 use Rattle.std.specs.Option.{option_map}
@@ -7,16 +7,14 @@ use Rattle.std.specs.declared.cmp.Ordering.TheVariants.{Less}
 use Rattle.bt_model.specs.declared.cell.Cell.{Cell}
 use Rattle.bt_model.specs.declared.cell.Naming.{Naming}
 use Rattle.bt_model.specs.declared.term.Tree.{Tree}
-use Rattle.bt_model.specs.Boards.{slot_table, slots, slot_in, slot_of, scope_of, named_keys, namings, owner, same_cell, cell_order}
+use Rattle.bt_model.specs.Boards.{slot_table, slots, in_order, slot_in, slot_of, scope_of, named_keys, namings, owner, same_cell, cell_order}
 use Rattle.bt_board.specs.declared.slots.Entry.{Entry}
 use Rattle.bt_board.specs.Slots.{entry_of, entry_order, table}
-use Rattle.bt_board.proofs.CellOrder.{in_order_is, in_order_any}
-use Rattle.bt_board.proofs.Searched.{same_decides}
+use Rattle.bt_board.specs.Namings.{HaveSame}
+use Rattle.bt_board.proofs.CellOrder.{in_order_ascends, in_order_is, in_order_any}
+use Rattle.bt_board.proofs.Named.{list_any-map}
+use Rattle.bt_board.proofs.Searched.{same_decides, same_itself}
 use Rattle.bt_board.proofs.Sound.{namings_sound, IsTrue_cell}
-
-list_any-map : {X Y : Type 0} (p : Y → Bool) (f : X → Y) (xs : List X) → list_any p (map f xs) ≡ list_any (λ x. p (f x)) xs
-list_any-map p f [] = refl
-list_any-map p f (x ∷ xs) = ap (λ b. p (f x) || b) (list_any-map p f xs)
 
 named_above : (low : Entry) (entries : List Entry) → AllByRecursion (λ e. entry_order low e ≡ Less) entries → AllByRecursion (λ c. cell_order low.named c ≡ Less) (map (λ (e : Entry). e.named) entries)
 named_above low [] all = tt
@@ -50,22 +48,54 @@ as_table tree (e ∷ entries) right =
     let rest = as_table tree entries (λ x has. right x (suc has.0, omega (arith, has.1), has.2)) in
     λ i. (e.named, first i) ∷ rest i
 
--- the entries of all that a tree names, in order and each once, are its table
-pub entries_are_table : (tree : Tree) (cells : List Cell) (all entries : List Entry) → cells ≡ slots tree → all ≡ map (entry_of cells) (namings tree)
+-- a naming whose cell is not the one to which its scope leads
+abbrev strays : Tree → Naming → Bool
+strays tree n = not (same_cell n.cell (scope_of tree n.number n.key))
+
+none_strays : (tree : Tree) (ns : List Naming) → AllByRecursion (IsTrue_cell tree) ns → list_any (strays tree) ns ≡ false
+none_strays tree [] all = refl
+none_strays tree (n ∷ ns) all =
+    let tie : same_cell n.cell (scope_of tree n.number n.key) ≡ true = ap (λ (cell : Cell). same_cell cell (scope_of tree n.number n.key)) all.0 ∙ same_itself (scope_of tree n.number n.key) in
+    ap (λ b. not b || list_any (strays tree) ns) tie ∙ none_strays tree ns all.1
+
+all_true : (tree : Tree) (ns : List Naming) → list_any (strays tree) ns ≡ false → AllByRecursion (IsTrue_cell tree) ns
+all_true tree [] none = tt
+all_true tree (n ∷ ns) none =
+    let true_cell = scope_of tree n.number n.key in
+    elim (same_cell n.cell true_cell) as (λ b. same_cell n.cell true_cell ≡ b → not b || list_any (strays tree) ns ≡ false → AllByRecursion (IsTrue_cell tree) (n ∷ ns)) [
+      | true ↦ λ tie rest. (same_decides n.cell true_cell tie, all_true tree ns rest)
+      | false ↦ λ _ some. absurd (true≢false some)
+    ] refl none
+
+-- the namings of a list that has those of a tree have their true cells
+same_true : (tree : Tree) (ns : List Naming) → HaveSame ns (namings tree) → AllByRecursion (IsTrue_cell tree) ns
+same_true tree ns same = all_true tree ns (same (strays tree) ∙ none_strays tree (namings tree) (namings_sound tree))
+
+-- the cells of such a list, in order, are the slots of the tree
+pub cells_are_slots : (tree : Tree) (ns : List Naming) → HaveSame ns (namings tree) → in_order (map (λ (n : Naming). n.cell) ns) ≡ slots tree
+cells_are_slots tree ns same =
+    let cell = λ (n : Naming). n.cell in
+    in_order_is (in_order (map cell ns)) (map cell (namings tree)) (in_order_ascends (map cell ns))
+    (λ p. in_order_any p (map cell ns) ∙ list_any-map p cell ns ∙ same (λ n. p n.cell) ∙ sym (list_any-map p cell (namings tree)))
+
+-- the entries of such a list, in order and each once, are the table of the tree
+pub entries_are_table : (tree : Tree) (ns : List Naming) (cells : List Cell) (all entries : List Entry) → HaveSame ns (namings tree) → cells ≡ slots tree → all ≡ map (entry_of cells) ns
     → IsStrictlySortedBy entry_order entries
     → ((p : Entry → Bool) → ((x y : Entry) → same_cell x.named y.named ≡ true → p x ≡ p y) → list_any p entries ≡ list_any p all)
     → ((x : Entry) → Contains entries x → Contains all x)
     → table cells entries ≡ slot_table tree
-entries_are_table tree cells all entries is_cells is_all ascend same from =
+entries_are_table tree ns cells all entries same_ns is_cells is_all ascend same from =
     let named = λ (e : Entry). e.named in
-    let all_is : all ≡ map (entry_of (slots tree)) (namings tree) = is_all ∙ ap (λ cs. map (entry_of cs) (namings tree)) is_cells in
-    let keys : map named entries ≡ named_keys tree = in_order_is (map named entries) (map (λ (n : Naming). owner n.number n.key) (namings tree)) (named_ascend entries ascend)
+    let key = λ (n : Naming). owner n.number n.key in
+    let all_is : all ≡ map (entry_of (slots tree)) ns = is_all ∙ ap (λ cs. map (entry_of cs) ns) is_cells in
+    let keys : map named entries ≡ named_keys tree = in_order_is (map named entries) (map key (namings tree)) (named_ascend entries ascend)
     (λ p. list_any-map p named entries ∙ same (λ e. p e.named) (λ x y tie. ap p (same_decides x.named y.named tie))
-    ∙ ap (list_any (λ (e : Entry). p e.named)) all_is ∙ list_any-map (λ (e : Entry). p e.named) (entry_of (slots tree)) (namings tree)
-    ∙ sym (list_any-map p (λ (n : Naming). owner n.number n.key) (namings tree))) in
+    ∙ ap (list_any (λ (e : Entry). p e.named)) all_is ∙ list_any-map (λ (e : Entry). p e.named) (entry_of (slots tree)) ns
+    ∙ same_ns (λ n. p (key n))
+    ∙ sym (list_any-map p key (namings tree))) in
     let right : (e : Entry) → Contains entries e → e.slot ≡ slot_for tree e.named = λ e has.
     let place = subst (λ xs. Contains xs e) all_is (from e has) in
-    subst (λ (x : Entry). x.slot ≡ slot_for tree x.named) place.2 (all_at _ _ (all_entries tree (namings tree) (namings_sound tree)) place.0 e place.1) in
+    subst (λ (x : Entry). x.slot ≡ slot_for tree x.named) place.2 (all_at _ _ (all_entries tree ns (same_true tree ns same_ns)) place.0 e place.1) in
     let rows = as_table tree entries right ∙ ap (map {B = Cell × ℕ} (λ (k : Cell). (k, slot_for tree k))) keys in
     λ i. record { cells = is_cells i; named = rows i }
 

@@ -25,7 +25,7 @@ tied Less e = absurd (true≢false (sym e))
 tied Equal e = refl
 tied Greater e = absurd (true≢false (sym e))
 
-same_itself : (a : Cell) → same_cell a a ≡ true
+pub same_itself : (a : Cell) → same_cell a a ≡ true
 same_itself a = same_by_order a a ∙ ap is_eq (tied_itself cells_total a)
 
 -- the cells of two items that tie with one are the same

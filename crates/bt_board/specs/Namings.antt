@@ -1,6 +1,6 @@
 -- What is named while a tree is gone through.
-use Rattle.std.specs.Prelude.{ℕ, ◌+◌, List, ◌++◌, length, map, sum, if◌then◌else◌}
-use Rattle.std.specs.List.{flat_map}
+use Rattle.std.specs.Prelude.{◌≡◌, ℕ, ◌+◌, Bool, List, ◌++◌, length, map, sum, if◌then◌else◌}
+use Rattle.std.specs.List.{flat_map, list_any}
 use Rattle.bt_script.specs.declared.syntax.Script.{Script}
 use Rattle.bt_script.specs.Scripts.{stmt_names}
 use Rattle.bt_model.specs.declared.cell.Naming.{Naming}
@@ -31,6 +31,19 @@ namings_of_term term uid number scope = flat_map namings_at (standing_from term 
 -- what some terms name, one after the other
 abbrev pub namings_of_terms : List Term → ℕ → ℕ → model.Scope → List Naming
 namings_of_terms terms uid number scope = flat_map namings_at (standing_all (map standing_from terms) uid number scope)
+
+-- two lists have the same namings: a test holds of one in the first exactly where it holds of one in the second
+abbrev pub HaveSame : List Naming → List Naming → Type 0
+HaveSame xs ys = (p : Naming → Bool) → list_any p xs ≡ list_any p ys
+
+-- these namings, and these keys of a scope that is not yet left
+abbrev pub named_so_far : Scope → List (List ℕ) → List Naming → List Naming
+named_so_far scope keys namings = namings ++ names_here scope keys
+
+-- to what was named before, what is named within the scope was added
+abbrev pub AreNamed : Scope → (ℕ → model.Scope → List Naming) → List (List ℕ) → List Naming → List (List ℕ) → List Naming → Type 0
+AreNamed scope within keys_before before keys now =
+    HaveSame (named_so_far scope keys now) (named_so_far scope keys_before before ++ within (number_of scope) (cells_of scope))
 
 -- how many keys a node names: in its scripts and by its ports, and a SubTree node its ports in the scope that it makes
 abbrev pub own_name_count : {A : Type 0} → Term-F A → ℕ

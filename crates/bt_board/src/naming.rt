@@ -1,74 +1,59 @@
-ghost use Rattle.std.specs.Prelude.{◌≡◌, ◌+◌, ◌∷◌, ◌++◌, [], map, sum, IfOk, OnOk};
+ghost use Rattle.std.specs.Prelude.{◌≡◌, ◌+◌, ◌++◌, map, sum, IfOk, OnOk};
 ghost use Rattle.std.specs.List.{flat_map};
+ghost use Rattle.std.specs.Str.{bytes_eq};
+ghost use Rattle.indexmap.specs.IndexSet.{insert_key, insert_all};
 ghost use Rattle.bt_script.specs.Scripts.{names_of, stmt_names};
 ghost use Rattle.bt_model.specs.Boards.{given, scripts_of, value_keys, namings};
 ghost use Rattle.bt_model.specs.Terms.{node_count};
-ghost use Rattle.bt_board.specs.Scopes.{number_of, cells_of};
-ghost use Rattle.bt_board.specs.Namings.{script_names, names_here, keys_of_node, namings_of_term, namings_of_terms};
+ghost use Rattle.bt_board.specs.Scopes.{number_of};
+ghost use Rattle.bt_board.specs.Namings.{script_names, names_here, keys_of_node, namings_of_term, namings_of_terms, AreNamed, HaveSame};
 
 use crate::scope::{Scope, cell_in, mappings_of, scope_number};
 use bt_model::{Guards, Kind, Naming, Port, PortValue, Term, Tree};
 use bt_script::{Expr, Name, NoMemory, Script, Stmt};
+use indexmap::IndexSet;
 use std::alloc::Global;
 
-/// Adds a key that is named in a scope, with its cell.
-fn name_key(
-    alloc: Global,
-    key: &Name,
-    scope: &Scope,
-    namings: &mut Vec<Naming>,
-) -> Result<(), NoMemory>
-    ensures { OnOk result (namings.new.items ≡ namings.old.items ++ names_here scope.now (key.now ∷ [])) }
+/// Adds a key to those that are named in a scope, where it is not yet among them.
+fn name_key(alloc: Global, key: &Name, keys: &mut IndexSet<Name>) -> Result<(), NoMemory>
+    ensures { OnOk result (keys.new.keys ≡ insert_key bytes_eq keys.old.keys key.now) }
 {
-    let cell = cell_in(alloc, scope, key)?;
-    namings.push(Naming {
-        number: scope_number(scope),
-        key: key.copy(alloc)?,
-        cell,
-    })?;
+    if !keys.contains(key) {
+        keys.insert(key.copy(alloc)?)?;
+    }
     Ok(())
 }
 
 /// Adds the names that an expression looks at.
-fn name_expr(
-    alloc: Global,
-    e: &Expr,
-    scope: &Scope,
-    namings: &mut Vec<Naming>,
-) -> Result<(), NoMemory>
-    ensures { OnOk result (namings.new.items ≡ namings.old.items ++ names_here scope.now (names_of e.now)) }
+fn name_expr(alloc: Global, e: &Expr, keys: &mut IndexSet<Name>) -> Result<(), NoMemory>
+    ensures { OnOk result (keys.new.keys ≡ insert_all bytes_eq keys.old.keys (names_of e.now)) }
 {
     match e {
         Expr::Num(_) | Expr::Lit(_) => Ok(()),
-        Expr::Look(name) => name_key(alloc, name, scope, namings),
-        Expr::Group(a) | Expr::Unary(_, a) => name_expr(alloc, a.get(), scope, namings),
+        Expr::Look(name) => name_key(alloc, name, keys),
+        Expr::Group(a) | Expr::Unary(_, a) => name_expr(alloc, a.get(), keys),
         Expr::Binary(_, a, b) => {
-            name_expr(alloc, a.get(), scope, namings)?;
-            name_expr(alloc, b.get(), scope, namings)
+            name_expr(alloc, a.get(), keys)?;
+            name_expr(alloc, b.get(), keys)
         }
         Expr::Choose(a, b, c) => {
-            name_expr(alloc, a.get(), scope, namings)?;
-            name_expr(alloc, b.get(), scope, namings)?;
-            name_expr(alloc, c.get(), scope, namings)
+            name_expr(alloc, a.get(), keys)?;
+            name_expr(alloc, b.get(), keys)?;
+            name_expr(alloc, c.get(), keys)
         }
     }
 }
 
 /// Adds the names of a statement.
-fn name_stmt(
-    alloc: Global,
-    stmt: &Stmt,
-    scope: &Scope,
-    namings: &mut Vec<Naming>,
-) -> Result<(), NoMemory>
-    ensures { OnOk result (namings.new.items ≡ namings.old.items ++ names_here scope.now (stmt_names stmt.now)) }
+fn name_stmt(alloc: Global, stmt: &Stmt, keys: &mut IndexSet<Name>) -> Result<(), NoMemory>
+    ensures { OnOk result (keys.new.keys ≡ insert_all bytes_eq keys.old.keys (stmt_names stmt.now)) }
 {
     match stmt {
         Stmt::Create(name, e) | Stmt::Assign(name, e) | Stmt::Change(_, name, e) => {
-            name_key(alloc, name, scope, namings)?;
-            name_expr(alloc, e, scope, namings)
+            name_key(alloc, name, keys)?;
+            name_expr(alloc, e, keys)
         }
-        Stmt::Plain(e) => name_expr(alloc, e, scope, namings),
+        Stmt::Plain(e) => name_expr(alloc, e, keys),
     }
 }
 
@@ -76,14 +61,13 @@ fn name_stmt(
 fn name_script(
     alloc: Global,
     script: &Option<Script>,
-    scope: &Scope,
-    namings: &mut Vec<Naming>,
+    keys: &mut IndexSet<Name>,
 ) -> Result<(), NoMemory>
-    ensures { OnOk result (namings.new.items ≡ namings.old.items ++ names_here scope.now (script_names (given script.now))) }
+    ensures { OnOk result (keys.new.keys ≡ insert_all bytes_eq keys.old.keys (script_names (given script.now))) }
 {
     if let Some(script) = script {
         for stmt in script.stmts.list() {
-            name_stmt(alloc, stmt, scope, namings)?;
+            name_stmt(alloc, stmt, keys)?;
         }
     }
     Ok(())
@@ -94,65 +78,49 @@ fn name_scripts(
     alloc: Global,
     code: &Option<Script>,
     guards: &Guards,
-    scope: &Scope,
-    namings: &mut Vec<Naming>,
+    keys: &mut IndexSet<Name>,
 ) -> Result<(), NoMemory>
-    ensures { OnOk result (namings.new.items ≡ namings.old.items ++ names_here scope.now (script_names (scripts_of code.now guards.now))) }
+    ensures { OnOk result (keys.new.keys ≡ insert_all bytes_eq keys.old.keys (script_names (scripts_of code.now guards.now))) }
 {
-    name_script(alloc, code, scope, namings)?;
-    name_script(alloc, &guards.failure_if, scope, namings)?;
-    name_script(alloc, &guards.success_if, scope, namings)?;
-    name_script(alloc, &guards.skip_if, scope, namings)?;
-    name_script(alloc, &guards.while_true, scope, namings)?;
-    name_script(alloc, &guards.on_success, scope, namings)?;
-    name_script(alloc, &guards.on_failure, scope, namings)?;
-    name_script(alloc, &guards.post, scope, namings)?;
-    name_script(alloc, &guards.on_halted, scope, namings)
+    name_script(alloc, code, keys)?;
+    name_script(alloc, &guards.failure_if, keys)?;
+    name_script(alloc, &guards.success_if, keys)?;
+    name_script(alloc, &guards.skip_if, keys)?;
+    name_script(alloc, &guards.while_true, keys)?;
+    name_script(alloc, &guards.on_success, keys)?;
+    name_script(alloc, &guards.on_failure, keys)?;
+    name_script(alloc, &guards.post, keys)?;
+    name_script(alloc, &guards.on_halted, keys)
 }
 
 /// Adds the keys that the ports of a node name in the scope in which it stands.
-fn name_values(
-    alloc: Global,
-    ports: &[Port],
-    scope: &Scope,
-    namings: &mut Vec<Naming>,
-) -> Result<(), NoMemory>
-    ensures { OnOk result (namings.new.items ≡ namings.old.items ++ names_here scope.now (flat_map (λ port. value_keys port.value) ports.now)) }
+fn name_values(alloc: Global, ports: &[Port], keys: &mut IndexSet<Name>) -> Result<(), NoMemory>
+    ensures { OnOk result (keys.new.keys ≡ insert_all bytes_eq keys.old.keys (flat_map (λ port. value_keys port.value) ports.now)) }
 {
     for port in ports {
         if let PortValue::Key(key) = &port.value {
-            name_key(alloc, key, scope, namings)?;
+            name_key(alloc, key, keys)?;
         }
     }
     Ok(())
 }
 
-/// Adds the names of ports, in the scope that their SubTree node makes.
-fn name_ports(
-    alloc: Global,
-    ports: &[Port],
-    scope: &Scope,
-    namings: &mut Vec<Naming>,
-) -> Result<(), NoMemory>
-    ensures { OnOk result (namings.new.items ≡ namings.old.items ++ names_here scope.now (map (λ port. port.name) ports.now)) }
+/// Adds the names of ports: their SubTree node names them in the scope that it makes.
+fn name_ports(alloc: Global, ports: &[Port], keys: &mut IndexSet<Name>) -> Result<(), NoMemory>
+    ensures { OnOk result (keys.new.keys ≡ insert_all bytes_eq keys.old.keys (map (λ port. port.name) ports.now)) }
 {
     for port in ports {
-        name_key(alloc, &port.name, scope, namings)?;
+        name_key(alloc, &port.name, keys)?;
     }
     Ok(())
 }
 
 /// Adds what a node names in the scope in which it stands.
-fn name_node(
-    alloc: Global,
-    node: &Term,
-    scope: &Scope,
-    namings: &mut Vec<Naming>,
-) -> Result<(), NoMemory>
-    ensures { OnOk result (namings.new.items ≡ namings.old.items ++ names_here scope.now (keys_of_node node.now)) }
+fn name_node(alloc: Global, node: &Term, keys: &mut IndexSet<Name>) -> Result<(), NoMemory>
+    ensures { OnOk result (keys.new.keys ≡ insert_all bytes_eq keys.old.keys (keys_of_node node.now)) }
 {
-    name_scripts(alloc, &node.code, &node.guards, scope, namings)?;
-    name_values(alloc, node.ports.list(), scope, namings)
+    name_scripts(alloc, &node.code, &node.guards, keys)?;
+    name_values(alloc, node.ports.list(), keys)
 }
 
 /// The uid after one. A tree with 2^32 nodes does not fit into memory, so `NoMemory` stands for there being none.
@@ -165,28 +133,55 @@ pub(crate) fn uid_after(uid: u32) -> Result<u32, NoMemory>
     }
 }
 
-/// Adds what the nodes of a term name, from this uid on. Answers the uid after the last.
+/// Adds all keys that are named in a scope, with their cells.
+fn name_scope(
+    alloc: Global,
+    scope: &Scope,
+    keys: &IndexSet<Name>,
+    namings: &mut Vec<Naming>,
+) -> Result<(), NoMemory>
+    ensures { OnOk result (namings.new.items ≡ namings.old.items ++ names_here scope.now keys.now.keys) }
+{
+    for key in keys.as_slice() {
+        let cell = cell_in(alloc, scope, key)?;
+        namings.push(Naming {
+            number: scope_number(scope),
+            key: key.copy(alloc)?,
+            cell,
+        })?;
+    }
+    Ok(())
+}
+
+/// Adds what the nodes of a term name, from this uid on: to the keys what they name in this scope, so that a key
+/// that is named again costs one look and no memory, and to the namings what they name in scopes that they make.
+/// Answers the uid after the last.
 #[cycle(terms)]
 fn name_term(
     alloc: Global,
     term: &Term,
     uid: u32,
     scope: &Scope,
+    keys: &mut IndexSet<Name>,
     namings: &mut Vec<Naming>,
 ) -> Result<u32, NoMemory>
     ensures next { IfOk result (λ next. next ≡ uid + node_count term.now) }
-    ensures named { OnOk result (namings.new.items ≡ namings.old.items ++ namings_of_term term.now uid (number_of scope.now) (cells_of scope.now)) }
+    ensures named { OnOk result (AreNamed scope.now (namings_of_term term.now uid) keys.old.keys namings.old.items keys.new.keys namings.new.items) }
 {
     let first = uid_after(uid)?;
-    name_node(alloc, term, scope, namings)?;
+    name_node(alloc, term, keys)?;
     if let Kind::SubTree = term.kind {
         let ports = term.ports.list();
         let mappings = mappings_of(alloc, uid, ports, term.autoremap, scope)?;
         let inner = Scope::Below(&mappings, &*scope);
-        name_ports(alloc, ports, &inner, namings)?;
-        name_terms(alloc, term.children.list(), first, &inner, namings)
+        let mut inner_keys = IndexSet::new(alloc);
+        name_ports(alloc, ports, &mut inner_keys)?;
+        let children = term.children.list();
+        let next = name_terms(alloc, children, first, &inner, &mut inner_keys, namings)?;
+        name_scope(alloc, &inner, &inner_keys, namings)?;
+        Ok(next)
     } else {
-        name_terms(alloc, term.children.list(), first, scope, namings)
+        name_terms(alloc, term.children.list(), first, scope, keys, namings)
     }
 }
 
@@ -198,23 +193,26 @@ fn name_terms(
     terms: &[Term],
     uid: u32,
     scope: &Scope,
+    keys: &mut IndexSet<Name>,
     namings: &mut Vec<Naming>,
 ) -> Result<u32, NoMemory>
     ensures next { IfOk result (λ next. next ≡ uid + sum (map node_count terms.now)) }
-    ensures named { OnOk result (namings.new.items ≡ namings.old.items ++ namings_of_terms terms.now uid (number_of scope.now) (cells_of scope.now)) }
+    ensures named { OnOk result (AreNamed scope.now (namings_of_terms terms.now uid) keys.old.keys namings.old.items keys.new.keys namings.new.items) }
 {
     let mut next = uid;
     for term in terms {
-        next = name_term(alloc, term, next, scope, namings)?;
+        next = name_term(alloc, term, next, scope, keys, namings)?;
     }
     Ok(next)
 }
 
-/// All that a tree names.
+/// All that a tree names, each key once in each scope.
 pub(crate) fn name_tree(alloc: Global, tree: &Tree) -> Result<Vec<Naming>, NoMemory>
-    ensures { IfOk result (λ named. named.items ≡ namings tree.now) }
+    ensures { IfOk result (λ named. HaveSame named.items (namings tree.now)) }
 {
     let mut named = Vec::new(alloc);
-    name_term(alloc, &tree.term, 1, &Scope::Main, &mut named)?;
+    let mut keys = IndexSet::new(alloc);
+    name_term(alloc, &tree.term, 1, &Scope::Main, &mut keys, &mut named)?;
+    name_scope(alloc, &Scope::Main, &keys, &mut named)?;
     Ok(named)
 }

@@ -1,9 +1,10 @@
-use Rattle.std.proofs.Common.{◌≡◌, ◌++◌, take}
+use Rattle.std.proofs.Common.{◌≡◌, take}
 use Rattle.std.specs.List.{flat_map}
+use Rattle.std.specs.Str.{bytes_eq}
+use Rattle.indexmap.specs.IndexSet.{insert_all}
 use Rattle.bt_model.specs.declared.term.Port.{Port}
 use Rattle.bt_model.specs.Boards.{value_keys}
-use Rattle.bt_board.specs.Namings.{names_here}
 use Rattle.bt_board.proofs.naming.name_values.Given as goal
 
 abbrev pub invariant-loop-port : goal.invariant-loop-port
-invariant-loop-port l = l.namings.items ≡ l.initial.namings.items ++ names_here l.scope (flat_map (λ (port : Port). value_keys port.value) (take l.port-index l.ports))
+invariant-loop-port l = l.keys.keys ≡ insert_all bytes_eq l.initial.keys.keys (flat_map (λ (port : Port). value_keys port.value) (take l.port-index l.ports))
