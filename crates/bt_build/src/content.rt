@@ -16,7 +16,7 @@ use crate::scripts::script;
 use crate::version::Form;
 use bt_manifest::{Manifest, attribute};
 use bt_model::{Guards, Kind, Port, has_code};
-use bt_script::{Items, Name, Script, Stop};
+use bt_script::{Boxed, Items, Name, Script, Stop};
 use std::alloc::Global;
 use std::mem::replace;
 
@@ -255,17 +255,18 @@ fn scripts_in(
     text: Option<&Name>,
     autoremap: bool,
     attributes: &[(Name, Name)],
-) -> Result<Content, Stop<BuildFault>>
+) -> Result<Boxed<Content>, Stop<BuildFault>>
     ensures { Gives result (scripts_in uid ports.items (option_copied text.entry) autoremap attributes.now) }
 {
     let code = script_of(alloc, uid, text)?;
     let guards = guards_in(alloc, uid, attributes)?;
-    Ok(Content {
+    let content = Content {
         ports: Items::of(ports),
         code,
         guards,
         autoremap,
-    })
+    };
+    Ok(Boxed::of(alloc, content)?)
 }
 
 /// The content of a node with these ports, or the first fault of the rest.
@@ -276,7 +277,7 @@ fn rest_in(
     form: Form,
     attributes: &[(Name, Name)],
     ports: Vec<Port>,
-) -> Result<Content, Stop<BuildFault>>
+) -> Result<Boxed<Content>, Stop<BuildFault>>
     ensures { Gives result (rest_in uid kind form attributes.now ports.items) }
 {
     let text = code_text(uid, has_code(kind), attributes)?;
@@ -311,7 +312,7 @@ fn ruled_in(
     form: Form,
     rules: Rules<'_>,
     attributes: &[(Name, Name)],
-) -> Result<Content, Stop<BuildFault>>
+) -> Result<Boxed<Content>, Stop<BuildFault>>
     ensures { Gives result (ruled_in uid kind form (rules_seen rules.entry) attributes.now) }
 {
     if !all_known(has_code(kind), rules, attributes) {
@@ -324,14 +325,16 @@ fn ruled_in(
     rest_in(alloc, uid, kind, form, attributes, ports)
 }
 
-/// What the attributes of a node say, or the first fault.
+/// What the attributes of a node say, or the first fault. It is made on the heap, where it waits while the children of
+/// the node are read, since the stack holds a level for each node above.
+#[inline(never)]
 pub fn content_in(
     alloc: Global,
     uid: u32,
     models: &Manifest,
     head: &Head,
     attributes: &[(Name, Name)],
-) -> Result<Content, Stop<BuildFault>>
+) -> Result<Boxed<Content>, Stop<BuildFault>>
     ensures { Gives result (content_in uid models.now head.now.kind head.now.id head.now.form attributes.now) }
 {
     let rules = rules_of(models, head);

@@ -1,7 +1,6 @@
 ghost use Rattle.std.specs.Prelude.{◌≡◌, ◌++◌, ◌∷◌, ◌<◌, [], IfOk, OnOk};
 ghost use Rattle.bt_script.specs.Stops.{Gives};
 ghost use Rattle.bt_model.specs.Names.{is_among};
-ghost use Rattle.bt_build.specs.Content.{content_in};
 ghost use Rattle.bt_build.specs.Reads.{is_subtree, node_by, node_of, name_in, nodes_by, opened_by, read_node, term_of, tree_of};
 ghost use Rattle.bt_build.specs.Seen.{file_seen, ids_seen};
 
@@ -87,23 +86,8 @@ fn name_in(alloc: Global, attributes: &[(Name, Name)], id: &Name) -> Result<Name
     }
 }
 
-/// What the attributes of a node say, or the first fault. It waits on the heap while the children are read, since the
-/// stack holds a level for each node above.
-#[inline(never)]
-fn boxed_content(
-    alloc: Global,
-    uid: u32,
-    models: &Manifest,
-    head: &Head,
-    attributes: &[(Name, Name)],
-) -> Result<Boxed<Content>, Stop<BuildFault>>
-    ensures { Gives result (content_in uid models.now head.now.kind head.now.id head.now.form attributes.now) }
-{
-    let content = content_in(alloc, uid, models, head, attributes)?;
-    Ok(Boxed::of(alloc, content)?)
-}
-
-/// A node of all that was read. It is large, and goes up by its place on the heap.
+/// A node of all that was read. It is large, and goes up by its place on the heap, since the stack holds a level for
+/// each node above.
 #[inline(never)]
 fn term_of(
     alloc: Global,
@@ -176,7 +160,7 @@ fn node_of(
         Gives result (node_of f.models (read_node f p.left) head attributes.now (ids_seen p.opened.now)
         children.now numbers numbers.nodes) }
 {
-    let content = boxed_content(file.alloc, numbers.nodes, file.models, &head, attributes)?;
+    let content = content_in(file.alloc, numbers.nodes, file.models, &head, attributes)?;
     let (terms, numbers) = nodes_by(file, place, children, numbers)?;
     let term = term_of(file.alloc, head, attributes, content, terms)?;
     Ok((term, numbers))
