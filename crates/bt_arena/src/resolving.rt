@@ -11,7 +11,7 @@ use crate::nodes::ReadyGuards;
 use crate::source::Source;
 use bt_board::{Slots, slot};
 use bt_model::{Guards, Port, PortValue, Tree, World};
-use bt_script::{Expr, Name, NoMemory, Script, Stmt};
+use bt_script::{Expr, Name, NoMemory, Script, Shared, Stmt};
 use bt_script_code::{Code, compile};
 use indexmap::IndexMap;
 use std::alloc::Global;
@@ -104,7 +104,7 @@ fn keys_of(script: &Script, setting: &Setting, scope: u32) -> Result<Vec<(Name, 
 
 /// A script compiled for the scope of this number, where there is one, or want of memory.
 pub(crate) fn ready_script(
-    script: &Option<Script>,
+    script: &Option<Shared<Script>>,
     setting: &Setting,
     scope: u32,
 ) -> Result<Option<Code>, NoMemory>
@@ -114,7 +114,8 @@ pub(crate) fn ready_script(
 {
     match script {
         None => Ok(None),
-        Some(script) => {
+        Some(shared) => {
+            let script = shared.get();
             let keys = keys_of(script, setting, scope)?;
             Ok(Some(compile(setting.alloc, script, keys.as_slice())?))
         }

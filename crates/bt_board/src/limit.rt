@@ -7,7 +7,7 @@ ghost use Rattle.bt_board.specs.Namings.{name_count, own_name_count, script_name
 
 use crate::slots::{slot_count, slots_of};
 use bt_model::{Guards, Kind, Port, PortValue, Term, Tree};
-use bt_script::{Expr, NoMemory, Script, Stmt};
+use bt_script::{Expr, NoMemory, Script, Shared, Stmt};
 use std::alloc::Global;
 
 /// Counts down from `left` by the names in an expression. None where it has more than `left`; so in all
@@ -44,12 +44,12 @@ fn left_by_stmt(stmt: &Stmt, left: usize) -> Option<usize>
 }
 
 /// Counts down by the names of a script, where there is one.
-fn left_by_script(script: &Option<Script>, left: usize) -> Option<usize>
+fn left_by_script(script: &Option<Shared<Script>>, left: usize) -> Option<usize>
     ensures { IfSome result (λ rest. length (script_names (given script.now)) + rest ≤ left) }
 {
     let mut rest = left;
     if let Some(script) = script {
-        for stmt in script.stmts.list() {
+        for stmt in script.get().stmts.list() {
             rest = left_by_stmt(stmt, rest)?;
         }
     }
@@ -57,7 +57,7 @@ fn left_by_script(script: &Option<Script>, left: usize) -> Option<usize>
 }
 
 /// Counts down by the names of the code and the guards of a node.
-fn left_by_scripts(code: &Option<Script>, guards: &Guards, left: usize) -> Option<usize>
+fn left_by_scripts(code: &Option<Shared<Script>>, guards: &Guards, left: usize) -> Option<usize>
     ensures { IfSome result (λ rest. length (script_names (scripts_of code.now guards.now)) + rest ≤ left) }
 {
     let left = left_by_script(code, left)?;

@@ -10,7 +10,7 @@ ghost use Rattle.bt_board.specs.Namings.{script_names, names_here, keys_of_node,
 
 use crate::scope::{Scope, cell_in, mappings_of, scope_number};
 use bt_model::{Guards, Kind, Naming, Port, PortValue, Term, Tree};
-use bt_script::{Expr, Name, NoMemory, Script, Stmt};
+use bt_script::{Expr, Name, NoMemory, Script, Shared, Stmt};
 use indexmap::IndexSet;
 use std::alloc::Global;
 
@@ -60,13 +60,13 @@ fn name_stmt(alloc: Global, stmt: &Stmt, keys: &mut IndexSet<Name>) -> Result<()
 /// Adds the names of a script, where there is one.
 fn name_script(
     alloc: Global,
-    script: &Option<Script>,
+    script: &Option<Shared<Script>>,
     keys: &mut IndexSet<Name>,
 ) -> Result<(), NoMemory>
     ensures { OnOk result (keys.new.keys ≡ insert_all bytes_eq keys.old.keys (script_names (given script.now))) }
 {
     if let Some(script) = script {
-        for stmt in script.stmts.list() {
+        for stmt in script.get().stmts.list() {
             name_stmt(alloc, stmt, keys)?;
         }
     }
@@ -76,7 +76,7 @@ fn name_script(
 /// Adds the names of the code and the guards of a node.
 fn name_scripts(
     alloc: Global,
-    code: &Option<Script>,
+    code: &Option<Shared<Script>>,
     guards: &Guards,
     keys: &mut IndexSet<Name>,
 ) -> Result<(), NoMemory>

@@ -16,7 +16,7 @@ use crate::scripts::script;
 use crate::version::Form;
 use bt_manifest::{Manifest, attribute};
 use bt_model::{Guards, Kind, Port, has_code};
-use bt_script::{Boxed, Items, Name, Script, Stop};
+use bt_script::{Boxed, Items, Name, Script, Shared, Stop};
 use std::alloc::Global;
 use std::mem::replace;
 
@@ -24,7 +24,7 @@ use std::mem::replace;
 #[derive(Debug, Drop)]
 pub struct Content {
     pub ports: Items<Port>,
-    pub code: Option<Script>,
+    pub code: Option<Shared<Script>>,
     pub guards: Guards,
     pub autoremap: bool,
 }
@@ -34,14 +34,14 @@ fn script_of(
     alloc: Global,
     uid: u32,
     text: Option<&Name>,
-) -> Result<Option<Script>, Stop<BuildFault>>
+) -> Result<Option<Shared<Script>>, Stop<BuildFault>>
     ensures { Gives result (script_of uid (option_copied text.entry)) }
 {
     let Some(text) = text else {
         return Ok(None);
     };
     match script(alloc, text.list()) {
-        Ok(script) => Ok(Some(script)),
+        Ok(script) => Ok(Some(Shared::of(alloc, script)?)),
         Err(Stop::Fault(fault)) => Err(Stop::Fault(BuildFault::BadScript { uid, fault })),
         Err(Stop::NoMemory) => Err(Stop::NoMemory),
     }
@@ -53,7 +53,7 @@ fn guard_in(
     uid: u32,
     attributes: &[(Name, Name)],
     name: &[u8],
-) -> Result<Option<Script>, Stop<BuildFault>>
+) -> Result<Option<Shared<Script>>, Stop<BuildFault>>
     ensures { Gives result (guard_in uid attributes.now name.now) }
 {
     script_of(alloc, uid, attribute(attributes, name))
@@ -99,7 +99,7 @@ fn no_guards() -> Guards
 }
 
 /// Puts a guard in its place. The one that was there is dropped here, so that this is proved once.
-fn put(place: &mut Option<Script>, guard: Option<Script>)
+fn put(place: &mut Option<Shared<Script>>, guard: Option<Shared<Script>>)
     ensures { place.new ≡ guard }
 {
     drop(replace(place, guard));

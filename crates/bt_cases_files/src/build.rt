@@ -8,7 +8,7 @@ use bt_build::{BuildFault, build, work};
 use bt_elements::{Elements, read_elements};
 use bt_manifest::{Manifest, manifest_of};
 use bt_model::{Guards, Port, PortValue, Term, Tree};
-use bt_script::{Name, NoMemory, Script, Stop, Value};
+use bt_script::{Name, NoMemory, Script, Shared, Stop, Value};
 use std::alloc::{AllocError, Global};
 use std::test::Fail;
 
@@ -30,9 +30,13 @@ fn port_text(alloc: Global, port: &Port) -> Result<String, AllocError> {
 }
 
 /// The number of statements of a script, where it is there.
-fn script_text(alloc: Global, name: &str, script: &Option<Script>) -> Result<String, AllocError> {
+fn script_text(
+    alloc: Global,
+    name: &str,
+    script: &Option<Shared<Script>>,
+) -> Result<String, AllocError> {
     match script {
-        Some(script) => format!(in alloc; " {name}:{}", script.stmts.list().len()),
+        Some(script) => format!(in alloc; " {name}:{}", script.get().stmts.list().len()),
         None => format!(in alloc; ""),
     }
 }

@@ -49,7 +49,7 @@ fn configuration_text(alloc: Global, c: &Configuration) -> Result<String, NoMemo
     let delay = c.async_delay;
     let text = match &c.post_script {
         Some(script) => {
-            let script = str::from_utf8(script.text.list()).unwrap_or("?");
+            let script = str::from_utf8(script.get().text.list()).unwrap_or("?");
             format!(in alloc; "{name} {status} {delay} '{script}'; ")?
         }
         None => format!(in alloc; "{name} {status} {delay}; ")?,

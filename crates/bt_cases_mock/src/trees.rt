@@ -9,7 +9,7 @@ use bt_elements::{Elements, read_elements};
 use bt_manifest::{Manifest, manifest_of};
 use bt_mock::{MockFault, Rules, read_rules, substitute};
 use bt_model::{Guards, Kind, Port, PortValue, Term, Tree};
-use bt_script::{Name, NoMemory, Script, Stop, Value};
+use bt_script::{Name, NoMemory, Script, Shared, Stop, Value};
 use std::alloc::Global;
 use std::test::Fail;
 
@@ -36,11 +36,11 @@ fn port_text(alloc: Global, port: &Port) -> Result<String, NoMemory> {
 fn script_text(
     alloc: Global,
     attribute: &str,
-    script: &Option<Script>,
+    script: &Option<Shared<Script>>,
 ) -> Result<String, NoMemory> {
     match script {
         Some(script) => {
-            let script = str::from_utf8(script.text.list()).unwrap_or("?");
+            let script = str::from_utf8(script.get().text.list()).unwrap_or("?");
             Ok(format!(in alloc; " {attribute}='{script}'")?)
         }
         None => Ok(String::new(alloc)),

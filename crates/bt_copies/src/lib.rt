@@ -5,5 +5,5 @@
 mod nodes;
 mod scripts;
 
-pub use nodes::{copy_guards, copy_ports};
-pub use scripts::{copy_expr, copy_script, copy_script_if_there};
+pub use nodes::{copy_ports, share_guards};
+pub use scripts::{copy_expr, share_script};

@@ -1,23 +1,23 @@
 ghost use Rattle.std.specs.Prelude.{◌≡◌, IfOk};
 
-use crate::scripts::copy_script_if_there;
+use crate::scripts::share_script;
 use bt_model::{Guards, Port, PortValue};
 use bt_script::{Items, NoMemory};
 use std::alloc::Global;
 
-/// Equal guards.
-pub fn copy_guards(alloc: Global, guards: &Guards) -> Result<Guards, NoMemory>
-    ensures { IfOk result (λ copied. copied ≡ guards.now) }
+/// The guards once more. Their scripts are not copied. The error is want of memory.
+pub fn share_guards(guards: &Guards) -> Result<Guards, NoMemory>
+    ensures { IfOk result (λ shared. shared ≡ guards.now) }
 {
     Ok(Guards {
-        failure_if: copy_script_if_there(alloc, &guards.failure_if)?,
-        success_if: copy_script_if_there(alloc, &guards.success_if)?,
-        skip_if: copy_script_if_there(alloc, &guards.skip_if)?,
-        while_true: copy_script_if_there(alloc, &guards.while_true)?,
-        on_success: copy_script_if_there(alloc, &guards.on_success)?,
-        on_failure: copy_script_if_there(alloc, &guards.on_failure)?,
-        post: copy_script_if_there(alloc, &guards.post)?,
-        on_halted: copy_script_if_there(alloc, &guards.on_halted)?,
+        failure_if: share_script(&guards.failure_if)?,
+        success_if: share_script(&guards.success_if)?,
+        skip_if: share_script(&guards.skip_if)?,
+        while_true: share_script(&guards.while_true)?,
+        on_success: share_script(&guards.on_success)?,
+        on_failure: share_script(&guards.on_failure)?,
+        post: share_script(&guards.post)?,
+        on_halted: share_script(&guards.on_halted)?,
     })
 }
 

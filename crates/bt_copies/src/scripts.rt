@@ -1,6 +1,6 @@
 ghost use Rattle.std.specs.Prelude.{◌≡◌, IfOk};
 
-use bt_script::{Boxed, Expr, Items, NoMemory, Script, Stmt};
+use bt_script::{Boxed, Expr, NoMemory, Script, Shared};
 use std::alloc::Global;
 
 /// An equal expression on the heap.
@@ -34,50 +34,12 @@ pub fn copy_expr(alloc: Global, expr: &Expr) -> Result<Expr, NoMemory>
     }
 }
 
-/// An equal statement.
-fn copy_stmt(alloc: Global, stmt: &Stmt) -> Result<Stmt, NoMemory>
-    ensures { IfOk result (λ copied. copied ≡ stmt.now) }
-{
-    match stmt {
-        Stmt::Create(name, e) => Ok(Stmt::Create(name.copy(alloc)?, copy_expr(alloc, e)?)),
-        Stmt::Assign(name, e) => Ok(Stmt::Assign(name.copy(alloc)?, copy_expr(alloc, e)?)),
-        Stmt::Change(op, name, e) => {
-            Ok(Stmt::Change(*op, name.copy(alloc)?, copy_expr(alloc, e)?))
-        }
-        Stmt::Plain(e) => Ok(Stmt::Plain(copy_expr(alloc, e)?)),
-    }
-}
-
-/// Equal statements.
-fn copy_stmts(alloc: Global, stmts: &[Stmt]) -> Result<Items<Stmt>, NoMemory>
-    ensures { IfOk result (λ copied. copied ≡ stmts.now) }
-{
-    let mut copied = Vec::with_capacity(alloc, stmts.len())?;
-    for stmt in stmts {
-        copied.push(copy_stmt(alloc, stmt)?)?;
-    }
-    Ok(Items::of(copied))
-}
-
-/// An equal script.
-pub fn copy_script(alloc: Global, script: &Script) -> Result<Script, NoMemory>
-    ensures { IfOk result (λ copied. copied ≡ script.now) }
-{
-    Ok(Script {
-        text: script.text.copy(alloc)?,
-        stmts: copy_stmts(alloc, script.stmts.list())?,
-    })
-}
-
-/// An equal script, where there is one.
-pub fn copy_script_if_there(
-    alloc: Global,
-    script: &Option<Script>,
-) -> Result<Option<Script>, NoMemory>
-    ensures { IfOk result (λ copied. copied ≡ script.now) }
+/// A script once more, where there is one. It is not copied. The error is want of memory.
+pub fn share_script(script: &Option<Shared<Script>>) -> Result<Option<Shared<Script>>, NoMemory>
+    ensures { IfOk result (λ shared. shared ≡ script.now) }
 {
     match script {
-        Some(script) => Ok(Some(copy_script(alloc, script)?)),
+        Some(script) => Ok(Some(script.share()?)),
         None => Ok(None),
     }
 }

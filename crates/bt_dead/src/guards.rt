@@ -3,7 +3,7 @@ ghost use Rattle.bt_dead.specs.Guards.{answers_after, before_rule, constant_of, 
 
 use crate::answers::Answers;
 use bt_model::{Answer, Guards};
-use bt_script::{Expr, Script, Stmt};
+use bt_script::{Expr, Script, Shared, Stmt};
 
 /// What the guards of a node may do before its rule.
 #[derive(Clone, Copy, Debug)]
@@ -36,13 +36,13 @@ fn may_be(truth: bool, constant: Option<i64>) -> bool
 }
 
 /// A guard that gives its answer at this truth, before what stands after it.
-fn with_guard(guard: &Option<Script>, truth: bool, answer: Answer, after: Guarding) -> Guarding
+fn with_guard(guard: &Option<Shared<Script>>, truth: bool, answer: Answer, after: Guarding) -> Guarding
     ensures { result ≡ with_guard guard.now truth answer after }
 {
     match guard {
         None => after,
         Some(script) => {
-            let constant = constant_of(script);
+            let constant = constant_of(script.get());
             let goes_on = may_be(!truth, constant);
             let own = Answers::only(answer).only_if(may_be(truth, constant));
             Guarding {

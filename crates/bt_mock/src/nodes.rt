@@ -7,10 +7,10 @@ ghost use Rattle.bt_mock.specs.Substitutions.{always, always_id, always_kind, an
 
 use crate::names::name_of;
 use crate::rules::{Configuration, ReturnStatus, Rule, Rules};
-use bt_copies::{copy_guards, copy_ports, copy_script_if_there};
+use bt_copies::{copy_ports, share_guards, share_script};
 use bt_model::{Guards, Kind, Port, PortValue, Term};
 use bt_patterns::is_match;
-use bt_script::{Items, Name, NoMemory, Script, Value};
+use bt_script::{Items, Name, NoMemory, Script, Shared, Value};
 use std::alloc::Global;
 
 /// The first rule whose pattern matches the path. None where there is none.
@@ -41,7 +41,7 @@ fn configuration_of<'c>(
 }
 
 /// No guards but a `_post`, where there is a script.
-fn only_post(script: Option<Script>) -> Guards
+fn only_post(script: Option<Shared<Script>>) -> Guards
     ensures { result ≡ only_post script }
 {
     Guards {
@@ -102,7 +102,7 @@ fn leaf(alloc: Global, id: &Name, node: &Term) -> Result<Term, NoMemory>
         name: node.name.copy(alloc)?,
         ports: copy_ports(alloc, node.ports.list())?,
         code: None,
-        guards: copy_guards(alloc, &node.guards)?,
+        guards: share_guards(&node.guards)?,
         autoremap: false,
         children: Items::of(Vec::new(alloc)),
     })
@@ -126,7 +126,7 @@ fn answering(alloc: Global, configuration: &Configuration) -> Result<Term, NoMem
 {
     let status = configuration.return_status;
     let name = always_id(alloc, status)?;
-    let script = copy_script_if_there(alloc, &configuration.post_script)?;
+    let script = share_script(&configuration.post_script)?;
     always(alloc, status, name, only_post(script))
 }
 
@@ -142,7 +142,7 @@ fn delayed(alloc: Global, configuration: &Configuration, node: &Term) -> Result<
         name: node.name.copy(alloc)?,
         ports: delay_ports(alloc, configuration.async_delay)?,
         code: None,
-        guards: copy_guards(alloc, &node.guards)?,
+        guards: share_guards(&node.guards)?,
         autoremap: false,
         children: Items::of(children),
     })
@@ -153,7 +153,7 @@ fn always_at(alloc: Global, status: ReturnStatus, node: &Term) -> Result<Term, N
     ensures { IfOk result (λ term. term ≡ always status (out-Term node.now).name (out-Term node.now).guards) }
 {
     let name = node.name.copy(alloc)?;
-    let guards = copy_guards(alloc, &node.guards)?;
+    let guards = share_guards(&node.guards)?;
     always(alloc, status, name, guards)
 }
 
@@ -194,8 +194,8 @@ pub fn with_children(alloc: Global, node: &Term, children: Items<Term>) -> Resul
         id: node.id.copy(alloc)?,
         name: node.name.copy(alloc)?,
         ports: copy_ports(alloc, node.ports.list())?,
-        code: copy_script_if_there(alloc, &node.code)?,
-        guards: copy_guards(alloc, &node.guards)?,
+        code: share_script(&node.code)?,
+        guards: share_guards(&node.guards)?,
         autoremap: node.autoremap,
         children,
     })

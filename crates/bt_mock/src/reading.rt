@@ -11,7 +11,7 @@ use crate::fault::MockFault;
 use crate::names::name_of;
 use crate::rules::{Configuration, ReturnStatus, Rule, Rules};
 use bt_build::script;
-use bt_script::{Items, Name, Stop};
+use bt_script::{Items, Name, Shared, Stop};
 use serde_json::{Map, Value};
 use std::alloc::Global;
 
@@ -81,7 +81,7 @@ fn with_text(alloc: Global, name: Name, draft: Draft<'_>) -> Result<Configuratio
 {
     let post_script = match draft.post_script {
         Some(text) => match script(alloc, text.as_bytes()) {
-            Ok(script) => Some(script),
+            Ok(script) => Some(Shared::of(alloc, script)?),
             Err(Stop::Fault(fault)) => return Err(Stop::Fault(MockFault::BadScript {
                 name,
                 fault,

@@ -1,4 +1,4 @@
-use bt_script::{Items, Name, Script};
+use bt_script::{Items, Name, Script, Shared};
 
 /// What a replaced leaf answers in the end.
 #[derive(Clone, Copy, Debug, PartialEq, Eq)]
@@ -15,7 +15,7 @@ pub struct Configuration {
     /// The delay in milliseconds.
     pub async_delay: u32,
     /// The script that runs at the answer, where there is one.
-    pub post_script: Option<Script>,
+    pub post_script: Option<Shared<Script>>,
 }
 
 /// A rule: the name of what takes the place of the nodes whose paths the pattern matches. It is a configuration's, or

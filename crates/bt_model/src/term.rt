@@ -1,4 +1,4 @@
-use bt_script::{Items, Name, Script, Value};
+use bt_script::{Items, Name, Script, Shared, Value};
 
 /// The kind of a node.
 #[derive(Clone, Copy, Debug, PartialEq, Eq)]
@@ -48,14 +48,14 @@ pub struct Port {
 /// The pre- and postconditions of a node, each a script or none.
 #[derive(Debug, Drop)]
 pub struct Guards {
-    pub failure_if: Option<Script>,
-    pub success_if: Option<Script>,
-    pub skip_if: Option<Script>,
-    pub while_true: Option<Script>,
-    pub on_success: Option<Script>,
-    pub on_failure: Option<Script>,
-    pub post: Option<Script>,
-    pub on_halted: Option<Script>,
+    pub failure_if: Option<Shared<Script>>,
+    pub success_if: Option<Shared<Script>>,
+    pub skip_if: Option<Shared<Script>>,
+    pub while_true: Option<Shared<Script>>,
+    pub on_success: Option<Shared<Script>>,
+    pub on_failure: Option<Shared<Script>>,
+    pub post: Option<Shared<Script>>,
+    pub on_halted: Option<Shared<Script>>,
 }
 
 /// A node with all below it. Nodes are numbered from 1 in pre-order; the number is the node's uid.
@@ -65,7 +65,7 @@ pub struct Term {
     pub id: Name,
     pub name: Name,
     pub ports: Items<Port>,
-    pub code: Option<Script>,
+    pub code: Option<Shared<Script>>,
     pub guards: Guards,
     pub autoremap: bool,
     pub children: Items<Term>,

@@ -6,7 +6,7 @@ ghost use Rattle.bt_model.specs.declared.term.Term.{out-Term};
 
 use crate::put::{empty_line, put_bytes, put_number};
 use bt_model::{Guards, Kind, Port, PortValue, Term, is_reserved};
-use bt_script::{Name, NoMemory, Script, Value, is_identifier};
+use bt_script::{Name, NoMemory, Script, Shared, Value, is_identifier};
 use itoa::Buffer;
 use std::alloc::Global;
 
@@ -90,12 +90,12 @@ fn put_ports(out: &mut Vec<u8>, ports: &[Port]) -> Result<(), NoMemory>
 }
 
 /// Adds the attribute of a script, where there is one. The error is want of memory.
-fn put_script(out: &mut Vec<u8>, name: &[u8], script: &Option<Script>) -> Result<(), NoMemory>
+fn put_script(out: &mut Vec<u8>, name: &[u8], script: &Option<Shared<Script>>) -> Result<(), NoMemory>
     ensures { OnOk result (out.new.items
         ≡ out.old.items ++ flat_map attribute_text (script_attribute name.now script.now)) }
 {
     match script {
-        Some(script) => put_attribute(out, name, script.text.list()),
+        Some(script) => put_attribute(out, name, script.get().text.list()),
         None => Ok(()),
     }
 }

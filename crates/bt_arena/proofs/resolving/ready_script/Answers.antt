@@ -1,4 +1,4 @@
-use Rattle.std.proofs.Common.{Some, sym, subst, ◌∙◌}
+use Rattle.std.proofs.Common.{◌≡◌, Some, sym, ap, subst, ◌∙◌}
 use Rattle.bt_model.specs.Trees.{ScriptFits}
 use Rattle.bt_arena.specs.Nodes.{IsCompiled}
 use Rattle.bt_arena.specs.Resolving.{AreNamed, names_if_there, names_in_script, view_in}
@@ -9,16 +9,19 @@ use Rattle.bt_arena.proofs.resolving.ready_script.Goals as goal
 pub compile-requires-clause-compilable : goal.compile-requires-clause-compilable
 compile-requires-clause-compilable c =
     let tree = c.args.setting.now.tree.now in
+    let script = c.get.result.now in
     let keys = c.as_slice.result.now in
-    compilable c.in-Some.script keys (subst ScriptFits c.in-Some.is c.requires.fits)
-    (names_listed tree c.args.setting.now.world.now c.args.scope keys (names_in_script c.in-Some.script) (c.as_slice.ensures.value ∙ c.in_ok-keys-in-Some.ensures))
+    compilable script keys (subst ScriptFits (c.in-Some.is ∙ ap Some (sym c.get.ensures)) c.requires.fits)
+    (names_listed tree c.args.setting.now.world.now c.args.scope keys (names_in_script script) (c.as_slice.ensures.value ∙ c.in_ok-keys-in-Some.ensures))
 
 pub returns-in_ok-compile-in-Some : goal.returns-in_ok-compile-in-Some
 returns-in_ok-compile-in-Some c =
     let tree = c.args.setting.now.tree.now in
     let world = c.args.setting.now.world.now in
+    let script = c.get.result.now in
     let code = c.in_ok-compile-in-Some.field-0 in
-    subst (λ script. IsCompiled (view_in tree world c.args.scope) script (Some code)) (sym c.in-Some.is)
-    (compiled tree world c.args.scope c.in-Some.script code c.as_slice.result.now (c.as_slice.ensures.value ∙ c.in_ok-keys-in-Some.ensures)
-    (subst (λ script. AreNamed tree c.args.scope (names_if_there script)) c.in-Some.is c.requires.named)
+    let is : c.args.script.now ≡ Some script = c.in-Some.is ∙ ap Some (sym c.get.ensures) in
+    subst (λ script. IsCompiled (view_in tree world c.args.scope) script (Some code)) (sym is)
+    (compiled tree world c.args.scope script code c.as_slice.result.now (c.as_slice.ensures.value ∙ c.in_ok-keys-in-Some.ensures)
+    (subst (λ script. AreNamed tree c.args.scope (names_if_there script)) is c.requires.named)
     c.in_ok-compile-in-Some.ensures.meaning c.in_ok-compile-in-Some.ensures.reach)
