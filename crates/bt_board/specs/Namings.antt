@@ -22,7 +22,8 @@ script_names scripts = flat_map (λ (script : Script). flat_map stmt_names scrip
 -- the keys that a node names in the scope in which it stands
 abbrev pub keys_of_node : Term → List (List ℕ)
 keys_of_node node =
-    script_names (scripts_of (out-Term node).code (out-Term node).guards) ++ flat_map (λ (port : Port). value_keys port.value) (out-Term node).ports
+    script_names (scripts_of (out-Term node).code (out-Term node).guards)
+    ++ flat_map (λ (port : Port). value_keys port.value) (out-Term node).ports
 
 -- what the nodes of a term name, from this uid on, within a scope of this number
 abbrev pub namings_of_term : Term → ℕ → ℕ → model.Scope → List Naming

@@ -1,6 +1,7 @@
 ghost use Rattle.std.specs.Prelude.{◌≡◌, ℕ, ◌+◌, length, map, replicate, sum, None, IfOk, OnOk};
 ghost use Rattle.std.specs.List.{flat_map};
-ghost use Rattle.bt_model.specs.Boards.{Scope, literals_at, opening_board, slot_table, standing_all, standing_from, value_literals, with_literals};
+ghost use Rattle.bt_model.specs.Boards.{Scope, literals_at, opening_board, slot_table, standing_all, standing_from};
+ghost use Rattle.bt_model.specs.Boards.{value_literals, with_literals};
 ghost use Rattle.bt_model.specs.Terms.{node_count};
 ghost use Rattle.bt_board.specs.Openings.{node_literals};
 
@@ -64,7 +65,8 @@ fn put_literal(
     slots: &Slots,
     entries: &mut Vec<Option<Value>>,
 ) -> Result<(), NoMemory>
-    ensures { OnOk result (entries.new.items ≡ with_literals slots.now.cells (value_literals port.now.value port.now.name uid) entries.old.items) }
+    ensures { OnOk result (entries.new.items ≡
+        with_literals slots.now.cells (value_literals port.now.value port.now.name uid) entries.old.items) }
 {
     if let PortValue::Lit(value) = &port.value {
         let slot = own_slot(slots, uid, &port.name) as usize;
@@ -83,7 +85,8 @@ fn put_literals(
     slots: &Slots,
     entries: &mut Vec<Option<Value>>,
 ) -> Result<(), NoMemory>
-    ensures { OnOk result (entries.new.items ≡ with_literals slots.now.cells (flat_map (λ port. value_literals port.value port.name uid) ports.now) entries.old.items) }
+    ensures { OnOk result (entries.new.items ≡
+        with_literals slots.now.cells (flat_map (λ port. value_literals port.value port.name uid) ports.now) entries.old.items) }
 {
     for port in ports {
         put_literal(alloc, port, uid, slots, entries)?;
@@ -117,7 +120,8 @@ fn open_term(
     entries: &mut Vec<Option<Value>>,
 ) -> Result<u32, NoMemory>
     ensures next { IfOk result (λ next. next ≡ uid + node_count term.now) }
-    ensures put { OnOk result ((number : ℕ) (scope : Scope) → entries.new.items ≡ with_literals slots.now.cells (flat_map literals_at (standing_from term.now uid number scope)) entries.old.items) }
+    ensures put { OnOk result ((number : ℕ) (scope : Scope) → entries.new.items ≡
+        with_literals slots.now.cells (flat_map literals_at (standing_from term.now uid number scope)) entries.old.items) }
 {
     let first = uid_after(uid)?;
     open_node(alloc, term, uid, slots, entries)?;
@@ -135,7 +139,9 @@ fn open_terms(
     entries: &mut Vec<Option<Value>>,
 ) -> Result<u32, NoMemory>
     ensures next { IfOk result (λ next. next ≡ uid + sum (map node_count terms.now)) }
-    ensures put { OnOk result ((number : ℕ) (scope : Scope) → entries.new.items ≡ with_literals slots.now.cells (flat_map literals_at (standing_all (map standing_from terms.now) uid number scope)) entries.old.items) }
+    ensures put { OnOk result ((number : ℕ) (scope : Scope) → entries.new.items ≡
+        with_literals slots.now.cells
+        (flat_map literals_at (standing_all (map standing_from terms.now) uid number scope)) entries.old.items) }
 {
     let mut next = uid;
     for term in terms {

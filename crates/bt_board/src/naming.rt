@@ -166,7 +166,8 @@ fn name_term(
     namings: &mut Vec<Naming>,
 ) -> Result<u32, NoMemory>
     ensures next { IfOk result (λ next. next ≡ uid + node_count term.now) }
-    ensures named { OnOk result (AreNamed scope.now (namings_of_term term.now uid) keys.old.keys namings.old.items keys.new.keys namings.new.items) }
+    ensures named { OnOk result (AreNamed scope.now (namings_of_term term.now uid)
+        keys.old.keys namings.old.items keys.new.keys namings.new.items) }
 {
     let first = uid_after(uid)?;
     name_node(alloc, term, keys)?;
@@ -197,7 +198,8 @@ fn name_terms(
     namings: &mut Vec<Naming>,
 ) -> Result<u32, NoMemory>
     ensures next { IfOk result (λ next. next ≡ uid + sum (map node_count terms.now)) }
-    ensures named { OnOk result (AreNamed scope.now (namings_of_terms terms.now uid) keys.old.keys namings.old.items keys.new.keys namings.new.items) }
+    ensures named { OnOk result (AreNamed scope.now (namings_of_terms terms.now uid)
+        keys.old.keys namings.old.items keys.new.keys namings.new.items) }
 {
     let mut next = uid;
     for term in terms {

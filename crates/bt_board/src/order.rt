@@ -7,7 +7,8 @@ use bt_script::NoMemory;
 /// Some items in order, each once.
 pub(crate) fn in_order<T: Ord + Drop>(mut items: Vec<T>) -> Result<Vec<T>, NoMemory>
     ensures strict { IfOk result (λ v. IsStrictlySortedBy T.cmp v.items) }
-    ensures same { IfOk result (λ v. (p : T → Bool) → ((x y : T) → T.eq x y ≡ true → p x ≡ p y) → list_any p v.items ≡ list_any p items.items) }
+    ensures same { IfOk result (λ v. (p : T → Bool) → ((x y : T) → T.eq x y ≡ true → p x ≡ p y) →
+        list_any p v.items ≡ list_any p items.items) }
     ensures from { IfOk result (λ v. (x : T) → Contains v.items x → Contains items.items x) }
 {
     items.sort()?;

@@ -85,7 +85,8 @@ fn add_port(
     outer: &Scope,
     cells: &mut IndexMap<Name, Cell>,
 ) -> Result<(), NoMemory>
-    ensures { OnOk result ((key : List ℕ) → get bytes_eq cells.new key ≡ option_or (get bytes_eq cells.old key) (cell_of_port port.now uid (cells_of outer.now) key)) }
+    ensures { OnOk result ((key : List ℕ) → get bytes_eq cells.new key ≡
+        option_or (get bytes_eq cells.old key) (cell_of_port port.now uid (cells_of outer.now) key)) }
 {
     if !cells.contains_key(&port.name) {
         let name = port.name.copy(alloc)?;
@@ -104,7 +105,8 @@ pub(crate) fn mappings_of(
     outer: &Scope,
 ) -> Result<Mappings, NoMemory>
     ensures uid { IfOk result (λ m. m.uid ≡ uid) }
-    ensures cells { IfOk result (λ m. (key : List ℕ) → cells_below m (cells_of outer.now) key ≡ scope_below uid ports.now autoremap (cells_of outer.now) key) }
+    ensures cells { IfOk result (λ m. (key : List ℕ) → cells_below m (cells_of outer.now) key ≡
+        scope_below uid ports.now autoremap (cells_of outer.now) key) }
 {
     let mut cells = IndexMap::new(alloc);
     for port in ports {
