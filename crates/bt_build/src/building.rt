@@ -8,6 +8,7 @@ ghost use Rattle.bt_build.specs.Reads.{main_of, main_read, most_levels, only_id,
 ghost use Rattle.bt_build.specs.Seen.{file_seen, trees_seen};
 
 use crate::fault::BuildFault;
+use crate::scripts::Scripts;
 use crate::tree::{File, Numbers, Place, read_node};
 use crate::trees::{Trees, not_root, tree_of, trees_of};
 use crate::version::{Version, version_in};
@@ -112,7 +113,7 @@ fn root_read(
 fn main_read(alloc: Global, file: &File<'_>, id: &Name) -> Result<Tree, Stop<BuildFault>>
     ensures { Gives result (main_read (file_seen file.now) id.now (tree_of id.now (file_seen file.now).trees)) }
 {
-    match tree_of(&file.trees, id) {
+    match tree_of(file.trees, id) {
         Some(tree) => match tree.children.list() {
             [root] => root_read(alloc, file, id, root),
             _ => Err(Stop::Fault(BuildFault::ChildCount { uid: 0 })),
@@ -135,16 +136,17 @@ fn trees_read(
 ) -> Result<Tree, Stop<BuildFault>>
     ensures { Gives result (trees_read models.now (option_copied asked.entry) attributes.now version (trees_seen trees.entry.entries)) }
 {
+    let Some(id) = main_of(asked, attributes, &trees) else {
+        return Err(Stop::Fault(BuildFault::NoMain));
+    };
     let file = File {
         alloc,
-        trees,
+        trees: &trees,
         models,
         version,
+        scripts: Scripts::below(alloc, &trees, id)?,
     };
-    match main_of(asked, attributes, &file.trees) {
-        Some(id) => main_read(alloc, &file, id),
-        None => Err(Stop::Fault(BuildFault::NoMain)),
-    }
+    main_read(alloc, &file, id)
 }
 
 /// The tree that the elements of a file read as, or the first fault.

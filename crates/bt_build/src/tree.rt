@@ -7,6 +7,7 @@ ghost use Rattle.bt_build.specs.Seen.{file_seen, ids_seen};
 use crate::content::{Content, content_in};
 use crate::fault::BuildFault;
 use crate::head::{Head, head_of};
+use crate::scripts::Scripts;
 use crate::trees::{Trees, tree_of};
 use crate::version::Version;
 use bt_elements::Element;
@@ -27,9 +28,11 @@ pub struct Numbers {
 #[derive(Drop)]
 pub struct File<'a> {
     pub alloc: Global,
-    pub trees: Trees<'a>,
+    pub trees: &'a Trees<'a>,
     pub models: &'a Manifest,
     pub version: Version,
+    /// What is parsed before the nodes are read.
+    pub scripts: Scripts,
 }
 
 /// Where a node stands.
@@ -160,7 +163,7 @@ fn node_of(
         Gives result (node_of f.models (read_node f p.left) head attributes.now (ids_seen p.opened.now)
         children.now numbers numbers.nodes) }
 {
-    let content = content_in(file.alloc, numbers.nodes, file.models, &head, attributes)?;
+    let content = content_in(file, numbers.nodes, &head, attributes)?;
     let (terms, numbers) = nodes_by(file, place, children, numbers)?;
     let term = term_of(file.alloc, head, attributes, content, terms)?;
     Ok((term, numbers))
@@ -180,7 +183,7 @@ fn opened_by(
     ensures { let f = file_seen file.now in let p = place.entry in
         Gives result (opened_by f (read_node f p.left) head element.now (ids_seen p.opened.now) numbers (tree_of head.id f.trees)) }
 {
-    let Some(tree) = tree_of(&file.trees, &head.id) else {
+    let Some(tree) = tree_of(file.trees, &head.id) else {
         let id = head.id.copy(file.alloc)?;
         return Err(Stop::Fault(BuildFault::NoTree { id }));
     };
