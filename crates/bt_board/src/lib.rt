@@ -4,6 +4,7 @@
 #![tactic(auto)]
 
 mod board;
+mod keys;
 mod limit;
 mod naming;
 mod order;

@@ -1,36 +1,25 @@
 ghost use Rattle.std.specs.Prelude.{◌≡◌, ◌+◌, ◌++◌, map, sum, IfOk, OnOk};
 ghost use Rattle.std.specs.List.{flat_map};
 ghost use Rattle.std.specs.Str.{bytes_eq};
-ghost use Rattle.indexmap.specs.IndexSet.{insert_key, insert_all};
+ghost use Rattle.indexmap.specs.IndexSet.{insert_all};
 ghost use Rattle.bt_script.specs.Scripts.{names_of, stmt_names};
 ghost use Rattle.bt_model.specs.Boards.{given, scripts_of, value_keys, namings};
 ghost use Rattle.bt_model.specs.Terms.{node_count};
-ghost use Rattle.bt_board.specs.Scopes.{number_of};
 ghost use Rattle.bt_board.specs.Namings.{script_names, names_here, keys_of_node, namings_of_term, namings_of_terms, AreNamed, HaveSame};
 
+use crate::keys::Keys;
 use crate::scope::{Scope, cell_in, mappings_of, scope_number};
 use bt_model::{Guards, Kind, Naming, Port, PortValue, Term, Tree};
-use bt_script::{Expr, Name, NoMemory, Script, Shared, Stmt};
-use indexmap::IndexSet;
+use bt_script::{Expr, NoMemory, Script, Shared, Stmt};
 use std::alloc::Global;
 
-/// Adds a key to those that are named in a scope, where it is not yet among them.
-fn name_key(alloc: Global, key: &Name, keys: &mut IndexSet<Name>) -> Result<(), NoMemory>
-    ensures { OnOk result (keys.new.keys ≡ insert_key bytes_eq keys.old.keys key.now) }
-{
-    if !keys.contains(key) {
-        keys.insert(key.copy(alloc)?)?;
-    }
-    Ok(())
-}
-
 /// Adds the names that an expression looks at.
-fn name_expr(alloc: Global, e: &Expr, keys: &mut IndexSet<Name>) -> Result<(), NoMemory>
-    ensures { OnOk result (keys.new.keys ≡ insert_all bytes_eq keys.old.keys (names_of e.now)) }
+fn name_expr(alloc: Global, e: &Expr, keys: &mut Keys) -> Result<(), NoMemory>
+    ensures { OnOk result (keys.new ≡ insert_all bytes_eq keys.old (names_of e.now)) }
 {
     match e {
         Expr::Num(_) | Expr::Lit(_) => Ok(()),
-        Expr::Look(name) => name_key(alloc, name, keys),
+        Expr::Look(name) => keys.name(alloc, name),
         Expr::Group(a) | Expr::Unary(_, a) => name_expr(alloc, a.get(), keys),
         Expr::Binary(_, a, b) => {
             name_expr(alloc, a.get(), keys)?;
@@ -45,12 +34,12 @@ fn name_expr(alloc: Global, e: &Expr, keys: &mut IndexSet<Name>) -> Result<(), N
 }
 
 /// Adds the names of a statement.
-fn name_stmt(alloc: Global, stmt: &Stmt, keys: &mut IndexSet<Name>) -> Result<(), NoMemory>
-    ensures { OnOk result (keys.new.keys ≡ insert_all bytes_eq keys.old.keys (stmt_names stmt.now)) }
+fn name_stmt(alloc: Global, stmt: &Stmt, keys: &mut Keys) -> Result<(), NoMemory>
+    ensures { OnOk result (keys.new ≡ insert_all bytes_eq keys.old (stmt_names stmt.now)) }
 {
     match stmt {
         Stmt::Create(name, e) | Stmt::Assign(name, e) | Stmt::Change(_, name, e) => {
-            name_key(alloc, name, keys)?;
+            keys.name(alloc, name)?;
             name_expr(alloc, e, keys)
         }
         Stmt::Plain(e) => name_expr(alloc, e, keys),
@@ -61,9 +50,9 @@ fn name_stmt(alloc: Global, stmt: &Stmt, keys: &mut IndexSet<Name>) -> Result<()
 fn name_script(
     alloc: Global,
     script: &Option<Shared<Script>>,
-    keys: &mut IndexSet<Name>,
+    keys: &mut Keys,
 ) -> Result<(), NoMemory>
-    ensures { OnOk result (keys.new.keys ≡ insert_all bytes_eq keys.old.keys (script_names (given script.now))) }
+    ensures { OnOk result (keys.new ≡ insert_all bytes_eq keys.old (script_names (given script.now))) }
 {
     if let Some(script) = script {
         for stmt in script.get().stmts.list() {
@@ -78,9 +67,9 @@ fn name_scripts(
     alloc: Global,
     code: &Option<Shared<Script>>,
     guards: &Guards,
-    keys: &mut IndexSet<Name>,
+    keys: &mut Keys,
 ) -> Result<(), NoMemory>
-    ensures { OnOk result (keys.new.keys ≡ insert_all bytes_eq keys.old.keys (script_names (scripts_of code.now guards.now))) }
+    ensures { OnOk result (keys.new ≡ insert_all bytes_eq keys.old (script_names (scripts_of code.now guards.now))) }
 {
     name_script(alloc, code, keys)?;
     name_script(alloc, &guards.failure_if, keys)?;
@@ -94,30 +83,30 @@ fn name_scripts(
 }
 
 /// Adds the keys that the ports of a node name in the scope in which it stands.
-fn name_values(alloc: Global, ports: &[Port], keys: &mut IndexSet<Name>) -> Result<(), NoMemory>
-    ensures { OnOk result (keys.new.keys ≡ insert_all bytes_eq keys.old.keys (flat_map (λ port. value_keys port.value) ports.now)) }
+fn name_values(alloc: Global, ports: &[Port], keys: &mut Keys) -> Result<(), NoMemory>
+    ensures { OnOk result (keys.new ≡ insert_all bytes_eq keys.old (flat_map (λ port. value_keys port.value) ports.now)) }
 {
     for port in ports {
         if let PortValue::Key(key) = &port.value {
-            name_key(alloc, key, keys)?;
+            keys.name(alloc, key)?;
         }
     }
     Ok(())
 }
 
 /// Adds the names of ports: their SubTree node names them in the scope that it makes.
-fn name_ports(alloc: Global, ports: &[Port], keys: &mut IndexSet<Name>) -> Result<(), NoMemory>
-    ensures { OnOk result (keys.new.keys ≡ insert_all bytes_eq keys.old.keys (map (λ port. port.name) ports.now)) }
+fn name_ports(alloc: Global, ports: &[Port], keys: &mut Keys) -> Result<(), NoMemory>
+    ensures { OnOk result (keys.new ≡ insert_all bytes_eq keys.old (map (λ port. port.name) ports.now)) }
 {
     for port in ports {
-        name_key(alloc, &port.name, keys)?;
+        keys.name(alloc, &port.name)?;
     }
     Ok(())
 }
 
 /// Adds what a node names in the scope in which it stands.
-fn name_node(alloc: Global, node: &Term, keys: &mut IndexSet<Name>) -> Result<(), NoMemory>
-    ensures { OnOk result (keys.new.keys ≡ insert_all bytes_eq keys.old.keys (keys_of_node node.now)) }
+fn name_node(alloc: Global, node: &Term, keys: &mut Keys) -> Result<(), NoMemory>
+    ensures { OnOk result (keys.new ≡ insert_all bytes_eq keys.old (keys_of_node node.now)) }
 {
     name_scripts(alloc, &node.code, &node.guards, keys)?;
     name_values(alloc, node.ports.list(), keys)
@@ -137,12 +126,12 @@ pub(crate) fn uid_after(uid: u32) -> Result<u32, NoMemory>
 fn name_scope(
     alloc: Global,
     scope: &Scope,
-    keys: &IndexSet<Name>,
+    keys: &Keys,
     namings: &mut Vec<Naming>,
 ) -> Result<(), NoMemory>
-    ensures { OnOk result (namings.new.items ≡ namings.old.items ++ names_here scope.now keys.now.keys) }
+    ensures { OnOk result (namings.new.items ≡ namings.old.items ++ names_here scope.now keys.now) }
 {
-    for key in keys.as_slice() {
+    for key in keys.list() {
         let cell = cell_in(alloc, scope, key)?;
         namings.push(Naming {
             number: scope_number(scope),
@@ -162,12 +151,12 @@ fn name_term(
     term: &Term,
     uid: u32,
     scope: &Scope,
-    keys: &mut IndexSet<Name>,
+    keys: &mut Keys,
     namings: &mut Vec<Naming>,
 ) -> Result<u32, NoMemory>
     ensures next { IfOk result (λ next. next ≡ uid + node_count term.now) }
     ensures named { OnOk result (AreNamed scope.now (namings_of_term term.now uid)
-        keys.old.keys namings.old.items keys.new.keys namings.new.items) }
+        keys.old namings.old.items keys.new namings.new.items) }
 {
     let first = uid_after(uid)?;
     name_node(alloc, term, keys)?;
@@ -175,7 +164,7 @@ fn name_term(
         let ports = term.ports.list();
         let mappings = mappings_of(alloc, uid, ports, term.autoremap, scope)?;
         let inner = Scope::Below(&mappings, &*scope);
-        let mut inner_keys = IndexSet::new(alloc);
+        let mut inner_keys = Keys::new(alloc);
         name_ports(alloc, ports, &mut inner_keys)?;
         let children = term.children.list();
         let next = name_terms(alloc, children, first, &inner, &mut inner_keys, namings)?;
@@ -194,12 +183,12 @@ fn name_terms(
     terms: &[Term],
     uid: u32,
     scope: &Scope,
-    keys: &mut IndexSet<Name>,
+    keys: &mut Keys,
     namings: &mut Vec<Naming>,
 ) -> Result<u32, NoMemory>
     ensures next { IfOk result (λ next. next ≡ uid + sum (map node_count terms.now)) }
     ensures named { OnOk result (AreNamed scope.now (namings_of_terms terms.now uid)
-        keys.old.keys namings.old.items keys.new.keys namings.new.items) }
+        keys.old namings.old.items keys.new namings.new.items) }
 {
     let mut next = uid;
     for term in terms {
@@ -213,7 +202,7 @@ pub(crate) fn name_tree(alloc: Global, tree: &Tree) -> Result<Vec<Naming>, NoMem
     ensures { IfOk result (λ named. HaveSame named.items (namings tree.now)) }
 {
     let mut named = Vec::new(alloc);
-    let mut keys = IndexSet::new(alloc);
+    let mut keys = Keys::new(alloc);
     name_term(alloc, &tree.term, 1, &Scope::Main, &mut keys, &mut named)?;
     name_scope(alloc, &Scope::Main, &keys, &mut named)?;
     Ok(named)

@@ -5,4 +5,4 @@ use Rattle.bt_model.specs.declared.term.Port.{Port}
 use Rattle.bt_board.proofs.naming.name_ports.Given as goal
 
 abbrev pub invariant-loop-port : goal.invariant-loop-port
-invariant-loop-port l = l.keys.keys ≡ insert_all bytes_eq l.initial.keys.keys (map (λ (port : Port). port.name) (take l.port-index l.ports))
+invariant-loop-port l = l.keys ≡ insert_all bytes_eq l.initial.keys (map (λ (port : Port). port.name) (take l.port-index l.ports))

@@ -6,4 +6,4 @@ use Rattle.bt_script.specs.Scripts.{stmt_names}
 use Rattle.bt_board.proofs.naming.name_script.Given as goal
 
 abbrev pub invariant-loop-stmt : goal.invariant-loop-stmt
-invariant-loop-stmt l = l.keys.keys ≡ insert_all bytes_eq l.initial.keys.keys (flat_map stmt_names (take l.stmt-index l.stmt-items))
+invariant-loop-stmt l = l.keys ≡ insert_all bytes_eq l.initial.keys (flat_map stmt_names (take l.stmt-index l.stmt-items))

@@ -7,7 +7,7 @@ use Rattle.bt_board.proofs.naming.name_scripts.Goals as goal
 pub returns : goal.returns
 returns c =
     let guards = c.args.guards.now in
-    let h1 : AreAdded c.args.keys.now.keys (given c.args.code.now) c.name_script.new.keys.keys = record { is = c.in_ok-name_script.ensures } in
+    let h1 : AreAdded c.args.keys.now (given c.args.code.now) c.name_script.new.keys = record { is = c.in_ok-name_script.ensures } in
     let h2 = AreAdded-more h1 (given guards.failure_if) c.in_ok-name_script-2.ensures in
     let h3 = AreAdded-more h2 (given guards.success_if) c.in_ok-name_script-3.ensures in
     let h4 = AreAdded-more h3 (given guards.skip_if) c.in_ok-name_script-4.ensures in

@@ -1,4 +1,4 @@
-use Rattle.std.proofs.Common.{ℕ, [], ◌++◌, List, map, ap, ◌∙◌}
+use Rattle.std.proofs.Common.{◌++◌, List, map, ap, ◌∙◌}
 use Rattle.std.specs.List.{list_any}
 use Rattle.bt_model.specs.Boards.{main_scope, named_in}
 use Rattle.bt_model.specs.declared.cell.Naming.{Naming}
@@ -9,6 +9,6 @@ use Rattle.bt_board.proofs.naming.name_tree.Goals as goal
 pub returns : goal.returns
 returns c =
     let here = map (named_in 0 main_scope) in
-    named_from_none (c.new-named.result.items ++ here c.new-keys.result.keys) _ _
-    (ap (λ (ns : List Naming). ns ++ here c.new-keys.result.keys) c.new-named.ensures.items ∙ ap here c.new-keys.ensures.empty)
+    named_from_none (c.new-named.result.items ++ here c.new-keys.result) _ _
+    (ap (λ (ns : List Naming). ns ++ here c.new-keys.result) c.new-named.ensures.items ∙ ap here c.new-keys.ensures)
     (λ p. ap (list_any p) c.in_ok-name_scope.ensures ∙ c.in_ok-name_term.ensures.named p)

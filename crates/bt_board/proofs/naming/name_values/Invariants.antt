@@ -7,4 +7,4 @@ use Rattle.bt_model.specs.Boards.{value_keys}
 use Rattle.bt_board.proofs.naming.name_values.Given as goal
 
 abbrev pub invariant-loop-port : goal.invariant-loop-port
-invariant-loop-port l = l.keys.keys ≡ insert_all bytes_eq l.initial.keys.keys (flat_map (λ (port : Port). value_keys port.value) (take l.port-index l.ports))
+invariant-loop-port l = l.keys ≡ insert_all bytes_eq l.initial.keys (flat_map (λ (port : Port). value_keys port.value) (take l.port-index l.ports))
