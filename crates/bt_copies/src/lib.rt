@@ -1,5 +1,5 @@
-//! Equal copies of scripts, guards and ports. Each call answers `NoMemory` (out of memory) where an allocation fails,
-//! and else a copy.
+//! Equal copies of expressions and ports, and shares of scripts and guards. Each call answers `NoMemory` (out of
+//! memory) where an allocation fails, and else what is equal.
 #![tactic(auto)]
 
 mod nodes;

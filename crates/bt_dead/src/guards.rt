@@ -36,7 +36,12 @@ fn may_be(truth: bool, constant: Option<i64>) -> bool
 }
 
 /// A guard that gives its answer at this truth, before what stands after it.
-fn with_guard(guard: &Option<Shared<Script>>, truth: bool, answer: Answer, after: Guarding) -> Guarding
+fn with_guard(
+    guard: &Option<Shared<Script>>,
+    truth: bool,
+    answer: Answer,
+    after: Guarding,
+) -> Guarding
     ensures { result ≡ with_guard guard.now truth answer after }
 {
     match guard {
