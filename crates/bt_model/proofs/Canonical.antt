@@ -1,11 +1,11 @@
 -- The numbers that words write canonically.
-use Rattle.std.proofs.Common.{◌≡◌, ◌≢◌, ◌⊎◌, inl, inr, ℕ, zero, suc, ◌<◌, ◌^◌, ◌==◌, Bool, true, false, cond, ◌||◌, List, [], ◌∷◌, get_or, drop, codes, ℤ, pos, negsuc, Some, None, Result, Ok, Err, refl, sym, ◌∙◌, ap, subst, arith, lit<}
+use Rattle.std.proofs.Common.{◌≡◌, ◌≢◌, ◌⊎◌, inl, inr, ℕ, zero, suc, ◌<◌, ◌≤◌, ◌^◌, ◌==◌, Bool, true, false, cond, ◌||◌, List, [], ◌∷◌, get_or, drop, codes, ℤ, pos, negsuc, Some, None, Result, Ok, Err, refl, sym, ◌∙◌, ap, subst, arith, lit<}
 use Rattle.std.specs.Prelude.{nat_lt, bytes_eq, IsUtf8, FitsSigned}
 use Rattle.std.proofs.lemmas.Bool.Decides.{nat_tests}
 use Rattle.std.specs.Char.{is_ascii_digit}
 use Rattle.std.specs.List.{list_all}
 use Rattle.std.specs.Result.{result_ok}
-use Rattle.std.specs.Str.Parse.{ParsesSigned, IsNumeral, AllDigits, signed_digits_value, without_leading_sign, without_leading_plus}
+use Rattle.std.specs.Str.Parse.{ParsesSigned, IsNumeral, AllDigits, digits_value, signed_digits_value, without_leading_sign, without_leading_plus}
 use Rattle.std.proofs.lemmas.Str.Parse.{IsDigitsTest, numerals_by_value, digit_from_value, without_leading_plus_none}
 use Rattle.std.proofs.lemmas.Str.{IsUtf8-from_ascii}
 use Rattle.std.proofs.lemmas.Slice.Eq.{bytes_eq-Decides}
@@ -96,3 +96,20 @@ IsUtf8-from_is_canonical (b ∷ bs) h =
       | inl z ↦ subst IsUtf8 (sym (zero_word b bs z)) (IsUtf8-from_ascii (48 ∷ []) (ascii_digits (48 ∷ []) (lit< tt, tt)))
       | inr p ↦ utf8_by_sign b bs (b == 45) refl p
     ]
+
+-- a word that begins with a digit has no sign
+pub unsigned : (c : ℕ) (cs : List ℕ) → is_ascii_digit c ≡ true → signed_digits_value 10 (c ∷ cs) ≡ pos (digits_value 10 (c ∷ cs))
+unsigned c cs h =
+    let minus : (c == 45) ≡ false = grind (arith, nat_tests) in
+    let plus : (c == 43) ≡ false = grind (arith, nat_tests) in
+    rw minus (rw plus refl)
+
+few_fit : (n : ℕ) → n ≤ 999999999999999999 → is_int (pos n) ≡ true
+few_fit n h = grind (arith, nat_tests)
+
+-- a canonical number without a sign and of few digits fits 64 bits
+pub few_canonical : (w : List ℕ) (n : ℕ) → is_canonical w ≡ true → signed_digits_value 10 w ≡ pos (digits_value 10 w) → n ≡ digits_value 10 w → n ≤ 999999999999999999 → Some (pos n) ≡ int_in w
+few_canonical w n canonical value is small =
+    sym (ap (λ (t : Bool). cond t (Some (pos n)) None) (few_fit n small))
+    ∙ ap of_64_bits (ap pos is ∙ sym value)
+    ∙ ap (λ (t : Bool). cond t (of_64_bits (signed_digits_value 10 w)) None) (sym canonical)

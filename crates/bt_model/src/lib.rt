@@ -35,7 +35,7 @@ pub use memory::{Counts, Memo, Memory, Since, Turns};
 pub use moves::{Heard, Move, Span, Then};
 pub use names::is_reserved;
 pub use note::Note;
-pub use numbers::{int, is_canonical};
+pub use numbers::{canonical_int, int, is_canonical};
 pub use status::{Answer, RoundEnd, Status};
 pub use term::{Guards, Kind, Port, PortValue, Term, Tree};
 pub use world::{Event, Fact, How, Out, Row, RowSort, Set, What, World};

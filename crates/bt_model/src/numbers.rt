@@ -1,6 +1,7 @@
-ghost use Rattle.std.specs.Prelude.{◌≡◌};
+ghost use Rattle.std.specs.Prelude.{◌≡◌, ◌≤◌, IfSome, IsTrue, Some, pos, true};
 ghost use Rattle.std.specs.Char.{is_ascii_digit};
 ghost use Rattle.std.specs.List.{list_all};
+ghost use Rattle.std.specs.Str.Parse.{digits_value, signed_digits_value};
 ghost use Rattle.bt_model.specs.Numbers.{int_in, is_positive, without_minus};
 ghost use Rattle.bt_model.specs.Numbers as numbers;
 
@@ -40,15 +41,67 @@ pub fn is_canonical(word: &[u8]) -> bool
     word == b"0".as_slice() || positive(unsigned(word))
 }
 
-/// The number that the word writes canonically. None where it does not, or where it would not fit 64 bits.
-pub fn int(word: &[u8]) -> Option<i64>
+/// Whether the word begins with a digit, and so with no sign.
+#[tactic(auto, using(crate::proofs::Canonical::unsigned))]
+fn begins_with_digit(word: &[u8]) -> bool
+    ensures { IsTrue result → signed_digits_value 10 word.now ≡ pos (digits_value 10 word.now) }
+{
+    match word.first() {
+        Some(first) => first.is_ascii_digit(),
+        None => false,
+    }
+}
+
+/// The largest number of 17 digits.
+const MOST_OF_17: u64 = 99_999_999_999_999_999;
+
+/// The number of a word of digits. None where it has more than 18 digits, or where not all are digits.
+fn few_digits(word: &[u8]) -> Option<u64>
+    ensures { IfSome result (λ n. (n ≡ digits_value 10 word.now) × (n ≤ 999999999999999999)) }
+{
+    let mut n: u64 = 0;
+    'digits: for digit in word {
+        if n > MOST_OF_17 {
+            return None;
+        }
+        n = n * 10 + u64::from(char::from(*digit).to_digit(10)?);
+    }
+    Some(n)
+}
+
+/// The number of a canonical word that has no sign and few digits, which is read in one walk.
+fn short_int(word: &[u8]) -> Option<i64>
+    requires { numbers.is_canonical word.now ≡ true }
+    ensures { IfSome result (λ n. Some n ≡ int_in word.now) }
+{
+    if begins_with_digit(word) {
+        Some(few_digits(word)? as i64)
+    } else {
+        None
+    }
+}
+
+/// The number that a canonical word writes. None where it would not fit 64 bits.
+pub fn canonical_int(word: &[u8]) -> Option<i64>
+    requires { numbers.is_canonical word.now ≡ true }
     ensures { result ≡ int_in word.now }
 {
-    if !is_canonical(word) {
-        return None;
+    if let Some(n) = short_int(word) {
+        return Some(n);
     }
     match str::from_utf8(word) {
         Ok(text) => text.parse().ok(),
         Err(_) => None,
+    }
+}
+
+/// The number that the word writes canonically. None where it does not, or where it would not fit 64 bits.
+pub fn int(word: &[u8]) -> Option<i64>
+    ensures { result ≡ int_in word.now }
+{
+    if is_canonical(word) {
+        canonical_int(word)
+    } else {
+        None
     }
 }
