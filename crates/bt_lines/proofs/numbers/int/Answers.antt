@@ -12,4 +12,4 @@ pub returns : goal.returns
 returns c =
     let n = signed_digits_value 10 c.args.word.now in
     subst (λ (o : Option ℤ). Passes is_int (λ z. z) n o)
-    (sym (c.int.ensures ∙ ap (λ (t : Bool). cond t (of_64_bits n) None) c.requires)) (passes (is_int n) n refl)
+    (sym (c.canonical_int.ensures ∙ ap (λ (t : Bool). cond t (of_64_bits n) None) c.requires)) (passes (is_int n) n refl)
