@@ -17,3 +17,9 @@ pub named_texts :
     (((((out ++ name) ++ flat_map f (a ++ b)) ++ flat_map f c) ++ flat_map f d) ++ flat_map f e) ++ flat_map f g
     ≡ out ++ (name ++ flat_map f (a ++ b ++ c ++ d ++ e ++ g))
 named_texts f out name a b c d e g = simp (flat_map-append, append_assoc)
+
+-- a line that is added part by part
+pub line_text :
+    (out blanks start text ending last : List ℕ) →
+    ((((out ++ blanks) ++ start) ++ text) ++ ending) ++ last ≡ out ++ (blanks ++ (start ++ text ++ ending) ++ last)
+line_text out blanks start text ending last = simp append_assoc

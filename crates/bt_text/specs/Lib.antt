@@ -1,3 +1,4 @@
+pub mod Escaping
 pub mod Labels
 pub mod Names
 pub mod Notes

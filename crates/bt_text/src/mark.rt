@@ -1,10 +1,11 @@
-ghost use Rattle.std.specs.Prelude.{◌≡◌, ◌++◌, IfOk, OnOk, codes, map, not};
-ghost use Rattle.std.specs.List.{flat_map};
+ghost use Rattle.std.specs.Prelude.{◌≡◌, ◌≤◌, ◌++◌, IfOk, OnOk, codes, if◌then◌else◌, length, map, not};
+ghost use Rattle.std.specs.List.{flat_map, prefix_len};
 ghost use Rattle.std.specs.Str.{bytes_eq};
 ghost use Rattle.bt_model.specs.PrintedTree.{attribute_if, attribute_text, deeper, element_name, escaped_byte, explicit_name, guard_attributes, indented, is_compact, node_attributes, opening_text, port_attribute, port_text, script_attribute};
 ghost use Rattle.bt_model.specs.declared.term.Term.{out-Term};
+ghost use Rattle.bt_text.specs.Escaping.{is_plain_byte};
 
-use crate::put::{empty_line, put_bytes, put_number};
+use crate::put::{put_bytes, put_number};
 use bt_model::{Guards, Kind, Port, PortValue, Term, is_reserved};
 use bt_script::{Name, NoMemory, Script, Shared, Value, is_identifier};
 use itoa::Buffer;
@@ -31,14 +32,36 @@ fn put_escaped_byte(out: &mut Vec<u8>, byte: u8) -> Result<(), NoMemory>
     }
 }
 
-/// Adds a value that stands between two `"`. The error is want of memory.
+/// Whether the byte stands for itself in a value that stands between two `"`.
+fn is_plain(byte: u8) -> bool
+    ensures { result ≡ is_plain_byte byte }
+{
+    !(byte == b'&' || byte == b'<' || byte == b'"' || byte < 32)
+}
+
+/// How many bytes at the front stand for themselves.
+#[tactic(auto, using(crate::proofs::Escaping::prefixes))]
+fn plain_len(value: &[u8]) -> usize
+    ensures value { result ≡ prefix_len is_plain_byte value.now }
+    ensures within { result ≤ length value.now }
+{
+    value.iter().take_while(|byte| is_plain(**byte)).count()
+}
+
+/// Adds a value that stands between two `"`: what stands for itself is added part by part. The error is want of memory.
 fn put_value(out: &mut Vec<u8>, value: &[u8]) -> Result<(), NoMemory>
     ensures { OnOk result (out.new.items ≡ out.old.items ++ flat_map escaped_byte value.now) }
 {
-    for byte in value {
+    let mut rest = value;
+    'parts: loop {
+        let (plain, marked) = rest.split_at(plain_len(rest));
+        put_bytes(out, plain)?;
+        let Some((byte, more)) = marked.split_first() else {
+            return Ok(());
+        };
         put_escaped_byte(out, *byte)?;
+        rest = more;
     }
-    Ok(())
 }
 
 /// Adds an attribute with the blank before it. The error is want of memory.
@@ -90,7 +113,11 @@ fn put_ports(out: &mut Vec<u8>, ports: &[Port]) -> Result<(), NoMemory>
 }
 
 /// Adds the attribute of a script, where there is one. The error is want of memory.
-fn put_script(out: &mut Vec<u8>, name: &[u8], script: &Option<Shared<Script>>) -> Result<(), NoMemory>
+fn put_script(
+    out: &mut Vec<u8>,
+    name: &[u8],
+    script: &Option<Shared<Script>>,
+) -> Result<(), NoMemory>
     ensures { OnOk result (out.new.items
         ≡ out.old.items ++ flat_map attribute_text (script_attribute name.now script.now)) }
 {
@@ -137,25 +164,32 @@ fn explicit_name(kind: Kind) -> &'static [u8]
     }
 }
 
-/// The name of a node's element.
-pub fn element_name(term: &Term) -> &[u8]
-    ensures { result.now ≡ element_name (out-Term term.now).kind (out-Term term.now).id }
+/// The name of a node's element, by whether that is its ID.
+fn name_by(compact: bool, term: &Term) -> &[u8]
+    ensures { result.now ≡ (if compact then (out-Term term.now).id else explicit_name (out-Term term.now).kind) }
 {
-    if is_compact(term.kind, &term.id) {
+    if compact {
         term.id.list()
     } else {
         explicit_name(term.kind)
     }
 }
 
+/// The name of a node's element.
+pub fn element_name(term: &Term) -> &[u8]
+    ensures { result.now ≡ element_name (out-Term term.now).kind (out-Term term.now).id }
+{
+    name_by(is_compact(term.kind, &term.id), term)
+}
+
 /// Adds the attributes that say which node it is: `ID` where the element's name does not say it,
 /// and `name` where the node's name is not its ID. The error is want of memory.
-fn put_identity(out: &mut Vec<u8>, term: &Term) -> Result<(), NoMemory>
+fn put_identity(out: &mut Vec<u8>, compact: bool, term: &Term) -> Result<(), NoMemory>
     ensures { OnOk result (out.new.items ≡ out.old.items
-        ++ flat_map attribute_text (attribute_if (not (is_compact (out-Term term.now).kind (out-Term term.now).id)) (codes "ID") (out-Term term.now).id
+        ++ flat_map attribute_text (attribute_if (not compact) (codes "ID") (out-Term term.now).id
         ++ attribute_if (not (bytes_eq (out-Term term.now).name (out-Term term.now).id)) (codes "name") (out-Term term.now).name)) }
 {
-    if !is_compact(term.kind, &term.id) {
+    if !compact {
         put_attribute(out, b"ID", term.id.list())?;
     }
     if term.name != term.id {
@@ -181,8 +215,9 @@ fn put_node(out: &mut Vec<u8>, term: &Term) -> Result<(), NoMemory>
     ensures { OnOk result (out.new.items ≡ out.old.items
         ++ opening_text (element_name (out-Term term.now).kind (out-Term term.now).id) (node_attributes (out-Term term.now))) }
 {
-    put_bytes(out, element_name(term))?;
-    put_identity(out, term)?;
+    let compact = is_compact(term.kind, &term.id);
+    put_bytes(out, name_by(compact, term))?;
+    put_identity(out, compact, term)?;
     put_autoremap(out, term.autoremap)?;
     put_ports(out, term.ports.list())?;
     put_script(out, b"code", &term.code)?;
@@ -190,24 +225,23 @@ fn put_node(out: &mut Vec<u8>, term: &Term) -> Result<(), NoMemory>
     Ok(())
 }
 
-/// The line of a node's mark, which ends with these bytes, or want of memory.
-pub fn node_line(
-    alloc: Global,
+/// Adds the line of a node's mark, which ends with these bytes. The error is want of memory.
+pub fn put_node_line(
+    line: &mut Vec<u8>,
     blanks: &[u8],
     term: &Term,
     ending: &[u8],
-) -> Result<Vec<u8>, NoMemory>
-    ensures { IfOk result (λ line. line.items ≡ indented blanks.now (codes "<"
+) -> Result<(), NoMemory>
+    ensures { OnOk result (line.new.items ≡ line.old.items ++ indented blanks.now (codes "<"
         ++ opening_text (element_name (out-Term term.now).kind (out-Term term.now).id) (node_attributes (out-Term term.now))
         ++ ending.now)) }
 {
-    let mut line = empty_line(alloc)?;
-    put_bytes(&mut line, blanks)?;
-    put_bytes(&mut line, b"<")?;
-    put_node(&mut line, term)?;
-    put_bytes(&mut line, ending)?;
-    put_bytes(&mut line, b"\n")?;
-    Ok(line)
+    put_bytes(line, blanks)?;
+    put_bytes(line, b"<")?;
+    put_node(line, term)?;
+    put_bytes(line, ending)?;
+    put_bytes(line, b"\n")?;
+    Ok(())
 }
 
 /// Adds attributes, in order. The error is want of memory.

@@ -174,7 +174,7 @@ pub fn names_of(alloc: Global, tree: &Tree, world: &World, slots: &Slots) -> Res
     })
 }
 
-/// No names at all, for a cause that needs none. The error is want of memory.
+/// No names at all, for lines that need none. The error is want of memory.
 pub fn no_names(alloc: Global) -> Result<Names, NoMemory>
     ensures { IfOk result (λ names. names ≡ no_names) }
 {

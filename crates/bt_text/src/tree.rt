@@ -8,7 +8,8 @@ ghost use Rattle.bt_outside.specs.Counts.{Rose};
 ghost use Rattle.bt_text.specs.Trees.{end_mark, node_mark, start_mark, written};
 
 use crate::block::write_line;
-use crate::mark::{deeper, element_name, end_line, mark_line, node_line};
+use crate::mark::{deeper, element_name, end_line, mark_line, put_node_line};
+use crate::put::empty_line;
 use crate::stop::TextStop;
 use bt_model::{Kind, Term, Tree};
 use bt_outside::Sink;
@@ -94,10 +95,10 @@ fn nodes_below(term: &Term) -> &[Term]
     }
 }
 
-/// Writes the line of a node's mark, which ends with these bytes. After a stop a prefix of it was
-/// written.
+/// Writes the line of a node's mark, which ends with these bytes, in the room of `line`. After a stop a prefix of it
+/// was written.
 fn write_node_line<K: Sink>(
-    alloc: Global,
+    line: &mut Vec<u8>,
     out: &mut K,
     blanks: &[u8],
     term: &Term,
@@ -108,7 +109,8 @@ fn write_node_line<K: Sink>(
     ensures failed { IsErrOf result TextStop.WriteFault → Rose (K.faults out.old) (K.faults out.new) }
     ensures count { K.faults out.old ≤ K.faults out.new }
 {
-    let line = node_line(alloc, blanks, term, ending)?;
+    line.clear();
+    put_node_line(line, blanks, term, ending)?;
     write_line(out, line.as_slice())
 }
 
@@ -149,10 +151,12 @@ fn write_end<K: Sink>(
     write_line(out, line.as_slice())
 }
 
-/// Writes the lines of a node and of all below it. After a stop a prefix of the bytes was written.
+/// Writes the lines of a node and of all below it. Those of start marks and empty marks use the room of `line`. After a
+/// stop a prefix of the bytes was written.
 #[tactic(auto, using(bt_outside::proofs::Appends::appending))]
 fn write_node<K: Sink>(
     alloc: Global,
+    line: &mut Vec<u8>,
     out: &mut K,
     blanks: &[u8],
     term: &Term,
@@ -165,13 +169,13 @@ fn write_node<K: Sink>(
 {
     let nodes = nodes_below(term);
     if nodes.is_empty() {
-        write_node_line(alloc, out, blanks, term, b"/>")?;
+        write_node_line(line, out, blanks, term, b"/>")?;
         return Ok(());
     }
     let more = deeper(alloc, blanks)?;
-    write_node_line(alloc, out, blanks, term, b">")?;
+    write_node_line(line, out, blanks, term, b">")?;
     for node in nodes {
-        write_node(alloc, out, more.as_slice(), node)?;
+        write_node(alloc, line, out, more.as_slice(), node)?;
     }
     write_end(alloc, out, blanks, element_name(term))?;
     Ok(())
@@ -182,6 +186,7 @@ fn write_node<K: Sink>(
 #[tactic(auto, using(bt_outside::proofs::Appends::appending))]
 fn write_written<K: Sink>(
     alloc: Global,
+    line: &mut Vec<u8>,
     out: &mut K,
     id: &Name,
     nodes: &[Term],
@@ -200,7 +205,7 @@ fn write_written<K: Sink>(
     }
     write_mark(alloc, out, b"  ", b"BehaviorTree", &attributes, b">")?;
     for node in nodes {
-        write_node(alloc, out, b"    ", node)?;
+        write_node(alloc, line, out, b"    ", node)?;
     }
     write_end(alloc, out, b"  ", b"BehaviorTree")?;
     Ok(())
@@ -217,13 +222,14 @@ pub fn write_tree<K: Sink>(alloc: Global, out: &mut K, tree: &Tree) -> Result<()
     ensures count { K.faults out.old ≤ K.faults out.new }
 {
     let trees = trees_of(alloc, tree)?;
+    let mut line = empty_line(alloc)?;
     let attributes: [(&[u8], &[u8]); 2] = [
         (b"BTCPP_format", b"4"),
         (b"main_tree_to_execute", tree.main.list()),
     ];
     write_mark(alloc, out, b"", b"root", &attributes, b">")?;
     for written in &trees {
-        write_written(alloc, out, written.id, written.nodes)?;
+        write_written(alloc, &mut line, out, written.id, written.nodes)?;
     }
     write_end(alloc, out, b"", b"root")?;
     Ok(())

@@ -13,4 +13,6 @@ returns c =
     (attribute_if (not (bytes_eq node.name node.id)) (codes "name") node.name)
     (attribute_if node.autoremap (codes "_autoremap") (codes "true"))
     (map port_attribute node.ports) (script_attribute (codes "code") node.code) (guard_attributes node.guards) in
-    cc (texts, c.element_name.ensures, c.list.ensures, c.in_ok-put_bytes.ensures, c.in_ok-put_identity.ensures, c.in_ok-put_autoremap.ensures, c.in_ok-put_ports.ensures, c.in_ok-put_script.ensures, c.in_ok-put_guards.ensures)
+    let named = rw c.is_compact-compact.ensures at c.name_by.ensures in
+    let identity = rw c.is_compact-compact.ensures at c.in_ok-put_identity.ensures in
+    cc (texts, named, c.list.ensures, c.in_ok-put_bytes.ensures, identity, c.in_ok-put_autoremap.ensures, c.in_ok-put_ports.ensures, c.in_ok-put_script.ensures, c.in_ok-put_guards.ensures)
