@@ -13,10 +13,11 @@ use Rattle.bt_model.specs.declared.term.Tree.{Tree}
 use Rattle.bt_model.specs.declared.world.Event.{Event}
 use Rattle.bt_model.specs.declared.world.World.{World}
 use Rattle.bt_model.specs.Drivers.{DriverState}
-use Rattle.bt_model.specs.Lines.{line_names}
+use Rattle.bt_model.specs.Lines.{LineNames, line_names}
 use Rattle.bt_model.specs.Run.{Trace, run_over}
 use Rattle.bt_model.specs.Terms.{leaf_ids}
 use Rattle.bt_outside.specs.Moments.{Moments}
+use Rattle.bt_text.specs.Names.{no_names}
 use Rattle.bt_trace.specs.Rounds.{live_events, taken}
 use Rattle.bt_trace.specs.Texts.{text_of}
 use Rattle.bt_answers.specs.Output.{Asked, Never, Times, UpToFault, Output}
@@ -38,6 +39,12 @@ abbrev pub bytes_by : Course → Tree → World → Trace → List ℕ
 bytes_by course.Script tree world trace = text_of (line_names tree world) trace.blocks
 bytes_by (course.Rounds rounds) tree world trace = text_of (line_names tree world) trace.blocks
 bytes_by (course.Load leaves) tree world trace = load_line leaves tree (length world.events) trace
+
+-- the names that the lines of a run need on this course: of a load none is written
+abbrev pub names_on : Course → Tree → World → LineNames
+names_on course.Script tree world = line_names tree world
+names_on (course.Rounds rounds) tree world = line_names tree world
+names_on (course.Load leaves) tree world = no_names
 
 -- how often a run asks the clock: once a round, and never for a script
 abbrev pub asked_by : Course → Moments → Tree → World → Option RunFault → Asked

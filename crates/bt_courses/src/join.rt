@@ -1,7 +1,7 @@
-ghost use Rattle.std.specs.Prelude.{◌≡◌};
+ghost use Rattle.std.specs.Prelude.{◌≡◌, IfOk};
 ghost use Rattle.bt_loop.specs.Runs.{Setup, arenas_of};
 ghost use Rattle.bt_model.specs.Drivers.{NothingHeld};
-ghost use Rattle.bt_model.specs.Lines.{line_names};
+ghost use Rattle.bt_model.specs.Boards.{slot_table};
 ghost use Rattle.bt_model.specs.Run.{opening};
 ghost use Rattle.bt_model.specs.Trees.{IsRunnable};
 ghost use Rattle.bt_model.specs.Worlds.{IsValidWorld};
@@ -11,12 +11,12 @@ ghost use Rattle.bt_refusals.specs.Ends.{EndsAt};
 ghost use Rattle.bt_courses.specs.declared.course.Course.TheVariants as course;
 ghost use Rattle.bt_answers.specs.Lent.{Stays, seen};
 ghost use Rattle.bt_answers.specs.Output.{AreUncalled};
-ghost use Rattle.bt_courses.specs.Runs.{JoinGives};
+ghost use Rattle.bt_courses.specs.Runs.{JoinGives, names_on};
 ghost use Rattle.bt_trace.specs.Traces.{CanRun, state_in};
 
 use crate::course::Course;
 use bt_answers::Outside;
-use bt_board::slots_of;
+use bt_board::{Slots, slots_of};
 use bt_command_line::Exit;
 use bt_driver::Drivers;
 use bt_load::run_load;
@@ -24,7 +24,8 @@ use bt_loop::{Runs, make_runs};
 use bt_model::{Event, Tree, World};
 use bt_outside::{Clock, Shelf, Sink};
 use bt_refusals::Refusal;
-use bt_text::{Names, TextStop, names_of, write_line};
+use bt_script::NoMemory;
+use bt_text::{Names, TextStop, names_of, no_names, write_line};
 use bt_trace::{Ended, Writer, run_events, run_rounds};
 use std::alloc::Global;
 
@@ -78,7 +79,7 @@ fn run<S: Shelf, K: Sink, C: Clock, D: Drivers>(
     requires runs { CanRun of (D.states outside.old.drivers.now) runs }
     requires opening { state_in of (D.states outside.old.drivers.now) runs ≡ opening of.tree of.world }
     requires events { events.now ≡ of.world.events }
-    requires names { names.now ≡ line_names of.tree of.world }
+    requires names { names.now ≡ names_on course of.tree of.world }
     ensures gave { AtMoments (C.moments outside.old.clock.now) (λ moments.
         Gave (course_output of (arenas_of runs) course moments (D.states outside.old.drivers.now)) result
         (seen K.written K.faults C.moments D.states outside.old)
@@ -111,6 +112,24 @@ fn run<S: Shelf, K: Sink, C: Clock, D: Drivers>(
     }
 }
 
+/// The names that the lines of a run need on this course. None of the lines of a load is written. The error is want of
+/// memory.
+fn names_on(
+    alloc: Global,
+    course: Course,
+    tree: &Tree,
+    world: &World,
+    slots: &Slots,
+) -> Result<Names, NoMemory>
+    requires { slots.now ≡ slot_table tree.now }
+    ensures { IfOk result (λ names. names ≡ names_on course tree.now world.now) }
+{
+    match course {
+        Course::Script | Course::Rounds(_) => names_of(alloc, tree, world, slots),
+        Course::Load(_) => no_names(alloc),
+    }
+}
+
 /// Joins a tree with a world and the drivers and runs it, where every leaf has a row and its row a
 /// driver; else it is refused for the first leaf that lacks one.
 pub fn join_and_run<S: Shelf, K: Sink, C: Clock, D: Drivers>(
@@ -132,7 +151,7 @@ pub fn join_and_run<S: Shelf, K: Sink, C: Clock, D: Drivers>(
     ensures stays { Stays S.faults K.faults D.states outside.old outside.new }
 {
     let slots = slots_of(alloc, tree)?;
-    let names = names_of(alloc, tree, world, &slots)?;
+    let names = names_on(alloc, course, tree, world, &slots)?;
     let runs = make_runs(alloc, tree, &slots, world, outside.drivers)?;
     Ok(run(alloc, runs, world.events.list(), &names, course, outside))
 }
