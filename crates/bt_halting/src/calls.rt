@@ -1,4 +1,5 @@
 ghost use Rattle.std.specs.Prelude.{◌≡◌, ◌+◌, ◌≤◌, ◌++◌, ℕ, ℤ, List, Option, length, false};
+ghost use Rattle.std.specs.Vec.{vec_capacity};
 ghost use Rattle.bt_script.specs.declared.value.Value.{Value};
 ghost use Rattle.bt_model.specs.declared.term.Term.{Term};
 ghost use Rattle.bt_model.specs.declared.term.Tree.{Tree};
@@ -6,7 +7,7 @@ ghost use Rattle.bt_model.specs.Drivers.{is_held};
 ghost use Rattle.bt_model.specs.Run.{quenched_notes, quenched_runner};
 ghost use Rattle.bt_model.specs.Sites.{View};
 ghost use Rattle.bt_arena.specs.Ends.{StaysFit};
-ghost use Rattle.bt_arena.specs.Nodes.{leaf_at};
+ghost use Rattle.bt_arena.specs.Nodes.{at_rest, kept_at, leaf_at};
 ghost use Rattle.bt_arena.specs.Rosters.{leaf_instance, leaves_in, roster_after};
 ghost use Rattle.bt_arena.specs.Scenes.{Fits, scene};
 ghost use Rattle.bt_halting.specs.Quenches.{releases_in, runner_in};
@@ -31,11 +32,14 @@ pub fn quench<D: Drivers>(arena: &mut Arena, drivers: &mut D, notes: &mut Notes)
         D.states drivers.new ≡ roster_after arena.old.nodes.items calls (D.states drivers.old) }
     ensures notes { let calls = releases_in arena.old.nodes.items (D.states drivers.old) in
         notes.new.list ≡ notes.old.list ++ quenched_notes arena.old.runner calls }
+    ensures rest { (uid : ℕ) → kept_at arena.new.kept.items uid ≡ at_rest }
     ensures none { (uid : ℕ) → is_held (leaf_instance (D.states drivers.new) (leaf_at arena.old.nodes.items uid)) ≡ false }
     ensures fits { (board : List (Option Value)) (facts : List ℤ) →
         let before = scene arena.old.kept.items board facts (D.states drivers.old) in
         StaysFit arena.old.nodes.items before (scene arena.new.kept.items board facts (D.states drivers.new)) }
     ensures nodes { arena.new.nodes.items ≡ arena.old.nodes.items }
+    ensures room { (vec_capacity arena.new.nodes ≡ vec_capacity arena.old.nodes) ×
+        (vec_capacity arena.new.kept ≡ vec_capacity arena.old.kept) }
     ensures same_runner { arena.new.runner ≡ arena.old.runner }
     ensures frames { arena.new.frames ≡ arena.old.frames }
     ensures reserve { let calls = releases_in arena.old.nodes.items (D.states drivers.old) in

@@ -93,6 +93,7 @@ pub(crate) fn end_halt<D: Drivers>(stage: &mut Stage<D>, uid: u32) -> Result<(),
     ensures keeps { Keeps D.states uid 1 stage.old stage.new }
     ensures status { OnOk result ((kept_at stage.new.kept.now uid).status ≡ Idle) }
     ensures facts { stage.new.facts.now ≡ stage.old.facts.now }
+    ensures reserve { stage.new.notes.now.reserve ≡ stage.old.notes.now.reserve }
 {
     release(stage, uid)?;
     come_to_rest(stage, uid)?;

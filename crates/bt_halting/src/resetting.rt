@@ -62,6 +62,7 @@ pub fn reset<D: Drivers>(stage: &mut Stage<D>, uid: u32) -> Result<(), Stop<Node
     ensures held { OnOk result (RunningAreHeldOn stage.new uid) }
     ensures keeps { Keeps D.states uid (node_at stage.old.nodes.now uid).size stage.old stage.new }
     ensures facts { stage.new.facts.now ≡ stage.old.facts.now }
+    ensures reserve { stage.new.notes.now.reserve ≡ stage.old.notes.now.reserve }
 {
     match stage.kept[uid as usize].status {
         Status::Running => halt(stage, uid),
@@ -87,6 +88,7 @@ pub fn halt<D: Drivers>(stage: &mut Stage<D>, uid: u32) -> Result<(), Stop<NodeF
     ensures held { OnOk result (RunningAreHeldOn stage.new uid) }
     ensures keeps { Keeps D.states uid (node_at stage.old.nodes.now uid).size stage.old stage.new }
     ensures facts { stage.new.facts.now ≡ stage.old.facts.now }
+    ensures reserve { stage.new.notes.now.reserve ≡ stage.old.notes.now.reserve }
 {
     reset_children(stage, uid, Span::All)?;
     end_halt(stage, uid)
@@ -109,6 +111,7 @@ pub fn reset_children<D: Drivers>(
     ensures held { OnOk result (RunningAreHeldOn stage.new uid) }
     ensures keeps { Keeps D.states (uid + 1) ((node_at stage.old.nodes.now uid).size - 1) stage.old stage.new }
     ensures facts { stage.new.facts.now ≡ stage.old.facts.now }
+    ensures reserve { stage.new.notes.now.reserve ≡ stage.old.notes.now.reserve }
 {
     let mut child = uid + 1;
     for place in 0..node(stage.nodes, uid).children {
@@ -134,6 +137,7 @@ fn reset_wanted<D: Drivers>(
     ensures held { OnOk result (RunningAreHeldOn stage.new uid) }
     ensures keeps { Keeps D.states uid (node_at stage.old.nodes.now uid).size stage.old stage.new }
     ensures facts { stage.new.facts.now ≡ stage.old.facts.now }
+    ensures reserve { stage.new.notes.now.reserve ≡ stage.old.notes.now.reserve }
 {
     if wanted { reset(stage, uid) } else { Ok(()) }
 }

@@ -12,6 +12,11 @@ returns-clause-runner g c = λ tree view board facts fits.
     rw (written_back _ c.quench_nodes.new.kept c.args.arena.now.kept.items (c.quench_nodes.auto.kept ∙ c.deref_mut.ensures.len) (ap (λ (k : List Kept). length k) (sym c.deref_mut.ensures.value) ∙ c.deref_mut.ensures.len))
     (λ i. let r : Runner = record { memory = rested tree.term 1 c.quench_nodes.new.kept (λ p low high. c.quench_nodes.ensures.rest p) i; board = board; instances = instances i } in r)
 
+pub returns-clause-rest : goal.returns-clause-rest
+returns-clause-rest g c = λ uid.
+    rw (written_back _ c.quench_nodes.new.kept c.args.arena.now.kept.items (c.quench_nodes.auto.kept ∙ c.deref_mut.ensures.len) (ap (λ (k : List Kept). length k) (sym c.deref_mut.ensures.value) ∙ c.deref_mut.ensures.len))
+    (c.quench_nodes.ensures.rest uid)
+
 pub returns-clause-none : goal.returns-clause-none
 returns-clause-none g c = λ uid.
     let marks = rw c.deref.ensures.value at c.quench_nodes.ensures.marks in

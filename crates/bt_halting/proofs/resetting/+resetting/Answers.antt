@@ -84,6 +84,7 @@ reset_children-loop-place-init g t c = record {
   keeps = keeps_none g.D.Drivers.states _ _ _;
   held = c.requires.held;
   facts = refl;
+  reserve = refl;
   still = λ term view fits. none_reset c.args.stage.now.nodes.now c.args.stage.now.moment c.args.span (view_under view c.args.uid (written (out-Term term))) (out-Term term).children (c.args.uid + 1) _ _;
 }
 
@@ -177,6 +178,7 @@ reset_children-loop-place-preserved g t c =
           running_above after.nodes.now at.kept.now after.kept.now c.args.uid child (subst (λ (by : ℕ). Beside child by at.kept.now after.kept.now) size keeps.beside) c.in_ok-reset_wanted.ensures.held
           (subst (λ (ns : List Node). RunningAreHeld ns at.kept.now c.args.uid) (λ j. (sym keeps.same.nodes j).now) i.held);
       facts = c.reset_wanted.ensures.facts ∙ i.facts;
+      reserve = c.reset_wanted.ensures.reserve ∙ i.reserve;
       still = λ term view fit.
           let fits = i.keeps.stays term view c.args.uid fit in
           let k = i.still term view fit in
@@ -209,6 +211,7 @@ reset-returns-in_err-become_idle-in_default g t c =
       held = rw (stops_with c.from_residual.result stop.NoMemory c.from_residual.ensures.1) tt;
       keeps = keeps_still g.D.Drivers.states c.args.uid _ _ _ c.become_idle.ensures.same e;
       facts = λ i. (e i).facts;
+      reserve = c.become_idle.ensures.reserve;
     }
 
 pub reset-returns-in_ok-become_idle-in_default : goal.reset-returns-in_ok-become_idle-in_default
@@ -230,6 +233,7 @@ reset-returns-in_ok-become_idle-in_default g t c =
       held = rw same.nodes (running_rested nodes before.kept.now c.become_idle.new.stage.kept.now c.args.uid c.args.uid idle.beside (idle_here states c.args.uid _ before c.become_idle.new.stage within e) c.requires.held);
       keeps = keeps_then states c.args.uid _ c.args.uid 1 _ _ _ (omega arith) (omega (arith, some)) (keeps_none states c.args.uid _ before) idle;
       facts = λ i. (e i).facts;
+      reserve = c.become_idle.ensures.reserve;
     }
 
 pub reset-returns-in-Running-clause-meets : goal.reset-returns-in-Running-clause-meets

@@ -26,6 +26,7 @@ invariant-reset_children-loop-place g l = record {
   keeps : Keeps g.D.Drivers.states (l.uid + 1) ((node_at l.fn.stage.nodes.now l.uid).size - 1) l.fn.stage l.stage;
   held : RunningAreHeldOn l.stage l.uid;
   facts : l.stage.facts.now ≡ l.fn.stage.facts.now;
+  reserve : l.stage.notes.now.reserve ≡ l.fn.stage.notes.now.reserve;
   still : (term : Term) (view : View) → FitsOn g.D.Drivers.states l.fn.stage l.uid term view →
       StillResets l.fn.stage.nodes.now l.fn.stage.moment l.span (view_under view l.uid (written (out-Term term))) (out-Term term).children (l.uid + 1) (scene_on g.D.Drivers.states l.fn.stage) l.fn.stage.notes.now.list l.place l.child (scene_on g.D.Drivers.states l.stage) l.stage.notes.now.list;
 }
