@@ -1,4 +1,4 @@
-ghost use Rattle.std.specs.Prelude.{◌≡◌, List, Option, if◌then◌else◌, length, slice_set};
+ghost use Rattle.std.specs.Prelude.{◌≡◌, List, OnOk, Option, if◌then◌else◌, length, slice_set};
 ghost use Rattle.bt_script.specs.declared.syntax.Script.{Script};
 ghost use Rattle.bt_model.specs.declared.built_ins.Class.TheVariants.{Leaf as AloneClass};
 ghost use Rattle.bt_model.specs.declared.memory.Memory.{Memory};
@@ -98,6 +98,7 @@ fn lone_rule<D: Drivers>(stage: &mut Stage<D>, uid: u32) -> Result<Answer, Stop<
     ensures kept { let mark = (kept_at stage.new.kept.now uid).held in
         stage.new.kept.now ≡ slice_set stage.old.kept.now uid (record (kept_at stage.old.kept.now uid) { held = mark }) }
     ensures same { IsSame stage.old stage.new }
+    ensures reserve { OnOk result (stage.new.notes.now.reserve ≡ stage.old.notes.now.reserve) }
 {
     let node = node(stage.nodes, uid);
     match node.kind {
@@ -123,6 +124,7 @@ pub fn visit_alone<D: Drivers>(stage: &mut Stage<D>, uid: u32) -> Result<Answer,
     ensures meets { (term : Term) (view : View) → FitsOn D.states stage.old uid term view →
         MeetsOn D.states (memory_of term uid) result stage.old stage.new (ruled_on D.states stage.old uid term view) }
     ensures keeps { Keeps D.states uid 1 stage.old stage.new }
+    ensures reserve { OnOk result (stage.new.notes.now.reserve ≡ stage.old.notes.now.reserve) }
 {
     let answer = lone_rule(stage, uid)?;
     end_visit(stage, uid, answer, Memo::Nothing)

@@ -1,4 +1,4 @@
-ghost use Rattle.std.specs.Prelude.{◌≡◌, ◌+◌, ◌≤◌, ◌<◌, ◌++◌, List, Some, length, replicate, slice_set};
+ghost use Rattle.std.specs.Prelude.{◌≡◌, ◌+◌, ◌≤◌, ◌<◌, ◌++◌, List, OnErr, OnOk, Some, length, replicate, slice_set};
 ghost use Rattle.std.specs.List.{All};
 ghost use Rattle.bt_script.specs.declared.cells.Seen.TheVariants.{Absent};
 ghost use Rattle.bt_model.specs.declared.memory.Memory.{Memory};
@@ -210,7 +210,8 @@ fn tell(
     requires { 0 < notes.old.reserve }
     ensures answer { as_given result ≡ in_stop (reply_answer uid reply) }
     ensures list { notes.new.list ≡ notes.old.list ++ reply_notes (phase_of status) uid reply }
-    ensures reserve { notes.old.reserve ≤ notes.new.reserve + 1 }
+    ensures told { OnOk result (notes.new.reserve + 1 ≡ notes.old.reserve) }
+    ensures untold { OnErr result (notes.new.reserve ≡ notes.old.reserve) }
     ensures full { notes.new.full ≡ notes.old.full }
 {
     let answer = answer_of(reply, uid)?;
@@ -237,6 +238,7 @@ pub fn leaf_call<D: Drivers>(
     ensures kept { let mark = (kept_at stage.new.kept.now uid).held in
         stage.new.kept.now ≡ slice_set stage.old.kept.now uid (record (kept_at stage.old.kept.now uid) { held = mark }) }
     ensures same { IsSame stage.old stage.new }
+    ensures reserve { OnOk result (stage.new.notes.now.reserve ≡ stage.old.notes.now.reserve) }
 {
     stage.notes.room()?;
     let status = stage.kept[uid as usize].status;
