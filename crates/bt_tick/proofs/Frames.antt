@@ -121,6 +121,14 @@ module _ (nodes : List Node) (moment : ℕ) (root : Term) (first : ℕ) where
   stack_stays s s1 stack (w ∷ ws) term view uid (below, is, waits, more) beside stays =
       (below, is, waits_still waits s1 beside stays, stack_stays s s1 below ws w.term w.view w.frame.uid more (beside_above waits s1 beside stays) stays)
 
+  -- nor has any node beside the root
+  pub beside_root : (s s1 : Scene) (stack : List Frame) (ws : List Waiting) (term : Term) (view : View) (uid : ℕ) → StackIs nodes moment s root first stack ws term view uid →
+      Beside uid (meaning term).size s.kept s1.kept → StaysFit nodes s s1 → Beside first (meaning root).size s.kept s1.kept
+  beside_root s s1 stack [] term view uid k beside stays =
+      subst (λ (t : Term). Beside first (meaning t).size s.kept s1.kept) k.1 (subst (λ (u : ℕ). Beside u (meaning term).size s.kept s1.kept) k.2 beside)
+  beside_root s s1 stack (w ∷ ws) term view uid (below, is, waits, more) beside stays =
+      beside_root s s1 below ws w.term w.view w.frame.uid more (beside_above waits s1 beside stays) stays
+
   -- ---- Stops
 
   placed_stops : {A : Type 0} (memory : List Kept → Memory) (place : ℕ) (ms : List Memory) (e : Stop NodeFault) (s0 s1 : Scene) (n0 n1 : List Note) (d : Done A Memory) →

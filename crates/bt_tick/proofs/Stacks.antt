@@ -20,12 +20,12 @@ use Rattle.bt_model.specs.Visit.{ended, meaning}
 use Rattle.bt_arena.specs.declared.nodes.Node.{Node}
 use Rattle.bt_arena.specs.Nodes.{kept_at}
 use Rattle.bt_arena.specs.Scenes.{Scene, state_in}
-use Rattle.bt_arena.specs.Stands.{Stands, memory_of, view_under, written}
+use Rattle.bt_arena.specs.Stands.{Beside, Stands, memory_of, view_under, written}
 use Rattle.bt_arena.proofs.Framed.{memory_at_place}
 use Rattle.bt_arena.proofs.Opened.{opened}
 use Rattle.bt_arena.specs.Ends.{Meets, StaysFit}
 use Rattle.bt_arena.proofs.Follows.{done_met}
-use Rattle.bt_arena.proofs.Staged.{beside_none}
+use Rattle.bt_arena.proofs.Staged.{beside_both, beside_none}
 use Rattle.bt_laws.proofs.Children.{Keeps}
 use Rattle.bt_laws.proofs.Seats.{Seat}
 use Rattle.bt_arena.specs.declared.frame.Frame.{Frame}
@@ -35,7 +35,7 @@ use Rattle.bt_tick.specs.Machine as turn
 use Rattle.bt_nodes.specs.Here.{children_in, site_at}
 use Rattle.bt_tick.specs.Turns.{AllLeave, CanGoOn, CanVisit, ChildLeaves, ChildrenSound, Comes, Goes, Going, GoesOnBy, StackIs, Waiting, WaitsBy, WaitsFor, child_of_waiting, goes_following, kind_of, memory_in, number, resume, ruled_by, visit_in}
 use Rattle.bt_tick.proofs.Children.{child_seen, child_stands, seat_at, terms}
-use Rattle.bt_tick.proofs.Frames.{all_stops, children_now, leave_comes, node_kept, resume_comes, stack_stays}
+use Rattle.bt_tick.proofs.Frames.{all_stops, beside_root, children_now, leave_comes, node_kept, resume_comes, stack_stays}
 use Rattle.bt_tick.proofs.Passing.{comes_both, comes_same, follow_follow, met_after, none_told}
 
 none_from_push : {X : Type 0} (xs : List X) (x : X) → [] ≡ xs ++ x ∷ [] → ⊥
@@ -181,6 +181,7 @@ module _ (keeps : (t : Term) → Keeps (meaning t) (Sound t)) (nodes : List Node
       stands = (refl, refl, refl);
       leaves = tt;
       comes = comes_same nodes s0 s0 n0 (visit_in nodes moment root view first s0) (visit_in nodes moment root view first s0) refl refl;
+      beside = beside_none first (meaning root).size s0.kept;
     }
 
   module _ {root : Term} {first : ℕ} {s0 s : Scene} {n0 n : List Note} {whole : Done Answer Memory} where
@@ -196,10 +197,16 @@ module _ (keeps : (t : Term) → Keeps (meaning t) (Sound t)) (nodes : List Node
       by (w ∷ ws) (under, is, waits, more) comes = absurd (none_from_push under w.frame is)
 
   module _ {root : Term} {first : ℕ} {stack : List Frame} {s0 s : Scene} {n0 n : List Note} {whole : Done Answer Memory} where
+    -- no node beside the root has changed in a turn
+    pub turn_beside : {t : Turn} (g : Going nodes moment root first t stack s0 s n0 n whole) (s1 : Scene) (n1 : List Note) (r : Result Turn (Stop NodeFault)) →
+        Goes nodes moment g.term g.view g.uid r s s1 n n1 g.next → Beside first (meaning root).size s0.kept s1.kept
+    turn_beside g s1 n1 r goes =
+        beside_both g.beside (beside_root nodes moment root first s s1 stack g.waiting g.term g.view g.uid g.stands goes.beside goes.stays) (omega arith) (omega arith) (omega arith) (omega arith)
+
     -- a turn was made
     pub made : {t t1 : Turn} (g : Going nodes moment root first t stack s0 s n0 n whole) (s1 : Scene) (n1 : List Note) →
         Goes nodes moment g.term g.view g.uid (Ok t1) s s1 n n1 g.next → Going nodes moment root first t1 stack s0 s1 n0 n1 whole
-    made g s1 n1 goes = record {
+    made {t1 = t1} g s1 n1 goes = record {
       waiting = g.waiting;
       term = g.term;
       view = g.view;
@@ -209,6 +216,7 @@ module _ (keeps : (t : Term) → Keeps (meaning t) (Sound t)) (nodes : List Node
       stands = stack_stays nodes moment root first s s1 stack g.waiting g.term g.view g.uid g.stands goes.beside goes.stays;
       leaves = leave_comes goes.ends.comes g.waiting g.leaves;
       comes = comes_both nodes s0 s s1 n0 n n1 whole (resume g.waiting g.next) (resume g.waiting goes.ends.next) g.comes (resume_comes goes.ends.comes g.waiting);
+      beside = turn_beside g s1 n1 (Ok t1) goes;
     }
 
     -- a turn ended with a fault or for want of memory, and so did the visit of the root
@@ -239,6 +247,7 @@ module _ (keeps : (t : Term) → Keeps (meaning t) (Sound t)) (nodes : List Node
           stands = (stack, refl, now_waits g.term g.view frame s g.next by, under);
           leaves = (child_leaves g.term g.view frame s g.next by, subst (λ (d : Done Answer Memory). AllLeave g.waiting d) come g.leaves);
           comes = subst (λ (d : Done Answer Memory). Comes nodes s0 s n0 n whole (resume g.waiting d)) come g.comes;
+          beside = g.beside;
         }
 
     -- a frame is taken from the stack, and its node hears the answer
@@ -264,6 +273,7 @@ module _ (keeps : (t : Term) → Keeps (meaning t) (Sound t)) (nodes : List Node
             stands = subst (λ (fs : List Frame). StackIs nodes moment s root first fs ws w.term w.view w.frame.uid) (sym same.0) more;
             leaves = subst (λ (x : Done Answer Memory). AllLeave ws (goes_following w x)) g.does leaves.1;
             comes = subst (λ (x : Done Answer Memory). Comes nodes s0 s n0 n whole (resume ws (goes_following w x))) g.does comes;
+            beside = g.beside;
           })
 
   -- ---- The turns, as the loop makes them
@@ -283,6 +293,7 @@ module _ (keeps : (t : Term) → Keeps (meaning t) (Sound t)) (nodes : List Node
           stands = subst (λ (x : ℕ). StackIs nodes moment s root first stack g.waiting g.term g.view x) here g.stands;
           leaves = subst (λ (d : Done Answer Memory). AllLeave g.waiting d) come g.leaves;
           comes = subst (λ (d : Done Answer Memory). Comes nodes s0 s n0 n whole (resume g.waiting d)) come g.comes;
+          beside = g.beside;
         }
 
     abbrev step_at : {step : Step} → Going nodes moment root first (turn.GoOn step) stack s0 s n0 n whole → Going nodes moment root first (turn.GoOn step) stack s0 s n0 n whole
@@ -296,6 +307,7 @@ module _ (keeps : (t : Term) → Keeps (meaning t) (Sound t)) (nodes : List Node
       stands = subst (λ (x : ℕ). StackIs nodes moment s root first stack g.waiting g.term g.view x) (sym g.does.here) g.stands;
       leaves = g.leaves;
       comes = g.comes;
+      beside = g.beside;
     }
 
     abbrev pub as_turn : {t t1 : Turn} → t ≡ t1 → Going nodes moment root first t stack s0 s n0 n whole → Going nodes moment root first t1 stack s0 s n0 n whole
@@ -330,6 +342,14 @@ module _ (keeps : (t : Term) → Keeps (meaning t) (Sound t)) (nodes : List Node
       pub step_stays : {t : Turn} {step : Step} (r : Result Turn (Stop NodeFault)) → t ≡ turn.GoOn step → Going nodes moment root first t stack s0 s n0 n whole →
           ((term : Term) (view : View) (next : Done Answer Memory) → GoesOnBy nodes moment term view step.uid step s next → Goes nodes moment term view step.uid r s s1 n n1 next) → StaysFit nodes s s1
       step_stays r is g goes = let h = step_at (as_turn is g) in (goes h.term h.view h.next h.does).stays
+
+      pub enter_beside : {t : Turn} {u : ℕ} (r : Result Turn (Stop NodeFault)) → t ≡ turn.Enter u → Going nodes moment root first t stack s0 s n0 n whole →
+          ((term : Term) (view : View) → CanVisit nodes moment term view u s → Goes nodes moment term view u r s s1 n n1 (visit_in nodes moment term view u s)) → Beside first (meaning root).size s0.kept s1.kept
+      enter_beside r is g goes = let h = enter_at (as_turn is g) in turn_beside h s1 n1 r (goes h.term h.view h.does.1)
+
+      pub step_beside : {t : Turn} {step : Step} (r : Result Turn (Stop NodeFault)) → t ≡ turn.GoOn step → Going nodes moment root first t stack s0 s n0 n whole →
+          ((term : Term) (view : View) (next : Done Answer Memory) → GoesOnBy nodes moment term view step.uid step s next → Goes nodes moment term view step.uid r s s1 n n1 next) → Beside first (meaning root).size s0.kept s1.kept
+      step_beside r is g goes = let h = step_at (as_turn is g) in turn_beside h s1 n1 r (goes h.term h.view h.next h.does)
 
     -- want of memory for the stack
     pub cut_here : {t : Turn} → Going nodes moment root first t stack s0 s n0 n whole → Meets {A = Answer} nodes moment (memory_of root first) (Err stop.NoMemory) s0 s n0 n whole

@@ -22,7 +22,7 @@ use Rattle.bt_arena.specs.Nodes.{node_at}
 use Rattle.bt_arena.specs.declared.nodes.Node.{Node}
 use Rattle.bt_arena.specs.Ends.{Meets, StaysFit}
 use Rattle.bt_arena.specs.Scenes.{Scene}
-use Rattle.bt_arena.specs.Stands.{memory_of}
+use Rattle.bt_arena.specs.Stands.{Beside, memory_of}
 use Rattle.bt_nodes.proofs.Following.{stops_with}
 use Rattle.bt_arena.specs.declared.frame.Frame.{Frame}
 use Rattle.bt_tick.specs.declared.machine.Next.{Next}
@@ -116,9 +116,9 @@ module _ {nodes : List Node} {moment : ℕ} {root : Term} {first : ℕ} {stack :
 
 -- a turn ended with this, and so did the visit of the root
 pub reached_with : (nodes : List Node) (moment : ℕ) (root : Term) (first : ℕ) (r : Result Reached (Stop NodeFault)) (e : Stop NodeFault) (stack : List Frame) (s0 s s1 : Scene) (n0 n1 : List Note) (whole : Done Answer Memory) →
-    IsErrAnd r (λ x. x ≡ e) → StaysFit nodes s s1 → Meets {A = Answer} nodes moment (memory_of root first) (Err e) s0 s1 n0 n1 whole → Reaches nodes moment root first r stack s0 s s1 n0 n1 whole
-reached_with nodes moment root first r e stack s0 s s1 n0 n1 whole is stays met =
-    subst (λ (x : Result Reached (Stop NodeFault)). Reaches nodes moment root first x stack s0 s s1 n0 n1 whole) (sym (stops_with r e is)) (record { ends = met; stays = stays })
+    IsErrAnd r (λ x. x ≡ e) → StaysFit nodes s s1 → Beside first (meaning root).size s0.kept s1.kept → Meets {A = Answer} nodes moment (memory_of root first) (Err e) s0 s1 n0 n1 whole → Reaches nodes moment root first r stack s0 s s1 n0 n1 whole
+reached_with nodes moment root first r e stack s0 s s1 n0 n1 whole is stays beside met =
+    subst (λ (x : Result Reached (Stop NodeFault)). Reaches nodes moment root first x stack s0 s s1 n0 n1 whole) (sym (stops_with r e is)) (record { ends = met; stays = stays; beside = beside })
 
 -- the visit of the root reached this
 pub reached_as : {nodes : List Node} {moment : ℕ} {root : Term} {first : ℕ} {r b : Reached} {stack : List Frame} {s0 s s1 : Scene} {n0 n1 : List Note} {whole : Done Answer Memory} →

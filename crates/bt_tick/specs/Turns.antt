@@ -20,7 +20,7 @@ use Rattle.bt_model.specs.Moves.{Fits as FitsMoves, FitsStart, after, next_place
 use Rattle.bt_model.specs.Sites.{View, children_of, placed, remembered}
 use Rattle.bt_model.specs.Sound.{Dated, Leaves, Sound, Sounds, held_at, is_held}
 use Rattle.bt_model.specs.Steps.{Rule, is_completed, visit}
-use Rattle.bt_model.specs.Visit.{ended, meaning, ruled, started, status_of}
+use Rattle.bt_model.specs.Visit.{ended, meaning, started, status_of}
 use Rattle.bt_arena.specs.declared.nodes.Kept.{Kept}
 use Rattle.bt_arena.specs.declared.nodes.Node.{Node}
 use Rattle.bt_arena.specs.declared.stage.Stage.{Stage}
@@ -265,7 +265,7 @@ StackIs nodes moment s root first stack [] term view uid = (stack ≡ []) × (te
 StackIs nodes moment s root first stack (w ∷ ws) term view uid =
     (below : List Frame) × (stack ≡ below ++ w.frame ∷ []) × WaitsFor nodes moment s w term view uid × StackIs nodes moment s root first below ws w.term w.view w.frame.uid
 
--- The visit of a root came to this turn and this stack of frames.
+-- The visit of a root came to this turn and this stack of frames, and no node beside the tree has changed.
 pub record Going (nodes : List Node) (moment : ℕ) (root : Term) (first : ℕ) (turn : Turn) (stack : List Frame) (before after : Scene) (old new : List Note) (whole : Done Answer Memory) : Type 0 where
   pub waiting : List Waiting
   pub term : Term
@@ -276,6 +276,7 @@ pub record Going (nodes : List Node) (moment : ℕ) (root : Term) (first : ℕ) 
   pub stands : StackIs nodes moment after root first stack waiting term view uid
   pub leaves : AllLeave waiting next
   pub comes : Comes nodes before after old new whole (resume waiting next)
+  pub beside : Beside first (meaning root).size before.kept after.kept
 
 -- A property of what comes next, said of its turn and of the frames below the node whose turn it is; where a child is
 -- visited, all frames are those of visits that wait.
@@ -294,10 +295,11 @@ ReachesTo nodes moment root first (Ok (reached.Child uid)) stack before after ol
 ReachesTo nodes moment root first (Ok (reached.End a)) stack before after old new whole = Meets nodes moment (memory_of root first) (Ok a) before after old new whole
 ReachesTo nodes moment root first (Err e) stack before after old new whole = Meets {A = Answer} nodes moment (memory_of root first) (Err e) before after old new whole
 
--- the visit came to a child, or it ended, and what fitted the arena still fits
+-- the visit came to a child, or it ended, what fitted the arena still fits, and no node beside the tree has changed
 pub record Reaches (nodes : List Node) (moment : ℕ) (root : Term) (first : ℕ) (result : Result Reached (Stop NodeFault)) (stack : List Frame) (before here after : Scene) (old new : List Note) (whole : Done Answer Memory) : Type 0 where
   pub ends : ReachesTo nodes moment root first result stack before after old new whole
   pub stays : StaysFit nodes here after
+  pub beside : Beside first (meaning root).size before.kept after.kept
 
 -- ---- Work
 

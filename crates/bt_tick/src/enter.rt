@@ -1,4 +1,4 @@
-ghost use Rattle.std.specs.Prelude.{◌≡◌, true, false};
+ghost use Rattle.std.specs.Prelude.{◌≡◌, OnOk, true, false};
 ghost use Rattle.bt_model.specs.declared.status.Status.TheVariants.{Running};
 ghost use Rattle.bt_model.specs.declared.term.Term.{Term};
 ghost use Rattle.bt_model.specs.BuiltIns.{has_rule};
@@ -57,6 +57,7 @@ fn follow_rule<D: Drivers>(stage: &mut Stage<D>, uid: u32) -> Result<Entered, St
         TakesTurn D.states stage.old stage.new uid term view
         (turned uid stage.new.kept.now result) (ruled_on D.states stage.old uid term view) }
     ensures same { IsSame stage.old stage.new }
+    ensures reserve { OnOk result (stage.new.notes.now.reserve ≡ stage.old.notes.now.reserve) }
     ensures work { LeavesLess uid stage.old stage.new result }
 {
     if !has_rule(node(stage.nodes, uid).kind) {
@@ -78,6 +79,7 @@ fn start<D: Drivers>(stage: &mut Stage<D>, uid: u32) -> Result<(), Stop<NodeFaul
     ensures keeps { Keeps D.states uid 1 stage.old stage.new }
     ensures board { stage.new.board.now ≡ stage.old.board.now }
     ensures aside { IsAside D.states stage.old stage.new }
+    ensures reserve { stage.new.notes.now.reserve ≡ stage.old.notes.now.reserve }
 {
     let old = stage.kept[uid as usize].status;
     stage.notes.push(Note::Changed {
@@ -103,6 +105,7 @@ fn begin<D: Drivers>(stage: &mut Stage<D>, uid: u32) -> Result<Entered, Stop<Nod
         TakesTurn D.states stage.old stage.new uid term view
         (turned uid stage.new.kept.now result) (visit_on D.states stage.old uid term view) }
     ensures same { IsSame stage.old stage.new }
+    ensures reserve { OnOk result (stage.new.notes.now.reserve ≡ stage.old.notes.now.reserve) }
     ensures work { LeavesLess uid stage.old stage.new result }
 {
     let here = node(stage.nodes, uid);
@@ -129,6 +132,7 @@ fn resume<D: Drivers>(stage: &mut Stage<D>, uid: u32) -> Result<Entered, Stop<No
         TakesTurn D.states stage.old stage.new uid term view
         (turned uid stage.new.kept.now result) (visit_on D.states stage.old uid term view) }
     ensures same { IsSame stage.old stage.new }
+    ensures reserve { OnOk result (stage.new.notes.now.reserve ≡ stage.old.notes.now.reserve) }
     ensures work { LeavesLess uid stage.old stage.new result }
 {
     let guards = &node(stage.nodes, uid).guards;
@@ -148,6 +152,7 @@ pub(crate) fn enter<D: Drivers>(stage: &mut Stage<D>, uid: u32) -> Result<Entere
         TakesTurn D.states stage.old stage.new uid term view
         (turned uid stage.new.kept.now result) (visit_on D.states stage.old uid term view) }
     ensures same { IsSame stage.old stage.new }
+    ensures reserve { OnOk result (stage.new.notes.now.reserve ≡ stage.old.notes.now.reserve) }
     ensures work { LeavesLess uid stage.old stage.new result }
 {
     match stage.kept[uid as usize].status {

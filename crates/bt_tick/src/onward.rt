@@ -54,6 +54,7 @@ fn reset_before<D: Drivers>(
         MeetsOn D.states (children_in term uid) result stage.old stage.new (resets_on D.states stage.old uid span term view) }
     ensures keeps { Keeps D.states (uid + 1) ((node_at stage.old.nodes.now uid).size - 1) stage.old stage.new }
     ensures facts { stage.new.facts.now ≡ stage.old.facts.now }
+    ensures reserve { stage.new.notes.now.reserve ≡ stage.old.notes.now.reserve }
 {
     match span {
         Span::None => Ok(()),
@@ -79,6 +80,7 @@ pub(crate) fn go_on<D: Drivers>(
     ensures child { IfOk result (λ next. EntersChild frame.new next) }
     ensures same { IsSame stage.old stage.new }
     ensures facts { stage.new.facts.now ≡ stage.old.facts.now }
+    ensures reserve { stage.new.notes.now.reserve ≡ stage.old.notes.now.reserve }
     ensures work { let nodes = stage.old.nodes.now in
         IfOk result (λ next. turn_work nodes (turn_of frame.new next) < turn_work nodes (turn.GoOn (step_of frame.old heard))) }
 {

@@ -1,4 +1,4 @@
-ghost use Rattle.std.specs.Prelude.{◌≡◌, ◌+◌, ◌≤◌, ◌<◌, List, [], ◌∷◌, ◌++◌, Some, None, IfOk, OnOk};
+ghost use Rattle.std.specs.Prelude.{◌≡◌, ◌+◌, ◌≤◌, ◌<◌, List, [], ◌∷◌, ◌++◌, Some, None, IfOk, Ok, OnOk};
 ghost use Rattle.std.specs.List.{AllByRecursion};
 ghost use Rattle.bt_model.specs.declared.memory.Memory.{Memory};
 ghost use Rattle.bt_model.specs.declared.moves.Heard.{Heard as HeardOf};
@@ -9,11 +9,13 @@ ghost use Rattle.bt_model.specs.Done.{Done};
 ghost use Rattle.bt_model.specs.Sites.{View};
 ghost use Rattle.bt_model.specs.Terms.{depth_of, work_of};
 ghost use Rattle.bt_model.specs.Trees.{NodeRuns, nodes_of};
+ghost use Rattle.bt_model.specs.Visit.{meaning};
 ghost use Rattle.bt_arena.specs.Ends.{StaysFit};
 ghost use Rattle.bt_arena.specs.Scenes.{Scene};
 ghost use Rattle.bt_arena.specs.Stages.{IsSame, MeetsOn, scene_on};
-ghost use Rattle.bt_arena.specs.Stands.{memory_of};
+ghost use Rattle.bt_arena.specs.Stands.{Beside, memory_of};
 ghost use Rattle.bt_tick.specs.declared.machine.Next.TheVariants as next;
+ghost use Rattle.bt_tick.specs.declared.machine.Reached.TheVariants as reached;
 ghost use Rattle.bt_tick.specs.Turns.{CameOn, CanVisitOn, ReachesOn, next_work, reached_work, visit_on};
 ghost use Rattle.bt_tick.specs.Work.{begun_by};
 
@@ -69,9 +71,11 @@ fn reach_child<D: Drivers>(
         ReachesOn D.states stage.old stage.new root result stack.new.items start told whole }
     ensures same { IsSame stage.old stage.new }
     ensures facts { stage.new.facts.now ≡ stage.old.facts.now }
+    ensures reserve { stage.new.notes.now.reserve ≡ stage.old.notes.now.reserve }
     ensures work { let nodes = stage.old.nodes.now in
         IfOk result (λ reached. reached_work nodes reached stack.new.items < next_work nodes (next.GoOn first) stack.old.items) }
     ensures room { stack.new.capacity ≡ stack.old.capacity }
+    ensures empty { (answer : AnswerGiven) → result ≡ Ok (reached.End answer) → stack.new.items ≡ [] }
 {
     let mut heard = first;
     loop {
@@ -106,7 +110,11 @@ pub fn tick<D: Drivers>(
     ensures meets { (term : Term) (view : View) → CanVisitOn D.states stage.old 1 term view →
         MeetsOn D.states (memory_of term 1) result stage.old stage.new (visit_on D.states stage.old 1 term view) }
     ensures same { IsSame stage.old stage.new }
+    ensures reserve { OnOk result (stage.new.notes.now.reserve ≡ stage.old.notes.now.reserve) }
     ensures fits { StaysFit stage.old.nodes.now (scene_on D.states stage.old) (scene_on D.states stage.new) }
+    // No other place of the arena has changed, not even the one that is no node's.
+    ensures beside { (term : Term) (view : View) → CanVisitOn D.states stage.old 1 term view →
+        Beside 1 (meaning term).size stage.old.kept.now stage.new.kept.now }
     // After an answer the root can be visited again.
     ensures again { OnOk result ((term : Term) (view : View) →
         CanVisitOn D.states stage.old 1 term view → CanVisitOn D.states stage.new 1 term view) }
@@ -118,6 +126,8 @@ pub fn tick<D: Drivers>(
     ensures room { frames.old.capacity ≤ frames.new.capacity }
     ensures enough { (term : Term) (view : View) → CanVisitOn D.states stage.old 1 term view →
         depth_of term ≤ frames.old.capacity → frames.new.capacity ≡ frames.old.capacity }
+    // After an answer no visit is under way.
+    ensures empty { OnOk result (frames.new.items ≡ []) }
 {
     frames.clear();
     let mut uid = 1;

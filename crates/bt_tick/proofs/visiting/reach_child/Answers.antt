@@ -17,7 +17,7 @@ use Rattle.bt_tick.specs.declared.machine.Next.{Next}
 use Rattle.bt_tick.specs.declared.machine.Next.TheVariants as next
 use Rattle.bt_tick.specs.Turns.{CameOn, GoingOn, next_work, stack_work, step_of}
 use Rattle.bt_tick.proofs.Later.{StepsBy, step_later}
-use Rattle.bt_tick.proofs.Stacks.{back_answers, back_made, can_step, step_made, step_stays, step_stops}
+use Rattle.bt_tick.proofs.Stacks.{back_answers, back_made, can_step, step_beside, step_made, step_stays, step_stops}
 use Rattle.bt_tick.proofs.Tops.{comes_as, going_on, gone_back, less_heard, less_on_top, one_on_top, reached_with, top_written, went_on}
 use Rattle.bt_tick.proofs.visiting.reach_child.Goals as goal
 use Rattle.bt_tick.proofs.visiting.reach_child.Goals.{In_ok-child}
@@ -46,6 +46,7 @@ returns-in_err-child-clause-reaches g c = λ root start told whole came.
     let goes = earlier c.loop-child.invariant.same (StepsBy g.D.Drivers.states c.loop-child.stage c.go_on.new.stage _ _) c.in_err-child.ensures.goes in
     let fit = step_stays term_keeps _ _ _ _ (Err c.in_err-child.field-0.0) refl going goes in
     reached_with _ _ _ _ _ _ _ _ _ _ _ _ _ c.from_residual.ensures.1 (λ t v u fits. fit t v u ((c.loop-child.invariant.all root start told whole came).1 t v u fits))
+    (step_beside term_keeps _ _ _ _ (Err c.in_err-child.field-0.0) refl going goes)
     (step_stops term_keeps _ _ _ _ _ refl going goes)
 
 -- the node on top of the stack went on: the visit of the root came to what comes next
@@ -73,7 +74,8 @@ less g c b comes =
 pub returns-in-Enter-clause-reaches : goal.returns-in-Enter-clause-reaches
 returns-in-Enter-clause-reaches g c = λ root start told whole came.
     let (going, stays) = went g (goal.at.returns-in-Enter-clause-reaches g c).In_ok-child root start told whole came in
-    record { ends = comes_as c.in-Enter.is going; stays = stays }
+    let entered = comes_as c.in-Enter.is going in
+    record { ends = entered; stays = stays; beside = entered.came.beside }
 
 pub returns-in-Enter-clause-work : goal.returns-in-Enter-clause-work
 returns-in-Enter-clause-work g c = omega (arith, less g (goal.at.returns-in-Enter-clause-work g c).In_ok-child (next.Enter c.in-Enter.child) c.in-Enter.is, c.loop-child.invariant.work)
@@ -82,7 +84,7 @@ pub returns-in-None-clause-reaches : goal.returns-in-None-clause-reaches
 returns-in-None-clause-reaches g c = λ root start told whole came.
     let (going, stays) = went g (goal.at.returns-in-None-clause-reaches g c).In_ok-child root start told whole came in
     let (left, taken, back) = gone_back c.in-Back.is going in
-    record { ends = back_answers term_keeps _ _ refl (sym taken ∙ sym c.pop.ensures.rest ∙ c.in-None.ensures.none refl) back; stays = stays }
+    record { ends = back_answers term_keeps _ _ refl (sym taken ∙ sym c.pop.ensures.rest ∙ c.in-None.ensures.none refl) back; stays = stays; beside = back.beside }
 
 pub loop-child-smaller-in-GoOn : goal.loop-child-smaller-in-GoOn
 loop-child-smaller-in-GoOn g c = less g (goal.at.loop-child-smaller-in-GoOn g c).In_ok-child (next.GoOn c.in-GoOn.next) c.in-GoOn.is
@@ -96,6 +98,7 @@ loop-child-preserved-in-GoOn g c =
           (comes_as c.in-GoOn.is going, stays);
       same = same_both c.loop-child.invariant.same c.in_ok-child.ensures.same;
       facts = c.in_ok-child.ensures.facts ∙ c.loop-child.invariant.facts;
+      reserve = c.in_ok-child.ensures.reserve ∙ c.loop-child.invariant.reserve;
       work = omega (arith, less g at (next.GoOn c.in-GoOn.next) c.in-GoOn.is, c.loop-child.invariant.work);
       room = c.loop-child.invariant.room;
     }
@@ -123,6 +126,7 @@ loop-child-preserved g c =
           );
       same = same_both c.loop-child.invariant.same c.in_ok-child.ensures.same;
       facts = c.in_ok-child.ensures.facts ∙ c.loop-child.invariant.facts;
+      reserve = c.in_ok-child.ensures.reserve ∙ c.loop-child.invariant.reserve;
       work = omega (
         arith,
         less g at (next.Back c.in-Back.answer) c.in-Back.is,

@@ -20,6 +20,7 @@ invariant-loop-child g l = record {
       × StaysFit l.fn.stage.nodes.now (scene_on g.D.Drivers.states l.fn.stage) (scene_on g.D.Drivers.states l.stage);
   same : IsSame l.fn.stage l.stage;
   facts : l.stage.facts.now ≡ l.fn.stage.facts.now;
+  reserve : l.stage.notes.now.reserve ≡ l.fn.stage.notes.now.reserve;
   work : next_work l.fn.stage.nodes.now (next.GoOn l.heard) l.stack.items ≤ next_work l.fn.stage.nodes.now (next.GoOn l.fn.first) l.fn.stack.items;
   room : l.stack.capacity ≡ l.fn.stack.capacity;
 }

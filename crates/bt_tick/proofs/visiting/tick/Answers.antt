@@ -17,7 +17,7 @@ use Rattle.bt_tick.proofs.Depths.{level_left}
 use Rattle.bt_tick.proofs.Moving.{as_many_kept, node_there}
 use Rattle.bt_tick.proofs.Passing.{met_with}
 use Rattle.bt_tick.proofs.Later.{EntersBy, ReachesBy, came_later, can_later}
-use Rattle.bt_tick.proofs.Stacks.{as_turn, back_answers, back_made, begins, can_again, can_enter, cut_here, enter_made, enter_stops, on_stack}
+use Rattle.bt_tick.proofs.Stacks.{as_turn, back_answers, back_made, begins, can_again, can_enter, cut_here, enter_beside, enter_made, enter_stops, on_stack}
 use Rattle.bt_tick.proofs.Tops.{going_work, less_heard, reached_as}
 use Rattle.bt_tick.proofs.Totals.{spent_on}
 use Rattle.bt_tick.proofs.visiting.tick.Goals as goal
@@ -29,6 +29,7 @@ loop-picked-init g c = record {
   all = λ term view can. record { came = on_stack term_keeps _ _ (sym c.clear.ensures.items) (begins term_keeps _ _ view can) };
   stays = λ term view uid fits. fits;
   same = same_here _;
+  reserve = refl;
   room = omega (arith, c.clear.ensures.capacity);
   enough = λ term view can deep. c.clear.ensures.capacity;
 }
@@ -38,6 +39,11 @@ returns-in_err-picked-clause-meets g c = λ term view can.
     let goes = earlier c.loop-picked.invariant.same (EntersBy g.D.Drivers.states c.loop-picked.stage c.enter.new.stage _ (Err _)) c.in_err-picked.ensures.goes in
     met_with _ _ _ _ _ _ _ _ _ _ c.from_residual.ensures.1
     (enter_stops term_keeps _ _ _ _ _ refl (c.loop-picked.invariant.all term view can).came goes)
+
+pub returns-in_err-picked-clause-beside : goal.returns-in_err-picked-clause-beside
+returns-in_err-picked-clause-beside g c = λ term view can.
+    let goes = earlier c.loop-picked.invariant.same (EntersBy g.D.Drivers.states c.loop-picked.stage c.enter.new.stage _ (Err _)) c.in_err-picked.ensures.goes in
+    enter_beside term_keeps _ _ _ _ (Err _) refl (c.loop-picked.invariant.all term view can).came goes
 
 pub returns-in_err-picked-clause-work : goal.returns-in_err-picked-clause-work
 returns-in_err-picked-clause-work g c = λ term view can fit. spent_on g.D.Drivers.states c.args.stage.now c.enter.new.stage _ term view can fit (returns-in_err-picked-clause-meets g c term view can)
@@ -71,6 +77,9 @@ returns-in_err-push-in-Begins-clause-meets g c = λ term view can.
     met_with _ _ _ _ _ _ _ _ _ _ c.from_residual-in_err-push-in-Begins.ensures.1
     (cut_here term_keeps _ _ (came g (goal.at.returns-in_err-push-in-Begins-clause-meets g c).In_ok-picked term view can))
 
+pub returns-in_err-push-in-Begins-clause-beside : goal.returns-in_err-push-in-Begins-clause-beside
+returns-in_err-push-in-Begins-clause-beside g c = λ term view can. (came g (goal.at.returns-in_err-push-in-Begins-clause-beside g c).In_ok-picked term view can).beside
+
 pub returns-in_err-push-in-Begins-clause-work : goal.returns-in_err-push-in-Begins-clause-work
 returns-in_err-push-in-Begins-clause-work g c = λ term view can fit. spent_on g.D.Drivers.states c.args.stage.now c.enter.new.stage _ term view can fit (returns-in_err-push-in-Begins-clause-meets g c term view can)
 
@@ -80,6 +89,9 @@ returns-in_err-push-in-Begins-clause-fits g c = still_fits g (goal.at.returns-in
 pub returns-in-None-clause-meets : goal.returns-in-None-clause-meets
 returns-in-None-clause-meets g c = λ term view can.
     back_answers term_keeps _ _ (ap (turn_after c.loop-picked.uid _) c.in-Answers.is) (c.in-None.ensures.none refl) (came g (goal.at.returns-in-None-clause-meets g c).In_ok-picked term view can)
+
+pub returns-in-None-clause-beside : goal.returns-in-None-clause-beside
+returns-in-None-clause-beside g c = λ term view can. (came g (goal.at.returns-in-None-clause-beside g c).In_ok-picked term view can).beside
 
 pub returns-in-None-clause-work : goal.returns-in-None-clause-work
 returns-in-None-clause-work g c = λ term view can fit. spent_on g.D.Drivers.states c.args.stage.now c.enter.new.stage (Ok c.in-Answers.answer) term view can fit (returns-in-None-clause-meets g c term view can)
@@ -165,6 +177,12 @@ returns-in_err-child-clause-meets g c = λ term view can.
     let reaches = earlier since (ReachesBy g.D.Drivers.states c.enter.new.stage c.reach_child.new.stage _ (Err _) _ _) c.in_err-child.ensures.reaches in
     met_with _ _ _ _ _ _ _ _ _ _ c.from_residual-in_err-child.ensures.1 (reaches term _ _ _ (hears g (goal.at.returns-in_err-child-clause-meets g c).Joined-branch-2 term view can)).ends
 
+pub returns-in_err-child-clause-beside : goal.returns-in_err-child-clause-beside
+returns-in_err-child-clause-beside g c = λ term view can.
+    let since = same_both c.loop-picked.invariant.same c.in_ok-picked.ensures.same in
+    let reaches = earlier since (ReachesBy g.D.Drivers.states c.enter.new.stage c.reach_child.new.stage _ (Err _) _ _) c.in_err-child.ensures.reaches in
+    (reaches term _ _ _ (hears g (goal.at.returns-in_err-child-clause-beside g c).Joined-branch-2 term view can)).beside
+
 pub returns-in_err-child-clause-work : goal.returns-in_err-child-clause-work
 returns-in_err-child-clause-work g c = λ term view can fit. spent_on g.D.Drivers.states c.args.stage.now c.reach_child.new.stage _ term view can fit (returns-in_err-child-clause-meets g c term view can)
 
@@ -184,6 +202,12 @@ returns-in-End-clause-meets g c = λ term view can.
     let since = same_both c.loop-picked.invariant.same c.in_ok-picked.ensures.same in
     let reaches = earlier since (ReachesBy g.D.Drivers.states c.enter.new.stage c.reach_child.new.stage _ (Ok _) _ _) c.in_ok-child.ensures.reaches in
     reached_as c.in-End.is (reaches term _ _ _ (hears g (goal.at.returns-in-End-clause-meets g c).Joined-branch-2 term view can))
+
+pub returns-in-End-clause-beside : goal.returns-in-End-clause-beside
+returns-in-End-clause-beside g c = λ term view can.
+    let since = same_both c.loop-picked.invariant.same c.in_ok-picked.ensures.same in
+    let reaches = earlier since (ReachesBy g.D.Drivers.states c.enter.new.stage c.reach_child.new.stage _ (Ok _) _ _) c.in_ok-child.ensures.reaches in
+    (reaches term _ _ _ (hears g (goal.at.returns-in-End-clause-beside g c).Joined-branch-2 term view can)).beside
 
 pub returns-in-End-clause-work : goal.returns-in-End-clause-work
 returns-in-End-clause-work g c = λ term view can fit. spent_on g.D.Drivers.states c.args.stage.now c.reach_child.new.stage (Ok c.in-End.answer) term view can fit (returns-in-End-clause-meets g c term view can)
@@ -230,6 +254,7 @@ loop-picked-preserved g c =
       all = λ term1 view1 can1. reached_as c.in-Child.is (reaches term1 _ _ _ (hears g at.Joined-branch-2 term1 view1 can1));
       stays = λ t v u fits. (reaches term _ _ _ (hears g at.Joined-branch-2 term view can)).stays t v u (still_fits g at.In_ok-picked t v u fits);
       same = same_both since c.in_ok-child.ensures.same;
+      reserve = c.in_ok-child.ensures.reserve ∙ c.in_ok-picked.ensures.reserve ∙ c.loop-picked.invariant.reserve;
       room = omega (arith, c.in_ok-child.ensures.room, room g at.Joined-branch-2);
       enough = λ term1 view1 can1 deep. c.in_ok-child.ensures.room ∙ enough g at.Joined-branch-2 term1 view1 can1 deep;
     }

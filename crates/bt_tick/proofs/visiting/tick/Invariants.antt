@@ -16,6 +16,7 @@ invariant-loop-picked g l = record {
       (visit_on g.D.Drivers.states l.fn.stage 1 term view);
   stays : StaysFit l.fn.stage.nodes.now (scene_on g.D.Drivers.states l.fn.stage) (scene_on g.D.Drivers.states l.stage);
   same : IsSame l.fn.stage l.stage;
+  reserve : l.stage.notes.now.reserve ≡ l.fn.stage.notes.now.reserve;
   room : l.fn.frames.capacity ≤ l.frames.capacity;
   enough : (term : Term) (view : View) → CanVisitOn g.D.Drivers.states l.fn.stage 1 term view →
       depth_of term ≤ l.fn.frames.capacity → l.frames.capacity ≡ l.fn.frames.capacity;
