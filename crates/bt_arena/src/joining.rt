@@ -20,7 +20,7 @@ use crate::laying::nodes_of;
 use crate::leaves::next_instance;
 use crate::nodes::Kept;
 use crate::resolving::Setting;
-use crate::rows::{index_of, row_named};
+use crate::rows::{IndexedWorld, row_named};
 use bt_board::Slots;
 use bt_driver::{Drivers, kind_of};
 use bt_model::{Kind, Memo, Status, Term, Tree, World};
@@ -189,7 +189,7 @@ pub fn arena_of<D: Drivers>(
     alloc: Global,
     tree: &Tree,
     slots: &Slots,
-    world: &World,
+    world: &IndexedWorld,
     drivers: &D,
     runner: u8,
 ) -> Result<Arena, Stop<JoinFault>>
@@ -201,14 +201,15 @@ pub fn arena_of<D: Drivers>(
     ensures fault { Joins result (first_missing world.now.rows (D.states drivers.now) (leaf_ids tree.now.term)) }
     ensures arena { IfOk result (λ arena. IsArenaOf tree.now world.now (D.states drivers.now) runner arena) }
 {
-    let rows = index_of(alloc, world.rows.list())?;
-    let counts = totals_of(alloc, &tree.term, world, &rows, drivers)?;
+    let rows = world.numbers();
+    let world = world.world();
+    let counts = totals_of(alloc, &tree.term, world, rows, drivers)?;
     let setting = Setting {
         alloc,
         tree,
         slots,
         world,
-        rows: &rows,
+        rows,
     };
     Ok(arena_with(&setting, drivers, counts.as_slice(), runner)?)
 }

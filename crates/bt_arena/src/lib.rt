@@ -28,5 +28,6 @@ pub use join_fault::JoinFault;
 pub use joining::arena_of;
 pub use nodes::{Kept, Node, ReadyGuards, ReadyLeaf};
 pub use notes::{Notes, notes_of};
+pub use rows::{IndexedWorld, index_world};
 pub use source::Source;
 pub use stage::Stage;

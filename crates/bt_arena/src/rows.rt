@@ -3,12 +3,60 @@ ghost use Rattle.std.specs.Option.{option_copied, option_or};
 ghost use Rattle.std.specs.Str.{bytes_eq};
 ghost use Rattle.indexmap.specs.IndexMap.{get};
 ghost use Rattle.bt_model.specs.Leaves.{row_of};
+ghost use Rattle.bt_model.specs.Worlds.{IsValidWorld};
 ghost use Rattle.bt_arena.specs.Rows.{Finds};
 
-use bt_model::Row;
+use bt_model::{Row, World};
 use bt_script::{Name, NoMemory};
 use indexmap::IndexMap;
 use std::alloc::Global;
+use std::marker::Model;
+
+/// A world with the numbers of its rows by their IDs. Made once, it serves all arenas of that world. Contracts
+/// see the world.
+#[derive(Debug, Drop)]
+pub struct IndexedWorld<'a> {
+    world: &'a World,
+    rows: IndexMap<Name, u32>,
+}
+
+impl<'a> Model for IndexedWorld<'a> {
+    ghost use Rattle.std.specs.Str.{bytes_eq};
+    ghost use Rattle.indexmap.specs.IndexMap.{get};
+    ghost use Rattle.bt_model.specs.declared.world.World.{World as Whole};
+    ghost use Rattle.bt_arena.specs.Rows.{Finds};
+    ghost use Rattle.bt_script.specs.contracts.syntax.Expr as expr;
+    ghost use Rattle.std.specs.Coded.{codes};
+
+    ghost Value = { Whole };
+
+    ghost coded = { Prim.hlevel (codes, expr.the_row.coded) };
+
+    ghost view = { λ it. it.world.now };
+
+    ghost invariant = { λ it. Finds it.world.now.rows (get bytes_eq it.rows) };
+}
+
+impl<'a> IndexedWorld<'a> {
+    ghost use Rattle.std.specs.Prelude.{◌≡◌};
+    ghost use Rattle.std.specs.Str.{bytes_eq};
+    ghost use Rattle.indexmap.specs.IndexMap.{get};
+    ghost use Rattle.bt_arena.specs.Rows.{Finds};
+
+    /// Lends the world.
+    pub fn world(&self) -> &World
+        ensures { result.now ≡ self.now }
+    {
+        self.world
+    }
+
+    /// Lends the numbers of the rows.
+    pub(crate) fn numbers(&self) -> &IndexMap<Name, u32>
+        ensures { Finds self.now.rows (get bytes_eq result.now) }
+    {
+        &self.rows
+    }
+}
 
 /// Adds the number of a row at its ID, where no earlier row has that ID. The error is want of
 /// memory.
@@ -28,7 +76,7 @@ fn add_row(
 }
 
 /// The numbers of rows by their IDs, or want of memory. Of several rows of one ID the first counts.
-pub(crate) fn index_of(alloc: Global, rows: &[Row]) -> Result<IndexMap<Name, u32>, NoMemory>
+fn index_of(alloc: Global, rows: &[Row]) -> Result<IndexMap<Name, u32>, NoMemory>
     requires { length rows.now ≤ 1024 }
     ensures { IfOk result (λ index. Finds rows.now (get bytes_eq index)) }
 {
@@ -39,6 +87,15 @@ pub(crate) fn index_of(alloc: Global, rows: &[Row]) -> Result<IndexMap<Name, u32
         number += 1;
     }
     Ok(index)
+}
+
+/// A world, made ready for the arenas that are made for it. The error is want of memory.
+pub fn index_world(alloc: Global, world: &World) -> Result<IndexedWorld, NoMemory>
+    requires { IsValidWorld world.now }
+    ensures { IfOk result (λ indexed. indexed ≡ world.now) }
+{
+    let rows = index_of(alloc, world.rows.list())?;
+    Ok(IndexedWorld { world, rows })
 }
 
 /// The row of an ID; none where there is no such row.
