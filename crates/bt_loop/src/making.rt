@@ -16,7 +16,7 @@ use crate::boxed::Roster;
 use crate::counts::wanted;
 use crate::openings::opening_runs;
 use crate::runs::Runs;
-use bt_arena::JoinFault;
+use bt_arena::{IndexedWorld, JoinFault, index_world};
 use bt_board::Slots;
 use bt_driver::{Driver, Drivers};
 use bt_model::{Tree, World};
@@ -32,6 +32,44 @@ pub fn make_runs<D: Drivers>(
     tree: &Tree,
     slots: &Slots,
     world: &World,
+    drivers: &mut D,
+) -> Result<Runs, Stop<JoinFault>>
+    requires tree { IsRunnable tree.now }
+    requires slots { slots.now ≡ slot_table tree.now }
+    requires world { IsValidWorld world.now }
+    requires quiet { NothingHeld (D.states drivers.old) }
+    ensures fault { Joins result (first_missing world.now.rows (D.states drivers.old) (leaf_ids tree.now.term)) }
+    ensures runs { IfOk result (λ runs. AreRuns tree.now world.now (D.states drivers.new) runs) }
+    ensures opening { let after = D.states drivers.new in
+        IfOk result (λ runs. state_of_runs tree.now.term after runs ≡ opening tree.now world.now) }
+    ensures prepared { let before = D.states drivers.old in
+        let wanted = instances_wanted tree.now world.now before in
+        IfOk result (λ runs. D.states drivers.new ≡ roster_prepared before wanted) }
+    ensures calls { let places = serving_places tree.now world.now (D.states drivers.old) in
+        IfOk result (λ runs. (calls : List RunnerCall) (now : List DriverState) →
+        roster_over (arenas_of runs) calls now ≡ calls_made world.now.runners places calls now) }
+    ensures faulted { let before = D.states drivers.old in
+        (fault : Lack) → result ≡ Err (stop.Fault fault) → D.states drivers.new ≡ before }
+    ensures cut { let before = D.states drivers.old in
+        let wanted = instances_wanted tree.now world.now before in
+        OnErr result ((done : ℕ) × (D.states drivers.new ≡ roster_prepared before (take done wanted))) }
+    ensures none { NothingHeld (D.states drivers.new) }
+    ensures roster { IsSameRoster (D.states drivers.old) (D.states drivers.new) }
+    ensures totals { let before = D.states drivers.old in
+        (place : ℕ) → (driver_at (D.states drivers.new) place).totals ≡ (driver_at before place).totals }
+{
+    let world = index_world(alloc, world)?;
+    make_runs_in(alloc, tree, slots, &world, drivers)
+}
+
+/// As `make_runs`, in a world that is indexed already, so that many runs share the index. The fault is
+/// what is missing for the first leaf for which something is missing. Where there is want of
+/// memory, a prefix of the drivers may be prepared.
+pub fn make_runs_in<D: Drivers>(
+    alloc: Global,
+    tree: &Tree,
+    slots: &Slots,
+    world: &IndexedWorld,
     drivers: &mut D,
 ) -> Result<Runs, Stop<JoinFault>>
     requires tree { IsRunnable tree.now }

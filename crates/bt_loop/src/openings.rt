@@ -9,10 +9,10 @@ ghost use Rattle.bt_loop.specs.Runs.{boards_in};
 ghost use Rattle.bt_loop.specs.Telling.{boards_told};
 
 use crate::runs::{ReadyRunner, Runs, Told};
-use bt_arena::{JoinFault, arena_of};
+use bt_arena::{IndexedWorld, JoinFault, arena_of};
 use bt_board::{Slots, board_of};
 use bt_driver::{Drivers, FactTable, facts_of};
-use bt_model::{Tree, World};
+use bt_model::Tree;
 use bt_script::{NoMemory, Stop, Value};
 use std::alloc::Global;
 
@@ -66,7 +66,7 @@ fn runner_of<D: Drivers>(
     alloc: Global,
     tree: &Tree,
     slots: &Slots,
-    world: &World,
+    world: &IndexedWorld,
     drivers: &D,
     number: u8,
 ) -> Result<ReadyRunner, Stop<JoinFault>>
@@ -89,7 +89,7 @@ fn runners_of<D: Drivers>(
     alloc: Global,
     tree: &Tree,
     slots: &Slots,
-    world: &World,
+    world: &IndexedWorld,
     drivers: &D,
 ) -> Result<Vec<ReadyRunner>, Stop<JoinFault>>
     requires tree { IsRunnable tree.now }
@@ -100,7 +100,7 @@ fn runners_of<D: Drivers>(
     ensures runners { IfOk result (λ runners. AreOpening tree.now world.now (D.states drivers.now) runners.items) }
 {
     let mut runners = Vec::new(alloc);
-    for before in 0..world.runners {
+    for before in 0..world.world().runners {
         let runner = runner_of(alloc, tree, slots, world, drivers, before + 1)?;
         runners.push(runner)?;
     }
@@ -113,7 +113,7 @@ pub fn opening_runs<D: Drivers>(
     alloc: Global,
     tree: &Tree,
     slots: &Slots,
-    world: &World,
+    world: &IndexedWorld,
     drivers: &D,
 ) -> Result<Runs, Stop<JoinFault>>
     requires tree { IsRunnable tree.now }
@@ -123,7 +123,7 @@ pub fn opening_runs<D: Drivers>(
     ensures runs { IfOk result (AreOpeningRuns tree.now world.now (D.states drivers.now)) }
 {
     let runners = runners_of(alloc, tree, slots, world, drivers)?;
-    let facts = facts_of(alloc, world)?;
+    let facts = facts_of(alloc, world.world())?;
     let told = told_of(alloc, &facts, runners.as_slice())?;
     Ok(Runs {
         runners,
