@@ -5,6 +5,7 @@ pub mod Indexed
 pub mod NewNodes
 pub mod Places
 pub mod Regrown
+pub mod Rooted
 pub mod RowTexts
 pub mod Searched
 pub mod Split

@@ -53,6 +53,21 @@ module _ (s : Slab Node) (rows : List Row) (keys : List ℕ) (i : ℕ) (within :
         ∙ ap (λ (l : List Term). terms_of rows split.left ++ roll-Term (plain_node (kind_of split.part) (part_id rows split.part) (terms_of rows split.below)) ∷ l) (sym right)
         ∙ sym (terms-joined rows split.left (Tree (get_or keys i 0) split.part split.below split.right)) ∙ ap (terms_of rows) (sym split.is)
 
+module _ (s : Slab Node) (rows : List Row) (keys : List ℕ) (i : ℕ) (within : i < length keys) (levels : ℕ) (some : 1 ≤ levels) (items now : List Term) (term : Term) (node : Node)
+    (before : (parent : Option ℕ) (f : Forest) → Stands s parent (take i keys) f → height f ≤ levels → (take i items ≡ terms_of rows f) × (i ≤ length items))
+    (there : get s (get_or keys i 0) ≡ Some node)
+    (is_term : (key : ℕ) (below : Forest) → Stands s (Some key) node.children.items below → height below ≤ levels - 1 → term ≡ roll-Term (plain_node (kind_of node.part) (part_id rows node.part) (terms_of rows below)))
+    (now_is : i ≤ length items → take (i + 1) now ≡ take i items ++ term ∷ [])
+    (long : i ≤ length items → i + 1 ≤ length now)
+  where
+    -- the same where the terms stand at the front of others
+    pub next_renewed : (parent : Option ℕ) (f : Forest) → Stands s parent (take (i + 1) keys) f → height f ≤ levels → (take (i + 1) now ≡ terms_of rows f) × (i + 1 ≤ length now)
+    next_renewed parent f stands low =
+        let split = split_last s parent keys i f within stands in
+        let high = split_height s parent (take i keys) (get_or keys i 0) [] f split in
+        let left = before parent split.left split.stands_left (omega (arith, low, high)) in
+        (next_terms s rows keys i within levels some (take i items) (take (i + 1) now) term node (λ p g st lo. (before p g st lo).0) there is_term (now_is left.1) parent f stands low, long left.1)
+
 -- ---- Numbers
 
 module _ (s : Slab Node) (keys : List ℕ) (i : ℕ) (within : i < length keys) (levels number left : ℕ) (some : 1 ≤ levels)

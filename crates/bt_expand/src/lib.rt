@@ -9,6 +9,7 @@ mod node;
 mod numbers;
 mod plan_tree;
 mod planned;
+mod renewing;
 mod rule;
 
 pub use expanding::{ExpandFault, expand};
@@ -16,4 +17,5 @@ pub use node::{Node, Part};
 pub use numbers::{key_of, part_of, row_of};
 pub use plan_tree::{PlanTree, plan_tree_of};
 pub use planned::tree_of;
+pub use renewing::tree_from;
 pub use rule::Rule;

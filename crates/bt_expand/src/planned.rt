@@ -1,6 +1,6 @@
 //! The behavior tree of a plan tree.
 
-ghost use Rattle.std.specs.Prelude.{◌≡◌, ◌≤◌, ℕ, Option, Some, codes, IfOk};
+ghost use Rattle.std.specs.Prelude.{◌≡◌, ◌≤◌, ℕ, Option, Some, IfOk, IsUtf8};
 ghost use Rattle.bt_model.specs.declared.term.Guards.{Guards};
 ghost use Rattle.bt_model.specs.declared.term.Term.{roll-Term};
 ghost use Rattle.bt_model.specs.Terms.{scope_count};
@@ -33,7 +33,7 @@ fn no_guards() -> Guards
 }
 
 /// The kind of a node.
-fn kind_of(part: Part) -> Kind
+pub(crate) fn kind_of(part: Part) -> Kind
     ensures { result ≡ kind_of part }
 {
     match part {
@@ -43,36 +43,31 @@ fn kind_of(part: Part) -> Kind
     }
 }
 
-/// A name of these bytes.
-fn name_of(alloc: Global, text: &str) -> Result<Name, NoMemory>
-    ensures { IfOk result (λ name. name ≡ text.now) }
-{
-    Ok(Name::of(Vec::from_slice(alloc, text.as_bytes())?))
-}
-
-/// The ID of a row.
-fn id_of(alloc: Global, rows: &[Row], row: u32) -> Result<Name, NoMemory>
-    ensures { IfOk result (λ name. name ≡ id_of rows.now row) }
+/// Lends the ID of a row.
+fn id_of(rows: &[Row], row: u32) -> &[u8]
+    ensures id { result.now ≡ id_of rows.now row }
+    ensures utf8 { IsUtf8 result.now }
 {
     match rows.get(row as usize) {
-        Some(row) => row.id.copy(alloc),
-        None => name_of(alloc, ""),
+        Some(row) => row.id.list(),
+        None => b"",
     }
 }
 
-/// The ID of a node.
-fn part_id(alloc: Global, rows: &[Row], part: Part) -> Result<Name, NoMemory>
-    ensures { IfOk result (λ name. name ≡ part_id rows.now part) }
+/// Lends the ID of a node.
+pub(crate) fn part_id(rows: &[Row], part: Part) -> &[u8]
+    ensures id { result.now ≡ part_id rows.now part }
+    ensures utf8 { IsUtf8 result.now }
 {
     match part {
-        Part::Goals | Part::Sequence(_) => name_of(alloc, "ReactiveSequence"),
-        Part::Fallback => name_of(alloc, "ReactiveFallback"),
-        Part::Condition(row) | Part::Action(row) => id_of(alloc, rows, row),
+        Part::Goals | Part::Sequence(_) => b"ReactiveSequence",
+        Part::Fallback => b"ReactiveFallback",
+        Part::Condition(row) | Part::Action(row) => id_of(rows, row),
     }
 }
 
 /// A node with these children, which is named by its ID alone.
-fn plain_node(
+pub(crate) fn plain_node(
     alloc: Global,
     rows: &[Row],
     part: Part,
@@ -80,8 +75,8 @@ fn plain_node(
 ) -> Result<Term, NoMemory>
     ensures { IfOk result (λ term. term ≡ roll-Term (plain_node (kind_of part) (part_id rows.now part) children)) }
 {
-    let id = part_id(alloc, rows, part)?;
-    let name = part_id(alloc, rows, part)?;
+    let id = Name::copied(alloc, part_id(rows, part))?;
+    let name = id.copy(alloc)?;
     Ok(Term {
         kind: kind_of(part),
         id,
@@ -121,7 +116,7 @@ fn terms_of(
 
 /// The term of a node, with at most so many levels below it.
 #[cycle(walk)]
-fn term_of(
+pub(crate) fn term_of(
     alloc: Global,
     nodes: &Slab<Node>,
     rows: &[Row],
@@ -146,7 +141,7 @@ pub fn tree_of(alloc: Global, t: &PlanTree, world: &World) -> Result<Tree, NoMem
 {
     match t.nodes.get(t.root) {
         Some(root) => {
-            let main = name_of(alloc, "Plan")?;
+            let main = Name::copied(alloc, b"Plan")?;
             let term = term_of(alloc, &t.nodes, world.rows.list(), root, t.nodes.len())?;
             Ok(Tree { main, term })
         }
