@@ -18,6 +18,7 @@ pub mod Pairwise
 pub mod Planned
 pub mod Reaching
 pub mod Resting
+pub mod Rising
 pub mod Settlements
 pub mod Settles
 pub mod Spots

@@ -1,6 +1,6 @@
 //! The conditions that failed in a tick.
 
-ghost use Rattle.std.specs.Prelude.{◌≡◌, ◌<◌, ◌≤◌, ◌+◌, ◌==◌, ◌^◌, ◌++◌, ◌||◌, ℕ, Option, Some, false, length, max, IfOk, OnOk};
+ghost use Rattle.std.specs.Prelude.{◌≡◌, ◌<◌, ◌≤◌, ◌+◌, ◌==◌, ◌^◌, ◌++◌, ◌||◌, ℕ, Option, Some, false, length, max, IfOk, IsTrue, OnOk};
 ghost use Rattle.std.specs.List.{filter};
 ghost use Rattle.std.specs.Option.{option_map_or, option_to_list};
 ghost use Rattle.bt_model.specs.declared.world.World.{World};
@@ -165,10 +165,27 @@ fn add_level(places: &[Place], level: usize, ordered: &mut Vec<Place>) -> Result
     Ok(())
 }
 
+/// Whether the levels never fall: then conditions are in breadth-first order already.
+fn are_ordered(places: &[Place]) -> bool
+    ensures { IsTrue result → breadth_first places.now ≡ places.now }
+{
+    let mut level = 0;
+    for place in places {
+        if place.level < level {
+            return false;
+        }
+        level = place.level;
+    }
+    true
+}
+
 /// Conditions in breadth-first order, where they were in pre-order.
 fn breadth_first(alloc: Global, places: &[Place]) -> Result<Vec<Place>, NoMemory>
     ensures { IfOk result (λ ordered. ordered.items ≡ breadth_first places.now) }
 {
+    if are_ordered(places) {
+        return Ok(Vec::from_slice(alloc, places)?);
+    }
     let mut ordered = Vec::with_capacity(alloc, places.len())?;
     for level in 0..levels(places) {
         add_level(places, level, &mut ordered)?;

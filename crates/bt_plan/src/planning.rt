@@ -17,9 +17,10 @@ use crate::growing::grow;
 use crate::task::Task;
 use crate::trying::run_tree;
 use crate::verdict::Verdict;
+use bt_arena::index_world;
 use bt_driver::Drivers;
-use bt_expand::{PlanTree, plan_tree_of, tree_of};
-use bt_model::{RunFault, World};
+use bt_expand::{PlanTree, plan_tree_of, tree_from};
+use bt_model::{RunFault, Tree, World};
 use bt_script::{Items, NoMemory, Stop};
 use std::alloc::Global;
 
@@ -37,9 +38,9 @@ fn faulted(fault: &RunFault) -> End
 /// driver holds anything, whatever is answered.
 #[tactic(auto, using(bt_model::proofs::Runnable::runnable))]
 fn go_on<D: Drivers>(
-    alloc: Global,
     world: &World,
     task: &Task,
+    earlier: &mut Option<Tree>,
     t: &mut PlanTree,
     steps: &mut Vec<Step>,
     drivers: &mut D,
@@ -57,7 +58,8 @@ fn go_on<D: Drivers>(
     ensures none { NothingHeld (D.states drivers.new) }
     ensures roster { IsSameRoster (D.states drivers.old) (D.states drivers.new) }
 {
-    let tree = tree_of(alloc, t, world)?;
+    let alloc = task.alloc;
+    let tree = tree_from(alloc, t, world, earlier.take())?;
     let tried = match run_tree(alloc, &tree, task, drivers) {
         Ok(tried) => tried,
         Err(Stop::Fault(fault)) => {
@@ -70,14 +72,11 @@ fn go_on<D: Drivers>(
             tree,
             tick: tried.ticked.before + 1,
         })),
-        Verdict::Fails => grow(
-            alloc,
-            world,
-            &task.limits,
-            tried.block.notes.list(),
-            t,
-            steps,
-        ),
+        Verdict::Fails => {
+            *earlier = Some(tree);
+            let notes = tried.block.notes.list();
+            grow(alloc, world, &task.limits, notes, t, steps)
+        }
         Verdict::GoesOn => Ok(Some(End::StillRunning {
             ticks: task.limits.ticks,
         })),
@@ -87,7 +86,6 @@ fn go_on<D: Drivers>(
 /// Makes steps from the first tree on until the plan run ends. The error is want of memory. In the end
 /// no driver holds anything, whatever is answered.
 fn make_steps<D: Drivers>(
-    alloc: Global,
     world: &World,
     task: &Task,
     mut t: PlanTree,
@@ -103,9 +101,10 @@ fn make_steps<D: Drivers>(
     ensures none { NothingHeld (D.states drivers.new) }
     ensures roster { IsSameRoster (D.states drivers.old) (D.states drivers.new) }
 {
-    let mut steps = Vec::new(alloc);
+    let mut steps = Vec::new(task.alloc);
+    let mut earlier = None;
     for _ in 0..task.limits.expand + 1 {
-        if let Some(end) = go_on(alloc, world, task, &mut t, &mut steps, drivers)? {
+        if let Some(end) = go_on(world, task, &mut earlier, &mut t, &mut steps, drivers)? {
             return Ok(PlanEnd {
                 steps: Items::of(steps),
                 end,
@@ -139,11 +138,13 @@ pub fn plan<D: Drivers>(
     ensures none { NothingHeld (D.states drivers.new) }
     ensures roster { IsSameRoster (D.states drivers.old) (D.states drivers.new) }
 {
+    let modelled = modelled(alloc, world)?;
     let task = Task {
-        world: modelled(alloc, world)?,
+        alloc,
+        world: index_world(alloc, &modelled)?,
         goals: goal_tests(alloc, world)?,
         limits: *limits,
     };
     let t = plan_tree_of(alloc, world)?;
-    make_steps(alloc, world, &task, t, drivers)
+    make_steps(world, &task, t, drivers)
 }

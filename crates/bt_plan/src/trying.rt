@@ -16,7 +16,7 @@ use crate::ticking::{Ticked, make_ticks};
 use bt_arena::{Block, block_for};
 use bt_board::slots_of;
 use bt_driver::Drivers;
-use bt_loop::{Runs, leaves, make_runs, run_finish};
+use bt_loop::{Runs, leaves, make_runs_in, run_finish};
 use bt_model::{RunFault, Tree};
 use bt_script::{NoMemory, Stop};
 use std::alloc::Global;
@@ -53,7 +53,7 @@ fn begin<D: Drivers>(
     ensures totals { HaveSameTotals (D.states drivers.old) (D.states drivers.new) }
 {
     let slots = slots_of(alloc, tree)?;
-    match make_runs(alloc, tree, &slots, &task.world, drivers) {
+    match make_runs_in(alloc, tree, &slots, &task.world, drivers) {
         Ok(runs) => Ok(runs),
         Err(Stop::NoMemory) => Err(NoMemory),
         Err(Stop::Fault(_)) => unreachable!(),

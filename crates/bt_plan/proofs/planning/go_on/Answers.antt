@@ -8,8 +8,8 @@ use Rattle.bt_plan.proofs.Growths.{fails_alone, ok_gives}
 use Rattle.bt_plan.proofs.Trials.{decides, goes_cut, goes_fails, goes_faulted, goes_reached, goes_running, notes_are, runs_as, stopped_as}
 use Rattle.bt_plan.proofs.planning.go_on.Goals as goal
 
-pub tree_of-requires : goal.tree_of-requires
-tree_of-requires g c =
+pub tree_from-requires : goal.tree_from-requires
+tree_from-requires g c =
     let tree = c.requires.1.1.1.1.1.0 in
     let many = tree.2 in
     let few = c.requires.1.1.1.1.1.1 in
@@ -53,7 +53,7 @@ returns-in-Fails-clause-goes g c = λ f st.
     let ends = runs_as world g.of c.requires.1.0 limits tree _ _ (Ok c.in-Ok.tried) c.in-Ok.ensures.ends in
     goes_fails world limits f tree planned _ _ c.in-Ok.tried ends c.grow.new.t c.args.steps.now.items c.grow.new.steps.items c.grow.result
     (ok_gives c.grow.result
-    (λ end is. is (record { tree = f; before = c.in-Ok.tried.ticked.before }) st (decides world limits f tree planned _ _ c.in-Ok.tried ends _ c.in-Fails.is) (c.list.ensures ∙ notes_are world limits f tree planned _ _ c.in-Ok.tried ends) c.requires.1.1.1.1.1.1)
+    (λ end is. is (record { tree = f; before = c.in-Ok.tried.ticked.before }) st (decides world limits f tree planned _ _ c.in-Ok.tried ends _ c.in-Fails.is) (c.list-notes.ensures ∙ notes_are world limits f tree planned _ _ c.in-Ok.tried ends) c.requires.1.1.1.1.1.1)
     c.grow.ensures)
 
 pub returns-in-Fails-clause-alone : goal.returns-in-Fails-clause-alone
@@ -67,7 +67,7 @@ returns-in-Fails-clause-alone g c =
     let failed = decides world limits f.0 tree planned _ _ c.in-Ok.tried ends _ c.in-Fails.is in
     let trial : Trial = record { tree = f.0; before = c.in-Ok.tried.ticked.before } in
     ok_gives c.grow.result
-    (λ end is. fails_alone c.grow.new.t world limits _ trial _ _ end failed (is trial f.1 failed (c.list.ensures ∙ notes_are world limits f.0 tree planned _ _ c.in-Ok.tried ends) c.requires.1.1.1.1.1.1))
+    (λ end is. fails_alone c.grow.new.t world limits _ trial _ _ end failed (is trial f.1 failed (c.list-notes.ensures ∙ notes_are world limits f.0 tree planned _ _ c.in-Ok.tried ends) c.requires.1.1.1.1.1.1))
     c.grow.ensures
 
 pub returns-in-GoesOn-clause-goes : goal.returns-in-GoesOn-clause-goes

@@ -27,6 +27,9 @@ returns-in_err-end-clause-cut g c =
     let way = c.loop.invariant.way in
     on_err c.from_residual.result (plan_cut c.args.world.now c.args.task.now.limits c.loop.t c.loop.steps.items _ _ way c.go_on.new.t c.go_on.new.steps.items _ c.in_err-end.field-0.0 (c.in_err-end.ensures.goes way.tree way.stands))
 
+pub returns-in_err-end-clause-roster : goal.returns-in_err-end-clause-roster
+returns-in_err-end-clause-roster g c = roster_both _ _ _ c.loop.invariant.way.roster c.go_on.ensures.roster
+
 pub returns-in-Some-clause-plan : goal.returns-in-Some-clause-plan
 returns-in-Some-clause-plan g c =
     let way = c.loop.invariant.way in
