@@ -271,7 +271,7 @@ pub fn single_names(alloc: Global, attributes: &[(Name, Name)]) -> Result<bool, 
     if attributes.len() <= FEW_NAMES {
         return Ok(few_single_names(attributes));
     }
-    let mut names = IndexSet::new(alloc);
+    let mut names = IndexSet::with_capacity(alloc, attributes.len())?;
     for (name, _) in attributes {
         if !names.insert(name.list())? {
             return Ok(false);

@@ -9,7 +9,7 @@ use Rattle.bt_elements.proofs.scan.single_names.Goals as goal
 pub loop-name-init : goal.loop-name-init
 loop-name-init c = record {
   single = refl;
-  held = λ q. ap (list_any (λ (k : Bor (List ℕ)). bytes_eq q k.now)) c.new-names.ensures.empty;
+  held = λ q. ap (list_any (λ (k : Bor (List ℕ)). bytes_eq q k.now)) c.in_ok-names.ensures.empty;
 }
 
 pub returns-then-not-branch : goal.returns-then-not-branch
