@@ -21,7 +21,9 @@ pub struct Block {
 /// A block of no event yet, with reserved room for the notes of a run whose runners have this many
 /// leaves together. Each event sets its own header. The error is want of memory (out of memory).
 pub fn block_for(alloc: Global, leaves: u32) -> Result<Block, NoMemory>
-    ensures { IfOk result (λ block. block.notes ≡ record { list = []; reserve = leaves + 1; full = leaves + 1 }) }
+    ensures notes { IfOk result (λ block. block.notes ≡ record { list = []; reserve = leaves + 1; full = leaves + 1 }) }
+    ensures facts { IfOk result (λ block. block.facts.items ≡ []) }
+    ensures entries { IfOk result (λ block. block.entries.items ≡ []) }
 {
     Ok(Block {
         header: Header::Change {

@@ -1,4 +1,4 @@
-ghost use Rattle.std.specs.Prelude.{◌≡◌, ◌≤◌, IfOk};
+ghost use Rattle.std.specs.Prelude.{◌≡◌, ◌≤◌, [], max, IfOk};
 ghost use Rattle.bt_model.specs.Terms.{depth_of};
 
 use bt_model::{Memo, Term};
@@ -46,7 +46,8 @@ fn depth(term: &Term) -> usize
 /// want of memory.
 pub(crate) fn frames_for(alloc: Global, term: &Term) -> Result<SmallVec<Frame, 32>, NoMemory>
     requires { depth_of term.now ≤ 256 }
-    ensures { IfOk result (λ frames. depth_of term.now ≤ frames.capacity) }
+    ensures empty { IfOk result (λ frames. frames.items ≡ []) }
+    ensures room { IfOk result (λ frames. frames.capacity ≡ max 32 (depth_of term.now)) }
 {
     Ok(SmallVec::with_capacity(alloc, depth(term))?)
 }

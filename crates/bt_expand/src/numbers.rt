@@ -1,6 +1,6 @@
 //! The keys and rows of nodes.
 
-ghost use Rattle.std.specs.Prelude.{◌≡◌, ◌-◌, ◌≤◌, ℕ, Option, Some, slice_get, unwrap_or};
+ghost use Rattle.std.specs.Prelude.{◌≡◌, ◌-◌, ◌≤◌, ℕ, Option, Some, option_map, slice_get, unwrap_or};
 ghost use Rattle.std.specs.Option.{option_and_then};
 ghost use Rattle.slab.specs.Slab.{get};
 ghost use Rattle.bt_model.specs.declared.world.World.{World};
@@ -35,7 +35,8 @@ fn row_at(nodes: &Slab<Node>, key: usize) -> u32
 
 /// What the node of this key is, for a key that the plan tree has.
 pub fn part_of(t: &PlanTree, key: usize) -> Option<Part>
-    ensures { (world : World) (tree : Forest) → StandsFor t.now world tree → 1 ≤ times key tree → result ≡ part_at key tree }
+    ensures known { (world : World) (tree : Forest) → StandsFor t.now world tree → 1 ≤ times key tree → result ≡ part_at key tree }
+    ensures slab { result ≡ option_map (λ (node : Node). node.part) (get t.now.nodes key) }
 {
     match t.nodes.get(key) {
         Some(node) => Some(node.part),

@@ -119,7 +119,7 @@ module _ (tree : Tree) (world : World) (drivers : List DriverState) where
       };
       nodes = is.arena.size;
       nobody = nobody_first tree world drivers number r.arena is.arena;
-      deep = is.arena.room;
+      deep = omega (arith, is.arena.room);
     }
 
   -- ---- The runs

@@ -89,8 +89,9 @@ fn swap_neighbours(keys: &mut [usize], place: usize)
 /// Two children of a node change places.
 fn swap_children(nodes: &mut Slab<Node>, change: Move)
     requires { (node : Node) × (get nodes.old change.parent ≡ Some node) × (change.place + 1 < length node.children.items) }
-    ensures { (node : Node) → get nodes.old change.parent ≡ Some node →
+    ensures edited { (node : Node) → get nodes.old change.parent ≡ Some node →
         Edits nodes.old nodes.new change.parent node.parent (swapped change.place node.children.items) node }
+    ensures room { nodes.new.capacity ≡ nodes.old.capacity }
 {
     if let Some(node) = nodes.get_mut(change.parent) {
         swap_neighbours(&mut node.children, change.place);
@@ -104,6 +105,7 @@ pub fn raise(t: &mut PlanTree, added: usize) -> bool
     requires { (world : World) × (tree : Forest) × StandsFor t.old world tree × IsSequenceOf tree added }
     ensures raised { (world : World) (tree : Forest) → StandsFor t.old world tree → IsSequenceOf tree added →
         MatchBool result (Raises t.new world tree added) ((raised added tree ≡ None) × (t.new ≡ t.old)) }
+    ensures room { t.new.nodes.capacity ≡ t.old.nodes.capacity }
 {
     match find_move(&t.nodes, added, t.nodes.len()) {
         Some(change) => {

@@ -1,5 +1,6 @@
-use Rattle.std.proofs.Common.{replicate, refl, ap, ◌∙◌, arith}
-use Rattle.bt_arena.specs.Nodes.{at_rest}
+use Rattle.std.proofs.Common.{List, replicate, refl, ap, ◌∙◌, arith}
+use Rattle.bt_arena.specs.declared.nodes.Node.{Node}
+use Rattle.bt_arena.specs.Nodes.{at_rest, node_at}
 use Rattle.bt_arena.proofs.Making.{next_places, tree_numbered, tree_served, tree_size, tree_stands_there}
 use Rattle.bt_arena.proofs.Standing.{can_be_laid}
 use Rattle.bt_arena.proofs.joining.arena_with.Goals as goal
@@ -25,9 +26,11 @@ returns g c =
     record {
       runner = refl;
       stands = tree_stands_there tree world drivers c.args.runner c.args.counts.now next c.requires.counts are_next nodes c.nodes_of.new.next laid;
+      nobody = ap (λ (ns : List Node). node_at ns 0) laid.is;
       size = size;
       kept = c.in_ok-kept.ensures ∙ ap (λ n. replicate n at_rest) (omega (arith, c.len.ensures, c.in_ok-nodes.nodes.ok.0, size));
       numbered = tree_numbered tree world drivers c.args.runner c.args.counts.now next c.requires.counts are_next nodes c.nodes_of.new.next laid;
       serves = tree_served tree world drivers c.args.runner c.args.counts.now next c.requires.counts are_next nodes c.nodes_of.new.next laid;
-      room = c.in_ok-frames.ensures;
+      no_visits = c.in_ok-frames.ensures.empty;
+      room = c.in_ok-frames.ensures.room;
     }

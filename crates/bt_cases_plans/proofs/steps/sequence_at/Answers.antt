@@ -5,5 +5,5 @@ use Rattle.bt_cases_plans.proofs.steps.sequence_at.Goals as goal
 pub returns-in-Some-Sequence : goal.returns-in-Some-Sequence
 returns-in-Some-Sequence c =
     let has = c.in_ok-key.ensures in
-    let part = c.in-Some-Sequence.ensures c.args.world.now has.0 has.1 has.2 in
+    let part = c.in-Some-Sequence.ensures.known c.args.world.now has.0 has.1 has.2 in
     (has.0, has.1, (c.in-Some-Sequence.field-0-0, sym part ∙ ap (λ (p : Part). Some p) c.in-Some-Sequence.field-0-is))

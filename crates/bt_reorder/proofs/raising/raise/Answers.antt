@@ -12,6 +12,7 @@ returns-in-None c = record {
       let wide = height-le_size tree in
       let whole = st.whole in
       (no_raise world c.args.t.now tree st c.args.added is (c.in-None.ensures c.args.t.now.root tree place.0 st.nodes st.apart place.1 (omega (arith, high, wide, whole, c.len.ensures))), refl);
+  room = refl;
 }
 
 pub swap_children-requires : goal.swap_children-requires
@@ -38,5 +39,6 @@ returns-in-Some c = record {
       raises world c.args.t.now tree st c.args.added is c.in-Some.change
       (chosen world c.args.t.now tree st c.args.added is c.in-Some.change
       (c.in-Some.ensures c.args.t.now.root tree place.0 st.nodes st.apart place.1 (omega (arith, high, wide, whole, c.len.ensures))))
-      c.swap_children.new.nodes c.swap_children.ensures;
+      c.swap_children.new.nodes c.swap_children.ensures.edited;
+  room = c.swap_children.ensures.room;
 }
