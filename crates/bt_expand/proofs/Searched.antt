@@ -1,8 +1,10 @@
 -- The first item of a list that passes a test.
-use Rattle.std.proofs.Common.{◌≡◌, ℕ, suc, ◌+◌, ◌<◌, ◌≤◌, Bool, true, false, cond, ◌&&◌, List, [], ◌∷◌, ◌++◌, length, drop, get_or, Some, None, refl, ap, sym, ◌∙◌, add-one, drop-cons, append-nil, append_assoc}
+use Rattle.std.proofs.Common.{◌≡◌, ℕ, suc, ◌+◌, ◌<◌, ◌≤◌, Bool, true, false, cond, ◌&&◌, List, [], ◌∷◌, ◌++◌, length, drop, get_or, Option, Some, None, refl, ap, sym, ◌∙◌, add-one, drop-cons, append-nil, append_assoc}
 use Rattle.std.specs.Prelude.{slice_get}
-use Rattle.std.specs.List.{filter, find}
+use Rattle.std.specs.List.{filter, find, list_any}
+use Rattle.std.specs.Option.{option_map_or}
 use Rattle.std.proofs.lemmas.List.{drop_all}
+use Rattle.std.proofs.lemmas.Map.Keys.{any_passes_from_place}
 
 module _ {X : Type 0} (test : X → Bool) where
   module _ (xs : List X) (i : ℕ) (d : X) (within : i < length xs) where
@@ -73,3 +75,12 @@ none_first (x ∷ xs) none = absurd (cc none)
 
 pub first_none : {X : Type 0} (xs : List X) → xs ≡ [] → slice_get xs 0 ≡ None
 first_none xs is = ap (λ l. slice_get l 0) is
+
+-- a list has an item that passes where the one at some place does
+module _ {X : Type 0} (test : X → Bool) (xs : List X) (i : ℕ) where
+  any_of : (item : Option X) → slice_get xs i ≡ item → option_map_or test item false ≡ true → list_any test xs ≡ true
+  any_of None at passes = absurd (cc (passes))
+  any_of (Some x) at passes = any_passes_from_place test xs i x at passes
+
+  pub any_at : option_map_or test (slice_get xs i) false ≡ true → list_any test xs ≡ true
+  any_at = any_of (slice_get xs i) refl

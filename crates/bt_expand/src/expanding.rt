@@ -1,8 +1,8 @@
 //! The expansion of a condition.
 
-ghost use Rattle.std.specs.Prelude.{◌≡◌, ◌↔◌, Some, Err, [], OnErr, IfOk, MatchOption};
+ghost use Rattle.std.specs.Prelude.{◌≡◌, ◌↔◌, Some, Err, [], false, OnErr, IfOk, MatchOption, slice_get};
 ghost use Rattle.std.specs.List.{find, list_any};
-ghost use Rattle.std.specs.Option.{option_and_then};
+ghost use Rattle.std.specs.Option.{option_and_then, option_map_or};
 ghost use Rattle.slab.specs.Slab.{get};
 ghost use Rattle.bt_script.specs.declared.stop.Stop.TheVariants.{Fault};
 ghost use Rattle.bt_model.specs.declared.world.World.{World};
@@ -107,12 +107,26 @@ fn is_new(nodes: &Slab<Node>, tried: &[usize], template: Template) -> bool
     !is_among(nodes, tried, template.row)
 }
 
-/// The first of some templates that has no sequence among the tried ones.
+/// Whether the key at this place is that of the sequence of this row.
+fn is_sequence_at(nodes: &Slab<Node>, keys: &[usize], place: usize, row: u32) -> bool
+    ensures { result ≡ option_map_or (names_sequence nodes.now row) (slice_get keys.now place) false }
+{
+    match keys.get(place) {
+        Some(key) => names_sequence(nodes, row, *key),
+        None => false,
+    }
+}
+
+/// The first of some templates that has no sequence among the tried ones. These stand behind their
+/// condition in the order of the templates, so that the next of them is mostly the template's own.
 fn first_new(nodes: &Slab<Node>, tried: &[usize], achievers: &[Template]) -> Option<Template>
     ensures { result ≡ find (is_new nodes.now tried.now) achievers.now }
 {
+    let mut next = 1;
     for template in achievers {
-        if is_new(nodes, tried, *template) {
+        if is_sequence_at(nodes, tried, next, template.row) {
+            next += 1;
+        } else if is_new(nodes, tried, *template) {
             return Some(*template);
         }
     }
