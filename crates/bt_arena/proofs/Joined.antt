@@ -1,4 +1,4 @@
--- A leaf for which nothing is missing has a row of the world, which can be made ready, and a place of a driver.
+-- The rows of a world can be made ready, and a leaf for which nothing is missing has a place of a driver.
 use Rattle.std.proofs.Common.{◌≡◌, ℕ, ◌+◌, ◌<◌, List, [], ◌∷◌, Bool, true, false, cond, if◌then◌else◌, Option, Some, None, length, subst, arith}
 use Rattle.std.specs.Prelude.{IfSome, find}
 use Rattle.std.specs.List.{All}
@@ -38,20 +38,10 @@ place_below (d ∷ ds) kind = let e : 1 + length ds ≡ length (d ∷ ds) = omeg
 pub place_within : (ds : List DriverState) (kind : DriverKind) (place : ℕ) → place_of_kind ds kind ≡ Some place → place < length ds
 place_within ds kind place is = subst (IsBelow (length ds)) is (place_below ds kind)
 
--- what is found among items of which something holds has it too
-found_holds : {X : Type 0} (P : X → Type 0) (p : X → Bool) (xs : List X) (x : X) → All P xs → find p xs ≡ Some x → P x
-found_holds P p [] x all is = absurd (cc)
-found_holds P p (y ∷ ys) x all is =
-    elim (p y) as (λ b. cond b (Some y) (find p ys) ≡ Some x → P x) [
-      | true ↦ λ here. subst (λ o. IfSome o P) here (All-head P y ys all)
-      | false ↦ λ later. found_holds P p ys x (All-tail P y ys all) later
-    ] is
-
--- the row of an ID can be made ready
-pub row_ready : (world : World) (id : List ℕ) (row : Row) → IsValidWorld world → row_of world.rows id ≡ Some row → CanBeReady world.facts row
-row_ready world id row valid is =
-    can_be_ready world.facts world.rows row (omega (arith, valid.facts.few, length-map world.facts (λ (f : Fact). f.name)))
-    (found_holds (IsValidRow world.facts world.rows) (λ (row : Row). bytes_eq row.id id) world.rows row valid.rows is)
+-- the rows of a world can be made ready
+pub rows_ready : (world : World) → IsValidWorld world → All (CanBeReady world.facts) world.rows
+rows_ready world valid k row within =
+    can_be_ready world.facts world.rows _ (omega (arith, valid.facts.few, length-map world.facts (λ (f : Fact). f.name))) (valid.rows k row within)
 
 -- the place of the driver that serves a row is less than the number of drivers
 pub place_by_within : (found : Option Row) (ds : List DriverState) (place : ℕ) → place_by found ds ≡ Some place → place < length ds

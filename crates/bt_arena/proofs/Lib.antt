@@ -14,6 +14,7 @@ pub mod Numbered
 pub mod Opened
 pub mod Parts
 pub mod Prepared
+pub mod Readied
 pub mod Staged
 pub mod Standing
 pub mod Static

@@ -1,6 +1,4 @@
 ghost use Rattle.std.specs.Prelude.{◌≡◌, ◌<◌, ◌≤◌, ◌+◌, ◌-◌, ◌*◌, ◌++◌, ℕ, Some, None, IfOk, OnOk, length, map, replicate};
-ghost use Rattle.std.specs.Str.{bytes_eq};
-ghost use Rattle.indexmap.specs.IndexMap.{get};
 ghost use Rattle.bt_model.specs.declared.term.Term.{out-Term};
 ghost use Rattle.bt_model.specs.Boards.{slot_table};
 ghost use Rattle.bt_model.specs.Leaves.{row_of};
@@ -11,7 +9,6 @@ ghost use Rattle.bt_arena.specs.Joins.{Joins, first_missing, ids_lent, leaf_lack
 ghost use Rattle.bt_arena.specs.Laying.{counted_all};
 ghost use Rattle.bt_arena.specs.Nodes.{at_rest as rested};
 ghost use Rattle.bt_arena.specs.Made.{IsArenaOf};
-ghost use Rattle.bt_arena.specs.Rows.{Finds};
 
 use crate::arena::Arena;
 use crate::frame::frames_for;
@@ -20,12 +17,11 @@ use crate::laying::nodes_of;
 use crate::leaves::next_instance;
 use crate::nodes::Kept;
 use crate::resolving::Setting;
-use crate::rows::{IndexedWorld, row_named};
+use crate::rows::IndexedWorld;
 use bt_board::Slots;
 use bt_driver::{Drivers, kind_of};
-use bt_model::{Kind, Memo, Status, Term, Tree, World};
+use bt_model::{Kind, Memo, Status, Term, Tree};
 use bt_script::{Name, NoMemory, Stop};
-use indexmap::IndexMap;
 use std::alloc::Global;
 
 /// Adds the ID of a node that is a leaf. The error is want of memory.
@@ -57,17 +53,15 @@ fn add_ids<'a>(term: &'a Term, ids: &mut Vec<&'a Name>) -> Result<(), NoMemory>
 fn place_of<D: Drivers>(
     alloc: Global,
     id: &Name,
-    world: &World,
-    rows: &IndexMap<Name, u32>,
+    world: &IndexedWorld,
     drivers: &D,
 ) -> Result<usize, Stop<JoinFault>>
-    requires { Finds world.now.rows (get bytes_eq rows.now) }
     ensures fault { Joins result (leaf_lacks world.now.rows (D.states drivers.now) id.now) }
     ensures place { IfOk result (λ place. place_by (row_of world.now.rows id.now) (D.states drivers.now) ≡ Some place) }
 {
-    match row_named(world.rows.list(), rows, id) {
-        Some(row) => {
-            let kind = kind_of(row);
+    match world.find(id) {
+        Some(found) => {
+            let kind = kind_of(found.row);
             match drivers.place_of(kind) {
                 Some(place) => Ok(place),
                 None => Err(Stop::Fault(JoinFault::NoDriver { kind })),
@@ -85,18 +79,16 @@ fn place_of<D: Drivers>(
 fn counts_of<D: Drivers>(
     alloc: Global,
     ids: &[&Name],
-    world: &World,
-    rows: &IndexMap<Name, u32>,
+    world: &IndexedWorld,
     drivers: &D,
 ) -> Result<Vec<u32>, Stop<JoinFault>>
-    requires { Finds world.now.rows (get bytes_eq rows.now) }
     ensures fault { Joins result (first_missing world.now.rows (D.states drivers.now) (ids_lent ids.now)) }
     ensures counts { IfOk result (λ counts.
         counts.items ≡ counted_all world.now (D.states drivers.now) (ids_lent ids.now) (replicate (length (D.states drivers.now)) 0)) }
 {
     let mut counts = vec![in alloc; 0u32; drivers.count()]?;
     for id in ids {
-        let place = place_of(alloc, *id, world, rows, drivers)?;
+        let place = place_of(alloc, *id, world, drivers)?;
         next_instance(&mut counts, place)?;
     }
     Ok(counts)
@@ -136,18 +128,16 @@ fn at_rest(alloc: Global, count: usize) -> Result<Vec<Kept>, NoMemory>
 fn totals_of<D: Drivers>(
     alloc: Global,
     term: &Term,
-    world: &World,
-    rows: &IndexMap<Name, u32>,
+    world: &IndexedWorld,
     drivers: &D,
 ) -> Result<Vec<u32>, Stop<JoinFault>>
-    requires { Finds world.now.rows (get bytes_eq rows.now) }
     ensures fault { Joins result (first_missing world.now.rows (D.states drivers.now) (leaf_ids term.now)) }
     ensures counts { IfOk result (λ counts.
         counts.items ≡ counted_all world.now (D.states drivers.now) (leaf_ids term.now) (replicate (length (D.states drivers.now)) 0)) }
 {
     let mut ids = Vec::new(alloc);
     add_ids(term, &mut ids)?;
-    counts_of(alloc, ids.as_slice(), world, rows, drivers)
+    counts_of(alloc, ids.as_slice(), world, drivers)
 }
 
 /// The arena of a runner, where `counts` says how many leaves of the tree each driver serves. The
@@ -160,7 +150,6 @@ fn arena_with<D: Drivers>(
 ) -> Result<Arena, NoMemory>
     requires tree { IsRunnable setting.now.tree.now }
     requires world { IsValidWorld setting.now.world.now }
-    requires found { Finds setting.now.world.now.rows (get bytes_eq setting.now.rows.now) }
     requires joined { first_missing setting.now.world.now.rows (D.states drivers.now) (leaf_ids setting.now.tree.now.term) ≡ None }
     requires counts { counts.now ≡
         counted_all setting.now.world.now (D.states drivers.now) (leaf_ids setting.now.tree.now.term)
@@ -201,15 +190,12 @@ pub fn arena_of<D: Drivers>(
     ensures fault { Joins result (first_missing world.now.rows (D.states drivers.now) (leaf_ids tree.now.term)) }
     ensures arena { IfOk result (λ arena. IsArenaOf tree.now world.now (D.states drivers.now) runner arena) }
 {
-    let rows = world.numbers();
-    let world = world.world();
-    let counts = totals_of(alloc, &tree.term, world, rows, drivers)?;
+    let counts = totals_of(alloc, &tree.term, world, drivers)?;
     let setting = Setting {
         alloc,
         tree,
         slots,
         world,
-        rows,
     };
     Ok(arena_with(&setting, drivers, counts.as_slice(), runner)?)
 }

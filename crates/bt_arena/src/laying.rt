@@ -1,16 +1,12 @@
 ghost use Rattle.std.specs.Prelude.{◌≡◌, ◌∷◌, ◌<◌, ◌-◌, ◌^◌, [], length, slice_set, None, IfOk, OnOk};
-ghost use Rattle.std.specs.Str.{bytes_eq};
-ghost use Rattle.indexmap.specs.IndexMap.{get};
 ghost use Rattle.bt_model.specs.declared.term.Term.{out-Term};
 ghost use Rattle.bt_model.specs.Boards.{children_scope_number};
-ghost use Rattle.bt_model.specs.Terms.{own_leaf_id};
+ghost use Rattle.bt_model.specs.Terms.{node_count, own_leaf_id};
 ghost use Rattle.bt_model.specs.Trees.{GuardsFit, ScriptFits};
-ghost use Rattle.bt_model.specs.Worlds.{IsValidWorld};
 ghost use Rattle.bt_arena.specs.Joins.{first_missing};
 ghost use Rattle.bt_arena.specs.Laying.{AreLaid, CanBeLaid, IsAdded, IsBareNode, IsFilled};
 ghost use Rattle.bt_arena.specs.Nodes.{IsFit, node_at, nobody as no_node};
 ghost use Rattle.bt_arena.specs.Resolving.{AreNamed, GuardsAreNamed, names_if_there, port_keys, view_in};
-ghost use Rattle.bt_arena.specs.Rows.{Finds};
 ghost use Rattle.bt_arena.specs.Stands.{uids_of, written};
 
 use crate::leaves::leaf_of;
@@ -87,8 +83,6 @@ fn fill<D: Drivers>(
     requires ports { AreNamed setting.now.tree.now scope (port_keys (out-Term term.now).ports) }
     requires joined { first_missing setting.now.world.now.rows (D.states drivers.now)
         (own_leaf_id (out-Term term.now).kind (out-Term term.now).id) ≡ None }
-    requires world { IsValidWorld setting.now.world.now }
-    requires found { Finds setting.now.world.now.rows (get bytes_eq setting.now.rows.now) }
     requires places { length next.old ≡ length (D.states drivers.now) }
     ensures { OnOk result (
         IsFilled (D.states drivers.now) (view_in setting.now.tree.now setting.now.world.now scope) (written (out-Term term.now))
@@ -118,8 +112,6 @@ fn add_node<D: Drivers>(
     requires ports { AreNamed setting.now.tree.now scope (port_keys (out-Term term.now).ports) }
     requires joined { first_missing setting.now.world.now.rows (D.states drivers.now)
         (own_leaf_id (out-Term term.now).kind (out-Term term.now).id) ≡ None }
-    requires world { IsValidWorld setting.now.world.now }
-    requires found { Finds setting.now.world.now.rows (get bytes_eq setting.now.rows.now) }
     requires places { length next.old ≡ length (D.states drivers.now) }
     ensures { OnOk result (
         IsAdded (D.states drivers.now) (view_in setting.now.tree.now setting.now.world.now scope) (written (out-Term term.now))
@@ -165,8 +157,6 @@ fn lay_term<D: Drivers>(
 ) -> Result<(), NoMemory>
     requires can { CanBeLaid setting.now.tree.now setting.now.world.now (D.states drivers.now)
         (term.now ∷ []) (length nodes.old.items) scope }
-    requires world { IsValidWorld setting.now.world.now }
-    requires found { Finds setting.now.world.now.rows (get bytes_eq setting.now.rows.now) }
     requires places { length next.old ≡ length (D.states drivers.now) }
     ensures laid { OnOk result (
         AreLaid setting.now.tree.now setting.now.world.now (D.states drivers.now) (term.now ∷ []) scope
@@ -191,20 +181,30 @@ fn lay_terms<D: Drivers>(
     nodes: &mut Vec<Node>,
 ) -> Result<Vec<u32>, NoMemory>
     requires can { CanBeLaid setting.now.tree.now setting.now.world.now (D.states drivers.now) terms.now (length nodes.old.items) scope }
-    requires world { IsValidWorld setting.now.world.now }
-    requires found { Finds setting.now.world.now.rows (get bytes_eq setting.now.rows.now) }
     requires places { length next.old ≡ length (D.states drivers.now) }
     ensures laid { OnOk result (
         AreLaid setting.now.tree.now setting.now.world.now (D.states drivers.now) terms.now scope
         nodes.old.items nodes.new.items next.old next.new) }
     ensures uids { IfOk result (λ uids. uids.items ≡ uids_of terms.now (length nodes.old.items)) }
 {
-    let mut uids = Vec::new(setting.alloc);
+    let mut uids = Vec::with_capacity(setting.alloc, terms.len())?;
     for term in terms {
         uids.push(narrow(nodes.len())?)?;
         lay_term(term, setting, scope, drivers, next, nodes)?;
     }
     Ok(uids)
+}
+
+/// The number of nodes of a term.
+pub fn nodes_in(term: &Term) -> u32
+    requires { node_count term.now < 2 ^ 32 }
+    ensures { result ≡ node_count term.now }
+{
+    let mut count = 1;
+    for child in term.children.list() {
+        count += nodes_in(child);
+    }
+    count
 }
 
 /// The nodes of a tree by uid, or want of memory.
@@ -214,14 +214,14 @@ pub(crate) fn nodes_of<D: Drivers>(
     next: &mut [u32],
 ) -> Result<Vec<Node>, NoMemory>
     requires can { CanBeLaid setting.now.tree.now setting.now.world.now (D.states drivers.now) (setting.now.tree.now.term ∷ []) 1 0 }
-    requires world { IsValidWorld setting.now.world.now }
-    requires found { Finds setting.now.world.now.rows (get bytes_eq setting.now.rows.now) }
+    requires few { node_count setting.now.tree.now.term < 2 ^ 32 }
     requires places { length next.old ≡ length (D.states drivers.now) }
     ensures laid { IfOk result (λ nodes.
         AreLaid setting.now.tree.now setting.now.world.now (D.states drivers.now)
         (setting.now.tree.now.term ∷ []) 0 (no_node ∷ []) nodes.items next.old next.new) }
 {
-    let mut nodes = Vec::new(setting.alloc);
+    let count = nodes_in(&setting.tree.term) as usize + 1;
+    let mut nodes = Vec::with_capacity(setting.alloc, count)?;
     nodes.push(bare_node(
         setting.alloc,
         Kind::AlwaysSuccess,

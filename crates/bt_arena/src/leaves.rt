@@ -1,25 +1,21 @@
 ghost use Rattle.std.specs.Prelude.{◌≡◌, ◌+◌, ◌<◌, length, slice_index_or, slice_set, None, IfOk};
-ghost use Rattle.std.specs.Str.{bytes_eq};
-ghost use Rattle.indexmap.specs.IndexMap.{get};
 ghost use Rattle.bt_model.specs.declared.term.Term.{out-Term};
 ghost use Rattle.bt_model.specs.Drivers.{kind_of_row, kind_of_way};
 ghost use Rattle.bt_model.specs.Terms.{own_leaf_id};
-ghost use Rattle.bt_model.specs.Worlds.{IsValidWorld};
-ghost use Rattle.bt_driver.specs.Places.{CanBeReady};
 ghost use Rattle.bt_driver.specs.Rules.{rule};
 ghost use Rattle.bt_arena.specs.Joins.{first_missing};
 ghost use Rattle.bt_arena.specs.Laying.{IsNext, LeafIs, driver_of};
 ghost use Rattle.bt_arena.specs.Nodes.{IsLeafOf};
 ghost use Rattle.bt_arena.specs.Resolving.{AreNamed, port_keys, view_in};
-ghost use Rattle.bt_arena.specs.Rows.{Finds, counted_at};
+ghost use Rattle.bt_arena.specs.Rows.{IsReadyRow, counted_at};
 ghost use Rattle.bt_arena.specs.Stands.{written};
 
 use crate::nodes::ReadyLeaf;
 use crate::ports::{input_sources, output_sources};
 use crate::resolving::Setting;
-use crate::rows::row_named;
-use bt_driver::{Drivers, kind_of, ready};
-use bt_model::{Kind, Port, Row, Term};
+use crate::rows::FoundRow;
+use bt_driver::{Drivers, kind_of};
+use bt_model::{Kind, Port, Term};
 use bt_script::{Items, NoMemory};
 
 /// Takes the next instance of the driver at this place. From 2^32 leaves on it is want of memory.
@@ -41,23 +37,23 @@ pub(crate) fn next_instance(next: &mut [u32], place: usize) -> Result<u32, NoMem
 /// A leaf with these ports that follows a row, with its driver and its instance, or want of memory.
 fn leaf_with(
     ports: &[Port],
-    row: &Row,
+    found: FoundRow,
     driver: usize,
     instance: u32,
     setting: &Setting,
     scope: u32,
 ) -> Result<ReadyLeaf, NoMemory>
     requires named { AreNamed setting.now.tree.now scope (port_keys ports.now) }
-    requires ready { CanBeReady setting.now.world.now.facts row.now }
-    ensures of_row { IfOk result (λ leaf. IsLeafOf (view_in setting.now.tree.now setting.now.world.now scope) ports.now leaf row.now) }
-    ensures kind { IfOk result (λ leaf. kind_of_way (rule leaf.row).way ≡ kind_of_row row.now) }
+    requires ready { IsReadyRow setting.now.world.now.facts found.row.now found.ready.now }
+    ensures of_row { IfOk result (λ leaf. IsLeafOf (view_in setting.now.tree.now setting.now.world.now scope) ports.now leaf found.entry.row.now) }
+    ensures kind { IfOk result (λ leaf. kind_of_way (rule leaf.row).way ≡ kind_of_row found.entry.row.now) }
     ensures driver { IfOk result (λ leaf. leaf.driver ≡ driver) }
     ensures instance { IfOk result (λ leaf. leaf.instance ≡ instance) }
 {
-    let inputs = input_sources(row.ports.list(), ports, setting, scope)?;
-    let outputs = output_sources(row.outs.list(), ports, setting, scope)?;
+    let inputs = input_sources(found.row.ports.list(), ports, setting, scope)?;
+    let outputs = output_sources(found.row.outs.list(), ports, setting, scope)?;
     Ok(ReadyLeaf {
-        row: ready(setting.alloc, row, setting.world.facts.list())?,
+        row: found.ready.share()?,
         driver,
         instance,
         inputs: Items::of(inputs),
@@ -78,8 +74,6 @@ pub(crate) fn leaf_of<D: Drivers>(
     requires named { AreNamed setting.now.tree.now scope (port_keys (out-Term node.now).ports) }
     requires joined { first_missing setting.now.world.now.rows (D.states drivers.now)
         (own_leaf_id (out-Term node.now).kind (out-Term node.now).id) ≡ None }
-    requires world { IsValidWorld setting.now.world.now }
-    requires found { Finds setting.now.world.now.rows (get bytes_eq setting.now.rows.now) }
     requires places { length next.old ≡ length (D.states drivers.now) }
     ensures stands { IfOk result (λ leaf.
         LeafIs (view_in setting.now.tree.now setting.now.world.now scope) (written (out-Term node.now)) leaf) }
@@ -87,12 +81,12 @@ pub(crate) fn leaf_of<D: Drivers>(
     ensures next { IfOk result (λ leaf. next.new ≡ counted_at (driver_of leaf) next.old) }
 {
     match node.kind {
-        Kind::Leaf => match row_named(setting.world.rows.list(), setting.rows, &node.id) {
-            Some(row) => match drivers.place_of(kind_of(row)) {
+        Kind::Leaf => match setting.world.find(&node.id) {
+            Some(found) => match drivers.place_of(kind_of(found.row)) {
                 Some(driver) => {
                     let instance = next_instance(next, driver)?;
                     let ports = node.ports.list();
-                    Ok(Some(leaf_with(ports, row, driver, instance, setting, scope)?))
+                    Ok(Some(leaf_with(ports, found, driver, instance, setting, scope)?))
                 }
                 None => unreachable!(),
             },

@@ -1,7 +1,7 @@
 use crate::source::Source;
 use bt_driver::ReadyRow;
 use bt_model::{Kind, Memo, Status};
-use bt_script::Items;
+use bt_script::{Items, Shared};
 use bt_script_code::Code;
 
 /// The pre- and postconditions of a node, compiled for the scope in which it stands.
@@ -25,7 +25,8 @@ pub struct ReadyGuards {
 /// What a leaf with a driver has in addition to its node.
 #[derive(Debug, Drop)]
 pub struct ReadyLeaf {
-    pub row: ReadyRow,
+    /// What is ready of its row, which leaves of one row share.
+    pub row: Shared<ReadyRow>,
     /// The place of its driver in the roster.
     pub driver: usize,
     /// The number of its instance there.

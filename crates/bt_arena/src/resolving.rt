@@ -8,23 +8,22 @@ ghost use Rattle.bt_arena.specs.Resolving.{AreNamed, GuardsAreNamed, named_slot,
 ghost use Rattle.bt_arena.specs.Sources.{IsSourceOf, source_at as source_in};
 
 use crate::nodes::ReadyGuards;
+use crate::rows::IndexedWorld;
 use crate::source::Source;
 use bt_board::{Slots, slot};
-use bt_model::{Guards, Port, PortValue, Tree, World};
+use bt_model::{Guards, Port, PortValue, Tree};
 use bt_script::{Expr, Name, NoMemory, Script, Shared, Stmt};
 use bt_script_code::{Code, compile};
-use indexmap::IndexMap;
 use std::alloc::Global;
 
 /// What stays the same while a tree is laid out: where memory comes from, the tree with its slots, and
-/// a world with the numbers of its rows by their IDs.
+/// a world whose rows are ready.
 #[derive(Drop)]
 pub(crate) struct Setting<'a> {
     pub(crate) alloc: Global,
     pub(crate) tree: &'a Tree,
     pub(crate) slots: &'a Slots,
-    pub(crate) world: &'a World,
-    pub(crate) rows: &'a IndexMap<Name, u32>,
+    pub(crate) world: &'a IndexedWorld<'a>,
     pub(crate) ghost table: { slots.now ≡ slot_table tree.now },
 }
 

@@ -1,30 +1,47 @@
-ghost use Rattle.std.specs.Prelude.{◌≡◌, ◌≤◌, ℕ, List, if◌then◌else◌, length, Some, None, IfOk, OnOk};
+ghost use Rattle.std.specs.Prelude.{◌≡◌, ◌≤◌, ℕ, List, if◌then◌else◌, length, slice_get, Some, None, IfOk, OnOk};
 ghost use Rattle.std.specs.Option.{option_copied, option_or};
 ghost use Rattle.std.specs.Str.{bytes_eq};
 ghost use Rattle.indexmap.specs.IndexMap.{get};
-ghost use Rattle.bt_model.specs.Leaves.{row_of};
+ghost use Rattle.std.specs.List.{All};
 ghost use Rattle.bt_model.specs.Worlds.{IsValidWorld};
-ghost use Rattle.bt_arena.specs.Rows.{Finds};
+ghost use Rattle.bt_driver.specs.Places.{CanBeReady};
+ghost use Rattle.bt_arena.specs.Rows.{AreReady, Finds};
 
-use bt_model::{Row, World};
-use bt_script::{Name, NoMemory};
+use bt_driver::{ReadyRow, ready};
+use bt_model::{Fact, Row, World};
+use bt_script::{Items, Name, NoMemory, Shared};
 use indexmap::IndexMap;
 use std::alloc::Global;
 use std::marker::Model;
 
-/// A world with the numbers of its rows by their IDs. Made once, it serves all arenas of that world. Contracts
-/// see the world.
+/// What stands at a number, where there are so many.
+fn at<T>(items: &[T], number: u32) -> Option<&T>
+    ensures { option_copied result ≡ slice_get items.now number }
+{
+    items.get(number as usize)
+}
+
+/// A row of a world, and what is ready of it.
+#[derive(Clone, Copy)]
+pub(crate) struct FoundRow<'a> {
+    pub row: &'a Row,
+    pub ready: &'a Shared<ReadyRow>,
+}
+
+/// A world with the numbers of its rows by their IDs, and with its rows made ready. Made once, it serves all
+/// arenas of that world, whose leaves share what is ready. Contracts see the world.
 #[derive(Debug, Drop)]
 pub struct IndexedWorld<'a> {
     world: &'a World,
-    rows: IndexMap<Name, u32>,
+    numbers: IndexMap<Name, u32>,
+    ready: Items<Shared<ReadyRow>>,
 }
 
 impl<'a> Model for IndexedWorld<'a> {
     ghost use Rattle.std.specs.Str.{bytes_eq};
     ghost use Rattle.indexmap.specs.IndexMap.{get};
     ghost use Rattle.bt_model.specs.declared.world.World.{World as Whole};
-    ghost use Rattle.bt_arena.specs.Rows.{Finds};
+    ghost use Rattle.bt_arena.specs.Rows.{AreReady, Finds};
     ghost use Rattle.bt_script.specs.contracts.syntax.Expr as expr;
     ghost use Rattle.std.specs.Coded.{codes};
 
@@ -34,14 +51,13 @@ impl<'a> Model for IndexedWorld<'a> {
 
     ghost view = { λ it. it.world.now };
 
-    ghost invariant = { λ it. Finds it.world.now.rows (get bytes_eq it.rows) };
+    ghost invariant = { λ it. Finds it.world.now.rows (get bytes_eq it.numbers) × AreReady it.world.now.facts it.world.now.rows it.ready };
 }
 
 impl<'a> IndexedWorld<'a> {
-    ghost use Rattle.std.specs.Prelude.{◌≡◌};
-    ghost use Rattle.std.specs.Str.{bytes_eq};
-    ghost use Rattle.indexmap.specs.IndexMap.{get};
-    ghost use Rattle.bt_arena.specs.Rows.{Finds};
+    ghost use Rattle.std.specs.Prelude.{◌≡◌, None, Some, MatchOption};
+    ghost use Rattle.bt_model.specs.Leaves.{row_of};
+    ghost use Rattle.bt_arena.specs.Rows.{IsReadyRow};
 
     /// Lends the world.
     pub fn world(&self) -> &World
@@ -50,11 +66,15 @@ impl<'a> IndexedWorld<'a> {
         self.world
     }
 
-    /// Lends the numbers of the rows.
-    pub(crate) fn numbers(&self) -> &IndexMap<Name, u32>
-        ensures { Finds self.now.rows (get bytes_eq result.now) }
+    /// The row of an ID, with what is ready of it; none where there is no such row.
+    pub(crate) fn find(&self, id: &Name) -> Option<FoundRow>
+        ensures { MatchOption result (row_of self.now.rows id.now ≡ None) (λ found.
+            (row_of self.now.rows id.now ≡ Some found.row.now) × IsReadyRow self.now.facts found.row.now found.ready.now) }
     {
-        &self.rows
+        let number = *self.numbers.get(id)?;
+        let row = at(self.world.rows.list(), number)?;
+        let ready = at(self.ready.list(), number)?;
+        Some(FoundRow { row, ready })
     }
 }
 
@@ -89,26 +109,31 @@ fn index_of(alloc: Global, rows: &[Row]) -> Result<IndexMap<Name, u32>, NoMemory
     Ok(index)
 }
 
+/// What is ready of rows over these facts, one for each, or want of memory.
+fn ready_rows(
+    alloc: Global,
+    rows: &[Row],
+    facts: &[Fact],
+) -> Result<Items<Shared<ReadyRow>>, NoMemory>
+    requires { All (CanBeReady facts.now) rows.now }
+    ensures { IfOk result (λ all. AreReady facts.now rows.now all) }
+{
+    let mut all = Vec::with_capacity(alloc, rows.len())?;
+    for row in rows {
+        all.push(Shared::of(alloc, ready(alloc, row, facts)?)?)?;
+    }
+    Ok(Items::of(all))
+}
+
 /// A world, made ready for the arenas that are made for it. The error is want of memory.
 pub fn index_world(alloc: Global, world: &World) -> Result<IndexedWorld, NoMemory>
     requires { IsValidWorld world.now }
     ensures { IfOk result (λ indexed. indexed ≡ world.now) }
 {
-    let rows = index_of(alloc, world.rows.list())?;
-    Ok(IndexedWorld { world, rows })
-}
-
-/// The row of an ID; none where there is no such row.
-pub(crate) fn row_named<'a>(
-    rows: &'a [Row],
-    index: &IndexMap<Name, u32>,
-    id: &Name,
-) -> Option<&'a Row>
-    requires { Finds rows.now (get bytes_eq index.now) }
-    ensures { option_copied result ≡ row_of rows.now id.now }
-{
-    match index.get(id) {
-        Some(number) => rows.get(*number as usize),
-        None => None,
-    }
+    let rows = world.rows.list();
+    Ok(IndexedWorld {
+        world,
+        numbers: index_of(alloc, rows)?,
+        ready: ready_rows(alloc, rows, world.facts.list())?,
+    })
 }

@@ -8,7 +8,8 @@ ghost use Rattle.bt_printing.specs.declared.print.Print.TheVariants as print;
 ghost use Rattle.bt_outside.specs.Appending.{Appended, AppendedPrefix};
 ghost use Rattle.bt_outside.specs.Counts.{Rose};
 
-use crate::nodes::{add_ids, id_of, nodes_of};
+use crate::nodes::{add_ids, id_of};
+use bt_arena::nodes_in;
 use bt_dead::dead;
 use bt_model::Tree;
 use bt_outside::Sink;
@@ -62,7 +63,7 @@ fn count_line(alloc: Global, tree: &Tree, uids: &[u32]) -> Result<Vec<u8>, NoMem
     put_bytes(&mut line, b"dead ")?;
     put_number(&mut line, uids.len() as u64)?;
     put_bytes(&mut line, b" of ")?;
-    put_number(&mut line, u64::from(nodes_of(&tree.term)))?;
+    put_number(&mut line, u64::from(nodes_in(&tree.term)))?;
     put_bytes(&mut line, b"\n")?;
     Ok(line)
 }

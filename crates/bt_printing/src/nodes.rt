@@ -1,22 +1,9 @@
-ghost use Rattle.std.specs.Prelude.{◌≡◌, ◌<◌, ◌^◌, ◌++◌, OnOk};
+ghost use Rattle.std.specs.Prelude.{◌≡◌, ◌++◌, OnOk};
 ghost use Rattle.bt_build.specs.Seen.{ids_seen};
-ghost use Rattle.bt_model.specs.Terms.{node_count};
 ghost use Rattle.bt_printing.specs.Printed.{id_of, node_ids};
 
 use bt_model::Term;
 use bt_script::{Name, NoMemory};
-
-/// The number of nodes of a term.
-pub fn nodes_of(term: &Term) -> u32
-    requires { node_count term.now < 2 ^ 32 }
-    ensures { result ≡ node_count term.now }
-{
-    let mut count = 1;
-    for child in term.children.list() {
-        count += nodes_of(child);
-    }
-    count
-}
 
 /// Adds the IDs of the nodes of a term, in pre-order. The error is want of memory.
 pub fn add_ids<'a>(term: &'a Term, ids: &mut Vec<&'a Name>) -> Result<(), NoMemory>

@@ -8,8 +8,8 @@ ghost use Rattle.bt_outside.specs.Appending.{Appended, AppendedPrefix};
 ghost use Rattle.bt_outside.specs.Counts.{Rose};
 
 use crate::dead_nodes::write_dead;
-use crate::nodes::nodes_of;
 use crate::print::Print;
+use bt_arena::nodes_in;
 use bt_build::work;
 use bt_command_line::Exit;
 use bt_model::Tree;
@@ -25,7 +25,7 @@ fn count_line(alloc: Global, tree: &Tree) -> Result<Vec<u8>, NoMemory>
 {
     let mut line = Vec::new(alloc);
     put_bytes(&mut line, b"<!-- nodes ")?;
-    put_number(&mut line, u64::from(nodes_of(&tree.term)))?;
+    put_number(&mut line, u64::from(nodes_in(&tree.term)))?;
     put_bytes(&mut line, b" work ")?;
     put_number(&mut line, u64::from(work(tree)))?;
     put_bytes(&mut line, b" -->\n")?;

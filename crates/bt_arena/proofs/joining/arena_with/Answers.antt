@@ -8,6 +8,9 @@ use Rattle.bt_arena.proofs.joining.arena_with.Goals as goal
 pub nodes_of-requires-clause-can : goal.nodes_of-requires-clause-can
 nodes_of-requires-clause-can g c = can_be_laid c.args.setting.now.tree.now c.args.setting.now.world.now (g.D.Drivers.states c.args.drivers.now) c.requires.tree c.requires.joined
 
+pub nodes_of-requires-clause-few : goal.nodes_of-requires-clause-few
+nodes_of-requires-clause-few g c = omega (arith, c.requires.tree.limits.nodes)
+
 pub nodes_of-requires-clause-places : goal.nodes_of-requires-clause-places
 nodes_of-requires-clause-places g c =
     next_places c.args.setting.now.tree.now c.args.setting.now.world.now (g.D.Drivers.states c.args.drivers.now) c.args.runner c.args.counts.now c.deref_mut.result.now c.requires.counts
