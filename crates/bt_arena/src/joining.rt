@@ -18,10 +18,11 @@ use crate::leaves::next_instance;
 use crate::nodes::Kept;
 use crate::resolving::Setting;
 use crate::rows::IndexedWorld;
+use crate::scripts::no_guards;
 use bt_board::Slots;
 use bt_driver::{Drivers, kind_of};
 use bt_model::{Kind, Memo, Status, Term, Tree};
-use bt_script::{Name, NoMemory, Stop};
+use bt_script::{Name, NoMemory, Shared, Stop};
 use std::alloc::Global;
 
 /// Adds the ID of a node that is a leaf. The error is want of memory.
@@ -196,6 +197,7 @@ pub fn arena_of<D: Drivers>(
         tree,
         slots,
         world,
+        unguarded: Shared::of(alloc, no_guards())?,
     };
     Ok(arena_with(&setting, drivers, counts.as_slice(), runner)?)
 }

@@ -5,19 +5,19 @@ ghost use Rattle.bt_model.specs.Terms.{node_count, own_leaf_id};
 ghost use Rattle.bt_model.specs.Trees.{GuardsFit, ScriptFits};
 ghost use Rattle.bt_arena.specs.Joins.{first_missing};
 ghost use Rattle.bt_arena.specs.Laying.{AreLaid, CanBeLaid, IsAdded, IsBareNode, IsFilled};
-ghost use Rattle.bt_arena.specs.Nodes.{IsFit, node_at, nobody as no_node};
+ghost use Rattle.bt_arena.specs.Nodes.{IsFit, no_guards as without_guards, node_at, nobody as no_node};
 ghost use Rattle.bt_arena.specs.Resolving.{AreNamed, GuardsAreNamed, names_if_there, port_keys, view_in};
 ghost use Rattle.bt_arena.specs.Stands.{uids_of, written};
 
 use crate::leaves::leaf_of;
-use crate::nodes::{Node, ReadyLeaf};
+use crate::nodes::{Node, ReadyGuards, ReadyLeaf};
 use crate::ports::kind_sources;
 use crate::resolving::Setting;
-use crate::scripts::{give_scripts, no_guards};
+use crate::scripts::give_scripts;
 use crate::source::Source;
 use bt_driver::Drivers;
 use bt_model::{Kind, Term};
-use bt_script::{Items, NoMemory};
+use bt_script::{Items, NoMemory, Shared};
 use std::alloc::Global;
 use std::mem::replace;
 
@@ -43,7 +43,14 @@ fn scope_under(kind: Kind, uid: u32, scope: u32) -> u32
 
 /// A node of this kind with these ports and this many children, and with nothing else: what it lacks
 /// is set where it stands, since a node is large to move.
-fn bare_node(alloc: Global, kind: Kind, children: u32, ports: Vec<Source>) -> Node
+fn bare_node(
+    alloc: Global,
+    kind: Kind,
+    children: u32,
+    ports: Vec<Source>,
+    guards: Shared<ReadyGuards>,
+) -> Node
+    requires { guards ≡ without_guards }
     ensures { result ≡ record no_node { kind = kind; children = children; ports = ports.items } }
 {
     Node {
@@ -52,7 +59,7 @@ fn bare_node(alloc: Global, kind: Kind, children: u32, ports: Vec<Source>) -> No
         children,
         child_uids: Items::of(Vec::new(alloc)),
         code: None,
-        guards: no_guards(),
+        guards,
         ports: Items::of(ports),
         leaf: None,
     }
@@ -120,7 +127,8 @@ fn add_node<D: Drivers>(
     let place = nodes.len();
     let children = narrow(term.children.list().len())?;
     let ports = kind_sources(term.kind, term.ports.list(), setting, scope)?;
-    nodes.push(bare_node(setting.alloc, term.kind, children, ports))?;
+    let guards = setting.unguarded.share()?;
+    nodes.push(bare_node(setting.alloc, term.kind, children, ports, guards))?;
     fill(&mut nodes[place], term, setting, scope, drivers, next)
 }
 
@@ -227,6 +235,7 @@ pub(crate) fn nodes_of<D: Drivers>(
         Kind::AlwaysSuccess,
         0,
         Vec::new(setting.alloc),
+        setting.unguarded.share()?,
     ))?;
     lay_term(&setting.tree.term, setting, 0, drivers, next, &mut nodes)?;
     Ok(nodes)

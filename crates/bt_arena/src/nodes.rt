@@ -49,7 +49,8 @@ pub struct Node {
     /// The uids of the children, by their place.
     pub child_uids: Items<u32>,
     pub code: Option<Code>,
-    pub guards: ReadyGuards,
+    /// Its guards, which nodes without any share.
+    pub guards: Shared<ReadyGuards>,
     /// What the ports of a built-in node are given, in the order of its kind's ports.
     pub ports: Items<Source>,
     pub leaf: Option<ReadyLeaf>,

@@ -3,7 +3,7 @@ ghost use Rattle.std.specs.Option.{option_copied};
 ghost use Rattle.bt_script.specs.Scripts.{names_of, stmt_names};
 ghost use Rattle.bt_model.specs.Boards.{port_of, slot_table, slots as cells};
 ghost use Rattle.bt_model.specs.Trees.{GuardsFit, ScriptFits};
-ghost use Rattle.bt_arena.specs.Nodes.{AreCompiled, IsCompiled, has_after, has_before};
+ghost use Rattle.bt_arena.specs.Nodes.{AreCompiled, IsCompiled, has_after, has_before, no_guards};
 ghost use Rattle.bt_arena.specs.Resolving.{AreNamed, GuardsAreNamed, named_slot, names_if_there, names_in_script, port_keys, view_in, with_slots};
 ghost use Rattle.bt_arena.specs.Sources.{IsSourceOf, source_at as source_in};
 
@@ -24,7 +24,10 @@ pub(crate) struct Setting<'a> {
     pub(crate) tree: &'a Tree,
     pub(crate) slots: &'a Slots,
     pub(crate) world: &'a IndexedWorld<'a>,
+    /// No guards, which all nodes without any share.
+    pub(crate) unguarded: Shared<ReadyGuards>,
     pub(crate) ghost table: { slots.now ≡ slot_table tree.now },
+    pub(crate) ghost bare: { unguarded ≡ no_guards },
 }
 
 /// The slot of a key in the scope of this number; 0 where the tree has none for it there.

@@ -10,7 +10,7 @@ ghost use Rattle.bt_arena.specs.Stands.{written};
 use crate::nodes::{Node, ReadyGuards};
 use crate::resolving::{Setting, is_after, is_before, ready_guards, ready_script};
 use bt_model::{Guards, Term};
-use bt_script::NoMemory;
+use bt_script::{NoMemory, Shared};
 use std::mem::replace;
 
 /// No guards.
@@ -64,7 +64,7 @@ fn give_some(node: &mut Node, term: &Term, setting: &Setting, scope: u32) -> Res
     let code = ready_script(&term.code, setting, scope)?;
     drop(replace(&mut node.code, code));
     let guards = ready_guards(&term.guards, setting, scope)?;
-    drop(replace(&mut node.guards, guards));
+    drop(replace(&mut node.guards, Shared::of(setting.alloc, guards)?));
     Ok(())
 }
 

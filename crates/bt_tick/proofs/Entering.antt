@@ -35,10 +35,11 @@ use Rattle.bt_model.specs.Steps.{Given}
 use Rattle.bt_model.specs.Visit.{begun, change, continued, ended, guarded, halt, kind_rule, meaning, meaning_of_node, node_rule, or_bad_port, ruled, starts, visit_by}
 use Rattle.bt_arena.specs.declared.nodes.Kept.{Kept}
 use Rattle.bt_arena.specs.declared.nodes.Node.{Node}
+use Rattle.bt_arena.specs.declared.nodes.ReadyGuards.{ReadyGuards}
 use Rattle.bt_arena.specs.declared.nodes.ReadyLeaf.{ReadyLeaf}
 use Rattle.bt_arena.specs.declared.stage.Stage.{Stage}
 use Rattle.bt_arena.specs.Ends.{IsMade, Meets, StaysFit}
-use Rattle.bt_arena.specs.Nodes.{IsNode, at_rest, kept_at, leaf_at, node_at}
+use Rattle.bt_arena.specs.Nodes.{AreCompiled, IsNode, at_rest, kept_at, leaf_at, node_at}
 use Rattle.bt_arena.specs.Scenes.{Fits, Scene, scene, state_in}
 use Rattle.bt_arena.specs.Stages.{IsSame, scene_on}
 use Rattle.bt_arena.specs.Stands.{Beside, memory_of, written}
@@ -289,6 +290,12 @@ pub node_here : (term : Term) (view : View) (uid : ℕ) (nodes : List Node) (s :
     IsNode view (written (map-Term Term Meaning meaning (out-Term term))) (1 + sizes (map meaning (out-Term term).children)) node
 node_here term view uid nodes s fits node is =
     subst (λ (n : Node). IsNode view (written (map-Term Term Meaning meaning (out-Term term))) (1 + sizes (map meaning (out-Term term).children)) n) (sym is) (fits_here term view uid nodes s fits).node
+
+-- its guards, where they are lent, are compiled for those of the term
+pub guards_here : (term : Term) (view : View) (uid : ℕ) (nodes : List Node) (s : Scene) → Fits term view uid nodes s → (node : Node) → node ≡ node_at nodes uid →
+    (lent : ReadyGuards) → lent ≡ node.guards → AreCompiled view (written (map-Term Term Meaning meaning (out-Term term))).guards lent
+guards_here term view uid nodes s fits node is lent is_lent =
+    subst (AreCompiled view (written (map-Term Term Meaning meaning (out-Term term))).guards) (sym is_lent) (node_here term view uid nodes s fits node is).guards
 
 module _ {nodes : List Node} {moment : ℕ} {term : Term} {view : View} {uid : ℕ} {s : Scene} (follow : CanFollow nodes moment term view uid s) where
   pub alone_here : (node : Node) → node ≡ node_at nodes uid → (kind : Bool) → kind ≡ has_rule node.kind → has_rule (kind_of term) ≡ kind

@@ -35,7 +35,7 @@ script_if_there-requires g c =
     let rested = keeps_idle states c.args.uid _ _ _ c.come_to_rest.ensures.same c.in_ok-come_to_rest.ensures.ok in
     let keeps = keeps_then states c.args.uid 1 c.args.uid 1 _ _ _ (omega arith) (omega arith) c.release.ensures.keeps rested in
     let fits = fits_later states _ _ keeps.same f.0 f.1 c.args.uid (keeps.stays f.0 f.1 c.args.uid f.2) in
-    rw c.node.ensures (script_needs _ f.1 (sym fits.slots) _ _ (node_of f.0 c.come_to_rest.new.stage.nodes.now f.1 c.args.uid fits.stands).guards.on_halted)
+    rw c.get.ensures (rw c.node.ensures (script_needs _ f.1 (sym fits.slots) _ _ (node_of f.0 c.come_to_rest.new.stage.nodes.now f.1 c.args.uid fits.stands).guards.on_halted))
 
 pub returns-clause-meets : goal.returns-clause-meets
 returns-clause-meets g c = λ term view fits_before.
@@ -47,7 +47,7 @@ returns-clause-meets g c = λ term view fits_before.
     let rested = keeps_idle states c.args.uid _ _ _ c.come_to_rest.ensures.same e in
     let keeps = keeps_then states c.args.uid 1 c.args.uid 1 _ _ _ (omega arith) (omega arith) c.release.ensures.keeps rested in
     let fits = fits_later states _ _ keeps.same term view c.args.uid (keeps.stays term view c.args.uid fits_before) in
-    let compiled = rw (← c.node.ensures) at (node_of term c.come_to_rest.new.stage.nodes.now view c.args.uid fits.stands).guards.on_halted in
+    let compiled = rw (← c.get.ensures) at (rw (← c.node.ensures) at (node_of term c.come_to_rest.new.stage.nodes.now view c.args.uid fits.stands).guards.on_halted) in
     let within : c.args.uid < length c.release.new.stage.kept.now = omega (arith, c.release.ensures.keeps.beside.as_many, kept_there term view c.args.uid nodes _ fits_before) in
     end_met nodes c.args.stage.now.moment term view c.args.uid fits_before.stands _ _ _ _ _ c.in_ok-release.ensures.ok s2 _ (λ i. (e i).board) (λ i. (e i).facts) (λ i. (e i).drivers) c.in_ok-come_to_rest.ensures.ok_notes _ _ _
     (idle_is term c.args.uid c.args.stage.now.kept.now c.release.new.stage.kept.now c.come_to_rest.new.stage.kept.now c.release.ensures.keeps.beside c.release.ensures.memo within (λ i. (e i).kept))

@@ -1,4 +1,4 @@
-use Rattle.std.proofs.Common.{refl, subst, sym, ap, length}
+use Rattle.std.proofs.Common.{refl, subst, sym, ap, length, ◌∙◌}
 use Rattle.bt_model.specs.declared.term.Term.{Term, out-Term}
 use Rattle.bt_model.specs.declared.term.Term.TheFolds.{map-Term}
 use Rattle.bt_model.specs.Sites.{Meaning, remembered}
@@ -23,7 +23,7 @@ pub end_node-requires-clause-guards : goal.end_node-requires-clause-guards
 end_node-requires-clause-guards g c =
     let f = c.requires.fits in
     let here = fits_here f.0 f.1 c.args.uid _ _ f.2 in
-    guards_need _ f.1 (sym f.2.slots) _ _ (subst (λ (n : Node). AreCompiled f.1 (out-Term f.0).guards n.guards) (sym c.node.ensures) here.node.guards)
+    guards_need _ f.1 (sym f.2.slots) _ _ (subst (AreCompiled f.1 (out-Term f.0).guards) (sym (c.get-guards.ensures ∙ ap (λ (n : Node). n.guards) c.node.ensures)) here.node.guards)
 
 pub returns-clause-meets : goal.returns-clause-meets
 returns-clause-meets g c = λ term view fits.
@@ -36,7 +36,7 @@ returns-clause-meets g c = λ term view fits.
     (ended_on g.D.Drivers.states s c.args.uid (record { answer = c.args.answer; memo = c.args.memo }) term view)
     (sym (memory_now s.kept.now after.kept.now c.args.uid (record (kept_at after.kept.now c.args.uid) { held = (kept_at s.kept.now c.args.uid).held }) c.end_node.ensures.kept term))
     (c.end_node.ensures.meets (map-Term Term Meaning meaning (out-Term term)) view ms
-    (subst (λ (n : Node). AreCompiled view (out-Term term).guards n.guards) (sym c.node.ensures) here.node.guards))
+    (subst (AreCompiled view (out-Term term).guards) (sym (c.get-guards.ensures ∙ ap (λ (n : Node). n.guards) c.node.ensures)) here.node.guards))
 
 pub returns-clause-keeps : goal.returns-clause-keeps
 returns-clause-keeps g c =

@@ -3,7 +3,7 @@ use Rattle.bt_arena.specs.Stages.{state_on}
 use Rattle.bt_laws.proofs.Keeping.{term_keeps}
 use Rattle.bt_nodes.proofs.Needed.{guards_need}
 use Rattle.bt_tick.proofs.Bounds.{cost_positive}
-use Rattle.bt_tick.proofs.Entering.{answers_so, as_node, begin_ends, begin_goes, begins_so_far, can_keep, ended_goes, follow_earlier, follow_later, goes_after, keeps_so, node_here, one_within, start_stops, starts_here, still_can}
+use Rattle.bt_tick.proofs.Entering.{answers_so, as_node, begin_ends, begin_goes, begins_so_far, can_keep, ended_goes, follow_earlier, follow_later, goes_after, guards_here, keeps_so, one_within, start_stops, starts_here, still_can}
 use Rattle.bt_tick.proofs.Moving.{as_many_kept, node_there, turned_with}
 use Rattle.bt_tick.proofs.enter.begin.Goals as goal
 
@@ -18,16 +18,16 @@ bounds-stage-uid g c =
 pub guards_answer-requires : goal.guards_answer-requires
 guards_answer-requires g c =
     let (term, view, can) = c.requires.can in
-    guards_need _ view (sym can.fits.slots) _ _ (node_here term view _ _ _ can.fits c.node-here.result.now c.node-here.ensures).guards
+    guards_need _ view (sym can.fits.slots) _ _ (guards_here term view _ _ _ can.fits c.node-here.result.now c.node-here.ensures c.get.result.now c.get.ensures)
 
 pub returns-in_err-answer-clause-goes : goal.returns-in_err-answer-clause-goes
 returns-in_err-answer-clause-goes g c = λ term view can.
     turned_with _ _ _ _ _ _ _ _ _ _ _ _ c.from_residual.ensures.1
-    (begin_ends _ _ term view _ _ _ _ _ _ _ c.in_err-answer.ensures.slots c.requires.rests _ (c.in_err-answer.ensures.settles (as_node term) view (state_on g.D.Drivers.states c.args.stage.now) (node_here term view _ _ _ can.fits c.node-here.result.now c.node-here.ensures).guards))
+    (begin_ends _ _ term view _ _ _ _ _ _ _ c.in_err-answer.ensures.slots c.requires.rests _ (c.in_err-answer.ensures.settles (as_node term) view (state_on g.D.Drivers.states c.args.stage.now) (guards_here term view _ _ _ can.fits c.node-here.result.now c.node-here.ensures c.get.result.now c.get.ensures)))
 
 pub returns-in_err-given-clause-goes : goal.returns-in_err-given-clause-goes
 returns-in_err-given-clause-goes g c = λ term view can.
-    let settled = c.in_ok-answer.ensures.settles (as_node term) view (state_on g.D.Drivers.states c.args.stage.now) (node_here term view _ _ _ can.fits c.node-here.result.now c.node-here.ensures).guards in
+    let settled = c.in_ok-answer.ensures.settles (as_node term) view (state_on g.D.Drivers.states c.args.stage.now) (guards_here term view _ _ _ can.fits c.node-here.result.now c.node-here.ensures c.get.result.now c.get.ensures) in
     let still = still_can term_keeps _ _ term view _ _ _ _ _ _ c.in_ok-answer.ensures.slots can in
     turned_with _ _ _ _ _ _ _ _ _ _ _ _ c.from_residual-in_err-given.ensures.1
     (begin_goes _ _ term view _ _ _ _ _ _ c.args.stage.now.notes.now.list c.in_ok-answer.ensures.slots c.requires.rests c.in_ok-answer.field-0 settled _
@@ -36,7 +36,7 @@ returns-in_err-given-clause-goes g c = λ term view can.
 
 pub returns-in-Some-clause-goes : goal.returns-in-Some-clause-goes
 returns-in-Some-clause-goes g c = λ term view can.
-    let settled = c.in_ok-answer.ensures.settles (as_node term) view (state_on g.D.Drivers.states c.args.stage.now) (node_here term view _ _ _ can.fits c.node-here.result.now c.node-here.ensures).guards in
+    let settled = c.in_ok-answer.ensures.settles (as_node term) view (state_on g.D.Drivers.states c.args.stage.now) (guards_here term view _ _ _ can.fits c.node-here.result.now c.node-here.ensures c.get.result.now c.get.ensures) in
     let still = still_can term_keeps _ _ term view _ _ _ _ _ _ c.in_ok-answer.ensures.slots can in
     begin_goes _ _ term view _ _ _ _ _ _ c.args.stage.now.notes.now.list c.in_ok-answer.ensures.slots c.requires.rests c.in_ok-answer.field-0 settled _
     (answers_so _ _ term view _ _ _ _ _ _ c.args.stage.now.notes.now.list c.in_ok-answer.ensures.slots c.in_ok-answer.field-0 c.in-Some.answer c.in-Some.is) _ _ _
@@ -59,7 +59,7 @@ follow_rule-requires g c =
 
 pub returns-then-not-starts-clause-goes : goal.returns-then-not-starts-clause-goes
 returns-then-not-starts-clause-goes g c = λ term view can.
-    let settled = c.in_ok-answer.ensures.settles (as_node term) view (state_on g.D.Drivers.states c.args.stage.now) (node_here term view _ _ _ can.fits c.node-here.result.now c.node-here.ensures).guards in
+    let settled = c.in_ok-answer.ensures.settles (as_node term) view (state_on g.D.Drivers.states c.args.stage.now) (guards_here term view _ _ _ can.fits c.node-here.result.now c.node-here.ensures c.get.result.now c.get.ensures) in
     let still = still_can term_keeps _ _ term view _ _ _ _ _ _ c.in_ok-answer.ensures.slots can in
     let b : c.starts.result ≡ false = cc in
     let none = starts_here can.fits c.node-here.result.now c.node-here.ensures c.starts.result c.starts.ensures ∙ b in
@@ -74,7 +74,7 @@ start-requires-clause-can g c =
 
 pub returns-in_err-start-clause-goes : goal.returns-in_err-start-clause-goes
 returns-in_err-start-clause-goes g c = λ term view can.
-    let settled = c.in_ok-answer.ensures.settles (as_node term) view (state_on g.D.Drivers.states c.args.stage.now) (node_here term view _ _ _ can.fits c.node-here.result.now c.node-here.ensures).guards in
+    let settled = c.in_ok-answer.ensures.settles (as_node term) view (state_on g.D.Drivers.states c.args.stage.now) (guards_here term view _ _ _ can.fits c.node-here.result.now c.node-here.ensures c.get.result.now c.get.ensures) in
     let still = still_can term_keeps _ _ term view _ _ _ _ _ _ c.in_ok-answer.ensures.slots can in
     let b : c.starts.result ≡ true = cc in
     let start = starts_here can.fits c.node-here.result.now c.node-here.ensures c.starts.result c.starts.ensures ∙ b in
@@ -91,7 +91,7 @@ begin_rule-requires-clause-can g c =
 
 pub returns-clause-goes : goal.returns-clause-goes
 returns-clause-goes g c = λ term view can.
-    let settled = c.in_ok-answer.ensures.settles (as_node term) view (state_on g.D.Drivers.states c.args.stage.now) (node_here term view _ _ _ can.fits c.node-here.result.now c.node-here.ensures).guards in
+    let settled = c.in_ok-answer.ensures.settles (as_node term) view (state_on g.D.Drivers.states c.args.stage.now) (guards_here term view _ _ _ can.fits c.node-here.result.now c.node-here.ensures c.get.result.now c.get.ensures) in
     let still = still_can term_keeps _ _ term view _ _ _ _ _ _ c.in_ok-answer.ensures.slots can in
     let b : c.starts.result ≡ true = cc in
     let start = starts_here can.fits c.node-here.result.now c.node-here.ensures c.starts.result c.starts.ensures ∙ b in
