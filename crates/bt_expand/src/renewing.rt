@@ -1,6 +1,6 @@
 //! The behavior tree of a plan tree, made from that of an earlier one: what stands there already is kept.
 
-ghost use Rattle.std.specs.Prelude.{◌≡◌, ◌≤◌, ℕ, Option, Some, IfOk, IsTrue, OnOk, false, [], None};
+ghost use Rattle.std.specs.Prelude.{◌≡◌, ◌≤◌, ◌∷◌, ◌++◌, ℕ, Option, Some, IfOk, IsTrue, OnOk, false, [], None};
 ghost use Rattle.bt_model.specs.declared.term.Term.{out-Term, roll-Term};
 ghost use Rattle.bt_model.specs.Terms.{scope_count};
 ghost use Rattle.bt_model.specs.Trees.{IsValid};
@@ -71,6 +71,41 @@ fn take_children(alloc: Global, term: &mut Term) -> Vec<Term>
     replace(&mut term.children, Items::of(Vec::new(alloc))).into_vec()
 }
 
+/// Adds the term of a node with at most so many levels below it. It stands apart, so that room for a term is
+/// cleared only where one is made. The error is want of memory.
+#[inline(never)]
+fn add_term(
+    alloc: Global,
+    nodes: &Slab<Node>,
+    rows: &[Row],
+    node: &Node,
+    levels: usize,
+    terms: &mut Vec<Term>,
+) -> Result<(), NoMemory>
+    ensures { OnOk result ((term : Term) × (terms.new.items ≡ terms.old.items ++ term ∷ []) ×
+        ((key : ℕ) (below : Forest) → Stands nodes.now (Some key) node.now.children.items below → height below ≤ levels →
+        term ≡ roll-Term (plain_node (kind_of node.now.part) (part_id rows.now node.now.part) (terms_of rows.now below)))) }
+{
+    terms.push(term_of(alloc, nodes, rows, node, levels)?)?;
+    Ok(())
+}
+
+/// Makes a term that of a node with these children, whatever it was. It stands apart as `add_term` does. The error
+/// is want of memory.
+#[inline(never)]
+fn replace_term(
+    alloc: Global,
+    rows: &[Row],
+    part: Part,
+    children: Vec<Term>,
+    term: &mut Term,
+) -> Result<(), NoMemory>
+    ensures { OnOk result (term.new ≡ roll-Term (plain_node (kind_of part) (part_id rows.now part) children.items)) }
+{
+    *term = plain_node(alloc, rows, part, Items::of(children))?;
+    Ok(())
+}
+
 /// Makes some terms those of trees that have at most so many levels, whatever they were.
 #[cycle(renewal)]
 fn renew_terms(
@@ -96,7 +131,7 @@ fn renew_terms(
         if place < terms.len() {
             renew(alloc, nodes, rows, node, levels - 1, &mut terms[place])?;
         } else {
-            terms.push(term_of(alloc, nodes, rows, node, levels - 1)?)?;
+            add_term(alloc, nodes, rows, node, levels - 1, terms)?;
         }
     }
     Ok(())
@@ -121,7 +156,7 @@ fn renew(
     if is_of(term, rows, node.part) {
         set_children(term, children);
     } else {
-        *term = plain_node(alloc, rows, node.part, Items::of(children))?;
+        replace_term(alloc, rows, node.part, children, term)?;
     }
     Ok(())
 }

@@ -99,7 +99,7 @@ pub(crate) fn end_halt<D: Drivers>(stage: &mut Stage<D>, uid: u32) -> Result<(),
     come_to_rest(stage, uid)?;
     script_if_there(
         stage.alloc,
-        &node(stage.nodes, uid).guards.on_halted,
+        &node(stage.nodes, uid).guards.get().on_halted,
         uid,
         stage.board,
     )

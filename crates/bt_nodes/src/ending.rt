@@ -107,6 +107,6 @@ pub fn end_visit<D: Drivers>(
     ensures reserve { stage.new.notes.now.reserve ≡ stage.old.notes.now.reserve }
     ensures aside { IsAside D.states stage.old stage.new }
 {
-    let guards = &node(stage.nodes, uid).guards;
+    let guards = node(stage.nodes, uid).guards.get();
     end_node(stage, guards, uid, answer, memo)
 }

@@ -90,7 +90,7 @@ fn call_driver<D: Drivers>(
         Status::Running => stage.drivers.running(
             leaf.driver,
             leaf.instance,
-            &leaf.row,
+            leaf.row.get(),
             inputs,
             stage.facts,
             outs,
@@ -99,7 +99,7 @@ fn call_driver<D: Drivers>(
         _ => stage.drivers.start(
             leaf.driver,
             leaf.instance,
-            &leaf.row,
+            leaf.row.get(),
             inputs,
             stage.facts,
             outs,

@@ -109,7 +109,7 @@ fn begin<D: Drivers>(stage: &mut Stage<D>, uid: u32) -> Result<Entered, Stop<Nod
     ensures work { LeavesLess uid stage.old stage.new result }
 {
     let here = node(stage.nodes, uid);
-    if let Some(answer) = guards_answer(stage.alloc, &here.guards, uid, stage.board)? {
+    if let Some(answer) = guards_answer(stage.alloc, here.guards.get(), uid, stage.board)? {
         let memo = stage.kept[uid as usize].memo;
         let given = end_visit(stage, uid, answer, memo)?;
         return Ok(Entered::Answers(given));
@@ -135,7 +135,7 @@ fn resume<D: Drivers>(stage: &mut Stage<D>, uid: u32) -> Result<Entered, Stop<No
     ensures reserve { OnOk result (stage.new.notes.now.reserve ≡ stage.old.notes.now.reserve) }
     ensures work { LeavesLess uid stage.old stage.new result }
 {
-    let guards = &node(stage.nodes, uid).guards;
+    let guards = node(stage.nodes, uid).guards.get();
     if goes_on(stage.alloc, guards, uid, stage.board)? {
         return follow_rule(stage, uid);
     }

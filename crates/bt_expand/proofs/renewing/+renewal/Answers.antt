@@ -5,7 +5,7 @@ use Rattle.bt_expand.specs.Planned.{terms_of}
 use Rattle.bt_expand.proofs.Split.{no_levels, stands_none}
 use Rattle.bt_expand.proofs.Walked.{next_renewed, no_node}
 use Rattle.bt_expand.proofs.renewing.+renewal.Goals as goal
-use Rattle.bt_expand.proofs.renewing.+renewal.Goals.{renew_terms-then-place-len+in_ok-renew, renew_terms-else-place-len+in_ok-term_of+in_ok-push}
+use Rattle.bt_expand.proofs.renewing.+renewal.Goals.{renew_terms-then-place-len+in_ok-renew, renew_terms-else-place-len+in_ok-add_term}
 
 pub renew_terms-returns-then-levels-eq0 : goal.renew_terms-returns-then-levels-eq0
 renew_terms-returns-then-levels-eq0 t c = λ parent f stands low.
@@ -38,13 +38,13 @@ renew_terms-loop-place-preserved t c =
                 (sym c.in-Some.ensures) w.in_ok-renew.ensures (λ more. ap (λ v. take (i + 1) v.items) w.terms-is ∙ take_more_set old i w.renew.new.term within) (λ more. omega (arith, within, long));
             few = omega (arith, long, c.loop-place.invariant.few);
           }
-      | renew_terms-else-place-len+in_ok-term_of+in_ok-push w ↦
-          let term = w.in_ok-term_of.field-0 in
+      | renew_terms-else-place-len+in_ok-add_term w ↦
+          let term = w.in_ok-add_term.ensures.0 in
           let past : length old < i + 1 = omega (arith, w.if-place-len.false, c.len.ensures, c.loop-place.terms.ok.0) in
-          let pushed : new ≡ old ++ term ∷ [] = ap (λ v. v.items) w.terms-is ∙ w.in_ok-push.ensures.items in
+          let pushed : new ≡ old ++ term ∷ [] = ap (λ v. v.items) w.terms-is ∙ w.in_ok-add_term.ensures.1 in
           let long : length new ≡ length old + 1 = ap (λ (l : List Term). length l) pushed ∙ length-append old (term ∷ []) in record {
             passed = next_renewed c.args.nodes.now c.args.rows.now c.args.keys.now i c.loop-place-test.true c.args.levels some old new term c.in-Some.node.now c.loop-place.invariant.passed
-                (sym c.in-Some.ensures) w.in_ok-term_of.ensures
+                (sym c.in-Some.ensures) w.in_ok-add_term.ensures.2
                 (λ more. take_all (i + 1) new (omega (arith, long, past)) ∙ pushed ∙ ap (λ (l : List Term). l ++ term ∷ []) (sym (take_all i old (omega (arith, past))))) (λ more. omega (arith, more, long));
             few = omega (arith, long, past, c.loop-place-test.true);
           }
