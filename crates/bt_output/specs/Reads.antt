@@ -35,8 +35,9 @@ pub record IsLong (holds : Option (List ℕ → List ℕ)) (name : List ℕ) : T
 abbrev pub IsUnread : {Shelf : Type 0} → Reading Shelf → (Shelf → ℕ) → Option (List ℕ → List ℕ) → File → List ℕ → Refusal → Shelf → Shelf → Type 0
 IsUnread read_gives faults holds asked name (refusal.Unread which) old new =
     (which ≡ asked) × Rose (faults old) (faults new) × read_gives old name (Err fault.Failed) new
-IsUnread read_gives faults holds asked name (refusal.TooLong which) old new = (which ≡ asked) × IsLong holds name
-IsUnread read_gives faults holds asked name refusal.NoMemory old new = Unit {0}
+IsUnread read_gives faults holds asked name (refusal.TooLong which) old new =
+    (which ≡ asked) × IsLong holds name × read_gives old name (Err fault.TooLong) new
+IsUnread read_gives faults holds asked name refusal.NoMemory old new = read_gives old name (Err fault.NoMemory) new
 IsUnread read_gives faults holds asked name _ old new = ⊥
 
 -- ---- The reads of a command
