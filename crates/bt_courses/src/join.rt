@@ -58,6 +58,7 @@ fn run_summed<S: Shelf, K: Sink, C: Clock, D: Drivers>(
         Gave (course_output of (arenas_of runs) (course.Load leaves) moments (D.states outside.old.drivers.now)) (exit_of result)
         (seen K.written K.faults C.moments D.states outside.old)
         (seen K.written K.faults C.moments D.states outside.new)) }
+    ensures unread { outside.new.shelf.now ≡ outside.old.shelf.now }
     ensures stays { Stays S.faults K.faults D.states outside.old outside.new }
 {
     let (line, ended) = run_load(alloc, leaves, runs, events, outside.drivers)?;
@@ -84,6 +85,7 @@ fn run<S: Shelf, K: Sink, C: Clock, D: Drivers>(
         Gave (course_output of (arenas_of runs) course moments (D.states outside.old.drivers.now)) result
         (seen K.written K.faults C.moments D.states outside.old)
         (seen K.written K.faults C.moments D.states outside.new)) }
+    ensures unread { outside.new.shelf.now ≡ outside.old.shelf.now }
     ensures stays { Stays S.faults K.faults D.states outside.old outside.new }
 {
     match course {
@@ -148,6 +150,7 @@ pub fn join_and_run<S: Shelf, K: Sink, C: Clock, D: Drivers>(
     ensures ends { EndsAt (JoinGives of.tree of.world course) AreUncalled result
         (seen K.written K.faults C.moments D.states outside.old)
         (seen K.written K.faults C.moments D.states outside.new) }
+    ensures unread { outside.new.shelf.now ≡ outside.old.shelf.now }
     ensures stays { Stays S.faults K.faults D.states outside.old outside.new }
 {
     let slots = slots_of(alloc, tree)?;

@@ -1,5 +1,5 @@
 -- What the files of a command give, and what a command comes to.
-use Rattle.std.proofs.Common.{◌≡◌, ◌∙◌, ℕ, ◌<◌, ◌≤◌, List, [], Bool, true, false, inl, inr, Option, Some, None, length, refl, sym, ap, subst, arith, MatchBool, Result, Ok, Err}
+use Rattle.std.proofs.Common.{◌≡◌, ◌∙◌, ℕ, ◌<◌, ◌≤◌, List, [], ◌∷◌, Bool, true, false, inl, inr, Option, Some, None, length, refl, sym, ap, subst, arith, MatchBool, Result, Ok, Err}
 use Rattle.std.specs.Prelude.{IfSome, MatchOption}
 use Rattle.std.proofs.lemmas.Grind.{common_steps}
 use Rattle.bt_command_line.specs.declared.exit.Exit.{Exit}
@@ -24,18 +24,19 @@ use Rattle.bt_refusals.specs.declared.refusal.File.TheVariants as file
 use Rattle.bt_refusals.specs.declared.refusal.Refusal.{Refusal}
 use Rattle.bt_refusals.specs.declared.refusal.Refusal.TheVariants as refusal
 use Rattle.bt_answers.specs.Answers.{Answers, Gave, Printed, Side, side}
-use Rattle.bt_output.specs.Answers.{AreTold, CommandAnswered, ToldIfNamed}
+use Rattle.bt_output.specs.Answers.{AnsweredAfter, ToldIfNamed, WordsAnswered}
 use Rattle.bt_refusals.specs.Refused.{IsRefused, refused_as, stopped_as, too_long, tree_refused, unread, world_refused}
-use Rattle.bt_output.specs.Ends.{CommandEnds, FilesEnd}
+use Rattle.bt_output.specs.Ends.{CommandEnds, EndsAfter, FilesEnd, refusal_of}
 use Rattle.bt_refusals.specs.Ends.{Ends, EndsAt, IsUntouched}
-use Rattle.bt_output.specs.Files.{Contents, Named, no_files, tree_alone, tree_and_world, tree_world_rules, world_alone}
+use Rattle.bt_output.specs.Files.{Contents, no_files, tree_alone, tree_and_world, tree_world_rules, world_alone}
 use Rattle.bt_output.specs.Jobs.{FilesBegin, FilesGive, files_of}
 use Rattle.bt_answers.specs.Output.{AreUncalled, Begun, Ending, Output}
 use Rattle.bt_output.specs.Gives.{Beginning, BeginsNothing, CourseGives, Giving, MockGives, Mocks, PrintGives, Prints, ReadGives, RunGives, RunsOn, ScriptMocks, Standing, StandingGives, is_too_long, itself, mocked, standing_output}
 use Rattle.bt_courses.specs.Runs.{Given, JoinGives, given}
 use Rattle.bt_printing.specs.Printed.{print_output}
+use Rattle.bt_outside.specs.declared.shelf.ShelfFault.{ShelfFault}
 use Rattle.bt_outside.specs.declared.shelf.ShelfFault.TheVariants as shelf
-use Rattle.bt_output.specs.Reads.{IsLong, IsUnread, Reading, Unread, WasRead}
+use Rattle.bt_output.specs.Reads.{AllRead, AreRead, IsUnread, NamedFile, Reading, ReadsEnd, StoppedAt, WasRead, in_order}
 use Rattle.bt_output.specs.TreeFiles.{ReadsAs, TreeReads}
 use Rattle.bt_refusals.specs.declared.fault.TreeFault.{TreeFault}
 use Rattle.bt_mock.specs.declared.fault.MockFault.{MockFault}
@@ -62,6 +63,10 @@ match_false false P Q e q = q
 pub match_true : (b : Bool) (P Q : Type 0) → b ≡ true → P → MatchBool b P Q
 match_true true P Q e p = p
 match_true false P Q e p = cc
+
+-- no bytes are not too many
+pub no_bytes : (let bytes : List ℕ = [] in length bytes ≤ most_file_bytes)
+no_bytes = omega (arith)
 
 -- ---- Bytes
 
@@ -144,36 +149,23 @@ module _ (rules : List ℕ) (tree : Tree) (world : World) where
 -- ---- Files
 
 -- what a file holds that may be named, where the shelf tells it
-record Holding (holds : Option (List ℕ → List ℕ)) (name : Option (List ℕ)) : Type 0 where
+pub record Holding (holds : Option (List ℕ → List ℕ)) (name : Option (List ℕ)) : Type 0 where
   pub bytes : List ℕ
   pub told : ToldIfNamed holds name (λ file. bytes ≡ file)
 
-holding : (holds : Option (List ℕ → List ℕ)) (name : Option (List ℕ)) → Holding holds name
+pub holding : (holds : Option (List ℕ → List ℕ)) (name : Option (List ℕ)) → Holding holds name
 holding holds None = record { bytes = []; told = tt }
 holding None (Some name) = record { bytes = []; told = tt }
 holding (Some h) (Some name) = record { bytes = h name; told = refl }
 
--- memory ran out before the output was known
-pub out_of_memory : (holds : Option (List ℕ → List ℕ)) (named : Named) (Gives : Giving) (Begins : Beginning) (a : Side) → FilesEnd holds named Gives Begins (Err refusal.NoMemory) a a
-out_of_memory holds named Gives Begins a =
-    let tree = holding holds named.tree in
-    let world = holding holds named.world in
-    let rules = holding holds named.rules in
-    let files : Contents = record { tree = tree.bytes; world = world.bytes; rules = rules.bytes } in
-    record {
-      files = files;
-      told = record { tree = tree.told; world = world.told; rules = rules.told };
-      answers = refused_ends (Gives files) (Begins files) refusal.NoMemory a (λ moments. tt);
-    }
-
 -- files of which this one is the first that is too long have this output
-abbrev LongTree : Giving → Type 0
+abbrev pub LongTree : Giving → Type 0
 LongTree Gives = (files : Contents) (moments : Moments) (drivers : List DriverState) → most_file_bytes < length files.tree → Gives files moments drivers (too_long file.Tree)
 
-abbrev LongWorld : Giving → Type 0
+abbrev pub LongWorld : Giving → Type 0
 LongWorld Gives = (files : Contents) (moments : Moments) (drivers : List DriverState) → length files.tree ≤ most_file_bytes → most_file_bytes < length files.world → Gives files moments drivers (too_long file.World)
 
-abbrev LongRules : Giving → Type 0
+abbrev pub LongRules : Giving → Type 0
 LongRules Gives = (files : Contents) (moments : Moments) (drivers : List DriverState) → length files.tree ≤ most_file_bytes → length files.world ≤ most_file_bytes
     → most_file_bytes < length files.rules → Gives files moments drivers (too_long file.Rules)
 
@@ -204,87 +196,62 @@ told_short : (holds : Option (List ℕ → List ℕ)) (name bytes : List ℕ) �
 told_short None name bytes told short = tt
 told_short (Some h) name bytes told short = subst (λ (file : List ℕ). length file ≤ most_file_bytes) told short
 
--- the files of a command are read
-module _ {Shelf : Type 0} (read_gives : Reading Shelf) (faults : Shelf → ℕ) (holds : Option (List ℕ → List ℕ)) (Gives : Giving) (Begins : Beginning) where
-  -- a command ends over these files
-  abbrev pub Over : Named → Shelf → Shelf → Result Exit Refusal → Side → Side → Type 0
-  Over named old new result a b = CommandEnds (Rose (faults old) (faults new)) (Unread read_gives holds named old new) (FilesEnd holds named Gives Begins) result a b
+-- the files of a command are read, over which it ends so
+module _ {Shelf : Type 0} (read_gives : Reading Shelf) (faults : Shelf → ℕ) (holds : Option (List ℕ → List ℕ)) (Over : Result Exit Refusal → Side → Side → Type 0) where
+  abbrev pub EndsBy : List NamedFile → Shelf → Shelf → Result Exit Refusal → Side → Side → Type 0
+  EndsBy files old new result a b = CommandEnds read_gives holds files (Rose (faults old) (faults new)) old new Over result a b
 
-  -- the read of a file was refused; where it failed, where it is too long
-  pub refused_read : (named : Named) (which : File) (name : List ℕ) (old between new : Shelf) (r : Refusal) (a : Side) → faults old ≤ faults between → IsUnread read_gives faults holds which name r between new
-      → (read_gives between name (Err shelf.Failed) new → Unread read_gives holds named old new which) → (IsLong holds name → FilesEnd holds named Gives Begins (Err (refusal.TooLong which)) a a) → Over named old new (Err r) a a
-  refused_read named which name old between new (refusal.Unread asked) a less u failed long =
-      inl (Rose-after (faults old) (faults between) (faults new) less u.1, subst (λ (f : File). Unread read_gives holds named old new f) (sym u.0) (failed u.2), still a)
-  refused_read named which name old between new (refusal.TooLong asked) a less u failed long =
-      inr (subst (λ (f : File). FilesEnd holds named Gives Begins (Err (refusal.TooLong f)) a a) (sym u.0) (long u.1))
-  refused_read named which name old between new refusal.NoMemory a less u failed long = inr (out_of_memory holds named Gives Begins a)
-  refused_read named which name old between new refusal.Words a less u failed long = absurd u
-  refused_read named which name old between new (refusal.Tree f) a less u failed long = absurd u
-  refused_read named which name old between new (refusal.World f) a less u failed long = absurd u
-  refused_read named which name old between new (refusal.Join f) a less u failed long = absurd u
-  refused_read named which name old between new refusal.NoGoal a less u failed long = absurd u
-  refused_read named which name old between new (refusal.Rules f) a less u failed long = absurd u
-  refused_read named which name old between new (refusal.Ground f) a less u failed long = absurd u
+  -- the read of the first one was refused
+  pub first_unread : (which : File) (name : List ℕ) (files : List NamedFile) (old new : Shelf) (r : Refusal) (a : Side) → IsUnread read_gives faults holds which name r old new → EndsBy ((which, name) ∷ files) old new (Err r) a a
+  first_unread which name files old new (refusal.Unread asked) a u = record { end = StoppedAt asked shelf.Failed; reads = inl (u.0, u.2); ends = (refl, λ is. u.1, still a) }
+  first_unread which name files old new (refusal.TooLong asked) a u = record { end = StoppedAt asked shelf.TooLong; reads = inl (u.0, (u.1, u.2)); ends = (refl, λ is. cc, still a) }
+  first_unread which name files old new refusal.NoMemory a u = record { end = StoppedAt which shelf.NoMemory; reads = inl (refl, u); ends = (refl, λ is. cc, still a) }
+  first_unread which name files old new refusal.Words a u = absurd u
+  first_unread which name files old new (refusal.Tree f) a u = absurd u
+  first_unread which name files old new (refusal.World f) a u = absurd u
+  first_unread which name files old new (refusal.Join f) a u = absurd u
+  first_unread which name files old new refusal.NoGoal a u = absurd u
+  first_unread which name files old new (refusal.Rules f) a u = absurd u
+  first_unread which name files old new (refusal.Ground f) a u = absurd u
 
-  module _ (tree : List ℕ) (rules : Option (List ℕ)) where
-    -- the tree file was not read
-    pub tree_unread : (world : Option (List ℕ)) → LongTree Gives → (old new : Shelf) (r : Refusal) (a : Side) → IsUnread read_gives faults holds file.Tree tree r old new
-        → Over (record { tree = Some tree; world = world; rules = rules }) old new (Err r) a a
-    tree_unread world long old new r a u =
-        refused_read (record { tree = Some tree; world = world; rules = rules }) file.Tree tree old old new r a (omega (arith)) u (λ failed. failed)
-        (λ is. let w = holding holds world in
-        let l = holding holds rules in
-        record {
-          files = record { tree = is.bytes; world = w.bytes; rules = l.bytes };
-          told = record { tree = is.told; world = w.told; rules = l.told };
-          answers = refused_ends (Gives (record { tree = is.bytes; world = w.bytes; rules = l.bytes })) (Begins (record { tree = is.bytes; world = w.bytes; rules = l.bytes })) (refusal.TooLong file.Tree) a
-              (λ moments. long (record { tree = is.bytes; world = w.bytes; rules = l.bytes }) moments a.drivers is.long);
-        })
+  -- the first one was read
+  module _ (which : File) (name : List ℕ) (files : List NamedFile) (bytes : List ℕ) (old between new : Shelf) (result : Result Exit Refusal) (a b : Side)
+      (less : faults old ≤ faults between) (read : WasRead read_gives holds name bytes old between)
+    where
+      with_first : (end : ReadsEnd) → AreRead read_gives holds files end between new → EndsAfter (Rose (faults between) (faults new)) Over end result a b → EndsBy ((which, name) ∷ files) old new result a b
+      with_first AllRead reads ends = record { end = AllRead; reads = (between, read.gave, told_short holds name bytes read.told read.short, reads); ends = ends }
+      with_first (StoppedAt other gave) reads ends = record {
+        end = StoppedAt other gave;
+        reads = inr (between, read.gave, told_short holds name bytes read.told read.short, reads);
+        ends = (ends.0, λ failed. Rose-after (faults old) (faults between) (faults new) less (ends.1 failed), ends.2);
+      }
 
-    -- the world file was not read, after the tree file
-    pub world_unread : (world : List ℕ) → LongWorld Gives → (bytes : List ℕ) (old between new : Shelf) (r : Refusal) (a : Side) → faults old ≤ faults between
-        → WasRead read_gives holds tree bytes old between → IsUnread read_gives faults holds file.World world r between new → Over (record { tree = Some tree; world = Some world; rules = rules }) old new (Err r) a a
-    world_unread world long bytes old between new r a less read u =
-        refused_read (record { tree = Some tree; world = Some world; rules = rules }) file.World world old between new r a less u
-        (λ failed. (between, read.gave, told_short holds tree bytes read.told read.short, failed))
-        (λ is. let l = holding holds rules in
-        record {
-          files = record { tree = bytes; world = is.bytes; rules = l.bytes };
-          told = record { tree = read.told; world = is.told; rules = l.told };
-          answers = refused_ends (Gives (record { tree = bytes; world = is.bytes; rules = l.bytes })) (Begins (record { tree = bytes; world = is.bytes; rules = l.bytes })) (refusal.TooLong file.World) a
-              (λ moments. long (record { tree = bytes; world = is.bytes; rules = l.bytes }) moments a.drivers read.short is.long);
-        })
+      pub first_read : EndsBy files between new result a b → EndsBy ((which, name) ∷ files) old new result a b
+      first_read rest = with_first rest.end rest.reads rest.ends
 
-  -- the rules file was not read, after the two others
-  pub rules_unread : (tree world rules : List ℕ) → LongRules Gives → (first second : List ℕ) (old between later new : Shelf) (r : Refusal) (a : Side) → faults old ≤ faults later
-      → WasRead read_gives holds tree first old between → WasRead read_gives holds world second between later → IsUnread read_gives faults holds file.Rules rules r later new
-      → Over (tree_world_rules tree world rules) old new (Err r) a a
-  rules_unread tree world rules long first second old between later new r a less read next u =
-      refused_read (tree_world_rules tree world rules) file.Rules rules old later new r a less u
-      (λ failed. (between, read.gave, told_short holds tree first read.told read.short, (later, next.gave, told_short holds world second next.told next.short, failed)))
-      (λ is. record {
-        files = record { tree = first; world = second; rules = is.bytes };
-        told = record { tree = read.told; world = next.told; rules = is.told };
-        answers = refused_ends (Gives (record { tree = first; world = second; rules = is.bytes })) (Begins (record { tree = first; world = second; rules = is.bytes })) (refusal.TooLong file.Rules) a
-            (λ moments. long (record { tree = first; world = second; rules = is.bytes }) moments a.drivers read.short next.short is.long);
-      })
-
-  -- all were read
-  pub files_read : (named : Named) (files : Contents) (old new : Shelf) (result : Result Exit Refusal) (a b : Side) → AreTold holds named files → EndsAt (Gives files) (Begins files) result a b → Over named old new result a b
-  files_read named files old new result a b told ends = inr (record { files = files; told = told; answers = ends })
+  -- no more is read
+  pub no_more : (old new : Shelf) (result : Result Exit Refusal) (a b : Side) → new ≡ old → Over result a b → EndsBy [] old new result a b
+  no_more old new result a b same over = record { end = AllRead; reads = same; ends = over }
 
 -- both files of a run were read
 pub both_read : (holds : Option (List ℕ → List ℕ)) (tree world first second : List ℕ) (course : Course) (main : Option (List ℕ)) (result : Result Exit Refusal) (a b : Side) → Told holds tree (λ file. first ≡ file)
-    → Told holds world (λ file. second ≡ file) → EndsAt (CourseGives course main first second) AreUncalled result a b → FilesEnd holds (tree_and_world tree world) (RunsOn course main) BeginsNothing result a b
-both_read holds tree world first second course main result a b of_tree of_world ends =
-    record { files = record { tree = first; world = second; rules = [] }; told = record { tree = of_tree; world = of_world; rules = tt }; answers = ends }
+    → Told holds world (λ file. second ≡ file) → length first ≤ most_file_bytes → length second ≤ most_file_bytes → EndsAt (CourseGives course main first second) AreUncalled result a b
+    → FilesEnd holds (tree_and_world tree world) (RunsOn course main) BeginsNothing result a b
+both_read holds tree world first second course main result a b of_tree of_world st sw ends = record {
+  files = record { tree = first; world = second; rules = [] };
+  told = record { told = record { tree = of_tree; world = of_world; rules = tt }; tree = st; world = sw; rules = no_bytes };
+  answers = ends;
+}
 
 -- the three files of a run of mocks were read
 pub three_read : (holds : Option (List ℕ → List ℕ)) (tree world rules first second third : List ℕ) (main : Option (List ℕ)) (result : Result Exit Refusal) (a b : Side) → Told holds tree (λ file. first ≡ file)
-    → Told holds world (λ file. second ≡ file) → Told holds rules (λ file. third ≡ file) → EndsAt (ScriptMocks main first second third) AreUncalled result a b
-    → FilesEnd holds (tree_world_rules tree world rules) (Mocks main) BeginsNothing result a b
-three_read holds tree world rules first second third main result a b of_tree of_world of_rules ends =
-    record { files = record { tree = first; world = second; rules = third }; told = record { tree = of_tree; world = of_world; rules = of_rules }; answers = ends }
+    → Told holds world (λ file. second ≡ file) → Told holds rules (λ file. third ≡ file) → length first ≤ most_file_bytes → length second ≤ most_file_bytes → length third ≤ most_file_bytes
+    → EndsAt (ScriptMocks main first second third) AreUncalled result a b → FilesEnd holds (tree_world_rules tree world rules) (Mocks main) BeginsNothing result a b
+three_read holds tree world rules first second third main result a b of_tree of_world of_rules st sw sr ends = record {
+  files = record { tree = first; world = second; rules = third };
+  told = record { told = record { tree = of_tree; world = of_world; rules = of_rules }; tree = st; world = sw; rules = sr };
+  answers = ends;
+}
 
 -- the bytes of a world file alone
 abbrev pub alone : List ℕ → Contents
@@ -294,22 +261,14 @@ alone bytes = record { tree = []; world = bytes; rules = [] }
 abbrev pub LongAlone : Giving → Type 0
 LongAlone Gives = (bytes : List ℕ) (moments : Moments) (drivers : List DriverState) → most_file_bytes < length bytes → Gives (alone bytes) moments drivers (too_long file.World)
 
-module _ {Shelf : Type 0} (read_gives : Reading Shelf) (faults : Shelf → ℕ) (holds : Option (List ℕ → List ℕ)) (Gives : Giving) (Begins : Beginning) (world : List ℕ) where
-  -- it was not read
-  pub alone_unread : LongAlone Gives → (old new : Shelf) (r : Refusal) (a : Side) → IsUnread read_gives faults holds file.World world r old new → Over read_gives faults holds Gives Begins (world_alone world) old new (Err r) a a
-  alone_unread long old new r a u =
-      refused_read read_gives faults holds Gives Begins (world_alone world) file.World world old old new r a (omega (arith)) u (λ failed. failed)
-      (λ is. record {
-        files = alone is.bytes;
-        told = record { tree = tt; world = is.told; rules = tt };
-        answers = refused_ends (Gives (alone is.bytes)) (Begins (alone is.bytes)) (refusal.TooLong file.World) a (λ moments. long is.bytes moments a.drivers is.long);
-      })
-
-  -- it was read
-  pub alone_read : (bytes : List ℕ) (old between new : Shelf) (result : Result Exit Refusal) (a b : Side) → WasRead read_gives holds world bytes old between
-      → EndsAt (Gives (alone bytes)) (Begins (alone bytes)) result a b → Over read_gives faults holds Gives Begins (world_alone world) old new result a b
-  alone_read bytes old between new result a b read ends =
-      files_read read_gives faults holds Gives Begins (world_alone world) (alone bytes) old new result a b (record { tree = tt; world = read.told; rules = tt }) ends
+-- it was read
+pub alone_read : (holds : Option (List ℕ → List ℕ)) (Gives : Giving) (Begins : Beginning) (world bytes : List ℕ) (result : Result Exit Refusal) (a b : Side) → Told holds world (λ file. bytes ≡ file) → length bytes ≤ most_file_bytes
+    → EndsAt (Gives (alone bytes)) (Begins (alone bytes)) result a b → FilesEnd holds (world_alone world) Gives Begins result a b
+alone_read holds Gives Begins world bytes result a b told short ends = record {
+  files = alone bytes;
+  told = record { told = record { tree = tt; world = told; rules = tt }; tree = no_bytes; world = short; rules = no_bytes };
+  answers = ends;
+}
 
 -- a tree file was read, of whose tree this is printed
 module _ (holds : Option (List ℕ → List ℕ)) (name : List ℕ) (print : Print) (main : Option (List ℕ)) (bytes : List ℕ) (told : Told holds name (λ file. bytes ≡ file)) (short : length bytes ≤ most_file_bytes) where
@@ -317,12 +276,16 @@ module _ (holds : Option (List ℕ → List ℕ)) (name : List ℕ) (print : Pri
   tree_of_file = record { tree = bytes; world = []; rules = [] }
 
   print_files : (result : Result Exit Refusal) (a b : Side) → EndsAt (Prints print main tree_of_file) AreUncalled result a b → FilesEnd holds (tree_alone name) (Prints print main) BeginsNothing result a b
-  print_files result a b ends = record { files = tree_of_file; told = record { tree = told; world = tt; rules = tt }; answers = ends }
+  print_files result a b ends = record {
+    files = tree_of_file;
+    told = record { told = record { tree = told; world = tt; rules = tt }; tree = short; world = no_bytes; rules = no_bytes };
+    answers = ends;
+  }
 
   pub print_stopped : (stopped : Stop TreeFault) (a : Side) → ReadsAs (Err stopped) main bytes → FilesEnd holds (tree_alone name) (Prints print main) BeginsNothing (Err (stopped_as refusal.Tree stopped)) a a
   print_stopped (stop.Fault f) a reads =
       print_files (Err (refusal.Tree f)) a a (refused_ends (Prints print main tree_of_file) AreUncalled (refusal.Tree f) a (λ moments. print_gives print main bytes (Err f) short reads))
-  print_stopped stop.NoMemory a reads = out_of_memory holds (tree_alone name) (Prints print main) BeginsNothing a
+  print_stopped stop.NoMemory a reads = print_files (Err refusal.NoMemory) a a (refused_ends (Prints print main tree_of_file) AreUncalled refusal.NoMemory a (λ moments. tt))
 
   pub tree_printed : (t : Tree) (exit : Exit) (written : Option (List ℕ)) (faults : ℕ) (a : Side) → ReadsAs (Ok t) main bytes → Printed (print_output print (Ok t)) exit a.written a.faults written faults
       → FilesEnd holds (tree_alone name) (Prints print main) BeginsNothing (Ok exit) a (side written faults a.clock a.drivers)
@@ -334,7 +297,15 @@ module _ (holds : Option (List ℕ → List ℕ)) (name : List ℕ) (print : Pri
 -- the files of a load, which names none
 pub load_ends : (holds : Option (List ℕ → List ℕ)) (leaves : ℕ) (result : Result Exit Refusal) (a b : Side) → EndsAt (CourseGives (course.Load leaves) None (tree_text leaves) (world_text leaves)) AreUncalled result a b
     → FilesEnd holds no_files (FilesGive (Load leaves)) BeginsNothing result a b
-load_ends holds leaves result a b ends = record { files = record { tree = []; world = []; rules = [] }; told = record { tree = tt; world = tt; rules = tt }; answers = ends }
+load_ends holds leaves result a b ends = record {
+  files = record { tree = []; world = []; rules = [] };
+  told = record { told = record { tree = tt; world = tt; rules = tt }; tree = no_bytes; world = no_bytes; rules = no_bytes };
+  answers = ends;
+}
+
+pub load_stopped : (holds : Option (List ℕ → List ℕ)) (leaves : ℕ) (a : Side) → FilesEnd holds no_files (FilesGive (Load leaves)) BeginsNothing (Err refusal.NoMemory) a a
+load_stopped holds leaves a =
+    load_ends holds leaves (Err refusal.NoMemory) a a (refused_ends (CourseGives (course.Load leaves) None (tree_text leaves) (world_text leaves)) AreUncalled refusal.NoMemory a (λ moments. tt))
 
 -- ---- Words
 
@@ -347,7 +318,7 @@ gave_after o result a b written faults same printed =
     (printed a.clock a.drivers b.drivers same.drivers)))
 
 -- without a call, no more was begun than a command may begin
-uncalled_begin : (c : Command) (files : Contents) (old new : List DriverState) → AreUncalled old new → FilesBegin c files old new
+pub uncalled_begin : (c : Command) (files : Contents) (old new : List DriverState) → AreUncalled old new → FilesBegin c files old new
 uncalled_begin (Tick t w main) files old new same = same
 uncalled_begin (Live t w rounds main) files old new same = same
 uncalled_begin (Load leaves) files old new same = same
@@ -359,38 +330,59 @@ uncalled_begin (Ground w) files old new same = same
 uncalled_begin (GroundPlan w expand ticks period) files old new same = inl same
 
 -- a command that came to this was answered
-module _ (command : Command) (holds : Option (List ℕ → List ℕ)) (rose : Type 0) (IsUnread : File → Type 0) where
+module _ {Shelf : Type 0} (read_gives : Reading Shelf) (holds : Option (List ℕ → List ℕ)) (command : Command) (rose : Type 0) (old new : Shelf) where
   abbrev Ended : Result Exit Refusal → Side → Side → Type 0
-  Ended result a b = CommandEnds rose IsUnread (FilesEnd holds (files_of command) (FilesGive command) (FilesBegin command)) result a b
+  Ended result a b = CommandEnds read_gives holds (in_order (files_of command)) rose old new (FilesEnd holds (files_of command) (FilesGive command) (FilesBegin command)) result a b
+
+  abbrev Over : Result Exit Refusal → Side → Side → Type 0
+  Over = FilesEnd holds (files_of command) (FilesGive command) (FilesBegin command)
+
+  abbrev Answer : Exit → Side → Side → Type 0
+  Answer exit a b = WordsAnswered read_gives holds (Some command) rose old new exit a b
+
+  exit_by : (exit : Exit) (a b : Side) (end : ReadsEnd) → AreRead read_gives holds (in_order (files_of command)) end old new → (let r : Result Exit Refusal = Ok exit in EndsAfter rose Over end r a b) → Answer exit a b
+  exit_by exit a b AllRead reads ends = record { end = AllRead; reads = reads; answered = ends }
+  exit_by exit a b (StoppedAt which gave) reads ends = let is : Ok exit ≡ Err (refusal_of which gave) = ends.0 in cc
 
   -- .. with an exit
-  pub exit_answered : (exit : Exit) (a b : Side) → Ended (Ok exit) a b → CommandAnswered (Some command) holds rose IsUnread exit a b
-  exit_answered exit a b (inl x) = absurd x
-  exit_answered exit a b (inr f) = inr f
+  pub exit_answered : (exit : Exit) (a b : Side) → Ended (Ok exit) a b → Answer exit a b
+  exit_answered exit a b ended = exit_by exit a b ended.end ended.reads ended.ends
 
-  refused_answers : (P : Output → Type 0) (H : Begun) (o : Option Output) (end : Exit) (a b : Side) (written : Option (List ℕ)) (faults : ℕ) → (AreUncalled a.drivers b.drivers → H a.drivers b.drivers) → IfSome o P → IsUntouched a b
-      → MatchOption o ((end ≡ exit.Memory) × (written ≡ b.written)) (λ o. Printed o end b.written b.faults written faults) → Answers P H end a (side written faults b.clock b.drivers)
-  refused_answers P H None end a b written faults begun is same x = inr (record { exit = x.0; written = x.1 ∙ same.written; clock = same.clock; drivers = begun same.drivers })
-  refused_answers P H (Some o) end a b written faults begun is same x = inl (o, is, gave_after o end a b written faults same x)
+  module _ (end : Exit) (a b : Side) (written : Option (List ℕ)) (faults : ℕ) where
+    refused_answers : (P : Output → Type 0) (H : Begun) (o : Option Output) → (AreUncalled a.drivers b.drivers → H a.drivers b.drivers) → IfSome o P → IsUntouched a b
+        → MatchOption o ((end ≡ exit.Memory) × (written ≡ b.written)) (λ o. Printed o end b.written b.faults written faults) → Answers P H end a (side written faults b.clock b.drivers)
+    refused_answers P H None begun is same x = inr (record { exit = x.0; written = x.1 ∙ same.written; clock = same.clock; drivers = begun same.drivers })
+    refused_answers P H (Some o) begun is same x = inl (o, is, gave_after o end a b written faults same x)
+
+    fault_answered : (which : File) (gave : ShelfFault) → (gave ≡ shelf.Failed → rose) → IsUntouched a b → IsRefused (refusal_of which gave) end b.written b.faults written faults
+        → AnsweredAfter (Some command) holds rose (StoppedAt which gave) end a (side written faults b.clock b.drivers)
+    fault_answered which shelf.Failed rises same refused = (rises refl, gave_after (unread which) end a b written faults same refused)
+    fault_answered which shelf.TooLong rises same refused = gave_after (too_long which) end a b written faults same refused
+    fault_answered which shelf.NoMemory rises same refused = record { exit = refused.0; written = refused.1 ∙ same.written; clock = same.clock; drivers = same.drivers }
+
+    refused_by : (r : Refusal) (last : ReadsEnd) → AreRead read_gives holds (in_order (files_of command)) last old new → (let s : Result Exit Refusal = Err r in EndsAfter rose Over last s a b) → IsRefused r end b.written b.faults written faults
+        → Answer end a (side written faults b.clock b.drivers)
+    refused_by r AllRead reads f refused = record {
+      end = AllRead;
+      reads = reads;
+      answered = record {
+        files = f.files;
+        told = f.told;
+        answers = at_more a.clock (λ moments. Ends (FilesGive command f.files moments a.drivers) (FilesBegin command f.files) (Err r) a b)
+            (λ moments. Answers (FilesGive command f.files moments a.drivers) (FilesBegin command f.files) end a (side written faults b.clock b.drivers))
+            (λ moments x. refused_answers (FilesGive command f.files moments a.drivers) (FilesBegin command f.files) (refused_as r)
+            (uncalled_begin command f.files a.drivers b.drivers) x.0 x.1 refused) f.answers;
+      };
+    }
+    refused_by r (StoppedAt which gave) reads ends refused =
+        let is : r ≡ refusal_of which gave = cc (ends.0) in
+        record {
+          end = StoppedAt which gave;
+          reads = reads;
+          answered = fault_answered which gave ends.1 ends.2 (subst (λ (s : Refusal). IsRefused s end b.written b.faults written faults) is refused);
+        }
 
   -- .. with a refusal, whose line was then written
   pub refusal_answered : (r : Refusal) (exit : Exit) (a b : Side) (written : Option (List ℕ)) (faults : ℕ) → Ended (Err r) a b → IsRefused r exit b.written b.faults written faults
-      → CommandAnswered (Some command) holds rose IsUnread exit a (side written faults b.clock b.drivers)
-  refusal_answered (refusal.Unread which) exit a b written faults (inl x) refused = inl (x.0, which, x.1, gave_after (unread which) exit a b written faults x.2 refused)
-  refusal_answered refusal.Words exit a b written faults (inl x) refused = absurd x
-  refusal_answered (refusal.TooLong which) exit a b written faults (inl x) refused = absurd x
-  refusal_answered (refusal.Tree f) exit a b written faults (inl x) refused = absurd x
-  refusal_answered (refusal.World f) exit a b written faults (inl x) refused = absurd x
-  refusal_answered (refusal.Join f) exit a b written faults (inl x) refused = absurd x
-  refusal_answered refusal.NoGoal exit a b written faults (inl x) refused = absurd x
-  refusal_answered (refusal.Rules f) exit a b written faults (inl x) refused = absurd x
-  refusal_answered (refusal.Ground f) exit a b written faults (inl x) refused = absurd x
-  refusal_answered refusal.NoMemory exit a b written faults (inl x) refused = absurd x
-  refusal_answered r exit a b written faults (inr f) refused = inr (record {
-    files = f.files;
-    told = f.told;
-    answers = at_more a.clock (λ moments. Ends (FilesGive command f.files moments a.drivers) (FilesBegin command f.files) (Err r) a b)
-        (λ moments. Answers (FilesGive command f.files moments a.drivers) (FilesBegin command f.files) exit a (side written faults b.clock b.drivers))
-        (λ moments x. refused_answers (FilesGive command f.files moments a.drivers) (FilesBegin command f.files) (refused_as r) exit a b written faults
-        (uncalled_begin command f.files a.drivers b.drivers) x.0 x.1 refused) f.answers;
-  })
+      → Answer exit a (side written faults b.clock b.drivers)
+  refusal_answered r exit a b written faults ended refused = refused_by exit a b written faults r ended.end ended.reads ended.ends refused

@@ -19,7 +19,7 @@ use Rattle.bt_answers.specs.Output.{AreUncalled, Output}
 use Rattle.bt_output.specs.Gives.{BeginsNothing}
 use Rattle.bt_refusals.specs.Refused.{ground_refused, stopped_as}
 use Rattle.bt_planning.specs.Plans.{WorldBegun, WorldPlans}
-use Rattle.bt_output.proofs.Files.{LongAlone, alone, long_is, match_false, match_true, short_is}
+use Rattle.bt_output.proofs.Files.{LongAlone, alone, alone_read, long_is, match_false, match_true, short_is}
 use Rattle.bt_answers.proofs.Moments.{at_any, at_more}
 use Rattle.bt_refusals.proofs.Ends.{ends_more, refused_ends}
 use Rattle.bt_plan.specs.declared.ending.Limits.{Limits}
@@ -58,7 +58,7 @@ module _ (bytes : List ℕ) (short : length bytes ≤ most_file_bytes) where
 -- a ground file was read, whose text is written
 module _ (holds : Option (List ℕ → List ℕ)) (name bytes : List ℕ) (told : Told holds name (λ file. bytes ≡ file)) (short : length bytes ≤ most_file_bytes) where
   ground_files : (result : Result Exit Refusal) (a b : Side) → EndsAt (Grounds (alone bytes)) AreUncalled result a b → FilesEnd holds (world_alone name) Grounds BeginsNothing result a b
-  ground_files result a b ends = record { files = alone bytes; told = record { tree = tt; world = told; rules = tt }; answers = ends }
+  ground_files result a b ends = alone_read holds Grounds BeginsNothing name bytes result a b told short ends
 
   pub ground_refuses : (stopped : Stop GroundFault) (a : Side) → (let r : Result Grounded (Stop GroundFault) = Err stopped in Gives r (λ said. said ≡ reads_ground bytes))
       → FilesEnd holds (world_alone name) Grounds BeginsNothing (Err (stopped_as refusal.Ground stopped)) a a

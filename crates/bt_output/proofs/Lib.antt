@@ -1,3 +1,4 @@
+pub mod AnyBytes
 pub mod Files
 pub mod Grounds
 pub mod Plans

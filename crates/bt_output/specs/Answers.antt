@@ -1,16 +1,18 @@
 -- What the answer of a command says.
-use Rattle.std.specs.Prelude.{ℕ, ◌≡◌, List, Option, Some, None, ◌⊎◌}
+use Rattle.std.specs.Prelude.{ℕ, ◌≡◌, ◌≤◌, List, length, Option, Some, None, ◌⊎◌}
 use Rattle.bt_command_line.specs.declared.exit.Exit.{Exit}
 use Rattle.bt_refusals.specs.declared.refusal.File.{File}
-use Rattle.bt_refusals.specs.declared.refusal.File.TheVariants as file
 use Rattle.bt_output.specs.Files.{Contents, Named}
 use Rattle.bt_output.specs.Jobs.{FilesBegin, FilesGive, files_of}
-use Rattle.bt_answers.specs.Output.{Begun, Output}
+use Rattle.bt_answers.specs.Output.{AreUncalled, Begun, Output}
 use Rattle.bt_output.specs.Gives.{Beginning, Giving}
-use Rattle.bt_refusals.specs.Refused.{unread, words_refused}
+use Rattle.bt_refusals.specs.Refused.{too_long, unread, words_refused}
 use Rattle.bt_command_line.specs.Words.{Command}
 use Rattle.bt_outside.specs.Files.{Told}
-use Rattle.bt_answers.specs.Answers.{Answers, AtMoments, Side, Gave}
+use Rattle.bt_outside.specs.declared.shelf.ShelfFault.TheVariants as fault
+use Rattle.bt_model.specs.Limits.{most_file_bytes}
+use Rattle.bt_output.specs.Reads.{AllRead, AreRead, Reading, ReadsEnd, StoppedAt, files_in}
+use Rattle.bt_answers.specs.Answers.{Answers, AtMoments, RanOut, Side, Gave}
 
 -- what a shelf tells of a file that may be named
 abbrev pub ToldIfNamed : Option (List ℕ → List ℕ) → Option (List ℕ) → (List ℕ → Type 0) → Type 0
@@ -23,17 +25,28 @@ pub record AreTold (holds : Option (List ℕ → List ℕ)) (named : Named) (fil
   pub world : ToldIfNamed holds named.world (λ file. files.world ≡ file)
   pub rules : ToldIfNamed holds named.rules (λ file. files.rules ≡ file)
 
--- what is so of the output of some bytes of files that may be named, and of some moments, and of what may have begun before:
--- those that the shelf and the clock tell
-pub record OfFiles (holds : Option (List ℕ → List ℕ)) (named : Named) (Gives : Giving) (Begins : Beginning) (found : Side) (P : (Output → Type 0) → Begun → Type 0) : Type 0 where
-  pub files : Contents
+-- .. and none of them is too long
+pub record AreWithin (holds : Option (List ℕ → List ℕ)) (named : Named) (files : Contents) : Type 0 where
   pub told : AreTold holds named files
+  pub tree : length files.tree ≤ most_file_bytes
+  pub world : length files.world ≤ most_file_bytes
+  pub rules : length files.rules ≤ most_file_bytes
+
+-- what is so of the output of some bytes of files, of which this is so, and of some moments, which are those that the clock
+-- tells; and of what may have begun before
+pub record OfFiles (AreFound : Contents → Type 0) (Gives : Giving) (Begins : Beginning) (found : Side) (P : (Output → Type 0) → Begun → Type 0) : Type 0 where
+  pub files : Contents
+  pub told : AreFound files
   pub answers : AtMoments found.clock (λ moments. P (Gives files moments found.drivers) (Begins files))
+
+-- the output of files, of which this is so, was given
+abbrev pub GaveFiles : (Contents → Type 0) → Giving → Beginning → Exit → Side → Side → Type 0
+GaveFiles AreFound Gives Begins result old new =
+    OfFiles AreFound Gives Begins old (λ IsOutput HaveBegun. Answers IsOutput HaveBegun result old new)
 
 -- the output of files that may be named was given
 abbrev pub FilesAnswered : Option (List ℕ → List ℕ) → Named → Giving → Beginning → Exit → Side → Side → Type 0
-FilesAnswered holds named Gives Begins result old new =
-    OfFiles holds named Gives Begins old (λ IsOutput HaveBegun. Answers IsOutput HaveBegun result old new)
+FilesAnswered holds named Gives Begins result old new = GaveFiles (AreTold holds named) Gives Begins result old new
 
 -- The shelf's count of failures rose: the read of a file failed, and the line of this file was given.
 abbrev pub ReadFailed : Type 0 → (File → Type 0) → Exit → Side → Side → Type 0
@@ -46,3 +59,21 @@ abbrev pub CommandAnswered : Option Command → Option (List ℕ → List ℕ) �
 CommandAnswered None holds shelf_rose IsUnread result old new = Gave words_refused result old new
 CommandAnswered (Some command) holds shelf_rose IsUnread result old new =
     ReadFailed shelf_rose IsUnread result old new ⊎ FilesAnswered holds (files_of command) (FilesGive command) (FilesBegin command) result old new
+
+-- What words were answered after reads that end so: the output of their files, of which none is too long, was given; or the
+-- line of the fault that the last read gave, where the shelf's count of failures rose at Failed; out of memory nothing was
+-- done. Words that are no command have their refusal.
+abbrev pub AnsweredAfter : Option Command → Option (List ℕ → List ℕ) → Type 0 → ReadsEnd → Exit → Side → Side → Type 0
+AnsweredAfter None holds shelf_rose end result old new = Gave words_refused result old new
+AnsweredAfter (Some command) holds shelf_rose AllRead result old new =
+    GaveFiles (AreWithin holds (files_of command)) (FilesGive command) (FilesBegin command) result old new
+AnsweredAfter (Some command) holds shelf_rose (StoppedAt which fault.Failed) result old new = shelf_rose × Gave (unread which) result old new
+AnsweredAfter (Some command) holds shelf_rose (StoppedAt which fault.TooLong) result old new = Gave (too_long which) result old new
+AnsweredAfter (Some command) holds shelf_rose (StoppedAt which fault.NoMemory) result old new = RanOut AreUncalled result old new
+
+-- the files of words are read, as far as no read gives a fault, and then they are answered
+pub record WordsAnswered {Shelf : Type 0} (read_gives : Reading Shelf) (holds : Option (List ℕ → List ℕ)) (command : Option Command) (shelf_rose : Type 0) (shelf_old shelf_new : Shelf)
+    (result : Exit) (old new : Side) : Type 0 where
+  pub end : ReadsEnd
+  pub reads : AreRead read_gives holds (files_in command) end shelf_old shelf_new
+  pub answered : AnsweredAfter command holds shelf_rose end result old new

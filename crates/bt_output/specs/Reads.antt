@@ -1,5 +1,5 @@
--- What reads of the files of a command give, and which of them failed.
-use Rattle.std.specs.Prelude.{ℕ, ◌≡◌, ◌<◌, ◌≤◌, List, length, Option, Some, None, Result, Ok, Err}
+-- What the reads of the files of a command give, and how they end.
+use Rattle.std.specs.Prelude.{ℕ, ◌≡◌, ◌<◌, ◌≤◌, ◌⊎◌, List, [], ◌∷◌, ◌++◌, length, Option, Some, None, Result, Ok, Err}
 use Rattle.bt_command_line.specs.Words.{Command}
 use Rattle.bt_model.specs.Limits.{most_file_bytes}
 use Rattle.bt_outside.specs.Counts.{Rose}
@@ -42,36 +42,50 @@ IsUnread read_gives faults holds asked name _ old new = ⊥
 
 -- ---- The reads of a command
 
+-- what is read as this one of the files of a command, and its name
+abbrev pub NamedFile : Type 0
+NamedFile = File × List ℕ
+
+-- a file that may be named
+abbrev pub if_named : File → Option (List ℕ) → List NamedFile
+if_named which None = []
+if_named which (Some name) = (which, name) ∷ []
+
+-- the files that are named, in the order in which they are read
+abbrev pub in_order : Named → List NamedFile
+in_order named = if_named file.Tree named.tree ++ if_named file.World named.world ++ if_named file.Rules named.rules
+
+-- the files of words; those that are no command name none
+abbrev pub files_in : Option Command → List NamedFile
+files_in None = []
+files_in (Some command) = in_order (files_of command)
+
+-- how the reads of files end: each file was read, or the read of this one gave a fault
+pub data ReadsEnd : Type 0 where
+  AllRead : ReadsEnd
+  StoppedAt : (which : File) (gave : ShelfFault) → ReadsEnd
+
 -- a file was read, and is within the limit, where the shelf tells it; then this is so of the shelf
 abbrev pub ReadThen : {Shelf : Type 0} → Reading Shelf → Option (List ℕ → List ℕ) → List ℕ → Shelf → (Shelf → Type 0) → Type 0
 ReadThen {Shelf} read_gives holds name old Then =
     (between : Shelf) × read_gives old name (Ok tt) between × Told holds name (λ file. length file ≤ most_file_bytes) × Then between
 
--- the read of a tree file that may be named failed
-abbrev pub TreeUnread : {Shelf : Type 0} → Reading Shelf → Option (List ℕ) → Shelf → Shelf → Type 0
-TreeUnread read_gives None old new = ⊥
-TreeUnread read_gives (Some tree) old new = read_gives old tree (Err fault.Failed) new
+-- the read of a file gave this fault
+abbrev pub GaveFault : {Shelf : Type 0} → Reading Shelf → Option (List ℕ → List ℕ) → List ℕ → ShelfFault → Shelf → Shelf → Type 0
+GaveFault read_gives holds name fault.TooLong old new = IsLong holds name × read_gives old name (Err fault.TooLong) new
+GaveFault read_gives holds name other old new = read_gives old name (Err other) new
 
--- the read of a world file that may be named failed, after that of the tree file, where one is named
-abbrev pub WorldUnread : {Shelf : Type 0} → Reading Shelf → Option (List ℕ → List ℕ) → Option (List ℕ) → Option (List ℕ) → Shelf → Shelf → Type 0
-WorldUnread read_gives holds (Some tree) (Some world) old new =
-    ReadThen read_gives holds tree old (λ between. read_gives between world (Err fault.Failed) new)
-WorldUnread read_gives holds None (Some world) old new = read_gives old world (Err fault.Failed) new
-WorldUnread read_gives holds _ _ old new = ⊥
+-- These files were read in this order, each once, and no other: all of them; or those before the first whose read gave a
+-- fault, and this one.
+abbrev pub AreRead : {Shelf : Type 0} → Reading Shelf → Option (List ℕ → List ℕ) → List NamedFile → ReadsEnd → Shelf → Shelf → Type 0
+AreRead read_gives holds [] AllRead old new = new ≡ old
+AreRead read_gives holds [] (StoppedAt which gave) old new = ⊥
+AreRead read_gives holds (next ∷ files) AllRead old new =
+    ReadThen read_gives holds next.1 old (λ between. AreRead read_gives holds files AllRead between new)
+AreRead read_gives holds (next ∷ files) (StoppedAt which gave) old new =
+    ((which ≡ next.0) × GaveFault read_gives holds next.1 gave old new)
+    ⊎ ReadThen read_gives holds next.1 old (λ between. AreRead read_gives holds files (StoppedAt which gave) between new)
 
--- the read of a rules file that may be named failed, after those of the tree file and of the world file
-abbrev pub RulesUnread : {Shelf : Type 0} → Reading Shelf → Option (List ℕ → List ℕ) → Option (List ℕ) → Option (List ℕ) → Option (List ℕ) → Shelf → Shelf → Type 0
-RulesUnread read_gives holds (Some tree) (Some world) (Some rules) old new =
-    ReadThen read_gives holds tree old (λ first. ReadThen read_gives holds world first (λ second. read_gives second rules (Err fault.Failed) new))
-RulesUnread read_gives holds _ _ _ old new = ⊥
-
--- the read of this one failed of files that may be named
-abbrev pub Unread : {Shelf : Type 0} → Reading Shelf → Option (List ℕ → List ℕ) → Named → Shelf → Shelf → File → Type 0
-Unread read_gives holds named old new file.Tree = TreeUnread read_gives named.tree old new
-Unread read_gives holds named old new file.World = WorldUnread read_gives holds named.tree named.world old new
-Unread read_gives holds named old new file.Rules = RulesUnread read_gives holds named.tree named.world named.rules old new
-
--- the read of a file of words failed; those that are no command name none
+-- the read of this one of the files of words failed, after those before it were read
 abbrev pub WordsUnread : {Shelf : Type 0} → Reading Shelf → Option (List ℕ → List ℕ) → Option Command → Shelf → Shelf → File → Type 0
-WordsUnread read_gives holds None old new which = ⊥
-WordsUnread read_gives holds (Some command) old new which = Unread read_gives holds (files_of command) old new which
+WordsUnread read_gives holds command old new which = AreRead read_gives holds (files_in command) (StoppedAt which fault.Failed) old new

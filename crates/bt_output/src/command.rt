@@ -1,4 +1,4 @@
-ghost use Rattle.std.specs.Prelude.{◌≡◌, ◌≤◌, ◌⊎◌, length};
+ghost use Rattle.std.specs.Prelude.{◌≡◌, ◌≤◌, length};
 ghost use Rattle.std.specs.Option.{option_copied};
 ghost use Rattle.bt_command_line.specs.Commands.{IsInRange, command_seen};
 ghost use Rattle.bt_command_line.specs.Words.{Load, command_of};
@@ -7,7 +7,7 @@ ghost use Rattle.bt_model.specs.Limits.{most_file_bytes, most_leaves};
 ghost use Rattle.bt_model.specs.Trees.{IsValid};
 ghost use Rattle.bt_model.specs.Worlds.{IsValidWorld};
 ghost use Rattle.bt_courses.specs.declared.course.Course.TheVariants as course;
-ghost use Rattle.bt_output.specs.Answers.{CommandAnswered};
+ghost use Rattle.bt_output.specs.Answers.{CommandAnswered, WordsAnswered};
 ghost use Rattle.bt_answers.specs.Answers.{side};
 ghost use Rattle.bt_outside.specs.Counts.{Rose};
 ghost use Rattle.bt_output.specs.Ends.{CommandEnds, FilesEnd};
@@ -20,7 +20,7 @@ ghost use Rattle.bt_answers.specs.Output.{AreUncalled};
 ghost use Rattle.bt_output.specs.Gives.{BeginsNothing, CourseGives, Mocks, Prints, RunsOn, ScriptMocks, StandingGives, mocked};
 ghost use Rattle.bt_output.specs.Plans.{Begins, PlanBegins, PlanGives, Plans};
 ghost use Rattle.bt_plan.specs.PlanRuns.{AreInRange};
-ghost use Rattle.bt_output.specs.Reads.{Unread, WordsUnread};
+ghost use Rattle.bt_output.specs.Reads.{WordsUnread, in_order};
 ghost use Rattle.bt_trace.specs.Traces.{AreKept};
 
 use crate::mocking::mock_tree;
@@ -58,6 +58,7 @@ fn run_files<S: Shelf, K: Sink, C: Clock, D: Drivers>(
     ensures ends { EndsAt (CourseGives course (option_copied main.entry) tree.now world.now) AreUncalled result
         (seen K.written K.faults C.moments D.states outside.old)
         (seen K.written K.faults C.moments D.states outside.new) }
+    ensures unread { outside.new.shelf.now ≡ outside.old.shelf.now }
     ensures stays { Stays S.faults K.faults D.states outside.old outside.new }
 {
     let tree = parse_tree(alloc, tree, main)?;
@@ -88,11 +89,12 @@ fn read_and_run<S: Shelf, K: Sink, C: Clock, D: Drivers>(
     requires quiet { NothingHeld (D.states outside.old.drivers.now) }
     ensures ends { let old = outside.old.shelf.now in
         let new = outside.new.shelf.now in
-        CommandEnds (Rose (S.faults old) (S.faults new))
-        (Unread S.read_gives (S.holds old) (tree_and_world tree.now world.now) old new)
-        (FilesEnd (S.holds old) (tree_and_world tree.now world.now) (RunsOn course (option_copied main.entry)) BeginsNothing) result
+        let files = tree_and_world tree.now world.now in
+        CommandEnds S.read_gives (S.holds old) (in_order files) (Rose (S.faults old) (S.faults new)) old new
+        (FilesEnd (S.holds old) files (RunsOn course (option_copied main.entry)) BeginsNothing) result
         (seen K.written K.faults C.moments D.states outside.old)
         (seen K.written K.faults C.moments D.states outside.new) }
+    ensures held { S.holds outside.new.shelf.now ≡ S.holds outside.old.shelf.now }
     ensures stays { Stays S.faults K.faults D.states outside.old outside.new }
 {
     let tree = read_file(alloc, File::Tree, tree, outside.shelf)?;
@@ -115,9 +117,13 @@ fn make_and_run<S: Shelf, K: Sink, C: Clock, D: Drivers>(
 ) -> Result<Exit, Refusal>
     requires few { leaves ≤ most_leaves }
     requires quiet { NothingHeld (D.states outside.old.drivers.now) }
-    ensures ends { FilesEnd (S.holds outside.old.shelf.now) no_files (FilesGive (Load leaves)) BeginsNothing result
+    ensures ends { let old = outside.old.shelf.now in
+        let new = outside.new.shelf.now in
+        CommandEnds S.read_gives (S.holds old) (in_order no_files) (Rose (S.faults old) (S.faults new)) old new
+        (FilesEnd (S.holds old) no_files (FilesGive (Load leaves)) BeginsNothing) result
         (seen K.written K.faults C.moments D.states outside.old)
         (seen K.written K.faults C.moments D.states outside.new) }
+    ensures held { S.holds outside.new.shelf.now ≡ S.holds outside.old.shelf.now }
     ensures stays { Stays S.faults K.faults D.states outside.old outside.new }
 {
     let tree = load_tree(alloc, leaves)?;
@@ -144,11 +150,12 @@ fn read_and_print<S: Shelf, K: Sink, C: Clock, D: Drivers>(
     requires quiet { NothingHeld (D.states outside.old.drivers.now) }
     ensures ends { let old = outside.old.shelf.now in
         let new = outside.new.shelf.now in
-        CommandEnds (Rose (S.faults old) (S.faults new))
-        (Unread S.read_gives (S.holds old) (tree_alone tree.now) old new)
-        (FilesEnd (S.holds old) (tree_alone tree.now) (Prints print (option_copied main.entry)) BeginsNothing) result
+        let files = tree_alone tree.now in
+        CommandEnds S.read_gives (S.holds old) (in_order files) (Rose (S.faults old) (S.faults new)) old new
+        (FilesEnd (S.holds old) files (Prints print (option_copied main.entry)) BeginsNothing) result
         (seen K.written K.faults C.moments D.states outside.old)
         (seen K.written K.faults C.moments D.states outside.new) }
+    ensures held { S.holds outside.new.shelf.now ≡ S.holds outside.old.shelf.now }
     ensures stays { Stays S.faults K.faults D.states outside.old outside.new }
 {
     let bytes = read_file(alloc, File::Tree, tree, outside.shelf)?;
@@ -171,6 +178,7 @@ fn plan_file<S: Shelf, K: Sink, C: Clock, D: Drivers>(
     ensures ends { EndsAt (λ moments. PlanGives limits.now world.now) (PlanBegins limits.now world.now) result
         (seen K.written K.faults C.moments D.states outside.old)
         (seen K.written K.faults C.moments D.states outside.new) }
+    ensures unread { outside.new.shelf.now ≡ outside.old.shelf.now }
     ensures stays { Stays S.faults K.faults D.states outside.old outside.new }
 {
     let world = read_world(alloc, world)?;
@@ -190,11 +198,12 @@ fn read_and_plan<S: Shelf, K: Sink, C: Clock, D: Drivers>(
     requires quiet { NothingHeld (D.states outside.old.drivers.now) }
     ensures ends { let old = outside.old.shelf.now in
         let new = outside.new.shelf.now in
-        CommandEnds (Rose (S.faults old) (S.faults new))
-        (Unread S.read_gives (S.holds old) (world_alone world.now) old new)
-        (FilesEnd (S.holds old) (world_alone world.now) (Plans limits.now) (Begins limits.now)) result
+        let files = world_alone world.now in
+        CommandEnds S.read_gives (S.holds old) (in_order files) (Rose (S.faults old) (S.faults new)) old new
+        (FilesEnd (S.holds old) files (Plans limits.now) (Begins limits.now)) result
         (seen K.written K.faults C.moments D.states outside.old)
         (seen K.written K.faults C.moments D.states outside.new) }
+    ensures held { S.holds outside.new.shelf.now ≡ S.holds outside.old.shelf.now }
     ensures stays { Stays S.faults K.faults D.states outside.old outside.new }
 {
     let bytes = read_file(alloc, File::World, world, outside.shelf)?;
@@ -214,6 +223,7 @@ fn plan_ground<S: Shelf, K: Sink, C: Clock, D: Drivers>(
     ensures ends { EndsAt (λ moments. GroundPlanGives limits.now bytes.now) (GroundPlanBegins limits.now bytes.now) result
         (seen K.written K.faults C.moments D.states outside.old)
         (seen K.written K.faults C.moments D.states outside.new) }
+    ensures unread { outside.new.shelf.now ≡ outside.old.shelf.now }
     ensures stays { Stays S.faults K.faults D.states outside.old outside.new }
 {
     let ground = read_ground(alloc, bytes)?;
@@ -234,11 +244,12 @@ fn read_and_plan_ground<S: Shelf, K: Sink, C: Clock, D: Drivers>(
     requires quiet { NothingHeld (D.states outside.old.drivers.now) }
     ensures ends { let old = outside.old.shelf.now in
         let new = outside.new.shelf.now in
-        CommandEnds (Rose (S.faults old) (S.faults new))
-        (Unread S.read_gives (S.holds old) (world_alone world.now) old new)
-        (FilesEnd (S.holds old) (world_alone world.now) (GroundPlans limits.now) (GroundBegins limits.now)) result
+        let files = world_alone world.now in
+        CommandEnds S.read_gives (S.holds old) (in_order files) (Rose (S.faults old) (S.faults new)) old new
+        (FilesEnd (S.holds old) files (GroundPlans limits.now) (GroundBegins limits.now)) result
         (seen K.written K.faults C.moments D.states outside.old)
         (seen K.written K.faults C.moments D.states outside.new) }
+    ensures held { S.holds outside.new.shelf.now ≡ S.holds outside.old.shelf.now }
     ensures stays { Stays S.faults K.faults D.states outside.old outside.new }
 {
     let bytes = read_file(alloc, File::World, world, outside.shelf)?;
@@ -254,11 +265,12 @@ fn read_and_ground<S: Shelf, K: Sink, C: Clock, D: Drivers>(
     requires quiet { NothingHeld (D.states outside.old.drivers.now) }
     ensures ends { let old = outside.old.shelf.now in
         let new = outside.new.shelf.now in
-        CommandEnds (Rose (S.faults old) (S.faults new))
-        (Unread S.read_gives (S.holds old) (world_alone world.now) old new)
-        (FilesEnd (S.holds old) (world_alone world.now) Grounds BeginsNothing) result
+        let files = world_alone world.now in
+        CommandEnds S.read_gives (S.holds old) (in_order files) (Rose (S.faults old) (S.faults new)) old new
+        (FilesEnd (S.holds old) files Grounds BeginsNothing) result
         (seen K.written K.faults C.moments D.states outside.old)
         (seen K.written K.faults C.moments D.states outside.new) }
+    ensures held { S.holds outside.new.shelf.now ≡ S.holds outside.old.shelf.now }
     ensures stays { Stays S.faults K.faults D.states outside.old outside.new }
 {
     let bytes = read_file(alloc, File::World, world, outside.shelf)?;
@@ -280,6 +292,7 @@ fn run_mocked<S: Shelf, K: Sink, C: Clock, D: Drivers>(
     ensures ends { EndsAt (StandingGives (mocked rules.now tree.now) world.now course.Script) AreUncalled result
         (seen K.written K.faults C.moments D.states outside.old)
         (seen K.written K.faults C.moments D.states outside.new) }
+    ensures unread { outside.new.shelf.now ≡ outside.old.shelf.now }
     ensures stays { Stays S.faults K.faults D.states outside.old outside.new }
 {
     match mock_tree(alloc, tree, rules) {
@@ -309,6 +322,7 @@ fn mock_files<S: Shelf, K: Sink, C: Clock, D: Drivers>(
     ensures ends { EndsAt (ScriptMocks (option_copied main.entry) tree.now world.now rules.now) AreUncalled result
         (seen K.written K.faults C.moments D.states outside.old)
         (seen K.written K.faults C.moments D.states outside.new) }
+    ensures unread { outside.new.shelf.now ≡ outside.old.shelf.now }
     ensures stays { Stays S.faults K.faults D.states outside.old outside.new }
 {
     let tree = parse_tree(alloc, tree, main)?;
@@ -338,11 +352,12 @@ fn read_and_mock<S: Shelf, K: Sink, C: Clock, D: Drivers>(
     requires quiet { NothingHeld (D.states outside.old.drivers.now) }
     ensures ends { let old = outside.old.shelf.now in
         let new = outside.new.shelf.now in
-        CommandEnds (Rose (S.faults old) (S.faults new))
-        (Unread S.read_gives (S.holds old) (tree_world_rules tree.now world.now rules.now) old new)
-        (FilesEnd (S.holds old) (tree_world_rules tree.now world.now rules.now) (Mocks (option_copied main.entry)) BeginsNothing) result
+        let files = tree_world_rules tree.now world.now rules.now in
+        CommandEnds S.read_gives (S.holds old) (in_order files) (Rose (S.faults old) (S.faults new)) old new
+        (FilesEnd (S.holds old) files (Mocks (option_copied main.entry)) BeginsNothing) result
         (seen K.written K.faults C.moments D.states outside.old)
         (seen K.written K.faults C.moments D.states outside.new) }
+    ensures held { S.holds outside.new.shelf.now ≡ S.holds outside.old.shelf.now }
     ensures stays { Stays S.faults K.faults D.states outside.old outside.new }
 {
     let tree = read_file(alloc, File::Tree, tree, outside.shelf)?;
@@ -380,11 +395,12 @@ fn run_command<S: Shelf, K: Sink, C: Clock, D: Drivers>(
     ensures ends { let old = outside.old.shelf.now in
         let new = outside.new.shelf.now in
         let command = command_seen command.entry in
-        CommandEnds (Rose (S.faults old) (S.faults new))
-        (Unread S.read_gives (S.holds old) (files_of command) old new)
-        (FilesEnd (S.holds old) (files_of command) (FilesGive command) (FilesBegin command)) result
+        let files = files_of command in
+        CommandEnds S.read_gives (S.holds old) (in_order files) (Rose (S.faults old) (S.faults new)) old new
+        (FilesEnd (S.holds old) files (FilesGive command) (FilesBegin command)) result
         (seen K.written K.faults C.moments D.states outside.old)
         (seen K.written K.faults C.moments D.states outside.new) }
+    ensures held { S.holds outside.new.shelf.now ≡ S.holds outside.old.shelf.now }
     ensures stays { Stays S.faults K.faults D.states outside.old outside.new }
 {
     match command {
@@ -435,6 +451,12 @@ fn run_or_refuse<S: Shelf, K: Sink, C: Clock, D: Drivers>(
         (WordsUnread S.read_gives (S.holds old) (command_of words.now) old new) result
         (seen K.written K.faults C.moments D.states outside.old)
         (seen K.written K.faults C.moments D.states outside.new) }
+    ensures reads { let old = outside.old.shelf.now in
+        let new = outside.new.shelf.now in
+        WordsAnswered S.read_gives (S.holds old) (command_of words.now) (Rose (S.faults old) (S.faults new)) old new result
+        (seen K.written K.faults C.moments D.states outside.old)
+        (seen K.written K.faults C.moments D.states outside.new) }
+    ensures held { S.holds outside.new.shelf.now ≡ S.holds outside.old.shelf.now }
     ensures stays { Stays S.faults K.faults D.states outside.old outside.new }
 {
     match read_command(words) {
@@ -465,6 +487,11 @@ pub fn run_words<S: Shelf, K: Sink, C: Clock, D: Drivers>(
         (WordsUnread S.read_gives (S.holds shelf.old) (command_of words.now) shelf.old shelf.new) result
         (side (K.written out.old) (K.faults out.old) (C.moments clock.old) (D.states drivers.old))
         (side (K.written out.new) (K.faults out.new) (C.moments clock.new) (D.states drivers.new)) }
+    ensures reads { WordsAnswered S.read_gives (S.holds shelf.old) (command_of words.now)
+        (Rose (S.faults shelf.old) (S.faults shelf.new)) shelf.old shelf.new result
+        (side (K.written out.old) (K.faults out.old) (C.moments clock.old) (D.states drivers.old))
+        (side (K.written out.new) (K.faults out.new) (C.moments clock.new) (D.states drivers.new)) }
+    ensures held { S.holds shelf.new ≡ S.holds shelf.old }
     ensures kept { AreKept (D.states drivers.old) (D.states drivers.new) }
     ensures read_count { S.faults shelf.old ≤ S.faults shelf.new }
     ensures count { K.faults out.old ≤ K.faults out.new }

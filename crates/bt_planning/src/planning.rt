@@ -48,6 +48,7 @@ pub fn plan_and_print<S: Shelf, K: Sink, C: Clock, D: Drivers>(
     ensures ends { EndsAt (λ moments drivers. WorldPlans world.now limits.now drivers) (WorldBegun world.now limits.now) result
         (seen K.written K.faults C.moments D.states outside.old)
         (seen K.written K.faults C.moments D.states outside.new) }
+    ensures unread { outside.new.shelf.now ≡ outside.old.shelf.now }
     ensures stays { Stays S.faults K.faults D.states outside.old outside.new }
 {
     if world.goals.list().is_empty() {

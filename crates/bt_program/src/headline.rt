@@ -1,5 +1,5 @@
 ghost use Rattle.std.specs.Prelude.{◌≡◌, ◌≤◌, ◌⊎◌, None, map};
-ghost use Rattle.bt_output.specs.Answers.{CommandAnswered, ReadFailed};
+ghost use Rattle.bt_output.specs.Answers.{CommandAnswered, ReadFailed, WordsAnswered};
 ghost use Rattle.bt_answers.specs.Answers.{DriversWithin, Gave, IsWhole, side};
 ghost use Rattle.bt_refusals.specs.Refused.{words_refused};
 ghost use Rattle.bt_output.specs.Reads.{WordsUnread};
@@ -72,6 +72,15 @@ pub fn bt<S: Shelf, K: Sink, C: Clock>(
         (WordsUnread S.read_gives (S.holds shelf.old) (command_of words.now) shelf.old shelf.new) result
         (side (K.written out.old) (K.faults out.old) (C.moments clock.old) (map (λ b. state b) roster.old.items))
         (side (K.written out.new) (K.faults out.new) (C.moments clock.new) (map (λ b. state b) roster.new.items)) }
+
+    // Whatever is answered, the files that the words name were read in their order, each once, and no
+    // other, up to the first whose read gave a fault. The line of this fault was given, or memory ran
+    // out in the read; where no read gave one, the output of bytes of which no file has too many.
+    ensures reads { WordsAnswered S.read_gives (S.holds shelf.old) (command_of words.now)
+        (Rose (S.faults shelf.old) (S.faults shelf.new)) shelf.old shelf.new result
+        (side (K.written out.old) (K.faults out.old) (C.moments clock.old) (map (λ b. state b) roster.old.items))
+        (side (K.written out.new) (K.faults out.new) (C.moments clock.new) (map (λ b. state b) roster.new.items)) }
+    ensures held { S.holds shelf.new ≡ S.holds shelf.old }
 
     // At Read the read of a file failed, and the line of this file was written.
     ensures read { result ≡ Exit.Read → Rose (S.faults shelf.old) (S.faults shelf.new)

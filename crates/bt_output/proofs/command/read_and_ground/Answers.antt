@@ -1,23 +1,26 @@
-use Rattle.std.proofs.Common.{inr}
+use Rattle.std.proofs.Common.{[], refl}
 use Rattle.std.proofs.lemmas.Result.{err_from_is_err_and}
-use Rattle.bt_output.specs.Grounds.{Grounds}
-use Rattle.bt_output.specs.Gives.{BeginsNothing}
-use Rattle.bt_output.proofs.Files.{alone_unread}
-use Rattle.bt_output.proofs.Grounds.{ground_printed, ground_refuses, long_ground}
+use Rattle.bt_output.proofs.Files.{first_read, first_unread, no_more}
+use Rattle.bt_output.proofs.Grounds.{ground_printed, ground_refuses}
+use Rattle.bt_refusals.specs.declared.refusal.File.TheVariants as file
 use Rattle.bt_output.proofs.command.read_and_ground.Goals as goal
 
 pub returns-in_err-bytes-clause-ends : goal.returns-in_err-bytes-clause-ends
 returns-in_err-bytes-clause-ends g c =
     let p = err_from_is_err_and c.from_residual.result c.from_residual.ensures.1 in
-    rw (p.1, p.2) (alone_unread g.S.Shelf.read_gives g.S.Shelf.faults (g.S.Shelf.holds c.args.outside.now.shelf.now) Grounds BeginsNothing c.args.world.now long_ground _ _ c.in_err-bytes.field-0.0 _ c.in_err-bytes.ensures.unread)
+    rw (p.1, p.2) (first_unread g.S.Shelf.read_gives g.S.Shelf.faults (g.S.Shelf.holds c.args.outside.now.shelf.now) _ file.World c.args.world.now [] _ _ c.in_err-bytes.field-0.0 _ c.in_err-bytes.ensures.unread)
 
 pub returns-in_err-ground-clause-ends : goal.returns-in_err-ground-clause-ends
 returns-in_err-ground-clause-ends g c =
     let p = err_from_is_err_and c.from_residual-in_err-ground.result c.from_residual-in_err-ground.ensures.1 in
     let read = c.in_ok-bytes.ensures.read in
-    rw (p.1, p.2) (inr (ground_refuses (g.S.Shelf.holds c.args.outside.now.shelf.now) c.args.world.now _ read.told read.short c.in_err-ground.field-0.0 _ (rw c.as_slice.ensures.value at c.in_err-ground.ensures)))
+    rw (p.1, p.2) (first_read g.S.Shelf.read_gives g.S.Shelf.faults (g.S.Shelf.holds c.args.outside.now.shelf.now) _ file.World c.args.world.now [] _ _ _ _ _ _ _ c.in_ok-bytes.ensures.count read
+    (no_more g.S.Shelf.read_gives g.S.Shelf.faults (g.S.Shelf.holds c.args.outside.now.shelf.now) _ _ _ _ _ _ refl
+    (ground_refuses (g.S.Shelf.holds c.args.outside.now.shelf.now) c.args.world.now _ read.told read.short c.in_err-ground.field-0.0 _ (rw c.as_slice.ensures.value at c.in_err-ground.ensures))))
 
 pub returns-clause-ends : goal.returns-clause-ends
 returns-clause-ends g c =
     let read = c.in_ok-bytes.ensures.read in
-    inr (ground_printed (g.S.Shelf.holds c.args.outside.now.shelf.now) c.args.world.now _ read.told read.short _ _ _ _ _ (rw c.as_slice.ensures.value at c.in_ok-ground.ensures) c.print_ground.ensures.printed)
+    first_read g.S.Shelf.read_gives g.S.Shelf.faults (g.S.Shelf.holds c.args.outside.now.shelf.now) _ file.World c.args.world.now [] _ _ _ _ _ _ _ c.in_ok-bytes.ensures.count read
+    (no_more g.S.Shelf.read_gives g.S.Shelf.faults (g.S.Shelf.holds c.args.outside.now.shelf.now) _ _ _ _ _ _ refl
+    (ground_printed (g.S.Shelf.holds c.args.outside.now.shelf.now) c.args.world.now _ read.told read.short _ _ _ _ _ (rw c.as_slice.ensures.value at c.in_ok-ground.ensures) c.print_ground.ensures.printed))

@@ -1,29 +1,43 @@
-use Rattle.std.proofs.Common.{Some, arith, inr}
+use Rattle.std.proofs.Common.{[], ◌∷◌}
 use Rattle.std.proofs.lemmas.Result.{err_from_is_err_and}
 use Rattle.std.specs.Option.{option_copied}
-use Rattle.bt_output.specs.Gives.{BeginsNothing, Mocks}
-use Rattle.bt_output.proofs.Files.{long_mock, long_mock_world, long_rules, rules_unread, three_read, tree_unread, world_unread}
+use Rattle.bt_output.proofs.Files.{first_read, first_unread, no_more, three_read}
+use Rattle.bt_refusals.specs.declared.refusal.File.TheVariants as file
 use Rattle.bt_output.proofs.command.read_and_mock.Goals as goal
 
 pub returns-in_err-tree-clause-ends : goal.returns-in_err-tree-clause-ends
 returns-in_err-tree-clause-ends g c =
     let p = err_from_is_err_and c.from_residual.result c.from_residual.ensures.1 in
-    rw (p.1, p.2) (tree_unread g.S.Shelf.read_gives g.S.Shelf.faults (g.S.Shelf.holds c.args.outside.now.shelf.now) (Mocks (option_copied c.args.main)) BeginsNothing c.args.tree.now (Some c.args.rules.now) (Some c.args.world.now) (long_mock (option_copied c.args.main)) _ _ c.in_err-tree.field-0.0 _ c.in_err-tree.ensures.unread)
+    rw (p.1, p.2) (first_unread g.S.Shelf.read_gives g.S.Shelf.faults (g.S.Shelf.holds c.args.outside.now.shelf.now) _ file.Tree c.args.tree.now ((file.World, c.args.world.now) ∷ (file.Rules, c.args.rules.now) ∷ []) _ _ c.in_err-tree.field-0.0 _
+    c.in_err-tree.ensures.unread)
 
 pub returns-in_err-world-clause-ends : goal.returns-in_err-world-clause-ends
 returns-in_err-world-clause-ends g c =
     let p = err_from_is_err_and c.from_residual-in_err-world.result c.from_residual-in_err-world.ensures.1 in
-    rw (p.1, p.2) (world_unread g.S.Shelf.read_gives g.S.Shelf.faults (g.S.Shelf.holds c.args.outside.now.shelf.now) (Mocks (option_copied c.args.main)) BeginsNothing c.args.tree.now (Some c.args.rules.now) c.args.world.now (long_mock_world (option_copied c.args.main)) _ _ _ _ c.in_err-world.field-0.0 _ c.in_ok-tree.ensures.count c.in_ok-tree.ensures.read (rw c.in_ok-tree.ensures.holds at c.in_err-world.ensures.unread))
+    rw (p.1, p.2) (first_read g.S.Shelf.read_gives g.S.Shelf.faults (g.S.Shelf.holds c.args.outside.now.shelf.now) _ file.Tree c.args.tree.now ((file.World, c.args.world.now) ∷ (file.Rules, c.args.rules.now) ∷ []) _ _ _ _ _ _ _
+    c.in_ok-tree.ensures.count c.in_ok-tree.ensures.read
+    (first_unread g.S.Shelf.read_gives g.S.Shelf.faults (g.S.Shelf.holds c.args.outside.now.shelf.now) _ file.World c.args.world.now ((file.Rules, c.args.rules.now) ∷ []) _ _ c.in_err-world.field-0.0 _
+    (rw c.in_ok-tree.ensures.holds at c.in_err-world.ensures.unread)))
 
 pub returns-in_err-rules-clause-ends : goal.returns-in_err-rules-clause-ends
 returns-in_err-rules-clause-ends g c =
     let p = err_from_is_err_and c.from_residual-in_err-rules.result c.from_residual-in_err-rules.ensures.1 in
-    rw (p.1, p.2) (rules_unread g.S.Shelf.read_gives g.S.Shelf.faults (g.S.Shelf.holds c.args.outside.now.shelf.now) (Mocks (option_copied c.args.main)) BeginsNothing c.args.tree.now c.args.world.now c.args.rules.now (long_rules (option_copied c.args.main)) _ _ _ _ _ _ c.in_err-rules.field-0.0 _
-    (omega (arith, c.in_ok-tree.ensures.count, c.in_ok-world.ensures.count)) c.in_ok-tree.ensures.read (rw c.in_ok-tree.ensures.holds at c.in_ok-world.ensures.read)
-    (rw (c.in_ok-world.ensures.holds, c.in_ok-tree.ensures.holds) at c.in_err-rules.ensures.unread))
+    rw (p.1, p.2) (first_read g.S.Shelf.read_gives g.S.Shelf.faults (g.S.Shelf.holds c.args.outside.now.shelf.now) _ file.Tree c.args.tree.now ((file.World, c.args.world.now) ∷ (file.Rules, c.args.rules.now) ∷ []) _ _ _ _ _ _ _
+    c.in_ok-tree.ensures.count c.in_ok-tree.ensures.read
+    (first_read g.S.Shelf.read_gives g.S.Shelf.faults (g.S.Shelf.holds c.args.outside.now.shelf.now) _ file.World c.args.world.now ((file.Rules, c.args.rules.now) ∷ []) _ _ _ _ _ _ _
+    c.in_ok-world.ensures.count (rw c.in_ok-tree.ensures.holds at c.in_ok-world.ensures.read)
+    (first_unread g.S.Shelf.read_gives g.S.Shelf.faults (g.S.Shelf.holds c.args.outside.now.shelf.now) _ file.Rules c.args.rules.now [] _ _ c.in_err-rules.field-0.0 _
+    (rw (c.in_ok-world.ensures.holds, c.in_ok-tree.ensures.holds) at c.in_err-rules.ensures.unread))))
 
 pub returns-clause-ends : goal.returns-clause-ends
 returns-clause-ends g c =
-    inr (three_read (g.S.Shelf.holds c.args.outside.now.shelf.now) c.args.tree.now c.args.world.now c.args.rules.now _ _ _ (option_copied c.args.main) _ _ _ c.in_ok-tree.ensures.read.told (rw c.in_ok-tree.ensures.holds at c.in_ok-world.ensures.read.told)
-    (rw (c.in_ok-world.ensures.holds, c.in_ok-tree.ensures.holds) at c.in_ok-rules.ensures.read.told)
-    (rw (c.as_slice.ensures.value, c.as_slice-2.ensures.value, c.as_slice-3.ensures.value) at c.mock_files.ensures.ends))
+    let tree = c.in_ok-tree.ensures.read in
+    let world = rw c.in_ok-tree.ensures.holds at c.in_ok-world.ensures.read in
+    let rules = rw (c.in_ok-world.ensures.holds, c.in_ok-tree.ensures.holds) at c.in_ok-rules.ensures.read in
+    first_read g.S.Shelf.read_gives g.S.Shelf.faults (g.S.Shelf.holds c.args.outside.now.shelf.now) _ file.Tree c.args.tree.now ((file.World, c.args.world.now) ∷ (file.Rules, c.args.rules.now) ∷ []) _ _ _ _ _ _ _
+    c.in_ok-tree.ensures.count tree
+    (first_read g.S.Shelf.read_gives g.S.Shelf.faults (g.S.Shelf.holds c.args.outside.now.shelf.now) _ file.World c.args.world.now ((file.Rules, c.args.rules.now) ∷ []) _ _ _ _ _ _ _ c.in_ok-world.ensures.count world
+    (first_read g.S.Shelf.read_gives g.S.Shelf.faults (g.S.Shelf.holds c.args.outside.now.shelf.now) _ file.Rules c.args.rules.now [] _ _ _ _ _ _ _ c.in_ok-rules.ensures.count rules
+    (no_more g.S.Shelf.read_gives g.S.Shelf.faults (g.S.Shelf.holds c.args.outside.now.shelf.now) _ _ _ _ _ _ c.mock_files.ensures.unread
+    (three_read (g.S.Shelf.holds c.args.outside.now.shelf.now) c.args.tree.now c.args.world.now c.args.rules.now _ _ _ (option_copied c.args.main) _ _ _ tree.told world.told rules.told tree.short world.short rules.short
+    (rw (c.as_slice.ensures.value, c.as_slice-2.ensures.value, c.as_slice-3.ensures.value) at c.mock_files.ensures.ends)))))

@@ -31,6 +31,9 @@ returns-clause-unasked g c = unasked_of _ _ _ _ _ _ _ c.run_words-exit.ensures.a
 pub returns-clause-any_shelf : goal.returns-clause-any_shelf
 returns-clause-any_shelf g c = rw (← c.replace.ensures.value) c.run_words-exit.ensures.answered
 
+pub returns-clause-reads : goal.returns-clause-reads
+returns-clause-reads g c = rw (← c.replace.ensures.value) c.run_words-exit.ensures.reads
+
 pub returns-clause-roster : goal.returns-clause-roster
 returns-clause-roster g c = rw (← c.replace.ensures.value) c.run_words-exit.ensures.kept.same
 
