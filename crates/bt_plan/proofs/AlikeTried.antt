@@ -1,6 +1,5 @@
 -- Plan trees that differ by their keys alone are tried alike: the same step follows, or the same end.
-use Rattle.std.proofs.Common.{◌≡◌, ℕ, ◌+◌, ◌<◌, List, [], Option, Some, None, sym, ap, subst, ◌∙◌, arith, inl, inr}
-use Rattle.std.proofs.lemmas.Bool.{cases_lt}
+use Rattle.std.proofs.Common.{◌≡◌, ℕ, ◌+◌, ◌<◌, List, [], Option, Some, None, sym, ap, subst, ◌∙◌, arith}
 use Rattle.std.specs.Prelude.{slice_get}
 use Rattle.std.specs.Option.{option_and_then, option_map_or}
 use Rattle.bt_model.specs.declared.fault.RunFault.{RunFault}
@@ -16,16 +15,17 @@ use Rattle.bt_expand.specs.Forests.{AreApart, Forest}
 use Rattle.bt_expand.specs.Numbers.{row_in}
 use Rattle.bt_expand.specs.Planned.{id_of}
 use Rattle.bt_loop.specs.Served.{roster_after_run}
+use Rattle.bt_trial.specs.declared.verdict.Verdict.{Verdict}
+use Rattle.bt_trial.specs.declared.verdict.Verdict.TheVariants.{Reaches, Fails, GoesOn}
+use Rattle.bt_trial.specs.Modelled.{IsLast, modelled, modelled_run, next_tick, verdict_after}
+use Rattle.bt_trial.proofs.Traces.{last_once}
 use Rattle.bt_plan.specs.declared.ending.End.{End}
 use Rattle.bt_plan.specs.declared.ending.End.TheVariants.{Reached, NoTemplate, NoOrder, Expansions, StillRunning, Faulted}
 use Rattle.bt_plan.specs.declared.ending.Limits.{Limits}
 use Rattle.bt_plan.specs.declared.ending.Step.{Step}
 use Rattle.bt_plan.specs.declared.places.Place.{Place}
-use Rattle.bt_plan.specs.declared.verdict.Verdict.{Verdict}
-use Rattle.bt_plan.specs.declared.verdict.Verdict.TheVariants.{Reaches, Fails, GoesOn}
 use Rattle.bt_plan.specs.Failing.{failed, first_open, ids_of}
-use Rattle.bt_plan.specs.Modelled.{IsLast, modelled, modelled_run, next_tick, verdict_after}
-use Rattle.bt_plan.specs.PlanRuns.{Decides, Ends, Grows, HasNoOrder, IsStep, IsTried, Trial, failed_in, last_notes, run_of, tree_of}
+use Rattle.bt_plan.specs.PlanRuns.{Decides, Ends, Grows, HasNoOrder, IsStep, IsTried, Trial, failed_in, last_notes, pace_of, run_of, tree_of}
 use Rattle.bt_plan.specs.Settling.{name_at}
 use Rattle.bt_plan.proofs.Alike.{Marks, Same, part_alike, untried_alike}
 use Rattle.bt_plan.proofs.AlikeFailed.{IsSamePlace, ids_alike, open_alike, tree_alike}
@@ -40,16 +40,6 @@ step_same s z uid condition action raises =
     ∙ ap {B = Step} (λ (x : List ℕ). record s { uid = z.uid; condition = x }) condition
     ∙ ap {B = Step} (λ (x : List ℕ). record z { action = x; raises = s.raises }) action
     ∙ ap {B = Step} (λ (x : ℕ). record z { raises = x }) raises
-
--- the last tick of a run is the only one
-last_once : (tree : Planned) (world : World) (limits : Limits) (n m : ℕ) → IsLast tree world limits n → IsLast tree world limits m → n ≡ m
-last_once tree world limits n m last again = elim (cases_lt n m) [
-  | inl less ↦ let all = last.last (again.before n less) in let allowed = again.allowed in absurd (omega (arith, less, all, allowed))
-  | inr least ↦ elim (cases_lt m n) [
-    | inl less ↦ let all = again.last (last.before m less) in let allowed = last.allowed in absurd (omega (arith, less, all, allowed))
-    | inr most ↦ omega (arith, least, most)
-  ]
-]
 
 module _ (world : World) (limits : Limits) where
   -- two trials of trees that differ by their keys alone
@@ -90,7 +80,7 @@ module _ (world : World) (limits : Limits) where
     trees_equal = tree_alike world.rows t.tree u.tree a.same.alike
 
     befores_equal : t.before ≡ u.before
-    befores_equal = last_once (tree_of world.rows u.tree) world limits t.before u.before (subst (λ (x : Planned). IsLast x world limits t.before) trees_equal a.tried) a.again
+    befores_equal = last_once (tree_of world.rows u.tree) world (pace_of limits) t.before u.before (subst (λ (x : Planned). IsLast x world (pace_of limits) t.before) trees_equal a.tried) a.again
 
     -- what is read of the run alone
     equal_by : {A : Type 0} (read : Planned → ℕ → A) → read (tree_of world.rows t.tree) t.before ≡ read (tree_of world.rows u.tree) u.before

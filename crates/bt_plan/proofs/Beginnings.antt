@@ -8,12 +8,12 @@ use Rattle.bt_loop.specs.Steps.{IsSameRoster}
 use Rattle.bt_loop.proofs.Preparing.{run_same}
 use Rattle.bt_loop.proofs.Rising.{roster_both, same_roster}
 use Rattle.bt_trace.specs.Cuts.{HaveBegunWithin}
+use Rattle.bt_trial.specs.Modelled.{modelled}
 use Rattle.bt_plan.specs.declared.ending.End.{End}
 use Rattle.bt_plan.specs.declared.ending.Limits.{Limits}
 use Rattle.bt_plan.specs.declared.ending.PlanEnd.{PlanEnd}
 use Rattle.bt_plan.specs.declared.ending.Step.{Step}
 use Rattle.bt_plan.specs.Answers.{Begins, IsPlan, IsPlanCut, drivers_after}
-use Rattle.bt_plan.specs.Modelled.{modelled}
 use Rattle.bt_plan.specs.PlanRuns.{Ends, IsTried, Lead, Trial, run_of, tree_of}
 use Rattle.bt_plan.proofs.Alike.{Same}
 use Rattle.bt_plan.proofs.AlikeTried.{drivers_equal, step_or_end, stepped_alike}

@@ -16,13 +16,13 @@ use Rattle.bt_expand.specs.Forests.{Forest, part_at, size, subtrees}
 use Rattle.bt_expand.specs.Numbers.{IsRowAt, row_in}
 use Rattle.bt_expand.specs.Planned.{id_of}
 use Rattle.bt_expand.specs.Stands.{IsConditionOf, IsSequenceOf, StandsFor}
+use Rattle.bt_trial.specs.declared.verdict.Verdict.TheVariants.{Reaches, Fails}
 use Rattle.bt_plan.specs.declared.ending.End.{End}
 use Rattle.bt_plan.specs.declared.ending.End.TheVariants.{Reached, NoTemplate, NoOrder, Expansions, StillRunning, Faulted}
 use Rattle.bt_plan.specs.declared.ending.Limits.{Limits}
 use Rattle.bt_plan.specs.declared.ending.Step.{Step}
 use Rattle.bt_plan.specs.declared.growing.Grown.{Grown}
 use Rattle.bt_plan.specs.declared.places.Place.{Place}
-use Rattle.bt_plan.specs.declared.verdict.Verdict.TheVariants.{Reaches, Fails}
 use Rattle.bt_plan.specs.Answers.{StandsAlone}
 use Rattle.bt_plan.specs.Failing.{failed, first_open, has_untried, ids_of}
 use Rattle.bt_plan.specs.Grown.{AreConditions, GoesOrEnds, IsGrown, IsNotGrown, SettlesOrStalls}

@@ -1,11 +1,9 @@
 -- The leaves of a planned tree all have a row, and a driver where each row has one.
-use Rattle.std.proofs.Common.{◌≡◌, ◌≢◌, ℕ, zero, suc, ◌+◌, ◌<◌, Bool, true, false, List, [], ◌∷◌, ◌++◌, length, get_or, map, Option, Some, None, Result, Ok, Err, refl, sym, ap, ◌∙◌, arith}
+use Rattle.std.proofs.Common.{◌≡◌, ◌≢◌, ℕ, zero, suc, ◌+◌, ◌<◌, Bool, true, false, List, [], ◌∷◌, ◌++◌, length, get_or, map, Option, Some, None, refl, sym, ap, subst, ◌∙◌, arith}
 use Rattle.std.specs.Prelude.{bytes_eq, codes, cond, if◌then◌else◌, option_map}
 use Rattle.std.specs.List.{All, find, flat_map}
 use Rattle.std.specs.Option.{option_or}
 use Rattle.std.proofs.lemmas.Slice.Eq.{bytes_eq-Decides}
-use Rattle.bt_script.specs.declared.stop.Stop.{Stop}
-use Rattle.bt_script.specs.declared.stop.Stop.TheVariants as stop
 use Rattle.bt_model.specs.declared.leaf.DriverKind.{DriverKind}
 use Rattle.bt_model.specs.declared.term.Term.{Term, Term-F, fold-roll-Term, roll-Term}
 use Rattle.bt_model.specs.declared.term.Tree.{Tree as Planned}
@@ -15,16 +13,18 @@ use Rattle.bt_model.specs.declared.world.World.{World}
 use Rattle.bt_model.specs.Drivers.{DriverState, driver_at, kind_of_row, place_of_kind, same_kind}
 use Rattle.bt_model.specs.Terms.{leaf_ids, own_leaf_id}
 use Rattle.bt_arena.specs.declared.join_fault.JoinFault.{JoinFault}
-use Rattle.bt_arena.specs.Joins.{Joins, first_missing, lacks_by, lacks_driver, leaf_lacks}
+use Rattle.bt_arena.specs.Joins.{first_missing, lacks_by, lacks_driver, leaf_lacks}
 use Rattle.bt_loop.specs.Steps.{IsSameRoster}
+use Rattle.bt_expand.specs.declared.plan_tree.PlanTree.{PlanTree}
 use Rattle.bt_expand.specs.declared.node.Part.{Part}
 use Rattle.bt_expand.specs.declared.node.Part.TheVariants.{Goals, Sequence, Fallback, Condition, Action}
 use Rattle.bt_expand.specs.Forests.{Forest, Empty, Tree}
-use Rattle.bt_expand.specs.Planned.{id_of, kind_of, part_id, plain_node, terms_of}
-use Rattle.bt_expand.specs.Stands.{PartFits, PartsFit}
+use Rattle.bt_expand.specs.Planned.{IsPlanned, id_of, kind_of, part_id, plain_node, terms_of}
+use Rattle.bt_expand.specs.Stands.{PartFits, PartsFit, StandsFor}
+use Rattle.bt_trial.specs.Tasks.{LacksNothing}
 use Rattle.bt_plan.specs.Answers.{AreServed}
 use Rattle.bt_plan.specs.PlanRuns.{tree_of}
-use Rattle.bt_plan.specs.Ticked.{IsPlannedFor}
+use Rattle.bt_plan.proofs.Trials.{planned_is}
 
 none_of : (a b : Option JoinFault) → option_or a b ≡ None → (a ≡ None) × (b ≡ None)
 none_of None b e = (refl, e)
@@ -93,17 +93,11 @@ module _ (drivers : List DriverState) where
     first_there (Tree key part below rest) (own, lower, later) =
         ap missing (ids_at (term_at part below)) ∙ missing_both (own_leaf_id (kind_of part) (part_id rows part)) (all_ids (terms_of rows below)) (own_there part below own) (all_there below lower)
 
--- nothing is missing for the leaves of a planned tree
-pub none_missing : (world : World) (drivers : List DriverState) (tree : Planned) → AreServed world drivers → IsPlannedFor world tree → first_missing world.rows drivers (leaf_ids tree.term) ≡ None
-none_missing world drivers tree served (f, is, fits) = ap (λ (t : Planned). first_missing world.rows drivers (leaf_ids t.term)) is ∙ first_there drivers world.rows served f fits
-
--- so no run lacks anything
-pub lacks_nothing : {A : Type 0} (r : Result A (Stop JoinFault)) (lack : Option JoinFault) (e : Stop JoinFault) (fault : JoinFault) → r ≡ Err e → e ≡ stop.Fault fault → lack ≡ None → Joins r lack → ⊥
-lacks_nothing (Ok a) lack e fault was is none joins = cc was
-lacks_nothing (Err (stop.Fault f)) lack e fault was is none joins = let w : None ≡ Some f = sym none ∙ joins in cc w
-lacks_nothing (Err stop.NoMemory) lack e fault was is none joins =
-    let same : stop.NoMemory ≡ e = cc was in
-    let w : stop.NoMemory ≡ stop.Fault fault = same ∙ is in cc w
+-- nothing is missing for a planned tree, in a world that may have another name
+pub lacks_nothing : (world of : World) → world ≡ of → (drivers : List DriverState) (t : PlanTree) (f : Forest) (tree : Planned) → AreServed world drivers → StandsFor t world f → IsPlanned world.rows f tree → LacksNothing tree of drivers
+lacks_nothing world of same drivers t f tree served st p =
+    subst (λ (w : World). LacksNothing tree w drivers) same
+    (ap (λ (x : Planned). first_missing world.rows drivers (leaf_ids x.term)) (planned_is world f tree p) ∙ first_there drivers world.rows served f st.shape.fit)
 
 -- ---- The drivers after a run
 

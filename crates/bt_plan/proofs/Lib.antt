@@ -6,7 +6,6 @@ pub mod AlikeSettled
 pub mod AlikeTried
 pub mod Beginnings
 pub mod Conditions
-pub mod Finishing
 pub mod Growths
 pub mod Joined
 pub mod Leading
@@ -17,14 +16,9 @@ pub mod OneWay
 pub mod Pairwise
 pub mod Planned
 pub mod Reaching
-pub mod Resting
 pub mod Rising
 pub mod Settlements
 pub mod Settles
 pub mod Spots
 pub mod Subtrees
-pub mod Ticks
-pub mod Traces
 pub mod Trials
-pub mod Wanted
-pub mod Worlds

@@ -19,7 +19,7 @@ use Rattle.bt_plan.specs.declared.ending.PlanEnd.{PlanEnd}
 use Rattle.bt_plan.specs.declared.ending.Step.{Step}
 use Rattle.bt_plan.specs.Answers.{IsPlan, IsPlanCut, drivers_after}
 use Rattle.bt_plan.specs.PlanRuns.{Ends, IsFirst, Lead, Trial}
-use Rattle.bt_plan.specs.Ticked.{GoesFrom}
+use Rattle.bt_plan.specs.Going.{GoesFrom}
 use Rattle.bt_plan.proofs.Leading.{lead_on}
 
 drivers_both : (world : World) (limits : Limits) (xs ys : List Trial) (drivers : List DriverState) → drivers_after world limits (xs ++ ys) drivers ≡ drivers_after world limits ys (drivers_after world limits xs drivers)

@@ -1,95 +1,37 @@
 -- A tree and its modelled run, as the plan run goes on from it.
-use Rattle.std.proofs.Common.{◌≡◌, inl, inr, ℕ, zero, suc, ◌+◌, List, [], ◌∷◌, ◌++◌, length, Option, Some, None, Result, Ok, Err, IfOk, refl, sym, ap, subst, ◌∙◌, arith}
+use Rattle.std.proofs.Common.{◌≡◌, inl, inr, ℕ, ◌+◌, List, [], ◌∷◌, length, Option, Some, Result, Ok, Err, IfOk, refl, sym, ap, subst, ◌∙◌, arith}
 use Rattle.std.specs.Prelude.{codes, slice_index_or}
-use Rattle.std.specs.List.{AllByRecursion}
 use Rattle.bt_script.specs.declared.stop.NoMemory.{NoMemory}
 use Rattle.bt_script.specs.declared.stop.Stop.{Stop}
 use Rattle.bt_script.specs.declared.stop.Stop.TheVariants as stop
-use Rattle.bt_model.specs.declared.block.Header.{Header}
-use Rattle.bt_model.specs.declared.fault.NodeFault.{NodeFault}
+use Rattle.bt_model.specs.declared.block.Block.{Block as Shown}
 use Rattle.bt_model.specs.declared.fault.RunFault.{RunFault}
-use Rattle.bt_model.specs.declared.note.Note.{Note}
 use Rattle.bt_model.specs.declared.term.Kind.TheVariants.{ReactiveSequence}
 use Rattle.bt_model.specs.declared.term.Term.{Term, roll-Term}
 use Rattle.bt_model.specs.declared.term.Tree.{Tree as Planned}
-use Rattle.bt_model.specs.declared.world.Event.{Event}
-use Rattle.bt_model.specs.declared.world.What.{What}
-use Rattle.bt_model.specs.declared.world.What.TheVariants.{Tick}
 use Rattle.bt_model.specs.declared.leaf.Totals.{Totals}
 use Rattle.bt_model.specs.declared.world.World.{World}
-use Rattle.bt_model.specs.Done.{Call}
 use Rattle.bt_model.specs.Drivers.{DriverState, driver_at}
-use Rattle.bt_model.specs.Run.{RunState, Runner, RunnerCall, Stepped, Trace, before_rest, finish, opening, reset_step, run_from, runner_at, step, step_by, tick_step, told}
 use Rattle.bt_loop.specs.Served.{roster_after_run}
 use Rattle.bt_trace.specs.Cuts.{HaveBegunWithin}
-use Rattle.bt_loop.specs.Runs.{Setup}
 use Rattle.bt_expand.specs.declared.plan_tree.PlanTree.{PlanTree}
 use Rattle.bt_expand.specs.Forests.{Forest}
 use Rattle.bt_expand.specs.Planned.{IsPlanned, plain_node, terms_of}
-use Rattle.bt_expand.specs.Stands.{StandsFor}
+use Rattle.bt_trial.specs.declared.pace.Pace.{Pace}
+use Rattle.bt_trial.specs.declared.trying.Tried.{Tried}
+use Rattle.bt_trial.specs.declared.verdict.Verdict.{Verdict}
+use Rattle.bt_trial.specs.declared.verdict.Verdict.TheVariants.{Reaches, GoesOn}
+use Rattle.bt_trial.specs.Modelled.{modelled}
+use Rattle.bt_trial.specs.Tried.{RunEnds}
+use Rattle.bt_trial.proofs.Faults.{only_runner}
 use Rattle.bt_plan.specs.declared.ending.End.{End}
 use Rattle.bt_plan.specs.declared.ending.End.TheVariants.{Reached, StillRunning, Faulted}
 use Rattle.bt_plan.specs.declared.ending.Limits.{Limits}
 use Rattle.bt_plan.specs.declared.ending.Step.{Step}
-use Rattle.bt_plan.specs.declared.trying.Tried.{Tried}
-use Rattle.bt_plan.specs.declared.verdict.Verdict.{Verdict}
-use Rattle.bt_plan.specs.declared.verdict.Verdict.TheVariants.{Reaches, GoesOn}
 use Rattle.bt_plan.specs.Answers.{drivers_after}
 use Rattle.bt_plan.specs.Grown.{GoesOrEnds}
-use Rattle.bt_plan.specs.Modelled.{modelled, modelled_run, tick_after, ticks}
-use Rattle.bt_plan.specs.PlanRuns.{Decides, IsTried, Trial, last_notes, tree_of}
-use Rattle.bt_plan.specs.Ticked.{GoesFrom, IsPlannedFor, RunEnds}
-
--- ---- Faults
-
-told_runner : {A : Type 0} (answer : Result A NodeFault) (header : Header) (tree : Planned) (runner : ℕ) (notes : List Note) (calls : List Call) (s after : RunState) (fault : RunFault) →
-    (told answer header tree runner notes calls s after).fault ≡ Some fault → fault.runner ≡ runner
-told_runner (Ok x) header tree runner notes calls s after fault is = cc is
-told_runner (Err f) header tree runner notes calls s after fault is = ap (λ (o : Option RunFault). runner_of o) (sym is) where
-  runner_of : Option RunFault → ℕ
-  runner_of (Some x) = x.runner
-  runner_of None = 0
-
-tick_runner : (o : Option Runner) (tree : Planned) (world : World) (runner at : ℕ) (s : RunState) (fault : RunFault) → (tick_step o tree world runner at s).fault ≡ Some fault → fault.runner ≡ runner
-tick_runner None tree world runner at s fault is = cc is
-tick_runner (Some r) tree world runner at s fault is = told_runner _ _ tree runner _ _ s _ fault is
-
-reset_runner : (o : Option Runner) (header : Header) (tree : Planned) (world : World) (runner at : ℕ) (s : RunState) (fault : RunFault) → (reset_step o header tree world runner at s).fault ≡ Some fault → fault.runner ≡ runner
-reset_runner None header tree world runner at s fault is = cc is
-reset_runner (Some r) header tree world runner at s fault is = told_runner _ header tree runner _ _ s _ fault is
-
-module _ (tree : Planned) (world : World) (fault : RunFault) where
-  -- the fault of a step, or of what follows it
-  rest_runner : (o : Option RunFault) (d : Stepped) (rest : RunState → Trace) → (o ≡ Some fault → fault.runner ≡ 1) → ((rest d.state).fault ≡ Some fault → fault.runner ≡ 1) → (before_rest o d rest).fault ≡ Some fault → fault.runner ≡ 1
-  rest_runner (Some f) d rest own later is = own is
-  rest_runner None d rest own later is = later is
-
-  abbrev IsTick : Event → Type 0
-  IsTick e = e.what ≡ Tick 1
-
-  step_runner : (e : Event) (s : RunState) → IsTick e → (step tree (modelled world) e s).fault ≡ Some fault → fault.runner ≡ 1
-  step_runner e s is faulted =
-      tick_runner (runner_at s 1) tree (modelled world) 1 e.at s fault (subst (λ (w : What). (step_by w tree (modelled world) e.at s).fault ≡ Some fault) is faulted)
-
-  ticks_runner : (events : List Event) (s : RunState) → AllByRecursion IsTick events → (run_from tree (modelled world) events s).fault ≡ Some fault → fault.runner ≡ 1
-  ticks_runner [] s are is =
-      let d = finish tree (modelled world) 1 s in
-      rest_runner d.fault d _ (λ own. reset_runner (runner_at s 1) _ tree (modelled world) 1 s.last s fault own) (λ none. cc none) is
-  ticks_runner (e ∷ events) s are is =
-      let d = step tree (modelled world) e s in
-      rest_runner d.fault d _ (step_runner e s are.0) (ticks_runner events d.state are.1) is
-
-  tick_added : (events : List Event) (e : Event) → AllByRecursion IsTick events → IsTick e → AllByRecursion IsTick (events ++ e ∷ [])
-  tick_added [] e are is = (is, tt)
-  tick_added (x ∷ events) e are is = (are.0, tick_added events e are.1 is)
-
-  are_ticks : (period n : ℕ) → AllByRecursion IsTick (ticks period n)
-  are_ticks period zero = tt
-  are_ticks period (suc n) = tick_added (ticks period n) (tick_after period n) (are_ticks period n) refl
-
-  -- a fault of a modelled run is one of its only runner
-  pub only_runner : (period n : ℕ) → (modelled_run tree world period n).fault ≡ Some fault → fault.runner ≡ 1
-  only_runner period n is = ticks_runner (ticks period n) (opening tree (modelled world)) (are_ticks period n) is
+use Rattle.bt_plan.specs.Going.{GoesFrom}
+use Rattle.bt_plan.specs.PlanRuns.{Decides, IsTried, Trial, last_notes, pace_of, tree_of}
 
 -- ---- Trees
 
@@ -99,9 +41,6 @@ planned_is world f tree p =
     let term : slice_index_or (terms_of world.rows f) 0 (roll-Term (plain_node ReactiveSequence (codes "ReactiveSequence") [])) ≡ tree.term =
     ap (λ (terms : List Term). slice_index_or terms 0 (roll-Term (plain_node ReactiveSequence (codes "ReactiveSequence") []))) p.term in
     (λ i. record { main = p.main i; term = sym term i })
-
-pub planned_for : (world : World) (t : PlanTree) (f : Forest) (tree : Planned) → StandsFor t world f → IsPlanned world.rows f tree → IsPlannedFor world tree
-planned_for world t f tree st p = (f, planned_is world f tree p, st.shape.fit)
 
 -- ---- Totals
 
@@ -113,20 +52,25 @@ within_whole before after whole is place =
 
 -- ---- After a run
 
--- a run in a world under another name
-pub runs_as : (world of : World) → world ≡ of → (limits : Limits) (tree : Planned) (before after : List DriverState) (result : Result Tried (Stop RunFault)) →
-    RunEnds result (record { tree = tree; world = of }) limits (roster_after_run tree (modelled of) before) before after →
-    RunEnds result (record { tree = tree; world = world }) limits (roster_after_run tree (modelled world) before) before after
-runs_as world of same limits tree before after result ends =
-    subst (λ (w : World). RunEnds result (record { tree = tree; world = w }) limits (roster_after_run tree (modelled w) before) before after) (sym same) ends
+-- a run in a world under another name, at the pace of these limits
+pub runs_as : (world of : World) → world ≡ of → (limits : Limits) (pace : Pace) → pace ≡ pace_of limits → (tree : Planned) (before after : List DriverState) (result : Result Tried (Stop RunFault)) →
+    RunEnds result (record { tree = tree; world = of }) pace (roster_after_run tree (modelled of) before) before after →
+    RunEnds result (record { tree = tree; world = world }) (pace_of limits) (roster_after_run tree (modelled world) before) before after
+runs_as world of same limits pace paced tree before after result ends =
+    subst (λ (w : World). RunEnds result (record { tree = tree; world = w }) (pace_of limits) (roster_after_run tree (modelled w) before) before after) (sym same)
+    (subst (λ (p : Pace). RunEnds result (record { tree = tree; world = of }) p (roster_after_run tree (modelled of) before) before after) paced ends)
 
--- .. with its error under another name
-pub stopped_as : (of : Setup) (limits : Limits) (called : List RunnerCall → List DriverState) (before after : List DriverState) (e other : Stop RunFault) → e ≡ other → RunEnds (Err e) of limits called before after → RunEnds (Err other) of limits called before after
-stopped_as of limits called before after e other same ends = subst (λ (x : Stop RunFault). RunEnds (Err x) of limits called before after) same ends
+-- .. that was stopped, with its error under another name too
+pub stopped_as : (world of : World) → world ≡ of → (limits : Limits) (pace : Pace) → pace ≡ pace_of limits → (tree : Planned) (before after : List DriverState) (e other : Stop RunFault) → e ≡ other →
+    RunEnds (Err e) (record { tree = tree; world = of }) pace (roster_after_run tree (modelled of) before) before after →
+    RunEnds (Err other) (record { tree = tree; world = world }) (pace_of limits) (roster_after_run tree (modelled world) before) before after
+stopped_as world of same limits pace paced tree before after e other is ends =
+    runs_as world of same limits pace paced tree before after (Err other)
+    (subst (λ (x : Stop RunFault). RunEnds (Err x) (record { tree = tree; world = of }) pace (roster_after_run tree (modelled of) before) before after) is ends)
 
 module _ (world : World) (limits : Limits) (f : Forest) (tree : Planned) (planned : IsPlanned world.rows f tree) (before after : List DriverState) where
   abbrev Ends : Result Tried (Stop RunFault) → Planned → Type 0
-  Ends result p = RunEnds result (record { tree = p; world = world }) limits (roster_after_run p (modelled world) before) before after
+  Ends result p = RunEnds result (record { tree = p; world = world }) (pace_of limits) (roster_after_run p (modelled world) before) before after
 
   ends_of : (result : Result Tried (Stop RunFault)) → Ends result tree → Ends result (tree_of world.rows f)
   ends_of result ends = subst (Ends result) (planned_is world f tree planned) ends
@@ -151,26 +95,26 @@ module _ (world : World) (limits : Limits) (f : Forest) (tree : Planned) (planne
 
   module _ (tried : Tried) (ends : Ends (Ok tried) tree) where
     abbrev own : Trial
-    own = trial_of tried.ticked.before
+    own = trial_of tried.before
 
     pub was_tried : IsTried world limits own
     was_tried = (ends_of (Ok tried) ends).0.last
 
-    pub decides : (verdict : Verdict) → tried.ticked.verdict ≡ verdict → Decides world limits own verdict
+    pub decides : (verdict : Verdict) → tried.verdict ≡ verdict → Decides world limits own verdict
     decides verdict is = let e = ends_of (Ok tried) ends in record { unbroken = e.0.ends; last = e.1 ∙ ap (λ (v : Verdict). Some v) is }
 
     pub notes_are : tried.block.notes.list ≡ last_notes world limits own
-    notes_are = (ends_of (Ok tried) ends).2
+    notes_are = ap (λ (b : Shown). b.notes) (ends_of (Ok tried) ends).2
 
     pub drivers_are : after ≡ drivers_after world limits (own ∷ []) before
     drivers_are = (ends_of (Ok tried) ends).0.drivers
 
     -- the goals were reached
-    pub goes_reached : (t : PlanTree) (steps : List Step) → tried.ticked.verdict ≡ Reaches → GoesFrom (Ok (Some (Reached tree (tried.ticked.before + 1)))) f t world limits steps steps before after
+    pub goes_reached : (t : PlanTree) (steps : List Step) → tried.verdict ≡ Reaches → GoesFrom (Ok (Some (Reached tree (tried.before + 1)))) f t world limits steps steps before after
     goes_reached t steps is = (own, refl, was_tried, ((decides Reaches is, planned_is world f tree planned, refl), refl), drivers_are)
 
     -- the run went on as long as it may
-    pub goes_running : (t : PlanTree) (steps : List Step) (n : ℕ) → n ≡ limits.ticks → tried.ticked.verdict ≡ GoesOn → GoesFrom (Ok (Some (StillRunning n))) f t world limits steps steps before after
+    pub goes_running : (t : PlanTree) (steps : List Step) (n : ℕ) → n ≡ limits.ticks → tried.verdict ≡ GoesOn → GoesFrom (Ok (Some (StillRunning n))) f t world limits steps steps before after
     goes_running t steps n most is = (own, refl, was_tried, ((decides GoesOn is, most), refl), drivers_are)
 
     -- the tree failed

@@ -9,12 +9,12 @@ use Rattle.bt_model.specs.Trees.{IsValid}
 use Rattle.bt_expand.specs.Forests.{Forest}
 use Rattle.bt_loop.specs.Served.{roster_after_run}
 use Rattle.bt_trace.specs.Cuts.{HaveBegunWithin}
+use Rattle.bt_trial.specs.Modelled.{modelled}
 use Rattle.bt_plan.specs.declared.ending.End.{End}
 use Rattle.bt_plan.specs.declared.ending.End.TheVariants.{Reached}
 use Rattle.bt_plan.specs.declared.ending.Limits.{Limits}
 use Rattle.bt_plan.specs.declared.ending.PlanEnd.{PlanEnd}
 use Rattle.bt_plan.specs.declared.ending.Step.{Step}
-use Rattle.bt_plan.specs.Modelled.{modelled}
 use Rattle.bt_plan.specs.PlanRuns.{IsFirst, IsTried, Lead, PlanRun, Trial, run_of, tree_of}
 
 -- ---- Drivers

@@ -1,11 +1,8 @@
 pub mod Answers
 pub mod Failing
+pub mod Going
 pub mod Grown
 pub mod Lines
 pub mod Marked
-pub mod Modelled
 pub mod PlanRuns
 pub mod Settling
-pub mod Tests
-pub mod Ticked
-pub mod Ticking

@@ -13,16 +13,17 @@ use Rattle.bt_expand.specs.Forests.{AreApart, Forest}
 use Rattle.bt_expand.specs.Planned.{id_of, plain_node, terms_of}
 use Rattle.bt_expand.specs.Rows.{needs_of}
 use Rattle.bt_reorder.specs.Conflicts.{Pair}
+use Rattle.bt_trial.specs.declared.pace.Pace.{Pace}
+use Rattle.bt_trial.specs.declared.verdict.Verdict.{Verdict}
+use Rattle.bt_trial.specs.declared.verdict.Verdict.TheVariants.{Reaches, Fails, GoesOn}
+use Rattle.bt_trial.specs.Modelled.{IsLast, ReachedAt, modelled_run, next_tick, verdict_after}
 use Rattle.bt_plan.specs.declared.ending.End.{End}
 use Rattle.bt_plan.specs.declared.ending.End.TheVariants.{Reached, NoTemplate, NoOrder, Expansions, StillRunning, Faulted}
 use Rattle.bt_plan.specs.declared.ending.Limits.{Limits}
 use Rattle.bt_plan.specs.declared.ending.PlanEnd.{PlanEnd}
 use Rattle.bt_plan.specs.declared.ending.Step.{Step}
 use Rattle.bt_plan.specs.declared.places.Place.{Place}
-use Rattle.bt_plan.specs.declared.verdict.Verdict.{Verdict}
-use Rattle.bt_plan.specs.declared.verdict.Verdict.TheVariants.{Reaches, Fails, GoesOn}
 use Rattle.bt_plan.specs.Failing.{failed, first_open, ids_of}
-use Rattle.bt_plan.specs.Modelled.{IsLast, ReachedAt, modelled_run, next_tick, verdict_after}
 use Rattle.bt_plan.specs.Settling.{Settles, Stalls, name_at}
 
 -- the limits are in their ranges
@@ -31,6 +32,10 @@ pub record AreInRange (limits : Limits) : Type 0 where
   pub some_tick : 1 ≤ limits.ticks
   pub ticks : limits.ticks ≤ 10000
   pub period : limits.period ≤ 1000000
+
+-- how each tree is ticked in its run
+abbrev pub pace_of : Limits → Pace
+pace_of limits = record { ticks = limits.ticks; period = limits.period }
 
 -- ---- One tree
 
@@ -51,7 +56,7 @@ abbrev pub run_of : World → Limits → Trial → Trace
 run_of world limits t = modelled_run (tree_of world.rows t.tree) world limits.period (t.before + 1)
 
 abbrev pub IsTried : World → Limits → Trial → Type 0
-IsTried world limits t = IsLast (tree_of world.rows t.tree) world limits t.before
+IsTried world limits t = IsLast (tree_of world.rows t.tree) world (pace_of limits) t.before
 
 -- the run has no fault, and its last tick decided so
 pub record Decides (world : World) (limits : Limits) (t : Trial) (verdict : Verdict) : Type 0 where

@@ -7,7 +7,7 @@ ghost use Rattle.bt_expand.specs.Forests.{Forest, part_at, size, subtrees, times
 ghost use Rattle.bt_expand.specs.Numbers.{row_in};
 ghost use Rattle.bt_expand.specs.Planned.{id_of};
 ghost use Rattle.bt_expand.specs.Stands.{IsConditionOf, IsSequenceOf, StandsFor};
-ghost use Rattle.bt_plan.specs.declared.verdict.Verdict.TheVariants.{Fails};
+ghost use Rattle.bt_trial.specs.declared.verdict.Verdict.TheVariants.{Fails};
 ghost use Rattle.bt_plan.specs.Failing.{failed, ids_of};
 ghost use Rattle.bt_plan.specs.Grown.{AreConditions, ExpandsOrNot, GoesOrEnds, GrowsOrNot, SettlesOrStalls};
 ghost use Rattle.bt_plan.specs.PlanRuns.{Decides, Trial, last_notes};

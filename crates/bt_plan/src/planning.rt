@@ -7,21 +7,17 @@ ghost use Rattle.bt_expand.specs.Stands.{StandsFor};
 ghost use Rattle.bt_loop.specs.Steps.{IsSameRoster};
 ghost use Rattle.bt_plan.specs.declared.ending.End.TheVariants.{Faulted};
 ghost use Rattle.bt_plan.specs.Answers.{AreServed, IsPlan, IsPlanCut, StandsAlone};
+ghost use Rattle.bt_plan.specs.Going.{GoesFrom, IsPlanTask};
 ghost use Rattle.bt_plan.specs.PlanRuns.{AreInRange, IsFirst, IsReached};
-ghost use Rattle.bt_plan.specs.Ticked.{GoesFrom, IsTaskOf};
 
-use crate::copying::modelled;
 use crate::ending::{End, Limits, PlanEnd, Step};
-use crate::goals::goal_tests;
 use crate::growing::grow;
-use crate::task::Task;
-use crate::trying::run_tree;
-use crate::verdict::Verdict;
-use bt_arena::index_world;
+use crate::task::PlanTask;
 use bt_driver::Drivers;
 use bt_expand::{PlanTree, plan_tree_of, tree_from};
 use bt_model::{RunFault, Tree, World};
 use bt_script::{Items, NoMemory, Stop};
+use bt_trial::{Pace, Verdict, modelled, run_tree, task_of};
 use std::alloc::Global;
 
 /// The end of planning where a modelled run faulted so.
@@ -36,10 +32,9 @@ fn faulted(fault: &RunFault) -> End
 
 /// Runs the tree as it stands, and makes a step or ends. The error is want of memory. In the end no
 /// driver holds anything, whatever is answered.
-#[tactic(auto, using(bt_model::proofs::Runnable::runnable))]
 fn go_on<D: Drivers>(
     world: &World,
-    task: &Task,
+    task: &PlanTask,
     earlier: &mut Option<Tree>,
     t: &mut PlanTree,
     steps: &mut Vec<Step>,
@@ -47,7 +42,7 @@ fn go_on<D: Drivers>(
 ) -> Result<Option<End>, NoMemory>
     ghost of: { Modelled }
     requires same { world.now ≡ of }
-    requires task { IsTaskOf world.now task.now }
+    requires task { IsPlanTask world.now task.now }
     requires served { AreServed world.now (D.states drivers.old) }
     requires quiet { NothingHeld (D.states drivers.old) }
     requires tree { (tree : Forest) × StandsFor t.old world.now tree × (subtrees tree ≡ length steps.old.items) }
@@ -58,19 +53,19 @@ fn go_on<D: Drivers>(
     ensures none { NothingHeld (D.states drivers.new) }
     ensures roster { IsSameRoster (D.states drivers.old) (D.states drivers.new) }
 {
-    let alloc = task.alloc;
+    let alloc = task.runs.alloc;
     let tree = tree_from(alloc, t, world, earlier.take())?;
-    let tried = match run_tree(alloc, &tree, task, drivers) {
+    let tried = match run_tree(&tree, &task.runs, drivers) {
         Ok(tried) => tried,
         Err(Stop::Fault(fault)) => {
             return Ok(Some(faulted(&fault)));
         }
         Err(Stop::NoMemory) => return Err(NoMemory),
     };
-    match tried.ticked.verdict {
+    match tried.verdict {
         Verdict::Reaches => Ok(Some(End::Reached {
             tree,
-            tick: tried.ticked.before + 1,
+            tick: tried.before + 1,
         })),
         Verdict::Fails => {
             *earlier = Some(tree);
@@ -87,11 +82,11 @@ fn go_on<D: Drivers>(
 /// no driver holds anything, whatever is answered.
 fn make_steps<D: Drivers>(
     world: &World,
-    task: &Task,
+    task: &PlanTask,
     mut t: PlanTree,
     drivers: &mut D,
 ) -> Result<PlanEnd, NoMemory>
-    requires task { IsTaskOf world.now task.now }
+    requires task { IsPlanTask world.now task.now }
     requires served { AreServed world.now (D.states drivers.old) }
     requires quiet { NothingHeld (D.states drivers.old) }
     requires first { (first : Forest) × IsFirst world.now first × StandsFor t world.now first }
@@ -101,7 +96,7 @@ fn make_steps<D: Drivers>(
     ensures none { NothingHeld (D.states drivers.new) }
     ensures roster { IsSameRoster (D.states drivers.old) (D.states drivers.new) }
 {
-    let mut steps = Vec::new(task.alloc);
+    let mut steps = Vec::new(task.runs.alloc);
     let mut earlier = None;
     for _ in 0..task.limits.expand + 1 {
         if let Some(end) = go_on(world, task, &mut earlier, &mut t, &mut steps, drivers)? {
@@ -138,11 +133,13 @@ pub fn plan<D: Drivers>(
     ensures none { NothingHeld (D.states drivers.new) }
     ensures roster { IsSameRoster (D.states drivers.old) (D.states drivers.new) }
 {
-    let modelled = modelled(alloc, world)?;
-    let task = Task {
-        alloc,
-        world: index_world(alloc, &modelled)?,
-        goals: goal_tests(alloc, world)?,
+    let pace = Pace {
+        ticks: limits.ticks,
+        period: limits.period,
+    };
+    let model = modelled(alloc, world)?;
+    let task = PlanTask {
+        runs: task_of(alloc, world, &model, pace)?,
         limits: *limits,
     };
     let t = plan_tree_of(alloc, world)?;

@@ -1,15 +1,10 @@
 use crate::ending::Limits;
-use bt_arena::IndexedWorld;
-use bt_domain::Test;
-use std::alloc::Global;
+use bt_trial::Task;
 
-/// What stays the same in all modelled runs of a plan.
+/// What stays the same in all steps of a plan.
 #[derive(Drop)]
-pub(crate) struct Task<'a> {
-    pub alloc: Global,
-    /// The world of a modelled run.
-    pub world: IndexedWorld<'a>,
-    /// The tests of the goals.
-    pub goals: Vec<Test>,
+pub(crate) struct PlanTask<'a> {
+    /// That of the modelled runs.
+    pub runs: Task<'a>,
     pub limits: Limits,
 }

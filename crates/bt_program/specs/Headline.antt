@@ -10,7 +10,7 @@ use Rattle.bt_output.specs.TreeFiles.{TreeReads}
 use Rattle.bt_plan.specs.declared.ending.End.TheVariants.{Reached}
 use Rattle.bt_plan.specs.declared.ending.Step.{Step}
 use Rattle.bt_plan.specs.Lines.{end_line, step_line}
-use Rattle.bt_plan.specs.Modelled.{ReachedAt}
+use Rattle.bt_trial.specs.Modelled.{ReachedAt}
 use Rattle.bt_text.specs.Names.{no_names}
 use Rattle.bt_answers.specs.Answers.{IfTold, IsWhole, Side, no_moments}
 use Rattle.bt_output.specs.Answers.{ToldIfNamed}

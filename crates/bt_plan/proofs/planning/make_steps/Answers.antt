@@ -1,7 +1,7 @@
 use Rattle.std.proofs.Common.{◌+◌, ◌∙◌, List, ℕ, Option, Ok, length, ap, sym, subst, refl}
 use Rattle.bt_plan.specs.declared.ending.End.{End}
 use Rattle.bt_plan.specs.declared.ending.Step.{Step}
-use Rattle.bt_plan.specs.Ticked.{GoesFrom}
+use Rattle.bt_plan.specs.Going.{GoesFrom}
 use Rattle.bt_loop.proofs.Rising.{roster_both}
 use Rattle.bt_plan.proofs.Joined.{still_served}
 use Rattle.bt_plan.proofs.Planned.{UnderWay, no_step, on_err, plan_cut, plan_ended, step_made}

@@ -1,9 +1,0 @@
-/// What a tick decides of a modelled run.
-#[derive(Clone, Copy)]
-pub(crate) enum Verdict {
-    /// All goals are true.
-    Reaches,
-    /// The root failed, and not all goals are true.
-    Fails,
-    GoesOn,
-}

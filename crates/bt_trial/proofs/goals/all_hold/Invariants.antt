@@ -1,0 +1,11 @@
+use Rattle.std.proofs.Common.{◌≡◌, drop, length}
+use Rattle.std.specs.List.{list_all}
+use Rattle.bt_trial.specs.Modelled.{holds}
+use Rattle.bt_trial.specs.Tasks.{HaveFacts}
+use Rattle.bt_trial.proofs.goals.all_hold.Given as goal
+
+abbrev pub invariant-loop-test : goal.invariant-loop-test
+invariant-loop-test l = record {
+  rest : list_all (holds l.facts) (drop l.test-index l.tests) ≡ list_all (holds l.facts) l.tests;
+  facts : HaveFacts (length l.facts) (drop l.test-index l.tests);
+}

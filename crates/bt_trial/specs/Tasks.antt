@@ -1,0 +1,40 @@
+-- What stays the same in all modelled runs of a world, and which trees can be run in it.
+use Rattle.std.specs.Prelude.{◌≡◌, ℕ, ◌<◌, ◌≤◌, List, [], ◌∷◌, length, map, Some, None}
+use Rattle.bt_model.specs.declared.term.Tree.{Tree}
+use Rattle.bt_model.specs.declared.world.World.{World}
+use Rattle.bt_model.specs.Drivers.{DriverState}
+use Rattle.bt_model.specs.Terms.{leaf_ids}
+use Rattle.bt_model.specs.Worlds.{IsValidWorld}
+use Rattle.bt_arena.specs.Joins.{first_missing}
+use Rattle.bt_domain.specs.declared.effects.Test.{Test}
+use Rattle.bt_expand.specs.Rows.{test_of}
+use Rattle.bt_trial.specs.declared.pace.Pace.{Pace}
+use Rattle.bt_trial.specs.declared.task.Task.{Task}
+use Rattle.bt_trial.specs.Modelled.{modelled}
+
+-- there are so many facts, and each test compares one of them
+abbrev pub HaveFacts : ℕ → List Test → Type 0
+HaveFacts facts [] = Unit {0}
+HaveFacts facts (test ∷ tests) = (test.fact < facts) × HaveFacts facts tests
+
+-- the tests of a world's goals
+pub record AreTests (world : World) (tests : List Test) : Type 0 where
+  pub are : map (λ (test : Test). Some test) tests ≡ map (test_of world.rows) world.goals
+  pub facts : HaveFacts (length world.facts) tests
+
+-- the pace is in its range
+pub record IsInRange (pace : Pace) : Type 0 where
+  pub some_tick : 1 ≤ pace.ticks
+  pub ticks : pace.ticks ≤ 10000
+  pub period : pace.period ≤ 1000000
+
+-- the task of this world
+pub record IsTaskOf (world : World) (task : Task) : Type 0 where
+  pub world_is : task.world ≡ modelled world
+  pub valid : IsValidWorld (modelled world)
+  pub goals : AreTests world task.goals.items
+  pub pace : IsInRange task.pace
+
+-- each leaf of the tree has a row, and each of these rows a driver
+abbrev pub LacksNothing : Tree → World → List DriverState → Type 0
+LacksNothing tree world drivers = first_missing world.rows drivers (leaf_ids tree.term) ≡ None

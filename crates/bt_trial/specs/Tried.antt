@@ -1,0 +1,34 @@
+-- A whole modelled run, as it ends.
+use Rattle.std.specs.Prelude.{◌≡◌, ◌⊎◌, ℕ, ◌+◌, List, Option, Some, None, Result, Ok, Err}
+use Rattle.bt_script.specs.declared.stop.Stop.{Stop}
+use Rattle.bt_script.specs.declared.stop.Stop.TheVariants as stop
+use Rattle.bt_model.specs.declared.fault.RunFault.{RunFault}
+use Rattle.bt_model.specs.Drivers.{DriverState, driver_at}
+use Rattle.bt_model.specs.Run.{RunnerCall}
+use Rattle.bt_arena.specs.Blocks.{seen}
+use Rattle.bt_loop.specs.Runs.{Setup}
+use Rattle.bt_trace.specs.Cuts.{HaveBegunWithin}
+use Rattle.bt_trial.specs.declared.pace.Pace.{Pace}
+use Rattle.bt_trial.specs.declared.trying.Tried.{Tried}
+use Rattle.bt_trial.specs.Modelled.{IsLast, modelled_run, next_tick, verdict_after}
+
+-- A whole modelled run, by how many ticks come before its last one: its fault, and the drivers after its calls.
+pub record IsRun (of : Setup) (pace : Pace) (n : ℕ) (fault : Option RunFault) (called : List RunnerCall → List DriverState) (after : List DriverState) : Type 0 where
+  pub last : IsLast of.tree of.world pace n
+  pub ends : (modelled_run of.tree of.world pace.period (n + 1)).fault ≡ fault
+  pub drivers : after ≡ called (modelled_run of.tree of.world pace.period (n + 1)).calls
+
+-- no total has changed
+abbrev pub HaveSameTotals : List DriverState → List DriverState → Type 0
+HaveSameTotals before after = (place : ℕ) → (driver_at after place).totals ≡ (driver_at before place).totals
+
+-- How a modelled run ends, by what calls leave of the drivers. Memory may be wanting before the first tick, or later.
+abbrev pub RunEnds : Result Tried (Stop RunFault) → Setup → Pace → (List RunnerCall → List DriverState) → List DriverState → List DriverState → Type 0
+RunEnds (Ok t) of pace called before after =
+    IsRun of pace t.before None called after
+    × (verdict_after of.tree of.world pace.period t.before ≡ Some t.verdict)
+    × (seen t.block ≡ (next_tick of.tree of.world pace.period t.before).block)
+RunEnds (Err (stop.Fault fault)) of pace called before after = (n : ℕ) × IsRun of pace n (Some fault) called after
+RunEnds (Err stop.NoMemory) of pace called before after =
+    HaveSameTotals before after
+    ⊎ ((n : ℕ) × IsLast of.tree of.world pace n × HaveBegunWithin before after (called (modelled_run of.tree of.world pace.period (n + 1)).calls))

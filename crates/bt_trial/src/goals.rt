@@ -1,0 +1,110 @@
+ghost use Rattle.std.specs.Prelude.{◌≡◌, ◌<◌, IfOk, length};
+ghost use Rattle.std.specs.List.{list_all, list_any};
+ghost use Rattle.std.specs.Ordering.{int_cmp};
+ghost use Rattle.bt_script.specs.Operators.{compares};
+ghost use Rattle.bt_model.specs.Worlds.{IsValidWorld};
+ghost use Rattle.bt_expand.specs.Rows.{test_of};
+ghost use Rattle.bt_trial.specs.Modelled.{decided, holds, is_failed_root};
+ghost use Rattle.bt_trial.specs.Tasks.{AreTests, HaveFacts};
+
+use crate::verdict::Verdict;
+use bt_domain::{Test, test_of};
+use bt_driver::FactTable;
+use bt_model::{Answer, Note, World};
+use bt_script::{Cmp, NoMemory};
+use std::alloc::Global;
+
+/// The test of the condition of this row, if it has one.
+fn test_at(world: &World, row: u32) -> Option<Test>
+    ensures { result ≡ test_of world.now.rows row }
+{
+    match world.rows.list().get(row as usize) {
+        Some(found) => test_of(&found.sort),
+        None => None,
+    }
+}
+
+/// The tests of a world's goals.
+pub fn goal_tests(alloc: Global, world: &World) -> Result<Vec<Test>, NoMemory>
+    requires { IsValidWorld world.now }
+    ensures { IfOk result (λ tests. AreTests world.now tests.items) }
+{
+    let mut tests = Vec::new(alloc);
+    for goal in world.goals.list() {
+        match test_at(world, *goal) {
+            Some(test) => tests.push(test)?,
+            None => unreachable!(),
+        }
+    }
+    Ok(tests)
+}
+
+/// Whether a comparison holds of a number and the wanted one.
+fn compares(op: Cmp, value: i64, wanted: i64) -> bool
+    ensures { result ≡ compares op (int_cmp value wanted) }
+{
+    match op {
+        Cmp::Equal => value == wanted,
+        Cmp::Differ => value != wanted,
+        Cmp::Less => value < wanted,
+        Cmp::AtMost => value <= wanted,
+        Cmp::More => value > wanted,
+        Cmp::AtLeast => value >= wanted,
+    }
+}
+
+/// Whether a test is true.
+fn holds(facts: &FactTable, test: &Test) -> bool
+    requires { test.now.fact < length facts.now }
+    ensures { result ≡ holds facts.now test.now }
+{
+    compares(test.op, facts.get(test.fact), test.value)
+}
+
+/// Whether all tests are true.
+fn all_hold(facts: &FactTable, tests: &[Test]) -> bool
+    requires { HaveFacts (length facts.now) tests.now }
+    ensures { result ≡ list_all (holds facts.now) tests.now }
+{
+    for test in tests {
+        if !holds(facts, test) {
+            return false;
+        }
+    }
+    true
+}
+
+/// Whether a note tells that the root failed.
+fn is_failed_root(note: &Note) -> bool
+    ensures { result ≡ is_failed_root note.now }
+{
+    matches!(
+        note,
+        Note::Root {
+            answer: Answer::Failure,
+            ..
+        }
+    )
+}
+
+/// Whether the root failed by these notes.
+fn has_failed_root(notes: &[Note]) -> bool
+    ensures { result ≡ list_any is_failed_root notes.now }
+{
+    notes.iter().any(|note| is_failed_root(note))
+}
+
+/// What a tick that did not fault decides: the goals first, whatever the root answered, and then a
+/// FAILURE of the root.
+pub fn decide(facts: &FactTable, tests: &[Test], notes: &[Note]) -> Verdict
+    requires { HaveFacts (length facts.now) tests.now }
+    ensures { result ≡ decided (list_all (holds facts.now) tests.now) (list_any is_failed_root notes.now) }
+{
+    if all_hold(facts, tests) {
+        Verdict::Reaches
+    } else if has_failed_root(notes) {
+        Verdict::Fails
+    } else {
+        Verdict::GoesOn
+    }
+}

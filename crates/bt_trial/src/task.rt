@@ -1,0 +1,44 @@
+ghost use Rattle.std.specs.Prelude.{◌≡◌, IfOk};
+ghost use Rattle.bt_model.specs.Worlds.{IsValidWorld};
+ghost use Rattle.bt_trial.specs.Modelled.{modelled};
+ghost use Rattle.bt_trial.specs.Tasks.{IsInRange, IsTaskOf};
+
+use crate::goals::goal_tests;
+use crate::pace::Pace;
+use bt_arena::{IndexedWorld, index_world};
+use bt_domain::Test;
+use bt_model::World;
+use bt_script::NoMemory;
+use std::alloc::Global;
+
+/// What stays the same in all modelled runs of a world.
+#[derive(Drop)]
+pub struct Task<'a> {
+    pub alloc: Global,
+    /// The world of a modelled run.
+    pub world: IndexedWorld<'a>,
+    /// The tests of the goals.
+    pub goals: Vec<Test>,
+    pub pace: Pace,
+}
+
+/// The task of a world, of which the copy for modelled runs is lent. The error is want of memory.
+pub fn task_of<'a>(
+    alloc: Global,
+    world: &World,
+    model: &'a World,
+    pace: Pace,
+) -> Result<Task<'a>, NoMemory>
+    requires world { IsValidWorld world.now }
+    requires model { model.now ≡ modelled world.now }
+    requires pace { IsInRange pace }
+    ensures task { IfOk result (λ task. IsTaskOf world.now task) }
+    ensures pace { IfOk result (λ task. task.pace ≡ pace) }
+{
+    Ok(Task {
+        alloc,
+        world: index_world(alloc, model)?,
+        goals: goal_tests(alloc, world)?,
+        pace,
+    })
+}

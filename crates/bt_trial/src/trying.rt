@@ -1,0 +1,109 @@
+//! A tree and its modelled run.
+
+ghost use Rattle.std.specs.Prelude.{◌≡◌, IfOk, List};
+ghost use Rattle.bt_model.specs.Drivers.{NothingHeld};
+ghost use Rattle.bt_model.specs.Run.{RunnerCall};
+ghost use Rattle.bt_model.specs.Trees.{IsRunnable};
+ghost use Rattle.bt_loop.specs.Runs.{Setup, arenas_of, roster_over};
+ghost use Rattle.bt_loop.specs.Served.{roster_after_run};
+ghost use Rattle.bt_loop.specs.Steps.{IsSameRoster};
+ghost use Rattle.bt_trial.specs.Modelled.{modelled};
+ghost use Rattle.bt_trial.specs.Tasks.{IsTaskOf, LacksNothing};
+ghost use Rattle.bt_trial.specs.Ticked.{IsAfter};
+ghost use Rattle.bt_trial.specs.Tried.{HaveSameTotals, RunEnds};
+
+use crate::task::Task;
+use crate::ticking::make_ticks;
+use crate::verdict::Verdict;
+use bt_arena::{Block, block_for};
+use bt_board::slots_of;
+use bt_driver::Drivers;
+use bt_loop::{Runs, leaves, make_runs_in, run_finish};
+use bt_model::{RunFault, Tree};
+use bt_script::{NoMemory, Stop};
+
+/// A modelled run without a fault: what its last tick decided, with the block of this tick.
+#[derive(Drop)]
+pub struct Tried {
+    /// How many ticks came before the last one.
+    pub before: u32,
+    pub verdict: Verdict,
+    pub block: Block,
+}
+
+/// The runs of a tree in the modelled world, before the first tick. All its leaves have a row and a
+/// driver, so the error is want of memory.
+fn begin<D: Drivers>(tree: &Tree, task: &Task, drivers: &mut D) -> Result<Runs, NoMemory>
+    ghost of: { Setup }
+    requires same { tree.now ≡ of.tree }
+    requires task { IsTaskOf of.world task.now }
+    requires joined { LacksNothing of.tree of.world (D.states drivers.old) }
+    requires tree { IsRunnable of.tree }
+    requires quiet { NothingHeld (D.states drivers.old) }
+    ensures runs { IfOk result (λ runs. IsAfter of task.now.pace.period 0 (D.states drivers.new) runs) }
+    ensures prepared { let old = D.states drivers.old in
+        let new = D.states drivers.new in
+        IfOk result (λ runs. (calls : List RunnerCall) →
+        roster_over (arenas_of runs) calls new ≡ roster_after_run of.tree (modelled of.world) old calls) }
+    ensures none { NothingHeld (D.states drivers.new) }
+    ensures roster { IsSameRoster (D.states drivers.old) (D.states drivers.new) }
+    ensures totals { HaveSameTotals (D.states drivers.old) (D.states drivers.new) }
+{
+    let slots = slots_of(task.alloc, tree)?;
+    match make_runs_in(task.alloc, tree, &slots, &task.world, drivers) {
+        Ok(runs) => Ok(runs),
+        Err(Stop::NoMemory) => Err(NoMemory),
+        Err(Stop::Fault(_)) => unreachable!(),
+    }
+}
+
+/// Makes the ticks of a modelled run and then finishes it. The error is the fault of a node, or want of
+/// memory. In the end no driver holds anything, whatever is answered.
+fn make_run<D: Drivers>(
+    task: &Task,
+    mut runs: Runs,
+    drivers: &mut D,
+) -> Result<Tried, Stop<RunFault>>
+    ghost of: { Setup }
+    requires task { IsTaskOf of.world task.now }
+    requires tree { IsRunnable of.tree }
+    requires run { IsAfter of task.now.pace.period 0 (D.states drivers.old) runs }
+    requires quiet { NothingHeld (D.states drivers.old) }
+    ensures ends { let old = D.states drivers.old in
+        RunEnds result of task.now.pace (λ calls. roster_over (arenas_of runs) calls old) old (D.states drivers.new) }
+    ensures none { NothingHeld (D.states drivers.new) }
+    ensures roster { IsSameRoster (D.states drivers.old) (D.states drivers.new) }
+{
+    let count = leaves(&runs) as u32;
+    let mut block = block_for(task.alloc, count)?;
+    let mut last = block_for(task.alloc, count)?;
+    let ticked = make_ticks(task, &mut runs, drivers, &mut block)?;
+    run_finish(task.alloc, &mut runs, 1, drivers, &mut last)?;
+    Ok(Tried {
+        before: ticked.before,
+        verdict: ticked.verdict,
+        block,
+    })
+}
+
+/// Runs a tree in the modelled world, with the drivers prepared anew. The error is the fault of a node,
+/// or want of memory. In the end no driver holds anything, whatever is answered.
+pub fn run_tree<D: Drivers>(
+    tree: &Tree,
+    task: &Task,
+    drivers: &mut D,
+) -> Result<Tried, Stop<RunFault>>
+    ghost of: { Setup }
+    requires same { tree.now ≡ of.tree }
+    requires task { IsTaskOf of.world task.now }
+    requires joined { LacksNothing of.tree of.world (D.states drivers.old) }
+    requires tree { IsRunnable of.tree }
+    requires quiet { NothingHeld (D.states drivers.old) }
+    ensures ends { let old = D.states drivers.old in
+        RunEnds result of task.now.pace (roster_after_run of.tree (modelled of.world) old) old (D.states drivers.new) }
+    ensures none { NothingHeld (D.states drivers.new) }
+    ensures roster { IsSameRoster (D.states drivers.old) (D.states drivers.new) }
+{
+    let runs = begin(tree, task, drivers)?;
+    make_run(task, runs, drivers)
+}
