@@ -3,6 +3,8 @@ ghost use Rattle.std.specs.List.{flat_map};
 ghost use Rattle.std.specs.Str.{bytes_eq};
 ghost use Rattle.indexmap.specs.IndexSet.{insert_all};
 ghost use Rattle.bt_script.specs.Scripts.{names_of, stmt_names};
+ghost use Rattle.bt_model.specs.declared.term.Kind.TheVariants.{SubTree};
+ghost use Rattle.bt_model.specs.declared.term.Term.{out-Term};
 ghost use Rattle.bt_model.specs.Boards.{given, scripts_of, value_keys, namings};
 ghost use Rattle.bt_model.specs.Terms.{node_count};
 ghost use Rattle.bt_board.specs.Namings.{script_names, names_here, keys_of_node, namings_of_term, namings_of_terms, AreNamed, HaveSame};
@@ -142,6 +144,36 @@ fn name_scope(
     Ok(())
 }
 
+/// Adds what the nodes of a term name, as `name_term` does, where the first is a SubTree node. It stands apart, so
+/// that other nodes clear no room for a scope.
+#[inline(never)]
+#[cycle(terms)]
+fn name_subtree(
+    alloc: Global,
+    term: &Term,
+    uid: u32,
+    scope: &Scope,
+    keys: &mut Keys,
+    namings: &mut Vec<Naming>,
+) -> Result<u32, NoMemory>
+    requires { (out-Term term.now).kind ≡ SubTree }
+    ensures next { IfOk result (λ next. next ≡ uid + node_count term.now) }
+    ensures named { OnOk result (AreNamed scope.now (namings_of_term term.now uid)
+        keys.old namings.old.items keys.new namings.new.items) }
+{
+    let first = uid_after(uid)?;
+    name_node(alloc, term, keys)?;
+    let ports = term.ports.list();
+    let mappings = mappings_of(alloc, uid, ports, term.autoremap, scope)?;
+    let inner = Scope::Below(&mappings, &*scope);
+    let mut inner_keys = Keys::new(alloc);
+    name_ports(alloc, ports, &mut inner_keys)?;
+    let children = term.children.list();
+    let next = name_terms(alloc, children, first, &inner, &mut inner_keys, namings)?;
+    name_scope(alloc, &inner, &inner_keys, namings)?;
+    Ok(next)
+}
+
 /// Adds what the nodes of a term name, from this uid on: to the keys what they name in this scope, so that a key
 /// that is named again costs one look and no memory, and to the namings what they name in scopes that they make.
 /// Answers the uid after the last.
@@ -158,19 +190,11 @@ fn name_term(
     ensures named { OnOk result (AreNamed scope.now (namings_of_term term.now uid)
         keys.old namings.old.items keys.new namings.new.items) }
 {
-    let first = uid_after(uid)?;
-    name_node(alloc, term, keys)?;
     if let Kind::SubTree = term.kind {
-        let ports = term.ports.list();
-        let mappings = mappings_of(alloc, uid, ports, term.autoremap, scope)?;
-        let inner = Scope::Below(&mappings, &*scope);
-        let mut inner_keys = Keys::new(alloc);
-        name_ports(alloc, ports, &mut inner_keys)?;
-        let children = term.children.list();
-        let next = name_terms(alloc, children, first, &inner, &mut inner_keys, namings)?;
-        name_scope(alloc, &inner, &inner_keys, namings)?;
-        Ok(next)
+        name_subtree(alloc, term, uid, scope, keys, namings)
     } else {
+        let first = uid_after(uid)?;
+        name_node(alloc, term, keys)?;
         name_terms(alloc, term.children.list(), first, scope, keys, namings)
     }
 }

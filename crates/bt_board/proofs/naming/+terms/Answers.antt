@@ -16,23 +16,23 @@ use Rattle.bt_board.proofs.Standings.{counts_here, namings_here, subtree_namings
 use Rattle.bt_board.proofs.naming.+terms.Goals as goal
 
 -- a SubTree node is counted before its children
-pub name_term-returns-in_ok-name_scope-clause-next :
-    goal.name_term-returns-in_ok-name_scope-clause-next
-name_term-returns-in_ok-name_scope-clause-next t c =
+pub name_subtree-returns-clause-next :
+    goal.name_subtree-returns-clause-next
+name_subtree-returns-clause-next t c =
     let counted : node_count c.args.term.now ≡ 1 + sum (map node_count (out-Term c.args.term.now).children) = fold_out-Term ℕ (λ node. 1 + sum node.children) c.args.term.now in
     let children = ap (λ (terms : List Term). sum (map node_count terms)) c.list-children.ensures in
     omega (arith, counted, children, c.in_ok-first.ensures, c.in_ok-next.ensures.next)
 
 -- what the nodes of a term name, of which the first is a SubTree node
-pub name_term-returns-in_ok-name_scope-clause-named :
-    goal.name_term-returns-in_ok-name_scope-clause-named
-name_term-returns-in_ok-name_scope-clause-named t c =
+pub name_subtree-returns-clause-named :
+    goal.name_subtree-returns-clause-named
+name_subtree-returns-clause-named t c =
     let outer = cells_of c.args.scope.now in
     let number = c.in_ok-mappings.mappings.uid in
     let inner = cells_below c.in_ok-mappings.mappings outer in
     let is_inner : (key : List ℕ) → inner key ≡ scope_below c.args.uid (out-Term c.args.term.now).ports (out-Term c.args.term.now).autoremap outer key =
     λ key. c.in_ok-mappings.ensures.cells key ∙ ap (λ (ports : List Port). scope_below c.args.uid ports (out-Term c.args.term.now).autoremap outer key) c.list-ports.ensures in
-    let named = subtree_namings c.args.term.now c.args.uid (number_of c.args.scope.now) outer _ inner c.in-SubTree.is c.in_ok-mappings.ensures.uid is_inner in
+    let named = subtree_namings c.args.term.now c.args.uid (number_of c.args.scope.now) outer _ inner c.requires c.in_ok-mappings.ensures.uid is_inner in
     let names = map (λ (port : Port). port.name) (out-Term c.args.term.now).ports in
     let children = ap (λ (terms : List Term). namings_of_terms terms c.in_ok-first.first number inner) c.list-children.ensures
     ∙ ap (λ (uid : ℕ). namings_of_terms (out-Term c.args.term.now).children uid number inner) c.in_ok-first.ensures in
@@ -45,19 +45,19 @@ name_term-returns-in_ok-name_scope-clause-named t c =
     (named ∙ ap (λ (ns : List Naming). names_here c.args.scope.now (keys_of_node c.args.term.now) ++ map (named_in number inner) names ++ ns) (sym children))
 
 -- what the nodes of a term name, of which the first is another node
-pub name_term-returns-in_default-clause-named :
-    goal.name_term-returns-in_default-clause-named
-name_term-returns-in_default-clause-named t c =
+pub name_term-returns-in_ok-name_node-clause-named :
+    goal.name_term-returns-in_ok-name_node-clause-named
+name_term-returns-in_ok-name_node-clause-named t c =
     let number = number_of c.args.scope.now in
     let outer = cells_of c.args.scope.now in
     let named = other_namings c.args.term.now c.args.uid number outer c.in_default.not-SubTree in
     let children = ap (λ (terms : List Term). namings_of_terms terms c.in_ok-first.first number outer) c.list.ensures
     ∙ ap (λ (uid : ℕ). namings_of_terms (out-Term c.args.term.now).children uid number outer) c.in_ok-first.ensures in
     let own = named_once number outer c.args.keys.now (keys_of_node c.args.term.now) _ c.in_ok-name_node.ensures in
-    on_ok_weaker c.name_terms-in_default.result
+    on_ok_weaker c.name_terms.result
     (λ last. other_named c.args.namings.now.items (names_here c.args.scope.now c.args.keys.now) _ _ _ _ _ own last
     (named ∙ ap (λ (ns : List Naming). names_here c.args.scope.now (keys_of_node c.args.term.now) ++ ns) (sym children)))
-    c.name_terms-in_default.ensures.named
+    c.name_terms.ensures.named
 
 -- what one more of the terms names
 pub name_terms-loop-term-preserved : goal.name_terms-loop-term-preserved
