@@ -1,5 +1,5 @@
 -- A tree and its modelled run, as the plan run goes on from it.
-use Rattle.std.proofs.Common.{◌≡◌, inl, inr, ℕ, ◌+◌, List, [], ◌∷◌, length, Option, Some, Result, Ok, Err, IfOk, refl, sym, ap, subst, ◌∙◌, arith}
+use Rattle.std.proofs.Common.{◌≡◌, inl, inr, ℕ, ◌+◌, List, [], ◌∷◌, length, Option, Some, Result, Ok, Err, IfOk, IfSome, refl, sym, ap, subst, ◌∙◌, arith}
 use Rattle.std.specs.Prelude.{codes, slice_index_or}
 use Rattle.bt_script.specs.declared.stop.NoMemory.{NoMemory}
 use Rattle.bt_script.specs.declared.stop.Stop.{Stop}
@@ -28,9 +28,9 @@ use Rattle.bt_plan.specs.declared.ending.End.{End}
 use Rattle.bt_plan.specs.declared.ending.End.TheVariants.{Reached, StillRunning, Faulted}
 use Rattle.bt_plan.specs.declared.ending.Limits.{Limits}
 use Rattle.bt_plan.specs.declared.ending.Step.{Step}
-use Rattle.bt_plan.specs.Answers.{drivers_after}
+use Rattle.bt_plan.specs.Answers.{StandsAlone, drivers_after}
 use Rattle.bt_plan.specs.Grown.{GoesOrEnds}
-use Rattle.bt_plan.specs.Going.{GoesFrom}
+use Rattle.bt_plan.specs.Going.{GoesFrom, IsStopped}
 use Rattle.bt_plan.specs.PlanRuns.{Decides, IsTried, Trial, last_notes, pace_of, tree_of}
 
 -- ---- Trees
@@ -60,13 +60,11 @@ runs_as world of same limits pace paced tree before after result ends =
     subst (λ (w : World). RunEnds result (record { tree = tree; world = w }) (pace_of limits) (roster_after_run tree (modelled w) before) before after) (sym same)
     (subst (λ (p : Pace). RunEnds result (record { tree = tree; world = of }) p (roster_after_run tree (modelled of) before) before after) paced ends)
 
--- .. that was stopped, with its error under another name too
-pub stopped_as : (world of : World) → world ≡ of → (limits : Limits) (pace : Pace) → pace ≡ pace_of limits → (tree : Planned) (before after : List DriverState) (e other : Stop RunFault) → e ≡ other →
-    RunEnds (Err e) (record { tree = tree; world = of }) pace (roster_after_run tree (modelled of) before) before after →
-    RunEnds (Err other) (record { tree = tree; world = world }) (pace_of limits) (roster_after_run tree (modelled world) before) before after
-stopped_as world of same limits pace paced tree before after e other is ends =
-    runs_as world of same limits pace paced tree before after (Err other)
-    (subst (λ (x : Stop RunFault). RunEnds (Err x) (record { tree = tree; world = of }) pace (roster_after_run tree (modelled of) before) before after) is ends)
+-- a plan run that was stopped has no tree
+pub stopped_alone : (e : Stop RunFault) (result : Result (Option End) NoMemory) → IsStopped e result → IfOk result (λ end. IfSome end StandsAlone)
+stopped_alone (stop.Fault fault) result is = subst (λ (r : Result (Option End) NoMemory). IfOk r (λ end. IfSome end StandsAlone)) (sym is) tt
+stopped_alone stop.NoMemory (Err e) is = tt
+stopped_alone stop.NoMemory (Ok end) is = absurd is
 
 module _ (world : World) (limits : Limits) (f : Forest) (tree : Planned) (planned : IsPlanned world.rows f tree) (before after : List DriverState) where
   abbrev Ends : Result Tried (Stop RunFault) → Planned → Type 0
@@ -80,18 +78,25 @@ module _ (world : World) (limits : Limits) (f : Forest) (tree : Planned) (planne
   trial_of n = record { tree = f; before = n }
 
   -- the run faulted
-  pub goes_faulted : (t : PlanTree) (steps : List Step) (fault : RunFault) → Ends (Err (stop.Fault fault)) tree → GoesFrom (Ok (Some (Faulted fault.uid fault.cause))) f t world limits steps steps before after
+  goes_faulted : (t : PlanTree) (steps : List Step) (fault : RunFault) → Ends (Err (stop.Fault fault)) tree → GoesFrom (Ok (Some (Faulted fault.uid fault.cause))) f t world limits steps steps before after
   goes_faulted t steps fault ends =
       let e = ends_of (Err (stop.Fault fault)) ends in
       let only : fault.runner ≡ 1 = only_runner (tree_of world.rows f) world fault limits.period (e.0 + 1) e.1.ends in
       (trial_of e.0, refl, e.1.last, (e.1.ends ∙ (λ i. Some (record { runner = only i; uid = fault.uid; cause = fault.cause })), refl), e.1.drivers)
 
   -- memory was wanting in the run
-  pub goes_cut : (t : PlanTree) (steps now : List Step) (e : NoMemory) → Ends (Err stop.NoMemory) tree → GoesFrom (Err e) f t world limits steps now before after
-  goes_cut t steps now e ends = elim (ends_of (Err stop.NoMemory) ends) [
+  goes_cut : (t : PlanTree) (steps : List Step) (e : NoMemory) → Ends (Err stop.NoMemory) tree → GoesFrom (Err e) f t world limits steps steps before after
+  goes_cut t steps e ends = elim (ends_of (Err stop.NoMemory) ends) [
     | inl same ↦ inl same
     | inr cut ↦ inr (trial_of cut.0, refl, cut.1, cut.2)
   ]
+
+  -- the run was stopped
+  pub goes_stopped : (t : PlanTree) (steps : List Step) (e : Stop RunFault) (result : Result (Option End) NoMemory) → Ends (Err e) tree → IsStopped e result → GoesFrom result f t world limits steps steps before after
+  goes_stopped t steps (stop.Fault fault) result ends is =
+      subst (λ (r : Result (Option End) NoMemory). GoesFrom r f t world limits steps steps before after) (sym is) (goes_faulted t steps fault ends)
+  goes_stopped t steps stop.NoMemory (Err e) ends is = goes_cut t steps e ends
+  goes_stopped t steps stop.NoMemory (Ok end) ends is = absurd is
 
   module _ (tried : Tried) (ends : Ends (Ok tried) tree) where
     abbrev own : Trial

@@ -5,9 +5,8 @@ ghost use Rattle.bt_model.specs.Worlds.{IsValidWorld};
 ghost use Rattle.bt_expand.specs.Forests.{Forest, subtrees};
 ghost use Rattle.bt_expand.specs.Stands.{StandsFor};
 ghost use Rattle.bt_loop.specs.Steps.{IsSameRoster};
-ghost use Rattle.bt_plan.specs.declared.ending.End.TheVariants.{Faulted};
 ghost use Rattle.bt_plan.specs.Answers.{AreServed, IsPlan, IsPlanCut, StandsAlone};
-ghost use Rattle.bt_plan.specs.Going.{GoesFrom, IsPlanTask};
+ghost use Rattle.bt_plan.specs.Going.{GoesFrom, IsPlanTask, IsStopped};
 ghost use Rattle.bt_plan.specs.PlanRuns.{AreInRange, IsFirst, IsReached};
 
 use crate::ending::{End, Limits, PlanEnd, Step};
@@ -20,13 +19,16 @@ use bt_script::{Items, NoMemory, Stop};
 use bt_trial::{Pace, Verdict, modelled, run_tree, task_of};
 use std::alloc::Global;
 
-/// The end of planning where a modelled run faulted so.
-fn faulted(fault: &RunFault) -> End
-    ensures { result ≡ Faulted fault.now.uid fault.now.cause }
+/// How planning goes on where a modelled run was stopped: it ends, or memory was wanting.
+fn stopped(stop: Stop<RunFault>) -> Result<Option<End>, NoMemory>
+    ensures { IsStopped stop result }
 {
-    End::Faulted {
-        uid: fault.uid,
-        cause: fault.cause,
+    match stop {
+        Stop::Fault(fault) => Ok(Some(End::Faulted {
+            uid: fault.uid,
+            cause: fault.cause,
+        })),
+        Stop::NoMemory => Err(NoMemory),
     }
 }
 
@@ -57,24 +59,31 @@ fn go_on<D: Drivers>(
     let tree = tree_from(alloc, t, world, earlier.take())?;
     let tried = match run_tree(&tree, &task.runs, drivers) {
         Ok(tried) => tried,
-        Err(Stop::Fault(fault)) => {
-            return Ok(Some(faulted(&fault)));
+        Err(stop) => {
+            drop(tree);
+            return stopped(stop);
         }
-        Err(Stop::NoMemory) => return Err(NoMemory),
     };
     match tried.verdict {
-        Verdict::Reaches => Ok(Some(End::Reached {
-            tree,
-            tick: tried.before + 1,
-        })),
+        Verdict::Reaches => {
+            let tick = tried.before + 1;
+            drop(tried);
+            Ok(Some(End::Reached { tree, tick }))
+        }
         Verdict::Fails => {
             *earlier = Some(tree);
             let notes = tried.block.notes.list();
-            grow(alloc, world, &task.limits, notes, t, steps)
+            let ended = grow(alloc, world, &task.limits, notes, t, steps);
+            drop(tried);
+            ended
         }
-        Verdict::GoesOn => Ok(Some(End::StillRunning {
-            ticks: task.limits.ticks,
-        })),
+        Verdict::GoesOn => {
+            drop(tried);
+            drop(tree);
+            Ok(Some(End::StillRunning {
+                ticks: task.limits.ticks,
+            }))
+        }
     }
 }
 
