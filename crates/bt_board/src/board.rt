@@ -150,6 +150,23 @@ fn open_terms(
     Ok(next)
 }
 
+/// Puts in the literals of the nodes of a tree. Where there are no slots, there is no walk.
+fn open_tree(
+    alloc: Global,
+    tree: &Tree,
+    slots: &Slots,
+    entries: &mut Vec<Option<Value>>,
+) -> Result<(), NoMemory>
+    ensures { OnOk result ((number : ℕ) (scope : Scope) → entries.new.items ≡
+        with_literals slots.now.cells (flat_map literals_at (standing_from tree.now.term 1 number scope)) entries.old.items) }
+{
+    if entries.is_empty() {
+        return Ok(());
+    }
+    open_term(alloc, &tree.term, 1, slots, entries)?;
+    Ok(())
+}
+
 /// So many entries without values.
 fn empty_entries(alloc: Global, count: u32) -> Result<Vec<Option<Value>>, NoMemory>
     ensures { IfOk result (λ entries. entries.items ≡ replicate count None) }
@@ -170,6 +187,6 @@ pub fn board_of(alloc: Global, tree: &Tree, slots: &Slots) -> Result<Board, NoMe
     ensures size { IfOk result (λ board. length board ≡ length slots.now.cells) }
 {
     let mut entries = empty_entries(alloc, slot_count(slots))?;
-    open_term(alloc, &tree.term, 1, slots, &mut entries)?;
+    open_tree(alloc, tree, slots, &mut entries)?;
     Ok(Board { entries })
 }

@@ -9,7 +9,7 @@ use Rattle.bt_board.proofs.board.board_of.Goals as goal
 -- a board has as many entries as there are slots
 pub returns-clause-size : goal.returns-clause-size
 returns-clause-size c =
-    ap (λ (es : List (Option Value)). length es) (c.in_ok-open_term.ensures.put 0 main_scope)
+    ap (λ (es : List (Option Value)). length es) (c.in_ok-open_tree.ensures 0 main_scope)
     ∙ length_with_literals c.args.slots.now.cells (flat_map literals_at (standing_from c.args.tree.now.term 1 0 main_scope)) c.in_ok-entries.entries.items
     ∙ ap (λ (es : List (Option Value)). length es) c.in_ok-entries.ensures
     ∙ length-replicate c.slot_count.result None
