@@ -60,6 +60,8 @@ fn reset_before<D: Drivers>(
         Span::None => Ok(()),
         // Most resets are of all children: with a constant span there is no test for each child.
         Span::All => reset_children(stage, uid, Span::All),
+        // And most others are of all but one.
+        Span::AllBut(place) => reset_children(stage, uid, Span::AllBut(place)),
         _ => reset_children(stage, uid, span),
     }
 }

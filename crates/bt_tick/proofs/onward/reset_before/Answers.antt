@@ -10,3 +10,6 @@ reset_children-requires-clause-held g c = let (term, view, can, ruled) = c.requi
 
 pub reset_children-requires-in_default-clause-held : goal.reset_children-requires-in_default-clause-held
 reset_children-requires-in_default-clause-held g c = let (term, view, can, ruled) = c.requires.can in marked_below _ _ term view _ _ can ruled
+
+pub reset_children-requires-in-AllBut-clause-held : goal.reset_children-requires-in-AllBut-clause-held
+reset_children-requires-in-AllBut-clause-held g c = let (term, view, can, ruled) = c.requires.can in marked_below _ _ term view _ _ can ruled
