@@ -71,3 +71,9 @@ module _ {D : Type 0} (states : D → List DriverState) (s s1 : Stage D) where
       (term : Term) (view : View) → Fits term view uid nodes (scene_on states s) →
       Meets nodes moment (memory_of term uid) r (scene_on states s) (scene_on states s1) s.notes.now.list s1.notes.now.list
       (ended (site_at view uid term) (kept_at s.kept.now uid).status given (children_in term uid s.kept.now) (state_in nodes (scene_on states s) moment))
+
+-- of a node that goes on at once, and changes nothing but its frame
+abbrev pub GoesNextBy : {D : Type 0} → (D → List DriverState) → Stage D → Heard → Next → List Frame → List Frame → List Node → ℕ → Type 0
+GoesNextBy states s heard nx stack stack1 nodes moment =
+    (root : Term) (start : Scene) (told : List Note) (whole : Done Answer Memory) → GoingOn nodes moment root 1 (next.GoOn heard) stack start (scene_on states s) told s.notes.now.list whole →
+    GoingOn nodes moment root 1 nx stack1 start (scene_on states s) told s.notes.now.list whole

@@ -1,5 +1,5 @@
 -- What is still to come of a visit, and the turns of which it is made.
-use Rattle.std.specs.Prelude.{◌≡◌, ◌+◌, ◌-◌, ◌*◌, ◌^◌, ◌<◌, ◌≤◌, ℕ, zero, suc, sum_by, List, [], ◌∷◌, ◌++◌, length, slice_index_or, take, Bool, true, false, Some, None, Result, Ok, Err, IfOk}
+use Rattle.std.specs.Prelude.{◌≡◌, ◌+◌, ◌-◌, ◌*◌, ◌^◌, ◌<◌, ◌≤◌, ℕ, zero, suc, sum_by, List, [], ◌∷◌, ◌++◌, length, slice_index_or, take, Bool, true, false, Some, None, Result, Ok, Err, IfOk, is_some}
 use Rattle.bt_script.specs.declared.stop.Stop.{Stop}
 use Rattle.bt_model.specs.declared.fault.NodeFault.{NodeFault}
 use Rattle.bt_model.specs.declared.memory.Memo.{Memo}
@@ -21,6 +21,7 @@ use Rattle.bt_model.specs.Sites.{View, children_of, placed, remembered}
 use Rattle.bt_model.specs.Sound.{Dated, Leaves, Sound, Sounds, held_at, is_held}
 use Rattle.bt_model.specs.Steps.{Rule, is_completed, visit}
 use Rattle.bt_model.specs.Visit.{ended, meaning, started, status_of}
+use Rattle.bt_controls.specs.Rounds.{next_child}
 use Rattle.bt_arena.specs.declared.nodes.Kept.{Kept}
 use Rattle.bt_arena.specs.declared.nodes.Node.{Node}
 use Rattle.bt_arena.specs.declared.stage.Stage.{Stage}
@@ -168,6 +169,11 @@ passes_over kind status = false
 -- the node with this frame goes on with what it hears
 abbrev pub step_of : Frame → Heard → Step
 step_of frame heard = record { uid = frame.uid; memo = frame.memo; heard = heard }
+
+-- whether a node goes on to its next child and does no more: one of the Sequence and Fallback kinds does, where its round
+-- goes on
+abbrev pub goes_at_once : List Node → Step → Bool
+goes_at_once nodes step = is_some (next_child (node_at nodes step.uid).kind (node_at nodes step.uid).children step.heard)
 
 -- a child is visited, or passed over
 abbrev pub turn_to : Bool → Frame → Turn

@@ -1,4 +1,4 @@
-ghost use Rattle.std.specs.Prelude.{true, ◌≡◌, ◌+◌, ◌-◌, ◌<◌, IfOk, length, slice_index_or};
+ghost use Rattle.std.specs.Prelude.{true, false, ◌≡◌, ◌+◌, ◌-◌, ◌<◌, IfOk, IsTrue, Ok, length, slice_index_or};
 ghost use Rattle.bt_model.specs.declared.memory.Memory.{Memory};
 ghost use Rattle.bt_model.specs.declared.status.Answer.{Answer as AnswerGiven};
 ghost use Rattle.bt_model.specs.declared.term.Term.{Term};
@@ -10,7 +10,7 @@ ghost use Rattle.bt_arena.specs.Stages.{IsSame, Keeps, MeetsOn};
 ghost use Rattle.bt_nodes.specs.Here.{children_in};
 ghost use Rattle.bt_halting.specs.Halts.{resets_on};
 ghost use Rattle.bt_tick.specs.Machine as turn;
-ghost use Rattle.bt_tick.specs.Turns.{CanMoveOn, EntersChild, StepsOn, TakesTurn, kind_of, passes_over, step_of, turn_of, turn_with, turn_work};
+ghost use Rattle.bt_tick.specs.Turns.{CanMoveOn, EntersChild, StepsOn, TakesTurn, goes_at_once, kind_of, passes_over, step_of, turn_of, turn_with, turn_work};
 
 use crate::machine::Next;
 use crate::moves::{is_completed, next_move};
@@ -66,6 +66,33 @@ fn reset_before<D: Drivers>(
     }
 }
 
+/// Whether the node on top of the stack, which has this frame, goes on from the child that it hears
+/// of to the next one, and does no more, as most nodes do after most answers. The frame is then that
+/// of the visit of this child, and else it stays.
+#[inline(always)]
+pub(crate) fn goes_on_at_once<D: Drivers>(stage: &Stage<D>, frame: &mut Frame, heard: Heard) -> bool
+    requires can { (term : Term) × (view : View) × (rest : Done AnswerGiven Memory) ×
+        StepsOn D.states stage.now term view (step_of frame.old heard) rest }
+    ensures goes { IsTrue result → (term : Term) (view : View) (rest : Done AnswerGiven Memory) →
+        StepsOn D.states stage.now term view (step_of frame.old heard) rest →
+        TakesTurn D.states stage.now stage.now frame.old.uid term view (Ok (turn.Wait frame.new)) rest }
+    ensures all { result ≡ goes_at_once stage.now.nodes.now (step_of frame.old heard) }
+    ensures work { let nodes = stage.now.nodes.now in
+        IsTrue result → turn_work nodes (turn.Wait frame.new) < turn_work nodes (turn.GoOn (step_of frame.old heard)) }
+    ensures uid { frame.new.uid ≡ frame.old.uid }
+    ensures same { result ≡ false → frame.new ≡ frame.old }
+{
+    let here = node(stage.nodes, frame.uid);
+    match goes_to_next(here.kind, &mut frame.memo, here.children, heard) {
+        Some(place) => {
+            frame.place = place;
+            frame.child = child_at(here, place);
+            true
+        }
+        None => false,
+    }
+}
+
 /// The node on top of the stack, which has this frame, goes on with what it hears: it makes its
 /// next move, up to its answer or to the visit of a child. The error is a fault, or want of memory.
 #[inline(always)]
@@ -86,18 +113,17 @@ pub(crate) fn go_on<D: Drivers>(
     ensures work { let nodes = stage.old.nodes.now in
         IfOk result (λ next. turn_work nodes (turn_of frame.new next) < turn_work nodes (turn.GoOn (step_of frame.old heard))) }
 {
-    let here = node(stage.nodes, frame.uid);
-    if let Some(place) = goes_to_next(here.kind, &mut frame.memo, here.children, heard) {
-        frame.place = place;
-        frame.child = child_at(here, place);
+    let uid = frame.uid;
+    if goes_on_at_once(stage, frame, heard) {
         return Ok(Next::Enter(frame.child));
     }
+    let here = node(stage.nodes, uid);
     let moment = stage.moment;
     let go = next_move(here.kind, &mut frame.memo, here.children, moment, heard);
-    reset_before(stage, frame.uid, go.reset)?;
+    reset_before(stage, uid, go.reset)?;
     match go.then {
         Then::Give(answer) => {
-            let given = end_visit(stage, frame.uid, answer, frame.memo)?;
+            let given = end_visit(stage, uid, answer, frame.memo)?;
             Ok(Next::Back(given))
         }
         Then::Visit(place) => {

@@ -1,4 +1,4 @@
-ghost use Rattle.std.specs.Prelude.{◌≡◌, ◌+◌, ◌≤◌, ◌<◌, List, [], ◌∷◌, ◌++◌, Some, None, IfOk, Ok, OnOk};
+ghost use Rattle.std.specs.Prelude.{◌≡◌, ◌+◌, ◌≤◌, ◌<◌, List, [], ◌∷◌, ◌++◌, Some, None, IfOk, IfSome, MatchOption, Ok, OnOk, is_some};
 ghost use Rattle.std.specs.List.{AllByRecursion};
 ghost use Rattle.bt_model.specs.declared.memory.Memory.{Memory};
 ghost use Rattle.bt_model.specs.declared.moves.Heard.{Heard as HeardOf};
@@ -16,12 +16,12 @@ ghost use Rattle.bt_arena.specs.Stages.{IsSame, MeetsOn, scene_on};
 ghost use Rattle.bt_arena.specs.Stands.{Beside, memory_of};
 ghost use Rattle.bt_tick.specs.declared.machine.Next.TheVariants as next;
 ghost use Rattle.bt_tick.specs.declared.machine.Reached.TheVariants as reached;
-ghost use Rattle.bt_tick.specs.Turns.{CameOn, CanVisitOn, ReachesOn, next_work, reached_work, visit_on};
+ghost use Rattle.bt_tick.specs.Turns.{CameOn, CanVisitOn, ReachesOn, goes_at_once, next_work, reached_work, step_of, top_of, visit_on};
 ghost use Rattle.bt_tick.specs.Work.{begun_by};
 
 use crate::enter::enter;
 use crate::machine::{Entered, Next, Reached};
-use crate::onward::go_on;
+use crate::onward::{go_on, goes_on_at_once};
 use bt_arena::{Frame, Stage};
 use bt_driver::Drivers;
 use bt_model::{Answer, Heard, Memo, NodeFault};
@@ -52,6 +52,34 @@ fn heard_on(stack: &SmallVec<Frame, 32>, answer: Answer) -> Option<Heard>
     match stack.as_slice().last() {
         Some(frame) => Some(Heard::Answered(frame.place, answer)),
         None => None,
+    }
+}
+
+/// The uid of the child that the node on top of the stack goes on to with what it hears, where it
+/// does no more than that. Its frame is then that of the visit of this child, and else it stays.
+#[inline(always)]
+fn next_at_once<D: Drivers>(
+    stage: &Stage<D>,
+    stack: &mut SmallVec<Frame, 32>,
+    heard: Heard,
+) -> Option<u32>
+    requires going { (root : Term) × (start : Scene) × (told : List Note) × (whole : Done AnswerGiven Memory) ×
+        CameOn D.states stage.now root (next.GoOn heard) stack.old.items start told whole }
+    ensures came { MatchOption result (stack.new.items ≡ stack.old.items) (λ child.
+        (root : Term) (start : Scene) (told : List Note) (whole : Done AnswerGiven Memory) →
+        CameOn D.states stage.now root (next.GoOn heard) stack.old.items start told whole →
+        CameOn D.states stage.now root (next.Enter child) stack.new.items start told whole) }
+    ensures all { is_some result ≡ goes_at_once stage.now.nodes.now (step_of (top_of stack.old.items) heard) }
+    ensures work { let nodes = stage.now.nodes.now in
+        IfSome result (λ child. next_work nodes (next.Enter child) stack.new.items < next_work nodes (next.GoOn heard) stack.old.items) }
+    ensures room { stack.new.capacity ≡ stack.old.capacity }
+{
+    let top = stack.len() - 1;
+    let frame = &mut stack.as_mut_slice()[top];
+    if goes_on_at_once(stage, frame, heard) {
+        Some(frame.child)
+    } else {
+        None
     }
 }
 
@@ -138,7 +166,13 @@ pub fn tick<D: Drivers>(
                 Heard::Begin { picked }
             }
             Entered::Answers(answer) => match heard_on(frames, answer) {
-                Some(heard) => heard,
+                Some(heard) => match next_at_once(stage, frames, heard) {
+                    Some(child) => {
+                        uid = child;
+                        continue;
+                    }
+                    None => heard,
+                },
                 None => return Ok(answer),
             },
         };

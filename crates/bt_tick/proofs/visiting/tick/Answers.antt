@@ -1,4 +1,7 @@
 use Rattle.std.proofs.Common.{◌≡◌, ◌+◌, ◌<◌, ◌≤◌, ℕ, List, [], ◌∷◌, ◌++◌, Ok, Err, ap, arith, refl, sym, ◌∙◌}
+use Rattle.bt_model.specs.declared.moves.Heard.{Heard}
+use Rattle.bt_model.specs.declared.moves.Heard.TheVariants.{Answered}
+use Rattle.bt_model.specs.declared.status.Answer.{Answer}
 use Rattle.bt_model.specs.declared.term.Term.{Term}
 use Rattle.bt_model.specs.Sites.{View}
 use Rattle.bt_model.specs.Terms.{depth_of}
@@ -8,6 +11,7 @@ use Rattle.bt_arena.specs.declared.frame.Frame.{Frame}
 use Rattle.bt_arena.specs.declared.nodes.Node.{Node}
 use Rattle.bt_arena.specs.Ends.{StaysFit}
 use Rattle.bt_arena.specs.Stages.{scene_on}
+use Rattle.bt_tick.specs.declared.machine.Entered.TheVariants.{Answers}
 use Rattle.bt_tick.specs.declared.machine.Next.TheVariants as next
 use Rattle.bt_tick.specs.declared.machine.Reached.{Reached}
 use Rattle.bt_tick.specs.Machine.{Turn}
@@ -16,12 +20,12 @@ use Rattle.bt_tick.specs.Turns.{CanVisitOn, Going, GoingOn, next_work, reached_w
 use Rattle.bt_tick.proofs.Depths.{level_left}
 use Rattle.bt_tick.proofs.Moving.{as_many_kept, node_there}
 use Rattle.bt_tick.proofs.Passing.{met_with}
-use Rattle.bt_tick.proofs.Later.{EntersBy, ReachesBy, came_later, can_later}
+use Rattle.bt_tick.proofs.Later.{EntersBy, GoesNextBy, ReachesBy, came_later, can_later}
 use Rattle.bt_tick.proofs.Stacks.{as_turn, back_answers, back_made, begins, can_again, can_enter, cut_here, enter_beside, enter_made, enter_stops, on_stack}
 use Rattle.bt_tick.proofs.Tops.{going_work, less_heard, reached_as}
 use Rattle.bt_tick.proofs.Totals.{spent_on}
 use Rattle.bt_tick.proofs.visiting.tick.Goals as goal
-use Rattle.bt_tick.proofs.visiting.tick.Goals.{In_ok-picked, Joined-branch-2, in-Begins+in_ok-push-in-Begins, in-Answers+in-Some}
+use Rattle.bt_tick.proofs.visiting.tick.Goals.{In_ok-picked, Joined-branch-2, in-Begins+in_ok-push-in-Begins, in-Answers+in-Some+in-None-next_at_once}
 use Rattle.bt_tick.proofs.visiting.tick.Given.{Over}
 
 pub loop-picked-init : goal.loop-picked-init
@@ -103,6 +107,20 @@ returns-in-None-clause-again g c = λ term view can.
     (can_again term_keeps _ _ term view 1 _ _ _ _ c.in-Answers.answer can (still_fits g at)
     (back_answers term_keeps _ _ (ap (turn_after c.loop-picked.uid _) c.in-Answers.is) (c.in-None.ensures.none refl) (came g at term view can)))
 
+-- the node on top of the stack hears the answer of the node that was entered
+answered : (g : Over) (c : In_ok-picked g) (answer : Answer) (heard : Heard) (below : List Frame) (frame : Frame) → c.in_ok-picked.field-0 ≡ Answers answer → c.loop-picked.frames.items ≡ below ++ frame ∷ [] → heard ≡ Answered frame.place answer →
+    (term : Term) (view : View) → CanVisitOn g.D.Drivers.states c.args.stage.now 1 term view →
+    GoingOn c.args.stage.now.nodes.now c.args.stage.now.moment term 1 (next.GoOn heard) c.loop-picked.frames.items (scene_on g.D.Drivers.states c.args.stage.now) (scene_on g.D.Drivers.states c.enter.new.stage) c.args.stage.now.notes.now.list c.enter.new.stage.notes.now.list
+    (visit_on g.D.Drivers.states c.args.stage.now 1 term view)
+answered g c answer heard below frame answers is hears term view can = record {
+  came = (
+    below,
+    frame,
+    is,
+    back_made term_keeps _ _ frame below (step_of frame heard) (ap (turn_after c.loop-picked.uid _) answers) is (ap (step_of frame) hears) (came g c term view can),
+  );
+}
+
 -- the node on top of the stack goes on after the node that was entered
 hears : (g : Over) (c : Joined-branch-2 g) (term : Term) (view : View) → CanVisitOn g.D.Drivers.states c.args.stage.now 1 term view →
     GoingOn c.args.stage.now.nodes.now c.args.stage.now.moment term 1 (next.GoOn c.match-branch-2.heard) c.match-branch-2.frames.items (scene_on g.D.Drivers.states c.args.stage.now) (scene_on g.D.Drivers.states c.enter.new.stage) c.args.stage.now.notes.now.list c.enter.new.stage.notes.now.list
@@ -119,13 +137,13 @@ hears g c term view can =
           as_turn term_keeps _ _ (ap (turn_after c.loop-picked.uid _) w.in-Begins.is ∙ (λ i. turn.GoOn (step_of (sym w.begun.ensures i) (sym w.heard-is i)))) going,
         );
       }
-      | in-Answers+in-Some w ↦
+      | in-Answers+in-Some+in-None-next_at_once w ↦
           let (below, frame, is, heard) = w.in-Some.ensures.some w.in-Some.heard refl in
           record {
             came = (
               below,
               frame,
-              (λ i. (w.frames-is i).items) ∙ is,
+              (λ i. (w.frames-is i).items) ∙ w.in-None-next_at_once.ensures.came ∙ is,
               back_made term_keeps _ _ frame below (step_of frame c.match-branch-2.heard) (ap (turn_after c.loop-picked.uid _) w.in-Answers.is) is (ap (step_of frame) (w.heard-is ∙ heard)) going,
             );
           }
@@ -135,7 +153,7 @@ hears g c term view can =
 room : (g : Over) (c : Joined-branch-2 g) → c.args.frames.now.capacity ≤ c.match-branch-2.frames.capacity
 room g c = elim c.match-branch-2.branch [
   | in-Begins+in_ok-push-in-Begins w ↦ let same : c.match-branch-2.frames.capacity ≡ w.push.new.self.capacity = λ i. (w.frames-is i).capacity in omega (arith, same, w.in_ok-push-in-Begins.ensures.capacity, c.loop-picked.invariant.room)
-  | in-Answers+in-Some w ↦ let same : c.match-branch-2.frames.capacity ≡ c.loop-picked.frames.capacity = λ i. (w.frames-is i).capacity in omega (arith, same, c.loop-picked.invariant.room)
+  | in-Answers+in-Some+in-None-next_at_once w ↦ let same : c.match-branch-2.frames.capacity ≡ w.next_at_once.new.stack.capacity = λ i. (w.frames-is i).capacity in omega (arith, same, w.in-None-next_at_once.ensures.room, c.loop-picked.invariant.room)
 ]
 
 enough : (g : Over) (c : Joined-branch-2 g) (term : Term) (view : View) → CanVisitOn g.D.Drivers.states c.args.stage.now 1 term view → depth_of term ≤ c.args.frames.now.capacity → c.match-branch-2.frames.capacity ≡ c.args.frames.now.capacity
@@ -144,7 +162,7 @@ enough g c term view can deep = elim c.match-branch-2.branch [
       let left = level_left _ _ _ _ _ _ _ _ _ _ _ (c.loop-picked.invariant.all term view can).came in
       let same = c.loop-picked.invariant.enough term view can deep in
       (λ i. (w.frames-is i).capacity) ∙ w.in_ok-push-in-Begins.ensures.had_room (omega (arith, left, same, deep)) ∙ same
-  | in-Answers+in-Some w ↦ (λ i. (w.frames-is i).capacity) ∙ c.loop-picked.invariant.enough term view can deep
+  | in-Answers+in-Some+in-None-next_at_once w ↦ (λ i. (w.frames-is i).capacity) ∙ w.in-None-next_at_once.ensures.room ∙ c.loop-picked.invariant.enough term view can deep
 ]
 
 -- and what is still to come is no more than the turn of that node and the frames below it have
@@ -158,9 +176,9 @@ no_more g c =
           let turns : turn_work nodes (turn_after c.loop-picked.uid c.enter.new.stage.kept.now c.in_ok-picked.field-0) ≡ turn_work nodes (turn.GoOn (step_of w.begun.result c.match-branch-2.heard)) =
           ap (λ (t : Turn). turn_work nodes t) (ap (turn_after c.loop-picked.uid _) w.in-Begins.is ∙ (λ i. turn.GoOn (step_of (sym w.begun.ensures i) (sym w.heard-is i)))) in
           omega (arith, going_work nodes c.match-branch-2.heard c.match-branch-2.frames.items c.loop-picked.frames.items w.begun.result stacked, turns)
-      | in-Answers+in-Some w ↦
+      | in-Answers+in-Some+in-None-next_at_once w ↦
           let (below, frame, is, heard) = w.in-Some.ensures.some w.in-Some.heard refl in
-          let same : c.match-branch-2.frames.items ≡ c.loop-picked.frames.items = λ i. (w.frames-is i).items in
+          let same : c.match-branch-2.frames.items ≡ c.loop-picked.frames.items = (λ i. (w.frames-is i).items) ∙ w.in-None-next_at_once.ensures.came in
           let work : stack_work nodes c.match-branch-2.frames.items ≡ stack_work nodes c.loop-picked.frames.items = ap (λ (fs : List Frame). stack_work nodes fs) same in
           omega (arith, less_heard nodes c.match-branch-2.heard c.match-branch-2.frames.items below frame w.in-Answers.answer (same ∙ is) (w.heard-is ∙ heard), work)
     ]
@@ -257,4 +275,38 @@ loop-picked-preserved g c =
       reserve = c.in_ok-child.ensures.reserve ∙ c.in_ok-picked.ensures.reserve ∙ c.loop-picked.invariant.reserve;
       room = omega (arith, c.in_ok-child.ensures.room, room g at.Joined-branch-2);
       enough = λ term1 view1 can1 deep. c.in_ok-child.ensures.room ∙ enough g at.Joined-branch-2 term1 view1 can1 deep;
+    }
+
+pub next_at_once-requires : goal.next_at_once-requires
+next_at_once-requires g c =
+    let (term, view, can) = c.requires.can in
+    let (below, frame, is, hears) = c.in-Some.ensures.some c.in-Some.heard refl in
+    let came = came_later (same_both c.loop-picked.invariant.same c.in_ok-picked.ensures.same)
+    (answered g (goal.at.next_at_once-requires g c).In_ok-picked c.in-Answers.answer c.in-Some.heard below frame c.in-Answers.is is hears term view can) in
+    record { going = (term, _, _, _, came) }
+
+pub loop-picked-smaller-in-Some-next_at_once : goal.loop-picked-smaller-in-Some-next_at_once
+loop-picked-smaller-in-Some-next_at_once g c =
+    let nodes = c.args.stage.now.nodes.now in
+    let since = same_both c.loop-picked.invariant.same c.in_ok-picked.ensures.same in
+    let (below, frame, is, hears) = c.in-Some.ensures.some c.in-Some.heard refl in
+    let entered = earlier c.loop-picked.invariant.same
+    (λ (ns : List Node) (m : ℕ). turn_work ns (turn_after c.loop-picked.uid c.enter.new.stage.kept.now c.in_ok-picked.field-0) < turn_work ns (turn.Enter c.loop-picked.uid)) c.in_ok-picked.ensures.work in
+    let went = earlier since
+    (λ (ns : List Node) (m : ℕ). next_work ns (next.Enter c.in-Some-next_at_once.child) c.next_at_once.new.stack.items < next_work ns (next.GoOn c.in-Some.heard) c.loop-picked.frames.items) c.in-Some-next_at_once.ensures.work in
+    omega (arith, entered, went, less_heard nodes c.in-Some.heard c.loop-picked.frames.items below frame c.in-Answers.answer is hears)
+
+pub loop-picked-preserved-in-Some-next_at_once : goal.loop-picked-preserved-in-Some-next_at_once
+loop-picked-preserved-in-Some-next_at_once g c =
+    let at = goal.at.loop-picked-preserved-in-Some-next_at_once g c in
+    let since = same_both c.loop-picked.invariant.same c.in_ok-picked.ensures.same in
+    let goes = earlier since (GoesNextBy g.D.Drivers.states c.enter.new.stage _ (next.Enter c.in-Some-next_at_once.child) _ _) c.in-Some-next_at_once.ensures.came in
+    let (below, frame, is, hears) = c.in-Some.ensures.some c.in-Some.heard refl in
+    record {
+      all = λ term view can. goes term _ _ _ (answered g at.In_ok-picked c.in-Answers.answer c.in-Some.heard below frame c.in-Answers.is is hears term view can);
+      stays = still_fits g at.In_ok-picked;
+      same = since;
+      reserve = c.in_ok-picked.ensures.reserve ∙ c.loop-picked.invariant.reserve;
+      room = omega (arith, c.in-Some-next_at_once.ensures.room, c.loop-picked.invariant.room);
+      enough = λ term view can deep. c.in-Some-next_at_once.ensures.room ∙ c.loop-picked.invariant.enough term view can deep;
     }
