@@ -49,8 +49,16 @@ fn run(
 ) -> Result<Value, Stop<ExecFault>> {
     let slots = slots_of(alloc, &[("x", 1), ("y", 0), ("x", 0)])?;
     match parse_script(alloc, text.as_bytes()) {
-        Ok(script) => run_over(rt, alloc, &script, slots.as_slice(), board),
-        Err(_) => Err(Stop::NoMemory),
+        Ok(script) => {
+            let outcome = run_over(rt, alloc, &script, slots.as_slice(), board);
+            drop(script);
+            drop(slots);
+            outcome
+        }
+        Err(_) => {
+            drop(slots);
+            Err(Stop::NoMemory)
+        }
     }
 }
 
@@ -75,51 +83,57 @@ fn outcome_text(
 fn script_text(rt: &impl Abort, alloc: Global, text: &str) -> Result<String, AllocError> {
     let mut board = Board::empty(alloc)?;
     let outcome = run(rt, alloc, text, &mut board);
-    outcome_text(alloc, &outcome)
+    drop(board);
+    let text = outcome_text(alloc, &outcome);
+    drop(outcome);
+    text
 }
+
+/// Scripts, and what they give.
+static SCRIPTS: [(&str, &str); 35] = [
+    ("-9223372036854775807 - 1", "-9223372036854775808"),
+    ("(-9223372036854775807 - 1) / -1", "Overflow"),
+    ("-(-9223372036854775807 - 1)", "Overflow"),
+    ("7 / 2", "NotWhole"),
+    ("7 / 0", "ZeroDivisor"),
+    ("-6 / 2", "-3"),
+    ("~0", "-1"),
+    ("!0", "1"),
+    ("-1 ^ 5", "-6"),
+    ("'a' < 'b'", "1"),
+    ("'b' < 'aa'", "0"),
+    ("'a' == 1", "Mixed"),
+    ("'ab' + 'c'", "3 bytes abc"),
+    ("0 && 'a'", "0"),
+    ("2 && 'a'", "Mixed"),
+    ("'a' || 1", "Mixed"),
+    ("0 || 'a'", "Mixed"),
+    ("1 || 'a'", "1"),
+    ("1 ? 'a' : 1 / 0", "1 bytes a"),
+    ("x = 1", "NoEntry { slot: 1 }"),
+    ("x := 0; x = 1", "1"),
+    ("x := 1; x += y", "NoEntry { slot: 0 }"),
+    ("0 && 1 / 0", "0"),
+    ("'a' && 1 / 0", "Mixed"),
+    ("1 && 0", "0"),
+    ("1 || 1 / 0", "1"),
+    ("1 ? 2 : 1 / 0", "2"),
+    ("0 ? 1 / 0 : 3", "3"),
+    ("1 ? 0 && 1 / 0 : 1 / 0", "0"),
+    ("0 && (1 ? 1 / 0 : 'a') || (2 || 1 / 0)", "1"),
+    ("(1 || 'a') && (0 ? 1 / 0 : 5) && !(0 && 1 / 0)", "1"),
+    ("1 ? (0 ? 1 / 0 : 1 ? 7 : 1 / 0) : 1 / 0", "7"),
+    ("7 - 2 - 1", "4"),
+    ("x += 1 / 0", "NoEntry { slot: 1 }"),
+    ("x = 1 / 0", "ZeroDivisor"),
+];
 
 /// Scripts with the values that they give, or their faults.
 #[test]
 fn scripts_give_values_and_faults(rt: HostRuntime) -> Result<(), Fail> {
     let alloc = rt.alloc();
-    for (text, want) in [
-        ("-9223372036854775807 - 1", "-9223372036854775808"),
-        ("(-9223372036854775807 - 1) / -1", "Overflow"),
-        ("-(-9223372036854775807 - 1)", "Overflow"),
-        ("7 / 2", "NotWhole"),
-        ("7 / 0", "ZeroDivisor"),
-        ("-6 / 2", "-3"),
-        ("~0", "-1"),
-        ("!0", "1"),
-        ("-1 ^ 5", "-6"),
-        ("'a' < 'b'", "1"),
-        ("'b' < 'aa'", "0"),
-        ("'a' == 1", "Mixed"),
-        ("'ab' + 'c'", "3 bytes abc"),
-        ("0 && 'a'", "0"),
-        ("2 && 'a'", "Mixed"),
-        ("'a' || 1", "Mixed"),
-        ("0 || 'a'", "Mixed"),
-        ("1 || 'a'", "1"),
-        ("1 ? 'a' : 1 / 0", "1 bytes a"),
-        ("x = 1", "NoEntry { slot: 1 }"),
-        ("x := 0; x = 1", "1"),
-        ("x := 1; x += y", "NoEntry { slot: 0 }"),
-        ("0 && 1 / 0", "0"),
-        ("'a' && 1 / 0", "Mixed"),
-        ("1 && 0", "0"),
-        ("1 || 1 / 0", "1"),
-        ("1 ? 2 : 1 / 0", "2"),
-        ("0 ? 1 / 0 : 3", "3"),
-        ("1 ? 0 && 1 / 0 : 1 / 0", "0"),
-        ("0 && (1 ? 1 / 0 : 'a') || (2 || 1 / 0)", "1"),
-        ("(1 || 'a') && (0 ? 1 / 0 : 5) && !(0 && 1 / 0)", "1"),
-        ("1 ? (0 ? 1 / 0 : 1 ? 7 : 1 / 0) : 1 / 0", "7"),
-        ("7 - 2 - 1", "4"),
-        ("x += 1 / 0", "NoEntry { slot: 1 }"),
-        ("x = 1 / 0", "ZeroDivisor"),
-    ] {
-        assert_eq!(rt; script_text(&rt, alloc, text)?.as_str(), want, "{text}");
+    for (text, want) in &SCRIPTS {
+        assert_eq!(rt; script_text(&rt, alloc, text)?.as_str(), *want, "{text}");
     }
     Ok(())
 }
@@ -138,28 +152,31 @@ fn nested(
     format!(in alloc; "x := 1; {front}{open}{inner}{close}")
 }
 
+/// The beginning of an expression, its parts, how often the first and the last of them stand there, and what it gives.
+static NESTED: [(&str, (&str, &str, &str), usize, &str); 12] = [
+    ("", ("-", "5", ""), 63, "-5"),
+    ("", ("!", "x", ""), 63, "0"),
+    ("", ("1 ? ", "7", " : 0"), 63, "7"),
+    ("", ("0 ? 0 : ", "7", ""), 63, "7"),
+    ("", ("1 ? ", "'a'", " : 1 / 0"), 62, "1 bytes a"),
+    ("", ("1 && ", "7", ""), 63, "1"),
+    ("", ("1 && ", "'a'", ""), 63, "Mixed"),
+    ("", ("0 || ", "7", ""), 63, "1"),
+    ("", ("1 && (", "x + 6", ")"), 31, "1"),
+    ("", ("0 || (", "1 / 0", ")"), 31, "ZeroDivisor"),
+    ("x += ", ("1 - (", "-x", ")"), 31, "3"),
+    ("x += ", ("1 ? ", "7", " : 0"), 63, "8"),
+];
+
 /// Expressions at the limit of levels, evaluated.
 #[test]
 fn expressions_have_64_levels(rt: HostRuntime) -> Result<(), Fail> {
     let alloc = rt.alloc();
-    for (front, parts, times, want) in [
-        ("", ("-", "5", ""), 63, "-5"),
-        ("", ("!", "x", ""), 63, "0"),
-        ("", ("1 ? ", "7", " : 0"), 63, "7"),
-        ("", ("0 ? 0 : ", "7", ""), 63, "7"),
-        ("", ("1 ? ", "'a'", " : 1 / 0"), 62, "1 bytes a"),
-        ("", ("1 && ", "7", ""), 63, "1"),
-        ("", ("1 && ", "'a'", ""), 63, "Mixed"),
-        ("", ("0 || ", "7", ""), 63, "1"),
-        ("", ("1 && (", "x + 6", ")"), 31, "1"),
-        ("", ("0 || (", "1 / 0", ")"), 31, "ZeroDivisor"),
-        ("x += ", ("1 - (", "-x", ")"), 31, "3"),
-        ("x += ", ("1 ? ", "7", " : 0"), 63, "8"),
-    ] {
-        let text = nested(alloc, front, parts, times)?;
+    for (front, parts, times, want) in &NESTED {
+        let text = nested(alloc, front, *parts, *times)?;
         assert_eq!(rt;
             script_text(&rt, alloc, text.as_str())?.as_str(),
-            want,
+            *want,
             "{text}"
         );
     }
@@ -191,17 +208,20 @@ fn entries_text(rt: &impl Abort, alloc: Global, text: &str) -> Result<String, Al
     format!(in alloc; "{:?}", board.entries.as_slice())
 }
 
+/// Scripts, and the entries after them.
+static WRITES: [(&str, &str); 4] = [
+    ("x = 1", "[None, None]"),
+    ("x := 1; x += y", "[None, Some(Int(1))]"),
+    ("x := 1; x += y; y := 2", "[None, Some(Int(1))]"),
+    ("y := 2; x := 1; x += y", "[Some(Int(2)), Some(Int(3))]"),
+];
+
 /// Entries after scripts that end with a fault: what was written before it stays.
 #[test]
 fn writes_before_a_fault_stand(rt: HostRuntime) -> Result<(), Fail> {
     let alloc = rt.alloc();
-    for (text, want) in [
-        ("x = 1", "[None, None]"),
-        ("x := 1; x += y", "[None, Some(Int(1))]"),
-        ("x := 1; x += y; y := 2", "[None, Some(Int(1))]"),
-        ("y := 2; x := 1; x += y", "[Some(Int(2)), Some(Int(3))]"),
-    ] {
-        assert_eq!(rt; entries_text(&rt, alloc, text)?.as_str(), want, "{text}");
+    for (text, want) in &WRITES {
+        assert_eq!(rt; entries_text(&rt, alloc, text)?.as_str(), *want, "{text}");
     }
     Ok(())
 }
@@ -232,27 +252,36 @@ fn number_of(
         sights: vec![in alloc; Seen::Int(4), Seen::Absent, Seen::Text]?,
     };
     let slots = slots_of(alloc, &[("n", 0), ("none", 1), ("t", 2)])?;
-    number_over(rt, alloc, expr, slots.as_slice(), &window)
+    let outcome = number_over(rt, alloc, expr, slots.as_slice(), &window);
+    drop(slots);
+    outcome
 }
 
 /// What a text gives as an expression.
 fn number_text(rt: &impl Abort, alloc: Global, text: &str) -> Result<String, NoMemory> {
     match parse_expr(alloc, text.as_bytes()) {
-        Ok(expr) => Ok(format!(in alloc; "{:?}", number_of(rt, alloc, &expr)?)?),
+        Ok(expr) => {
+            let outcome = number_of(rt, alloc, &expr);
+            drop(expr);
+            Ok(format!(in alloc; "{:?}", outcome?)?)
+        }
         Err(_) => Err(NoMemory),
     }
 }
+
+/// Expressions, and what they give.
+static LOOKS: [(&str, &str); 3] = [
+    ("n + 1", "Ok(5)"),
+    ("none", "Err(NoEntry { slot: 1 })"),
+    ("t + none", "Err(Mixed)"),
+];
 
 /// Expressions over a number, a missing entry and a text.
 #[test]
 fn looks_give_numbers(rt: HostRuntime) -> Result<(), Fail> {
     let alloc = rt.alloc();
-    for (text, want) in [
-        ("n + 1", "Ok(5)"),
-        ("none", "Err(NoEntry { slot: 1 })"),
-        ("t + none", "Err(Mixed)"),
-    ] {
-        assert_eq!(rt; number_text(&rt, alloc, text)?.as_str(), want, "{text}");
+    for (text, want) in &LOOKS {
+        assert_eq!(rt; number_text(&rt, alloc, text)?.as_str(), *want, "{text}");
     }
     Ok(())
 }
