@@ -21,7 +21,6 @@ use Rattle.bt_model.specs.Sites.{View, children_of, placed, remembered}
 use Rattle.bt_model.specs.Sound.{Dated, Leaves, Sound, Sounds, held_at, is_held}
 use Rattle.bt_model.specs.Steps.{Rule, is_completed, visit}
 use Rattle.bt_model.specs.Visit.{ended, meaning, started, status_of}
-use Rattle.bt_controls.specs.Rounds.{next_child}
 use Rattle.bt_arena.specs.declared.nodes.Kept.{Kept}
 use Rattle.bt_arena.specs.declared.nodes.Node.{Node}
 use Rattle.bt_arena.specs.declared.stage.Stage.{Stage}
@@ -40,6 +39,7 @@ use Rattle.bt_tick.specs.declared.machine.Next.TheVariants as next
 use Rattle.bt_tick.specs.declared.machine.Entered.TheVariants.{Begins, Answers}
 use Rattle.bt_tick.specs.declared.machine.Reached.{Reached}
 use Rattle.bt_tick.specs.declared.machine.Reached.TheVariants as reached
+use Rattle.bt_tick.specs.AtOnce.{child_at_once}
 use Rattle.bt_tick.specs.Machine.{Step, Turn}
 use Rattle.bt_tick.specs.Machine as turn
 
@@ -170,10 +170,9 @@ passes_over kind status = false
 abbrev pub step_of : Frame → Heard → Step
 step_of frame heard = record { uid = frame.uid; memo = frame.memo; heard = heard }
 
--- whether a node goes on to its next child and does no more: one of the Sequence and Fallback kinds does, where its round
--- goes on
+-- whether a node goes on to a child at once
 abbrev pub goes_at_once : List Node → Step → Bool
-goes_at_once nodes step = is_some (next_child (node_at nodes step.uid).kind (node_at nodes step.uid).children step.heard)
+goes_at_once nodes step = is_some (child_at_once (node_at nodes step.uid).kind (node_at nodes step.uid).children step.memo step.heard)
 
 -- a child is visited, or passed over
 abbrev pub turn_to : Bool → Frame → Turn

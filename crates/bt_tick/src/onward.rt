@@ -13,9 +13,8 @@ ghost use Rattle.bt_tick.specs.Machine as turn;
 ghost use Rattle.bt_tick.specs.Turns.{CanMoveOn, EntersChild, StepsOn, TakesTurn, goes_at_once, kind_of, passes_over, step_of, turn_of, turn_with, turn_work};
 
 use crate::machine::Next;
-use crate::moves::{is_completed, next_move};
+use crate::moves::{child_at_once, is_completed, next_move};
 use bt_arena::{Frame, Node, Stage, node};
-use bt_controls::goes_to_next;
 use bt_driver::Drivers;
 use bt_halting::reset_children;
 use bt_model::{Heard, Kind, NodeFault, Span, Status, Then};
@@ -66,9 +65,9 @@ fn reset_before<D: Drivers>(
     }
 }
 
-/// Whether the node on top of the stack, which has this frame, goes on from the child that it hears
-/// of to the next one, and does no more, as most nodes do after most answers. The frame is then that
-/// of the visit of this child, and else it stays.
+/// Whether the node that has this frame goes on to a child at once with what it hears, as most nodes
+/// do when they begin and after most answers. The frame is then that of the visit of this child, and
+/// else it stays.
 #[inline(always)]
 pub(crate) fn goes_on_at_once<D: Drivers>(stage: &Stage<D>, frame: &mut Frame, heard: Heard) -> bool
     requires can { (term : Term) × (view : View) × (rest : Done AnswerGiven Memory) ×
@@ -83,7 +82,7 @@ pub(crate) fn goes_on_at_once<D: Drivers>(stage: &Stage<D>, frame: &mut Frame, h
     ensures same { result ≡ false → frame.new ≡ frame.old }
 {
     let here = node(stage.nodes, frame.uid);
-    match goes_to_next(here.kind, &mut frame.memo, here.children, heard) {
+    match child_at_once(here.kind, &mut frame.memo, here.children, heard) {
         Some(place) => {
             frame.place = place;
             frame.child = child_at(here, place);

@@ -162,8 +162,15 @@ pub fn tick<D: Drivers>(
     loop {
         let heard = match enter(stage, uid)? {
             Entered::Begins(picked) => {
-                frames.push(begun(uid, stage.kept[uid as usize].memo))?;
-                Heard::Begin { picked }
+                let mut frame = begun(uid, stage.kept[uid as usize].memo);
+                let begin = Heard::Begin { picked };
+                let at_once = goes_on_at_once(stage, &mut frame, begin);
+                frames.push(frame)?;
+                if at_once {
+                    uid = frame.child;
+                    continue;
+                }
+                begin
             }
             Entered::Answers(answer) => match heard_on(frames, answer) {
                 Some(heard) => match next_at_once(stage, frames, heard) {

@@ -1,6 +1,7 @@
 use Rattle.std.proofs.Common.{◌≡◌, ◌+◌, ◌<◌, ◌≤◌, ℕ, List, [], ◌∷◌, ◌++◌, Ok, Err, ap, arith, refl, sym, ◌∙◌}
+use Rattle.std.proofs.lemmas.List.Sums.{sum_by-append}
 use Rattle.bt_model.specs.declared.moves.Heard.{Heard}
-use Rattle.bt_model.specs.declared.moves.Heard.TheVariants.{Answered}
+use Rattle.bt_model.specs.declared.moves.Heard.TheVariants.{Answered, Begin}
 use Rattle.bt_model.specs.declared.status.Answer.{Answer}
 use Rattle.bt_model.specs.declared.term.Term.{Term}
 use Rattle.bt_model.specs.Sites.{View}
@@ -10,22 +11,23 @@ use Rattle.bt_laws.proofs.Keeping.{term_keeps}
 use Rattle.bt_arena.specs.declared.frame.Frame.{Frame}
 use Rattle.bt_arena.specs.declared.nodes.Node.{Node}
 use Rattle.bt_arena.specs.Ends.{StaysFit}
+use Rattle.bt_arena.specs.Nodes.{kept_at}
 use Rattle.bt_arena.specs.Stages.{scene_on}
-use Rattle.bt_tick.specs.declared.machine.Entered.TheVariants.{Answers}
+use Rattle.bt_tick.specs.declared.machine.Entered.TheVariants.{Answers, Begins}
 use Rattle.bt_tick.specs.declared.machine.Next.TheVariants as next
 use Rattle.bt_tick.specs.declared.machine.Reached.{Reached}
 use Rattle.bt_tick.specs.Machine.{Turn}
 use Rattle.bt_tick.specs.Machine as turn
-use Rattle.bt_tick.specs.Turns.{CanVisitOn, Going, GoingOn, next_work, reached_work, stack_work, step_of, turn_after, turn_work, visit_on}
+use Rattle.bt_tick.specs.Turns.{CanVisitOn, Going, GoingOn, frame_work, next_work, reached_work, stack_work, step_of, turn_after, turn_work, visit_on}
 use Rattle.bt_tick.proofs.Depths.{level_left}
 use Rattle.bt_tick.proofs.Moving.{as_many_kept, node_there}
 use Rattle.bt_tick.proofs.Passing.{met_with}
-use Rattle.bt_tick.proofs.Later.{EntersBy, GoesNextBy, ReachesBy, came_later, can_later}
-use Rattle.bt_tick.proofs.Stacks.{as_turn, back_answers, back_made, begins, can_again, can_enter, cut_here, enter_beside, enter_made, enter_stops, on_stack}
+use Rattle.bt_tick.proofs.Later.{EntersBy, GoesNextBy, ReachesBy, StepsBy, came_later, can_later, step_later}
+use Rattle.bt_tick.proofs.Stacks.{as_turn, back_answers, back_made, begins, can_again, can_enter, can_step, cut_here, enter_beside, enter_made, enter_stops, entered, on_stack, step_made}
 use Rattle.bt_tick.proofs.Tops.{going_work, less_heard, reached_as}
 use Rattle.bt_tick.proofs.Totals.{spent_on}
 use Rattle.bt_tick.proofs.visiting.tick.Goals as goal
-use Rattle.bt_tick.proofs.visiting.tick.Goals.{In_ok-picked, Joined-branch-2, in-Begins+in_ok-push-in-Begins, in-Answers+in-Some+in-None-next_at_once}
+use Rattle.bt_tick.proofs.visiting.tick.Goals.{In_ok-picked, Joined-branch-2, in-Begins+in_ok-push-in-Begins+else-at_once, in-Answers+in-Some+in-None-next_at_once}
 use Rattle.bt_tick.proofs.visiting.tick.Given.{Over}
 
 pub loop-picked-init : goal.loop-picked-init
@@ -107,6 +109,11 @@ returns-in-None-clause-again g c = λ term view can.
     (can_again term_keeps _ _ term view 1 _ _ _ _ c.in-Answers.answer can (still_fits g at)
     (back_answers term_keeps _ _ (ap (turn_after c.loop-picked.uid _) c.in-Answers.is) (c.in-None.ensures.none refl) (came g at term view can)))
 
+-- the rule of the node that was entered begins, and this is its frame
+begun_by_rule : (g : Over) (c : In_ok-picked g) (picked : ℕ) (frame : Frame) → c.in_ok-picked.field-0 ≡ Begins picked → frame ≡ record { uid = c.loop-picked.uid; memo = (kept_at c.enter.new.stage.kept.now c.loop-picked.uid).memo; place = 0; child = 0 } →
+    turn_after c.loop-picked.uid c.enter.new.stage.kept.now c.in_ok-picked.field-0 ≡ turn.GoOn (step_of frame (Begin picked))
+begun_by_rule g c picked frame begins is = ap (turn_after c.loop-picked.uid _) begins ∙ (λ i. turn.GoOn (step_of (sym is i) (Begin picked)))
+
 -- the node on top of the stack hears the answer of the node that was entered
 answered : (g : Over) (c : In_ok-picked g) (answer : Answer) (heard : Heard) (below : List Frame) (frame : Frame) → c.in_ok-picked.field-0 ≡ Answers answer → c.loop-picked.frames.items ≡ below ++ frame ∷ [] → heard ≡ Answered frame.place answer →
     (term : Term) (view : View) → CanVisitOn g.D.Drivers.states c.args.stage.now 1 term view →
@@ -129,12 +136,14 @@ hears g c term view can =
     let goes = earlier c.loop-picked.invariant.same (EntersBy g.D.Drivers.states c.loop-picked.stage c.enter.new.stage _ (Ok _)) c.in_ok-picked.ensures.goes in
     let going = enter_made term_keeps _ _ _ _ refl (c.loop-picked.invariant.all term view can).came goes in
     elim c.match-branch-2.branch [
-      | in-Begins+in_ok-push-in-Begins w ↦ record {
+      | in-Begins+in_ok-push-in-Begins+else-at_once w ↦ record {
         came = (
           c.loop-picked.frames.items,
-          w.begun.result,
+          w.goes_on_at_once-at_once.new.frame,
           (λ i. (w.frames-is i).items) ∙ w.in_ok-push-in-Begins.ensures.ok,
-          as_turn term_keeps _ _ (ap (turn_after c.loop-picked.uid _) w.in-Begins.is ∙ (λ i. turn.GoOn (step_of (sym w.begun.ensures i) (sym w.heard-is i)))) going,
+          as_turn term_keeps _ _
+              (ap (turn_after c.loop-picked.uid _) w.in-Begins.is
+              ∙ (λ i. turn.GoOn (step_of (sym (w.goes_on_at_once-at_once.ensures.same w.if-at_once.false ∙ w.begun-frame.ensures) i) (sym w.heard-is i)))) going,
         );
       }
       | in-Answers+in-Some+in-None-next_at_once w ↦
@@ -152,13 +161,13 @@ hears g c term view can =
 -- and the room of the stack is as the contract says
 room : (g : Over) (c : Joined-branch-2 g) → c.args.frames.now.capacity ≤ c.match-branch-2.frames.capacity
 room g c = elim c.match-branch-2.branch [
-  | in-Begins+in_ok-push-in-Begins w ↦ let same : c.match-branch-2.frames.capacity ≡ w.push.new.self.capacity = λ i. (w.frames-is i).capacity in omega (arith, same, w.in_ok-push-in-Begins.ensures.capacity, c.loop-picked.invariant.room)
+  | in-Begins+in_ok-push-in-Begins+else-at_once w ↦ let same : c.match-branch-2.frames.capacity ≡ w.push.new.self.capacity = λ i. (w.frames-is i).capacity in omega (arith, same, w.in_ok-push-in-Begins.ensures.capacity, c.loop-picked.invariant.room)
   | in-Answers+in-Some+in-None-next_at_once w ↦ let same : c.match-branch-2.frames.capacity ≡ w.next_at_once.new.stack.capacity = λ i. (w.frames-is i).capacity in omega (arith, same, w.in-None-next_at_once.ensures.room, c.loop-picked.invariant.room)
 ]
 
 enough : (g : Over) (c : Joined-branch-2 g) (term : Term) (view : View) → CanVisitOn g.D.Drivers.states c.args.stage.now 1 term view → depth_of term ≤ c.args.frames.now.capacity → c.match-branch-2.frames.capacity ≡ c.args.frames.now.capacity
 enough g c term view can deep = elim c.match-branch-2.branch [
-  | in-Begins+in_ok-push-in-Begins w ↦
+  | in-Begins+in_ok-push-in-Begins+else-at_once w ↦
       let left = level_left _ _ _ _ _ _ _ _ _ _ _ (c.loop-picked.invariant.all term view can).came in
       let same = c.loop-picked.invariant.enough term view can deep in
       (λ i. (w.frames-is i).capacity) ∙ w.in_ok-push-in-Begins.ensures.had_room (omega (arith, left, same, deep)) ∙ same
@@ -171,11 +180,13 @@ no_more : (g : Over) (c : Joined-branch-2 g) → next_work c.args.stage.now.node
 no_more g c =
     let nodes = c.args.stage.now.nodes.now in
     elim c.match-branch-2.branch [
-      | in-Begins+in_ok-push-in-Begins w ↦
-          let stacked : c.match-branch-2.frames.items ≡ c.loop-picked.frames.items ++ w.begun.result ∷ [] = (λ i. (w.frames-is i).items) ∙ w.in_ok-push-in-Begins.ensures.ok in
-          let turns : turn_work nodes (turn_after c.loop-picked.uid c.enter.new.stage.kept.now c.in_ok-picked.field-0) ≡ turn_work nodes (turn.GoOn (step_of w.begun.result c.match-branch-2.heard)) =
-          ap (λ (t : Turn). turn_work nodes t) (ap (turn_after c.loop-picked.uid _) w.in-Begins.is ∙ (λ i. turn.GoOn (step_of (sym w.begun.ensures i) (sym w.heard-is i)))) in
-          omega (arith, going_work nodes c.match-branch-2.heard c.match-branch-2.frames.items c.loop-picked.frames.items w.begun.result stacked, turns)
+      | in-Begins+in_ok-push-in-Begins+else-at_once w ↦
+          let frame : Frame = w.goes_on_at_once-at_once.new.frame in
+          let stacked : c.match-branch-2.frames.items ≡ c.loop-picked.frames.items ++ frame ∷ [] = (λ i. (w.frames-is i).items) ∙ w.in_ok-push-in-Begins.ensures.ok in
+          let turns : turn_work nodes (turn_after c.loop-picked.uid c.enter.new.stage.kept.now c.in_ok-picked.field-0) ≡ turn_work nodes (turn.GoOn (step_of frame c.match-branch-2.heard)) =
+          ap (λ (t : Turn). turn_work nodes t) (ap (turn_after c.loop-picked.uid _) w.in-Begins.is
+          ∙ (λ i. turn.GoOn (step_of (sym (w.goes_on_at_once-at_once.ensures.same w.if-at_once.false ∙ w.begun-frame.ensures) i) (sym w.heard-is i)))) in
+          omega (arith, going_work nodes c.match-branch-2.heard c.match-branch-2.frames.items c.loop-picked.frames.items frame stacked, turns)
       | in-Answers+in-Some+in-None-next_at_once w ↦
           let (below, frame, is, heard) = w.in-Some.ensures.some w.in-Some.heard refl in
           let same : c.match-branch-2.frames.items ≡ c.loop-picked.frames.items = (λ i. (w.frames-is i).items) ∙ w.in-None-next_at_once.ensures.came in
@@ -309,4 +320,47 @@ loop-picked-preserved-in-Some-next_at_once g c =
       reserve = c.in_ok-picked.ensures.reserve ∙ c.loop-picked.invariant.reserve;
       room = omega (arith, c.in-Some-next_at_once.ensures.room, c.loop-picked.invariant.room);
       enough = λ term view can deep. c.in-Some-next_at_once.ensures.room ∙ c.loop-picked.invariant.enough term view can deep;
+    }
+
+pub goes_on_at_once-at_once-requires : goal.goes_on_at_once-at_once-requires
+goes_on_at_once-at_once-requires g c =
+    let at = (goal.at.goes_on_at_once-at_once-requires g c).In_ok-picked in
+    let (term, view, can) = c.requires.can in
+    let (t, v, rest, by) = can_step term_keeps _ _ (begun_by_rule g at c.in-Begins.picked c.begun-frame.result c.in-Begins.is c.begun-frame.ensures) (came g at term view can) in
+    record { can = (t, v, rest, step_later (same_both c.loop-picked.invariant.same c.in_ok-picked.ensures.same) by) }
+
+pub loop-picked-smaller-then-at_once : goal.loop-picked-smaller-then-at_once
+loop-picked-smaller-then-at_once g c =
+    let at = (goal.at.loop-picked-smaller-then-at_once g c).In_ok-picked in
+    let nodes = c.args.stage.now.nodes.now in
+    let frame : Frame = c.goes_on_at_once-at_once.new.frame in
+    let since = same_both c.loop-picked.invariant.same c.in_ok-picked.ensures.same in
+    let less = earlier c.loop-picked.invariant.same
+    (λ (ns : List Node) (m : ℕ). turn_work ns (turn_after c.loop-picked.uid c.enter.new.stage.kept.now c.in_ok-picked.field-0) < turn_work ns (turn.Enter c.loop-picked.uid)) c.in_ok-picked.ensures.work in
+    let went = earlier since
+    (λ (ns : List Node) (m : ℕ). turn_work ns (turn.Wait frame) < turn_work ns (turn.GoOn (step_of c.begun-frame.result (Begin c.in-Begins.picked)))) (c.goes_on_at_once-at_once.ensures.work c.if-at_once.true) in
+    let turns : turn_work nodes (turn_after c.loop-picked.uid c.enter.new.stage.kept.now c.in_ok-picked.field-0) ≡ turn_work nodes (turn.GoOn (step_of c.begun-frame.result (Begin c.in-Begins.picked))) =
+    ap (λ (t : Turn). turn_work nodes t) (begun_by_rule g at c.in-Begins.picked c.begun-frame.result c.in-Begins.is c.begun-frame.ensures) in
+    let stacked : stack_work nodes c.push.new.self.items ≡ stack_work nodes c.loop-picked.frames.items + (0 + frame_work nodes frame) =
+    ap (λ (fs : List Frame). stack_work nodes fs) c.in_ok-push-in-Begins.ensures.ok ∙ sum_by-append (frame_work nodes) c.loop-picked.frames.items (frame ∷ []) in
+    omega (arith, less, went, turns, stacked)
+
+pub loop-picked-preserved-then-at_once : goal.loop-picked-preserved-then-at_once
+loop-picked-preserved-then-at_once g c =
+    let at = (goal.at.loop-picked-preserved-then-at_once g c).In_ok-picked in
+    let since = same_both c.loop-picked.invariant.same c.in_ok-picked.ensures.same in
+    let goes = earlier since (StepsBy g.D.Drivers.states c.enter.new.stage c.enter.new.stage _ (Ok _)) (c.goes_on_at_once-at_once.ensures.goes c.if-at_once.true) in
+    record {
+      all = λ term view can. record {
+        came = on_stack term_keeps _ _ (sym c.in_ok-push-in-Begins.ensures.ok)
+            (entered term_keeps _ _ (step_made term_keeps _ _ _ _ (begun_by_rule g at c.in-Begins.picked c.begun-frame.result c.in-Begins.is c.begun-frame.ensures) (came g at term view can) goes));
+      };
+      stays = still_fits g at;
+      same = since;
+      reserve = c.in_ok-picked.ensures.reserve ∙ c.loop-picked.invariant.reserve;
+      room = omega (arith, c.in_ok-push-in-Begins.ensures.capacity, c.loop-picked.invariant.room);
+      enough = λ term view can deep.
+          let left = level_left _ _ _ _ _ _ _ _ _ _ _ (c.loop-picked.invariant.all term view can).came in
+          let same = c.loop-picked.invariant.enough term view can deep in
+          c.in_ok-push-in-Begins.ensures.had_room (omega (arith, left, same, deep)) ∙ same;
     }
