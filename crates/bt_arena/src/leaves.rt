@@ -45,7 +45,8 @@ fn leaf_with(
 ) -> Result<ReadyLeaf, NoMemory>
     requires named { AreNamed setting.now.tree.now scope (port_keys ports.now) }
     requires ready { IsReadyRow setting.now.world.now.facts found.row.now found.ready.now }
-    ensures of_row { IfOk result (λ leaf. IsLeafOf (view_in setting.now.tree.now setting.now.world.now scope) ports.now leaf found.entry.row.now) }
+    ensures of_row { IfOk result (λ leaf.
+        IsLeafOf (view_in setting.now.tree.now setting.now.world.now scope) ports.now leaf found.entry.row.now) }
     ensures kind { IfOk result (λ leaf. kind_of_way (rule leaf.row).way ≡ kind_of_row found.entry.row.now) }
     ensures driver { IfOk result (λ leaf. leaf.driver ≡ driver) }
     ensures instance { IfOk result (λ leaf. leaf.instance ≡ instance) }

@@ -43,7 +43,8 @@ pub(crate) fn if_then_else_begun(memo: &mut Memo, chosen: Option<u32>, n: u32) -
 /// The move of an IfThenElse after the answer of its chosen branch, or of its condition.
 pub(crate) fn if_then_else_answered(memo: &mut Memo, n: u32, place: u32, answer: Answer) -> Move
     requires { FitsChild Kind.IfThenElse n memo.old place }
-    ensures next { if_then_else_on n (chosen_of memo.old) (Heard.Answered place answer) ≡ makes hears_answer (λ m heard. if_then_else_on n (chosen_of m) heard) memo.new result }
+    ensures next { if_then_else_on n (chosen_of memo.old) (Heard.Answered place answer) ≡
+        makes hears_answer (λ m heard. if_then_else_on n (chosen_of m) heard) memo.new result }
     ensures onward { GoesOn Kind.IfThenElse n memo.old (place + 1) memo.new result.then }
 {
     match chosen_kept(*memo) {
@@ -79,7 +80,8 @@ fn condition_answered(memo: &mut Memo, n: u32, place: u32, answer: Answer) -> Mo
 /// The move of a WhileDoElse after the answer of its condition, or of a branch.
 pub(crate) fn while_do_else_answered(memo: &mut Memo, n: u32, place: u32, answer: Answer) -> Move
     requires { 2 ≤ n }
-    ensures next { while_do_else_on n memo.old (Heard.Answered place answer) ≡ makes hears_answer (λ m heard. while_do_else_on n m heard) memo.new result }
+    ensures next { while_do_else_on n memo.old (Heard.Answered place answer) ≡
+        makes hears_answer (λ m heard. while_do_else_on n m heard) memo.new result }
     ensures onward { (old : Memo) → GoesOn Kind.WhileDoElse n old (place + 1) memo.new result.then }
 {
     if place > 0 {

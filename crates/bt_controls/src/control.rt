@@ -85,7 +85,8 @@ fn answered(kind: Kind, memo: &mut Memo, n: u32, place: u32, answer: Answer) -> 
 pub fn goes_to_next(kind: Kind, memo: &mut Memo, n: u32, heard: Heard) -> Option<u32>
     requires fits { Fits kind n memo.old heard }
     ensures child { result ≡ next_child kind n heard }
-    ensures next { (place now : ℕ) → result ≡ Some place → rest kind n now memo.old heard ≡ makes (hears kind) (after kind n) memo.new (record { reset = Span.None; then = Then.Visit place }) }
+    ensures next { (place now : ℕ) → result ≡ Some place → rest kind n now memo.old heard ≡
+        makes (hears kind) (after kind n) memo.new (record { reset = Span.None; then = Then.Visit place }) }
     ensures onward { (place : ℕ) → result ≡ Some place → GoesOn kind n memo.old (next_place heard) memo.new (Then.Visit place) }
     // No child is left out, as a Parallel does.
     ensures visited { (place : ℕ) → result ≡ Some place → kind ≢ Kind.Parallel }
@@ -104,7 +105,8 @@ fn next_after(kind: Kind, memo: &mut Memo, n: u32, place: u32, answer: Answer) -
     requires there { place < n }
     requires fits { FitsChild kind n memo.old place }
     ensures child { result ≡ next_child kind n (Heard.Answered place answer) }
-    ensures next { (next : ℕ) → result ≡ Some next → after kind n memo.old (Heard.Answered place answer) ≡ makes (hears kind) (after kind n) memo.new (record { reset = Span.None; then = Then.Visit next }) }
+    ensures next { (next : ℕ) → result ≡ Some next → after kind n memo.old (Heard.Answered place answer) ≡
+        makes (hears kind) (after kind n) memo.new (record { reset = Span.None; then = Then.Visit next }) }
     ensures onward { (next : ℕ) → result ≡ Some next → GoesOn kind n memo.old (place + 1) memo.new (Then.Visit next) }
     ensures visited { (next : ℕ) → result ≡ Some next → kind ≢ Kind.Parallel }
     ensures same { result ≡ None → memo.new ≡ memo.old }

@@ -68,7 +68,8 @@ fn has_failed(counts: Counts, n: u32) -> bool
 pub(crate) fn parallel_answered(memo: &mut Memo, n: u32, place: u32, answer: Answer) -> Move
     requires there { place < n }
     requires fits { HasRoom n (counts_of memo.old) place }
-    ensures next { parallel_heard n (counts_of memo.old) (Heard.Answered place answer) ≡ makes hears_or_passes (λ m heard. parallel_heard n (counts_of m) heard) memo.new result }
+    ensures next { parallel_heard n (counts_of memo.old) (Heard.Answered place answer) ≡
+        makes hears_or_passes (λ m heard. parallel_heard n (counts_of m) heard) memo.new result }
     ensures onward { (old : Memo) → GoesOn Kind.Parallel n old (place + 1) memo.new result.then }
 {
     let counts = count(counts_kept(*memo), answer);
@@ -87,7 +88,8 @@ pub(crate) fn parallel_answered(memo: &mut Memo, n: u32, place: u32, answer: Ans
 #[inline(never)]
 fn parallel_ended(memo: &mut Memo, counts: Counts, n: u32, place: u32) -> Move
     requires { HasRoom n counts place }
-    ensures next { parallel_after n counts (parallel n (n - place) place counts) ≡ makes hears_or_passes (λ m heard. parallel_heard n (counts_of m) heard) memo.new result }
+    ensures next { parallel_after n counts (parallel n (n - place) place counts) ≡
+        makes hears_or_passes (λ m heard. parallel_heard n (counts_of m) heard) memo.new result }
     ensures onward { (old : Memo) → GoesOn Kind.Parallel n old place memo.new result.then }
 {
     parallel_on(memo, counts, n, place)
@@ -97,7 +99,8 @@ fn parallel_ended(memo: &mut Memo, counts: Counts, n: u32, place: u32) -> Move
 /// place.
 pub(crate) fn parallel_on(memo: &mut Memo, counts: Counts, n: u32, place: u32) -> Move
     requires { HasRoom n counts place }
-    ensures next { parallel_after n counts (parallel n (n - place) place counts) ≡ makes hears_or_passes (λ m heard. parallel_heard n (counts_of m) heard) memo.new result }
+    ensures next { parallel_after n counts (parallel n (n - place) place counts) ≡
+        makes hears_or_passes (λ m heard. parallel_heard n (counts_of m) heard) memo.new result }
     ensures onward { (old : Memo) → GoesOn Kind.Parallel n old place memo.new result.then }
 {
     if has_succeeded(counts) {
@@ -112,7 +115,8 @@ pub(crate) fn parallel_on(memo: &mut Memo, counts: Counts, n: u32, place: u32) -
 /// The move of a Parallel that goes on at this place, or ends after its last child.
 pub(crate) fn parallel_to(memo: &mut Memo, counts: Counts, n: u32, place: u32) -> Move
     requires { HasRoom n counts place }
-    ensures next { parallel n (n - place) place counts ≡ makes hears_or_passes (λ m heard. parallel_heard n (counts_of m) heard) memo.new result }
+    ensures next { parallel n (n - place) place counts ≡
+        makes hears_or_passes (λ m heard. parallel_heard n (counts_of m) heard) memo.new result }
     ensures onward { (old : Memo) → GoesOn Kind.Parallel n old place memo.new result.then }
 {
     if place < n {

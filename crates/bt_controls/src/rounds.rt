@@ -30,7 +30,8 @@ pub(crate) fn go_on(
     answer: Answer,
 ) -> Move
     requires { place < n }
-    ensures next { round_on goes (ends_of manner goes) n memo.old (Heard.Answered place answer) ≡ makes hears_answer (round_on goes (ends_of manner goes) n) memo.new result }
+    ensures next { round_on goes (ends_of manner goes) n memo.old (Heard.Answered place answer) ≡
+        makes hears_answer (round_on goes (ends_of manner goes) n) memo.new result }
     ensures onward { VisitsFrom (place + 1) n memo.new result.then }
 {
     if is_passed(goes, answer) {
@@ -54,7 +55,9 @@ pub(crate) fn next_in_round(
     requires there { place < n }
     requires index { memo.old ≡ Memo.Index place (seen_of memo.old) }
     ensures child { result ≡ next_passed goes n place answer }
-    ensures next { (manner : Manner) (next : ℕ) → result ≡ Some next → round_on goes (ends_of manner goes) n memo.old (Heard.Answered place answer) ≡ makes hears_answer (round_on goes (ends_of manner goes) n) memo.new (record { reset = Span.None; then = Then.Visit next }) }
+    ensures next { (manner : Manner) (next : ℕ) → result ≡ Some next →
+        round_on goes (ends_of manner goes) n memo.old (Heard.Answered place answer) ≡
+        makes hears_answer (round_on goes (ends_of manner goes) n) memo.new (record { reset = Span.None; then = Then.Visit next }) }
     ensures onward { (next : ℕ) → result ≡ Some next → VisitsFrom (place + 1) n memo.new (Then.Visit next) }
     ensures same { result ≡ None → memo.new ≡ memo.old }
 {
@@ -77,7 +80,8 @@ pub(crate) fn go_to(
     seen: bool,
     n: u32,
 ) -> Move
-    ensures next { round goes (ends_of manner goes) (n - at) at seen ≡ makes hears_answer (round_on goes (ends_of manner goes) n) memo.new result }
+    ensures next { round goes (ends_of manner goes) (n - at) at seen ≡
+        makes hears_answer (round_on goes (ends_of manner goes) n) memo.new result }
     ensures onward { VisitsFrom at n memo.new result.then }
 {
     if at < n {

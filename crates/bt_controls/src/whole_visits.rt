@@ -30,7 +30,8 @@ pub fn each_visit_has_one_list()
         IsVisit stops (length all) (take j all) → IsVisit stops (length all) (take k all) → j ≡ k }
     ensures one_heard { (stops : List (Option Answer) → Bool) (all : List (Option Answer)) → 1 ≤ length all →
         (k : ℕ) × (k ≤ length all) × IsVisit stops (length all) (take k all) }
-    ensures no_other_heard { (stops : List (Option Answer) → Bool) (all : List (Option Answer)) (j k : ℕ) → j ≤ length all → k ≤ length all →
+    ensures no_other_heard { (stops : List (Option Answer) → Bool) (all : List (Option Answer)) (j k : ℕ) → j ≤ length all →
+        k ≤ length all →
         IsVisit stops (length all) (take j all) → IsVisit stops (length all) (take k all) → j ≡ k }
 {}
 

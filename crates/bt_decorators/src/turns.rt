@@ -28,7 +28,8 @@ fn limit(turns: Turns) -> Option<u64>
 /// child is visited again.
 pub(crate) fn turn_answered(memo: &mut Memo, again: Answer, turns: Turns, answer: Answer) -> Move
     requires { TurnIsLeft turns.done (limit_of turns.limit) }
-    ensures next { turns_heard again turns (Heard.Answered 0 answer) ≡ makes hears_answer (λ m heard. turns_heard again (turns_of m) heard) memo.new result }
+    ensures next { turns_heard again turns (Heard.Answered 0 answer) ≡
+        makes hears_answer (λ m heard. turns_heard again (turns_of m) heard) memo.new result }
     ensures onward { TurnsOn turns memo.new result.then }
 {
     if is_same(answer, again) {
@@ -43,7 +44,8 @@ pub(crate) fn turn_answered(memo: &mut Memo, again: Answer, turns: Turns, answer
 /// limit this is in the next tick.
 fn turn_again(memo: &mut Memo, again: Answer, turns: Turns) -> Move
     requires { TurnIsLeft turns.done (limit_of turns.limit) }
-    ensures next { turns_on again (limit_of turns.limit) turns ≡ makes hears_answer (λ m heard. turns_heard again (turns_of m) heard) memo.new result }
+    ensures next { turns_on again (limit_of turns.limit) turns ≡
+        makes hears_answer (λ m heard. turns_heard again (turns_of m) heard) memo.new result }
     ensures onward { TurnsOn turns memo.new result.then }
 {
     match limit(turns) {
@@ -60,7 +62,8 @@ fn turn_again(memo: &mut Memo, again: Answer, turns: Turns) -> Move
 fn turn_within(memo: &mut Memo, again: Answer, turns: Turns, limit: u64) -> Move
     requires limit { limit_of turns.limit ≡ Some limit }
     requires left { TurnIsLeft turns.done (Some limit) }
-    ensures next { turns_on again (Some limit) turns ≡ makes hears_answer (λ m heard. turns_heard again (turns_of m) heard) memo.new result }
+    ensures next { turns_on again (Some limit) turns ≡
+        makes hears_answer (λ m heard. turns_heard again (turns_of m) heard) memo.new result }
     ensures onward { TurnsOn turns memo.new result.then }
 {
     let next = Turns {

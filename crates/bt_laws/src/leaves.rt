@@ -13,6 +13,7 @@ ghost use Rattle.bt_model.specs.Sites.{Site};
 /// instance.
 pub fn a_broken_call_changes_nothing()
     ensures { (site : Site) (row : Row) (status : Status) (ms : List Memory) (s : State) (cause : Cause) →
-        (leaf_rule site.view.facts row (phase_of status) (instance_at s site.uid) (inputs_of site s row) s.facts s.moment).reply ≡ Broken cause →
+        (leaf_rule site.view.facts row (phase_of status) (instance_at s site.uid) (inputs_of site s row) s.facts s.moment).reply ≡
+        Broken cause →
         (leaf_call (Some row) site status ms s).state ≡ s }
 {}

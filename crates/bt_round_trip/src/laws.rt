@@ -18,7 +18,8 @@ ghost use Rattle.bt_round_trip.specs.TreeElements.{element_of};
 /// A value without the byte 0 is printed as one that may stand between two `"`, and its printed
 /// bytes say the value.
 pub fn printed_values_read_back()
-    ensures stands { (value : List ℕ) → IsTrue (list_all is_not_zero value) → IsTrue (list_all (is_value_byte 34) (flat_map escaped_byte value)) }
+    ensures stands { (value : List ℕ) → IsTrue (list_all is_not_zero value) →
+        IsTrue (list_all (is_value_byte 34) (flat_map escaped_byte value)) }
     ensures says { (value : List ℕ) → IsTrue (list_all is_not_zero value) → decoded (flat_map escaped_byte value) ≡ value }
 {}
 
@@ -31,7 +32,8 @@ pub fn printed_elements_read_back()
 
 /// The printed bytes of a valid tree spell its element.
 pub fn printed_trees_spell_their_elements()
-    ensures { (tree : Tree) → IsValid tree → (f : Element) × Spells (concat (tree_lines tree)) f × (unplaced f ≡ unplaced (element_of tree)) }
+    ensures { (tree : Tree) → IsValid tree → (f : Element) × Spells (concat (tree_lines tree)) f ×
+        (unplaced f ≡ unplaced (element_of tree)) }
 {}
 
 /// The printed bytes of a tree that was read spell an element without models, which reads as the
@@ -42,6 +44,7 @@ pub fn printed_trees_read_back()
         → (f : Element) × Spells (concat (tree_lines tree)) f × (manifest_in f ≡ Ok []) × (reads [] None f ≡ Ok tree) }
     ensures lone { (tree : Tree) → IsValid tree → scope_count tree.term ≡ 0
         → (f : Element) × Spells (concat (tree_lines tree)) f × (manifest_in f ≡ Ok []) × (reads [] None f ≡ Ok tree) }
-    ensures read { (root : Element) (models : Models) (asked : Option (List ℕ)) (tree : Tree) → IsValidElement root → manifest_in root ≡ Ok models → reads models asked root ≡ Ok tree
+    ensures read { (root : Element) (models : Models) (asked : Option (List ℕ)) (tree : Tree) → IsValidElement root →
+        manifest_in root ≡ Ok models → reads models asked root ≡ Ok tree
         → (f : Element) × Spells (concat (tree_lines tree)) f × (manifest_in f ≡ Ok []) × (reads [] None f ≡ Ok tree) }
 {}

@@ -37,7 +37,8 @@ pub fn drivers_hold_running_leaves()
         (place uid : ℕ) (r : Runner) → slice_get (state_of_runs tree.term drivers runs).runners place ≡ Some r →
         RunsDownTo tree.term 1 r.memory uid → HasItsHeld drivers runs place uid }
     // These are the clauses `runs` and `none` of `event` and of `finish`.
-    ensures after_an_event { (tree : Tree) (world : World) (result : Result (Unit {0}) (Stop RunFault)) (drivers : List DriverState) (runs : Runs) →
+    ensures after_an_event { (tree : Tree) (world : World) (result : Result (Unit {0}) (Stop RunFault)) →
+        (drivers : List DriverState) (runs : Runs) →
         OnOk result (AreRuns tree world drivers runs) → OnErr result (NothingHeld drivers) →
         (place instance : ℕ) → is_held (instance_at drivers place instance) ≡ true → IsOfRunningLeaf tree drivers runs place instance }
 {}

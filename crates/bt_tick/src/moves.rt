@@ -62,7 +62,8 @@ fn first_child(kind: Kind, memo: &mut Memo, n: u32) -> Option<u32>
     requires takes { IsTrue (takes kind n) }
     ensures child { result ≡ first_child kind n memo.old }
     ensures next { (place picked now : ℕ) → result ≡ Some place →
-        rule kind n memo.old picked now ≡ makes (hears kind) (after kind n) memo.new (record { reset = Span.None; then = Then.Visit place }) }
+        rule kind n memo.old picked now ≡
+        makes (hears kind) (after kind n) memo.new (record { reset = Span.None; then = Then.Visit place }) }
     ensures onward { (place : ℕ) → result ≡ Some place → GoesOn kind n memo.old 0 memo.new (Then.Visit place) }
     ensures visited { (place : ℕ) → result ≡ Some place → kind ≢ Kind.Parallel }
     ensures same { result ≡ None → memo.new ≡ memo.old }
@@ -97,7 +98,8 @@ pub(crate) fn child_at_once(kind: Kind, memo: &mut Memo, n: u32, heard: Heard) -
     requires fits { Fits kind n memo.old heard }
     ensures child { result ≡ child_at_once kind n memo.old heard }
     ensures next { (place now : ℕ) → result ≡ Some place →
-        rest kind n now memo.old heard ≡ makes (hears kind) (after kind n) memo.new (record { reset = Span.None; then = Then.Visit place }) }
+        rest kind n now memo.old heard ≡
+        makes (hears kind) (after kind n) memo.new (record { reset = Span.None; then = Then.Visit place }) }
     ensures onward { (place : ℕ) → result ≡ Some place → GoesOn kind n memo.old (next_place heard) memo.new (Then.Visit place) }
     // No child is passed over, as by a Parallel.
     ensures visited { (place : ℕ) → result ≡ Some place → kind ≢ Kind.Parallel }
