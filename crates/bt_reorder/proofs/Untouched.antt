@@ -1,5 +1,6 @@
 -- What is read by the heads before a node, and what an action that touches none of it threatens: nothing.
 use Rattle.std.proofs.Common.{◌≡◌, ℕ, zero, suc, ◌+◌, ◌<◌, ◌≤◌, Bool, true, false, cond, ◌&&◌, ◌||◌, if◌then◌else◌, List, [], ◌∷◌, ◌++◌, length, take, drop, set, get_or, Option, Some, None, refl, ap, sym, ◌∙◌, subst, arith, inl, inr, append_assoc}
+use Rattle.std.specs.Prelude.{slice_index_or}
 use Rattle.std.specs.List.{find, list_any}
 use Rattle.std.specs.Option.{option_and_then, option_map_or, option_to_list}
 use Rattle.std.proofs.lemmas.List.{take_more}
@@ -28,19 +29,19 @@ use Rattle.bt_reorder.proofs.Threats.{head_is, wanted}
 
 -- ---- The table
 
-pub set_keeps : (read : List Bool) (i own : ℕ) → is_read read own ≡ true → is_read (set read i true) own ≡ true
+pub set_keeps : (read : List Bool) (i own : ℕ) → slice_index_or read own true ≡ true → slice_index_or (set read i true) own true ≡ true
 set_keeps [] i own is = refl
 set_keeps (b ∷ read) zero zero is = refl
 set_keeps (b ∷ read) zero (suc own) is = is
 set_keeps (b ∷ read) (suc i) zero is = is
 set_keeps (b ∷ read) (suc i) (suc own) is = set_keeps read i own is
 
-pub set_reads : (read : List Bool) (i : ℕ) → is_read (set read i true) i ≡ true
+pub set_reads : (read : List Bool) (i : ℕ) → slice_index_or (set read i true) i true ≡ true
 set_reads [] i = refl
 set_reads (b ∷ read) zero = refl
 set_reads (b ∷ read) (suc i) = set_reads read i
 
-pub past_reads : (read : List Bool) (i : ℕ) → length read ≤ i → is_read read i ≡ true
+pub past_reads : (read : List Bool) (i : ℕ) → length read ≤ i → slice_index_or read i true ≡ true
 past_reads [] i past = refl
 past_reads (b ∷ read) zero past = absurd (omega (arith, past))
 past_reads (b ∷ read) (suc i) past = past_reads read i (omega (arith, past))

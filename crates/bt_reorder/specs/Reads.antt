@@ -1,5 +1,5 @@
 -- Which facts are read by the heads before a node.
-use Rattle.std.specs.Prelude.{◌≡◌, ℕ, ◌≤◌, Bool, true, List, Some, slice_index_or}
+use Rattle.std.specs.Prelude.{◌≡◌, ℕ, ◌%◌, ◌≤◌, Bool, true, List, Some, slice_index_or}
 use Rattle.std.specs.List.{AllByRecursion}
 use Rattle.slab.specs.Slab.{get}
 use Rattle.bt_model.specs.declared.world.World.{World}
@@ -12,11 +12,11 @@ use Rattle.bt_expand.specs.Growth.{rule_test}
 use Rattle.bt_expand.specs.Stands.{Stands, StandsFor}
 use Rattle.bt_reorder.specs.declared.heads.Head.{Head}
 
--- whether the fact of this number is read, as one past the table is
+-- whether the fact of this number counts as read: one at its place in the table is read, or the place is past the table
 abbrev pub is_read : List Bool → ℕ → Bool
-is_read read fact = slice_index_or read fact true
+is_read read fact = slice_index_or read (fact % 256) true
 
--- the fact that a head tests is read
+-- the fact that a head tests counts as read
 abbrev pub IsRead : List Rule → List Bool → Head → Type 0
 IsRead rules read head = (test : Test) → rule_test rules head.row ≡ Some test → is_read read test.fact ≡ true
 

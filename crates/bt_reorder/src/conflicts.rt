@@ -14,7 +14,7 @@ ghost use Rattle.bt_reorder.specs.Reads.{AreRead, IsPlaced};
 
 use crate::heads::head_at;
 use crate::raising::{is_sequence, parent_of, place_among};
-use crate::reads::{FACTS, Read, add_head, touches};
+use crate::reads::{PLACES, Read, add_head, touches};
 use bt_domain::threatens;
 use bt_expand::{Node, Part, PlanTree, Rule};
 use bt_model::Set;
@@ -192,6 +192,6 @@ fn conflict_at(
 pub fn conflict(t: &PlanTree) -> Option<(usize, usize)>
     ensures { (world : World) (tree : Forest) → StandsFor t.now world tree → result ≡ slice_get (conflicts world.rows tree) 0 }
 {
-    let none = [false; FACTS];
+    let none = [false; PLACES];
     conflict_at(t, t.root, t.nodes.len(), &none, &none)
 }

@@ -14,36 +14,40 @@ use crate::raising::is_sequence;
 use bt_expand::{Part, PlanTree, Rule};
 use bt_model::Set;
 
-/// As many facts as a world may have.
-pub(crate) const FACTS: usize = 1024;
+/// How many places the table has. It is copied at each node with children, so it has fewer places than
+/// a world may have facts.
+pub(crate) const PLACES: usize = 256;
 
-/// For each fact whether it is read, by its number.
-pub(crate) type Read = [bool; FACTS];
+/// For each place whether a fact at it is read. Facts share a place where their numbers are the same
+/// modulo `PLACES`.
+pub(crate) type Read = [bool; PLACES];
 
-/// Whether a fact is read. One past the table counts as read.
+/// Whether a fact counts as read, as each does that shares the place of one that is read, or whose
+/// place is past the table.
 fn is_read(read: &[bool], fact: u32) -> bool
     ensures { result ≡ is_read read.now fact }
 {
-    match read.get(fact as usize) {
+    match read.get(fact as usize % PLACES) {
         Some(own) => *own,
         None => true,
     }
 }
 
-/// Whether one of these effects touches a fact that is read.
+/// Whether one of these effects touches a fact that counts as read.
 pub(crate) fn touches(effects: &[Set], read: &[bool]) -> bool
     ensures { result ≡ list_any (λ effect. is_read read.now effect.fact) effects.now }
 {
     effects.iter().any(|effect| is_read(read, effect.fact))
 }
 
-/// A fact is read from now on.
+/// A fact counts as read from now on.
 fn add_fact(read: &mut [bool], fact: u32)
     ensures kept { (own : ℕ) → is_read read.old own ≡ true → is_read read.new own ≡ true }
     ensures added { is_read read.new fact ≡ true }
 {
-    if (fact as usize) < read.len() {
-        read[fact as usize] = true;
+    let place = fact as usize % PLACES;
+    if place < read.len() {
+        read[place] = true;
     }
 }
 
