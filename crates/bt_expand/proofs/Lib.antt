@@ -12,3 +12,4 @@ pub mod Split
 pub mod Standing
 pub mod Valid
 pub mod Walked
+pub mod Words

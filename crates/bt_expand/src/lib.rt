@@ -11,6 +11,7 @@ mod plan_tree;
 mod planned;
 mod renewing;
 mod rule;
+mod texts;
 
 pub use expanding::{ExpandFault, expand};
 pub use node::{Node, Part};

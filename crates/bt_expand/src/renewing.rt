@@ -11,6 +11,7 @@ ghost use Rattle.bt_expand.specs.Stands.{Stands, StandsFor};
 use crate::node::{Node, Part};
 use crate::plan_tree::PlanTree;
 use crate::planned::{kind_of, part_id, plain_node, term_of, tree_of};
+use crate::texts::same_text;
 use bt_model::{Guards, Row, Term, Tree, World};
 use bt_script::{Items, Name, NoMemory};
 use slab::Slab;
@@ -46,7 +47,7 @@ fn is_named(term: &Term, id: &[u8]) -> bool
     ensures id { IsTrue result → (out-Term term.now).id ≡ id.now }
     ensures name { IsTrue result → (out-Term term.now).name ≡ id.now }
 {
-    term.id.list() == id && term.name.list() == id
+    same_text(term.id.list(), id) && same_text(term.name.list(), id)
 }
 
 /// Whether a term is that of a node, apart from its children.
