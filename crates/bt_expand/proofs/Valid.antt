@@ -8,6 +8,7 @@ use Rattle.std.proofs.lemmas.List.{length-map}
 use Rattle.std.proofs.lemmas.List.Sums.{sum_by-cons}
 use Rattle.bt_script.specs.Numbers.{greatest}
 use Rattle.bt_script.specs.Texts.{value_stands}
+use Rattle.bt_model.specs.declared.cell.Cell.{Cell}
 use Rattle.bt_model.specs.declared.cell.Naming.{Naming}
 use Rattle.bt_model.specs.declared.term.Kind.{Kind}
 use Rattle.bt_model.specs.declared.term.Kind.TheVariants.{ReactiveSequence, ReactiveFallback, Leaf}
@@ -15,7 +16,7 @@ use Rattle.bt_model.specs.declared.term.Term.{Term, Term-F, fold-roll-Term, roll
 use Rattle.bt_model.specs.declared.term.Tree.{Tree as Planned}
 use Rattle.bt_model.specs.declared.world.Row.{Row}
 use Rattle.bt_model.specs.declared.world.World.{World}
-use Rattle.bt_model.specs.Boards.{Scope, Standing, children_scope, children_scope_number, in_order, main_scope, namings, namings_at, slots, standing_all, standing_from, standing_step}
+use Rattle.bt_model.specs.Boards.{Scope, SlotTable, Standing, children_scope, children_scope_number, in_order, main_scope, namings, namings_at, owner, scope_of, slot_in, slot_table, slots, standing_all, standing_from, standing_step}
 use Rattle.bt_model.specs.BuiltIns.{named_kinds}
 use Rattle.bt_model.specs.Terms.{depth_of, node_count, own_scopes, scope_count, times_of, work_of}
 use Rattle.bt_model.specs.Trees.{GuardsFit, IsValid, Node, NodeFits, TextsFit, nodes_of, nodes_step}
@@ -211,6 +212,22 @@ module _ (world : World) (valid : IsValidWorld world) where
       let scopes : sum (map scope_count (planned.term ∷ [])) ≡ 0 = ap (λ (ts : List Term). sum (map scope_count ts)) (sym is.term) ∙ no_scopes tree in
       omega (arith, scopes, sum_first (scope_count planned.term) [])
 
+  unnamed : (tree : Forest) (planned : Planned) → IsPlanned rows tree planned → namings planned ≡ []
+  unnamed tree planned is =
+      sym (ap (λ (l : List Standing). flat_map namings_at l) (append-nil (standing_from planned.term 1 0 main_scope)))
+      ∙ ap (λ (ts : List Term). flat_map namings_at (standing_all (map standing_from ts) 1 0 main_scope)) (sym is.term) ∙ no_names tree 1 0 main_scope
+
+  -- its slots as a table, where this is all that it names
+  abbrev table_of : Planned → List Naming → SlotTable
+  table_of planned names = record {
+    cells = in_order (map (λ (n : Naming). n.cell) names);
+    named = map (λ (k : Cell). (k, slot_in (slots planned) (scope_of planned k.scope k.key))) (in_order (map (λ (n : Naming). owner n.number n.key) names));
+  }
+
+  -- it names no key, so that it has no slots
+  pub planned_nameless : (tree : Forest) (planned : Planned) → IsPlanned rows tree planned → slot_table planned ≡ record { cells = []; named = [] }
+  planned_nameless tree planned is = ap (table_of planned) (unnamed tree planned is)
+
   pub planned_valid : (t : PlanTree) (tree : Forest) (planned : Planned) → StandsFor t world tree → subtrees tree ≤ 120 → IsPlanned rows tree planned → IsValid planned
   planned_valid t tree planned st few is =
       let fit = st.shape.fit in
@@ -222,10 +239,7 @@ module _ (world : World) (valid : IsValidWorld world) where
       let one_work = sum_first (work_of planned.term) [] in
       let wide = st.shape.few in
       let low = st.shape.low in
-      let unnamed : namings planned ≡ [] =
-      sym (ap (λ (l : List Standing). flat_map namings_at l) (append-nil (standing_from planned.term 1 0 main_scope)))
-      ∙ ap (λ (ts : List Term). flat_map namings_at (standing_all (map standing_from ts) 1 0 main_scope)) (sym is.term) ∙ no_names tree 1 0 main_scope in
-      let no_slots : length (slots planned) ≡ 0 = ap (λ (ns : List Naming). length (in_order (map (λ (n : Naming). n.cell) ns))) unnamed in
+      let no_slots : length (slots planned) ≡ 0 = ap (λ (table : SlotTable). length table.cells) (planned_nameless tree planned is) in
       record {
         limits = record {
           nodes = omega (arith, nodes, one_node, wide, few);

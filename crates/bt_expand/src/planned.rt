@@ -1,8 +1,9 @@
 //! The behavior tree of a plan tree.
 
-ghost use Rattle.std.specs.Prelude.{◌≡◌, ◌≤◌, ℕ, Option, Some, IfOk, IsUtf8};
+ghost use Rattle.std.specs.Prelude.{◌≡◌, ◌≤◌, ℕ, [], Option, Some, IfOk, IsUtf8};
 ghost use Rattle.bt_model.specs.declared.term.Guards.{Guards};
 ghost use Rattle.bt_model.specs.declared.term.Term.{roll-Term};
+ghost use Rattle.bt_model.specs.Boards.{slot_table};
 ghost use Rattle.bt_model.specs.Terms.{scope_count};
 ghost use Rattle.bt_model.specs.Trees.{IsValid};
 ghost use Rattle.bt_expand.specs.Forests.{Forest, height, subtrees};
@@ -132,12 +133,14 @@ pub(crate) fn term_of(
 }
 
 /// The behavior tree of a plan tree to which at most 120 sequences were added. Its ID is `Plan`. Its
-/// nodes stand in the order of the plan tree's, so that its numbers are theirs. It is valid, and opens no other tree.
+/// nodes stand in the order of the plan tree's, so that its numbers are theirs. It is valid, opens no other tree, and
+/// names no key.
 pub fn tree_of(alloc: Global, t: &PlanTree, world: &World) -> Result<Tree, NoMemory>
     requires { (tree : Forest) × StandsFor t.now world.now tree × (subtrees tree ≤ 120) }
     ensures planned { IfOk result (λ planned. (tree : Forest) → StandsFor t.now world.now tree → IsPlanned world.now.rows tree planned) }
     ensures valid { IfOk result IsValid }
     ensures lone { IfOk result (λ planned. scope_count planned.term ≡ 0) }
+    ensures nameless { IfOk result (λ planned. slot_table planned ≡ record { cells = []; named = [] }) }
 {
     match t.nodes.get(t.root) {
         Some(root) => {

@@ -2,6 +2,7 @@
 
 ghost use Rattle.std.specs.Prelude.{◌≡◌, ◌≤◌, ◌∷◌, ◌++◌, ℕ, Option, Some, IfOk, IsTrue, OnOk, false, [], None};
 ghost use Rattle.bt_model.specs.declared.term.Term.{out-Term, roll-Term};
+ghost use Rattle.bt_model.specs.Boards.{slot_table};
 ghost use Rattle.bt_model.specs.Terms.{scope_count};
 ghost use Rattle.bt_model.specs.Trees.{IsValid};
 ghost use Rattle.bt_expand.specs.Forests.{Forest, height, subtrees};
@@ -174,6 +175,7 @@ pub fn tree_from(
     ensures planned { IfOk result (λ planned. (tree : Forest) → StandsFor t.now world.now tree → IsPlanned world.now.rows tree planned) }
     ensures valid { IfOk result IsValid }
     ensures lone { IfOk result (λ planned. scope_count planned.term ≡ 0) }
+    ensures nameless { IfOk result (λ planned. slot_table planned ≡ record { cells = []; named = [] }) }
 {
     let Some(Tree { mut term, .. }) = earlier else {
         return tree_of(alloc, t, world);

@@ -1,5 +1,5 @@
 use Rattle.bt_expand.proofs.Rooted.{root_planned}
-use Rattle.bt_expand.proofs.Valid.{planned_lone, planned_valid}
+use Rattle.bt_expand.proofs.Valid.{planned_lone, planned_nameless, planned_valid}
 use Rattle.bt_expand.proofs.planned.tree_of.Goals as goal
 
 pub returns-clause-planned : goal.returns-clause-planned
@@ -15,4 +15,9 @@ returns-clause-valid c =
 pub returns-clause-lone : goal.returns-clause-lone
 returns-clause-lone c =
     planned_lone c.args.world.now c.requires.1.valid c.requires.0 (record { main = c.in_ok-main-in-Some.main; term = c.in_ok-term-in-Some.term })
+    (returns-clause-planned c c.requires.0 c.requires.1)
+
+pub returns-clause-nameless : goal.returns-clause-nameless
+returns-clause-nameless c =
+    planned_nameless c.args.world.now c.requires.1.valid c.requires.0 (record { main = c.in_ok-main-in-Some.main; term = c.in_ok-term-in-Some.term })
     (returns-clause-planned c c.requires.0 c.requires.1)
