@@ -1,6 +1,6 @@
 -- A reset and a halt of a term that stands in an arena.
 use Rattle.std.proofs.Common.{◌≡◌, ◌≢◌, ℕ, ◌+◌, ◌<◌, List, [], ◌++◌, length, slice_set, refl, sym, ap, subst, ◌∙◌, append-nil, arith, Result, Ok, Err}
-use Rattle.std.proofs.lemmas.List.{get_or-set_other, get_or-set_same}
+use Rattle.std.proofs.lemmas.List.{get_or-set_other, get_or-set_same, set-get_or}
 use Rattle.bt_script.specs.declared.stop.Stop.{Stop}
 use Rattle.bt_model.specs.declared.fault.NodeFault.{NodeFault}
 use Rattle.bt_model.specs.declared.memory.Memory.{Memory, out-Memory, out-roll-Memory}
@@ -119,3 +119,12 @@ module _ (nodes : List Node) (moment : ℕ) (t : Term) (view : View) (uid : ℕ)
     idle_met =
         subst (λ (d : Done (Unit {0}) Memory). Meets nodes moment (memory_of t uid) (Ok tt) s0 s1 n0 n1 d) (sym (reset_of_resting t view uid s0.kept (state_in nodes s0 moment) other))
         (record { answer = refl; memory = memory_idle; state = same_state; notes = noted ∙ ap (λ (l : List Note). n0 ++ l) (sym (append-nil (change uid (kept_at s0.kept uid).status status.Idle))); drivers = same_drivers }, none_named uid (kept_at s0.kept uid).status)
+
+  -- a node that is IDLE is left as it is
+  pub idle_left : (kept_at s0.kept uid).status ≡ status.Idle → uid < length s0.kept → Meets nodes moment (memory_of t uid) (Ok tt) s0 s0 n0 n0 whole
+  idle_left is within =
+      let same : record (kept_at s0.kept uid) { status = status.Idle } ≡ kept_at s0.kept uid = λ i. record (kept_at s0.kept uid) { status = sym is i } in
+      idle_met (λ running. (let e : status.Idle ≡ status.Running = sym is ∙ running in cc)) s0 n0 within
+      (sym (ap (slice_set s0.kept uid) same ∙ set-get_or s0.kept uid at_rest))
+      refl refl
+      (sym (append-nil n0) ∙ ap (λ (st : Status). n0 ++ change uid st status.Idle) (sym is))

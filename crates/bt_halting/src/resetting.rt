@@ -50,8 +50,9 @@ fn become_idle<D: Drivers>(stage: &mut Stage<D>, uid: u32) -> Result<(), NoMemor
     Ok(())
 }
 
-/// Resets the node with this uid: one that is RUNNING is halted, and any other becomes IDLE. The
-/// error is a fault of an `_onHalted`, or want of memory; after either the caller quenches.
+/// Resets the node with this uid: one that is RUNNING is halted, and any other becomes IDLE, as an
+/// IDLE one is already. The error is a fault of an `_onHalted`, or want of memory; after either the
+/// caller quenches.
 #[inline(always)]
 #[cycle(resetting)]
 pub fn reset<D: Drivers>(stage: &mut Stage<D>, uid: u32) -> Result<(), Stop<NodeFault>>
@@ -65,12 +66,31 @@ pub fn reset<D: Drivers>(stage: &mut Stage<D>, uid: u32) -> Result<(), Stop<Node
     ensures reserve { stage.new.notes.now.reserve ≡ stage.old.notes.now.reserve }
 {
     match stage.kept[uid as usize].status {
-        Status::Running => halt(stage, uid),
+        Status::Idle => Ok(()),
+        Status::Running => halt_here(stage, uid),
         _ => {
             become_idle(stage, uid)?;
             Ok(())
         }
     }
+}
+
+/// Halts the RUNNING node with this uid, as `halt` does. It is a function of its own, inlined, so
+/// that room for the answer of a halt is cleared only where there is one.
+#[inline(always)]
+#[cycle(resetting)]
+fn halt_here<D: Drivers>(stage: &mut Stage<D>, uid: u32) -> Result<(), Stop<NodeFault>>
+    requires fits { (term : Term) × (view : View) × FitsOn D.states stage.old uid term view }
+    requires running { (kept_at stage.old.kept.now uid).status ≡ IsRunning }
+    requires held { RunningAreHeldOn stage.old uid }
+    ensures meets { (term : Term) (view : View) → FitsOn D.states stage.old uid term view →
+        MeetsOn D.states (memory_of term uid) result stage.old stage.new (halt_on D.states stage.old uid term view) }
+    ensures held { OnOk result (RunningAreHeldOn stage.new uid) }
+    ensures keeps { Keeps D.states uid (node_at stage.old.nodes.now uid).size stage.old stage.new }
+    ensures facts { stage.new.facts.now ≡ stage.old.facts.now }
+    ensures reserve { stage.new.notes.now.reserve ≡ stage.old.notes.now.reserve }
+{
+    halt(stage, uid)
 }
 
 /// Halts the RUNNING node with this uid: its children are reset in order; its memo is cleared, but

@@ -15,7 +15,7 @@ use Rattle.bt_nodes.specs.Here.{children_in, site_at}
 use Rattle.bt_halting.specs.Halts.{RunningAreHeld, reset_if}
 use Rattle.bt_halting.proofs.Children.{none_reset}
 use Rattle.bt_halting.proofs.Ending.{nothing_cut}
-use Rattle.bt_halting.proofs.Halting.{halt_ended, halt_stopped, idle_met, reset_of_running}
+use Rattle.bt_halting.proofs.Halting.{halt_ended, halt_stopped, idle_left, idle_met, reset_of_running}
 use Rattle.bt_halting.proofs.Keeping.{idle_here, keeps_idle}
 use Rattle.bt_nodes.proofs.Following.{stops_with}
 use Rattle.bt_halting.proofs.Turns.{no_turn, not_turned, turn, turned}
@@ -238,4 +238,8 @@ reset-returns-in_ok-become_idle-in_default g t c =
 
 pub reset-returns-in-Running-clause-meets : goal.reset-returns-in-Running-clause-meets
 reset-returns-in-Running-clause-meets g t c = λ term view fits.
-    rw (reset_of_running term view c.args.uid c.args.stage.now.kept.now _ c.in-Running.is) (c.halt.ensures.meets term view fits)
+    rw (reset_of_running term view c.args.uid c.args.stage.now.kept.now _ c.in-Running.is) (c.halt_here.ensures.meets term view fits)
+
+pub reset-returns-in-Idle-clause-meets : goal.reset-returns-in-Idle-clause-meets
+reset-returns-in-Idle-clause-meets g t c = λ term view fits.
+    idle_left c.args.stage.now.nodes.now c.args.stage.now.moment term view c.args.uid _ _ c.in-Idle.is (kept_there term view c.args.uid c.args.stage.now.nodes.now _ fits)

@@ -9,16 +9,19 @@ use Rattle.bt_halting.proofs.Children.{StillResets}
 use Rattle.bt_halting.proofs.resetting.+resetting.Given as goal
 
 abbrev pub decreases-reset : goal.decreases-reset
-decreases-reset g l = 4 * (node_at l.stage.now.nodes.now l.uid).size + 2
+decreases-reset g l = 5 * (node_at l.stage.now.nodes.now l.uid).size + 3
+
+abbrev pub decreases-halt_here : goal.decreases-halt_here
+decreases-halt_here g l = 5 * (node_at l.stage.now.nodes.now l.uid).size + 2
 
 abbrev pub decreases-halt : goal.decreases-halt
-decreases-halt g l = 4 * (node_at l.stage.now.nodes.now l.uid).size + 1
+decreases-halt g l = 5 * (node_at l.stage.now.nodes.now l.uid).size + 1
 
 abbrev pub decreases-reset_children : goal.decreases-reset_children
-decreases-reset_children g l = 4 * (node_at l.stage.now.nodes.now l.uid).size
+decreases-reset_children g l = 5 * (node_at l.stage.now.nodes.now l.uid).size
 
 abbrev pub decreases-reset_wanted : goal.decreases-reset_wanted
-decreases-reset_wanted g l = 4 * (node_at l.stage.now.nodes.now l.uid).size + 3
+decreases-reset_wanted g l = 5 * (node_at l.stage.now.nodes.now l.uid).size + 4
 
 -- the resets so far, followed by those still to come, are all
 abbrev pub invariant-reset_children-loop-place : goal.invariant-reset_children-loop-place
