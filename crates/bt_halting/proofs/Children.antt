@@ -1,5 +1,5 @@
 -- The resets of the children of a node, one after another.
-use Rattle.std.proofs.Common.{◌≡◌, ℕ, ◌+◌, ◌<◌, ◌≤◌, List, [], ◌∷◌, ◌++◌, map, length, slice_set, refl, sym, ap, subst, ◌∙◌, append_assoc, length-append, arith, Bool, true, false, if◌then◌else◌, Result, Ok, Err}
+use Rattle.std.proofs.Common.{◌≡◌, ℕ, ◌+◌, ◌<◌, ◌≤◌, List, [], ◌∷◌, ◌++◌, map, length, take, slice_set, refl, sym, ap, subst, ◌∙◌, append_assoc, length-append, arith, Bool, true, false, if◌then◌else◌, Result, Ok, Err}
 use Rattle.std.proofs.lemmas.List.{set-get_or}
 use Rattle.std.proofs.lemmas.List.Sums.{sum_by-cons}
 use Rattle.bt_script.specs.declared.stop.Stop.{Stop}
@@ -17,11 +17,11 @@ use Rattle.bt_model.specs.Steps.{resets, spans}
 use Rattle.bt_model.specs.Visit.{meaning}
 use Rattle.bt_arena.specs.declared.nodes.Node.{Node}
 use Rattle.bt_arena.specs.Scenes.{Scene, state_in}
-use Rattle.bt_arena.specs.Stands.{Beside, memories_of, memory_of}
+use Rattle.bt_arena.specs.Stands.{Beside, memories_of, memory_of, uid_of}
 use Rattle.bt_arena.specs.Ends.{IsMade, Meets}
 use Rattle.bt_halting.specs.Halts.{reset_if}
 use Rattle.bt_arena.proofs.Follows.{done_met, followed, stopped}
-use Rattle.bt_halting.proofs.Memories.{IsChild, child_memory, child_placed}
+use Rattle.bt_halting.proofs.Memories.{IsChild, child_memory, child_placed, front_split}
 
 -- a child that is reset, or left alone, is so among the others
 within_is : (wanted : Bool) (c : Term) (view : View) (uid place : ℕ) (ms : List Memory) (s : State) →
@@ -78,8 +78,18 @@ module _ (nodes : List Node) (moment : ℕ) (which : Span) (view : View) (ts : L
     pub uid_is : uid ≡ first + sizes (map meaning front)
     pub still : (r : Result (Unit {0}) (Stop NodeFault)) (s2 : Scene) (n2 : List Note) → Meets nodes moment (memories_of ts first) r s s2 n n2 (resets_left rest place uid s) → Meets nodes moment (memories_of ts first) r before s2 old n2 (all_resets before)
 
-  pub none_reset : (s : Scene) (n : List Note) → StillResets s n 0 first s n
-  none_reset s n = record { front = []; rest = ts; all = refl; place_is = refl; uid_is = omega arith; still = λ r s2 n2 m. m }
+  -- the uid is that at the place
+  at_place : (before : Scene) (old : List Note) (place uid : ℕ) (s : Scene) (n : List Note) (k : StillResets before old place uid s n) → uid ≡ uid_of ts first place
+  at_place before old place uid s n k =
+      k.uid_is
+      ∙ ap (λ (l : List Term). first + sizes (map meaning l)) (sym (front_split k.front k.rest place k.place_is))
+      ∙ ap (λ (l : List Term). first + sizes (map meaning (take place l))) (sym k.all)
+
+  pub still_at_place : (before : Scene) (old : List Note) (place uid : ℕ) (s : Scene) (n : List Note) → StillResets before old place uid s n → StillResets before old place (uid_of ts first place) s n
+  still_at_place before old place uid s n k = subst (λ (u : ℕ). StillResets before old place u s n) (at_place before old place uid s n k) k
+
+  pub none_reset : (s : Scene) (n : List Note) → StillResets s n 0 (uid_of ts first 0) s n
+  none_reset s n = still_at_place s n 0 first s n (record { front = []; rest = ts; all = refl; place_is = refl; uid_is = omega arith; still = λ r s2 n2 m. m })
 
   module _ (before : Scene) (old : List Note) (place uid : ℕ) (s : Scene) (n : List Note) (k : StillResets before old place uid s n) where
     -- all are reset

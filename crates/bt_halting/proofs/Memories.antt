@@ -8,7 +8,7 @@ use Rattle.bt_model.specs.Visit.{meaning}
 use Rattle.bt_arena.specs.declared.nodes.Kept.{Kept}
 use Rattle.bt_arena.specs.declared.nodes.Node.{Node}
 use Rattle.bt_arena.specs.Nodes.{kept_at}
-use Rattle.bt_arena.specs.Stands.{Beside, IsKeptAlike, StandAll, Stands, memories_of, memory_of, uid_of}
+use Rattle.bt_arena.specs.Stands.{Beside, IsKeptAlike, StandAll, Stands, memories_of, memory_of, uid_of, uids_of}
 use Rattle.bt_arena.proofs.Framed.{framed_all, memory_at_place, memory_set}
 use Rattle.bt_arena.proofs.Opened.{memory_out}
 
@@ -19,6 +19,18 @@ memory_above t uid before after same =
     memory_out t uid after ∙ ap (λ (ms : List Memory). remembered (kept_at after uid).status (kept_at after uid).memo ms) (sym (framed_all (out-Term t).children (uid + 1) before after same))
 
 -- ---- Children
+
+-- the uids of terms in order, by their places
+pub uids_at : (ts : List Term) (place first : ℕ) → place < length ts → get_or (uids_of ts first) place 0 ≡ uid_of ts first place
+uids_at [] place first within = absurd (omega (arith, within))
+uids_at (c ∷ cs) zero first within = omega arith
+uids_at (c ∷ cs) (suc place) first within =
+    uids_at cs place (first + (meaning c).size) (omega (arith, within))
+    ∙ omega (arith, sum_by-cons (λ (d : Meaning). d.size) (meaning c) (map meaning (take place cs)))
+
+pub uids_many : (ts : List Term) (first : ℕ) → length (uids_of ts first) ≡ length ts
+uids_many [] first = refl
+uids_many (c ∷ cs) first = ap suc (uids_many cs (first + (meaning c).size))
 
 -- a term among several in order: its place, and its uid where the first has this uid
 pub record IsChild (ts : List Term) (first : ℕ) (place : ℕ) (c : Term) (uid : ℕ) : Type 0 where
@@ -34,7 +46,7 @@ at_split [] y d zs (suc i) is = cc
 at_split (x ∷ xs) y d zs zero is = cc
 at_split (x ∷ xs) y d zs (suc i) is = at_split xs y d zs i (omega (arith, is))
 
-front_split : {X : Type 0} (xs ys : List X) (i : ℕ) → length xs ≡ i → take i (xs ++ ys) ≡ xs
+pub front_split : {X : Type 0} (xs ys : List X) (i : ℕ) → length xs ≡ i → take i (xs ++ ys) ≡ xs
 front_split [] ys zero is = refl
 front_split [] ys (suc i) is = cc
 front_split (x ∷ xs) ys zero is = cc

@@ -11,7 +11,7 @@ use Rattle.bt_arena.specs.declared.nodes.Kept.{Kept}
 use Rattle.bt_arena.specs.declared.nodes.Node.{Node}
 use Rattle.bt_arena.specs.Nodes.{kept_at, node_at}
 use Rattle.bt_arena.specs.Scenes.{Fits, Scene}
-use Rattle.bt_arena.specs.Stands.{Beside, StandAll, Stands, node_stands, view_under, written}
+use Rattle.bt_arena.specs.Stands.{Beside, StandAll, Stands, node_stands, uids_of, view_under, written}
 use Rattle.bt_arena.proofs.Opened.{opened, size_out}
 use Rattle.bt_halting.specs.Halts.{RunningAreHeld}
 use Rattle.bt_halting.proofs.Marks.{as_many_marks}
@@ -37,6 +37,11 @@ stands_within = ind-Term IsWithin (λ x y is nodes view uid stands.
     let size : (meaning (roll-Term x)).size ≡ 1 + sizes (map meaning x.children) = size_out (roll-Term x) ∙ ap (λ (z : Term-F Term). 1 + sizes (map meaning z.children)) (out-roll-Term x) in
     omega (arith, children here.2, size))
 
+-- terms are not more than their nodes
+as_many_nodes : (ts : List Term) → length ts ≤ sizes (map meaning ts)
+as_many_nodes [] = omega arith
+as_many_nodes (c ∷ cs) = omega (arith, as_many_nodes cs, size_out c, sum_by-cons (λ (d : Meaning). d.size) (meaning c) (map meaning cs))
+
 module _ (t : Term) (view : View) (uid : ℕ) (nodes : List Node) (s : Scene) (fits : Fits t view uid nodes s) where
   -- the size of a node is that of its term
   pub size_is : (node_at nodes uid).size ≡ 1 + sizes (map meaning (out-Term t).children)
@@ -45,8 +50,11 @@ module _ (t : Term) (view : View) (uid : ℕ) (nodes : List Node) (s : Scene) (f
   pub size_of_term : (node_at nodes uid).size ≡ (meaning t).size
   size_of_term = size_is ∙ sym (size_out t)
 
-  pub children_is : (node_at nodes uid).children ≡ length (out-Term t).children
-  children_is = (opened t nodes view uid fits.stands).1.children
+  pub child_uids_are : (node_at nodes uid).child_uids ≡ uids_of (out-Term t).children (uid + 1)
+  child_uids_are = (opened t nodes view uid fits.stands).3
+
+  pub children_few : length (out-Term t).children < (node_at nodes uid).size
+  children_few = omega (arith, size_is, as_many_nodes (out-Term t).children)
 
   pub node_there : uid < length nodes
   node_there = (opened t nodes view uid fits.stands).0

@@ -133,10 +133,9 @@ pub fn reset_children<D: Drivers>(
     ensures facts { stage.new.facts.now ≡ stage.old.facts.now }
     ensures reserve { stage.new.notes.now.reserve ≡ stage.old.notes.now.reserve }
 {
-    let mut child = uid + 1;
-    for place in 0..node(stage.nodes, uid).children {
-        reset_wanted(stage, child, has(span, place))?;
-        child += node(stage.nodes, child).size;
+    let children = node(stage.nodes, uid).child_uids.list();
+    for (place, child) in children.iter().enumerate() {
+        reset_wanted(stage, *child, has(span, place as u32))?;
     }
     Ok(())
 }

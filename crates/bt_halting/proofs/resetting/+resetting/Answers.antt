@@ -1,4 +1,4 @@
-use Rattle.std.proofs.Common.{◌≡◌, ◌≤◌, ◌+◌, ◌<◌, ℕ, List, Ok, Err, length, refl, sym, ap, subst, ◌∙◌, arith}
+use Rattle.std.proofs.Common.{◌≡◌, ◌≤◌, ◌+◌, ◌<◌, ℕ, List, Ok, Err, get_or, refl, sym, ap, subst, ◌∙◌, arith}
 use Rattle.bt_script.specs.declared.stop.Stop.TheVariants as stop
 use Rattle.bt_model.specs.declared.status.Status.TheVariants.{Idle}
 use Rattle.bt_model.specs.declared.term.Term.{out-Term}
@@ -10,7 +10,7 @@ use Rattle.bt_arena.specs.Rosters.{instances_of}
 use Rattle.bt_arena.specs.Scenes.{state_in}
 use Rattle.bt_arena.specs.Stages.{scene_on}
 use Rattle.bt_arena.specs.Stands.{Beside, memory_of, view_under, written}
-use Rattle.bt_arena.proofs.Staged.{fits_later, keeps_none, keeps_still, keeps_then, meets_earlier, same_both}
+use Rattle.bt_arena.proofs.Staged.{fits_later, keeps_none, keeps_still, keeps_then, meets_earlier}
 use Rattle.bt_nodes.specs.Here.{children_in, site_at}
 use Rattle.bt_halting.specs.Halts.{RunningAreHeld, reset_if}
 use Rattle.bt_halting.proofs.Children.{none_reset}
@@ -18,8 +18,8 @@ use Rattle.bt_halting.proofs.Ending.{nothing_cut}
 use Rattle.bt_halting.proofs.Halting.{halt_ended, halt_stopped, idle_left, idle_met, reset_of_running}
 use Rattle.bt_halting.proofs.Keeping.{idle_here, keeps_idle}
 use Rattle.bt_nodes.proofs.Following.{stops_with}
-use Rattle.bt_halting.proofs.Turns.{no_turn, not_turned, turn, turned}
-use Rattle.bt_halting.proofs.Within.{all_there, kept_there, node_there, running_above, rested_if_ok, running_below, running_rested, size_is}
+use Rattle.bt_halting.proofs.Turns.{comes, many, no_turn, not_turned, turn, turned}
+use Rattle.bt_halting.proofs.Within.{all_there, children_few, kept_there, node_there, running_above, rested_if_ok, running_below, running_rested, size_is}
 use Rattle.bt_halting.proofs.resetting.+resetting.Goals as goal
 
 pub halt-returns-in_err-reset_children-clause-meets : goal.halt-returns-in_err-reset_children-clause-meets
@@ -72,10 +72,6 @@ halt-returns-clause-held g t c =
     rested_if_ok after.nodes.now between.kept.now after.kept.now c.args.uid c.args.uid c.end_halt.result keeps.beside c.end_halt.ensures.status
     (subst (λ (ns : List Node). RunningAreHeld ns between.kept.now c.args.uid) (λ j. (sym keeps.same.nodes j).now) c.in_ok-reset_children.ensures.held)
 
-pub reset_children-overflow_add-child : goal.reset_children-overflow_add-child
-reset_children-overflow_add-child g t c =
-    let f = c.requires.fits in omega (arith, node_there f.0 f.1 c.args.uid c.args.stage.now.nodes.now _ f.2, f.2.few)
-
 pub reset_children-node-requires : goal.reset_children-node-requires
 reset_children-node-requires g t c = let f = c.requires.fits in node_there f.0 f.1 c.args.uid c.args.stage.now.nodes.now _ f.2
 
@@ -92,10 +88,14 @@ pub reset_children-reset_wanted-requires : goal.reset_children-reset_wanted-requ
 reset_children-reset_wanted-requires g t c =
     let nodes = c.args.stage.now.nodes.now in
     let at = c.loop-place.stage in
-    let child = c.loop-place.child in
+    let uids = c.list-children.result.now in
+    let child = get_or uids c.loop-place.place 0 in
+    let is = c.list-children.ensures ∙ ap (λ (n : Node). n.child_uids) c.node.ensures in
     let f = c.requires.fits in
     let i = c.loop-place.invariant in
-    let w = turn nodes c.args.stage.now.moment c.args.span f.0 f.1 c.args.uid _ _ c.loop-place.place child _ _ (i.keeps.stays f.0 f.1 c.args.uid f.2) (i.still f.0 f.1 f.2) (rw c.node.ensures at c.loop-place-test.true) in
+    let fits = i.keeps.stays f.0 f.1 c.args.uid f.2 in
+    let k = comes f.0 f.1 c.args.uid nodes _ fits uids is c.args.stage.now.moment c.args.span _ _ c.loop-place.place _ (i.still f.0 f.1 f.2) c.loop-place-test.true in
+    let w = turn nodes c.args.stage.now.moment c.args.span f.0 f.1 c.args.uid _ _ c.loop-place.place child _ _ fits k (omega (arith, c.loop-place-test.true, many f.0 f.1 c.args.uid nodes _ fits uids is)) in
     let child_size : (node_at at.nodes.now child).size ≡ (node_at nodes child).size = λ j. (node_at (i.keeps.same.nodes j).now child).size in
     let size : (node_at at.nodes.now c.args.uid).size ≡ (node_at nodes c.args.uid).size = λ j. (node_at (i.keeps.same.nodes j).now c.args.uid).size in
     let below = view_under f.1 c.args.uid (written (out-Term f.0)) in
@@ -115,11 +115,13 @@ pub reset_children-returns-in_err-reset_wanted-clause-meets : goal.reset_childre
 reset_children-returns-in_err-reset_wanted-clause-meets g t c = λ term view fit.
     let nodes = c.args.stage.now.nodes.now in
     let at = c.loop-place.stage in
-    let child = c.loop-place.child in
+    let uids = c.list-children.result.now in
+    let child = get_or uids c.loop-place.place 0 in
+    let is = c.list-children.ensures ∙ ap (λ (n : Node). n.child_uids) c.node.ensures in
     let i = c.loop-place.invariant in
     let fits = i.keeps.stays term view c.args.uid fit in
-    let k = i.still term view fit in
-    let w = turn nodes c.args.stage.now.moment c.args.span term view c.args.uid _ _ c.loop-place.place child _ _ fits k (rw c.node.ensures at c.loop-place-test.true) in
+    let k = comes term view c.args.uid nodes _ fits uids is c.args.stage.now.moment c.args.span _ _ c.loop-place.place _ (i.still term view fit) c.loop-place-test.true in
+    let w = turn nodes c.args.stage.now.moment c.args.span term view c.args.uid _ _ c.loop-place.place child _ _ fits k (omega (arith, c.loop-place-test.true, many term view c.args.uid nodes _ fits uids is)) in
     let below = view_under view c.args.uid (written (out-Term term)) in
     let beside = subst (λ (size : ℕ). Beside child size at.kept.now c.reset_wanted.new.stage.kept.now) (λ j. (node_at (i.keeps.same.nodes j).now child).size) c.reset_wanted.ensures.keeps.beside in
     rw (stops_with _ _ c.from_residual.ensures.1)
@@ -130,32 +132,16 @@ reset_children-returns-in_err-reset_wanted-clause-meets g t c = λ term view fit
 pub reset_children-returns-in_err-reset_wanted-clause-keeps : goal.reset_children-returns-in_err-reset_wanted-clause-keeps
 reset_children-returns-in_err-reset_wanted-clause-keeps g t c =
     let nodes = c.args.stage.now.nodes.now in
-    let child = c.loop-place.child in
+    let uids = c.list-children.result.now in
+    let child = get_or uids c.loop-place.place 0 in
+    let is = c.list-children.ensures ∙ ap (λ (n : Node). n.child_uids) c.node.ensures in
     let f = c.requires.fits in
     let i = c.loop-place.invariant in
-    let w = turn nodes c.args.stage.now.moment c.args.span f.0 f.1 c.args.uid _ _ c.loop-place.place child _ _ (i.keeps.stays f.0 f.1 c.args.uid f.2) (i.still f.0 f.1 f.2) (rw c.node.ensures at c.loop-place-test.true) in
+    let fits = i.keeps.stays f.0 f.1 c.args.uid f.2 in
+    let k = comes f.0 f.1 c.args.uid nodes _ fits uids is c.args.stage.now.moment c.args.span _ _ c.loop-place.place _ (i.still f.0 f.1 f.2) c.loop-place-test.true in
+    let w = turn nodes c.args.stage.now.moment c.args.span f.0 f.1 c.args.uid _ _ c.loop-place.place child _ _ fits k (omega (arith, c.loop-place-test.true, many f.0 f.1 c.args.uid nodes _ fits uids is)) in
     let child_size : (node_at c.loop-place.stage.nodes.now child).size ≡ (node_at nodes child).size = λ j. (node_at (i.keeps.same.nodes j).now child).size in
     keeps_then g.D.Drivers.states _ _ child _ _ _ _ w.low (omega (arith, w.high, child_size, size_is f.0 f.1 c.args.uid nodes _ f.2)) i.keeps c.reset_wanted.ensures.keeps
-
-pub reset_children-node-requires-in-loop-place : goal.reset_children-node-requires-in-loop-place
-reset_children-node-requires-in-loop-place g t c =
-    let nodes = c.args.stage.now.nodes.now in
-    let f = c.requires.fits in
-    let i = c.loop-place.invariant in
-    let same = same_both i.keeps.same c.reset_wanted.ensures.keeps.same in
-    let w = turn nodes c.args.stage.now.moment c.args.span f.0 f.1 c.args.uid _ _ c.loop-place.place c.loop-place.child _ _ (i.keeps.stays f.0 f.1 c.args.uid f.2) (i.still f.0 f.1 f.2) (rw c.node.ensures at c.loop-place-test.true) in
-    subst (λ (ns : List Node). c.loop-place.child < length ns) (λ j. (sym same.nodes j).now) (node_there _ _ _ _ _ w.fits)
-
-pub reset_children-overflow_add-child-in-loop-place : goal.reset_children-overflow_add-child-in-loop-place
-reset_children-overflow_add-child-in-loop-place g t c =
-    let nodes = c.args.stage.now.nodes.now in
-    let child = c.loop-place.child in
-    let f = c.requires.fits in
-    let i = c.loop-place.invariant in
-    let same = same_both i.keeps.same c.reset_wanted.ensures.keeps.same in
-    let w = turn nodes c.args.stage.now.moment c.args.span f.0 f.1 c.args.uid _ _ c.loop-place.place child _ _ (i.keeps.stays f.0 f.1 c.args.uid f.2) (i.still f.0 f.1 f.2) (rw c.node.ensures at c.loop-place-test.true) in
-    let size : (node_at c.reset_wanted.new.stage.nodes.now child).size ≡ (node_at nodes child).size = λ j. (node_at (same.nodes j).now child).size in
-    omega (arith, all_there _ _ _ _ _ w.fits, ap (λ (n : Node). n.size) c.node-in-loop-place.ensures, size, f.2.few)
 
 pub reset_children-loop-place-preserved : goal.reset_children-loop-place-preserved
 reset_children-loop-place-preserved g t c =
@@ -163,12 +149,15 @@ reset_children-loop-place-preserved g t c =
     let before = c.args.stage.now in
     let at = c.loop-place.stage in
     let after = c.reset_wanted.new.stage in
-    let child = c.loop-place.child in
+    let uids = c.list-children.result.now in
+    let child = get_or uids c.loop-place.place 0 in
+    let is = c.list-children.ensures ∙ ap (λ (n : Node). n.child_uids) c.node.ensures in
     let f = c.requires.fits in
     let i = c.loop-place.invariant in
     let keeps = c.reset_wanted.ensures.keeps in
-    let same = same_both i.keeps.same keeps.same in
-    let w = turn before.nodes.now before.moment c.args.span f.0 f.1 c.args.uid _ _ c.loop-place.place child _ _ (i.keeps.stays f.0 f.1 c.args.uid f.2) (i.still f.0 f.1 f.2) (rw c.node.ensures at c.loop-place-test.true) in
+    let fits = i.keeps.stays f.0 f.1 c.args.uid f.2 in
+    let k = comes f.0 f.1 c.args.uid before.nodes.now _ fits uids is before.moment c.args.span _ _ c.loop-place.place _ (i.still f.0 f.1 f.2) c.loop-place-test.true in
+    let w = turn before.nodes.now before.moment c.args.span f.0 f.1 c.args.uid _ _ c.loop-place.place child _ _ fits k (omega (arith, c.loop-place-test.true, many f.0 f.1 c.args.uid before.nodes.now _ fits uids is)) in
     let child_size : (node_at at.nodes.now child).size ≡ (node_at before.nodes.now child).size = λ j. (node_at (i.keeps.same.nodes j).now child).size in
     let beside = subst (λ (size : ℕ). Beside child size at.kept.now after.kept.now) child_size keeps.beside in
     record {
@@ -181,19 +170,31 @@ reset_children-loop-place-preserved g t c =
       reserve = c.reset_wanted.ensures.reserve ∙ i.reserve;
       still = λ term view fit.
           let fits = i.keeps.stays term view c.args.uid fit in
-          let k = i.still term view fit in
+          let k = comes term view c.args.uid before.nodes.now _ fits uids is before.moment c.args.span _ _ c.loop-place.place _ (i.still term view fit) c.loop-place-test.true in
           let below = view_under view c.args.uid (written (out-Term term)) in
-          let v = turn before.nodes.now before.moment c.args.span term view c.args.uid _ _ c.loop-place.place child _ _ fits k (rw c.node.ensures at c.loop-place-test.true) in
+          let v = turn before.nodes.now before.moment c.args.span term view c.args.uid _ _ c.loop-place.place child _ _ fits k (omega (arith, c.loop-place-test.true, many term view c.args.uid before.nodes.now _ fits uids is)) in
           turned before.nodes.now before.moment c.args.span term view c.args.uid _ _ c.loop-place.place child _ _ fits k v c.has.result c.has.ensures _ _ beside
           (meets_earlier states before at after i.keeps.same (memory_of v.next.child child) (Ok tt) (λ nodes moment. reset_if c.has.result v.next.child below child (memory_of v.next.child child at.kept.now) (state_in nodes (scene_on states at) moment))
-          (c.in_ok-reset_wanted.ensures.meets v.next.child below (fits_later states before at i.keeps.same v.next.child below child v.fits)))
-          c.node-in-loop-place.result.now.size (ap (λ (n : Node). n.size) c.node-in-loop-place.ensures ∙ (λ j. (node_at (same.nodes j).now child).size));
+          (c.in_ok-reset_wanted.ensures.meets v.next.child below (fits_later states before at i.keeps.same v.next.child below child v.fits)));
     }
 
 pub reset_children-returns-clause-meets : goal.reset_children-returns-clause-meets
 reset_children-returns-clause-meets g t c = λ term view fit.
+    let nodes = c.args.stage.now.nodes.now in
     let i = c.loop-place.invariant in
-    no_turn c.args.stage.now.nodes.now c.args.stage.now.moment c.args.span term view c.args.uid _ _ c.loop-place.place c.loop-place.child _ _ (i.keeps.stays term view c.args.uid fit) (i.still term view fit) (rw c.node.ensures at c.loop-place-test.false)
+    let fits = i.keeps.stays term view c.args.uid fit in
+    let uids = c.list-children.result.now in
+    let is = c.list-children.ensures ∙ ap (λ (n : Node). n.child_uids) c.node.ensures in
+    no_turn nodes c.args.stage.now.moment c.args.span term view c.args.uid _ _ c.loop-place.place _ _ _ fits (i.still term view fit)
+    (omega (arith, c.loop-place-test.false, many term view c.args.uid nodes _ fits uids is))
+
+pub reset_children-overflow_cast-place : goal.reset_children-overflow_cast-place
+reset_children-overflow_cast-place g t c =
+    let nodes = c.args.stage.now.nodes.now in
+    let f = c.requires.fits in
+    let uids = c.list-children.result.now in
+    let is = c.list-children.ensures ∙ ap (λ (n : Node). n.child_uids) c.node.ensures in
+    omega (arith, c.loop-place-test.true, many f.0 f.1 c.args.uid nodes _ f.2 uids is, children_few f.0 f.1 c.args.uid nodes _ f.2, all_there f.0 f.1 c.args.uid nodes _ f.2, f.2.few)
 
 pub reset-bounds : goal.reset-bounds
 reset-bounds g t c = let f = c.requires.fits in kept_there f.0 f.1 c.args.uid c.args.stage.now.nodes.now _ f.2

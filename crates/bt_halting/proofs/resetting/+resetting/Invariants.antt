@@ -3,7 +3,7 @@ use Rattle.bt_model.specs.declared.term.Term.{Term, out-Term}
 use Rattle.bt_model.specs.Sites.{View}
 use Rattle.bt_arena.specs.Nodes.{node_at}
 use Rattle.bt_arena.specs.Stages.{FitsOn, Keeps, scene_on}
-use Rattle.bt_arena.specs.Stands.{view_under, written}
+use Rattle.bt_arena.specs.Stands.{uid_of, view_under, written}
 use Rattle.bt_halting.specs.Halts.{RunningAreHeldOn}
 use Rattle.bt_halting.proofs.Children.{StillResets}
 use Rattle.bt_halting.proofs.resetting.+resetting.Given as goal
@@ -31,5 +31,5 @@ invariant-reset_children-loop-place g l = record {
   facts : l.stage.facts.now ≡ l.fn.stage.facts.now;
   reserve : l.stage.notes.now.reserve ≡ l.fn.stage.notes.now.reserve;
   still : (term : Term) (view : View) → FitsOn g.D.Drivers.states l.fn.stage l.uid term view →
-      StillResets l.fn.stage.nodes.now l.fn.stage.moment l.span (view_under view l.uid (written (out-Term term))) (out-Term term).children (l.uid + 1) (scene_on g.D.Drivers.states l.fn.stage) l.fn.stage.notes.now.list l.place l.child (scene_on g.D.Drivers.states l.stage) l.stage.notes.now.list;
+      StillResets l.fn.stage.nodes.now l.fn.stage.moment l.span (view_under view l.uid (written (out-Term term))) (out-Term term).children (l.uid + 1) (scene_on g.D.Drivers.states l.fn.stage) l.fn.stage.notes.now.list l.place (uid_of (out-Term term).children (l.uid + 1) l.place) (scene_on g.D.Drivers.states l.stage) l.stage.notes.now.list;
 }
