@@ -42,7 +42,7 @@ pub fn note_change(notes: &mut Notes, uid: u32, old: Status, new: Status) -> Res
 }
 
 /// Gives the node with this uid a memo. Most visits are those of leaves, which have no memo before
-/// or after: then nothing is written.
+/// or after: then nothing is written. A memo that a node no longer has is cleared, not copied.
 #[inline(always)]
 fn keep_memo(kept: &mut [Kept], uid: u32, memo: Memo)
     requires { uid < length kept.old }
@@ -50,6 +50,7 @@ fn keep_memo(kept: &mut [Kept], uid: u32, memo: Memo)
 {
     match (kept_by(kept, uid).memo, memo) {
         (Memo::Nothing, Memo::Nothing) => {}
+        (_, Memo::Nothing) => set_memo(kept, uid, Memo::Nothing),
         _ => set_memo(kept, uid, memo),
     }
 }
