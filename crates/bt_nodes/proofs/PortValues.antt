@@ -1,5 +1,5 @@
 -- What the ports of a node give is what the definition reads from the ports of its term.
-use Rattle.std.proofs.Common.{◌≡◌, ℕ, ℤ, zero, suc, ◌+◌, ◌<◌, ◌≤◌, List, [], ◌∷◌, ◌++◌, length, map, take, codes, decimal, Option, Some, None, Result, Ok, Err, refl, sym, ap, subst, ◌∙◌, arith, lit<, if◌then◌else◌}
+use Rattle.std.proofs.Common.{◌≡◌, ℕ, zero, suc, ◌+◌, ◌<◌, ◌≤◌, List, [], ◌∷◌, ◌++◌, length, map, take, codes, decimal, Option, Some, None, Result, Ok, Err, refl, sym, ap, subst, ◌∙◌, arith, lit<, if◌then◌else◌}
 use Rattle.std.proofs.lemmas.Fmt.{decimal_digit}
 use Rattle.std.proofs.lemmas.List.{length-map, length-take}
 use Rattle.std.specs.Prelude.{IsErrAnd, slice_index_or}
@@ -91,12 +91,12 @@ module _ (term : Term-F Meaning) (view : View) (whole uid : ℕ) (s : State) (no
   starts_as : (memo : Memo) (kind : Kind) → node.kind ≡ kind → new_memo kind (site_of term view uid) memo s ≡ new_memo term.kind (site_of term view uid) memo s
   starts_as memo kind is = ap (λ (kd : Kind). new_memo kd (site_of term view uid) memo s) (sym is ∙ k.kind)
 
-  pub parallel_starts : (memo : Memo) (r : Result Memo PortId) (success failure : Option ℤ) → node.kind ≡ Parallel →
-      success ≡ source_number s.board (port_at node 0) → failure ≡ source_number s.board (port_at node 1) →
-      r ≡ parallel_start (threshold node.children success) (is_negative success) (threshold node.children failure) → r ≡ new_memo term.kind (site_of term view uid) memo s
-  parallel_starts memo r success failure is first second e =
-      let success_is = first ∙ number_means Parallel 0 (codes "success_count") is refl in
-      let failure_is = second ∙ number_means Parallel 1 (codes "failure_count") is refl in
+  pub parallel_starts : (memo : Memo) (r : Result Memo PortId) → node.kind ≡ Parallel →
+      r ≡ parallel_start (threshold node.children (source_number s.board (port_at node 0))) (is_negative (source_number s.board (port_at node 0))) (threshold node.children (source_number s.board (port_at node 1))) →
+      r ≡ new_memo term.kind (site_of term view uid) memo s
+  parallel_starts memo r is e =
+      let success_is = number_means Parallel 0 (codes "success_count") is refl in
+      let failure_is = number_means Parallel 1 (codes "failure_count") is refl in
       e
       ∙ (λ i. parallel_start (threshold (k.children i) (success_is i)) (is_negative (success_is i)) (threshold (k.children i) (failure_is i)))
       ∙ starts_as memo Parallel is

@@ -104,6 +104,49 @@ fn number_at(node: &Node, place: usize, board: &Board) -> Option<i64>
     number_of(&node.ports.list()[place], board)
 }
 
+/// Makes a memo the first one of a Parallel, with the counts of its ports. It is not inlined, nor are
+/// those of other kinds that read numbers, so that room for what they make is cleared only there. The
+/// error is the port whose count is out of range, and then the memo stays.
+#[inline(never)]
+fn start_parallel(node: &Node, memo: &mut Memo, board: &Board) -> Result<(), PortId>
+    requires ports { HasPorts (length board.now) node.now }
+    requires there { 1 < length node.now.ports }
+    ensures starts { let success = source_number board.now (port_at node.now 0) in
+        let failure = source_number board.now (port_at node.now 1) in
+        let count = threshold node.now.children in
+        with_memo result memo.new ≡ parallel_start (count success) (is_negative success) (count failure) }
+    ensures err { OnErr result (memo.new ≡ memo.old) }
+{
+    *memo = parallel_start(
+        node.children,
+        number_at(node, 0, board),
+        number_at(node, 1, board),
+    )?;
+    Ok(())
+}
+
+/// Makes a memo the first one of a Retry or Repeat with this limit. The error is its port, where the
+/// limit is not in range, and then the memo stays.
+#[inline(never)]
+fn start_turns(port: PortId, limit: Option<i64>, memo: &mut Memo) -> Result<(), PortId>
+    ensures starts { with_memo result memo.new ≡ turns_start port (within TurnRange limit) }
+    ensures err { OnErr result (memo.new ≡ memo.old) }
+{
+    *memo = turns_start(port, limit)?;
+    Ok(())
+}
+
+/// Makes a memo the first one of a Timeout or Delay of this length, from `now` on, both in
+/// milliseconds. The error is its port, where the length is not in range, and then the memo stays.
+#[inline(never)]
+fn start_since(port: PortId, now: u64, length: Option<i64>, memo: &mut Memo) -> Result<(), PortId>
+    ensures starts { with_memo result memo.new ≡ since_start port now (within Duration length) }
+    ensures err { OnErr result (memo.new ≡ memo.old) }
+{
+    *memo = since_start(port, now, length)?;
+    Ok(())
+}
+
 /// Makes a memo the one with which a visit of its node starts. The error is the first port that has
 /// no number of its range, and then the memo stays. `now` is in milliseconds.
 #[inline(always)]
@@ -123,18 +166,12 @@ fn start_of(node: &Node, memo: &mut Memo, board: &Board, now: u64) -> Result<(),
                 seen: false,
             };
         }
-        Kind::Parallel => {
-            *memo = parallel_start(
-                node.children,
-                number_at(node, 0, board),
-                number_at(node, 1, board),
-            )?;
-        }
+        Kind::Parallel => start_parallel(node, memo, board)?,
         Kind::Switch(_) | Kind::IfThenElse => *memo = Memo::Chosen(None),
-        Kind::Retry => *memo = turns_start(PortId::NumAttempts, number_at(node, 0, board))?,
-        Kind::Repeat => *memo = turns_start(PortId::NumCycles, number_at(node, 0, board))?,
-        Kind::Timeout => *memo = since_start(PortId::Msec, now, number_at(node, 0, board))?,
-        Kind::Delay => *memo = since_start(PortId::DelayMsec, now, number_at(node, 0, board))?,
+        Kind::Retry => start_turns(PortId::NumAttempts, number_at(node, 0, board), memo)?,
+        Kind::Repeat => start_turns(PortId::NumCycles, number_at(node, 0, board), memo)?,
+        Kind::Timeout => start_since(PortId::Msec, now, number_at(node, 0, board), memo)?,
+        Kind::Delay => start_since(PortId::DelayMsec, now, number_at(node, 0, board), memo)?,
         Kind::RunOnce => *memo = Memo::Finished(None),
         _ => *memo = Memo::Nothing,
     }
