@@ -1,5 +1,6 @@
 -- What holds of an arena that was made for a runner.
 use Rattle.std.specs.Prelude.{◌≡◌, ℕ, ◌+◌, ◌<◌, max, List, [], length, replicate}
+use Rattle.std.specs.Vec.{vec_capacity}
 use Rattle.bt_model.specs.declared.term.Tree.{Tree}
 use Rattle.bt_model.specs.declared.world.World.{World}
 use Rattle.bt_model.specs.Drivers.{DriverState}
@@ -23,4 +24,4 @@ pub record IsArenaOf (tree : Tree) (world : World) (drivers : List DriverState) 
   pub numbered : AreNumbered drivers number arena.nodes.items
   pub serves : (place : ℕ) → place < length drivers → served place arena.nodes.items ≡ leaves_served world.rows drivers place (leaf_ids tree.term)
   pub no_visits : arena.frames.items ≡ []
-  pub room : arena.frames.capacity ≡ max 32 (depth_of tree.term)
+  pub room : vec_capacity arena.frames ≡ max 32 (depth_of tree.term)

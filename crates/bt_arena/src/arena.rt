@@ -5,7 +5,6 @@ ghost use Rattle.bt_arena.specs.Rosters.{has_driver, is_served_at, leaves_in, se
 use crate::frame::Frame;
 use crate::nodes::{Kept, Node};
 use bt_model::{Memo, Status};
-use smallvec::SmallVec;
 
 /// The nodes of a runner's tree by uid, in pre-order, and what each keeps. Place 0 is no node's.
 #[derive(Debug, Drop)]
@@ -15,7 +14,7 @@ pub struct Arena {
     pub nodes: Vec<Node>,
     pub kept: Vec<Kept>,
     /// The visits of a tick that wait for a child, the topmost last.
-    pub frames: SmallVec<Frame, 32>,
+    pub frames: Vec<Frame>,
 }
 
 /// The status of the node with this uid. It allocates no memory.

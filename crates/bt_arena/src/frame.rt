@@ -1,9 +1,9 @@
 ghost use Rattle.std.specs.Prelude.{◌≡◌, ◌≤◌, [], max, IfOk};
+ghost use Rattle.std.specs.Vec.{vec_capacity};
 ghost use Rattle.bt_model.specs.Terms.{depth_of};
 
 use bt_model::{Memo, Term};
 use bt_script::NoMemory;
-use smallvec::SmallVec;
 use std::alloc::Global;
 
 /// A visit that waits for a child.
@@ -16,18 +16,6 @@ pub struct Frame {
     /// The place of the child among the node's children, and its uid.
     pub place: u32,
     pub child: u32,
-}
-
-impl Default for Frame {
-    /// A frame of no node, for the unused places of a stack.
-    fn default() -> Frame {
-        Frame {
-            uid: 0,
-            memo: Memo::Nothing,
-            place: 0,
-            child: 0,
-        }
-    }
 }
 
 /// The height of a term: how many nodes stand one below the other at most.
@@ -44,10 +32,10 @@ fn depth(term: &Term) -> usize
 
 /// An empty stack with room for the visits of this term that can be under way at once. The error is
 /// want of memory.
-pub(crate) fn frames_for(alloc: Global, term: &Term) -> Result<SmallVec<Frame, 32>, NoMemory>
+pub(crate) fn frames_for(alloc: Global, term: &Term) -> Result<Vec<Frame>, NoMemory>
     requires { depth_of term.now ≤ 256 }
     ensures empty { IfOk result (λ frames. frames.items ≡ []) }
-    ensures room { IfOk result (λ frames. frames.capacity ≡ max 32 (depth_of term.now)) }
+    ensures room { IfOk result (λ frames. vec_capacity frames ≡ max 32 (depth_of term.now)) }
 {
-    Ok(SmallVec::with_capacity(alloc, depth(term))?)
+    Ok(Vec::with_capacity(alloc, depth(term).max(32))?)
 }
