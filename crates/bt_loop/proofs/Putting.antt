@@ -3,6 +3,7 @@ use Rattle.std.proofs.Common.{◌≡◌, inl, inr, ℕ, ℤ, ◌+◌, ◌-◌, �
 use Rattle.std.proofs.lemmas.List.{length-set, map-set}
 use Rattle.std.proofs.lemmas.Option.{get_or_from_slice_get, slice_get-map}
 use Rattle.std.proofs.Math.Seq.{map-set_same}
+use Rattle.std.specs.Vec.{vec_capacity}
 use Rattle.bt_script.specs.declared.stop.Stop.{Stop}
 use Rattle.bt_script.specs.declared.stop.Stop.TheVariants as stop
 use Rattle.bt_model.specs.declared.fault.NodeFault.{NodeFault}
@@ -88,7 +89,7 @@ module _ (tree : Tree) (world : World) (runners : List ReadyRunner) (facts : Lis
         (λ k x at other. ap (λ (xs : List Instance). let one : Runner = record { memory = memory_of t 1 x.arena.kept.items; board = x.board; instances = xs } in one) (others_same k x at other))
 
     -- and all fit again
-    pub fit_put : new.arena.runner ≡ r.arena.runner → r.arena.frames.capacity ≤ new.arena.frames.capacity → Fits t (root_view tree world) 1 a (scene_of new facts1 drivers1) → RunnersFit tree world facts1 drivers1 (set runners i new)
+    pub fit_put : new.arena.runner ≡ r.arena.runner → vec_capacity r.arena.frames ≤ vec_capacity new.arena.frames → Fits t (root_view tree world) 1 a (scene_of new facts1 drivers1) → RunnersFit tree world facts1 drivers1 (set runners i new)
     fit_put number room fits1 = record {
       many = length-set runners i new ∙ fit.many;
       each = λ k y at. elim (set_is runners i new k y at) [

@@ -3,6 +3,7 @@ use Rattle.std.proofs.Common.{◌≡◌, inl, inr, ℕ, ℤ, zero, suc, ◌+◌,
 use Rattle.std.proofs.lemmas.List.{drop_more, length-map}
 use Rattle.std.proofs.lemmas.List.Sums.{sum_by-cons}
 use Rattle.std.specs.Prelude.{if◌then◌else◌}
+use Rattle.std.specs.Vec.{vec_capacity}
 use Rattle.std.proofs.lemmas.Option.{get_or_from_slice_get, slice_get-map}
 use Rattle.std.proofs.Math.Seq.{map-set_same}
 use Rattle.bt_model.specs.declared.leaf.Instance.{Instance}
@@ -114,7 +115,7 @@ module _ (tree : Tree) (world : World) (facts : List ℤ) (i : ℕ) (before now 
   -- and one more is
   pub quenching_more : Quenching tree world facts (i + 1) before now1 old (set rs i new) told noted1
   quenching_more = record {
-    fit = fit_put tree world rs facts now so_far.fit i r is new facts now1 nodes calls called number (let same : new.arena.frames.capacity ≡ r.arena.frames.capacity = λ j. (frames j).capacity in omega (arith, same)) (stays t (root_view tree world) 1 (so_far.fit.each i r is).fits);
+    fit = fit_put tree world rs facts now so_far.fit i r is new facts now1 nodes calls called number (let same : vec_capacity new.arena.frames ≡ vec_capacity r.arena.frames = ap vec_capacity frames in omega (arith, same)) (stays t (root_view tree world) 1 (so_far.fit.each i r is).fits);
     notes =
         (λ j. notes1 j ++ quench_notes (i + 1 + 1) (rest_same j))
         ∙ ap (λ n. (noted ++ quenched_notes n calls) ++ quench_notes (i + 1 + 1) (drop (i + 1) all)) number_is

@@ -1,5 +1,6 @@
 -- One runner's part of an event.
 use Rattle.std.specs.Prelude.{◌≡◌, ◌≤◌, ℕ, ℤ, List, ◌++◌, length, None, Result, Ok, Err}
+use Rattle.std.specs.Vec.{vec_capacity}
 use Rattle.bt_script.specs.declared.stop.Stop.{Stop}
 use Rattle.bt_script.specs.declared.stop.Stop.TheVariants as stop
 use Rattle.bt_model.specs.declared.block.Header.{Header}
@@ -89,7 +90,7 @@ MeetsPart of part at result r old new told noted =
 pub record StaysRunner (old new : ReadyRunner) : Type 0 where
   pub nodes : new.arena.nodes.items ≡ old.arena.nodes.items
   pub number : new.arena.runner ≡ old.arena.runner
-  pub room : old.arena.frames.capacity ≤ new.arena.frames.capacity
+  pub room : vec_capacity old.arena.frames ≤ vec_capacity new.arena.frames
 
 -- ---- All runners
 

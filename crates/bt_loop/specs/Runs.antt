@@ -1,6 +1,7 @@
 -- The runs of a tree in a world: the state that they keep, and what holds of them between events.
 use Rattle.std.specs.Prelude.{◌≡◌, ◌+◌, ◌-◌, ◌*◌, ◌<◌, ◌≤◌, ◌^◌, ℕ, ℤ, List, [], ◌∷◌, length, map, sum, slice_get, slice_index_or}
 use Rattle.std.specs.Prelude.{Option, Some, None, true}
+use Rattle.std.specs.Vec.{vec_capacity}
 use Rattle.bt_model.specs.declared.term.Term.{Term}
 use Rattle.bt_model.specs.declared.term.Tree.{Tree}
 use Rattle.bt_model.specs.declared.world.World.{World}
@@ -97,7 +98,7 @@ pub record RunnerFits (tree : Tree) (world : World) (facts : List ℤ) (drivers 
   pub fits : Fits tree.term (root_view tree world) 1 r.arena.nodes.items (scene r.arena.kept.items r.board facts drivers)
   pub nodes : length r.arena.nodes.items ≡ 1 + node_count tree.term
   pub nobody : leaf_at r.arena.nodes.items 0 ≡ None
-  pub deep : depth_of tree.term ≤ r.arena.frames.capacity
+  pub deep : depth_of tree.term ≤ vec_capacity r.arena.frames
 
 -- what holds of the runners of a world, even during an event
 pub record RunnersFit (tree : Tree) (world : World) (facts : List ℤ) (drivers : List DriverState) (runners : List ReadyRunner)
