@@ -15,6 +15,7 @@ use crate::ports::kind_sources;
 use crate::resolving::Setting;
 use crate::scripts::give_scripts;
 use crate::source::Source;
+use crate::uids::Uids;
 use bt_driver::Drivers;
 use bt_model::{Kind, Term};
 use bt_script::{Items, NoMemory, Shared};
@@ -57,7 +58,7 @@ fn bare_node(
         kind,
         size: 0,
         children,
-        child_uids: Items::of(Vec::new(alloc)),
+        child_uids: Uids::none(alloc),
         code: None,
         guards,
         ports: Items::of(ports),
@@ -133,7 +134,7 @@ fn add_node<D: Drivers>(
 }
 
 /// Gives a node its size and the uids of its children.
-fn complete(node: &mut Node, size: u32, child_uids: Items<u32>)
+fn complete(node: &mut Node, size: u32, child_uids: Uids)
     ensures { node.new ≡ record node.old { size = size; child_uids = child_uids } }
 {
     node.size = size;
@@ -142,7 +143,7 @@ fn complete(node: &mut Node, size: u32, child_uids: Items<u32>)
 
 /// Gives the node at this place the uids of its children, and its size: it and all nodes after it.
 /// The error is want of memory.
-fn close(nodes: &mut Vec<Node>, place: usize, child_uids: Items<u32>) -> Result<(), NoMemory>
+fn close(nodes: &mut Vec<Node>, place: usize, child_uids: Uids) -> Result<(), NoMemory>
     requires { place < length nodes.old.items }
     ensures { OnOk result (nodes.new.items ≡
         slice_set nodes.old.items place
@@ -175,7 +176,7 @@ fn lay_term<D: Drivers>(
     add_node(term, setting, scope, drivers, next, nodes)?;
     let inner = scope_under(term.kind, uid, scope);
     let child_uids = lay_terms(term.children.list(), setting, inner, drivers, next, nodes)?;
-    close(nodes, place, Items::of(child_uids))
+    close(nodes, place, child_uids)
 }
 
 /// Adds some terms of a tree in order, and gives their uids. The error is want of memory.
@@ -187,15 +188,15 @@ fn lay_terms<D: Drivers>(
     drivers: &D,
     next: &mut [u32],
     nodes: &mut Vec<Node>,
-) -> Result<Vec<u32>, NoMemory>
+) -> Result<Uids, NoMemory>
     requires can { CanBeLaid setting.now.tree.now setting.now.world.now (D.states drivers.now) terms.now (length nodes.old.items) scope }
     requires places { length next.old ≡ length (D.states drivers.now) }
     ensures laid { OnOk result (
         AreLaid setting.now.tree.now setting.now.world.now (D.states drivers.now) terms.now scope
         nodes.old.items nodes.new.items next.old next.new) }
-    ensures uids { IfOk result (λ uids. uids.items ≡ uids_of terms.now (length nodes.old.items)) }
+    ensures uids { IfOk result (λ uids. uids ≡ uids_of terms.now (length nodes.old.items)) }
 {
-    let mut uids = Vec::with_capacity(setting.alloc, terms.len())?;
+    let mut uids = Uids::none(setting.alloc);
     for term in terms {
         uids.push(narrow(nodes.len())?)?;
         lay_term(term, setting, scope, drivers, next, nodes)?;

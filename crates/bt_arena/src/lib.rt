@@ -18,6 +18,7 @@ mod rows;
 mod scripts;
 mod source;
 mod stage;
+mod uids;
 
 pub use arena::{
     Arena, keep, kept_by, leaf_count, leaves_at, memo, node, set_held, set_memo, set_status, status,
@@ -32,3 +33,4 @@ pub use notes::{Notes, notes_of};
 pub use rows::{IndexedWorld, index_world};
 pub use source::Source;
 pub use stage::Stage;
+pub use uids::Uids;

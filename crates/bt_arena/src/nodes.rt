@@ -1,4 +1,5 @@
 use crate::source::Source;
+use crate::uids::Uids;
 use bt_driver::ReadyRow;
 use bt_model::{Kind, Memo, Status};
 use bt_script::{Items, Shared};
@@ -47,7 +48,7 @@ pub struct Node {
     /// How many children it has.
     pub children: u32,
     /// The uids of the children, by their place.
-    pub child_uids: Items<u32>,
+    pub child_uids: Uids,
     pub code: Option<Code>,
     /// Its guards, which nodes without any share.
     pub guards: Shared<ReadyGuards>,

@@ -56,9 +56,9 @@ lay_term-returns g t c =
     let place : c.len-place.result ≡ length c.args.nodes.now.items = omega (arith, c.len-place.ensures, c.args.nodes.now.ok.0) in record {
       laid = on_ok_weaker c.close.result
           (λ is. term_laid _ _ _ c.args.term.now c.args.scope c.args.nodes.now.items c.add_node.new.nodes.items c.lay_terms.new.nodes.items c.close.new.nodes.items added.node
-          c.args.next.now c.add_node.new.next c.lay_terms.new.next c.len-place.result c.in_ok-uid.uid c.list.result.now c.scope_under-inner.result c.of.result
+          c.args.next.now c.add_node.new.next c.lay_terms.new.next c.len-place.result c.in_ok-uid.uid c.list.result.now c.scope_under-inner.result c.in_ok-child_uids.child_uids
           place c.in_ok-uid.ensures added.is c.list.ensures c.scope_under-inner.ensures
-          c.requires.can added.filled.stands added.filled.is_next added.filled.counted c.in_ok-child_uids.ensures.laid (c.of.ensures ∙ c.in_ok-child_uids.ensures.uids) is)
+          c.requires.can added.filled.stands added.filled.is_next added.filled.counted c.in_ok-child_uids.ensures.laid c.in_ok-child_uids.ensures.uids is)
           c.close.ensures;
     }
 
@@ -77,14 +77,14 @@ lay_terms-returns g t c =
       laid = c.loop-term.invariant.whole c.loop-term.nodes.items c.loop-term.next
           (subst (λ (ts : List Term). AreLaid c.args.setting.now.tree.now c.args.setting.now.world.now (g.D.Drivers.states c.args.drivers.now) ts c.args.scope c.loop-term.nodes.items c.loop-term.nodes.items c.loop-term.next c.loop-term.next) (sym none)
           (nothing_laid _ _ _ c.args.scope c.loop-term.nodes.items c.loop-term.next));
-      uids = sym (append-nil c.loop-term.uids.items) ∙ ap (λ (ts : List Term). c.loop-term.uids.items ++ uids_of ts (length c.loop-term.nodes.items)) (sym none) ∙ c.loop-term.invariant.uids;
+      uids = sym (append-nil c.loop-term.uids) ∙ ap (λ (ts : List Term). c.loop-term.uids ++ uids_of ts (length c.loop-term.nodes.items)) (sym none) ∙ c.loop-term.invariant.uids;
     }
 
 pub lay_terms-loop-term-init : goal.lay_terms-loop-term-init
 lay_terms-loop-term-init g t c = record {
   can = c.requires.can;
   whole = λ new left laid. laid;
-  uids = ap (λ (us : List ℕ). us ++ uids_of c.args.terms.now (length c.args.nodes.now.items)) c.in_ok-uids.ensures.items;
+  uids = ap (λ (us : List ℕ). us ++ uids_of c.args.terms.now (length c.args.nodes.now.items)) c.none-uids.ensures;
   places = c.requires.places;
 }
 
@@ -104,8 +104,8 @@ lay_terms-loop-term-preserved g t c =
       whole = λ new left rest. c.loop-term.invariant.whole new left
           (subst (λ (ts : List Term). AreLaid tree world drivers ts c.args.scope c.loop-term.nodes.items new c.loop-term.next left) (sym here)
           (laid_more tree world drivers c.term-item.result (drop (i + 1) c.args.terms.now) c.args.scope c.loop-term.nodes.items c.lay_term.new.nodes.items new c.loop-term.next c.lay_term.new.next left laid rest));
-      uids = uids_more c.term-item.result (drop (i + 1) c.args.terms.now) (drop i c.args.terms.now) c.loop-term.uids.items c.push.new.self.items (length c.loop-term.nodes.items) c.in_ok-narrow.field-0 (length c.lay_term.new.nodes.items)
-          c.in_ok-push.ensures.items (c.in_ok-narrow.ensures ∙ omega (arith, c.len.ensures)) far here
+      uids = uids_more c.term-item.result (drop (i + 1) c.args.terms.now) (drop i c.args.terms.now) c.loop-term.uids c.push.new.self (length c.loop-term.nodes.items) c.in_ok-narrow.field-0 (length c.lay_term.new.nodes.items)
+          c.in_ok-push.ensures.added (c.in_ok-narrow.ensures ∙ omega (arith, c.len.ensures)) far here
           ∙ c.loop-term.invariant.uids;
       places = laid_length laid.added c.loop-term.next c.lay_term.new.next laid.following ∙ c.loop-term.invariant.places;
     }

@@ -17,6 +17,6 @@ invariant-lay_terms-loop-term g l = record {
   can : CanBeLaid l.setting.tree.now l.setting.world.now (g.D.Drivers.states l.drivers) (drop l.term-index l.terms) (length l.nodes.items) l.scope;
   whole : (new : List Node) (left : List ℕ) → AreLaid l.setting.tree.now l.setting.world.now (g.D.Drivers.states l.drivers) (drop l.term-index l.terms) l.scope l.nodes.items new l.next left
       → AreLaid l.setting.tree.now l.setting.world.now (g.D.Drivers.states l.drivers) l.terms l.scope l.initial.nodes.items new l.initial.next left;
-  uids : l.uids.items ++ uids_of (drop l.term-index l.terms) (length l.nodes.items) ≡ uids_of l.terms (length l.initial.nodes.items);
+  uids : l.uids ++ uids_of (drop l.term-index l.terms) (length l.nodes.items) ≡ uids_of l.terms (length l.initial.nodes.items);
   places : length l.next ≡ length (g.D.Drivers.states l.drivers);
 }
