@@ -129,7 +129,9 @@ fn add_node<D: Drivers>(
     let children = narrow(term.children.list().len())?;
     let ports = kind_sources(term.kind, term.ports.list(), setting, scope)?;
     let guards = setting.unguarded.share()?;
-    nodes.push(bare_node(setting.alloc, term.kind, children, ports, guards))?;
+    // A push that can fail clears room for the node that it would give back.
+    nodes.reserve(1)?;
+    nodes.push_reserved(bare_node(setting.alloc, term.kind, children, ports, guards));
     fill(&mut nodes[place], term, setting, scope, drivers, next)
 }
 

@@ -1,5 +1,6 @@
-use Rattle.std.proofs.Common.{◌≡◌, length, arith}
+use Rattle.std.proofs.Common.{◌≡◌, List, [], ◌∷◌, ◌++◌, length, ap, ◌∙◌, arith}
 use Rattle.std.proofs.lemmas.Result.{on_ok_weaker}
+use Rattle.bt_arena.specs.declared.nodes.Node.{Node}
 use Rattle.bt_arena.proofs.Added.{last_given}
 use Rattle.bt_arena.proofs.laying.add_node.Goals as goal
 
@@ -9,6 +10,6 @@ returns g c =
     on_ok_weaker c.fill.result
     (λ filled. record {
       node = c.fill.new.node;
-      is = last_given c.args.nodes.now.items c.push.new.self.items c.bare_node.result c.len-place.result c.in_ok-push.ensures.items place c.fill.new.node;
+      is = last_given c.args.nodes.now.items c.push_reserved.new.self.items c.bare_node.result c.len-place.result (c.push_reserved.ensures.items ∙ ap (λ (ns : List Node). ns ++ c.bare_node.result ∷ []) c.in_ok-reserve.ensures.items) place c.fill.new.node;
       filled = filled;
     }) c.fill.ensures
