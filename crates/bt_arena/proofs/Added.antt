@@ -1,7 +1,9 @@
 -- A node that is added bare, and then filled where it stands.
-use Rattle.std.proofs.Common.{◌≡◌, ℕ, List, [], ◌∷◌, ◌++◌, length, get_or, set, Option, ap, subst, sym, ◌∙◌}
+use Rattle.std.proofs.Common.{◌≡◌, ℕ, false, List, [], ◌∷◌, ◌++◌, length, get_or, set, Option, None, refl, ap, subst, sym, ◌∙◌}
 use Rattle.std.specs.List.{All}
 use Rattle.std.proofs.Math.Seq.{get_or-append_seam, set-append_seam}
+use Rattle.bt_model.specs.declared.term.Kind.{Kind}
+use Rattle.bt_model.specs.declared.term.Kind.TheVariants.{Leaf}
 use Rattle.bt_model.specs.Drivers.{DriverState}
 use Rattle.bt_model.specs.Sites.{View}
 use Rattle.bt_model.specs.Trees.{Node as TreeNode}
@@ -9,7 +11,7 @@ use Rattle.bt_arena.specs.declared.nodes.Node.{Node}
 use Rattle.bt_arena.specs.declared.nodes.ReadyLeaf.{ReadyLeaf}
 use Rattle.bt_arena.specs.declared.source.Source.{Source}
 use Rattle.bt_arena.specs.Laying.{IsBareNode, IsFilled, IsNext, IsScripted, LeafIs, driver_of}
-use Rattle.bt_arena.specs.Nodes.{IsFit}
+use Rattle.bt_arena.specs.Nodes.{IsFit, is_leaf}
 use Rattle.bt_arena.specs.Rows.{counted_at}
 use Rattle.bt_arena.specs.Sources.{IsSourceOf}
 use Rattle.bt_arena.proofs.Laid.{leaf_opened}
@@ -43,3 +45,25 @@ node_filled drivers view written old scripted new leaf next left fit bare same s
       is_next = is_next;
       counted = counted;
     })
+
+-- where a node is no leaf, none stands there, and no instance is taken
+none_stands : (view : View) (written : TreeNode) → is_leaf written.kind ≡ false → LeafIs view written None
+unfolding LeafIs
+none_stands view written is = is
+
+none_next : (drivers : List DriverState) (next : List ℕ) → IsNext drivers next None
+unfolding IsNext
+none_next drivers next = tt
+
+not_leaf : (kind : Kind) → (kind ≡ Leaf → ⊥) → is_leaf kind ≡ false
+not_leaf Leaf other = absurd (other refl)
+not_leaf _ other = refl
+
+-- so such a node is filled with its code and its guards
+pub no_leaf_filled : (drivers : List DriverState) (view : View) (written : TreeNode) (old scripted : Node) (next : List ℕ) → IsFit written → IsBareNode view written old →
+    scripted ≡ record old { code = scripted.code; guards = scripted.guards } → IsScripted view written scripted →
+    (written.kind ≡ Leaf → ⊥) → IsFilled drivers view written scripted next next
+no_leaf_filled drivers view written old scripted next fit bare same scripts other =
+    let bare_leaf : scripted.leaf ≡ None = ap (λ (n : Node). n.leaf) same ∙ bare.leaf in
+    node_filled drivers view written old scripted scripted None next next fit bare same scripts
+    (none_stands view written (not_leaf written.kind other)) (none_next drivers next) refl (λ i. record scripted { leaf = bare_leaf i })

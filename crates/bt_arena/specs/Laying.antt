@@ -39,7 +39,8 @@ pub record CanBeLaid (tree : Tree) (world : World) (drivers : List DriverState) 
 
 -- ---- Nodes
 
--- a node of an arena is this node of a term, apart from its size and what is below it, its code and guards, and its leaf
+-- a node of an arena is this node of a term, apart from its size and what is below it, its code and guards, and its leaf,
+-- none of which it has
 pub record IsBareNode (view : View) (written : TreeNode) (node : Node) : Type 0 where
   pub kind : node.kind ≡ written.kind
   pub size : node.size ≡ 0
@@ -48,6 +49,7 @@ pub record IsBareNode (view : View) (written : TreeNode) (node : Node) : Type 0 
   pub guards : node.guards ≡ no_guards
   pub ports : node.ports ≡ map (λ (port : PortRule). source_at view written.ports port.name) (ports_of written.kind)
   pub slots : All (IsSourceOf (length view.slots)) node.ports
+  pub leaf : node.leaf ≡ None
 
 -- a node of an arena has the code and the guards of this node of a term
 pub record IsScripted (view : View) (written : TreeNode) (node : Node) : Type 0 where
@@ -68,6 +70,14 @@ driver_of None = None
 unfoldable pub IsNext : List DriverState → List ℕ → Option ReadyLeaf → Type 0
 IsNext drivers next None = Unit {0}
 IsNext drivers next (Some leaf) = (place_of_kind drivers (kind_of_way (rule leaf.row).way) ≡ Some leaf.driver) × (leaf.instance ≡ slice_index_or next leaf.driver 0)
+
+-- a node of an arena was given the leaf of this node of a term, which has the next instance
+pub record IsGivenLeaf (drivers : List DriverState) (view : View) (written : TreeNode) (old new : Node) (next left : List ℕ) : Type 0 where
+  pub leaf : ReadyLeaf
+  pub is : new ≡ record old { leaf = Some leaf }
+  pub stands : LeafIs view written (Some leaf)
+  pub is_next : IsNext drivers next (Some leaf)
+  pub counted : left ≡ counted_at (Some leaf.driver) next
 
 -- a node of an arena is this node of a term, apart from its size and what is below it, and its leaf has the next instance
 pub record IsFilled (drivers : List DriverState) (view : View) (written : TreeNode) (node : Node) (next left : List ℕ) : Type 0 where

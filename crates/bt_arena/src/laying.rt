@@ -1,10 +1,11 @@
-ghost use Rattle.std.specs.Prelude.{◌≡◌, ◌∷◌, ◌<◌, ◌-◌, ◌^◌, [], length, slice_set, None, IfOk, OnOk};
+ghost use Rattle.std.specs.Prelude.{◌≡◌, ◌∷◌, ◌<◌, ◌-◌, ◌^◌, [], length, slice_set, Some, None, IfOk, OnOk};
+ghost use Rattle.bt_model.specs.declared.term.Kind.TheVariants as kind;
 ghost use Rattle.bt_model.specs.declared.term.Term.{out-Term};
 ghost use Rattle.bt_model.specs.Boards.{children_scope_number};
 ghost use Rattle.bt_model.specs.Terms.{node_count, own_leaf_id};
 ghost use Rattle.bt_model.specs.Trees.{GuardsFit, ScriptFits};
 ghost use Rattle.bt_arena.specs.Joins.{first_missing};
-ghost use Rattle.bt_arena.specs.Laying.{AreLaid, CanBeLaid, IsAdded, IsBareNode, IsFilled};
+ghost use Rattle.bt_arena.specs.Laying.{AreLaid, CanBeLaid, IsAdded, IsBareNode, IsFilled, IsGivenLeaf};
 ghost use Rattle.bt_arena.specs.Nodes.{IsFit, no_guards as without_guards, node_at, nobody as no_node};
 ghost use Rattle.bt_arena.specs.Resolving.{AreNamed, GuardsAreNamed, names_if_there, port_keys, view_in};
 ghost use Rattle.bt_arena.specs.Stands.{uids_of, written};
@@ -67,10 +68,35 @@ fn bare_node(
 }
 
 /// Gives a node its leaf.
-fn give_leaf(node: &mut Node, leaf: Option<ReadyLeaf>)
-    ensures { node.new ≡ record node.old { leaf = leaf } }
+fn give_leaf(node: &mut Node, leaf: ReadyLeaf)
+    ensures { node.new ≡ record node.old { leaf = Some leaf } }
 {
-    drop(replace(&mut node.leaf, leaf));
+    drop(replace(&mut node.leaf, Some(leaf)));
+}
+
+/// Gives the node of a leaf its leaf. It is not inlined, so that only leaves clear room for one. The
+/// error is want of memory.
+#[inline(never)]
+fn fill_leaf<D: Drivers>(
+    node: &mut Node,
+    term: &Term,
+    setting: &Setting,
+    scope: u32,
+    drivers: &D,
+    next: &mut [u32],
+) -> Result<(), NoMemory>
+    requires leaf { (out-Term term.now).kind ≡ kind.Leaf }
+    requires ports { AreNamed setting.now.tree.now scope (port_keys (out-Term term.now).ports) }
+    requires joined { first_missing setting.now.world.now.rows (D.states drivers.now)
+        (own_leaf_id (out-Term term.now).kind (out-Term term.now).id) ≡ None }
+    requires places { length next.old ≡ length (D.states drivers.now) }
+    ensures { OnOk result (
+        IsGivenLeaf (D.states drivers.now) (view_in setting.now.tree.now setting.now.world.now scope) (written (out-Term term.now))
+        node.old node.new next.old next.new) }
+{
+    let leaf = leaf_of(term, setting, scope, drivers, next)?;
+    give_leaf(node, leaf);
+    Ok(())
 }
 
 /// Gives the bare node of a term its code, its guards and its leaf. The error is want of memory.
@@ -97,9 +123,10 @@ fn fill<D: Drivers>(
         node.new next.old next.new) }
 {
     give_scripts(node, term, setting, scope)?;
-    let leaf = leaf_of(term, setting, scope, drivers, next)?;
-    give_leaf(node, leaf);
-    Ok(())
+    match term.kind {
+        Kind::Leaf => fill_leaf(node, term, setting, scope, drivers, next),
+        _ => Ok(()),
+    }
 }
 
 /// Adds the node of a term after the nodes that are there, but without its size and the uids of its

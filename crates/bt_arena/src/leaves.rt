@@ -1,10 +1,11 @@
-ghost use Rattle.std.specs.Prelude.{◌≡◌, ◌+◌, ◌<◌, length, slice_index_or, slice_set, None, IfOk};
+ghost use Rattle.std.specs.Prelude.{◌≡◌, ◌+◌, ◌<◌, length, slice_index_or, slice_set, Some, None, IfOk};
+ghost use Rattle.bt_model.specs.declared.term.Kind.TheVariants as kind;
 ghost use Rattle.bt_model.specs.declared.term.Term.{out-Term};
 ghost use Rattle.bt_model.specs.Drivers.{kind_of_row, kind_of_way};
 ghost use Rattle.bt_model.specs.Terms.{own_leaf_id};
 ghost use Rattle.bt_driver.specs.Rules.{rule};
 ghost use Rattle.bt_arena.specs.Joins.{first_missing};
-ghost use Rattle.bt_arena.specs.Laying.{IsNext, LeafIs, driver_of};
+ghost use Rattle.bt_arena.specs.Laying.{IsNext, LeafIs};
 ghost use Rattle.bt_arena.specs.Nodes.{IsLeafOf};
 ghost use Rattle.bt_arena.specs.Resolving.{AreNamed, port_keys, view_in};
 ghost use Rattle.bt_arena.specs.Rows.{IsReadyRow, counted_at};
@@ -15,7 +16,7 @@ use crate::ports::{input_sources, output_sources};
 use crate::resolving::Setting;
 use crate::rows::FoundRow;
 use bt_driver::{Drivers, kind_of};
-use bt_model::{Kind, Port, Term};
+use bt_model::{Port, Term};
 use bt_script::{Items, NoMemory};
 
 /// Takes the next instance of the driver at this place. From 2^32 leaves on it is want of memory.
@@ -62,8 +63,8 @@ fn leaf_with(
     })
 }
 
-/// The leaf of a node, where it is one: its driver is the first of its row's kind, and its instance
-/// the next one there. The error is want of memory.
+/// The leaf of a node that is one: its driver is the first of its row's kind, and its instance the
+/// next one there. The error is want of memory.
 #[tactic(auto, unfolding(crate::specs::Laying::LeafIs, crate::specs::Laying::IsNext))]
 pub(crate) fn leaf_of<D: Drivers>(
     node: &Term,
@@ -71,28 +72,26 @@ pub(crate) fn leaf_of<D: Drivers>(
     scope: u32,
     drivers: &D,
     next: &mut [u32],
-) -> Result<Option<ReadyLeaf>, NoMemory>
+) -> Result<ReadyLeaf, NoMemory>
+    requires leaf { (out-Term node.now).kind ≡ kind.Leaf }
     requires named { AreNamed setting.now.tree.now scope (port_keys (out-Term node.now).ports) }
     requires joined { first_missing setting.now.world.now.rows (D.states drivers.now)
         (own_leaf_id (out-Term node.now).kind (out-Term node.now).id) ≡ None }
     requires places { length next.old ≡ length (D.states drivers.now) }
     ensures stands { IfOk result (λ leaf.
-        LeafIs (view_in setting.now.tree.now setting.now.world.now scope) (written (out-Term node.now)) leaf) }
-    ensures is_next { IfOk result (λ leaf. IsNext (D.states drivers.now) next.old leaf) }
-    ensures next { IfOk result (λ leaf. next.new ≡ counted_at (driver_of leaf) next.old) }
+        LeafIs (view_in setting.now.tree.now setting.now.world.now scope) (written (out-Term node.now)) (Some leaf)) }
+    ensures is_next { IfOk result (λ leaf. IsNext (D.states drivers.now) next.old (Some leaf)) }
+    ensures next { IfOk result (λ leaf. next.new ≡ counted_at (Some leaf.driver) next.old) }
 {
-    match node.kind {
-        Kind::Leaf => match setting.world.find(&node.id) {
-            Some(found) => match drivers.place_of(kind_of(found.row)) {
-                Some(driver) => {
-                    let instance = next_instance(next, driver)?;
-                    let ports = node.ports.list();
-                    Ok(Some(leaf_with(ports, found, driver, instance, setting, scope)?))
-                }
-                None => unreachable!(),
-            },
+    match setting.world.find(&node.id) {
+        Some(found) => match drivers.place_of(kind_of(found.row)) {
+            Some(driver) => {
+                let instance = next_instance(next, driver)?;
+                let ports = node.ports.list();
+                Ok(leaf_with(ports, found, driver, instance, setting, scope)?)
+            }
             None => unreachable!(),
         },
-        _ => Ok(None),
+        None => unreachable!(),
     }
 }
