@@ -50,3 +50,16 @@ module _ (tree : Tree) (world : World) (drivers : List DriverState) where
       pub tree_served : (place : ℕ) → place < length drivers → served place nodes ≡ leaves_served world.rows drivers place (leaf_ids tree.term)
       tree_served place within = ap (served place) laid.is
           ∙ served_all world drivers runner (leaf_ids tree.term) laid.added counts next left are_counts are_next laid.next_ones laid.following counted_here counts_places place within
+
+-- no instance comes before those of the first runner
+no_instances : (counts : List ℕ) → map (λ (count : ℕ). (1 - 1) * count) counts ≡ replicate (length counts) 0
+no_instances [] = refl
+no_instances (count ∷ counts) =
+    let none : (1 - 1) * count ≡ 0 = omega arith in
+    λ i. none i ∷ no_instances counts i
+
+pub first_ones : (tree : Tree) (world : World) (drivers : List DriverState)
+    → replicate (length drivers) 0 ≡ map (λ (count : ℕ). (1 - 1) * count) (counted_all world drivers (leaf_ids tree.term) (replicate (length drivers) 0))
+first_ones tree world drivers =
+    let counts = counted_all world drivers (leaf_ids tree.term) (replicate (length drivers) 0) in
+    sym (no_instances counts ∙ ap (λ (n : ℕ). replicate {A = ℕ} n 0) (counts_places tree world drivers 1 counts _ refl refl))

@@ -141,25 +141,23 @@ fn totals_of<D: Drivers>(
     counts_of(alloc, ids.as_slice(), world, drivers)
 }
 
-/// The arena of a runner, where `counts` says how many leaves of the tree each driver serves. The
-/// error is want of memory.
+/// The arena of a runner, where `firsts` has its first instance at each driver. The error is want of
+/// memory.
 fn arena_with<D: Drivers>(
     setting: &Setting,
     drivers: &D,
-    counts: &[u32],
+    mut firsts: Vec<u32>,
     runner: u8,
 ) -> Result<Arena, NoMemory>
     requires tree { IsRunnable setting.now.tree.now }
     requires world { IsValidWorld setting.now.world.now }
     requires joined { first_missing setting.now.world.now.rows (D.states drivers.now) (leaf_ids setting.now.tree.now.term) ≡ None }
-    requires counts { counts.now ≡
-        counted_all setting.now.world.now (D.states drivers.now) (leaf_ids setting.now.tree.now.term)
-        (replicate (length (D.states drivers.now)) 0) }
-    requires first { 1 ≤ runner }
+    requires firsts { firsts.items ≡ map (λ count. (runner - 1) * count)
+        (counted_all setting.now.world.now (D.states drivers.now) (leaf_ids setting.now.tree.now.term)
+        (replicate (length (D.states drivers.now)) 0)) }
     ensures { IfOk result (λ arena. IsArenaOf setting.now.tree.now setting.now.world.now (D.states drivers.now) runner arena) }
 {
-    let mut next = firsts_of(setting.alloc, counts, runner)?;
-    let nodes = nodes_of(setting, drivers, &mut next)?;
+    let nodes = nodes_of(setting, drivers, &mut firsts)?;
     let kept = at_rest(setting.alloc, nodes.len())?;
     let frames = frames_for(setting.alloc, &setting.tree.term)?;
     Ok(Arena {
@@ -168,6 +166,32 @@ fn arena_with<D: Drivers>(
         kept,
         frames,
     })
+}
+
+/// The arena of the first runner, for a tree of which nothing is missing. No row or driver of a leaf
+/// is looked up before its node is laid. The error is want of memory.
+pub fn first_arena_of<D: Drivers>(
+    alloc: Global,
+    tree: &Tree,
+    slots: &Slots,
+    world: &IndexedWorld,
+    drivers: &D,
+) -> Result<Arena, NoMemory>
+    requires tree { IsRunnable tree.now }
+    requires slots { slots.now ≡ slot_table tree.now }
+    requires world { IsValidWorld world.now }
+    requires joined { first_missing world.now.rows (D.states drivers.now) (leaf_ids tree.now.term) ≡ None }
+    ensures { IfOk result (λ arena. IsArenaOf tree.now world.now (D.states drivers.now) 1 arena) }
+{
+    let firsts = vec![in alloc; 0u32; drivers.count()]?;
+    let setting = Setting {
+        alloc,
+        tree,
+        slots,
+        world,
+        unguarded: Shared::of(alloc, no_guards())?,
+    };
+    arena_with(&setting, drivers, firsts, 1)
 }
 
 /// Makes the arena of a runner of a world, for a tree with its slots: each node has what its visits
@@ -199,5 +223,6 @@ pub fn arena_of<D: Drivers>(
         world,
         unguarded: Shared::of(alloc, no_guards())?,
     };
-    Ok(arena_with(&setting, drivers, counts.as_slice(), runner)?)
+    let firsts = firsts_of(alloc, counts.as_slice(), runner)?;
+    Ok(arena_with(&setting, drivers, firsts, runner)?)
 }

@@ -26,7 +26,7 @@ pub use arena::{
 pub use block::{Block, block_for};
 pub use frame::Frame;
 pub use join_fault::JoinFault;
-pub use joining::arena_of;
+pub use joining::{arena_of, first_arena_of};
 pub use laying::nodes_in;
 pub use nodes::{Kept, Node, ReadyGuards, ReadyLeaf};
 pub use notes::{Notes, notes_of};
