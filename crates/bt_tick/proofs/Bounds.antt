@@ -94,9 +94,9 @@ visits_few Retry n memo picked few fits = omega (arith, turns_few (turns_of memo
 visits_few Repeat n memo picked few fits = omega (arith, turns_few (turns_of memo) fits)
 visits_few _ n memo picked few fits = omega (arith, few)
 
--- the first turn of a node's rule is less than its visit
-pub begins_less : (node : Node) (memo : Memo) → 1 ≤ node.size → visits_left node.kind node.children memo 0 ≤ 2 ^ 32 + 1 → 1 + left_of node memo 0 < cost node.size
-begins_less node memo some few =
+-- a turn of a node's rule is less than its visit, where no more visits of children are left than there can be
+pub begins_less : (node : Node) (memo : Memo) (first : ℕ) → 1 ≤ node.size → visits_left node.kind node.children memo first ≤ 2 ^ 32 + 1 → 1 + left_of node memo first < cost node.size
+begins_less node memo first some few =
     let size : node.size ≡ suc (node.size - 1) = omega (arith, some) in
     let whole : cost node.size ≡ 2 ^ 40 * cost (node.size - 1) = ap cost size in
     let most = mul-le-mul_right (cost (node.size - 1) + 3) few in

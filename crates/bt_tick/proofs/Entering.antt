@@ -59,6 +59,7 @@ use Rattle.bt_nodes.proofs.Following.{stops_with}
 use Rattle.bt_nodes.proofs.Phases.{in_phase}
 use Rattle.bt_nodes.proofs.Settled.{settles_met}
 use Rattle.bt_nodes.proofs.Standing.{beside_one, children_same, fits_here, stays_fit}
+use Rattle.bt_tick.specs.Asking.{back_with}
 use Rattle.bt_tick.specs.Machine.{Turn}
 use Rattle.bt_tick.specs.Machine as turn
 use Rattle.bt_nodes.specs.Here.{children_in, ruled_in, ruled_on, site_at}
@@ -67,7 +68,7 @@ use Rattle.bt_tick.specs.Turns.{CanBegin, CanFollow, CanFollowOn, CanGoOn, CanPi
 use Rattle.bt_tick.proofs.Children.{terms}
 use Rattle.bt_tick.proofs.Bounds.{begins_less, visits_few}
 use Rattle.bt_tick.proofs.Held.{leaf_kind, sound_opened}
-use Rattle.bt_tick.proofs.Moving.{as_many_kept, back_of, ends_so, kind_is, node_fits, node_there, number_is, size_is}
+use Rattle.bt_tick.proofs.Moving.{as_many_kept, ends_so, kind_is, node_fits, node_there, number_is, size_is}
 use Rattle.bt_tick.proofs.Passing.{comes_both, comes_same, met_after, none_told, part_made}
 use Rattle.bt_tick.proofs.Starting.{begins_so, picks_so}
 
@@ -207,7 +208,7 @@ module _ (nodes : List Node) (moment : ℕ) (term : Term) (view : View) (uid : �
 
 -- ---- What holds after a script
 
-number_few : (ts : List Term) → length ts ≤ all_sizes ts
+pub number_few : (ts : List Term) → length ts ≤ all_sizes ts
 number_few [] = omega arith
 number_few (c ∷ cs) = omega (arith, number_few cs, sizes_cons c cs, size_out c)
 
@@ -309,7 +310,7 @@ module _ {nodes : List Node} {moment : ℕ} {term : Term} {view : View} {uid : �
 
   -- the visit of a node without children is at its end
   pub alone_goes : (r : Result Answer (Stop NodeFault)) (s1 : Scene) (n0 n1 : List Note) → StaysFit nodes s s1 → Beside uid 1 s.kept s1.kept →
-      Meets nodes moment (memory_of term uid) r s s1 n0 n1 (ruled_in nodes moment term view uid s) → Goes nodes moment term view uid (back_of r) s s1 n0 n1 (ruled_in nodes moment term view uid s)
+      Meets nodes moment (memory_of term uid) r s s1 n0 n1 (ruled_in nodes moment term view uid s) → Goes nodes moment term view uid (back_with r) s s1 n0 n1 (ruled_in nodes moment term view uid s)
   alone_goes r s1 n0 n1 stays beside m = record {
     ends = ends_so nodes moment term view uid s s s1 n0 n0 n1 (ruled_in nodes moment term view uid s) (ruled_in nodes moment term view uid s) r (comes_same nodes s s n0 (ruled_in nodes moment term view uid s) (ruled_in nodes moment term view uid s) refl refl) m;
     beside = beside_more beside (omega arith) (omega (arith, size_out term));
@@ -319,7 +320,7 @@ module _ {nodes : List Node} {moment : ℕ} {term : Term} {view : View} {uid : �
   module _ (with_rule : has_rule (kind_of term) ≡ true) where
     -- a node with children goes on by its moves
     pub goes_follow : (n : List Note) (place : ℕ) → Ok place ≡ or_bad_port uid (picked (kind_of term) (site_at view uid term) (kept_at s.kept uid).memo (state_in nodes s moment)) →
-        Goes nodes moment term view uid (Ok (turn_after uid s.kept (entered.Begins place))) s s n n (ruled_in nodes moment term view uid s)
+        Goes nodes moment term view uid (Ok (turn_after uid s.kept (entered.GoesOn (Begin place)))) s s n n (ruled_in nodes moment term view uid s)
     goes_follow n place is = record {
       ends = follows_on nodes moment term view uid s n follow with_rule place is;
       beside = beside_none uid (meaning term).size s.kept;
@@ -346,7 +347,7 @@ module _ {nodes : List Node} {moment : ℕ} {term : Term} {view : View} {uid : �
         let few : visits_left (node_at nodes uid).kind (node_at nodes uid).children memo 0 ≤ 2 ^ 32 + 1 =
         subst (λ (kd : Kind). visits_left kd (node_at nodes uid).children memo 0 ≤ 2 ^ 32 + 1) (sym (kind_is follow.can.fits))
         (subst (λ (m : ℕ). visits_left (kind_of term) m memo 0 ≤ 2 ^ 32 + 1) (sym (number_is follow.can.fits)) (visits_few (kind_of term) (number term) memo place many fits)) in
-        begins_less (node_at nodes uid) memo (omega (arith, size_is follow.can.fits, size_out term)) few
+        begins_less (node_at nodes uid) memo 0 (omega (arith, size_is follow.can.fits, size_out term)) few
 
 -- ---- A part of a visit, and the part after it
 
@@ -483,7 +484,7 @@ module _ (nodes : List Node) (moment : ℕ) (term : Term) (view : View) (uid : �
 
 -- a guard's answer ends the visit
 pub ended_goes : (nodes : List Node) (moment : ℕ) (term : Term) (view : View) (uid : ℕ) (r : Result Answer (Stop NodeFault)) (s s1 : Scene) (n0 n1 : List Note) (d : Done Answer Memory) → StaysFit nodes s s1 → Beside uid 1 s.kept s1.kept →
-    Meets nodes moment (memory_of term uid) r s s1 n0 n1 d → Goes nodes moment term view uid (back_of r) s s1 n0 n1 d
+    Meets nodes moment (memory_of term uid) r s s1 n0 n1 d → Goes nodes moment term view uid (back_with r) s s1 n0 n1 d
 ended_goes nodes moment term view uid r s s1 n0 n1 d stays beside k = record {
   ends = ends_so nodes moment term view uid s s s1 n0 n0 n1 d d r (comes_same nodes s s n0 d d refl refl) k;
   beside = beside_more beside (omega arith) (omega (arith, size_out term));
@@ -553,7 +554,7 @@ module _ (keeps : (t : Term) → Keeps (meaning t) (Sound t)) (nodes : List Node
     there1 : uid < length kept1
     there1 = omega (arith, there, (beside_one kept kept1 uid (record old { status = status.Running }) is1).as_many)
 
-    here2 : kept_at kept2 uid ≡ record { status = status.Running; memo = memo; held = old.held }
+    pub here2 : kept_at kept2 uid ≡ record { status = status.Running; memo = memo; held = old.held }
     here2 =
         ap (λ (ks : List Kept). kept_at ks uid) is2 ∙ get_or-set_same kept1 uid (record (kept_at kept1 uid) { memo = memo }) at_rest there1
         ∙ ap (λ (x : Kept). record x { memo = memo }) here1

@@ -53,6 +53,12 @@ module _ {D : Type 0} (states : D → List DriverState) (s s1 : Stage D) where
       (term : Term) (view : View) → CanVisit nodes moment term view uid (scene_on states s) →
       Goes nodes moment term view uid (turned uid s1.kept.now r) (scene_on states s) (scene_on states s1) s.notes.now.list s1.notes.now.list (visit_in nodes moment term view uid (scene_on states s))
 
+  -- of a node that is visited up to this turn
+  abbrev pub VisitsBy : ℕ → Result Turn (Stop NodeFault) → List Node → ℕ → Type 0
+  VisitsBy uid r nodes moment =
+      (term : Term) (view : View) → CanVisit nodes moment term view uid (scene_on states s) →
+      Goes nodes moment term view uid r (scene_on states s) (scene_on states s1) s.notes.now.list s1.notes.now.list (visit_in nodes moment term view uid (scene_on states s))
+
   -- of a node that goes on
   abbrev pub StepsBy : Step → Result Turn (Stop NodeFault) → List Node → ℕ → Type 0
   StepsBy step r nodes moment =

@@ -7,6 +7,7 @@ pub mod Held
 pub mod Later
 pub mod Moving
 pub mod Passing
+pub mod Questions
 pub mod Stacks
 pub mod Starting
 pub mod Tops

@@ -47,9 +47,9 @@ use Rattle.bt_nodes.proofs.Following.{stops_with}
 use Rattle.bt_arena.specs.declared.frame.Frame.{Frame}
 use Rattle.bt_tick.specs.declared.machine.Entered.{Entered}
 use Rattle.bt_tick.specs.declared.machine.Next.{Next}
+use Rattle.bt_tick.specs.Asking.{back_with}
 use Rattle.bt_tick.specs.Machine.{Step}
 use Rattle.bt_tick.specs.Machine.{Turn}
-use Rattle.bt_tick.specs.Machine as turn
 use Rattle.bt_nodes.specs.Here.{children_in, site_at}
 use Rattle.bt_tick.specs.Turns.{CanGoOn, ChildrenSound, Comes, Goes, GoesOnBy, GoesTo, TurnDoes, goes_by, kind_of, memory_in, number, passes_over, ruled_by, turn_to, turn_with, turned}
 use Rattle.bt_tick.proofs.Children.{child_seen, terms}
@@ -252,14 +252,9 @@ visits_all _ x other = refl
 
 -- ---- The end of a visit
 
--- the end of a visit as a turn
-abbrev pub back_of : Result Answer (Stop NodeFault) → Result Turn (Stop NodeFault)
-back_of (Ok a) = Ok (turn.Back a)
-back_of (Err e) = Err e
-
 -- what was still to come was done, and the visit has ended
 pub ends_so : (nodes : List Node) (moment : ℕ) (term : Term) (view : View) (uid : ℕ) (s s1 s2 : Scene) (n0 n1 n2 : List Note) (d e : Done Answer Memory) (r : Result Answer (Stop NodeFault)) →
-    Comes nodes s s1 n0 n1 d e → Meets nodes moment (memory_of term uid) r s1 s2 n1 n2 e → GoesTo nodes moment term view uid (back_of r) s s2 n0 n2 d
+    Comes nodes s s1 n0 n1 d e → Meets nodes moment (memory_of term uid) r s1 s2 n1 n2 e → GoesTo nodes moment term view uid (back_with r) s s2 n0 n2 d
 ends_so nodes moment term view uid s s1 s2 n0 n1 n2 d e (Ok a) k m = record {
   next = done a (memory_in term uid s2) (state_in nodes s2 moment);
   does = refl;
@@ -359,7 +354,7 @@ module _ (keeps : (t : Term) → Keeps (meaning t) (Sound t)) (nodes : List Node
           -- the answer is given
           pub step_given : (a : Answer) → go.then ≡ then_.Give a → (s2 : Scene) (n2 : List Note) (r : Result Answer (Stop NodeFault)) → StaysFit nodes s1 s2 → Beside step.uid 1 s1.kept s2.kept →
               Meets nodes moment (memory_of term step.uid) r s1 s2 n1 n2 (ended (site_at view step.uid term) (kept_at s1.kept step.uid).status (record { answer = a; memo = memo }) (children_in term step.uid s1.kept) (state_in nodes s1 moment)) →
-              Goes nodes moment term view step.uid (back_of r) s s2 n0 n2 next
+              Goes nodes moment term view step.uid (back_with r) s s2 n0 n2 next
           step_given a gives s2 n2 r stays2 beside2 m2 = record {
             ends = ends_so nodes moment term view step.uid s s1 s2 n0 n1 n2 next (goes_by nodes moment term view step.uid s1 (keep a memo)) r (comes_so (then_.Give a) gives)
                 (subst (λ (d : Done Answer Memory). Meets nodes moment (memory_of term step.uid) r s1 s2 n1 n2 d)

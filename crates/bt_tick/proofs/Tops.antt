@@ -57,17 +57,23 @@ top_set stack below frame new n many is =
     ∙ set-append_seam below frame [] new
 
 -- another frame is put there through a list that equals the stack
-pub top_written : (stack items below : List Frame) (frame new : Frame) (n : ℕ) → items ≡ stack → n ≡ length stack → stack ≡ below ++ frame ∷ [] →
-    refill (length stack) stack (slice_set items (n - 1) new) ≡ below ++ new ∷ []
-top_written stack items below frame new n same many is =
+pub top_written : (stack items below : List Frame) (frame new : Frame) (n m : ℕ) → items ≡ stack → n ≡ length stack → m ≡ length stack → stack ≡ below ++ frame ∷ [] →
+    refill m stack (slice_set items (n - 1) new) ≡ below ++ new ∷ []
+top_written stack items below frame new n m same many all is =
     let written : List Frame = below ++ new ∷ [] in
     let set : slice_set items (n - 1) new ≡ written = ap (λ (fs : List Frame). slice_set fs (n - 1) new) same ∙ top_set stack below frame new n many is in
     let before = length-append below (frame ∷ []) in
     let after = length-append below (new ∷ []) in
-    let as_many : length stack ≡ length written = omega (arith, ap length is, before, after) in
-    ap (λ (ws : List Frame). refill (length stack) stack ws) set
+    let as_many : m ≡ length written = omega (arith, ap length is, before, after, all) in
+    ap (λ (ws : List Frame). refill m stack ws) set
     ∙ ap (λ (k : ℕ). take k (written ++ drop (length written) stack)) as_many
     ∙ take-append_seam written (drop (length written) stack)
+
+-- the stack has as many frames as before
+pub written_many : (stack items below : List Frame) (frame new : Frame) (n m : ℕ) → items ≡ stack → n ≡ length stack → m ≡ length stack → stack ≡ below ++ frame ∷ [] →
+    m ≡ length (refill m stack (slice_set items (n - 1) new))
+written_many stack items below frame new n m same many all is =
+    omega (arith, ap length (top_written stack items below frame new n m same many all is), length-append below (new ∷ []), ap length is, length-append below (frame ∷ []), all)
 
 -- without the frame on top, the frames below it are left
 pub top_taken : (stack below : List Frame) (frame : Frame) → stack ≡ below ++ frame ∷ [] → take (length stack - 1) stack ≡ below

@@ -6,7 +6,7 @@ use Rattle.bt_model.specs.declared.memory.Memo.{Memo}
 use Rattle.bt_model.specs.declared.memory.Memo.TheVariants.{Nothing}
 use Rattle.bt_model.specs.declared.memory.Memory.{Memory, out-Memory}
 use Rattle.bt_model.specs.declared.moves.Heard.{Heard}
-use Rattle.bt_model.specs.declared.moves.Heard.TheVariants.{Begin, Answered, Passed}
+use Rattle.bt_model.specs.declared.moves.Heard.TheVariants.{Answered, Passed}
 use Rattle.bt_model.specs.declared.note.Note.{Note}
 use Rattle.bt_model.specs.declared.status.Answer.{Answer}
 use Rattle.bt_model.specs.declared.status.Status.{Status}
@@ -36,7 +36,7 @@ use Rattle.bt_arena.specs.declared.frame.Frame.{Frame}
 use Rattle.bt_tick.specs.declared.machine.Entered.{Entered}
 use Rattle.bt_tick.specs.declared.machine.Next.{Next}
 use Rattle.bt_tick.specs.declared.machine.Next.TheVariants as next
-use Rattle.bt_tick.specs.declared.machine.Entered.TheVariants.{Begins, Answers}
+use Rattle.bt_tick.specs.declared.machine.Entered.TheVariants.{GoesOn, Answers}
 use Rattle.bt_tick.specs.declared.machine.Reached.{Reached}
 use Rattle.bt_tick.specs.declared.machine.Reached.TheVariants as reached
 use Rattle.bt_tick.specs.AtOnce.{child_at_once}
@@ -152,9 +152,9 @@ TurnDoes nodes moment term view uid (turn.GoOn step) s next = GoesOnBy nodes mom
 TurnDoes nodes moment term view uid (turn.Wait frame) s next = WaitsBy nodes moment term view uid frame s next
 TurnDoes nodes moment term view uid (turn.Back a) s next = next ≡ done a (memory_in term uid s) (state_in nodes s moment)
 
--- the turn after a node was entered: where its rule begins, it has the memo that the node keeps
+-- the turn after a node was entered: where it goes on by its rule, it has the memo that the node keeps
 abbrev pub turn_after : ℕ → List Kept → Entered → Turn
-turn_after uid kept (Begins picked) = turn.GoOn (record { uid = uid; memo = (kept_at kept uid).memo; heard = Begin picked })
+turn_after uid kept (GoesOn heard) = turn.GoOn (record { uid = uid; memo = (kept_at kept uid).memo; heard = heard })
 turn_after uid kept (Answers a) = turn.Back a
 
 abbrev pub turned : ℕ → List Kept → Result Entered (Stop NodeFault) → Result Turn (Stop NodeFault)

@@ -10,11 +10,12 @@ ghost use Rattle.bt_arena.specs.Stages.{IsAside, IsSame, Keeps};
 ghost use Rattle.bt_nodes.specs.Here.{ruled_on};
 ghost use Rattle.bt_tick.specs.Turns.{CanFollowOn, CanVisitOn, LeavesLess, StartsOn, TakesTurn, turned, visit_on};
 
+use crate::asking::{ask, asks_first};
 use crate::machine::Entered;
 use bt_arena::{Stage, node, set_status};
 use bt_driver::Drivers;
 use bt_halting::halt;
-use bt_model::{Answer, Kind, Memo, NodeFault, Note, Status, has_rule};
+use bt_model::{Answer, Heard, Kind, Memo, NodeFault, Note, Status, has_rule};
 use bt_nodes::{end_visit, goes_on, guards_answer, picked, start_memo, visit_alone};
 use bt_script::Stop;
 
@@ -42,7 +43,7 @@ fn begin_rule<D: Drivers>(stage: &Stage<D>, uid: u32) -> Result<Entered, Stop<No
 {
     let memo = stage.kept[uid as usize].memo;
     match picked(node(stage.nodes, uid), uid, memo, stage.board) {
-        Ok(picked) => Ok(Entered::Begins(picked)),
+        Ok(picked) => Ok(Entered::GoesOn(Heard::Begin { picked })),
         Err(fault) => Err(Stop::Fault(fault)),
     }
 }
@@ -155,6 +156,9 @@ pub(crate) fn enter<D: Drivers>(stage: &mut Stage<D>, uid: u32) -> Result<Entere
     ensures reserve { OnOk result (stage.new.notes.now.reserve ≡ stage.old.notes.now.reserve) }
     ensures work { LeavesLess uid stage.old stage.new result }
 {
+    if asks_first(stage, uid) {
+        return ask(stage, uid);
+    }
     match stage.kept[uid as usize].status {
         Status::Running => resume(stage, uid),
         _ => begin(stage, uid),

@@ -1,6 +1,7 @@
 //! The tick of the engine: one visit of the root of a tree that stands in an arena.
 #![tactic(auto)]
 
+mod asking;
 mod enter;
 mod machine;
 mod moves;

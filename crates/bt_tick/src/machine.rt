@@ -15,8 +15,9 @@ pub enum Next {
 /// What a visit has come to when its node was entered.
 #[derive(Clone, Copy, Debug)]
 pub enum Entered {
-    /// Its rule begins, with this pick.
-    Begins(u32),
+    /// It goes on by its rule with what it hears, from the memo that it keeps: the beginning of its
+    /// visit, or the answer of its first child.
+    GoesOn(Heard),
     /// It has answered.
     Answers(Answer),
 }

@@ -1,5 +1,6 @@
 ghost use Rattle.std.specs.Prelude.{◌≡◌, ◌+◌, ◌≤◌, ◌<◌, List, [], ◌∷◌, ◌++◌, Some, None, IfOk, IfSome, MatchOption, Ok, OnOk, is_some};
 ghost use Rattle.std.specs.List.{AllByRecursion};
+ghost use Rattle.std.specs.Vec.{vec_capacity, vec_len};
 ghost use Rattle.bt_model.specs.declared.memory.Memory.{Memory};
 ghost use Rattle.bt_model.specs.declared.moves.Heard.{Heard as HeardOf};
 ghost use Rattle.bt_model.specs.declared.note.Note.{Note};
@@ -25,10 +26,9 @@ use crate::onward::{go_on, goes_on_at_once};
 use bt_arena::{Frame, Stage};
 use bt_driver::Drivers;
 use bt_model::{Answer, Heard, Memo, NodeFault};
-use bt_script::Stop;
-use smallvec::SmallVec;
+use bt_script::{NoMemory, Stop};
 
-/// The frame of the node with this uid, whose rule begins with this memo.
+/// The frame of the node with this uid, whose rule goes on with this memo.
 #[inline(always)]
 fn begun(uid: u32, memo: Memo) -> Frame
     ensures { result ≡ record { uid = uid; memo = memo; place = 0; child = 0 } }
@@ -44,7 +44,7 @@ fn begun(uid: u32, memo: Memo) -> Frame
 /// What the node on top of the stack hears where its child has answered. Where the stack is empty,
 /// the root has answered, and no node hears it.
 #[inline(always)]
-fn heard_on(stack: &SmallVec<Frame, 32>, answer: Answer) -> Option<Heard>
+fn heard_on(stack: &Vec<Frame>, answer: Answer) -> Option<Heard>
     ensures some { (heard : HeardOf) → result ≡ Some heard → (below : List Frame) × (frame : Frame) ×
         (stack.now.items ≡ below ++ frame ∷ []) × (heard ≡ HeardOf.Answered frame.place answer) }
     ensures none { result ≡ None → stack.now.items ≡ [] }
@@ -55,14 +55,25 @@ fn heard_on(stack: &SmallVec<Frame, 32>, answer: Answer) -> Option<Heard>
     }
 }
 
+/// Puts a frame on the stack. There is want of memory only where the stack had no room.
+#[inline(always)]
+fn push_frame(stack: &mut Vec<Frame>, frame: Frame) -> Result<(), NoMemory>
+    ensures ok { OnOk result (stack.new.items ≡ stack.old.items ++ frame ∷ []) }
+    ensures capacity { vec_capacity stack.old ≤ vec_capacity stack.new }
+    ensures had_room { vec_len stack.old < vec_capacity stack.old → vec_capacity stack.new ≡ vec_capacity stack.old }
+{
+    if stack.len() < stack.capacity() {
+        stack.push_reserved(frame);
+    } else {
+        stack.push(frame)?;
+    }
+    Ok(())
+}
+
 /// The uid of the child that the node on top of the stack goes on to with what it hears, where it
 /// does no more than that. Its frame is then that of the visit of this child, and else it stays.
 #[inline(always)]
-fn next_at_once<D: Drivers>(
-    stage: &Stage<D>,
-    stack: &mut SmallVec<Frame, 32>,
-    heard: Heard,
-) -> Option<u32>
+fn next_at_once<D: Drivers>(stage: &Stage<D>, stack: &mut Vec<Frame>, heard: Heard) -> Option<u32>
     requires going { (root : Term) × (start : Scene) × (told : List Note) × (whole : Done AnswerGiven Memory) ×
         CameOn D.states stage.now root (next.GoOn heard) stack.old.items start told whole }
     ensures came { MatchOption result (stack.new.items ≡ stack.old.items) (λ child.
@@ -72,7 +83,7 @@ fn next_at_once<D: Drivers>(
     ensures all { is_some result ≡ goes_at_once stage.now.nodes.now (step_of (top_of stack.old.items) heard) }
     ensures work { let nodes = stage.now.nodes.now in
         IfSome result (λ child. next_work nodes (next.Enter child) stack.new.items < next_work nodes (next.GoOn heard) stack.old.items) }
-    ensures room { stack.new.capacity ≡ stack.old.capacity }
+    ensures room { vec_capacity stack.new ≡ vec_capacity stack.old }
 {
     let top = stack.len() - 1;
     let frame = &mut stack.as_mut_slice()[top];
@@ -89,7 +100,7 @@ fn next_at_once<D: Drivers>(
 #[inline(always)]
 fn reach_child<D: Drivers>(
     stage: &mut Stage<D>,
-    stack: &mut SmallVec<Frame, 32>,
+    stack: &mut Vec<Frame>,
     first: Heard,
 ) -> Result<Reached, Stop<NodeFault>>
     requires going { (root : Term) × (start : Scene) × (told : List Note) × (whole : Done AnswerGiven Memory) ×
@@ -102,7 +113,7 @@ fn reach_child<D: Drivers>(
     ensures reserve { stage.new.notes.now.reserve ≡ stage.old.notes.now.reserve }
     ensures work { let nodes = stage.old.nodes.now in
         IfOk result (λ reached. reached_work nodes reached stack.new.items < next_work nodes (next.GoOn first) stack.old.items) }
-    ensures room { stack.new.capacity ≡ stack.old.capacity }
+    ensures room { vec_capacity stack.new ≡ vec_capacity stack.old }
     ensures empty { (answer : AnswerGiven) → result ≡ Ok (reached.End answer) → stack.new.items ≡ [] }
 {
     let mut heard = first;
@@ -132,7 +143,7 @@ fn reach_child<D: Drivers>(
 /// leaves, have no frame.
 pub fn tick<D: Drivers>(
     stage: &mut Stage<D>,
-    frames: &mut SmallVec<Frame, 32>,
+    frames: &mut Vec<Frame>,
 ) -> Result<Answer, Stop<NodeFault>>
     requires can { (term : Term) × (view : View) × CanVisitOn D.states stage.old 1 term view }
     ensures meets { (term : Term) (view : View) → CanVisitOn D.states stage.old 1 term view →
@@ -151,9 +162,9 @@ pub fn tick<D: Drivers>(
         begun_by (D.states stage.new.drivers.now) ≤ begun_by (D.states stage.old.drivers.now) + work_of term }
     // The room for the visits that are under way does not shrink. Where it is as much as the tree
     // is deep, it stays: no visit allocates memory for its frame.
-    ensures room { frames.old.capacity ≤ frames.new.capacity }
+    ensures room { vec_capacity frames.old ≤ vec_capacity frames.new }
     ensures enough { (term : Term) (view : View) → CanVisitOn D.states stage.old 1 term view →
-        depth_of term ≤ frames.old.capacity → frames.new.capacity ≡ frames.old.capacity }
+        depth_of term ≤ vec_capacity frames.old → vec_capacity frames.new ≡ vec_capacity frames.old }
     // After an answer no visit is under way.
     ensures empty { OnOk result (frames.new.items ≡ []) }
 {
@@ -161,16 +172,15 @@ pub fn tick<D: Drivers>(
     let mut uid = 1;
     loop {
         let heard = match enter(stage, uid)? {
-            Entered::Begins(picked) => {
+            Entered::GoesOn(heard) => {
                 let mut frame = begun(uid, stage.kept[uid as usize].memo);
-                let begin = Heard::Begin { picked };
-                let at_once = goes_on_at_once(stage, &mut frame, begin);
-                frames.push(frame)?;
+                let at_once = goes_on_at_once(stage, &mut frame, heard);
+                push_frame(frames, frame)?;
                 if at_once {
                     uid = frame.child;
                     continue;
                 }
-                begin
+                heard
             }
             Entered::Answers(answer) => match heard_on(frames, answer) {
                 Some(heard) => match next_at_once(stage, frames, heard) {

@@ -1,6 +1,7 @@
 use Rattle.std.proofs.Common.{◌≡◌, ◌-◌, ◌<◌, ℕ, List, Ok, Err, ap, arith, length, refl, sym, ◌∙◌}
 use Rattle.std.specs.List.{refill}
-use Rattle.std.specs.Prelude.{slice_set}
+use Rattle.std.specs.Vec.{vec_len}
+use Rattle.std.specs.Prelude.{slice_set, take}
 use Rattle.bt_model.specs.declared.memory.Memory.{Memory}
 use Rattle.bt_model.specs.declared.note.Note.{Note}
 use Rattle.bt_model.specs.declared.status.Answer.{Answer}
@@ -18,7 +19,7 @@ use Rattle.bt_tick.specs.declared.machine.Next.TheVariants as next
 use Rattle.bt_tick.specs.Turns.{CameOn, GoingOn, next_work, stack_work, step_of}
 use Rattle.bt_tick.proofs.Later.{StepsBy, step_later}
 use Rattle.bt_tick.proofs.Stacks.{back_answers, back_made, can_step, step_beside, step_made, step_stays, step_stops}
-use Rattle.bt_tick.proofs.Tops.{comes_as, going_on, gone_back, less_heard, less_on_top, one_on_top, reached_with, top_written, went_on}
+use Rattle.bt_tick.proofs.Tops.{comes_as, going_on, gone_back, less_heard, less_on_top, one_on_top, reached_with, top_written, went_on, written_many}
 use Rattle.bt_tick.proofs.visiting.reach_child.Goals as goal
 use Rattle.bt_tick.proofs.visiting.reach_child.Goals.{In_ok-child}
 use Rattle.bt_tick.proofs.visiting.reach_child.Given.{Over}
@@ -26,23 +27,23 @@ use Rattle.bt_tick.proofs.visiting.reach_child.Given.{Over}
 pub overflow_sub-top : goal.overflow_sub-top
 overflow_sub-top g c =
     let (root, start, told, whole, came) = c.requires.going in
-    omega (arith, one_on_top (c.loop-child.invariant.all root start told whole came).0, c.len-top.ensures.value)
+    omega (arith, one_on_top (c.loop-child.invariant.all root start told whole came).0, c.len-top.ensures)
 
 pub bounds-as_mut_slice-top : goal.bounds-as_mut_slice-top
 bounds-as_mut_slice-top g c =
     let (root, start, told, whole, came) = c.requires.going in
-    omega (arith, one_on_top (c.loop-child.invariant.all root start told whole came).0, c.len-top.ensures.value, ap length c.as_mut_slice.ensures.value)
+    omega (arith, one_on_top (c.loop-child.invariant.all root start told whole came).0, c.len-top.ensures, ap length c.as_mut_slice.ensures.value)
 
 pub go_on-requires : goal.go_on-requires
 go_on-requires g c =
     let (root, start, told, whole, came) = c.requires.going in
-    let (below, is, going) = going_on _ _ c.as_mut_slice.ensures.value c.len-top.ensures.value (c.loop-child.invariant.all root start told whole came).0 in
+    let (below, is, going) = going_on _ _ c.as_mut_slice.ensures.value (c.len-top.ensures ∙ sym c.as_mut_slice.ensures.len ∙ ap length c.as_mut_slice.ensures.value) (c.loop-child.invariant.all root start told whole came).0 in
     let (t, v, rest, by) = can_step term_keeps _ _ refl going in
     record { can = (t, v, rest, step_later c.loop-child.invariant.same by) }
 
 pub returns-in_err-child-clause-reaches : goal.returns-in_err-child-clause-reaches
 returns-in_err-child-clause-reaches g c = λ root start told whole came.
-    let (below, is, going) = going_on _ _ c.as_mut_slice.ensures.value c.len-top.ensures.value (c.loop-child.invariant.all root start told whole came).0 in
+    let (below, is, going) = going_on _ _ c.as_mut_slice.ensures.value (c.len-top.ensures ∙ sym c.as_mut_slice.ensures.len ∙ ap length c.as_mut_slice.ensures.value) (c.loop-child.invariant.all root start told whole came).0 in
     let goes = earlier c.loop-child.invariant.same (StepsBy g.D.Drivers.states c.loop-child.stage c.go_on.new.stage _ _) c.in_err-child.ensures.goes in
     let fit = step_stays term_keeps _ _ _ _ (Err c.in_err-child.field-0.0) refl going goes in
     reached_with _ _ _ _ _ _ _ _ _ _ _ _ _ c.from_residual.ensures.1 (λ t v u fits. fit t v u ((c.loop-child.invariant.all root start told whole came).1 t v u fits))
@@ -52,24 +53,33 @@ returns-in_err-child-clause-reaches g c = λ root start told whole came.
 -- the node on top of the stack went on: the visit of the root came to what comes next
 went : (g : Over) (c : In_ok-child g) (root : Term) (start : Scene) (told : List Note) (whole : Done Answer Memory) →
     CameOn g.D.Drivers.states c.args.stage.now root (next.GoOn c.args.first) c.args.stack.now.items start told whole →
-    GoingOn c.args.stage.now.nodes.now c.args.stage.now.moment root 1 c.in_ok-child.field-0 (refill (length c.loop-child.stack.items) c.loop-child.stack.items (slice_set c.as_mut_slice.result.now (c.len-top.result - 1) c.go_on.new.frame)) start (scene_on g.D.Drivers.states c.go_on.new.stage) told c.go_on.new.stage.notes.now.list whole
+    GoingOn c.args.stage.now.nodes.now c.args.stage.now.moment root 1 c.in_ok-child.field-0 (refill (vec_len c.loop-child.stack) c.loop-child.stack.items (slice_set c.as_mut_slice.result.now (c.len-top.result - 1) c.go_on.new.frame)) start (scene_on g.D.Drivers.states c.go_on.new.stage) told c.go_on.new.stage.notes.now.list whole
     × StaysFit c.args.stage.now.nodes.now (scene_on g.D.Drivers.states c.args.stage.now) (scene_on g.D.Drivers.states c.go_on.new.stage)
 went g c root start told whole came =
-    let (below, is, going) = going_on _ _ c.as_mut_slice.ensures.value c.len-top.ensures.value (c.loop-child.invariant.all root start told whole came).0 in
+    let (below, is, going) = going_on _ _ c.as_mut_slice.ensures.value (c.len-top.ensures ∙ sym c.as_mut_slice.ensures.len ∙ ap length c.as_mut_slice.ensures.value) (c.loop-child.invariant.all root start told whole came).0 in
     let goes = earlier c.loop-child.invariant.same (StepsBy g.D.Drivers.states c.loop-child.stage c.go_on.new.stage _ _) c.in_ok-child.ensures.goes in
     let fit = step_stays term_keeps _ _ _ _ (Ok _) refl going goes in (
-      went_on term_keeps below c.go_on.new.frame c.in_ok-child.ensures.child (top_written _ _ below _ _ _ c.as_mut_slice.ensures.value c.len-top.ensures.value is) (step_made term_keeps _ _ _ _ refl going goes),
+      went_on term_keeps below c.go_on.new.frame c.in_ok-child.ensures.child (top_written _ _ below _ _ _ _ c.as_mut_slice.ensures.value (c.len-top.ensures ∙ sym c.as_mut_slice.ensures.len ∙ ap length c.as_mut_slice.ensures.value) (sym c.as_mut_slice.ensures.len ∙ ap length c.as_mut_slice.ensures.value) is) (step_made term_keeps _ _ _ _ refl going goes),
       λ t v u fits. fit t v u ((c.loop-child.invariant.all root start told whole came).1 t v u fits),
     )
 
+-- without the frame on top, as many are left as were below it
+left_below : (g : Over) (c : In_ok-child g) (left : List Frame) →
+    left ≡ take (vec_len c.loop-child.stack - 1) (refill (vec_len c.loop-child.stack) c.loop-child.stack.items (slice_set c.as_mut_slice.result.now (c.len-top.result - 1) c.go_on.new.frame)) →
+    left ≡ take (length (refill (vec_len c.loop-child.stack) c.loop-child.stack.items (slice_set c.as_mut_slice.result.now (c.len-top.result - 1) c.go_on.new.frame)) - 1) (refill (vec_len c.loop-child.stack) c.loop-child.stack.items (slice_set c.as_mut_slice.result.now (c.len-top.result - 1) c.go_on.new.frame))
+left_below g c left is =
+    let (root, start, told, whole, came) = c.requires.going in
+    let (below, stands, going) = going_on _ _ c.as_mut_slice.ensures.value (c.len-top.ensures ∙ sym c.as_mut_slice.ensures.len ∙ ap length c.as_mut_slice.ensures.value) (c.loop-child.invariant.all root start told whole came).0 in
+    is ∙ ap (λ (n : ℕ). take (n - 1) (refill (vec_len c.loop-child.stack) c.loop-child.stack.items (slice_set c.as_mut_slice.result.now (c.len-top.result - 1) c.go_on.new.frame))) (written_many _ _ below _ _ _ _ c.as_mut_slice.ensures.value (c.len-top.ensures ∙ sym c.as_mut_slice.ensures.len ∙ ap length c.as_mut_slice.ensures.value) (sym c.as_mut_slice.ensures.len ∙ ap length c.as_mut_slice.ensures.value) stands)
+
 -- and fewer turns are still to come
-less : (g : Over) (c : In_ok-child g) (b : Next) → c.in_ok-child.field-0 ≡ b → next_work c.args.stage.now.nodes.now b (refill (length c.loop-child.stack.items) c.loop-child.stack.items (slice_set c.as_mut_slice.result.now (c.len-top.result - 1) c.go_on.new.frame)) < next_work c.args.stage.now.nodes.now (next.GoOn c.loop-child.heard) c.loop-child.stack.items
+less : (g : Over) (c : In_ok-child g) (b : Next) → c.in_ok-child.field-0 ≡ b → next_work c.args.stage.now.nodes.now b (refill (vec_len c.loop-child.stack) c.loop-child.stack.items (slice_set c.as_mut_slice.result.now (c.len-top.result - 1) c.go_on.new.frame)) < next_work c.args.stage.now.nodes.now (next.GoOn c.loop-child.heard) c.loop-child.stack.items
 less g c b comes =
     let (root, start, told, whole, came) = c.requires.going in
-    let (below, is, going) = going_on _ _ c.as_mut_slice.ensures.value c.len-top.ensures.value (c.loop-child.invariant.all root start told whole came).0 in
+    let (below, is, going) = going_on _ _ c.as_mut_slice.ensures.value (c.len-top.ensures ∙ sym c.as_mut_slice.ensures.len ∙ ap length c.as_mut_slice.ensures.value) (c.loop-child.invariant.all root start told whole came).0 in
     earlier c.loop-child.invariant.same
-    (λ (ns : List Node) (m : ℕ). next_work ns b (refill (length c.loop-child.stack.items) c.loop-child.stack.items (slice_set c.as_mut_slice.result.now (c.len-top.result - 1) c.go_on.new.frame)) < next_work ns (next.GoOn c.loop-child.heard) c.loop-child.stack.items)
-    (less_on_top _ _ b c.loop-child.heard _ _ below _ _ comes is (top_written _ _ below _ _ _ c.as_mut_slice.ensures.value c.len-top.ensures.value is) c.in_ok-child.ensures.child c.in_ok-child.ensures.work)
+    (λ (ns : List Node) (m : ℕ). next_work ns b (refill (vec_len c.loop-child.stack) c.loop-child.stack.items (slice_set c.as_mut_slice.result.now (c.len-top.result - 1) c.go_on.new.frame)) < next_work ns (next.GoOn c.loop-child.heard) c.loop-child.stack.items)
+    (less_on_top _ _ b c.loop-child.heard _ _ below _ _ comes is (top_written _ _ below _ _ _ _ c.as_mut_slice.ensures.value (c.len-top.ensures ∙ sym c.as_mut_slice.ensures.len ∙ ap length c.as_mut_slice.ensures.value) (sym c.as_mut_slice.ensures.len ∙ ap length c.as_mut_slice.ensures.value) is) c.in_ok-child.ensures.child c.in_ok-child.ensures.work)
 
 pub returns-in-Enter-clause-reaches : goal.returns-in-Enter-clause-reaches
 returns-in-Enter-clause-reaches g c = λ root start told whole came.
@@ -82,9 +92,10 @@ returns-in-Enter-clause-work g c = omega (arith, less g (goal.at.returns-in-Ente
 
 pub returns-in-None-clause-reaches : goal.returns-in-None-clause-reaches
 returns-in-None-clause-reaches g c = λ root start told whole came.
-    let (going, stays) = went g (goal.at.returns-in-None-clause-reaches g c).In_ok-child root start told whole came in
+    let at = (goal.at.returns-in-None-clause-reaches g c).In_ok-child in
+    let (going, stays) = went g at root start told whole came in
     let (left, taken, back) = gone_back c.in-Back.is going in
-    record { ends = back_answers term_keeps _ _ refl (sym taken ∙ sym c.pop.ensures.rest ∙ c.in-None.ensures.none refl) back; stays = stays; beside = back.beside }
+    record { ends = back_answers term_keeps _ _ refl (sym taken ∙ sym (left_below g at _ c.pop.ensures.rest) ∙ c.in-None.ensures.none refl) back; stays = stays; beside = back.beside }
 
 pub loop-child-smaller-in-GoOn : goal.loop-child-smaller-in-GoOn
 loop-child-smaller-in-GoOn g c = less g (goal.at.loop-child-smaller-in-GoOn g c).In_ok-child (next.GoOn c.in-GoOn.next) c.in-GoOn.is
@@ -105,11 +116,12 @@ loop-child-preserved-in-GoOn g c =
 
 pub loop-child-smaller : goal.loop-child-smaller
 loop-child-smaller g c =
+    let at = (goal.at.loop-child-smaller g c).In_ok-child in
     let (under, frame, stands, hears) = c.in-Some.ensures.some c.in-Some.next refl in
     omega (
       arith,
-      less g (goal.at.loop-child-smaller g c).In_ok-child (next.Back c.in-Back.answer) c.in-Back.is,
-      ap (λ (fs : List Frame). stack_work c.args.stage.now.nodes.now fs) c.pop.ensures.rest,
+      less g at (next.Back c.in-Back.answer) c.in-Back.is,
+      ap (λ (fs : List Frame). stack_work c.args.stage.now.nodes.now fs) (left_below g at _ c.pop.ensures.rest),
       less_heard c.args.stage.now.nodes.now c.in-Some.next _ under frame c.in-Back.answer stands hears,
     )
 
@@ -121,7 +133,7 @@ loop-child-preserved g c =
       all = λ root start told whole came.
           let (going, stays) = went g at root start told whole came in
           let (left, taken, back) = gone_back c.in-Back.is going in (
-            record { came = (under, frame, stands, back_made term_keeps _ _ frame under (step_of frame c.in-Some.next) refl (sym taken ∙ sym c.pop.ensures.rest ∙ stands) (ap (step_of frame) hears) back) },
+            record { came = (under, frame, stands, back_made term_keeps _ _ frame under (step_of frame c.in-Some.next) refl (sym taken ∙ sym (left_below g at _ c.pop.ensures.rest) ∙ stands) (ap (step_of frame) hears) back) },
             stays,
           );
       same = same_both c.loop-child.invariant.same c.in_ok-child.ensures.same;
@@ -130,7 +142,7 @@ loop-child-preserved g c =
       work = omega (
         arith,
         less g at (next.Back c.in-Back.answer) c.in-Back.is,
-        ap (λ (fs : List Frame). stack_work c.args.stage.now.nodes.now fs) c.pop.ensures.rest,
+        ap (λ (fs : List Frame). stack_work c.args.stage.now.nodes.now fs) (left_below g at _ c.pop.ensures.rest),
         less_heard c.args.stage.now.nodes.now c.in-Some.next _ under frame c.in-Back.answer stands hears,
         c.loop-child.invariant.work,
       );

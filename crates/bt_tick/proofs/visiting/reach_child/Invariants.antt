@@ -1,4 +1,5 @@
 use Rattle.std.proofs.Common.{◌≡◌, ◌≤◌, List}
+use Rattle.std.specs.Vec.{vec_capacity}
 use Rattle.bt_model.specs.declared.memory.Memory.{Memory}
 use Rattle.bt_model.specs.declared.note.Note.{Note}
 use Rattle.bt_model.specs.declared.status.Answer.{Answer}
@@ -22,7 +23,7 @@ invariant-loop-child g l = record {
   facts : l.stage.facts.now ≡ l.fn.stage.facts.now;
   reserve : l.stage.notes.now.reserve ≡ l.fn.stage.notes.now.reserve;
   work : next_work l.fn.stage.nodes.now (next.GoOn l.heard) l.stack.items ≤ next_work l.fn.stage.nodes.now (next.GoOn l.fn.first) l.fn.stack.items;
-  room : l.stack.capacity ≡ l.fn.stack.capacity;
+  room : vec_capacity l.stack ≡ vec_capacity l.fn.stack;
 }
 
 abbrev pub decreases-loop-child : goal.decreases-loop-child

@@ -1,0 +1,41 @@
+-- A node that asks first: a fallback, grown for a goal, that begins with the test whether it holds already.
+use Rattle.std.specs.Prelude.{◌≡◌, ◌+◌, ℕ, List, false, Result, Ok, Err}
+use Rattle.bt_script.specs.declared.stop.Stop.{Stop}
+use Rattle.bt_model.specs.declared.fault.NodeFault.{NodeFault}
+use Rattle.bt_model.specs.declared.memory.Memo.TheVariants.{Index}
+use Rattle.bt_model.specs.declared.moves.Heard.TheVariants.{Answered}
+use Rattle.bt_model.specs.declared.status.Answer.{Answer}
+use Rattle.bt_model.specs.declared.term.Kind.TheVariants.{Leaf, ReactiveFallback}
+use Rattle.bt_model.specs.Shapes.{is_running}
+use Rattle.bt_arena.specs.declared.frame.Frame.{Frame}
+use Rattle.bt_arena.specs.declared.nodes.Kept.{Kept}
+use Rattle.bt_arena.specs.declared.nodes.Node.{Node}
+use Rattle.bt_arena.specs.Nodes.{kept_at, node_at}
+use Rattle.bt_tick.specs.Machine.{Step, Turn}
+use Rattle.bt_tick.specs.Machine as turn
+
+-- a ReactiveFallback at rest whose first child is a leaf, and no guard of either comes before a visit
+pub record AsksFirst (nodes : List Node) (kept : List Kept) (uid : ℕ) : Type 0 where
+  pub kind : (node_at nodes uid).kind ≡ ReactiveFallback
+  pub rests : is_running (kept_at kept uid).status ≡ false
+  pub unguarded : (node_at nodes uid).guards.before ≡ false
+  pub leaf : (node_at nodes (uid + 1)).kind ≡ Leaf
+  pub leaf_unguarded : (node_at nodes (uid + 1)).guards.before ≡ false
+
+-- a visit that is at its end with this answer, or stopped
+abbrev pub back_with : Result Answer (Stop NodeFault) → Result Turn (Stop NodeFault)
+back_with (Ok a) = Ok (turn.Back a)
+back_with (Err e) = Err e
+
+-- the frame of a node that waits for its first child at the beginning of a round
+abbrev pub first_frame : ℕ → Frame
+first_frame uid = record { uid = uid; memo = Index 0 false; place = 0; child = uid + 1 }
+
+-- a node has started and waits for its first child, or its start stopped
+abbrev pub waits_first : ℕ → Result (Unit {0}) (Stop NodeFault) → Result Turn (Stop NodeFault)
+waits_first uid (Ok _) = Ok (turn.Wait (first_frame uid))
+waits_first uid (Err e) = Err e
+
+-- what a node does that hears this answer of its first child
+abbrev pub hears_first : ℕ → Answer → Step
+hears_first uid a = record { uid = uid; memo = Index 0 false; heard = Answered 0 a }

@@ -1,0 +1,127 @@
+ghost use Rattle.std.specs.Prelude.{◌≡◌, ◌<◌, IsTrue, OnOk, false, length};
+ghost use Rattle.bt_model.specs.declared.memory.Memory.{Memory};
+ghost use Rattle.bt_model.specs.declared.status.Answer.{Answer as AnswerGiven};
+ghost use Rattle.bt_model.specs.declared.term.Kind.TheVariants.{Leaf, ReactiveFallback};
+ghost use Rattle.bt_model.specs.declared.term.Term.{Term};
+ghost use Rattle.bt_model.specs.Done.{Done};
+ghost use Rattle.bt_model.specs.Sites.{View};
+ghost use Rattle.bt_arena.specs.Nodes.{kept_at, node_at};
+ghost use Rattle.bt_arena.specs.Stages.{IsSame};
+ghost use Rattle.bt_tick.specs.Asking.{AsksFirst, back_with, hears_first, waits_first};
+ghost use Rattle.bt_tick.specs.Turns.{CanVisitOn, LeavesLess, StepsOn, TakesTurn, turned, visit_on};
+
+use crate::machine::Entered;
+use bt_arena::{ReadyGuards, Stage, node, set_memo, set_status};
+use bt_driver::Drivers;
+use bt_halting::reset_children;
+use bt_model::{Answer, Heard, Kind, Memo, NodeFault, Note, Span, Status};
+use bt_nodes::{end_visit, visit_alone};
+use bt_script::Stop;
+
+/// Whether none of these guards comes before a visit, whether it begins or goes on.
+#[inline(always)]
+fn come_after(guards: &ReadyGuards) -> bool
+    ensures { IsTrue result → guards.now.before ≡ false }
+{
+    !guards.before
+}
+
+/// Whether the node with this uid asks first: it is a ReactiveFallback at rest whose first child is
+/// a leaf, and no guard of either comes before a visit. Trees that are grown for goals are made of
+/// such nodes.
+#[inline(always)]
+pub(crate) fn asks_first<D: Drivers>(stage: &Stage<D>, uid: u32) -> bool
+    requires node { uid < length stage.now.nodes.now }
+    requires kept { uid < length stage.now.kept.now }
+    ensures { IsTrue result → AsksFirst stage.now.nodes.now stage.now.kept.now uid }
+{
+    let here = node(stage.nodes, uid);
+    match (here.kind, stage.nodes.get(uid as usize + 1)) {
+        (Kind::ReactiveFallback, Some(child)) => {
+            !matches!(stage.kept[uid as usize].status, Status::Running)
+                && come_after(here.guards.get())
+                && matches!(child.kind, Kind::Leaf)
+                && come_after(child.guards.get())
+        }
+        _ => false,
+    }
+}
+
+/// Starts the node with this uid, which asks first: it waits for its first child. The error is want
+/// of memory.
+#[inline(always)]
+fn start_asking<D: Drivers>(stage: &mut Stage<D>, uid: u32) -> Result<(), Stop<NodeFault>>
+    requires can { (term : Term) × (view : View) × CanVisitOn D.states stage.old uid term view }
+    requires asks { AsksFirst stage.old.nodes.now stage.old.kept.now uid }
+    ensures goes { (term : Term) (view : View) → CanVisitOn D.states stage.old uid term view →
+        TakesTurn D.states stage.old stage.new uid term view (waits_first uid result) (visit_on D.states stage.old uid term view) }
+    ensures memo { OnOk result ((kept_at stage.new.kept.now uid).memo ≡ Memo.Index 0 false) }
+    ensures same { IsSame stage.old stage.new }
+    ensures reserve { stage.new.notes.now.reserve ≡ stage.old.notes.now.reserve }
+{
+    let old = stage.kept[uid as usize].status;
+    stage.notes.push(Note::Changed {
+        uid,
+        old,
+        new: Status::Running,
+    })?;
+    set_status(stage.kept, uid, Status::Running);
+    set_memo(stage.kept, uid, Memo::Index { at: 0, seen: false });
+    Ok(())
+}
+
+/// Visits the leaf with this uid, before whose visit no guard comes. The error is its fault, or want
+/// of memory.
+#[inline(always)]
+fn visit_leaf<D: Drivers>(stage: &mut Stage<D>, uid: u32) -> Result<Answer, Stop<NodeFault>>
+    requires can { (term : Term) × (view : View) × CanVisitOn D.states stage.old uid term view }
+    requires leaf { (node_at stage.old.nodes.now uid).kind ≡ Leaf }
+    requires unguarded { (node_at stage.old.nodes.now uid).guards.before ≡ false }
+    ensures goes { (term : Term) (view : View) → CanVisitOn D.states stage.old uid term view →
+        TakesTurn D.states stage.old stage.new uid term view (back_with result) (visit_on D.states stage.old uid term view) }
+    ensures same { IsSame stage.old stage.new }
+    ensures reserve { OnOk result (stage.new.notes.now.reserve ≡ stage.old.notes.now.reserve) }
+{
+    visit_alone(stage, uid)
+}
+
+/// Ends the visit of the node with this uid, which asked first, after the answer SUCCESS: all its
+/// children are reset, and it answers so itself. The error is a fault of a script, or want of memory.
+#[inline(always)]
+fn settle<D: Drivers>(stage: &mut Stage<D>, uid: u32) -> Result<Answer, Stop<NodeFault>>
+    requires can { (term : Term) × (view : View) × (rest : Done AnswerGiven Memory) ×
+        StepsOn D.states stage.old term view (hears_first uid Answer.Success) rest }
+    requires kind { (node_at stage.old.nodes.now uid).kind ≡ ReactiveFallback }
+    ensures goes { (term : Term) (view : View) (rest : Done AnswerGiven Memory) →
+        StepsOn D.states stage.old term view (hears_first uid Answer.Success) rest →
+        TakesTurn D.states stage.old stage.new uid term view (back_with result) rest }
+    ensures same { IsSame stage.old stage.new }
+    ensures reserve { stage.new.notes.now.reserve ≡ stage.old.notes.now.reserve }
+{
+    reset_children(stage, uid, Span::All)?;
+    end_visit(stage, uid, Answer::Success, Memo::Nothing)
+}
+
+/// Visits the node with this uid, which asks first: where its first child answers SUCCESS, it has
+/// answered, and else it goes on with what this child has answered. The error is a fault, or want of
+/// memory. It says what `enter` says of such a node, and costs less.
+#[inline(always)]
+pub(crate) fn ask<D: Drivers>(stage: &mut Stage<D>, uid: u32) -> Result<Entered, Stop<NodeFault>>
+    requires can { (term : Term) × (view : View) × CanVisitOn D.states stage.old uid term view }
+    requires asks { AsksFirst stage.old.nodes.now stage.old.kept.now uid }
+    ensures goes { (term : Term) (view : View) → CanVisitOn D.states stage.old uid term view →
+        TakesTurn D.states stage.old stage.new uid term view
+        (turned uid stage.new.kept.now result) (visit_on D.states stage.old uid term view) }
+    ensures same { IsSame stage.old stage.new }
+    ensures reserve { OnOk result (stage.new.notes.now.reserve ≡ stage.old.notes.now.reserve) }
+    ensures work { LeavesLess uid stage.old stage.new result }
+{
+    start_asking(stage, uid)?;
+    match visit_leaf(stage, uid + 1)? {
+        Answer::Success => {
+            let given = settle(stage, uid)?;
+            Ok(Entered::Answers(given))
+        }
+        answer => Ok(Entered::GoesOn(Heard::Answered(0, answer))),
+    }
+}
