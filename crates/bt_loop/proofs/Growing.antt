@@ -31,3 +31,9 @@ opening_more tree world drivers runners after before r are many is more k x at =
 -- the entry at a place of a list, as an index gives it
 pub indexed : {A : Type 0} (xs ys : List A) (k : ℕ) (x : A) → ys ≡ xs → k < length xs → x ≡ get_or ys k x → slice_get xs k ≡ Some x
 indexed xs ys k x same low is = slice_get-get_or xs k x low ∙ ap Some (ap (λ (zs : List _). get_or zs k x) (sym same) ∙ sym is)
+
+-- the first runner alone
+pub opening_alone : (tree : Tree) (world : World) (drivers : List DriverState) (before after : List ReadyRunner) (r : ReadyRunner) →
+    before ≡ [] → IsOpening tree world drivers 1 r → after ≡ before ++ r ∷ [] → AreOpening tree world drivers after
+opening_alone tree world drivers before after r none is more =
+    opening_more tree world drivers [] after 0 r (λ k x at. absurd (cc)) refl is (more ∙ ap (λ (rs : List ReadyRunner). rs ++ r ∷ []) none)

@@ -1,4 +1,4 @@
-ghost use Rattle.std.specs.Prelude.{◌≡◌, ℕ, List, Err, IfOk, OnErr, map, take};
+ghost use Rattle.std.specs.Prelude.{◌≡◌, ℕ, List, Err, IfOk, None, OnErr, map, take};
 ghost use Rattle.bt_script.specs.declared.stop.Stop.TheVariants as stop;
 ghost use Rattle.bt_model.specs.Boards.{slot_table};
 ghost use Rattle.bt_model.specs.Drivers.{DriverState, NothingHeld, driver_at, roster_prepared};
@@ -14,13 +14,13 @@ ghost use Rattle.bt_loop.specs.Steps.{IsSameRoster};
 
 use crate::boxed::Roster;
 use crate::counts::wanted;
-use crate::openings::opening_runs;
+use crate::openings::{opening_runs, planned_runs};
 use crate::runs::Runs;
 use bt_arena::{IndexedWorld, JoinFault, index_world};
 use bt_board::Slots;
 use bt_driver::{Driver, Drivers};
 use bt_model::{Tree, World};
-use bt_script::Stop;
+use bt_script::{NoMemory, Stop};
 use std::alloc::Global;
 use std::mem;
 
@@ -97,6 +97,45 @@ pub fn make_runs_in<D: Drivers>(
         (place : ℕ) → (driver_at (D.states drivers.new) place).totals ≡ (driver_at before place).totals }
 {
     let runs = opening_runs(alloc, tree, slots, world, drivers)?;
+    let counts = wanted(alloc, &runs, drivers)?;
+    drivers.prepare(counts.as_slice())?;
+    Ok(runs)
+}
+
+/// As `make_runs_in`, for one runner and a tree of which nothing is missing, as none is of a tree that
+/// was planned in this world. No leaf is looked up before its node is laid. The error is want of
+/// memory, and then a prefix of the drivers may be prepared.
+pub fn make_planned_runs<D: Drivers>(
+    alloc: Global,
+    tree: &Tree,
+    slots: &Slots,
+    world: &IndexedWorld,
+    drivers: &mut D,
+) -> Result<Runs, NoMemory>
+    requires tree { IsRunnable tree.now }
+    requires slots { slots.now ≡ slot_table tree.now }
+    requires world { IsValidWorld world.now }
+    requires alone { world.now.runners ≡ 1 }
+    requires joined { first_missing world.now.rows (D.states drivers.old) (leaf_ids tree.now.term) ≡ None }
+    requires quiet { NothingHeld (D.states drivers.old) }
+    ensures runs { IfOk result (λ runs. AreRuns tree.now world.now (D.states drivers.new) runs) }
+    ensures opening { let after = D.states drivers.new in
+        IfOk result (λ runs. state_of_runs tree.now.term after runs ≡ opening tree.now world.now) }
+    ensures prepared { let before = D.states drivers.old in
+        let wanted = instances_wanted tree.now world.now before in
+        IfOk result (λ runs. D.states drivers.new ≡ roster_prepared before wanted) }
+    ensures calls { let places = serving_places tree.now world.now (D.states drivers.old) in
+        IfOk result (λ runs. (calls : List RunnerCall) (now : List DriverState) →
+        roster_over (arenas_of runs) calls now ≡ calls_made world.now.runners places calls now) }
+    ensures cut { let before = D.states drivers.old in
+        let wanted = instances_wanted tree.now world.now before in
+        OnErr result ((done : ℕ) × (D.states drivers.new ≡ roster_prepared before (take done wanted))) }
+    ensures none { NothingHeld (D.states drivers.new) }
+    ensures roster { IsSameRoster (D.states drivers.old) (D.states drivers.new) }
+    ensures totals { let before = D.states drivers.old in
+        (place : ℕ) → (driver_at (D.states drivers.new) place).totals ≡ (driver_at before place).totals }
+{
+    let runs = planned_runs(alloc, tree, slots, world, drivers)?;
     let counts = wanted(alloc, &runs, drivers)?;
     drivers.prepare(counts.as_slice())?;
     Ok(runs)

@@ -1,5 +1,7 @@
-ghost use Rattle.std.specs.Prelude.{◌≡◌, ◌≤◌, IfOk, length};
+ghost use Rattle.std.specs.Prelude.{◌≡◌, ◌≤◌, List, IfOk, None, length};
+ghost use Rattle.bt_model.specs.declared.term.Tree.{Tree as Modelled};
 ghost use Rattle.bt_model.specs.Boards.{slot_table};
+ghost use Rattle.bt_model.specs.Drivers.{DriverState};
 ghost use Rattle.bt_model.specs.Terms.{leaf_ids};
 ghost use Rattle.bt_model.specs.Trees.{IsRunnable};
 ghost use Rattle.bt_model.specs.Worlds.{IsValidWorld};
@@ -9,10 +11,10 @@ ghost use Rattle.bt_loop.specs.Runs.{boards_in};
 ghost use Rattle.bt_loop.specs.Telling.{boards_told};
 
 use crate::runs::{ReadyRunner, Runs, Told};
-use bt_arena::{IndexedWorld, JoinFault, arena_of};
+use bt_arena::{IndexedWorld, JoinFault, arena_of, first_arena_of};
 use bt_board::{Slots, board_of};
 use bt_driver::{Drivers, FactTable, facts_of};
-use bt_model::Tree;
+use bt_model::{Tree, World};
 use bt_script::{NoMemory, Stop, Value};
 use std::alloc::Global;
 
@@ -107,6 +109,23 @@ fn runners_of<D: Drivers>(
     Ok(runners)
 }
 
+/// The runs of all runners of a world before the first event, or want of memory.
+fn runs_with(alloc: Global, world: &World, runners: Vec<ReadyRunner>) -> Result<Runs, NoMemory>
+    requires { length runners.items ≡ world.now.runners }
+    ensures { (tree : Modelled) (drivers : List DriverState) → AreOpening tree world.now drivers runners.items →
+        IfOk result (AreOpeningRuns tree world.now drivers) }
+{
+    let facts = facts_of(alloc, world)?;
+    let told = told_of(alloc, &facts, runners.as_slice())?;
+    Ok(Runs {
+        runners,
+        facts,
+        told,
+        last: 0,
+        usable: true,
+    })
+}
+
 /// The runs of a tree in a world before the first event, for drivers that are still to be prepared.
 /// The fault is what is missing for the first leaf for which something is missing.
 pub fn opening_runs<D: Drivers>(
@@ -123,13 +142,28 @@ pub fn opening_runs<D: Drivers>(
     ensures runs { IfOk result (AreOpeningRuns tree.now world.now (D.states drivers.now)) }
 {
     let runners = runners_of(alloc, tree, slots, world, drivers)?;
-    let facts = facts_of(alloc, world.world())?;
-    let told = told_of(alloc, &facts, runners.as_slice())?;
-    Ok(Runs {
-        runners,
-        facts,
-        told,
-        last: 0,
-        usable: true,
-    })
+    Ok(runs_with(alloc, world.world(), runners)?)
+}
+
+/// The runs of one runner before the first event, for a tree of which nothing is missing and for
+/// drivers that are still to be prepared. The error is want of memory.
+pub fn planned_runs<D: Drivers>(
+    alloc: Global,
+    tree: &Tree,
+    slots: &Slots,
+    world: &IndexedWorld,
+    drivers: &D,
+) -> Result<Runs, NoMemory>
+    requires tree { IsRunnable tree.now }
+    requires slots { slots.now ≡ slot_table tree.now }
+    requires world { IsValidWorld world.now }
+    requires alone { world.now.runners ≡ 1 }
+    requires joined { first_missing world.now.rows (D.states drivers.now) (leaf_ids tree.now.term) ≡ None }
+    ensures { IfOk result (AreOpeningRuns tree.now world.now (D.states drivers.now)) }
+{
+    let arena = first_arena_of(alloc, tree, slots, world, drivers)?;
+    let board = board_of(alloc, tree, slots)?;
+    let mut runners = Vec::new(alloc);
+    runners.push(ReadyRunner { arena, board })?;
+    runs_with(alloc, world.world(), runners)
 }
