@@ -1,6 +1,10 @@
 pub mod Faults
 pub mod Finishing
 pub mod Resting
+pub mod RootAnswers
+pub mod Rootless
+pub mod RootlessRules
+pub mod RootlessVisits
 pub mod Ticks
 pub mod Traces
 pub mod Wanted

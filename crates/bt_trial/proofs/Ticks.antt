@@ -13,7 +13,7 @@ use Rattle.bt_model.specs.declared.fault.RunFault.{RunFault}
 use Rattle.bt_model.specs.declared.world.Row.{Row}
 use Rattle.bt_model.specs.declared.world.What.TheVariants.{Tick}
 use Rattle.bt_model.specs.Drivers.{DriverState}
-use Rattle.bt_model.specs.Run.{RunnerCall, RunState, Stepped, Trace, before_rest, step, then_rest}
+use Rattle.bt_model.specs.Run.{RunnerCall, RunState, Stepped, Trace, before_rest, runner_at, step, then_rest}
 use Rattle.bt_arena.specs.declared.block.Block.{Block}
 use Rattle.bt_arena.specs.declared.nodes.Node.{Node}
 use Rattle.bt_loop.specs.declared.runs.Runs.{Runs}
@@ -31,10 +31,11 @@ use Rattle.bt_trial.specs.declared.task.Task.{Task}
 use Rattle.bt_trial.specs.declared.ticking.Ticked.{Ticked}
 use Rattle.bt_trial.specs.declared.verdict.Verdict.{Verdict}
 use Rattle.bt_trial.specs.declared.verdict.Verdict.TheVariants.{GoesOn}
-use Rattle.bt_trial.specs.Modelled.{IsLast, decided, goals_hold, holds, is_failed_root, modelled, modelled_run, next_tick, row_holds, state_after, tick_after, verdict_after, verdict_by}
+use Rattle.bt_trial.specs.Modelled.{IsLast, TellRootOnce, decided, goals_hold, holds, is_failed_root, modelled, modelled_run, next_tick, row_holds, state_after, tick_after, verdict_after, verdict_by}
 use Rattle.bt_trial.specs.Tasks.{HaveFacts, IsInRange, IsTaskOf}
 use Rattle.bt_trial.specs.Ticked.{HasFaulted, HasTicked, IsAfter, TickEnds, TicksEnd}
 use Rattle.bt_trial.specs.Ticking.{alone, calls_after}
+use Rattle.bt_trial.proofs.RootlessVisits.{tick_tells_once}
 use Rattle.bt_trial.proofs.Traces.{broke, decided_none, more_calls, ran, some_last}
 
 -- ---- Moments
@@ -80,6 +81,12 @@ module _ (of : Setup) (task : Task) (is : IsTaskOf of.world task) (n : ℕ) (bef
 
   pub have_facts : AreRuns of.tree (modelled of.world) after new → HaveFacts (length new.facts) task.goals.items
   have_facts are = subst (λ (k : ℕ). HaveFacts k task.goals.items) (sym are.fit.many_facts) is.goals.facts
+
+  pub tells_once : Made (Ok tt) → TellRootOnce block.notes.list
+  tells_once made =
+      let ends = here (Ok tt) made in
+      let before : RunState = state_after of.tree of.world task.pace.period n in
+      subst TellRootOnce (sym (ap (λ (b : Shown). b.notes) ends.1.shown)) (tick_tells_once of.tree 1 (runner_at before 1) (modelled of.world) (n * task.pace.period) before ends.0)
 
   -- a tick without a fault
   pub has_ticked : Made (Ok tt) → AreRuns of.tree (modelled of.world) after new → (verdict : Verdict) → verdict ≡ decided (list_all (holds new.facts) task.goals.items) (list_any is_failed_root block.notes.list) →

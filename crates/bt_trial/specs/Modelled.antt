@@ -1,5 +1,5 @@
 -- Modelled runs: a tree is ticked in its world from the opening facts on, until a tick decides.
-use Rattle.std.specs.Prelude.{◌≡◌, ℕ, zero, suc, ◌+◌, ◌*◌, ◌≤◌, ◌<◌, ℤ, Bool, true, false, List, [], ◌∷◌, ◌++◌, Option, Some, None}
+use Rattle.std.specs.Prelude.{◌≡◌, ℕ, zero, suc, ◌+◌, ◌*◌, ◌≤◌, ◌<◌, ℤ, Bool, true, false, List, [], ◌∷◌, ◌++◌, count_by, Option, Some, None}
 use Rattle.std.specs.List.{list_all, list_any}
 use Rattle.std.specs.Option.{option_map_or}
 use Rattle.std.specs.Ordering.{int_cmp}
@@ -71,6 +71,15 @@ pub record ReachedAt (tree : Tree) (world : World) (period k : ℕ) : Type 0 whe
   pub not_before : (n : ℕ) → 1 ≤ n → n < k → goals_hold world (state_after tree world period n).facts ≡ false
 
 -- ---- What decides
+
+-- whether a note tells the root's answer
+abbrev pub is_root : Note → Bool
+is_root (note.Root runner answer) = true
+is_root _ = false
+
+-- at most one of these notes tells the root's answer
+abbrev pub TellRootOnce : List Note → Type 0
+TellRootOnce notes = count_by is_root notes ≤ 1
 
 abbrev pub is_failed_root : Note → Bool
 is_failed_root (note.Root runner answer.Failure) = true

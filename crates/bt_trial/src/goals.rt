@@ -4,7 +4,7 @@ ghost use Rattle.std.specs.Ordering.{int_cmp};
 ghost use Rattle.bt_script.specs.Operators.{compares};
 ghost use Rattle.bt_model.specs.Worlds.{IsValidWorld};
 ghost use Rattle.bt_expand.specs.Rows.{test_of};
-ghost use Rattle.bt_trial.specs.Modelled.{decided, holds, is_failed_root};
+ghost use Rattle.bt_trial.specs.Modelled.{TellRootOnce, decided, holds, is_failed_root};
 ghost use Rattle.bt_trial.specs.Tasks.{AreTests, HaveFacts};
 
 use crate::verdict::Verdict;
@@ -74,30 +74,25 @@ fn all_hold(facts: &FactTable, tests: &[Test]) -> bool
     true
 }
 
-/// Whether a note tells that the root failed.
-fn is_failed_root(note: &Note) -> bool
-    ensures { result ≡ is_failed_root note.now }
-{
-    matches!(
-        note,
-        Note::Root {
-            answer: Answer::Failure,
-            ..
-        }
-    )
-}
-
-/// Whether the root failed by these notes.
+/// Whether the root failed by these notes. The note of its answer is looked for from the end, where a
+/// tick has it.
 fn has_failed_root(notes: &[Note]) -> bool
+    requires { TellRootOnce notes.now }
     ensures { result ≡ list_any is_failed_root notes.now }
 {
-    notes.iter().any(|note| is_failed_root(note))
+    for note in notes.iter().rev() {
+        if let Note::Root { answer, .. } = note {
+            return matches!(answer, Answer::Failure);
+        }
+    }
+    false
 }
 
 /// What a tick that did not fault decides: the goals first, whatever the root answered, and then a
 /// FAILURE of the root.
 pub fn decide(facts: &FactTable, tests: &[Test], notes: &[Note]) -> Verdict
-    requires { HaveFacts (length facts.now) tests.now }
+    requires facts { HaveFacts (length facts.now) tests.now }
+    requires once { TellRootOnce notes.now }
     ensures { result ≡ decided (list_all (holds facts.now) tests.now) (list_any is_failed_root notes.now) }
 {
     if all_hold(facts, tests) {

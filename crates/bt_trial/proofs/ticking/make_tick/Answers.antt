@@ -1,8 +1,13 @@
-use Rattle.std.proofs.Common.{◌∙◌}
+use Rattle.std.proofs.Common.{◌∙◌, subst, sym}
 use Rattle.std.specs.List.{list_all, list_any}
-use Rattle.bt_trial.specs.Modelled.{decided, holds, is_failed_root}
-use Rattle.bt_trial.proofs.Ticks.{has_ticked, tick_stops}
+use Rattle.bt_trial.specs.Modelled.{TellRootOnce, decided, holds, is_failed_root}
+use Rattle.bt_trial.proofs.Ticks.{has_ticked, tells_once, tick_stops}
 use Rattle.bt_trial.proofs.ticking.make_tick.Goals as goal
+
+pub decide-requires-clause-once : goal.decide-requires-clause-once
+decide-requires-clause-once g c =
+    subst TellRootOnce (sym c.list.ensures)
+    (tells_once g.of c.args.task.now c.requires.1.0 c.args.before _ _ c.args.runs.now c.run_event.new.runs c.run_event.new.block c.requires.1.1.0 c.in_ok-run_event.ensures.step)
 
 pub returns-in_err-run_event-clause-ends : goal.returns-in_err-run_event-clause-ends
 returns-in_err-run_event-clause-ends g c =
