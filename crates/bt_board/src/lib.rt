@@ -13,4 +13,4 @@ mod slots;
 
 pub use board::{Board, board_of};
 pub use limit::is_within_slots;
-pub use slots::{Slots, cells, slot, slot_count, slots_of};
+pub use slots::{Slots, cells, no_slots, slot, slot_count, slots_of};

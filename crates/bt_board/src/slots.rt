@@ -1,4 +1,4 @@
-ghost use Rattle.std.specs.Prelude.{◌≡◌, ◌<◌, ◌^◌, length, map, IfOk};
+ghost use Rattle.std.specs.Prelude.{◌≡◌, ◌<◌, ◌^◌, [], length, map, IfOk};
 ghost use Rattle.std.specs.List.Sorted.{IsStrictlySortedBy};
 ghost use Rattle.bt_model.specs.declared.term.Tree.{Tree};
 ghost use Rattle.bt_model.specs.Boards.{cell_order, owner, slot_in, slot_of, slot_table, in_order};
@@ -167,6 +167,16 @@ pub fn slots_of(alloc: Global, tree: &Tree) -> Result<Slots, NoMemory>
     let cells = cells_of(alloc, &namings)?;
     let entries = order::in_order(entries_of(alloc, namings, &cells)?)?;
     Ok(Slots { cells, entries })
+}
+
+/// The slots of a tree that names nothing. It allocates nothing.
+pub fn no_slots(alloc: Global) -> Slots
+    ensures { result ≡ record { cells = []; named = [] } }
+{
+    Slots {
+        cells: Vec::new(alloc),
+        entries: Vec::new(alloc),
+    }
 }
 
 /// The slot of a key in the scope of this number: None exactly where the tree does not name it there.
