@@ -140,7 +140,8 @@ fn reach_child<D: Drivers>(
 /// name. After any answer the marks of the arena say which instances are held, and the reserve of
 /// the notes is not smaller. `frames` is the stack of the nodes with children whose visits are under
 /// way, the one that goes on topmost; what is on it before is dropped. Nodes that answer at once, as
-/// leaves, have no frame.
+/// leaves, have no frame. It is inlined where it is called, so that the parts of the stage are at hand.
+#[inline(always)]
 pub fn tick<D: Drivers>(
     stage: &mut Stage<D>,
     frames: &mut Vec<Frame>,
