@@ -113,9 +113,6 @@ pub(crate) fn go_on<D: Drivers>(
         IfOk result (λ next. turn_work nodes (turn_of frame.new next) < turn_work nodes (turn.GoOn (step_of frame.old heard))) }
 {
     let uid = frame.uid;
-    if goes_on_at_once(stage, frame, heard) {
-        return Ok(Next::Enter(frame.child));
-    }
     let here = node(stage.nodes, uid);
     let moment = stage.moment;
     let go = next_move(here.kind, &mut frame.memo, here.children, moment, heard);

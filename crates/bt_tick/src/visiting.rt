@@ -126,7 +126,10 @@ fn reach_child<D: Drivers>(
             Next::Back(answer) => {
                 stack.pop();
                 match heard_on(stack, answer) {
-                    Some(next) => heard = next,
+                    Some(next) => match next_at_once(stage, stack, next) {
+                        Some(child) => return Ok(Reached::Child(child)),
+                        None => heard = next,
+                    },
                     None => return Ok(Reached::End(answer)),
                 }
             }

@@ -1,8 +1,10 @@
-use Rattle.std.proofs.Common.{◌≡◌, ◌-◌, ◌<◌, ℕ, List, Ok, Err, ap, arith, length, refl, sym, ◌∙◌}
+use Rattle.std.proofs.Common.{◌≡◌, ◌-◌, ◌<◌, ℕ, List, [], ◌∷◌, ◌++◌, Ok, Err, ap, arith, length, refl, sym, ◌∙◌}
 use Rattle.std.specs.List.{refill}
 use Rattle.std.specs.Vec.{vec_len}
 use Rattle.std.specs.Prelude.{slice_set, take}
 use Rattle.bt_model.specs.declared.memory.Memory.{Memory}
+use Rattle.bt_model.specs.declared.moves.Heard.{Heard}
+use Rattle.bt_model.specs.declared.moves.Heard.TheVariants.{Answered}
 use Rattle.bt_model.specs.declared.note.Note.{Note}
 use Rattle.bt_model.specs.declared.status.Answer.{Answer}
 use Rattle.bt_model.specs.declared.term.Term.{Term}
@@ -16,8 +18,9 @@ use Rattle.bt_arena.specs.Scenes.{Scene}
 use Rattle.bt_arena.specs.Stages.{scene_on}
 use Rattle.bt_tick.specs.declared.machine.Next.{Next}
 use Rattle.bt_tick.specs.declared.machine.Next.TheVariants as next
-use Rattle.bt_tick.specs.Turns.{CameOn, GoingOn, next_work, stack_work, step_of}
-use Rattle.bt_tick.proofs.Later.{StepsBy, step_later}
+use Rattle.bt_tick.specs.Machine as turn
+use Rattle.bt_tick.specs.Turns.{CameOn, Going, GoingOn, next_work, stack_work, step_of}
+use Rattle.bt_tick.proofs.Later.{GoesNextBy, StepsBy, came_later, step_later}
 use Rattle.bt_tick.proofs.Stacks.{back_answers, back_made, can_step, step_beside, step_made, step_stays, step_stops}
 use Rattle.bt_tick.proofs.Tops.{comes_as, going_on, gone_back, less_heard, less_on_top, one_on_top, reached_with, top_written, went_on, written_many}
 use Rattle.bt_tick.proofs.visiting.reach_child.Goals as goal
@@ -114,37 +117,78 @@ loop-child-preserved-in-GoOn g c =
       room = c.loop-child.invariant.room;
     }
 
+-- that node has answered, and the node that is now on top of the stack hears it
+heard_on_top : (g : Over) (c : In_ok-child g) (answer : Answer) (heard : Heard) (left under : List Frame) (frame : Frame) → c.in_ok-child.field-0 ≡ next.Back answer →
+    left ≡ take (vec_len c.loop-child.stack - 1) (refill (vec_len c.loop-child.stack) c.loop-child.stack.items (slice_set c.as_mut_slice.result.now (c.len-top.result - 1) c.go_on.new.frame)) → left ≡ under ++ frame ∷ [] → heard ≡ Answered frame.place answer →
+    (root : Term) (start : Scene) (told : List Note) (whole : Done Answer Memory) → CameOn g.D.Drivers.states c.args.stage.now root (next.GoOn c.args.first) c.args.stack.now.items start told whole →
+    Going c.args.stage.now.nodes.now c.args.stage.now.moment root 1 (turn.GoOn (step_of frame heard)) under start (scene_on g.D.Drivers.states c.go_on.new.stage) told c.go_on.new.stage.notes.now.list whole
+    × StaysFit c.args.stage.now.nodes.now (scene_on g.D.Drivers.states c.args.stage.now) (scene_on g.D.Drivers.states c.go_on.new.stage)
+heard_on_top g c answer heard left under frame answers is stands hears root start told whole came =
+    let (going, stays) = went g c root start told whole came in
+    let (below, taken, back) = gone_back answers going in
+    (back_made term_keeps _ _ frame under (step_of frame heard) refl (sym taken ∙ sym (left_below g c left is) ∙ stands) (ap (step_of frame) hears) back, stays)
+
+-- the stack that a frame was taken from has less work than the turn before
+less_left : (g : Over) (c : In_ok-child g) (answer : Answer) (heard : Heard) (left under : List Frame) (frame : Frame) → c.in_ok-child.field-0 ≡ next.Back answer →
+    left ≡ take (vec_len c.loop-child.stack - 1) (refill (vec_len c.loop-child.stack) c.loop-child.stack.items (slice_set c.as_mut_slice.result.now (c.len-top.result - 1) c.go_on.new.frame)) → left ≡ under ++ frame ∷ [] → heard ≡ Answered frame.place answer →
+    next_work c.args.stage.now.nodes.now (next.GoOn heard) left < next_work c.args.stage.now.nodes.now (next.GoOn c.loop-child.heard) c.loop-child.stack.items
+less_left g c answer heard left under frame answers is stands hears =
+    omega (
+      arith,
+      less g c (next.Back answer) answers,
+      ap (λ (fs : List Frame). stack_work c.args.stage.now.nodes.now fs) (left_below g c left is),
+      less_heard c.args.stage.now.nodes.now heard left under frame answer stands hears,
+    )
+
+pub next_at_once-requires : goal.next_at_once-requires
+next_at_once-requires g c =
+    let at = (goal.at.next_at_once-requires g c).In_ok-child in
+    let (root, start, told, whole, came) = c.requires.going in
+    let (under, frame, stands, hears) = c.in-Some.ensures.some c.in-Some.next refl in
+    let (going, stays) = heard_on_top g at c.in-Back.answer c.in-Some.next c.pop.new.self.items under frame c.in-Back.is c.pop.ensures.rest stands hears root start told whole came in
+    record { going = (root, start, told, whole, came_later (same_both c.loop-child.invariant.same c.in_ok-child.ensures.same) (record { came = (under, frame, stands, going) })) }
+
+pub returns-in-Some-next_at_once-clause-reaches : goal.returns-in-Some-next_at_once-clause-reaches
+returns-in-Some-next_at_once-clause-reaches g c = λ root start told whole came.
+    let at = (goal.at.returns-in-Some-next_at_once-clause-reaches g c).In_ok-child in
+    let since = same_both c.loop-child.invariant.same c.in_ok-child.ensures.same in
+    let goes = earlier since (GoesNextBy g.D.Drivers.states c.go_on.new.stage _ (next.Enter c.in-Some-next_at_once.child) _ _) c.in-Some-next_at_once.ensures.came in
+    let (under, frame, stands, hears) = c.in-Some.ensures.some c.in-Some.next refl in
+    let (going, stays) = heard_on_top g at c.in-Back.answer c.in-Some.next c.pop.new.self.items under frame c.in-Back.is c.pop.ensures.rest stands hears root start told whole came in
+    record { ends = goes root start told whole (record { came = (under, frame, stands, going) }); stays = stays; beside = going.beside }
+
+pub returns-in-Some-next_at_once-clause-work : goal.returns-in-Some-next_at_once-clause-work
+returns-in-Some-next_at_once-clause-work g c =
+    let at = (goal.at.returns-in-Some-next_at_once-clause-work g c).In_ok-child in
+    let (under, frame, stands, hears) = c.in-Some.ensures.some c.in-Some.next refl in
+    let entered = earlier (same_both c.loop-child.invariant.same c.in_ok-child.ensures.same)
+    (λ (ns : List Node) (m : ℕ). next_work ns (next.Enter c.in-Some-next_at_once.child) c.next_at_once.new.stack.items < next_work ns (next.GoOn c.in-Some.next) c.pop.new.self.items) c.in-Some-next_at_once.ensures.work in
+    omega (arith, entered, less_left g at c.in-Back.answer c.in-Some.next c.pop.new.self.items under frame c.in-Back.is c.pop.ensures.rest stands hears, c.loop-child.invariant.work)
+
+-- a step that is not taken at once leaves the stack as it is
 pub loop-child-smaller : goal.loop-child-smaller
 loop-child-smaller g c =
     let at = (goal.at.loop-child-smaller g c).In_ok-child in
     let (under, frame, stands, hears) = c.in-Some.ensures.some c.in-Some.next refl in
-    omega (
-      arith,
-      less g at (next.Back c.in-Back.answer) c.in-Back.is,
-      ap (λ (fs : List Frame). stack_work c.args.stage.now.nodes.now fs) (left_below g at _ c.pop.ensures.rest),
-      less_heard c.args.stage.now.nodes.now c.in-Some.next _ under frame c.in-Back.answer stands hears,
-    )
+    let left = c.in-None-next_at_once.ensures.came in
+    less_left g at c.in-Back.answer c.in-Some.next c.next_at_once.new.stack.items under frame c.in-Back.is (left ∙ c.pop.ensures.rest) (left ∙ stands) hears
 
 pub loop-child-preserved : goal.loop-child-preserved
 loop-child-preserved g c =
     let at = (goal.at.loop-child-preserved g c).In_ok-child in
     let (under, frame, stands, hears) = c.in-Some.ensures.some c.in-Some.next refl in
+    let left = c.in-None-next_at_once.ensures.came in
     record {
       all = λ root start told whole came.
-          let (going, stays) = went g at root start told whole came in
-          let (left, taken, back) = gone_back c.in-Back.is going in (
-            record { came = (under, frame, stands, back_made term_keeps _ _ frame under (step_of frame c.in-Some.next) refl (sym taken ∙ sym (left_below g at _ c.pop.ensures.rest) ∙ stands) (ap (step_of frame) hears) back) },
-            stays,
-          );
+          let (going, stays) = heard_on_top g at c.in-Back.answer c.in-Some.next c.next_at_once.new.stack.items under frame c.in-Back.is (left ∙ c.pop.ensures.rest) (left ∙ stands) hears root start told whole came in
+          (record { came = (under, frame, left ∙ stands, going) }, stays);
       same = same_both c.loop-child.invariant.same c.in_ok-child.ensures.same;
       facts = c.in_ok-child.ensures.facts ∙ c.loop-child.invariant.facts;
       reserve = c.in_ok-child.ensures.reserve ∙ c.loop-child.invariant.reserve;
       work = omega (
         arith,
-        less g at (next.Back c.in-Back.answer) c.in-Back.is,
-        ap (λ (fs : List Frame). stack_work c.args.stage.now.nodes.now fs) (left_below g at _ c.pop.ensures.rest),
-        less_heard c.args.stage.now.nodes.now c.in-Some.next _ under frame c.in-Back.answer stands hears,
+        less_left g at c.in-Back.answer c.in-Some.next c.next_at_once.new.stack.items under frame c.in-Back.is (left ∙ c.pop.ensures.rest) (left ∙ stands) hears,
         c.loop-child.invariant.work,
       );
-      room = omega (arith, c.pop.ensures.capacity, c.loop-child.invariant.room);
+      room = omega (arith, c.in-None-next_at_once.ensures.room, c.pop.ensures.capacity, c.loop-child.invariant.room);
     }
