@@ -18,7 +18,7 @@ use crate::verdict::Verdict;
 use bt_arena::{Block, block_for};
 use bt_board::slots_of;
 use bt_driver::Drivers;
-use bt_loop::{Runs, leaves, make_runs_in, run_finish};
+use bt_loop::{Runs, leaves, make_planned_runs, run_finish};
 use bt_model::{RunFault, Tree};
 use bt_script::{NoMemory, Stop};
 
@@ -50,11 +50,7 @@ fn begin<D: Drivers>(tree: &Tree, task: &Task, drivers: &mut D) -> Result<Runs, 
     ensures totals { HaveSameTotals (D.states drivers.old) (D.states drivers.new) }
 {
     let slots = slots_of(task.alloc, tree)?;
-    match make_runs_in(task.alloc, tree, &slots, &task.world, drivers) {
-        Ok(runs) => Ok(runs),
-        Err(Stop::NoMemory) => Err(NoMemory),
-        Err(Stop::Fault(_)) => unreachable!(),
-    }
+    make_planned_runs(task.alloc, tree, &slots, &task.world, drivers)
 }
 
 /// Makes the ticks of a modelled run and then finishes it. The error is the fault of a node, or want of
