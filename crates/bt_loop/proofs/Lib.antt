@@ -1,6 +1,7 @@
 pub mod Counting
 pub mod Endings
 pub mod FewLeaves
+pub mod Groups
 pub mod Growing
 pub mod Lists
 pub mod Opening

@@ -1,10 +1,12 @@
 -- What differs between two lists, entry by entry, where a prefix of one is made equal to that of the other.
-use Rattle.std.proofs.Common.{◌≡◌, ℕ, zero, suc, ◌+◌, ◌-◌, ◌<◌, ◌≤◌, List, [], ◌∷◌, ◌++◌, length, take, drop, get_or, set, refl, sym, ap, ◌∙◌, add-one, arith}
+use Rattle.std.proofs.Common.{◌≡◌, ℕ, ℤ, zero, suc, ◌+◌, ◌-◌, ◌<◌, ◌≤◌, List, [], ◌∷◌, ◌++◌, length, take, drop, get_or, set, refl, sym, ap, ◌∙◌, add-one, arith}
 use Rattle.std.specs.Prelude.{Option}
 use Rattle.std.specs.Global.{Vec}
 use Rattle.std.proofs.lemmas.List.{drop_more, get_or-map, map-set}
+use Rattle.std.proofs.Math.Nat.{add_assoc}
+use Rattle.bt_model.specs.Run.{changed_from}
 use Rattle.bt_script.specs.declared.value.Value.{Value}
-use Rattle.bt_loop.specs.Telling.{boards_told, entries_told}
+use Rattle.bt_loop.specs.Telling.{boards_told, entries_told, with_fact}
 
 module _ {A : Type 0} where
   joined_at_end : (news : List A) (k : ℕ) (d : A) → k < length news → get_or (take k news ++ []) k d ≡ d
@@ -48,6 +50,12 @@ module _ {A C : Type 0} (differ : ℕ → List A → List A → List C) (adds : 
   pub alike_next : (new : A) → new ≡ n → set now k new ≡ take (k + 1) news ++ drop (k + 1) olds
   alike_next new told =
       (λ i. set (so_far i) k ((told ∙ is_new) i)) ∙ joined_set news olds k e within same ∙ ap (λ m. take m news ++ drop m olds) (sym (add-one k))
+
+-- ---- The facts that changed
+
+pub changes_next : (first k : ℕ) (o : ℤ) (os : List ℤ) (n : ℤ) (ns : List ℤ) →
+    changed_from (first + k) (o ∷ os) (n ∷ ns) ≡ with_fact (first + k) o n (changed_from (first + (k + 1)) os ns)
+changes_next first k o os n ns = ap (λ m. with_fact (first + k) o n (changed_from m os ns)) (add_assoc first k 1)
 
 -- ---- What was told of a runner
 

@@ -1,4 +1,4 @@
-ghost use Rattle.std.specs.Prelude.{◌≡◌, ◌≤◌, ◌<◌, ◌-◌, ◌^◌, ◌++◌, ℕ, ℤ, List, OnOk, Some, Option, length, slice_set};
+ghost use Rattle.std.specs.Prelude.{◌≡◌, ◌≤◌, ◌<◌, ◌-◌, ◌^◌, ◌++◌, ◌+◌, ℕ, ℤ, List, IsTrue, OnOk, Some, Option, length, slice_set};
 ghost use Rattle.bt_script.specs.declared.value.Value.{Value as Content};
 ghost use Rattle.bt_model.specs.Run.{changed_entries, changed_from, had, with_change};
 ghost use Rattle.bt_loop.specs.Telling.{boards_told, entries_told, with_fact};
@@ -9,6 +9,9 @@ use bt_board::Board;
 use bt_driver::FactTable;
 use bt_script::{NoMemory, Value};
 use std::alloc::Global;
+
+/// How many facts are compared at once.
+const GROUP: usize = 4;
 
 /// Adds a fact to the changes where it differs from what was told, and records it as told. The
 /// error is want of memory.
@@ -29,8 +32,55 @@ fn tell_fact(
     Ok(())
 }
 
+/// Adds the facts from this one on that differ from what was told to the changes, and records them
+/// as told. The error is want of memory.
+fn tell_each(
+    first: u32,
+    told: &mut [i64],
+    facts: &[i64],
+    changes: &mut Vec<(u32, i64)>,
+) -> Result<(), NoMemory>
+    requires same { length told.old ≡ length facts.now }
+    requires few { first + length facts.now < 2 ^ 32 }
+    ensures changes { OnOk result (changes.new.items ≡ changes.old.items ++ changed_from first told.old facts.now) }
+    ensures told { OnOk result (told.new ≡ facts.now) }
+{
+    for (place, value) in facts.iter().enumerate() {
+        tell_fact(first + place as u32, &mut told[place], value, changes)?;
+    }
+    Ok(())
+}
+
+/// Whether a group of facts is as it was told, with no branch for each of them.
+#[inline]
+fn same_group(told: &[i64], facts: &[i64]) -> bool
+    requires { (length told.now ≡ 4) × (length facts.now ≡ 4) }
+    ensures { IsTrue result → told.now ≡ facts.now }
+{
+    (told[0] == facts[0]) & (told[1] == facts[1]) & (told[2] == facts[2]) & (told[3] == facts[3])
+}
+
+/// What `tell_each` does, for a group of facts, of which mostly none has changed.
+#[inline]
+fn tell_group(
+    first: u32,
+    told: &mut [i64],
+    facts: &[i64],
+    changes: &mut Vec<(u32, i64)>,
+) -> Result<(), NoMemory>
+    requires group { (length told.old ≡ 4) × (length facts.now ≡ 4) }
+    requires few { first + 4 < 2 ^ 32 }
+    ensures changes { OnOk result (changes.new.items ≡ changes.old.items ++ changed_from first told.old facts.now) }
+    ensures told { OnOk result (told.new ≡ facts.now) }
+{
+    if same_group(told, facts) {
+        return Ok(());
+    }
+    tell_each(first, told, facts, changes)
+}
+
 /// Adds the facts that differ from what was told to the changes, and records them as told. The
-/// error is want of memory.
+/// error is want of memory. Few facts change in a tick, so they are compared a group at a time.
 pub fn tell_facts(
     told: &mut [i64],
     facts: &[i64],
@@ -41,10 +91,18 @@ pub fn tell_facts(
     ensures changes { OnOk result (changes.new.items ≡ changes.old.items ++ changed_from 0 told.old facts.now) }
     ensures told { OnOk result (told.new ≡ facts.now) }
 {
-    for (fact, value) in facts.iter().enumerate() {
-        tell_fact(fact as u32, &mut told[fact], value, changes)?;
+    let mut first = 0;
+    while facts.len() - first >= GROUP {
+        let end = first + GROUP;
+        tell_group(
+            first as u32,
+            &mut told[first..end],
+            &facts[first..end],
+            changes,
+        )?;
+        first = end;
     }
-    Ok(())
+    tell_each(first as u32, &mut told[first..], &facts[first..], changes)
 }
 
 /// Whether an entry had this value before.

@@ -1,14 +1,29 @@
-use Rattle.std.proofs.Common.{pos, refl}
-use Rattle.bt_model.specs.Run.{changed_from}
-use Rattle.bt_loop.specs.Telling.{with_fact}
-use Rattle.bt_loop.proofs.Told.{alike_next, differ_next}
+use Rattle.std.proofs.Common.{◌≡◌, ◌+◌, ◌-◌, length, refl, arith}
+use Rattle.bt_loop.proofs.Groups.{group_changes, group_told, rest_changes, rest_told}
+use Rattle.bt_loop.proofs.Results.{ok_gives}
 use Rattle.bt_loop.proofs.telling.tell_facts.Goals as goal
 
-pub loop-fact-preserved : goal.loop-fact-preserved
-loop-fact-preserved c =
-    let l = c.loop-fact in (
-      differ_next changed_from with_fact (λ k o os n ns. refl) c.args.told.now c.args.facts.now l.fact c.loop-fact-test.true c.requires.same
-          l.changes.items c.tell_fact.new.changes.items _ l.told _ (pos 0) _ (pos 0) refl refl l.invariant.1 l.invariant.0 c.in_ok-tell_fact.ensures.changes,
-      alike_next changed_from with_fact (λ k o os n ns. refl) c.args.told.now c.args.facts.now l.fact c.loop-fact-test.true c.requires.same
-          l.changes.items c.tell_fact.new.changes.items c.args.changes.now.items l.told _ (pos 0) _ (pos 0) refl refl l.invariant.1 _ c.in_ok-tell_fact.ensures.told,
-    )
+pub loop-first-preserved : goal.loop-first-preserved
+loop-first-preserved c =
+    let l = c.loop-first in
+    let olds = c.args.told.now in
+    let news = c.args.facts.now in
+    let n = l.first + 4 - l.first in
+    let is_end : l.first + 4 ≡ l.first + n = omega arith in record {
+      within = omega (arith, c.loop-first-test.true, l.invariant.within);
+      changes = group_changes olds news l.told l.first l.invariant.within l.invariant.told n (l.first + 4) is_end l.changes.items c.tell_group.new.changes.items _ l.invariant.changes
+          c.in_ok-tell_group.ensures.changes;
+      told = group_told olds news l.told l.first l.invariant.within l.invariant.told n (l.first + 4) is_end c.tell_group.new.told c.in_ok-tell_group.ensures.told;
+    }
+
+pub returns-clause-changes : goal.returns-clause-changes
+returns-clause-changes c =
+    let l = c.loop-first in
+    ok_gives c.tell_each.result (rest_changes c.args.told.now c.args.facts.now l.told l.first l.invariant.within l.invariant.told (length l.told - l.first) refl
+    l.changes.items c.tell_each.new.changes.items _ l.invariant.changes) c.tell_each.ensures.changes
+
+pub returns-clause-told : goal.returns-clause-told
+returns-clause-told c =
+    let l = c.loop-first in
+    ok_gives c.tell_each.result (rest_told c.args.told.now c.args.facts.now l.told l.first l.invariant.within l.invariant.told (length l.told - l.first) refl
+    c.tell_each.new.told) c.tell_each.ensures.told
