@@ -2,6 +2,7 @@
 use Rattle.std.specs.Prelude.{◌≡◌, ℕ, ◌<◌, ◌≤◌, List, [], ◌∷◌, length, map, Some, None}
 use Rattle.bt_model.specs.declared.term.Tree.{Tree}
 use Rattle.bt_model.specs.declared.world.World.{World}
+use Rattle.bt_model.specs.Boards.{slot_table}
 use Rattle.bt_model.specs.Drivers.{DriverState}
 use Rattle.bt_model.specs.Terms.{leaf_ids}
 use Rattle.bt_model.specs.Worlds.{IsValidWorld}
@@ -38,3 +39,7 @@ pub record IsTaskOf (world : World) (task : Task) : Type 0 where
 -- each leaf of the tree has a row, and each of these rows a driver
 abbrev pub LacksNothing : Tree → World → List DriverState → Type 0
 LacksNothing tree world drivers = first_missing world.rows drivers (leaf_ids tree.term) ≡ None
+
+-- the tree names no key, so that it has no slots
+abbrev pub NamesNothing : Tree → Type 0
+NamesNothing tree = slot_table tree ≡ record { cells = []; named = [] }

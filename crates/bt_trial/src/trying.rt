@@ -8,7 +8,7 @@ ghost use Rattle.bt_loop.specs.Runs.{Setup, arenas_of, roster_over};
 ghost use Rattle.bt_loop.specs.Served.{roster_after_run};
 ghost use Rattle.bt_loop.specs.Steps.{IsSameRoster};
 ghost use Rattle.bt_trial.specs.Modelled.{modelled};
-ghost use Rattle.bt_trial.specs.Tasks.{IsTaskOf, LacksNothing};
+ghost use Rattle.bt_trial.specs.Tasks.{IsTaskOf, LacksNothing, NamesNothing};
 ghost use Rattle.bt_trial.specs.Ticked.{IsAfter};
 ghost use Rattle.bt_trial.specs.Tried.{HaveSameTotals, RunEnds};
 
@@ -16,7 +16,7 @@ use crate::task::Task;
 use crate::ticking::make_ticks;
 use crate::verdict::Verdict;
 use bt_arena::{Block, block_for};
-use bt_board::slots_of;
+use bt_board::no_slots;
 use bt_driver::Drivers;
 use bt_loop::{Runs, leaves, make_planned_runs, run_finish};
 use bt_model::{RunFault, Tree};
@@ -31,8 +31,8 @@ pub struct Tried {
     pub block: Block,
 }
 
-/// The runs of a tree in the modelled world, before the first tick. All its leaves have a row and a
-/// driver, so the error is want of memory.
+/// The runs of a tree that names nothing in the modelled world, before the first tick. All its leaves
+/// have a row and a driver, so the error is want of memory.
 fn begin<D: Drivers>(tree: &Tree, task: &Task, drivers: &mut D) -> Result<Runs, NoMemory>
     ghost of: { Setup }
     requires same { tree.now ≡ of.tree }
@@ -40,6 +40,7 @@ fn begin<D: Drivers>(tree: &Tree, task: &Task, drivers: &mut D) -> Result<Runs, 
     requires joined { LacksNothing of.tree of.world (D.states drivers.old) }
     requires tree { IsRunnable of.tree }
     requires quiet { NothingHeld (D.states drivers.old) }
+    requires nameless { NamesNothing of.tree }
     ensures runs { IfOk result (λ runs. IsAfter of task.now.pace.period 0 (D.states drivers.new) runs) }
     ensures prepared { let old = D.states drivers.old in
         let new = D.states drivers.new in
@@ -49,7 +50,7 @@ fn begin<D: Drivers>(tree: &Tree, task: &Task, drivers: &mut D) -> Result<Runs, 
     ensures roster { IsSameRoster (D.states drivers.old) (D.states drivers.new) }
     ensures totals { HaveSameTotals (D.states drivers.old) (D.states drivers.new) }
 {
-    let slots = slots_of(task.alloc, tree)?;
+    let slots = no_slots(task.alloc);
     make_planned_runs(task.alloc, tree, &slots, &task.world, drivers)
 }
 
@@ -82,8 +83,8 @@ fn make_run<D: Drivers>(
     })
 }
 
-/// Runs a tree in the modelled world, with the drivers prepared anew. The error is the fault of a node,
-/// or want of memory. In the end no driver holds anything, whatever is answered.
+/// Runs a tree that names nothing in the modelled world, with the drivers prepared anew. The error is
+/// the fault of a node, or want of memory. In the end no driver holds anything, whatever is answered.
 pub fn run_tree<D: Drivers>(
     tree: &Tree,
     task: &Task,
@@ -95,6 +96,7 @@ pub fn run_tree<D: Drivers>(
     requires joined { LacksNothing of.tree of.world (D.states drivers.old) }
     requires tree { IsRunnable of.tree }
     requires quiet { NothingHeld (D.states drivers.old) }
+    requires nameless { NamesNothing of.tree }
     ensures ends { let old = D.states drivers.old in
         RunEnds result of task.now.pace (roster_after_run of.tree (modelled of.world) old) old (D.states drivers.new) }
     ensures none { NothingHeld (D.states drivers.new) }

@@ -31,7 +31,7 @@ run_tree-requires g c = λ lifetimes live.
           subst (λ (w : World). IsTaskOf w c.args.task.now.runs) same task.runs,
           (
             lacks_nothing c.args.world.now g.of same (g.D.Drivers.states c.args.drivers.now) c.args.t.now f.0 tree c.requires.1.1.1.0 f.1 (c.in_ok-tree.ensures.planned f.0 f.1),
-            (runnable tree c.in_ok-tree.ensures.valid, c.requires.1.1.1.1.0),
+            (runnable tree c.in_ok-tree.ensures.valid, (c.requires.1.1.1.1.0, c.in_ok-tree.ensures.nameless)),
           ),
         ),
       ),

@@ -1,9 +1,13 @@
-use Rattle.std.proofs.Common.{◌∙◌, ap}
+use Rattle.std.proofs.Common.{◌∙◌, ap, sym}
 use Rattle.bt_model.specs.declared.term.Tree.{Tree}
 use Rattle.bt_model.specs.declared.world.World.{World}
+use Rattle.bt_model.specs.Boards.{slot_table}
 use Rattle.bt_model.specs.Terms.{leaf_ids}
 use Rattle.bt_arena.specs.Joins.{first_missing}
 use Rattle.bt_trial.proofs.trying.begin.Goals as goal
+
+pub make_planned_runs-requires-clause-slots : goal.make_planned_runs-requires-clause-slots
+make_planned_runs-requires-clause-slots g c = c.no_slots-slots.ensures ∙ sym (ap slot_table c.requires.1.0 ∙ c.requires.1.1.1.1.1.1)
 
 pub make_planned_runs-requires-clause-joined : goal.make_planned_runs-requires-clause-joined
 make_planned_runs-requires-clause-joined g c =
