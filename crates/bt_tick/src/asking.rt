@@ -36,13 +36,16 @@ pub(crate) fn asks_first<D: Drivers>(stage: &Stage<D>, uid: u32) -> bool
     ensures { IsTrue result → AsksFirst stage.now.nodes.now stage.now.kept.now uid }
 {
     let here = node(stage.nodes, uid);
-    match (here.kind, stage.nodes.get(uid as usize + 1)) {
-        (Kind::ReactiveFallback, Some(child)) => {
-            !matches!(stage.kept[uid as usize].status, Status::Running)
-                && come_after(here.guards.get())
-                && matches!(child.kind, Kind::Leaf)
-                && come_after(child.guards.get())
-        }
+    match here.kind {
+        Kind::ReactiveFallback => match stage.nodes.get(uid as usize + 1) {
+            Some(child) => {
+                !matches!(stage.kept[uid as usize].status, Status::Running)
+                    && come_after(here.guards.get())
+                    && matches!(child.kind, Kind::Leaf)
+                    && come_after(child.guards.get())
+            }
+            None => false,
+        },
         _ => false,
     }
 }
