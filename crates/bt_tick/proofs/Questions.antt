@@ -1,5 +1,5 @@
 -- A node that asks first: its start, the visit of its first child, and its end.
-use Rattle.std.proofs.Common.{◌≡◌, ℕ, zero, suc, ◌+◌, ◌-◌, ◌<◌, ◌≤◌, ◌^◌, ℤ, true, false, ◌||◌, List, [], ◌∷◌, ◌++◌, refl, sym, ap, subst, ◌∙◌, arith, slice_set, Option, Some, None, Result, Ok, Err}
+use Rattle.std.proofs.Common.{length, ◌≡◌, ℕ, zero, suc, ◌+◌, ◌-◌, ◌<◌, ◌≤◌, ◌^◌, ℤ, true, false, ◌||◌, List, [], ◌∷◌, ◌++◌, refl, sym, ap, subst, ◌∙◌, arith, slice_set, Option, Some, None, Result, Ok, Err}
 use Rattle.std.specs.Prelude.{IsErrAnd, IsTrue, is_some}
 use Rattle.bt_script.specs.declared.stop.Stop.{Stop}
 use Rattle.bt_script.specs.declared.stop.Stop.TheVariants as stop
@@ -39,7 +39,7 @@ use Rattle.bt_arena.specs.declared.nodes.Node.{Node}
 use Rattle.bt_arena.specs.declared.nodes.ReadyGuards.{ReadyGuards}
 use Rattle.bt_arena.specs.Ends.{Meets, StaysFit}
 use Rattle.bt_arena.specs.Nodes.{AreCompiled, has_before, kept_at, node_at}
-use Rattle.bt_arena.specs.Scenes.{Scene, scene, state_in}
+use Rattle.bt_arena.specs.Scenes.{Fits, Scene, scene, state_in}
 use Rattle.bt_arena.specs.Stands.{Beside, memory_of, view_under, written}
 use Rattle.bt_arena.proofs.Staged.{beside_both, beside_none}
 use Rattle.bt_arena.proofs.Opened.{size_out}
@@ -149,6 +149,17 @@ pub last_move : (kind : Kind) (n now : ℕ) → kind ≡ ReactiveFallback →
     rest kind n now (Index 0 false) (Answered 0 answer.Success) ≡ makes (hears kind) (after kind n) Nothing (record { reset = span.All; then = then_.Give answer.Success })
 last_move kind n now is =
     subst (λ (k : Kind). rest k n now (Index 0 false) (Answered 0 answer.Success) ≡ makes (hears k) (after k n) Nothing (record { reset = span.All; then = then_.Give answer.Success })) (sym is) refl
+
+-- a ReactiveFallback has a first child
+some_child : (n : ℕ) → IsTrue (takes ReactiveFallback n) → 0 < n
+some_child zero takes_so = cc
+some_child (suc n) takes_so = omega arith
+
+pub first_there : (term : Term) (view : View) (uid : ℕ) (nodes : List Node) (s : Scene) → Fits term view uid nodes s → (node : Node) → node ≡ node_at nodes uid → node.kind ≡ ReactiveFallback → uid + 1 < length nodes
+first_there term view uid nodes s fits node is asks =
+    let kind : kind_of term ≡ ReactiveFallback = sym (ap (λ (n : Node). n.kind) is ∙ kind_is fits) ∙ asks in
+    let takes_so : IsTrue (takes ReactiveFallback (number term)) = (λ i. takes (sym kind i) (number term)) ∙ (node_fits fits).children in
+    omega (arith, some_child (number term) takes_so, number_few (out-Term term).children, size_out term, stands_within term nodes view uid fits.stands)
 
 -- ---- The start
 

@@ -1,4 +1,4 @@
-ghost use Rattle.std.specs.Prelude.{◌≡◌, ◌<◌, IsTrue, OnOk, false, length};
+ghost use Rattle.std.specs.Prelude.{◌≡◌, IsTrue, OnOk, false};
 ghost use Rattle.bt_model.specs.declared.memory.Memory.{Memory};
 ghost use Rattle.bt_model.specs.declared.status.Answer.{Answer as AnswerGiven};
 ghost use Rattle.bt_model.specs.declared.term.Kind.TheVariants.{Leaf, ReactiveFallback};
@@ -31,21 +31,18 @@ fn come_after(guards: &ReadyGuards) -> bool
 /// such nodes.
 #[inline(always)]
 pub(crate) fn asks_first<D: Drivers>(stage: &Stage<D>, uid: u32) -> bool
-    requires node { uid < length stage.now.nodes.now }
-    requires kept { uid < length stage.now.kept.now }
+    requires can { (term : Term) × (view : View) × CanVisitOn D.states stage.now uid term view }
     ensures { IsTrue result → AsksFirst stage.now.nodes.now stage.now.kept.now uid }
 {
     let here = node(stage.nodes, uid);
     match here.kind {
-        Kind::ReactiveFallback => match stage.nodes.get(uid as usize + 1) {
-            Some(child) => {
-                !matches!(stage.kept[uid as usize].status, Status::Running)
-                    && come_after(here.guards.get())
-                    && matches!(child.kind, Kind::Leaf)
-                    && come_after(child.guards.get())
-            }
-            None => false,
-        },
+        Kind::ReactiveFallback => {
+            let child = node(stage.nodes, uid + 1);
+            !matches!(stage.kept[uid as usize].status, Status::Running)
+                && come_after(here.guards.get())
+                && matches!(child.kind, Kind::Leaf)
+                && come_after(child.guards.get())
+        }
         _ => false,
     }
 }

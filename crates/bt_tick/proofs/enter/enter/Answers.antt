@@ -6,11 +6,3 @@ pub bounds : goal.bounds
 bounds g c =
     let (term, view, can) = c.requires.can in
     omega (arith, node_there can.fits, as_many_kept can.fits)
-
-pub asks_first-requires-clause-node : goal.asks_first-requires-clause-node
-asks_first-requires-clause-node g c = let (term, view, can) = c.requires.can in node_there can.fits
-
-pub asks_first-requires-clause-kept : goal.asks_first-requires-clause-kept
-asks_first-requires-clause-kept g c =
-    let (term, view, can) = c.requires.can in
-    omega (arith, node_there can.fits, as_many_kept can.fits)
