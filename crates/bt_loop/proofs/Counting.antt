@@ -1,6 +1,8 @@
 -- How many instances each driver needs, as the nodes of an arena show it.
-use Rattle.std.proofs.Common.{◌≡◌, ℕ, zero, suc, ◌+◌, ◌*◌, ◌<◌, List, [], ◌∷◌, length, get_or, refl, sym, ap, ◌∙◌, arith}
+use Rattle.std.proofs.Common.{◌≡◌, ℕ, zero, suc, ◌+◌, ◌*◌, ◌<◌, List, [], ◌∷◌, Bool, true, false, length, get_or, take, refl, sym, ap, ◌∙◌, arith}
 use Rattle.std.proofs.lemmas.List.{get_or_default, same_lists}
+use Rattle.std.proofs.lemmas.List.Sums.{count_by_more_no, count_by_more_yes}
+use Rattle.std.proofs.Math.Nat.{mul-add, mul-one}
 use Rattle.bt_model.specs.declared.term.Tree.{Tree}
 use Rattle.bt_model.specs.declared.world.World.{World}
 use Rattle.bt_model.specs.Drivers.{DriverState}
@@ -8,7 +10,8 @@ use Rattle.bt_model.specs.Terms.{leaf_ids}
 use Rattle.bt_arena.specs.declared.arena.Arena.{Arena}
 use Rattle.bt_arena.specs.Joins.{leaves_served}
 use Rattle.bt_arena.specs.Made.{IsArenaOf}
-use Rattle.bt_arena.specs.Rosters.{served}
+use Rattle.bt_arena.specs.declared.nodes.Node.{Node}
+use Rattle.bt_arena.specs.Rosters.{is_served_at, served}
 use Rattle.bt_loop.specs.Runs.{instances_wanted, wanted_from}
 
 module _ (tree : Tree) (world : World) (drivers : List DriverState) where
@@ -51,3 +54,26 @@ module _ (tree : Tree) (world : World) (drivers : List DriverState) where
   pub wanted_of_arena : (number : ℕ) (arena : Arena) → IsArenaOf tree world drivers number arena → (place : ℕ) → place < length drivers →
       get_or (instances_wanted tree world drivers) place 0 ≡ world.runners * served place arena.nodes.items
   wanted_of_arena number arena is place low = wanted_at place low ∙ ap (λ n. world.runners * n) (sym (is.serves place low))
+
+-- ---- The leaves of the nodes so far
+
+module _ (nodes : List Node) (i runners place : ℕ) (node : Node) (low : i < length nodes) (here : node ≡ get_or nodes i node)
+    (before after : ℕ) (so_far : before ≡ runners * served place (take i nodes)) where
+  abbrev pub is_own : Node → Bool
+  is_own n = is_served_at place n.leaf
+
+  one_more : runners * served place (take i nodes) + runners ≡ runners * (served place (take i nodes) + 1)
+  one_more = ap (λ m. runners * served place (take i nodes) + m) (sym (mul-one runners)) ∙ sym (mul-add runners (served place (take i nodes)) 1)
+
+  -- one more node is counted
+  pub count_next : (own : Bool) → is_own node ≡ own → (is_own node ≡ true → after ≡ before + runners) → (is_own node ≡ false → after ≡ before) →
+      after ≡ runners * served place (take (i + 1) nodes)
+  count_next true is more same =
+      more is
+      ∙ ap (λ n. n + runners) so_far
+      ∙ one_more
+      ∙ ap (λ n. runners * n) (sym (count_by_more_yes is_own nodes i node low (ap is_own (sym here) ∙ is)))
+  count_next false is more same =
+      same is
+      ∙ so_far
+      ∙ ap (λ n. runners * n) (sym (count_by_more_no is_own nodes i node low (ap is_own (sym here) ∙ is)))

@@ -1,15 +1,17 @@
-ghost use Rattle.std.specs.Prelude.{◌≡◌, ◌<◌, ◌*◌, ◌^◌, ℕ, List, IfOk, length, slice_index_or};
+ghost use Rattle.std.specs.Prelude.{◌≡◌, ◌<◌, ◌+◌, ◌*◌, ◌^◌, ℕ, List, true, false, IfOk, Some, length, slice_index_or};
 ghost use Rattle.bt_model.specs.declared.term.Tree.{Tree};
 ghost use Rattle.bt_model.specs.declared.world.World.{World};
 ghost use Rattle.bt_model.specs.Drivers.{DriverState};
 ghost use Rattle.bt_model.specs.Trees.{IsRunnable};
 ghost use Rattle.bt_model.specs.Worlds.{IsValidWorld};
-ghost use Rattle.bt_arena.specs.Rosters.{served};
+ghost use Rattle.bt_arena.specs.declared.nodes.ReadyLeaf.{ReadyLeaf};
+ghost use Rattle.bt_arena.specs.Nodes.{leaf_at};
+ghost use Rattle.bt_arena.specs.Rosters.{is_served_at, served};
 ghost use Rattle.bt_loop.specs.Opening.{AreOpeningRuns};
 ghost use Rattle.bt_loop.specs.Runs.{AreRuns, Setup, arenas_of, instances_wanted, leaves_of};
 
 use crate::runs::Runs;
-use bt_arena::{Node, leaf_count, leaves_at};
+use bt_arena::{Node, leaf_count};
 use bt_driver::Drivers;
 use bt_script::NoMemory;
 use std::alloc::Global;
@@ -29,6 +31,22 @@ pub fn leaves(runs: &Runs) -> usize
     count
 }
 
+/// Counts the instances that this many runners need for a node, where it is a leaf.
+fn count_leaf(counts: &mut Vec<u32>, node: &Node, runners: u32)
+    requires driver { (leaf : ReadyLeaf) → node.now.leaf ≡ Some leaf → leaf.driver < length counts.old.items }
+    requires room { (leaf : ReadyLeaf) → node.now.leaf ≡ Some leaf →
+        slice_index_or counts.old.items leaf.driver 0 + runners < 2 ^ 32 }
+    ensures many { length counts.new.items ≡ length counts.old.items }
+    ensures own { (place : ℕ) → is_served_at place node.now.leaf ≡ true →
+        slice_index_or counts.new.items place 0 ≡ slice_index_or counts.old.items place 0 + runners }
+    ensures other { (place : ℕ) → is_served_at place node.now.leaf ≡ false →
+        slice_index_or counts.new.items place 0 ≡ slice_index_or counts.old.items place 0 }
+{
+    if let Some(leaf) = &node.leaf {
+        counts[leaf.driver] += runners;
+    }
+}
+
 /// For each driver, how many instances this many runners need of it, each with these nodes. The
 /// error is want of memory (out of memory).
 fn counts_of<D: Drivers>(
@@ -39,13 +57,15 @@ fn counts_of<D: Drivers>(
 ) -> Result<Vec<u32>, NoMemory>
     requires nodes { length nodes.now < 2 ^ 16 }
     requires runners { runners < 2 ^ 16 }
+    requires served { (uid : ℕ) (leaf : ReadyLeaf) → leaf_at nodes.now uid ≡ Some leaf →
+        leaf.driver < length (D.states drivers.now) }
     ensures many { IfOk result (λ counts. length counts.items ≡ length (D.states drivers.now)) }
     ensures counts { IfOk result (λ counts. (place : ℕ) → place < length (D.states drivers.now) →
         slice_index_or counts.items place 0 ≡ runners * served place nodes.now) }
 {
-    let mut counts = Vec::new(alloc);
-    for place in 0..drivers.count() {
-        counts.push(runners * leaves_at(nodes, place))?;
+    let mut counts = vec![in alloc; 0u32; drivers.count()]?;
+    for node in nodes {
+        count_leaf(&mut counts, node, runners);
     }
     Ok(counts)
 }

@@ -1,4 +1,6 @@
-use Rattle.std.proofs.Common.{◌≡◌, ◌*◌, length, refl, ap, ◌∙◌, arith}
+use Rattle.std.proofs.Common.{◌≡◌, ◌*◌, length, refl, sym, ap, ◌∙◌, arith}
+use Rattle.bt_arena.proofs.Joined.{place_within}
+use Rattle.bt_arena.specs.Nodes.{leaf_at}
 use Rattle.bt_arena.specs.Rosters.{served}
 use Rattle.bt_loop.specs.Runs.{instances_wanted}
 use Rattle.bt_loop.proofs.Counting.{arena_counts_are_wanted}
@@ -12,6 +14,15 @@ counts_of-requires-clause-nodes g c =
     let runners = c.args.runs.now.runners.items in
     let at = indexed runners runners 0 c.index.result.now refl (omega (arith, r.4.many, r.3.some_runner)) c.index.ensures in
     omega (arith, (r.4.runners 0 c.index.result.now at).arena.size, r.2.limits.nodes, ap (λ xs. length xs) c.as_slice-nodes.ensures.value)
+
+pub counts_of-requires-clause-served : goal.counts_of-requires-clause-served
+counts_of-requires-clause-served g c = λ uid leaf is.
+    let r = c.requires in
+    let drivers = g.D.Drivers.states c.args.drivers.now in
+    let runners = c.args.runs.now.runners.items in
+    let at = indexed runners runners 0 c.index.result.now refl (omega (arith, r.4.many, r.3.some_runner)) c.index.ensures in
+    let there = ap (λ nodes. leaf_at nodes uid) (sym c.as_slice-nodes.ensures.value) ∙ is in
+    place_within drivers _ leaf.driver ((r.4.runners 0 c.index.result.now at).arena.numbered.driver uid leaf there)
 
 pub returns : goal.returns
 returns g c = λ tree world are.
