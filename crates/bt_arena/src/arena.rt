@@ -1,6 +1,6 @@
 ghost use Rattle.std.specs.Prelude.{◌≡◌, ◌<◌, ◌^◌, length, slice_set};
 ghost use Rattle.bt_arena.specs.Nodes.{kept_at, node_at};
-ghost use Rattle.bt_arena.specs.Rosters.{has_driver, is_served_at, leaves_in, served};
+ghost use Rattle.bt_arena.specs.Rosters.{has_driver, leaves_in};
 
 use crate::frame::Frame;
 use crate::nodes::{Kept, Node};
@@ -81,16 +81,6 @@ pub fn set_held(kept: &mut [Kept], uid: u32, held: bool)
     kept[uid as usize].held = held;
 }
 
-/// Whether the driver at this place serves a node.
-fn is_at(node: &Node, place: usize) -> bool
-    ensures { result ≡ is_served_at place node.now.leaf }
-{
-    match &node.leaf {
-        Some(leaf) => leaf.driver == place,
-        None => false,
-    }
-}
-
 /// Whether a node is a leaf with a driver.
 fn is_leaf(node: &Node) -> bool
     ensures { result ≡ has_driver node.now.leaf }
@@ -110,13 +100,4 @@ pub fn leaf_count(nodes: &[Node]) -> u32
         }
     }
     count
-}
-
-/// How many of these nodes are leaves that the driver at this place serves: it needs as many
-/// instances for each runner.
-pub fn leaves_at(nodes: &[Node], place: usize) -> u32
-    requires { length nodes.now < 2 ^ 32 }
-    ensures { result ≡ served place nodes.now }
-{
-    nodes.iter().filter(|node| is_at(node, place)).count() as u32
 }

@@ -21,7 +21,7 @@ mod stage;
 mod uids;
 
 pub use arena::{
-    Arena, keep, kept_by, leaf_count, leaves_at, memo, node, set_held, set_memo, set_status, status,
+    Arena, keep, kept_by, leaf_count, memo, node, set_held, set_memo, set_status, status,
 };
 pub use block::{Block, block_for};
 pub use frame::Frame;
