@@ -54,7 +54,7 @@ use Rattle.bt_tick.specs.Machine.{Step, Turn}
 use Rattle.bt_tick.specs.Machine as turn
 use Rattle.bt_tick.specs.Turns.{CanFollow, CanVisit, ChildLeaves, Comes, Goes, GoesOnBy, StackIs, Waiting, child_of_waiting, goes_following, kind_of, number, passes_over, started_in, turn_work, visit_in}
 use Rattle.bt_tick.proofs.Bounds.{begins_less}
-use Rattle.bt_tick.proofs.Entering.{again_so, alone_goes, begin_goes, begins_so_far, can_keep, can_run, goes_after, goes_follow, guards_here, here2, keeps_so, number_few, one_within, resume_goes, start_made, start_stops, starts_stopped, stays_twice}
+use Rattle.bt_tick.proofs.Entering.{again_so, alone_goes, begin_goes, can_keep, can_run, goes_after, goes_follow, guards_here, here2, keeps_so, number_few, one_within, resume_goes, start_made, start_stops, starts_stopped, stays_twice}
 use Rattle.bt_tick.proofs.Frames.{all_stops, beside_root, leave_comes, resume_comes, stack_stays}
 use Rattle.bt_tick.proofs.Moving.{kind_is, node_fits, none_reset, number_is, size_is, step_turned}
 use Rattle.bt_tick.proofs.Passing.{comes_both, met_after}
@@ -201,28 +201,19 @@ module _ (keeps : (t : Term) → Keeps (meaning t) (Sound t)) (nodes : List Node
       goes_after nodes moment term view uid (Ok (turn.Wait frame)) s2 s2 s2 n1 n1 n1 (ruled_in nodes moment term view uid s2) begins.ends.next begins.ends.comes
       (beside_none uid (meaning term).size kept2) (λ t v u fits. fits) wait
 
-  module _ (rests : is_running (kept_at kept uid).status ≡ false) (none : (node_at nodes uid).guards.before ≡ false) where
-    none_first : guards_answer (site_at view uid term) (state_in nodes s0 moment) ≡ done None tt (state_in nodes s0 moment)
-    none_first = none_answers (node_at nodes uid).guards (site_at view uid term) (state_in nodes s0 moment) (guards_here term view uid nodes s0 can.fits (node_at nodes uid) refl (node_at nodes uid).guards refl) none
-
+  module _ (rests : is_running (kept_at kept uid).status ≡ false) where
     it_starts : starts (kind_of term) (kept_at kept uid).memo ≡ true
     it_starts = ap (λ (k : Kind). starts k (kept_at kept uid).memo) is_asking
 
-    -- what comes after the guards comes after the beginning
-    begun : (r : Result Turn (Stop NodeFault)) (s : Scene) (n : List Note) → Goes nodes moment term view uid r s0 s n0 n (started_in nodes moment term view uid s0) → Goes nodes moment term view uid r s0 s n0 n (visit_in nodes moment term view uid s0)
-    begun r s n goes =
-        begin_goes nodes moment term view uid kept board board facts drivers n0 refl rests None none_first
-        (started_in nodes moment term view uid s0) (begins_so_far nodes moment term view uid kept board board facts drivers n0 refl None refl it_starts) r s n goes
-
     -- there was want of memory for the note of the start
-    pub asks_stopped : (r : Result (Unit {0}) (Stop NodeFault)) → IsErrAnd r (λ x. x ≡ stop.NoMemory) → n1 ≡ n0 → Goes nodes moment term view uid (waits_first uid r) s0 s0 n0 n1 (visit_in nodes moment term view uid s0)
+    pub asks_stopped : (r : Result (Unit {0}) (Stop NodeFault)) → IsErrAnd r (λ x. x ≡ stop.NoMemory) → n1 ≡ n0 → Goes nodes moment term view uid (waits_first uid r) s0 s0 n0 n1 (started_in nodes moment term view uid s0)
     asks_stopped r is same =
-        subst (λ (x : Result (Unit {0}) (Stop NodeFault)). Goes nodes moment term view uid (waits_first uid x) s0 s0 n0 n1 (visit_in nodes moment term view uid s0)) (sym (stops_with r stop.NoMemory is))
-        (begun (Err stop.NoMemory) s0 n1 (start_stops nodes moment term view uid stop.NoMemory s0 s0 n0 n1 (λ t v u fits. fits) (beside_none uid 1 kept) (starts_stopped nodes moment term view uid s0 n0 n1 (Err stop.NoMemory) refl same)))
+        subst (λ (x : Result (Unit {0}) (Stop NodeFault)). Goes nodes moment term view uid (waits_first uid x) s0 s0 n0 n1 (started_in nodes moment term view uid s0)) (sym (stops_with r stop.NoMemory is))
+        (start_stops nodes moment term view uid stop.NoMemory s0 s0 n0 n1 (λ t v u fits. fits) (beside_none uid 1 kept) (starts_stopped nodes moment term view uid s0 n0 n1 (Err stop.NoMemory) refl same))
 
     -- the node has started, and waits for its first child
     pub asks_waits : n1 ≡ n0 ++ Changed uid (kept_at kept uid).status status.Running ∷ [] → (is1 : kept1 ≡ slice_set kept uid (record (kept_at kept uid) { status = status.Running })) →
-        (is2 : kept2 ≡ slice_set kept1 uid (record (kept_at kept1 uid) { memo = Index 0 false })) → Goes nodes moment term view uid (Ok (turn.Wait frame)) s0 s2 n0 n1 (visit_in nodes moment term view uid s0)
+        (is2 : kept2 ≡ slice_set kept1 uid (record (kept_at kept1 uid) { memo = Index 0 false })) → Goes nodes moment term view uid (Ok (turn.Wait frame)) s0 s2 n0 n1 (started_in nodes moment term view uid s0)
     asks_waits noted is1 is2 =
         let new : Ok (Index 0 false) ≡ or_bad_port uid (new_memo (kind_of term) (site_at view uid term) (kept_at kept1 uid).memo (state_in nodes s0 moment)) =
         ap (λ (k : Kind). or_bad_port uid (new_memo k (site_at view uid term) (kept_at kept1 uid).memo (state_in nodes s0 moment))) (sym is_asking) in
@@ -230,9 +221,8 @@ module _ (keeps : (t : Term) → Keeps (meaning t) (Sound t)) (nodes : List Node
         let memo_is : (kept_at kept2 uid).memo ≡ Index 0 false = ap (λ (k : Kept). k.memo) (here2 keeps nodes moment term view uid kept kept1 board facts drivers n0 n1 can rests noted is1 kept2 (Index 0 false) is2) in
         let beside : Beside uid 1 kept kept2 =
         beside_both (beside_one kept kept1 uid (record (kept_at kept uid) { status = status.Running }) is1) (beside_one kept1 kept2 uid (record (kept_at kept1 uid) { memo = Index 0 false }) is2) (omega arith) (omega arith) (omega arith) (omega arith) in
-        begun (Ok (turn.Wait frame)) s2 n1
-        (goes_after nodes moment term view uid (Ok (turn.Wait frame)) s0 s2 s2 n0 n1 n1 (started_in nodes moment term view uid s0) (ruled_in nodes moment term view uid s2) started.1
-        (one_within term uid kept kept2 beside) (stays_twice nodes uid kept kept1 kept2 board facts drivers is1 (Index 0 false) is2) (waits started.0 memo_is))
+        goes_after nodes moment term view uid (Ok (turn.Wait frame)) s0 s2 s2 n0 n1 n1 (started_in nodes moment term view uid s0) (ruled_in nodes moment term view uid s2) started.1
+        (one_within term uid kept kept2 beside) (stays_twice nodes uid kept kept1 kept2 board facts drivers is1 (Index 0 false) is2) (waits started.0 memo_is)
 
   -- what is still to come after an answer of that child is less than the visit
   pub asks_less : (a : Answer) → turn_work nodes (turn.GoOn (hears_first uid a)) < turn_work nodes (turn.Enter uid)

@@ -6,21 +6,17 @@ use Rattle.bt_model.specs.declared.memory.Memo.TheVariants.{Index}
 use Rattle.bt_model.specs.declared.moves.Heard.TheVariants.{Answered}
 use Rattle.bt_model.specs.declared.status.Answer.{Answer}
 use Rattle.bt_model.specs.declared.term.Kind.TheVariants.{Leaf, ReactiveFallback}
-use Rattle.bt_model.specs.Shapes.{is_running}
 use Rattle.bt_arena.specs.declared.frame.Frame.{Frame}
-use Rattle.bt_arena.specs.declared.nodes.Kept.{Kept}
 use Rattle.bt_arena.specs.declared.nodes.Node.{Node}
-use Rattle.bt_arena.specs.Nodes.{kept_at, node_at}
+use Rattle.bt_arena.specs.Nodes.{node_at}
 use Rattle.bt_tick.specs.Machine.{Step, Turn}
 use Rattle.bt_tick.specs.Machine as turn
 
--- a ReactiveFallback at rest whose first child is a leaf, and no guard of either comes before a visit
-pub record AsksFirst (nodes : List Node) (kept : List Kept) (uid : ℕ) : Type 0 where
+-- a ReactiveFallback whose first child is a leaf, before whose visit no guard comes
+pub record AsksFirst (nodes : List Node) (uid : ℕ) : Type 0 where
   pub kind : (node_at nodes uid).kind ≡ ReactiveFallback
-  pub rests : is_running (kept_at kept uid).status ≡ false
-  pub unguarded : (node_at nodes uid).guards.before ≡ false
   pub leaf : (node_at nodes (uid + 1)).kind ≡ Leaf
-  pub leaf_unguarded : (node_at nodes (uid + 1)).guards.before ≡ false
+  pub unguarded : (node_at nodes (uid + 1)).guards.before ≡ false
 
 -- a visit that is at its end with this answer, or stopped
 abbrev pub back_with : Result Answer (Stop NodeFault) → Result Turn (Stop NodeFault)

@@ -360,6 +360,10 @@ CanFollowOn states s uid term view = CanFollow s.nodes.now s.moment term view ui
 abbrev pub visit_on : {D : Type 0} → (D → List DriverState) → Stage D → ℕ → Term → View → Done Answer Memory
 visit_on states s uid term view = visit_in s.nodes.now s.moment term view uid (scene_on states s)
 
+-- its visit, from its start on
+abbrev pub started_on : {D : Type 0} → (D → List DriverState) → Stage D → ℕ → Term → View → Done Answer Memory
+started_on states s uid term view = started_in s.nodes.now s.moment term view uid (scene_on states s)
+
 -- On the way from one stage to the other a turn of its visit was made, or stopped.
 abbrev pub TakesTurn : {D : Type 0} → (D → List DriverState) → Stage D → Stage D → ℕ → Term → View → Result Turn (Stop NodeFault) → Done Answer Memory → Type 0
 TakesTurn states old new uid term view result whole =

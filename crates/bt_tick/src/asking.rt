@@ -4,11 +4,12 @@ ghost use Rattle.bt_model.specs.declared.status.Answer.{Answer as AnswerGiven};
 ghost use Rattle.bt_model.specs.declared.term.Kind.TheVariants.{Leaf, ReactiveFallback};
 ghost use Rattle.bt_model.specs.declared.term.Term.{Term};
 ghost use Rattle.bt_model.specs.Done.{Done};
+ghost use Rattle.bt_model.specs.Shapes.{is_running};
 ghost use Rattle.bt_model.specs.Sites.{View};
 ghost use Rattle.bt_arena.specs.Nodes.{kept_at, node_at};
 ghost use Rattle.bt_arena.specs.Stages.{IsSame};
 ghost use Rattle.bt_tick.specs.Asking.{AsksFirst, back_with, hears_first, waits_first};
-ghost use Rattle.bt_tick.specs.Turns.{CanVisitOn, LeavesLess, StepsOn, TakesTurn, turned, visit_on};
+ghost use Rattle.bt_tick.specs.Turns.{CanVisitOn, LeavesLess, StepsOn, TakesTurn, started_on, turned, visit_on};
 
 use crate::machine::Entered;
 use bt_arena::{ReadyGuards, Stage, node, set_memo, set_status};
@@ -26,22 +27,18 @@ fn come_after(guards: &ReadyGuards) -> bool
     !guards.before
 }
 
-/// Whether the node with this uid asks first: it is a ReactiveFallback at rest whose first child is
-/// a leaf, and no guard of either comes before a visit. Trees that are grown for goals are made of
-/// such nodes.
+/// Whether the node with this uid asks first: it is a ReactiveFallback whose first child is a leaf,
+/// before whose visit no guard comes. Trees that are grown for goals are made of such nodes.
 #[inline(always)]
 pub(crate) fn asks_first<D: Drivers>(stage: &Stage<D>, uid: u32) -> bool
     requires can { (term : Term) × (view : View) × CanVisitOn D.states stage.now uid term view }
-    ensures { IsTrue result → AsksFirst stage.now.nodes.now stage.now.kept.now uid }
+    ensures { IsTrue result → AsksFirst stage.now.nodes.now uid }
 {
     let here = node(stage.nodes, uid);
     match here.kind {
         Kind::ReactiveFallback => {
             let child = node(stage.nodes, uid + 1);
-            !matches!(stage.kept[uid as usize].status, Status::Running)
-                && come_after(here.guards.get())
-                && matches!(child.kind, Kind::Leaf)
-                && come_after(child.guards.get())
+            matches!(child.kind, Kind::Leaf) && come_after(child.guards.get())
         }
         _ => false,
     }
@@ -52,9 +49,10 @@ pub(crate) fn asks_first<D: Drivers>(stage: &Stage<D>, uid: u32) -> bool
 #[inline(always)]
 fn start_asking<D: Drivers>(stage: &mut Stage<D>, uid: u32) -> Result<(), Stop<NodeFault>>
     requires can { (term : Term) × (view : View) × CanVisitOn D.states stage.old uid term view }
-    requires asks { AsksFirst stage.old.nodes.now stage.old.kept.now uid }
+    requires rests { is_running (kept_at stage.old.kept.now uid).status ≡ false }
+    requires asks { AsksFirst stage.old.nodes.now uid }
     ensures goes { (term : Term) (view : View) → CanVisitOn D.states stage.old uid term view →
-        TakesTurn D.states stage.old stage.new uid term view (waits_first uid result) (visit_on D.states stage.old uid term view) }
+        TakesTurn D.states stage.old stage.new uid term view (waits_first uid result) (started_on D.states stage.old uid term view) }
     ensures memo { OnOk result ((kept_at stage.new.kept.now uid).memo ≡ Memo.Index 0 false) }
     ensures same { IsSame stage.old stage.new }
     ensures reserve { stage.new.notes.now.reserve ≡ stage.old.notes.now.reserve }
@@ -102,16 +100,18 @@ fn settle<D: Drivers>(stage: &mut Stage<D>, uid: u32) -> Result<Answer, Stop<Nod
     end_visit(stage, uid, Answer::Success, Memo::Nothing)
 }
 
-/// Visits the node with this uid, which asks first: where its first child answers SUCCESS, it has
-/// answered, and else it goes on with what this child has answered. The error is a fault, or want of
-/// memory. It says what `enter` says of such a node, and costs less.
+/// Starts the node with this uid, which asks first, and visits its first child: where that answers
+/// SUCCESS, the node has answered, and else it goes on with this answer. The error is a fault, or want
+/// of memory. It says what `start` and `begin_rule` say of such a node, and spares its frame and most
+/// of its turns.
 #[inline(always)]
 pub(crate) fn ask<D: Drivers>(stage: &mut Stage<D>, uid: u32) -> Result<Entered, Stop<NodeFault>>
     requires can { (term : Term) × (view : View) × CanVisitOn D.states stage.old uid term view }
-    requires asks { AsksFirst stage.old.nodes.now stage.old.kept.now uid }
+    requires rests { is_running (kept_at stage.old.kept.now uid).status ≡ false }
+    requires asks { AsksFirst stage.old.nodes.now uid }
     ensures goes { (term : Term) (view : View) → CanVisitOn D.states stage.old uid term view →
         TakesTurn D.states stage.old stage.new uid term view
-        (turned uid stage.new.kept.now result) (visit_on D.states stage.old uid term view) }
+        (turned uid stage.new.kept.now result) (started_on D.states stage.old uid term view) }
     ensures same { IsSame stage.old stage.new }
     ensures reserve { OnOk result (stage.new.notes.now.reserve ≡ stage.old.notes.now.reserve) }
     ensures work { LeavesLess uid stage.old stage.new result }

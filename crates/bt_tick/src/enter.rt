@@ -118,6 +118,9 @@ fn begin<D: Drivers>(stage: &mut Stage<D>, uid: u32) -> Result<Entered, Stop<Nod
     if !starts(here.kind, stage.kept[uid as usize].memo) {
         return follow_rule(stage, uid);
     }
+    if asks_first(stage, uid) {
+        return ask(stage, uid);
+    }
     start(stage, uid)?;
     // A node that starts has children.
     begin_rule(stage, uid)
@@ -156,9 +159,6 @@ pub(crate) fn enter<D: Drivers>(stage: &mut Stage<D>, uid: u32) -> Result<Entere
     ensures reserve { OnOk result (stage.new.notes.now.reserve ≡ stage.old.notes.now.reserve) }
     ensures work { LeavesLess uid stage.old stage.new result }
 {
-    if asks_first(stage, uid) {
-        return ask(stage, uid);
-    }
     match stage.kept[uid as usize].status {
         Status::Running => resume(stage, uid),
         _ => begin(stage, uid),

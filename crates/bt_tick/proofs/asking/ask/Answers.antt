@@ -11,7 +11,7 @@ use Rattle.bt_arena.proofs.Staged.{earlier, same_both}
 use Rattle.bt_laws.proofs.Keeping.{term_keeps}
 use Rattle.bt_tick.specs.Asking.{first_frame, hears_first}
 use Rattle.bt_tick.specs.Machine as turn
-use Rattle.bt_tick.specs.Turns.{CanVisitOn, Goes, visit_on}
+use Rattle.bt_tick.specs.Turns.{CanVisitOn, Goes, started_on}
 use Rattle.bt_tick.proofs.Bounds.{cost_positive}
 use Rattle.bt_tick.proofs.Later.{StepsBy, VisitsBy, can_later, step_later}
 use Rattle.bt_tick.proofs.Moving.{turned_with}
@@ -35,12 +35,12 @@ returns-in_err-answer-clause-goes g c = λ term view can.
 -- the first child has answered, and the node hears it
 hears : (g : Over) (c : In_ok-answer g) (a : Answer) → c.in_ok-answer.answer ≡ a → (term : Term) (view : View) → CanVisitOn g.D.Drivers.states c.args.stage.now c.args.uid term view →
     Goes c.args.stage.now.nodes.now c.args.stage.now.moment term view c.args.uid (Ok (turn.GoOn (hears_first c.args.uid a))) (scene_on g.D.Drivers.states c.args.stage.now) (scene_on g.D.Drivers.states c.visit_leaf.new.stage) c.args.stage.now.notes.now.list c.visit_leaf.new.stage.notes.now.list
-    (visit_on g.D.Drivers.states c.args.stage.now c.args.uid term view)
+    (started_on g.D.Drivers.states c.args.stage.now c.args.uid term view)
 hears g c a is term view can =
     let waits = c.in_ok-start_asking.ensures.goes term view can in
     let goes = earlier c.in_ok-start_asking.ensures.same (VisitsBy g.D.Drivers.states c.start_asking.new.stage c.visit_leaf.new.stage (c.args.uid + 1) (Ok (turn.Back c.in_ok-answer.answer))) c.in_ok-answer.ensures.goes in
     subst (λ (x : Answer). Goes c.args.stage.now.nodes.now c.args.stage.now.moment term view c.args.uid (Ok (turn.GoOn (hears_first c.args.uid x))) (scene_on g.D.Drivers.states c.args.stage.now) (scene_on g.D.Drivers.states c.visit_leaf.new.stage) c.args.stage.now.notes.now.list c.visit_leaf.new.stage.notes.now.list
-    (visit_on g.D.Drivers.states c.args.stage.now c.args.uid term view)) is
+    (started_on g.D.Drivers.states c.args.stage.now c.args.uid term view)) is
     (asked_hears term_keeps _ _ term view (first_frame c.args.uid) _ _ _ _ _ waits _ _ c.in_ok-answer.answer (goes _ _ (asked_can term_keeps _ _ term view (first_frame c.args.uid) _ _ _ _ _ waits)))
 
 -- and keeps the memo of its start

@@ -1,5 +1,4 @@
-use Rattle.std.proofs.Common.{arith}
-use Rattle.bt_tick.proofs.Moving.{as_many_kept, node_there}
+use Rattle.bt_tick.proofs.Moving.{node_there}
 use Rattle.bt_tick.proofs.Questions.{first_there}
 use Rattle.bt_tick.proofs.asking.asks_first.Goals as goal
 
@@ -10,8 +9,3 @@ pub node-child-requires : goal.node-child-requires
 node-child-requires g c =
     let (term, view, can) = c.requires.can in
     first_there term view _ _ _ can.fits c.node-here.result.now c.node-here.ensures c.in-ReactiveFallback.is
-
-pub bounds : goal.bounds
-bounds g c =
-    let (term, view, can) = c.requires.can in
-    omega (arith, node_there can.fits, as_many_kept can.fits)

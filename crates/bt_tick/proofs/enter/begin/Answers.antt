@@ -67,6 +67,26 @@ returns-then-not-starts-clause-goes g c = λ term view can.
     (keeps_so _ _ term view _ _ _ _ _ _ c.args.stage.now.notes.now.list c.in_ok-answer.ensures.slots c.in_ok-answer.field-0 c.in_default.is none) _ _ _
     (c.follow_rule.ensures.goes term view (can_keep term_keeps _ _ term view _ _ still c.requires.rests none))
 
+pub asks_first-requires : goal.asks_first-requires
+asks_first-requires g c =
+    let (term, view, can) = c.requires.can in
+    record { can = (term, view, still_can term_keeps _ _ term view _ _ _ _ _ _ c.in_ok-answer.ensures.slots can) }
+
+pub ask-requires-clause-can : goal.ask-requires-clause-can
+ask-requires-clause-can g c =
+    let (term, view, can) = c.requires.can in
+    (term, view, still_can term_keeps _ _ term view _ _ _ _ _ _ c.in_ok-answer.ensures.slots can)
+
+pub returns-then-asks_first-clause-goes : goal.returns-then-asks_first-clause-goes
+returns-then-asks_first-clause-goes g c = λ term view can.
+    let settled = c.in_ok-answer.ensures.settles (as_node term) view (state_on g.D.Drivers.states c.args.stage.now) (guards_here term view _ _ _ can.fits c.node-here.result.now c.node-here.ensures c.get.result.now c.get.ensures) in
+    let still = still_can term_keeps _ _ term view _ _ _ _ _ _ c.in_ok-answer.ensures.slots can in
+    let b : c.starts.result ≡ true = cc in
+    let start = starts_here can.fits c.node-here.result.now c.node-here.ensures c.starts.result c.starts.ensures ∙ b in
+    begin_goes _ _ term view _ _ _ _ _ _ c.args.stage.now.notes.now.list c.in_ok-answer.ensures.slots c.requires.rests c.in_ok-answer.field-0 settled _
+    (begins_so_far _ _ term view _ _ _ _ _ _ c.args.stage.now.notes.now.list c.in_ok-answer.ensures.slots c.in_ok-answer.field-0 c.in_default.is start) _ _ _
+    (c.ask.ensures.goes term view still)
+
 pub start-requires-clause-can : goal.start-requires-clause-can
 start-requires-clause-can g c =
     let (term, view, can) = c.requires.can in
