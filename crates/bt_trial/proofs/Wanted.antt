@@ -1,5 +1,5 @@
 -- The goals of a valid world have tests, whose facts are there.
-use Rattle.std.proofs.Common.{◌≡◌, ℕ, zero, suc, ◌+◌, ◌<◌, true, List, [], ◌∷◌, ◌++◌, length, map, take, get_or, Option, Some, None, refl, ap, sym, ◌∙◌, subst, inl, inr}
+use Rattle.std.proofs.Common.{arith, ◌≡◌, ℕ, zero, suc, ◌+◌, ◌<◌, true, List, [], ◌∷◌, ◌++◌, length, map, take, get_or, Option, Some, None, refl, ap, sym, ◌∙◌, subst, inl, inr}
 use Rattle.std.specs.Prelude.{option_map, slice_get}
 use Rattle.std.specs.Option.{option_and_then}
 use Rattle.std.proofs.lemmas.List.{map-append, take_more}
@@ -57,6 +57,12 @@ wanted world valid i d within =
 pub have_more : (facts : ℕ) (tests : List Test) (test : Test) → HaveFacts facts tests → test.fact < facts → HaveFacts facts (tests ++ test ∷ [])
 have_more facts [] test have low = (low, tt)
 have_more facts (t ∷ tests) test have low = (have.0, have_more facts tests test have.1 low)
+
+-- a test at a place compares a fact that is there
+pub have_at : (facts : ℕ) (tests : List Test) (place : ℕ) (d : Test) → HaveFacts facts tests → place < length tests → (get_or tests place d).fact < facts
+have_at facts [] place d have within = absurd (omega (arith, within))
+have_at facts (t ∷ tests) zero d have within = have.0
+have_at facts (t ∷ tests) (suc place) d have within = have_at facts tests place d have.1 (omega (arith, within))
 
 -- the tests of one goal more
 pub tests_more : (rows : List Row) (tests : List Test) (goals : List ℕ) (i d : ℕ) (test : Test) → i < length goals → map (λ (t : Test). Some t) tests ≡ map (test_of rows) (take i goals) → test_of rows (get_or goals i d) ≡ Some test →

@@ -1,4 +1,4 @@
-ghost use Rattle.std.specs.Prelude.{◌≡◌, ◌<◌, IfOk, length};
+ghost use Rattle.std.specs.Prelude.{◌≡◌, ◌<◌, IfOk, IsTrue, false, length};
 ghost use Rattle.std.specs.List.{list_all, list_any};
 ghost use Rattle.std.specs.Ordering.{int_cmp};
 ghost use Rattle.bt_script.specs.Operators.{compares};
@@ -61,13 +61,29 @@ fn holds(facts: &FactTable, test: &Test) -> bool
     compares(test.op, facts.get(test.fact), test.value)
 }
 
-/// Whether all tests are true.
-fn all_hold(facts: &FactTable, tests: &[Test]) -> bool
+/// Whether the test at this place is false, where there is one.
+fn fails_at(facts: &FactTable, tests: &[Test], place: usize) -> bool
+    requires { HaveFacts (length facts.now) tests.now }
+    ensures { IsTrue result → list_all (holds facts.now) tests.now ≡ false }
+{
+    match tests.get(place) {
+        Some(test) => !holds(facts, test),
+        None => false,
+    }
+}
+
+/// Whether all tests are true. `doubt` is the place of the first one that was false when this was
+/// asked last. It is looked at first, since mostly it is false still.
+fn all_hold(facts: &FactTable, tests: &[Test], doubt: &mut usize) -> bool
     requires { HaveFacts (length facts.now) tests.now }
     ensures { result ≡ list_all (holds facts.now) tests.now }
 {
-    for test in tests {
+    if fails_at(facts, tests, *doubt) {
+        return false;
+    }
+    for (place, test) in tests.iter().enumerate() {
         if !holds(facts, test) {
+            *doubt = place;
             return false;
         }
     }
@@ -89,13 +105,13 @@ fn has_failed_root(notes: &[Note]) -> bool
 }
 
 /// What a tick that did not fault decides: the goals first, whatever the root answered, and then a
-/// FAILURE of the root.
-pub fn decide(facts: &FactTable, tests: &[Test], notes: &[Note]) -> Verdict
+/// FAILURE of the root. `doubt` is the place of a goal that is looked at first.
+pub fn decide(facts: &FactTable, tests: &[Test], notes: &[Note], doubt: &mut usize) -> Verdict
     requires facts { HaveFacts (length facts.now) tests.now }
     requires once { TellRootOnce notes.now }
     ensures { result ≡ decided (list_all (holds facts.now) tests.now) (list_any is_failed_root notes.now) }
 {
-    if all_hold(facts, tests) {
+    if all_hold(facts, tests, doubt) {
         Verdict::Reaches
     } else if has_failed_root(notes) {
         Verdict::Fails

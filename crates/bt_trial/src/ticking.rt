@@ -32,6 +32,7 @@ fn make_tick<D: Drivers>(
     runs: &mut Runs,
     drivers: &mut D,
     block: &mut Block,
+    doubt: &mut usize,
 ) -> Result<Verdict, Stop<RunFault>>
     ghost of: { Setup }
     requires task { IsTaskOf of.world task.now }
@@ -49,7 +50,8 @@ fn make_tick<D: Drivers>(
         what: What::Tick(1),
     };
     run_event(task.alloc, runs, &event, drivers, block)?;
-    Ok(decide(&runs.facts, task.goals.as_slice(), block.notes.list()))
+    let notes = block.notes.list();
+    Ok(decide(&runs.facts, task.goals.as_slice(), notes, doubt))
 }
 
 /// Whether the tick after so many, which decided so, is the last one of its run.
@@ -82,8 +84,9 @@ pub fn make_ticks<D: Drivers>(
     ensures room { block.new.notes.full ≡ block.old.notes.full }
     ensures roster { IsSameRoster (D.states drivers.old) (D.states drivers.new) }
 {
+    let mut doubt = 0;
     for before in 0..task.pace.ticks {
-        let verdict = make_tick(task, before, runs, drivers, block)?;
+        let verdict = make_tick(task, before, runs, drivers, block, &mut doubt)?;
         if is_last(verdict, before, task.pace.ticks) {
             return Ok(Ticked { before, verdict });
         }

@@ -4,8 +4,8 @@ use Rattle.bt_trial.specs.Modelled.{holds}
 use Rattle.bt_trial.specs.Tasks.{HaveFacts}
 use Rattle.bt_trial.proofs.goals.all_hold.Given as goal
 
-abbrev pub invariant-loop-test : goal.invariant-loop-test
-invariant-loop-test l = record {
-  rest : list_all (holds l.facts) (drop l.test-index l.tests) ≡ list_all (holds l.facts) l.tests;
-  facts : HaveFacts (length l.facts) (drop l.test-index l.tests);
+abbrev pub invariant-loop-place : goal.invariant-loop-place
+invariant-loop-place l = record {
+  rest : list_all (holds l.facts) (drop l.place l.tests) ≡ list_all (holds l.facts) l.tests;
+  facts : HaveFacts (length l.facts) (drop l.place l.tests);
 }

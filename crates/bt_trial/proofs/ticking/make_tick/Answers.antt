@@ -6,7 +6,7 @@ use Rattle.bt_trial.proofs.ticking.make_tick.Goals as goal
 
 pub decide-requires-clause-once : goal.decide-requires-clause-once
 decide-requires-clause-once g c =
-    subst TellRootOnce (sym c.list.ensures)
+    subst TellRootOnce (sym c.list-notes.ensures)
     (tells_once g.of c.args.task.now c.requires.1.0 c.args.before _ _ c.args.runs.now c.run_event.new.runs c.run_event.new.block c.requires.1.1.0 c.in_ok-run_event.ensures.step)
 
 pub returns-in_err-run_event-clause-ends : goal.returns-in_err-run_event-clause-ends
@@ -18,4 +18,4 @@ pub returns-clause-ends : goal.returns-clause-ends
 returns-clause-ends g c =
     has_ticked g.of c.args.task.now c.requires.1.0 c.args.before _ _ c.args.runs.now c.run_event.new.runs c.run_event.new.block c.requires.1.1.0
     c.in_ok-run_event.ensures.step c.in_ok-run_event.ensures.runs c.decide.result
-    (c.decide.ensures ∙ (λ i. decided (list_all (holds c.run_event.new.runs.facts) (c.as_slice.ensures.value i)) (list_any is_failed_root (c.list.ensures i))))
+    (c.decide.ensures ∙ (λ i. decided (list_all (holds c.run_event.new.runs.facts) (c.as_slice.ensures.value i)) (list_any is_failed_root (c.list-notes.ensures i))))
