@@ -1,18 +1,14 @@
 -- The rows of a world can be made ready, and a leaf for which nothing is missing has a place of a driver.
-use Rattle.std.proofs.Common.{◌≡◌, ℕ, ◌+◌, ◌<◌, List, [], ◌∷◌, Bool, true, false, cond, if◌then◌else◌, Option, Some, None, length, subst, arith}
-use Rattle.std.specs.Prelude.{IfSome, find}
+use Rattle.std.proofs.Common.{◌≡◌, ℕ, ◌+◌, ◌<◌, List, [], ◌∷◌, Bool, true, false, if◌then◌else◌, Option, Some, None, length, subst, arith}
 use Rattle.std.specs.List.{All}
 use Rattle.std.specs.Option.{option_map}
-use Rattle.std.specs.Str.{bytes_eq}
 use Rattle.std.proofs.lemmas.List.{length-map}
-use Rattle.std.proofs.lemmas.List.Elements.{All-head, All-tail}
 use Rattle.bt_model.specs.declared.leaf.DriverKind.{DriverKind}
 use Rattle.bt_model.specs.declared.world.Fact.{Fact}
 use Rattle.bt_model.specs.declared.world.Row.{Row}
 use Rattle.bt_model.specs.declared.world.World.{World}
 use Rattle.bt_model.specs.Drivers.{DriverState, kind_of_row, place_of_kind, same_kind}
-use Rattle.bt_model.specs.Leaves.{row_of}
-use Rattle.bt_model.specs.Worlds.{IsValidRow, IsValidWorld}
+use Rattle.bt_model.specs.Worlds.{IsValidWorld}
 use Rattle.bt_driver.proofs.Valid.{can_be_ready}
 use Rattle.bt_driver.specs.Places.{CanBeReady}
 use Rattle.bt_arena.specs.Joins.{place_by}

@@ -21,7 +21,6 @@ use bt_driver::Drivers;
 use bt_model::{Kind, Term};
 use bt_script::{Items, NoMemory, Shared};
 use std::alloc::Global;
-use std::mem::replace;
 
 /// A count as a number of 32 bits. From 2^32 on it is want of memory.
 fn narrow(count: usize) -> Result<u32, NoMemory>
@@ -67,13 +66,6 @@ fn bare_node(
     }
 }
 
-/// Gives a node its leaf.
-fn give_leaf(node: &mut Node, leaf: ReadyLeaf)
-    ensures { node.new ≡ record node.old { leaf = Some leaf } }
-{
-    drop(replace(&mut node.leaf, Some(leaf)));
-}
-
 /// Gives the node of a leaf its leaf. It is not inlined, so that only leaves clear room for one. The
 /// error is want of memory.
 #[inline(never)]
@@ -94,8 +86,7 @@ fn fill_leaf<D: Drivers>(
         IsGivenLeaf (D.states drivers.now) (view_in setting.now.tree.now setting.now.world.now scope) (written (out-Term term.now))
         node.old node.new next.old next.new) }
 {
-    let leaf = leaf_of(term, setting, scope, drivers, next)?;
-    give_leaf(node, leaf);
+    node.leaf = Some(leaf_of(term, setting, scope, drivers, next)?);
     Ok(())
 }
 
@@ -167,7 +158,7 @@ fn complete(node: &mut Node, size: u32, child_uids: Uids)
     ensures { node.new ≡ record node.old { size = size; child_uids = child_uids } }
 {
     node.size = size;
-    drop(replace(&mut node.child_uids, child_uids));
+    node.child_uids = child_uids;
 }
 
 /// Gives the node at this place the uids of its children, and its size: it and all nodes after it.
@@ -226,6 +217,7 @@ fn lay_terms<D: Drivers>(
     ensures uids { IfOk result (λ uids. uids ≡ uids_of terms.now (length nodes.old.items)) }
 {
     let mut uids = Uids::none(setting.alloc);
+    uids.make_room(terms.len())?;
     for term in terms {
         uids.push(narrow(nodes.len())?)?;
         lay_term(term, setting, scope, drivers, next, nodes)?;

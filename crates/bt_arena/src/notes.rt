@@ -1,12 +1,16 @@
 ghost use Rattle.std.specs.Prelude.{◌≡◌, ◌+◌, ◌-◌, ◌<◌, ◌≤◌, [], ◌∷◌, ◌++◌, ℕ, IfOk, OnOk, OnErr, length, take};
 
-use bt_model::Note;
+use bt_model::{Note, Status};
 use bt_script::NoMemory;
 use std::alloc::Global;
 use std::marker::Model;
 
-/// What fills a place that has no note yet.
-const BLANK: Note = Note::Halted { uid: 0 };
+/// What fills a place that has no note yet. All its bytes are 0, so that many places are filled at once.
+const BLANK: Note = Note::Changed {
+    uid: 0,
+    old: Status::Idle,
+    new: Status::Idle,
+};
 
 /// The notes of an event, with reserved room: this many notes can be added without new memory.
 /// Contracts see the notes, the reserve that is left, and the whole reserve.

@@ -39,14 +39,30 @@ impl Uids {
         }
     }
 
-    /// Adds a uid at the end. The error is want of memory, and then nothing changes.
+    /// Makes room for this many more, where they are too many to stand in the value itself. The error is
+    /// want of memory.
+    pub fn make_room(&mut self, count: usize) -> Result<(), NoMemory>
+        ensures { self.new ≡ self.old }
+    {
+        if count > FEW {
+            self.more.reserve(count)?;
+        }
+        Ok(())
+    }
+
+    /// Adds a uid at the end: in the value itself as long as no room was made apart. The error is want of
+    /// memory, and then nothing changes.
     pub fn push(&mut self, uid: u32) -> Result<(), NoMemory>
         ensures added { OnOk result (self.new ≡ self.old ++ uid ∷ []) }
         ensures kept { OnErr result (self.new ≡ self.old) }
     {
-        if self.len < FEW && self.more.is_empty() {
+        if self.more.capacity() == 0 && self.len < FEW {
             self.few[self.len] = uid;
             self.len += 1;
+            return Ok(());
+        }
+        if self.len == 0 && self.more.len() < self.more.capacity() {
+            self.more.push_reserved(uid);
             return Ok(());
         }
         self.push_apart(uid)

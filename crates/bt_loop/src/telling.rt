@@ -11,7 +11,7 @@ use bt_script::{NoMemory, Value};
 use std::alloc::Global;
 
 /// How many facts are compared at once.
-const GROUP: usize = 4;
+const GROUP: usize = 8;
 
 /// Adds a fact to the changes where it differs from what was told, and records it as told. The
 /// error is want of memory.
@@ -51,13 +51,22 @@ fn tell_each(
     Ok(())
 }
 
-/// Whether a group of facts is as it was told, with no branch for each of them.
+/// Whether four facts are as they were told, with no branch for each of them.
 #[inline]
-fn same_group(told: &[i64], facts: &[i64]) -> bool
+fn same_four(told: &[i64], facts: &[i64]) -> bool
     requires { (length told.now ≡ 4) × (length facts.now ≡ 4) }
     ensures { IsTrue result → told.now ≡ facts.now }
 {
     (told[0] == facts[0]) & (told[1] == facts[1]) & (told[2] == facts[2]) & (told[3] == facts[3])
+}
+
+/// Whether a group of facts is as it was told.
+#[inline]
+fn same_group(told: &[i64], facts: &[i64]) -> bool
+    requires { (length told.now ≡ 8) × (length facts.now ≡ 8) }
+    ensures { IsTrue result → told.now ≡ facts.now }
+{
+    same_four(&told[..4], &facts[..4]) & same_four(&told[4..], &facts[4..])
 }
 
 /// What `tell_each` does, for a group of facts, of which mostly none has changed.
@@ -68,8 +77,8 @@ fn tell_group(
     facts: &[i64],
     changes: &mut Vec<(u32, i64)>,
 ) -> Result<(), NoMemory>
-    requires group { (length told.old ≡ 4) × (length facts.now ≡ 4) }
-    requires few { first + 4 < 2 ^ 32 }
+    requires group { (length told.old ≡ 8) × (length facts.now ≡ 8) }
+    requires few { first + 8 < 2 ^ 32 }
     ensures changes { OnOk result (changes.new.items ≡ changes.old.items ++ changed_from first told.old facts.now) }
     ensures told { OnOk result (told.new ≡ facts.now) }
 {

@@ -84,12 +84,17 @@ fn answer_where(holds: bool) -> Answer
     }
 }
 
-/// Visits the node with this uid, which has no children, up to its answer: a leaf's driver is
-/// called, a script node runs its code, and AlwaysSuccess and AlwaysFailure answer as their names
-/// say. The memo stays as it was. The error is a fault of the node, or want of memory.
+/// Visits the node with this uid and of this kind, which has no children, up to its answer: a leaf's
+/// driver is called, a script node runs its code, and AlwaysSuccess and AlwaysFailure answer as their
+/// names say. The memo stays as it was. The error is a fault of the node, or want of memory.
 #[inline(always)]
-fn lone_rule<D: Drivers>(stage: &mut Stage<D>, uid: u32) -> Result<Answer, Stop<NodeFault>>
-    requires alone { class_of (node_at stage.old.nodes.now uid).kind ≡ AloneClass }
+fn lone_rule<D: Drivers>(
+    stage: &mut Stage<D>,
+    uid: u32,
+    kind: Kind,
+) -> Result<Answer, Stop<NodeFault>>
+    requires kind { kind ≡ (node_at stage.old.nodes.now uid).kind }
+    requires alone { class_of kind ≡ AloneClass }
     requires fits { (term : Term-F Meaning) × (view : View) × FitsHereOn D.states stage.old uid term view }
     requires phase { PhaseOn D.states stage.old uid }
     ensures meets { (term : Term-F Meaning) (view : View) (ms : List Memory) → FitsHereOn D.states stage.old uid term view →
@@ -101,7 +106,7 @@ fn lone_rule<D: Drivers>(stage: &mut Stage<D>, uid: u32) -> Result<Answer, Stop<
     ensures reserve { OnOk result (stage.new.notes.now.reserve ≡ stage.old.notes.now.reserve) }
 {
     let node = node(stage.nodes, uid);
-    match node.kind {
+    match kind {
         Kind::Leaf => match &node.leaf {
             Some(leaf) => leaf_call(stage, leaf, uid),
             None => Ok(Answer::Skipped),
@@ -114,11 +119,17 @@ fn lone_rule<D: Drivers>(stage: &mut Stage<D>, uid: u32) -> Result<Answer, Stop<
     }
 }
 
-/// Visits the node with this uid, which has no children and is not kept from its visit by a guard,
-/// and ends the visit. The error is a fault of the node, or want of memory.
+/// Visits the node with this uid and of this kind, which has no children and is not kept from its
+/// visit by a guard, and ends the visit. It is inlined, so that a caller who knows the kind visits
+/// without a test for it. The error is a fault of the node, or want of memory.
 #[inline(always)]
-pub fn visit_alone<D: Drivers>(stage: &mut Stage<D>, uid: u32) -> Result<Answer, Stop<NodeFault>>
-    requires alone { class_of (node_at stage.old.nodes.now uid).kind ≡ AloneClass }
+pub fn visit_alone<D: Drivers>(
+    stage: &mut Stage<D>,
+    uid: u32,
+    kind: Kind,
+) -> Result<Answer, Stop<NodeFault>>
+    requires kind { kind ≡ (node_at stage.old.nodes.now uid).kind }
+    requires alone { class_of kind ≡ AloneClass }
     requires fits { (term : Term) × (view : View) × FitsOn D.states stage.old uid term view }
     requires phase { PhaseOn D.states stage.old uid }
     ensures meets { (term : Term) (view : View) → FitsOn D.states stage.old uid term view →
@@ -126,6 +137,6 @@ pub fn visit_alone<D: Drivers>(stage: &mut Stage<D>, uid: u32) -> Result<Answer,
     ensures keeps { Keeps D.states uid 1 stage.old stage.new }
     ensures reserve { OnOk result (stage.new.notes.now.reserve ≡ stage.old.notes.now.reserve) }
 {
-    let answer = lone_rule(stage, uid)?;
+    let answer = lone_rule(stage, uid, kind)?;
     end_visit(stage, uid, answer, Memo::Nothing)
 }

@@ -84,7 +84,10 @@ fn list_spots(
             part: node.part,
             level,
         })?;
-        list_spots(nodes, &node.children, level + 1, levels - 1, spots)?;
+        // More than half of the nodes have no children, and cost no call.
+        if !node.children.is_empty() {
+            list_spots(nodes, &node.children, level + 1, levels - 1, spots)?;
+        }
     }
     Ok(())
 }

@@ -13,6 +13,7 @@ use Rattle.bt_arena.specs.Nodes.{node_at}
 use Rattle.bt_arena.specs.Stands.{Beside, StandAll, Stands, uid_of, uids_of}
 use Rattle.bt_arena.proofs.Framed.{all_sizes, sizes_cons}
 use Rattle.bt_arena.proofs.Opened.{opened, size_out}
+use Rattle.bt_halting.proofs.Memories.{uids_at, uids_many}
 use Rattle.bt_laws.proofs.Children.{Family, Keeps}
 use Rattle.bt_laws.proofs.Induction.{rules_of_terms}
 use Rattle.bt_laws.proofs.Keeping.{family}
@@ -46,16 +47,6 @@ child_seen view (c ∷ cs) (suc place) uid first t within =
     let index : first + 1 + place ≡ first + suc place = omega arith in
     child_seen view cs place (uid + (meaning c).size) (first + 1) t (omega (arith, within))
     ∙ (λ i. child_of view (meaning (get_or cs place t)) (uid_following c cs place uid i) (index i))
-
--- the uids of children by their places
-uids_at : (ts : List Term) (place uid : ℕ) → place < length ts → get_or (uids_of ts uid) place 0 ≡ uid_of ts uid place
-uids_at [] place uid within = absurd (omega (arith, within))
-uids_at (c ∷ cs) zero uid within = omega arith
-uids_at (c ∷ cs) (suc place) uid within = uids_at cs place (uid + (meaning c).size) (omega (arith, within)) ∙ uid_following c cs place uid
-
-uids_many : (ts : List Term) (uid : ℕ) → length (uids_of ts uid) ≡ length ts
-uids_many [] uid = refl
-uids_many (c ∷ cs) uid = ap suc (uids_many cs (uid + (meaning c).size))
 
 -- a node that stands has the uid of each child
 pub child_found : (t : Term) (nodes : List Node) (view : View) (uid place : ℕ) (here : Node) → Stands t nodes view uid → here ≡ node_at nodes uid → place < length (out-Term t).children →

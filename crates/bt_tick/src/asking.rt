@@ -1,4 +1,4 @@
-ghost use Rattle.std.specs.Prelude.{◌≡◌, IsTrue, OnOk, false};
+ghost use Rattle.std.specs.Prelude.{◌≡◌, IsTrue, OnOk, false, not};
 ghost use Rattle.bt_model.specs.declared.memory.Memory.{Memory};
 ghost use Rattle.bt_model.specs.declared.status.Answer.{Answer as AnswerGiven};
 ghost use Rattle.bt_model.specs.declared.term.Kind.TheVariants.{Leaf, ReactiveFallback};
@@ -22,7 +22,7 @@ use bt_script::Stop;
 /// Whether none of these guards comes before a visit, whether it begins or goes on.
 #[inline(always)]
 fn come_after(guards: &ReadyGuards) -> bool
-    ensures { IsTrue result → guards.now.before ≡ false }
+    ensures { result ≡ not guards.now.before }
 {
     !guards.before
 }
@@ -32,7 +32,8 @@ fn come_after(guards: &ReadyGuards) -> bool
 #[inline(always)]
 pub(crate) fn asks_first<D: Drivers>(stage: &Stage<D>, uid: u32) -> bool
     requires can { (term : Term) × (view : View) × CanVisitOn D.states stage.now uid term view }
-    ensures { IsTrue result → AsksFirst stage.now.nodes.now uid }
+    ensures asks { IsTrue result → AsksFirst stage.now.nodes.now uid }
+    ensures all { AsksFirst stage.now.nodes.now uid → IsTrue result }
 {
     let here = node(stage.nodes, uid);
     match here.kind {
@@ -80,7 +81,7 @@ fn visit_leaf<D: Drivers>(stage: &mut Stage<D>, uid: u32) -> Result<Answer, Stop
     ensures same { IsSame stage.old stage.new }
     ensures reserve { OnOk result (stage.new.notes.now.reserve ≡ stage.old.notes.now.reserve) }
 {
-    visit_alone(stage, uid)
+    visit_alone(stage, uid, Kind::Leaf)
 }
 
 /// Ends the visit of the node with this uid, which asked first, after the answer SUCCESS: all its

@@ -61,8 +61,9 @@ fn follow_rule<D: Drivers>(stage: &mut Stage<D>, uid: u32) -> Result<Entered, St
     ensures reserve { OnOk result (stage.new.notes.now.reserve ≡ stage.old.notes.now.reserve) }
     ensures work { LeavesLess uid stage.old stage.new result }
 {
-    if !has_rule(node(stage.nodes, uid).kind) {
-        let answer = visit_alone(stage, uid)?;
+    let kind = node(stage.nodes, uid).kind;
+    if !has_rule(kind) {
+        let answer = visit_alone(stage, uid, kind)?;
         return Ok(Entered::Answers(answer));
     }
     begin_rule(stage, uid)

@@ -143,7 +143,8 @@ fn reach_child<D: Drivers>(
 /// name. After any answer the marks of the arena say which instances are held, and the reserve of
 /// the notes is not smaller. `frames` is the stack of the nodes with children whose visits are under
 /// way, the one that goes on topmost; what is on it before is dropped. Nodes that answer at once, as
-/// leaves, have no frame. It is inlined where it is called, so that the parts of the stage are at hand.
+/// leaves, have no frame. It is marked to be inlined, so that the parts of the stage are at hand where it
+/// is called; the toolchain may drop the mark from a function of this length.
 #[inline(always)]
 pub fn tick<D: Drivers>(
     stage: &mut Stage<D>,

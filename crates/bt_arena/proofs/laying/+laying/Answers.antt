@@ -84,7 +84,7 @@ pub lay_terms-loop-term-init : goal.lay_terms-loop-term-init
 lay_terms-loop-term-init g t c = record {
   can = c.requires.can;
   whole = λ new left laid. laid;
-  uids = ap (λ (us : List ℕ). us ++ uids_of c.args.terms.now (length c.args.nodes.now.items)) c.none-uids.ensures;
+  uids = ap (λ (us : List ℕ). us ++ uids_of c.args.terms.now (length c.args.nodes.now.items)) (c.make_room.ensures ∙ c.none-uids.ensures);
   places = c.requires.places;
 }
 

@@ -1,8 +1,7 @@
-use Rattle.std.proofs.Common.{◌≡◌, List, ◌∷◌, [], ◌++◌, take, sym, ap, subst, ◌∙◌}
+use Rattle.std.proofs.Common.{List, ◌∷◌, [], ◌++◌, take, sym, ap, subst, ◌∙◌}
 use Rattle.std.proofs.lemmas.List.{take_all, take_more}
 use Rattle.bt_model.specs.declared.world.Row.{Row}
 use Rattle.bt_driver.specs.Places.{CanBeReady}
-use Rattle.bt_driver.specs.declared.row.ReadyRow.{ReadyRow}
 use Rattle.bt_arena.specs.Rows.{AreReady, IsReadyRow}
 use Rattle.bt_arena.proofs.Readied.{ready_more}
 use Rattle.bt_arena.proofs.rows.ready_rows.Goals as goal

@@ -1,4 +1,4 @@
-use Rattle.std.proofs.Common.{◌≡◌, ◌≤◌, ◌+◌, ◌<◌, ℕ, List, Ok, Err, get_or, refl, sym, ap, subst, ◌∙◌, arith}
+use Rattle.std.proofs.Common.{◌≡◌, ◌≤◌, ◌+◌, ◌<◌, ℕ, List, Ok, Err, get_or, refl, rules, sym, ap, subst, ◌∙◌, arith}
 use Rattle.bt_script.specs.declared.stop.Stop.TheVariants as stop
 use Rattle.bt_model.specs.declared.status.Status.TheVariants.{Idle}
 use Rattle.bt_model.specs.declared.term.Term.{out-Term}
@@ -196,8 +196,8 @@ reset_children-overflow_cast-place g t c =
     let is = c.list-children.ensures ∙ ap (λ (n : Node). n.child_uids) c.node.ensures in
     omega (arith, c.loop-place-test.true, many f.0 f.1 c.args.uid nodes _ f.2 uids is, children_few f.0 f.1 c.args.uid nodes _ f.2, all_there f.0 f.1 c.args.uid nodes _ f.2, f.2.few)
 
-pub reset-bounds : goal.reset-bounds
-reset-bounds g t c = let f = c.requires.fits in kept_there f.0 f.1 c.args.uid c.args.stage.now.nodes.now _ f.2
+pub reset-bounds-stage-uid : goal.reset-bounds-stage-uid
+reset-bounds-stage-uid g t c = let f = c.requires.fits in kept_there f.0 f.1 c.args.uid c.args.stage.now.nodes.now _ f.2
 
 pub reset-become_idle-requires : goal.reset-become_idle-requires
 reset-become_idle-requires g t c = let f = c.requires.fits in kept_there f.0 f.1 c.args.uid c.args.stage.now.nodes.now _ f.2
@@ -241,6 +241,7 @@ pub reset-returns-in-Running-clause-meets : goal.reset-returns-in-Running-clause
 reset-returns-in-Running-clause-meets g t c = λ term view fits.
     rw (reset_of_running term view c.args.uid c.args.stage.now.kept.now _ c.in-Running.is) (c.halt_here.ensures.meets term view fits)
 
-pub reset-returns-in-Idle-clause-meets : goal.reset-returns-in-Idle-clause-meets
-reset-returns-in-Idle-clause-meets g t c = λ term view fits.
-    idle_left c.args.stage.now.nodes.now c.args.stage.now.moment term view c.args.uid _ _ c.in-Idle.is (kept_there term view c.args.uid c.args.stage.now.nodes.now _ fits)
+pub reset-returns-then-eq-clause-meets : goal.reset-returns-then-eq-clause-meets
+reset-returns-then-eq-clause-meets g t c = λ term view fits.
+    let idle : (kept_at c.args.stage.now.kept.now c.args.uid).status ≡ Idle = search rules in
+    idle_left c.args.stage.now.nodes.now c.args.stage.now.moment term view c.args.uid _ _ idle (kept_there term view c.args.uid c.args.stage.now.nodes.now _ fits)

@@ -8,12 +8,12 @@ loop-first-preserved c =
     let l = c.loop-first in
     let olds = c.args.told.now in
     let news = c.args.facts.now in
-    let n = l.first + 4 - l.first in
-    let is_end : l.first + 4 ≡ l.first + n = omega arith in record {
+    let n = l.first + 8 - l.first in
+    let is_end : l.first + 8 ≡ l.first + n = omega arith in record {
       within = omega (arith, c.loop-first-test.true, l.invariant.within);
-      changes = group_changes olds news l.told l.first l.invariant.within l.invariant.told n (l.first + 4) is_end l.changes.items c.tell_group.new.changes.items _ l.invariant.changes
+      changes = group_changes olds news l.told l.first l.invariant.within l.invariant.told n (l.first + 8) is_end l.changes.items c.tell_group.new.changes.items _ l.invariant.changes
           c.in_ok-tell_group.ensures.changes;
-      told = group_told olds news l.told l.first l.invariant.within l.invariant.told n (l.first + 4) is_end c.tell_group.new.told c.in_ok-tell_group.ensures.told;
+      told = group_told olds news l.told l.first l.invariant.within l.invariant.told n (l.first + 8) is_end c.tell_group.new.told c.in_ok-tell_group.ensures.told;
     }
 
 pub returns-clause-changes : goal.returns-clause-changes

@@ -44,7 +44,7 @@ returns-in-ScriptNode-clause-meets g c = λ term view ms fits.
     let s = c.args.stage.now in
     let before = scene_on g.D.Drivers.states s in
     let after = scene s.kept.now c.script_node.new.board s.facts.now (g.D.Drivers.states s.drivers.now) in
-    let kind = sym c.in-ScriptNode.is ∙ ap (λ (n : Node). n.kind) c.node-node.ensures ∙ fits.node.kind in
+    let kind = sym c.in-ScriptNode.is ∙ c.requires.kind ∙ fits.node.kind in
     subst (λ (k : Kind). Meets s.nodes.now s.moment (λ _. ms) (as_given c.script_node.result) before after s.notes.now.list s.notes.now.list (node_rule k (site_of term view c.args.uid) (kept_at s.kept.now c.args.uid).status (kept_at s.kept.now c.args.uid).memo ms (state_on g.D.Drivers.states s))) kind
     (settles_met s.nodes.now s.moment ms _ before after _ _ refl (c.script_node.ensures.settles term view term.code ms (state_on g.D.Drivers.states s) (subst (λ (n : Node). IsCompiled view term.code n.code) (sym c.node-node.ensures) fits.node.code)))
 
@@ -53,6 +53,6 @@ returns-in-ScriptCondition-clause-meets g c = λ term view ms fits.
     let s = c.args.stage.now in
     let before = scene_on g.D.Drivers.states s in
     let after = scene s.kept.now c.script_condition.new.board s.facts.now (g.D.Drivers.states s.drivers.now) in
-    let kind = sym c.in-ScriptCondition.is ∙ ap (λ (n : Node). n.kind) c.node-node.ensures ∙ fits.node.kind in
+    let kind = sym c.in-ScriptCondition.is ∙ c.requires.kind ∙ fits.node.kind in
     subst (λ (k : Kind). Meets s.nodes.now s.moment (λ _. ms) (as_given c.script_condition.result) before after s.notes.now.list s.notes.now.list (node_rule k (site_of term view c.args.uid) (kept_at s.kept.now c.args.uid).status (kept_at s.kept.now c.args.uid).memo ms (state_on g.D.Drivers.states s))) kind
     (settles_met s.nodes.now s.moment ms _ before after _ _ refl (c.script_condition.ensures.settles term view term.code ms (state_on g.D.Drivers.states s) (subst (λ (n : Node). IsCompiled view term.code n.code) (sym c.node-node.ensures) fits.node.code)))
