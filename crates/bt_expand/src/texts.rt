@@ -23,14 +23,16 @@ fn word_at(text: &[u8], at: usize) -> u64
 #[inline]
 fn same_word(one: &[u8], other: &[u8], at: usize) -> bool
     requires { (at + 8 ≤ length one.now) × (at + 8 ≤ length other.now) }
-    ensures { IsTrue result → take 8 (drop at one.now) ≡ take 8 (drop at other.now) }
+    ensures same { IsTrue result → take 8 (drop at one.now) ≡ take 8 (drop at other.now) }
+    ensures all { take 8 (drop at one.now) ≡ take 8 (drop at other.now) → IsTrue result }
 {
     word_at(one, at) == word_at(other, at)
 }
 
 /// Whether two texts are equal.
 pub(crate) fn same_text(one: &[u8], other: &[u8]) -> bool
-    ensures { IsTrue result → one.now ≡ other.now }
+    ensures same { IsTrue result → one.now ≡ other.now }
+    ensures all { one.now ≡ other.now → IsTrue result }
 {
     if one.len() != other.len() {
         return false;

@@ -85,9 +85,10 @@ fn list_spots(
             level,
         })?;
         // More than half of the nodes have no children, and cost no call.
-        if !node.children.is_empty() {
-            list_spots(nodes, &node.children, level + 1, levels - 1, spots)?;
+        if node.children.is_empty() {
+            continue;
         }
+        list_spots(nodes, &node.children, level + 1, levels - 1, spots)?;
     }
     Ok(())
 }

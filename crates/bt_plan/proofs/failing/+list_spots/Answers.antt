@@ -1,4 +1,6 @@
-use Rattle.std.proofs.Common.{◌++◌, ℕ, List, ap, sym, ◌∙◌, subst, arith, append-nil}
+use Rattle.std.proofs.Common.{◌≡◌, ◌+◌, ◌++◌, ℕ, List, [], length, ap, sym, ◌∙◌, subst, arith, append-nil}
+use Rattle.std.proofs.lemmas.Bool.{eqb-true}
+use Rattle.std.proofs.lemmas.List.{nil_from_length}
 use Rattle.bt_expand.specs.Stands.{Stands}
 use Rattle.bt_expand.proofs.Split.{no_levels, stands_none}
 use Rattle.bt_expand.proofs.Walked.{no_node}
@@ -24,3 +26,13 @@ loop-key-preserved t c =
     next_spots c.args.nodes.now c.args.keys.now c.loop-key.key-index c.loop-key-test.true c.args.levels (omega (arith, c.if-levels-eq0.false)) c.args.level c.args.spots.now.items c.loop-key.spots.items
     c.push.new.self.items c.list_spots.new.spots.items c.loop-key.invariant c.in-Some.node.now (sym c.in-Some.ensures) c.in_ok-push.ensures.items
     (λ above g under lower. c.in_ok-list_spots.ensures above g (subst (λ (l : List ℕ). Stands c.args.nodes.now above l g) (sym c.deref.ensures) under) lower)
+
+-- a node without children has no nodes below it
+pub loop-key-preserved-then-is_empty : goal.loop-key-preserved-then-is_empty
+loop-key-preserved-then-is_empty t c =
+    let pushed = c.push.new.self.items in
+    let none : length c.in-Some.node.now.children.items ≡ 0 = omega (arith, eqb-true _ 0 (sym c.is_empty.ensures ∙ c.if-is_empty.true)) in
+    let empty : c.in-Some.node.now.children.items ≡ [] = nil_from_length _ none in
+    next_spots c.args.nodes.now c.args.keys.now c.loop-key.key-index c.loop-key-test.true c.args.levels (omega (arith, c.if-levels-eq0.false)) c.args.level c.args.spots.now.items c.loop-key.spots.items
+    pushed pushed c.loop-key.invariant c.in-Some.node.now (sym c.in-Some.ensures) c.in_ok-push.ensures.items
+    (λ above g under lower. sym (append-nil pushed) ∙ ap (λ (h : Forest). pushed ++ spots_from (c.args.level + 1) h) (sym (stands_none c.args.nodes.now above g (subst (λ (l : List ℕ). Stands c.args.nodes.now above l g) empty under))))
