@@ -5,7 +5,7 @@ use bt_script::NoMemory;
 use std::alloc::Global;
 use std::marker::Model;
 
-/// What fills a place that has no note yet. All its bytes are 0, so that many places are filled at once.
+/// What fills a place that has no note yet.
 const BLANK: Note = Note::Changed {
     uid: 0,
     old: Status::Idle,
