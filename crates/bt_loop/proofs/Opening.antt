@@ -28,6 +28,7 @@ use Rattle.bt_arena.proofs.Prepared.{numbered_are_served}
 use Rattle.bt_arena.proofs.Static.{size_is}
 use Rattle.bt_loop.specs.declared.runs.ReadyRunner.{ReadyRunner}
 use Rattle.bt_loop.specs.declared.runs.Runs.{Runs}
+use Rattle.bt_loop.specs.Begun.{AreBegun}
 use Rattle.bt_loop.specs.Opening.{AreOpeningRuns, IsOpening}
 use Rattle.bt_loop.specs.Runs.{AreRuns, HeldAreTheirs, RunnerFits, arenas_in, arenas_of, instances_wanted, roster_over, runner_in, runners_in, state_of_runs}
 use Rattle.bt_loop.specs.Served.{calls_made, serving_places}
@@ -132,7 +133,7 @@ module _ (tree : Tree) (world : World) (drivers : List DriverState) where
     runners_are = map_to (runner_in tree.term now) (fresh_runner tree) runners (λ k r at. runner_is (k + 1) r (are.runners k r at)) ∙ ap (λ n. replicate n (fresh_runner tree)) are.many
 
     -- their state is the opening one
-    pub opening_state : state_of_runs tree.term now runs ≡ opening tree world
+    opening_state : state_of_runs tree.term now runs ≡ opening tree world
     opening_state = λ i. record { runners = runners_are i; facts = are.facts i; last = are.last i }
 
     theirs : HeldAreTheirs (arenas_in runners) now
@@ -142,7 +143,7 @@ module _ (tree : Tree) (world : World) (drivers : List DriverState) where
     as_many_facts = ap (λ (fs : List ℤ). length fs) are.facts ∙ length-map world.facts (λ (f : Fact). f.opening)
 
     -- they are runs
-    pub opening_runs : IsRunnable tree → IsValidWorld world → AreRuns tree world now runs
+    opening_runs : IsRunnable tree → IsValidWorld world → AreRuns tree world now runs
     opening_runs runnable valid_world = record {
       usable = are.usable;
       fit = record {
@@ -160,7 +161,16 @@ module _ (tree : Tree) (world : World) (drivers : List DriverState) where
     }
 
     -- the calls of their runners are those that the tree and the world give
-    pub opening_calls : IsValidWorld world → (calls : List RunnerCall) (ds : List DriverState) → roster_over (arenas_of runs) calls ds ≡ calls_made world.runners (serving_places tree world drivers) calls ds
+    opening_calls : IsValidWorld world → (calls : List RunnerCall) (ds : List DriverState) → roster_over (arenas_of runs) calls ds ≡ calls_made world.runners (serving_places tree world drivers) calls ds
     opening_calls valid_world calls ds =
         calls_are tree world drivers runners are.runners (omega (arith, are.many, valid_world.some_runner)) calls ds
         ∙ ap (λ n. calls_made n (serving_places tree world drivers) calls ds) are.many
+
+    -- all of it
+    pub are_begun : IsRunnable tree → IsValidWorld world → AreBegun tree world drivers now runs
+    are_begun runnable valid_world = record {
+      runs = opening_runs runnable valid_world;
+      opening = opening_state;
+      prepared = refl;
+      calls = opening_calls valid_world;
+    }

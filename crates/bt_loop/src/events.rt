@@ -299,11 +299,12 @@ pub fn event(
     roster: &mut Vec<Box<dyn Driver>>,
     block: &mut Block,
 ) -> Result<(), Stop<RunFault>>
-    ghost of: { Setup }
-    requires runs { AreRuns of.tree of.world (map (λ b. state b) roster.old.items) runs.old }
-    requires come { CanCome of.world runs.old.last event.now }
+    requires runs { (of : Setup) × AreRuns of.tree of.world (map (λ b. state b) roster.old.items) runs.old
+        × CanCome of.world runs.old.last event.now }
     requires room { HaveRoom (arenas_of runs.old) block.old.notes }
-    ensures { let old = event_side (map (λ b. state b) roster.old.items) runs.old block.old in
+    ensures { (of : Setup) → AreRuns of.tree of.world (map (λ b. state b) roster.old.items) runs.old →
+        CanCome of.world runs.old.last event.now →
+        let old = event_side (map (λ b. state b) roster.old.items) runs.old block.old in
         let new = event_side (map (λ b. state b) roster.new.items) runs.new block.new in
         EventLeft of result old new (step of.tree of.world event.now (kept_state of old)) }
 {
@@ -324,12 +325,13 @@ pub fn finish(
     roster: &mut Vec<Box<dyn Driver>>,
     block: &mut Block,
 ) -> Result<(), Stop<RunFault>>
-    ghost of: { Setup }
-    requires runs { AreRuns of.tree of.world (map (λ b. state b) roster.old.items) runs.old }
+    requires runs { (of : Setup) × AreRuns of.tree of.world (map (λ b. state b) roster.old.items) runs.old
+        × (runner ≤ of.world.runners) }
     requires first { 1 ≤ runner }
-    requires last { runner ≤ of.world.runners }
     requires room { HaveRoom (arenas_of runs.old) block.old.notes }
-    ensures { let old = event_side (map (λ b. state b) roster.old.items) runs.old block.old in
+    ensures { (of : Setup) → AreRuns of.tree of.world (map (λ b. state b) roster.old.items) runs.old →
+        runner ≤ of.world.runners →
+        let old = event_side (map (λ b. state b) roster.old.items) runs.old block.old in
         let new = event_side (map (λ b. state b) roster.new.items) runs.new block.new in
         EventLeft of result old new (finish_step of.tree of.world runner (kept_state of old)) }
 {

@@ -16,5 +16,5 @@ mod telling;
 pub use boxed::Roster;
 pub use counts::leaves;
 pub use events::{event, finish, run_event, run_finish};
-pub use making::{make_planned_runs, make_runs, make_runs_in, runs_of};
+pub use making::{make_planned_runs, make_runs, runs_of};
 pub use runs::{ReadyRunner, Runs, usable};

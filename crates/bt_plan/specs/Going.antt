@@ -6,11 +6,11 @@ use Rattle.bt_script.specs.declared.stop.Stop.TheVariants as stop
 use Rattle.bt_model.specs.declared.fault.RunFault.{RunFault}
 use Rattle.bt_model.specs.declared.world.World.{World}
 use Rattle.bt_model.specs.Drivers.{DriverState}
+use Rattle.bt_loop.specs.Begun.{HaveSameTotals}
 use Rattle.bt_trace.specs.Cuts.{HaveBegunWithin}
 use Rattle.bt_expand.specs.declared.plan_tree.PlanTree.{PlanTree}
 use Rattle.bt_expand.specs.Forests.{Forest}
 use Rattle.bt_trial.specs.Tasks.{IsTaskOf}
-use Rattle.bt_trial.specs.Tried.{HaveSameTotals}
 use Rattle.bt_plan.specs.declared.ending.End.{End}
 use Rattle.bt_plan.specs.declared.ending.End.TheVariants.{Faulted}
 use Rattle.bt_plan.specs.declared.ending.Limits.{Limits}

@@ -3,9 +3,10 @@ use Rattle.std.specs.Prelude.{◌≡◌, ◌⊎◌, ℕ, ◌+◌, List, Option, 
 use Rattle.bt_script.specs.declared.stop.Stop.{Stop}
 use Rattle.bt_script.specs.declared.stop.Stop.TheVariants as stop
 use Rattle.bt_model.specs.declared.fault.RunFault.{RunFault}
-use Rattle.bt_model.specs.Drivers.{DriverState, driver_at}
+use Rattle.bt_model.specs.Drivers.{DriverState}
 use Rattle.bt_model.specs.Run.{RunnerCall}
 use Rattle.bt_arena.specs.Blocks.{seen}
+use Rattle.bt_loop.specs.Begun.{HaveSameTotals}
 use Rattle.bt_loop.specs.Runs.{Setup}
 use Rattle.bt_trace.specs.Cuts.{HaveBegunWithin}
 use Rattle.bt_trial.specs.declared.pace.Pace.{Pace}
@@ -17,10 +18,6 @@ pub record IsRun (of : Setup) (pace : Pace) (n : ℕ) (fault : Option RunFault) 
   pub last : IsLast of.tree of.world pace n
   pub ends : (modelled_run of.tree of.world pace.period (n + 1)).fault ≡ fault
   pub drivers : after ≡ called (modelled_run of.tree of.world pace.period (n + 1)).calls
-
--- no total has changed
-abbrev pub HaveSameTotals : List DriverState → List DriverState → Type 0
-HaveSameTotals before after = (place : ℕ) → (driver_at after place).totals ≡ (driver_at before place).totals
 
 -- How a modelled run ends, by what calls leave of the drivers. Memory may be wanting before the first tick, or later.
 abbrev pub RunEnds : Result Tried (Stop RunFault) → Setup → Pace → (List RunnerCall → List DriverState) → List DriverState → List DriverState → Type 0

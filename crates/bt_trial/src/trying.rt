@@ -4,13 +4,14 @@ ghost use Rattle.std.specs.Prelude.{◌≡◌, IfOk, List};
 ghost use Rattle.bt_model.specs.Drivers.{NothingHeld};
 ghost use Rattle.bt_model.specs.Run.{RunnerCall};
 ghost use Rattle.bt_model.specs.Trees.{IsRunnable};
+ghost use Rattle.bt_loop.specs.Begun.{HaveSameTotals};
 ghost use Rattle.bt_loop.specs.Runs.{Setup, arenas_of, roster_over};
 ghost use Rattle.bt_loop.specs.Served.{roster_after_run};
 ghost use Rattle.bt_loop.specs.Steps.{IsSameRoster};
 ghost use Rattle.bt_trial.specs.Modelled.{modelled};
 ghost use Rattle.bt_trial.specs.Tasks.{IsTaskOf, LacksNothing, NamesNothing};
 ghost use Rattle.bt_trial.specs.Ticked.{IsAfter};
-ghost use Rattle.bt_trial.specs.Tried.{HaveSameTotals, RunEnds};
+ghost use Rattle.bt_trial.specs.Tried.{RunEnds};
 
 use crate::task::Task;
 use crate::ticking::make_ticks;

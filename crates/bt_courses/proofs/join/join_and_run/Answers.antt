@@ -28,6 +28,6 @@ returns-in_err-runs-clause-ends g c =
 pub returns-clause-ends : goal.returns-clause-ends
 returns-clause-ends g c =
     joined_ends g.of c.in_ok-runs.runs (g.D.Drivers.states c.args.outside.now.drivers.now) (g.D.Drivers.states c.make_runs.new.drivers) c.args.course
-    (rw (c.requires.1.1.1.1.0, c.requires.1.1.1.1.1.0) at c.in_ok-runs.ensures.fault) (rw (c.requires.1.1.1.1.0, c.requires.1.1.1.1.1.0) at c.in_ok-runs.ensures.prepared) c.make_runs.ensures.totals
-    (rw (c.requires.1.1.1.1.0, c.requires.1.1.1.1.1.0) at c.in_ok-runs.ensures.calls) c.run.result
+    (rw (c.requires.1.1.1.1.0, c.requires.1.1.1.1.1.0) at c.in_ok-runs.ensures.fault) (rw (c.requires.1.1.1.1.0, c.requires.1.1.1.1.1.0) at c.in_ok-runs.ensures.begun.prepared) c.make_runs.ensures.totals
+    (rw (c.requires.1.1.1.1.0, c.requires.1.1.1.1.1.0) at c.in_ok-runs.ensures.begun.calls) c.run.result
     (seen g.K.Sink.written g.K.Sink.faults g.C.Clock.moments g.D.Drivers.states c.args.outside.now) _ c.run.ensures.gave

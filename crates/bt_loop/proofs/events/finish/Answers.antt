@@ -3,13 +3,9 @@ use Rattle.bt_loop.proofs.events.finish.Goals as goal
 
 pub run_part-ended-requires-clause-runs : goal.run_part-ended-requires-clause-runs
 run_part-ended-requires-clause-runs g c =
-    let r = c.requires in
-    (g.of, record { are = rw c.replace.ensures.value r.0; first = r.1.0; last = r.1.1.0; ahead = omega arith })
-
-pub run_part-ended-requires-clause-room : goal.run_part-ended-requires-clause-room
-run_part-ended-requires-clause-room g c = c.requires.1.1.1
+    let r = c.requires.runs in
+    (r.0, record { are = rw c.replace.ensures.value r.1; first = c.requires.first; last = r.2; ahead = omega arith })
 
 pub returns : goal.returns
-returns g c =
-    let r = c.requires in
-    rw (← c.replace.ensures.value) (c.run_part-ended.ensures g.of (record { are = rw c.replace.ensures.value r.0; first = r.1.0; last = r.1.1.0; ahead = omega arith }))
+returns g c = λ of are last.
+    rw (← c.replace.ensures.value) (c.run_part-ended.ensures of (record { are = rw c.replace.ensures.value are; first = c.requires.first; last = last; ahead = omega arith }))

@@ -1,7 +1,9 @@
 use Rattle.bt_loop.proofs.making.make_runs.Goals as goal
 
-pub returns-clause-calls : goal.returns-clause-calls
-returns-clause-calls g c = rw (← c.in_ok-world.ensures) c.make_runs_in.ensures.calls
+pub prepared-requires-clause-made : goal.prepared-requires-clause-made
+prepared-requires-clause-made g c =
+    (c.args.tree.now, c.args.world.now, c.requires.tree, c.requires.world, rw (← c.in_ok-world.ensures) c.in_ok-runs.ensures.runs)
 
-pub returns-clause-cut : goal.returns-clause-cut
-returns-clause-cut g c = rw (← c.in_ok-world.ensures) c.make_runs_in.ensures.cut
+pub returns-clause-begun : goal.returns-clause-begun
+returns-clause-begun g c =
+    c.in_ok-prepared.ensures.begun c.args.tree.now c.args.world.now c.requires.tree c.requires.world (rw (← c.in_ok-world.ensures) c.in_ok-runs.ensures.runs)

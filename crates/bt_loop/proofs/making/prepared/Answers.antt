@@ -1,20 +1,29 @@
-use Rattle.std.proofs.Common.{◌≡◌, take, length, sym, ap, subst, ◌∙◌, arith}
+use Rattle.std.proofs.Common.{take, length, sym, ap, subst, ◌∙◌, arith}
+use Rattle.std.specs.Prelude.{OnErr}
+use Rattle.std.proofs.lemmas.Result.{err_from_is_err_and}
 use Rattle.bt_model.specs.Drivers.{driver_at, roster_prepared}
-use Rattle.bt_model.specs.Run.{opening}
-use Rattle.bt_loop.specs.Runs.{AreRuns, state_of_runs}
+use Rattle.bt_loop.specs.Begun.{AreBegun, ArePartlyPrepared}
 use Rattle.bt_loop.specs.Steps.{IsSameRoster}
 use Rattle.bt_loop.proofs.Counting.{wanted_length}
-use Rattle.bt_loop.proofs.Opening.{opening_calls, opening_runs, opening_state}
+use Rattle.bt_loop.proofs.Opening.{are_begun}
 use Rattle.bt_loop.proofs.Preparing.{prepared_same, prepared_totals}
-use Rattle.bt_loop.proofs.making.make_runs_in.Goals as goal
+use Rattle.bt_loop.proofs.making.prepared.Goals as goal
 
 pub prepare-requires-clause-counts : goal.prepare-requires-clause-counts
 prepare-requires-clause-counts g c =
-    let tree = c.args.tree.now in
-    let world = c.args.world.now in
+    let made = c.requires.made in
+    let are = c.in_ok-counts.ensures made.0 made.1 made.4 in
+    omega (arith, ap (λ ns. length ns) (c.as_slice.ensures.value ∙ are), wanted_length made.0 made.1 (g.D.Drivers.states c.args.drivers.now))
+
+pub returns-in_err-prepare-clause-cut : goal.returns-in_err-prepare-clause-cut
+returns-in_err-prepare-clause-cut g c = λ tree world are.
     let drivers = g.D.Drivers.states c.args.drivers.now in
-    let are = c.in_ok-counts.ensures tree world c.in_ok-runs.ensures.runs in
-    omega (arith, ap (λ ns. length ns) (c.as_slice.ensures.value ∙ are), wanted_length tree world drivers)
+    let cut = c.in_err-prepare.ensures.err in
+    let is = err_from_is_err_and c.from_residual-in_err-prepare.result c.from_residual-in_err-prepare.ensures.1 in
+    subst (λ r. OnErr r (ArePartlyPrepared tree world drivers (g.D.Drivers.states c.prepare.new.self))) (sym is.1) (record {
+      done = cut.0;
+      prepared = cut.1 ∙ ap (λ counts. roster_prepared drivers (take cut.0 counts)) (c.as_slice.ensures.value ∙ c.in_ok-counts.ensures tree world are);
+    })
 
 pub returns-in_err-prepare-clause-roster : goal.returns-in_err-prepare-clause-roster
 returns-in_err-prepare-clause-roster g c =
@@ -28,27 +37,11 @@ returns-in_err-prepare-clause-totals g c = λ place.
     let cut = c.in_err-prepare.ensures.err in
     ap (λ ds. (driver_at ds place).totals) cut.1 ∙ prepared_totals drivers (take cut.0 c.as_slice.result.now) place
 
-pub returns-clause-runs : goal.returns-clause-runs
-returns-clause-runs g c =
-    let tree = c.args.tree.now in
-    let world = c.args.world.now in
+pub returns-clause-begun : goal.returns-clause-begun
+returns-clause-begun g c = λ tree world runnable valid_world are.
     let drivers = g.D.Drivers.states c.args.drivers.now in
-    let are = c.in_ok-runs.ensures.runs in
     let prepared = c.in_ok-prepare.ensures.ok ∙ ap (roster_prepared drivers) (c.as_slice.ensures.value ∙ c.in_ok-counts.ensures tree world are) in
-    subst (λ ds. AreRuns tree world ds c.in_ok-runs.runs) (sym prepared) (opening_runs tree world drivers c.in_ok-runs.runs are c.requires.tree c.requires.world)
-
-pub returns-clause-opening : goal.returns-clause-opening
-returns-clause-opening g c =
-    let tree = c.args.tree.now in
-    let world = c.args.world.now in
-    let drivers = g.D.Drivers.states c.args.drivers.now in
-    let are = c.in_ok-runs.ensures.runs in
-    let prepared = c.in_ok-prepare.ensures.ok ∙ ap (roster_prepared drivers) (c.as_slice.ensures.value ∙ c.in_ok-counts.ensures tree world are) in
-    subst (λ ds. state_of_runs tree.term ds c.in_ok-runs.runs ≡ opening tree world) (sym prepared) (opening_state tree world drivers c.in_ok-runs.runs are)
-
-pub returns-clause-calls : goal.returns-clause-calls
-returns-clause-calls g c =
-    opening_calls c.args.tree.now c.args.world.now (g.D.Drivers.states c.args.drivers.now) c.in_ok-runs.runs c.in_ok-runs.ensures.runs c.requires.world
+    subst (λ ds. AreBegun tree world drivers ds c.args.runs) (sym prepared) (are_begun tree world drivers c.args.runs are runnable valid_world)
 
 pub returns-clause-roster : goal.returns-clause-roster
 returns-clause-roster g c =
