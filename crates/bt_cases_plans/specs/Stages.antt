@@ -1,22 +1,22 @@
 -- What is known of a plan tree while a row is tried.
-use Rattle.std.specs.Prelude.{◌≤◌, ℕ}
+use Rattle.std.specs.Prelude.{◌≡◌, ◌≤◌, ℕ}
 use Rattle.bt_model.specs.declared.world.World.{World}
 use Rattle.bt_expand.specs.declared.plan_tree.PlanTree.{PlanTree}
-use Rattle.bt_expand.specs.Forests.{Forest, times}
+use Rattle.bt_expand.specs.Forests.{Forest, subtrees, times}
 use Rattle.bt_expand.specs.Stands.{IsConditionOf, IsSequenceOf, StandsFor}
 
--- it is a plan tree over this world
-abbrev pub IsPlan : World → PlanTree → Type 0
-IsPlan world t = (tree : Forest) × StandsFor t world tree
+-- it is a plan tree over this world, to which so many sequences were added, at most 120
+abbrev pub IsPlan : World → PlanTree → ℕ → Type 0
+IsPlan world t added = (tree : Forest) × StandsFor t world tree × (subtrees tree ≡ added) × (added ≤ 120)
 
--- and has this key
+-- it has this key
 abbrev pub HasKey : World → PlanTree → ℕ → Type 0
-HasKey world t key = (tree : Forest) × StandsFor t world tree × (1 ≤ times key tree)
+HasKey world t key = (tree : Forest) → StandsFor t world tree → 1 ≤ times key tree
 
--- and this is the key of a condition
+-- this is the key of a condition
 abbrev pub HasCondition : World → PlanTree → ℕ → Type 0
-HasCondition world t key = (tree : Forest) × StandsFor t world tree × IsConditionOf tree key
+HasCondition world t key = (tree : Forest) → StandsFor t world tree → IsConditionOf tree key
 
--- and this is the key of a sequence that was added
+-- this is the key of a sequence that was added
 abbrev pub HasSequence : World → PlanTree → ℕ → Type 0
-HasSequence world t key = (tree : Forest) × StandsFor t world tree × IsSequenceOf tree key
+HasSequence world t key = (tree : Forest) → StandsFor t world tree → IsSequenceOf tree key

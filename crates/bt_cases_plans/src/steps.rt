@@ -21,6 +21,13 @@ pub enum Step {
     Conflict,
 }
 
+/// A plan tree, and how many sequences were added to it.
+#[derive(Drop)]
+struct Growing {
+    tree: PlanTree,
+    added: u32,
+}
+
 /// The ID of a row.
 fn id_of(world: &World, row: u32) -> &str {
     match world.rows.list().get(row as usize) {
@@ -38,54 +45,60 @@ fn name_of<'a>(t: &PlanTree, world: &'a World, key: usize) -> &'a str {
 }
 
 /// The key of this number, if the tree has so many nodes.
-fn key_at(t: &PlanTree, world: &World, uid: u32) -> Option<usize>
-    requires { IsPlan world.now t.now }
-    ensures { IfSome result (HasKey world.now t.now) }
+fn key_at(growing: &Growing, world: &World, uid: u32) -> Option<usize>
+    requires { IsPlan world.now growing.now.tree growing.now.added }
+    ensures { IfSome result (HasKey world.now growing.now.tree) }
 {
-    if uid == 0 || uid as usize > t.nodes.len() {
+    if uid == 0 || uid as usize > growing.tree.nodes.len() {
         return None;
     }
-    Some(key_of(t, uid))
+    Some(key_of(&growing.tree, uid))
 }
 
 /// The key of this number, if it is that of a condition.
-fn condition_at(t: &PlanTree, world: &World, uid: u32) -> Option<usize>
-    requires { IsPlan world.now t.now }
-    ensures { IfSome result (HasCondition world.now t.now) }
+fn condition_at(growing: &Growing, world: &World, uid: u32) -> Option<usize>
+    requires { IsPlan world.now growing.now.tree growing.now.added }
+    ensures { IfSome result (HasCondition world.now growing.now.tree) }
 {
-    let key = key_at(t, world, uid)?;
-    match part_of(t, key) {
+    let key = key_at(growing, world, uid)?;
+    match part_of(&growing.tree, key) {
         Some(Part::Condition(_)) => Some(key),
         _ => None,
     }
 }
 
 /// The key of this number, if it is that of a sequence that was added.
-fn sequence_at(t: &PlanTree, world: &World, uid: u32) -> Option<usize>
-    requires { IsPlan world.now t.now }
-    ensures { IfSome result (HasSequence world.now t.now) }
+fn sequence_at(growing: &Growing, world: &World, uid: u32) -> Option<usize>
+    requires { IsPlan world.now growing.now.tree growing.now.added }
+    ensures { IfSome result (HasSequence world.now growing.now.tree) }
 {
-    let key = key_at(t, world, uid)?;
-    match part_of(t, key) {
+    let key = key_at(growing, world, uid)?;
+    match part_of(&growing.tree, key) {
         Some(Part::Sequence(_)) => Some(key),
         _ => None,
     }
 }
 
-/// Expands the condition of this key, and tells whose sequence was added.
+/// Expands the condition of this key, and tells whose sequence was added. Where 120 were added
+/// before, it answers want of memory.
 fn tell_expansion(
     alloc: Global,
-    t: &mut PlanTree,
+    growing: &mut Growing,
     world: &World,
     key: usize,
     told: &mut String,
 ) -> Result<(), NoMemory>
-    requires { HasCondition world.now t.old key }
-    ensures { IfOk result (λ _. IsPlan world.now t.new) }
+    requires plan { IsPlan world.now growing.old.tree growing.old.added }
+    requires condition { HasCondition world.now growing.old.tree key }
+    ensures { IfOk result (λ _. IsPlan world.now growing.new.tree growing.new.added) }
 {
-    match expand(alloc, t, key) {
+    if growing.added >= 120 {
+        return Err(NoMemory);
+    }
+    match expand(alloc, &mut growing.tree, key) {
         Ok(added) => {
-            let id = name_of(t, world, added);
+            growing.added += 1;
+            let id = name_of(&growing.tree, world, added);
             writeln!(told, "expand {id}")?;
         }
         Err(Stop::Fault(_)) => told.push_str("untried\n")?,
@@ -96,15 +109,16 @@ fn tell_expansion(
 
 /// Raises the sequence of this key, and tells whether it was moved.
 fn tell_raise(
-    t: &mut PlanTree,
+    growing: &mut Growing,
     world: &World,
     key: usize,
     told: &mut String,
 ) -> Result<(), NoMemory>
-    requires { HasSequence world.now t.old key }
-    ensures { IfOk result (λ _. IsPlan world.now t.new) }
+    requires plan { IsPlan world.now growing.old.tree growing.old.added }
+    requires sequence { HasSequence world.now growing.old.tree key }
+    ensures { IfOk result (λ _. IsPlan world.now growing.new.tree growing.new.added) }
 {
-    let text = if raise(t, key) {
+    let text = if raise(&mut growing.tree, key) {
         "raised\n"
     } else {
         "not raised\n"
@@ -129,24 +143,24 @@ fn tell_conflict(t: &PlanTree, world: &World, told: &mut String) -> Result<(), N
 /// Takes one step.
 fn take(
     alloc: Global,
-    t: &mut PlanTree,
+    growing: &mut Growing,
     world: &World,
     step: Step,
     told: &mut String,
 ) -> Result<(), NoMemory>
-    requires { IsPlan world.now t.old }
-    ensures { IfOk result (λ _. IsPlan world.now t.new) }
+    requires { IsPlan world.now growing.old.tree growing.old.added }
+    ensures { IfOk result (λ _. IsPlan world.now growing.new.tree growing.new.added) }
 {
     match step {
-        Step::Expand(uid) => match condition_at(t, world, uid) {
-            Some(key) => tell_expansion(alloc, t, world, key, told)?,
+        Step::Expand(uid) => match condition_at(growing, world, uid) {
+            Some(key) => tell_expansion(alloc, growing, world, key, told)?,
             None => told.push_str("no such condition\n")?,
         },
-        Step::Raise(uid) => match sequence_at(t, world, uid) {
-            Some(key) => tell_raise(t, world, key, told)?,
+        Step::Raise(uid) => match sequence_at(growing, world, uid) {
+            Some(key) => tell_raise(growing, world, key, told)?,
             None => told.push_str("no such sequence\n")?,
         },
-        Step::Conflict => tell_conflict(t, world, told)?,
+        Step::Conflict => tell_conflict(&growing.tree, world, told)?,
     }
     Ok(())
 }
@@ -170,30 +184,20 @@ fn are_kept(t: &PlanTree, parts: &[(usize, Part)]) -> bool {
 /// Takes one step, and tells where a key does not name what it named.
 fn take_kept(
     alloc: Global,
-    t: &mut PlanTree,
+    growing: &mut Growing,
     world: &World,
     step: Step,
     told: &mut String,
 ) -> Result<(), NoMemory>
-    requires { IsPlan world.now t.old }
-    ensures { IfOk result (λ _. IsPlan world.now t.new) }
+    requires { IsPlan world.now growing.old.tree growing.old.added }
+    ensures { IfOk result (λ _. IsPlan world.now growing.new.tree growing.new.added) }
 {
-    let parts = parts_of(alloc, t)?;
-    take(alloc, t, world, step, told)?;
-    if !are_kept(t, parts.as_slice()) {
+    let parts = parts_of(alloc, &growing.tree)?;
+    take(alloc, growing, world, step, told)?;
+    if !are_kept(&growing.tree, parts.as_slice()) {
         told.push_str("a key names another node\n")?;
     }
     Ok(())
-}
-
-/// The behavior tree of a plan tree of at most 120 nodes.
-fn planned(alloc: Global, t: &PlanTree, world: &World) -> Result<Tree, NoMemory>
-    requires { IsPlan world.now t.now }
-{
-    if t.nodes.len() > 120 {
-        return Err(NoMemory);
-    }
-    tree_of(alloc, t, world)
 }
 
 /// The behavior tree after all steps over a world that has a goal, which tell their lines.
@@ -206,9 +210,12 @@ pub fn grown(
     requires valid { IsValidWorld world.now }
     requires goal { world.now.goals ≢ [] }
 {
-    let mut t = plan_tree_of(alloc, world)?;
+    let mut growing = Growing {
+        tree: plan_tree_of(alloc, world)?,
+        added: 0,
+    };
     for step in steps {
-        take_kept(alloc, &mut t, world, *step, told)?;
+        take_kept(alloc, &mut growing, world, *step, told)?;
     }
-    planned(alloc, &t, world)
+    tree_of(alloc, &growing.tree, world)
 }

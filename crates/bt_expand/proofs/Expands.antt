@@ -26,7 +26,7 @@ use Rattle.bt_expand.specs.Stands.{IsConditionOf, PartsFit, StandsFor}
 use Rattle.bt_expand.proofs.Counted.{height-leaves, one_of, one_same, size-leaves}
 use Rattle.bt_expand.proofs.Expansions.{Stood, rule_needs_is, stood_condition, untried_is}
 use Rattle.bt_expand.proofs.Indexed.{all_achievers_are}
-use Rattle.bt_expand.proofs.Regrown.{last_sequence, regrown_last, regrown_new, regrown_parts, regrown_stands, regrown_wraps, wrap_after}
+use Rattle.bt_expand.proofs.Regrown.{last_sequence, regrown_last, regrown_many, regrown_new, regrown_parts, regrown_stands, regrown_wraps, wrap_after}
 use Rattle.bt_expand.proofs.Standing.{stands_by}
 
 -- ---- Rows of a valid world
@@ -118,10 +118,14 @@ leaves_some (key ∷ keys) (part ∷ parts) some more e = cc e
 
 -- ---- The first tree
 
-size-conditions : (keys numbers : List ℕ) → subtrees (leaves keys (map Condition numbers)) ≡ 0
-size-conditions [] numbers = refl
-size-conditions (key ∷ keys) [] = refl
-size-conditions (key ∷ keys) (n ∷ numbers) = let later = size-conditions keys numbers in omega (arith, later)
+no_sequences : (keys numbers : List ℕ) → subtrees (leaves keys (map Condition numbers)) ≡ 0
+no_sequences [] numbers = refl
+no_sequences (key ∷ keys) [] = refl
+no_sequences (key ∷ keys) (n ∷ numbers) = let later = no_sequences keys numbers in omega (arith, later)
+
+-- no sequence was added yet
+pub first_many : (root : ℕ) (keys goals : List ℕ) → subtrees (goal_tree root keys goals) ≡ 0
+first_many root keys goals = let none = no_sequences keys goals in omega (arith, none)
 
 some_length : (xs : List ℕ) → xs ≢ [] → 1 ≤ length xs
 some_length [] some = absurd (some refl)
@@ -153,8 +157,8 @@ first_stands world valid goal t keys room rules templates achievers none adds co
           conditions_fit (length world.rows) keys world.goals (rows_within world.rows world.goals valid.wanted),
           tt,
         );
-        few = let no_more = size-conditions keys world.goals in omega (arith, most, many, few, no_more);
-        low = let no_more = size-conditions keys world.goals in omega (arith, low, no_more);
+        few = let no_more = first_many t.root keys world.goals in omega (arith, most, many, few, no_more);
+        low = let no_more = first_many t.root keys world.goals in omega (arith, low, no_more);
       };
     }
 
@@ -228,6 +232,7 @@ module _ (world : World) (t : PlanTree) (tree : Forest) (st : StandsFor t world 
         all = branch_all g.keys g.counted;
         named = refl;
         stands = subst (λ (f : Forest). StandsFor (record t { nodes = new }) world f) (sym is_changed) (regrown_stands world t tree st new at.a.key change (branch g.keys g.counted) grew);
+        many = ap subtrees is_changed ∙ regrown_many world t tree st new at.a.key change (branch g.keys g.counted) grew;
         sequence =
             let keeps = (last_sequence world t tree st key (Condition is.0) at 0 added (Sequence row) real_parts new kind g (omega (arith, branch_few g.keys g.counted)) (branch_one g.keys g.counted) (branch_low g.keys g.counted)
             (branch_fits g.keys g.counted)).3 in
@@ -250,6 +255,7 @@ module _ (world : World) (t : PlanTree) (tree : Forest) (st : StandsFor t world 
         all = branch_all g.keys g.counted;
         named = refl;
         stands = subst (λ (f : Forest). StandsFor (record t { nodes = new }) world f) (sym is_changed) (regrown_stands world t tree st new at.a.key change more grew);
+        many = ap subtrees is_changed ∙ regrown_many world t tree st new at.a.key change more grew;
         sequence =
             let keeps = (wrap_after world t tree st key (Condition is.0) at added (Sequence row) real_parts new kind g (branch_few g.keys g.counted) (branch_one g.keys g.counted) (branch_low g.keys g.counted)
             (branch_fits g.keys g.counted)).3 in

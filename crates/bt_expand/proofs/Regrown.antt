@@ -154,6 +154,10 @@ pub record Regrown (world : World) (t : PlanTree) (tree : Forest) (new : Slab No
 
 module _ (world : World) (t : PlanTree) (tree : Forest) (st : StandsFor t world tree) (new : Slab Node) (p : ℕ) (change : Part → Forest → Forest) (added : Forest)
     (g : Regrown world t tree new p change added) where
+  -- one sequence more
+  pub regrown_many : subtrees (changed_below p change tree) ≡ subtrees tree + 1
+  regrown_many = let more = g.totals (λ k x. added_by x) in let one = g.one in omega (arith, more, one)
+
   pub regrown_stands : StandsFor (record t { nodes = new }) world (changed_below p change tree)
   regrown_stands = record {
     valid = st.valid;
@@ -178,18 +182,17 @@ module _ (world : World) (t : PlanTree) (tree : Forest) (st : StandsFor t world 
     shape =
         let root = root_kept p change t.root st.shape.below tree st.shape.is in
         let all = g.totals (λ k x. 1) in
-        let more = g.totals (λ k x. added_by x) in
+        let many = regrown_many in
         let few = st.shape.few in
         let low = st.shape.low in
-        let one = g.one in
         let most = g.few in
         let higher = height-changed p change tree g.low in
         record {
           below = root.0;
           is = root.1;
           fit = changed_fits p change (length world.rows) g.fits g.own tree st.shape.fit;
-          few = omega (arith, all, more, few, one, most);
-          low = omega (arith, more, low, one, higher);
+          few = omega (arith, all, many, few, most);
+          low = omega (arith, many, low, higher);
         };
   }
 

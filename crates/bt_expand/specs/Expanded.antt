@@ -10,13 +10,13 @@ use Rattle.bt_expand.specs.declared.node.Part.{Part}
 use Rattle.bt_expand.specs.declared.node.Part.TheVariants.{Sequence}
 use Rattle.bt_expand.specs.declared.plan_tree.PlanTree.{PlanTree}
 use Rattle.bt_expand.specs.Expansion.{NewKeys, expanded, untried}
-use Rattle.bt_expand.specs.Forests.{Forest, part_at}
+use Rattle.bt_expand.specs.Forests.{Forest, part_at, subtrees}
 use Rattle.bt_expand.specs.Growth.{AddsLast, Wraps, names_sequence, rule_achieves}
 use Rattle.bt_expand.specs.Rows.{needs_of}
 use Rattle.bt_expand.specs.Stands.{StandsFor}
 
--- The tree after an expansion stands for the tree with the sequence of the first untried template. The answer is the
--- key of this sequence, and each key that the tree had names the same node.
+-- The tree after an expansion stands for the tree with the sequence of the first untried template, which is one more. The
+-- answer is the key of this sequence, and each key that the tree had names the same node.
 pub record Expands (after : PlanTree) (world : World) (tree : Forest) (key added : ℕ) : Type 0 where
   pub template : Template
   pub first : slice_get (untried world.rows key tree) 0 ≡ Some template
@@ -24,6 +24,7 @@ pub record Expands (after : PlanTree) (world : World) (tree : Forest) (key added
   pub all : length keys.leaves ≡ length (needs_of world.rows template.row) + 1
   pub named : added ≡ keys.sequence
   pub stands : StandsFor after world (expanded world.rows keys key template.row tree)
+  pub many : subtrees (expanded world.rows keys key template.row tree) ≡ subtrees tree + 1
   pub sequence : part_at added (expanded world.rows keys key template.row tree) ≡ Some (Sequence template.row)
   pub kept : (old : ℕ) (part : Part) → part_at old tree ≡ Some part → part_at old (expanded world.rows keys key template.row tree) ≡ Some part
 

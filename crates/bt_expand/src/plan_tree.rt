@@ -1,6 +1,7 @@
 ghost use Rattle.std.specs.Prelude.{◌≡◌, ◌≢◌, List, ℕ, [], length, map, IfOk};
 ghost use Rattle.bt_model.specs.Worlds.{IsValidWorld};
 ghost use Rattle.bt_expand.specs.Expansion.{goal_tree};
+ghost use Rattle.bt_expand.specs.Forests.{subtrees};
 ghost use Rattle.bt_expand.specs.Rows.{rule_of};
 ghost use Rattle.bt_expand.specs.Stands.{StandsFor};
 
@@ -56,7 +57,8 @@ pub fn plan_tree_of(alloc: Global, world: &World) -> Result<PlanTree, NoMemory>
     requires valid { IsValidWorld world.now }
     requires goal { world.now.goals ≢ [] }
     ensures { IfOk result (λ t. (keys : List ℕ) × (length keys ≡ length world.now.goals) ×
-        StandsFor t world.now (goal_tree t.root keys world.now.goals)) }
+        StandsFor t world.now (goal_tree t.root keys world.now.goals) ×
+        (subtrees (goal_tree t.root keys world.now.goals) ≡ 0)) }
 {
     let rules = rules_of(alloc, world.rows.list())?;
     let templates = templates(alloc, world)?;

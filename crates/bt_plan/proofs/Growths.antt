@@ -29,7 +29,6 @@ use Rattle.bt_plan.specs.Grown.{AreConditions, GoesOrEnds, IsGrown, IsNotGrown, 
 use Rattle.bt_plan.specs.PlanRuns.{Decides, Ends, Grows, HasNoOrder, HasNoTemplate, IsOpen, Trial, failed_in}
 use Rattle.bt_expand.proofs.Searched.{find_ended, found_item, passed_item}
 use Rattle.bt_plan.proofs.Conditions.{failed_are}
-use Rattle.bt_plan.proofs.Subtrees.{expanded_one}
 
 pub ok_gives : {A E : Type 0} {P Q : A → Type 0} (r : Result A E) → ((a : A) → P a → Q a) → IfOk r P → IfOk r Q
 ok_gives (Ok a) f p = f a p
@@ -55,7 +54,7 @@ condition_of world tree k template is =
 pub are_conditions : (world : World) (t : PlanTree) (tree : Forest) (notes : List Note) (places : List Place) → StandsFor t world tree → places ≡ failed tree notes → AreConditions tree places
 are_conditions world t tree notes places st are = subst (AreConditions tree) (sym are) (failed_are tree notes st.apart.once)
 
-module _ (world : World) (limits : Limits) (trial : Trial) (old mid now : PlanTree) (places : List Place) (st : StandsFor old world trial.tree) (decides : Decides world limits trial Fails) (are : places ≡ failed_in world limits trial) where
+module _ (world : World) (limits : Limits) (trial : Trial) (mid now : PlanTree) (places : List Place) (decides : Decides world limits trial Fails) (are : places ≡ failed_in world limits trial) where
   pub ends_without : (names : List (List ℕ)) → IsNotGrown mid world trial.tree places → names ≡ ids_of world.rows places → HasNoTemplate world limits trial names
   ends_without names none named = record {
     decides = decides;
@@ -69,11 +68,6 @@ module _ (world : World) (limits : Limits) (trial : Trial) (old mid now : PlanTr
 
     pub is_open : IsOpen world limits trial
     is_open = record { decides = decides; place = g.place; first = ap (first_open world.rows trial.tree) (sym are) ∙ grown.first }
-
-    pub one_more : subtrees next ≡ subtrees trial.tree + 1
-    one_more =
-        let is = condition_of world trial.tree g.place.key grown.expands.template grown.expands.first in
-        expanded_one world old trial.tree st grown.expands.keys g.place.key is.0 grown.expands.template.row is.1
 
     grows : Grows world limits trial g.place grown.expands.template g.sequence next
     grows = record {
@@ -120,7 +114,7 @@ module _ (world : World) (limits : Limits) (trial : Trial) (old mid now : PlanTr
         };
         steps = s.steps;
         stands = s.stands;
-        many = s.many ∙ one_more;
+        many = s.many ∙ grown.expands.many;
       },
     )
 
@@ -187,11 +181,10 @@ pub row_is : (now : PlanTree) (world : World) (tree : Forest) (key added : ℕ) 
 row_is now world tree key added e = ap (λ (o : Option Part). option_and_then row_in o) e.sequence
 
 -- the new sequence can be settled
-pub settle_within : (world : World) (old mid : PlanTree) (tree : Forest) (places : List Place) → StandsFor old world tree → subtrees tree ≤ 120 → (g : Grown) → IsGrown mid world tree places g →
+pub settle_within : (world : World) (mid : PlanTree) (tree : Forest) (places : List Place) → subtrees tree ≤ 120 → (g : Grown) → IsGrown mid world tree places g →
     (next : Forest) × StandsFor mid world next × IsSequenceOf next g.sequence × (size next < 2 ^ 32)
-settle_within world old mid tree places st few g grown =
+settle_within world mid tree places few g grown =
     let next = expanded world.rows grown.expands.keys g.place.key grown.expands.template.row tree in
-    let is = condition_of world tree g.place.key grown.expands.template grown.expands.first in
-    let one = expanded_one world old tree st grown.expands.keys g.place.key is.0 grown.expands.template.row is.1 in
-    let most = small world mid next 121 grown.expands.stands (omega (arith, one, few)) in
+    let many = grown.expands.many in
+    let most = small world mid next 121 grown.expands.stands (omega (arith, many, few)) in
     (next, grown.expands.stands, (grown.expands.template.row, grown.expands.sequence), omega (arith, most))

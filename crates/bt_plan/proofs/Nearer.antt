@@ -5,14 +5,14 @@ use Rattle.std.specs.List.{find}
 use Rattle.std.specs.Option.{option_or, option_map_or}
 use Rattle.bt_expand.specs.declared.node.Part.{Part}
 use Rattle.bt_expand.specs.Forests.{Forest, Empty, Tree, Ancestor, Place, ancestors, count, place_of, size, times, total}
-use Rattle.bt_expand.proofs.Counted.{changed_here, changed_other, chosen, is_other, is_same, one_of, one_other, one_same, skipped, test_other, test_same, tested, total-changed, unchanged, zero_or}
+use Rattle.bt_expand.proofs.Counted.{changed_here, changed_other, chosen, is_other, is_same, one_of, one_other, one_same, skipped, test_other, test_same, tested, unchanged, zero_or}
 use Rattle.bt_expand.proofs.Expansions.{node_found}
 use Rattle.bt_expand.proofs.Places.{place_counts, placed}
 use Rattle.bt_reorder.proofs.Whence.{first_place, other_place}
 use Rattle.bt_reorder.specs.Raising.{can_move, moved_in, raised, swap_at}
 use Rattle.bt_reorder.proofs.Climbed.{moves_some}
 use Rattle.bt_reorder.proofs.Listed.{find-append}
-use Rattle.bt_reorder.proofs.Swaps.{total-swap}
+use Rattle.bt_reorder.proofs.Swaps.{total-moved, total-swap}
 
 -- the nodes before a key, in pre-order
 abbrev pub front : ℕ → Forest → ℕ
@@ -144,12 +144,6 @@ module _ (k : ℕ) (a : Ancestor) where
   abbrev change : Part → Forest → Forest
   change part = swap_at (count a.before - 1)
 
-  times_kept : (f : Forest) → times a.key f ≡ 1 → times k (moved_in a f) ≡ times k f
-  times_kept f one =
-      let all = total-changed (λ key x. one_of key k) a.key 0 change f one
-      (λ (part : Part) (g : Forest) found. let same = total-swap (λ key x. one_of key k) (count a.before - 1) g in omega (arith, same)) in
-      omega (arith, all)
-
   raise_nearer : (f : Forest) (p : Place) → ((j : ℕ) → times j f ≤ 1) → place_of k f ≡ Some p → find can_move p.above ≡ Some a → front k (moved_in a f) < front k f
   raise_nearer Empty p apart found moves = absurd (cc found)
   raise_nearer (Tree key part below rest) p apart found moves = elim (tested key k) [
@@ -177,7 +171,7 @@ module _ (k : ℕ) (a : Ancestor) where
                     changed_other a.key change key part below rest (test_other key a.key apart_key)
                     ∙ ap (λ (g : Forest). Tree key part (moved_in a below) g) (unchanged a.key change rest lacks) in
                     let nearer = raise_nearer below i.q (λ (j : ℕ). let few = apart j in omega (arith, few)) i.found first in
-                    let still = times_kept below one in
+                    let still = total-moved (λ key x. one_of key k) a below one in
                     let after = front_below k key part (moved_in a below) rest differs (omega (arith, has, still)) in
                     subst (λ (g : Forest). front k g < front k (Tree key part below rest)) (sym moved) (omega (arith, after, before, nearer))
                 | None ↦ λ is e.
@@ -223,7 +217,7 @@ raised_nearer k tree next apart has is =
       | None ↦ λ first e. absurd (cc e)
     ] refl e
 
--- a raise adds no sequence
+-- a raise changes no sum
 pub raised_many : (weight : ℕ → Part → ℕ) (k : ℕ) (tree next : Forest) → ((j : ℕ) → times j tree ≤ 1) → raised k tree ≡ Some next → total weight next ≡ total weight tree
 raised_many weight k tree next apart is =
     elim (place_of k tree) as (λ (o : Option Place). place_of k tree ≡ o → option_map (λ (a : Ancestor). moved_in a tree) (find can_move (option_map_or (λ (p : Place). p.above) o [])) ≡ Some next → total weight next ≡ total weight tree) [
@@ -235,8 +229,6 @@ raised_many weight k tree next apart is =
                 let same : moved_in a tree ≡ next = cc e in
                 let has = in_above k tree p a found first in
                 let once = apart a.key in
-                let all = total-changed weight a.key 0 (change k a) tree (omega (arith, has, once))
-                (λ (part : Part) (g : Forest) found. let kept = total-swap weight (count a.before - 1) g in omega (arith, kept)) in
-                subst (λ (g : Forest). total weight g ≡ total weight tree) same (omega (arith, all))
+                subst (λ (g : Forest). total weight g ≡ total weight tree) same (total-moved weight a tree (omega (arith, has, once)))
           ] refl e
     ] refl is

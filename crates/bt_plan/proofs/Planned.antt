@@ -1,5 +1,5 @@
 -- A plan run on its way: trials and steps have led to a tree.
-use Rattle.std.proofs.Common.{◌≡◌, inl, inr, ℕ, ◌+◌, ◌≤◌, List, [], ◌∷◌, ◌++◌, length, map, Option, Some, None, Result, Ok, Err, OnErr, refl, sym, ap, subst, ◌∙◌, arith}
+use Rattle.std.proofs.Common.{◌≡◌, inl, inr, ℕ, ◌+◌, ◌≤◌, List, [], ◌∷◌, ◌++◌, length, Option, Some, None, Result, Ok, Err, OnErr, refl, sym, ap, subst, ◌∙◌, arith}
 use Rattle.std.proofs.lemmas.List.{length-append}
 use Rattle.bt_script.specs.declared.stop.NoMemory.{NoMemory}
 use Rattle.bt_model.specs.declared.leaf.Totals.{Totals}
@@ -9,10 +9,9 @@ use Rattle.bt_loop.specs.Steps.{IsSameRoster}
 use Rattle.bt_loop.proofs.Rising.{roster_both, same_roster}
 use Rattle.bt_trace.specs.Cuts.{HaveBegunWithin}
 use Rattle.bt_expand.specs.declared.plan_tree.PlanTree.{PlanTree}
-use Rattle.bt_expand.specs.declared.node.Part.TheVariants.{Condition}
-use Rattle.bt_expand.specs.Expansion.{goal_tree, leaves}
 use Rattle.bt_expand.specs.Forests.{Forest, subtrees}
 use Rattle.bt_expand.specs.Stands.{StandsFor}
+use Rattle.bt_expand.proofs.Expands.{first_many}
 use Rattle.bt_plan.specs.declared.ending.End.{End}
 use Rattle.bt_plan.specs.declared.ending.Limits.{Limits}
 use Rattle.bt_plan.specs.declared.ending.PlanEnd.{PlanEnd}
@@ -40,19 +39,6 @@ pub record UnderWay (world : World) (limits : Limits) (t : PlanTree) (steps : Li
   pub none : NothingHeld now
   pub roster : IsSameRoster before now
 
--- the first plan tree has no added sequence
-goals_added : (keys goals : List ℕ) → subtrees (leaves keys (map Condition goals)) ≡ 0
-goals_added [] goals = refl
-goals_added (key ∷ keys) [] = refl
-goals_added (key ∷ keys) (goal ∷ goals) = let rest = goals_added keys goals in omega (arith, rest)
-
-pub first_added : (world : World) (first : Forest) → IsFirst world first → subtrees first ≡ 0
-first_added world first is = ap subtrees is.is ∙ (let below = goals_added is.keys world.goals in omega (arith, below))
-
--- a plan tree that was just made is the first one
-pub first_made : (world : World) (t : PlanTree) → (keys : List ℕ) × (length keys ≡ length world.goals) × StandsFor t world (goal_tree t.root keys world.goals) → (first : Forest) × IsFirst world first × StandsFor t world first
-first_made world t (keys, all, st) = (goal_tree t.root keys world.goals, record { root = t.root; keys = keys; all = all; is = refl; apart = st.apart }, st)
-
 -- before the first trial
 pub no_step : (world : World) (limits : Limits) (t : PlanTree) (drivers : List DriverState) (first : Forest) → IsFirst world first → StandsFor t world first → NothingHeld drivers → UnderWay world limits t [] drivers drivers
 no_step world limits t drivers first is st quiet = record {
@@ -62,7 +48,7 @@ no_step world limits t drivers first is st quiet = record {
   tree = first;
   lead = refl;
   stands = st;
-  many = first_added world first is;
+  many = ap subtrees is.is ∙ first_many is.root is.keys world.goals;
   few = omega arith;
   drivers = refl;
   none = quiet;

@@ -4,14 +4,14 @@ use Rattle.bt_model.specs.declared.world.Row.{Row}
 use Rattle.bt_model.specs.declared.world.World.{World}
 use Rattle.bt_expand.specs.declared.node.Part.TheVariants.{Sequence}
 use Rattle.bt_expand.specs.declared.plan_tree.PlanTree.{PlanTree}
-use Rattle.bt_expand.specs.Forests.{Forest, added_by, subtrees, times}
+use Rattle.bt_expand.specs.Forests.{Forest, subtrees, times}
 use Rattle.bt_expand.specs.Stands.{IsSequenceOf, StandsFor}
 use Rattle.bt_expand.proofs.Expansions.{node_counts, part_node}
 use Rattle.slab.specs.Slab.{slab_len}
 use Rattle.bt_reorder.specs.Conflicts.{Pair}
 use Rattle.bt_reorder.specs.Raising.{Raises, raised}
 use Rattle.bt_plan.specs.Settling.{AreRaises, first_conflict}
-use Rattle.bt_plan.proofs.Nearer.{front, front_within, raised_many, raised_nearer}
+use Rattle.bt_plan.proofs.Nearer.{front, front_within, raised_nearer}
 
 -- one raise more
 pub raised_on : (rows : List Row) (sequence raises : ℕ) (tree now next : Forest) (pair : Pair) → AreRaises rows sequence raises tree now → first_conflict rows now ≡ Some pair → raised sequence now ≡ Some next →
@@ -48,15 +48,13 @@ pub next_so_far : (world : World) (first old now : PlanTree) (tree : Forest) (se
     Some pair ≡ first_conflict world.rows s.after → Raises now world s.after sequence → SoFar world first now tree sequence (raises + 1)
 next_so_far world first old now tree sequence raises pair s conflict r =
     let nearer = raised_nearer sequence s.after r.tree_after s.stands.apart.once (sequence_counts s.after sequence s.is) r.is in
-    let same = raised_many (λ k x. added_by x) sequence s.after r.tree_after s.stands.apart.once r.is in
     let before = s.nearer in
-    let many = s.many in
     record {
       after = r.tree_after;
       raised = raised_on world.rows sequence raises tree s.after r.tree_after pair s.raised (sym conflict) r.is;
       stands = r.stands;
       is = (s.is.0, r.kept sequence (Sequence s.is.0) s.is.1);
-      many = omega (arith, same, many);
+      many = r.many ∙ s.many;
       nearer = omega (arith, nearer, before);
     }
 

@@ -10,10 +10,10 @@ use Rattle.bt_expand.specs.declared.node.Node.{Node}
 use Rattle.bt_expand.specs.declared.node.Part.{Part}
 use Rattle.bt_expand.specs.declared.node.Part.TheVariants.{Goals}
 use Rattle.bt_expand.specs.declared.plan_tree.PlanTree.{PlanTree}
-use Rattle.bt_expand.specs.Forests.{Forest, Empty, Tree, Ancestor, Place, added_by, ancestors, changed_below, count, height, part_at, place_of, times, tops, total}
+use Rattle.bt_expand.specs.Forests.{Forest, Empty, Tree, Ancestor, Place, added_by, ancestors, changed_below, count, height, part_at, place_of, subtrees, times, tops, total}
 use Rattle.bt_expand.specs.Growth.{Edits}
 use Rattle.bt_expand.specs.Stands.{IsSequenceOf, Keeps, Stands, StandsFor}
-use Rattle.bt_expand.proofs.Counted.{changed_here, changed_other, is_other, is_same, one_of, tested, total-changed}
+use Rattle.bt_expand.proofs.Counted.{changed_here, changed_other, is_other, is_same, one_of, tested}
 use Rattle.bt_expand.proofs.Expansions.{node_counts, node_found, part_node}
 use Rattle.bt_expand.proofs.NewNodes.{edited_as, edited_keeps, edited_len, edited_other}
 use Rattle.bt_expand.proofs.Places.{placed}
@@ -23,7 +23,7 @@ use Rattle.bt_reorder.specs.declared.raising.Move.{Move}
 use Rattle.bt_reorder.specs.Looked.{move_in, swapped}
 use Rattle.bt_reorder.specs.Raising.{Raises, can_move, moved_in, raised, swap_at}
 use Rattle.bt_reorder.proofs.Climbed.{Above, found_move, length-tops, mapped_move, moves_some}
-use Rattle.bt_reorder.proofs.Swaps.{height-swap, swap_fits, swap_own, swap_stands, total-swap}
+use Rattle.bt_reorder.proofs.Swaps.{height-swap, swap_fits, swap_own, swap_stands, total-moved}
 
 height_kept : (p : ℕ) (change : Part → Forest → Forest) (f : Forest) → ((part : Part) (below : Forest) → height (change part below) ≤ height below) → height (changed_below p change f) ≤ height f
 height_kept p change Empty keeps = omega arith
@@ -63,10 +63,11 @@ module _ (world : World) (t : PlanTree) (tree : Forest) (st : StandsFor t world 
         (λ (k : ℕ) (node : Node) has there. other_nodes k (λ e. absurd (omega (arith, has, subst (λ (n : ℕ). times n below ≡ 0) (sym e) lacks))) ∙ there) stands),
   )
 
-  totals : (weight : ℕ → Part → ℕ) → total weight (changed_below a.key change tree) ≡ total weight tree
-  totals weight =
-      let all = total-changed weight a.key 0 change tree once (λ (part : Part) (f : Forest) found. let same = total-swap weight place f in omega (arith, same)) in
-      omega (arith, all)
+  totals : (weight : ℕ → Part → ℕ) → total weight (moved_in a tree) ≡ total weight tree
+  totals weight = total-moved weight a tree once
+
+  pub moved_many : subtrees (moved_in a tree) ≡ subtrees tree
+  moved_many = totals (λ k x. added_by x)
 
   stands_now : Stands new None (t.root ∷ []) (changed_below a.key change tree)
   stands_now = stands_changed t.nodes new a.key
@@ -95,7 +96,7 @@ module _ (world : World) (t : PlanTree) (tree : Forest) (st : StandsFor t world 
     shape =
         let root = root_stays a.key change t.root st.shape.below tree st.shape.is in
         let nodes = totals (λ k x. 1) in
-        let added = totals (λ k x. added_by x) in
+        let many = moved_many in
         let few = st.shape.few in
         let low = st.shape.low in
         let level = height_kept a.key change tree (λ (part : Part) (f : Forest). let same = height-swap place f in omega (arith, same)) in
@@ -104,8 +105,8 @@ module _ (world : World) (t : PlanTree) (tree : Forest) (st : StandsFor t world 
           is = root.1;
           fit = changed_fits a.key change (length world.rows) (λ (part : Part) (f : Forest) ok. swap_fits (length world.rows) place f ok)
               (λ (part : Part) (f : Forest) ok. swap_own (length world.rows) place part f ok) tree st.shape.fit;
-          few = omega (arith, nodes, added, few);
-          low = omega (arith, added, low, level);
+          few = omega (arith, nodes, many, few);
+          low = omega (arith, many, low, level);
         };
   }
 
@@ -186,6 +187,7 @@ module _ (world : World) (t : PlanTree) (tree : Forest) (st : StandsFor t world 
         tree_after = moved_in c.a tree;
         is = ap (λ (o : Option Ancestor). option_map (λ (a : Ancestor). moved_in a tree) o) c.first;
         stands = moved_stands world t tree st c.child c.a c.outer c.up new edit_a;
+        many = moved_many world t tree st c.child c.a c.outer c.up new edit_a;
         kept = moved_parts world t tree st c.child c.a c.outer c.up new edit_a;
       }
 

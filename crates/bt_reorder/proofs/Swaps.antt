@@ -1,13 +1,14 @@
 -- Neighbours that change places.
-use Rattle.std.proofs.Common.{◌≡◌, ◌≢◌, ℕ, zero, suc, ◌<◌, List, [], ◌∷◌, length, Option, refl, ap, sym, ◌∙◌, subst, arith, slice_set, slice_index_or}
+use Rattle.std.proofs.Common.{◌≡◌, ◌≢◌, ℕ, zero, suc, ◌-◌, ◌<◌, List, [], ◌∷◌, length, Option, refl, ap, sym, ◌∙◌, subst, arith, slice_set, slice_index_or}
 use Rattle.slab.specs.Slab.{Slab}
 use Rattle.bt_expand.specs.declared.node.Node.{Node}
 use Rattle.bt_expand.specs.declared.node.Part.{Part}
 use Rattle.bt_expand.specs.declared.node.Part.TheVariants.{Goals, Sequence, Fallback, Condition, Action}
-use Rattle.bt_expand.specs.Forests.{Forest, Empty, Tree, height, total}
+use Rattle.bt_expand.specs.Forests.{Forest, Empty, Tree, Ancestor, count, height, times, total}
 use Rattle.bt_expand.specs.Stands.{PartFits, PartsFit, Stands}
+use Rattle.bt_expand.proofs.Counted.{total-changed}
 use Rattle.bt_reorder.specs.Looked.{swapped}
-use Rattle.bt_reorder.specs.Raising.{swap_at}
+use Rattle.bt_reorder.specs.Raising.{moved_in, swap_at}
 
 -- two stores swap neighbours
 pub swapped_by_stores : (place : ℕ) (keys : List ℕ) → suc place < length keys →
@@ -24,6 +25,13 @@ total-swap weight zero (Tree a x below Empty) = refl
 total-swap weight zero (Tree a x below (Tree b y under rest)) = omega arith
 total-swap weight (suc place) Empty = refl
 total-swap weight (suc place) (Tree a x below rest) = let later = total-swap weight place rest in omega (arith, later)
+
+-- a move changes no sum
+pub total-moved : (weight : ℕ → Part → ℕ) (a : Ancestor) (f : Forest) → times a.key f ≡ 1 → total weight (moved_in a f) ≡ total weight f
+total-moved weight a f once =
+    let place = count a.before - 1 in
+    let all = total-changed weight a.key 0 (λ (part : Part). swap_at place) f once (λ (part : Part) (g : Forest) found. let same = total-swap weight place g in omega (arith, same)) in
+    omega (arith, all)
 
 pub height-swap : (place : ℕ) (f : Forest) → height (swap_at place f) ≡ height f
 height-swap zero Empty = refl

@@ -4,7 +4,7 @@ use Rattle.std.specs.List.{find}
 use Rattle.bt_model.specs.declared.world.World.{World}
 use Rattle.bt_expand.specs.declared.node.Part.{Part}
 use Rattle.bt_expand.specs.declared.plan_tree.PlanTree.{PlanTree}
-use Rattle.bt_expand.specs.Forests.{Forest, Tree, Ancestor, ancestors, changed_below, count, is_sequence, part_at}
+use Rattle.bt_expand.specs.Forests.{Forest, Tree, Ancestor, ancestors, changed_below, count, is_sequence, part_at, subtrees}
 use Rattle.bt_expand.specs.Stands.{StandsFor}
 
 -- the tree at this place and the next one change places
@@ -26,9 +26,10 @@ moved_in a tree = changed_below a.key (λ part. swap_at (count a.before - 1)) tr
 abbrev pub raised : ℕ → Forest → Option Forest
 raised k tree = option_map (λ (a : Ancestor). moved_in a tree) (find can_move (ancestors k tree))
 
--- the plan tree stands for the raised tree, and each key names the same node
+-- the plan tree stands for the raised tree, which has as many sequences, and each key names the same node
 pub record Raises (after : PlanTree) (world : World) (tree : Forest) (k : ℕ) : Type 0 where
   pub tree_after : Forest
   pub is : raised k tree ≡ Some tree_after
   pub stands : StandsFor after world tree_after
+  pub many : subtrees tree_after ≡ subtrees tree
   pub kept : (old : ℕ) (part : Part) → part_at old tree ≡ Some part → part_at old tree_after ≡ Some part

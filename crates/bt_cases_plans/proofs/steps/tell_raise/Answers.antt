@@ -3,5 +3,5 @@ use Rattle.bt_cases_plans.proofs.steps.tell_raise.Goals as goal
 
 pub returns : goal.returns
 returns c =
-    after_raise c.raise.result c.args.world.now c.args.t.now c.raise.new.t c.requires.0 c.args.key c.requires.1
-    (c.raise.ensures.raised c.args.world.now c.requires.0 c.requires.1 c.requires.2)
+    let p = c.requires.plan in
+    after_raise c.raise.result c.args.world.now c.args.growing.now.tree c.raise.new.t c.args.growing.now.added c.args.key p (c.raise.ensures.raised c.args.world.now p.0 p.1 (c.requires.sequence p.0 p.1))

@@ -8,7 +8,7 @@ use Rattle.bt_domain.specs.declared.template.Template.{Template}
 use Rattle.bt_expand.specs.declared.rule.Rule.{Rule}
 use Rattle.bt_expand.specs.Growth.{Adds, all_achievers_by, branch_tree}
 use Rattle.bt_expand.specs.Rows.{rule_of}
-use Rattle.bt_expand.proofs.Expands.{first_stands}
+use Rattle.bt_expand.proofs.Expands.{first_many, first_stands}
 use Rattle.bt_expand.proofs.plan_tree.plan_tree_of.Goals as goal
 
 pub returns : goal.returns
@@ -28,4 +28,5 @@ returns c =
           (c.in_ok-rules.ensures ∙ ap (λ rows. map rule_of rows) c.list.ensures) (c.of.ensures ∙ c.in_ok-templates.ensures)
           (c.in_ok-achievers.ensures ∙ ap (λ (l : List Rule). all_achievers_by l c.as_slice.result.now) c.list-2.ensures
           ∙ ap (λ (l : List Template). all_achievers_by c.in_ok-rules.rules l) (c.as_slice.ensures.value ∙ sym c.of.ensures)) none adds counted,
+      first_many root keys world.goals,
     )

@@ -21,7 +21,7 @@ returns-in-None c = λ trial st decides notes few.
     let are = own ∙ ap (λ (l : List Note). failed trial.tree l) notes in
     let g = c.in_ok-found.ensures world trial.tree st (are_conditions world c.args.t.now trial.tree c.args.notes.now c.as_slice.result.now st own) in
     let none = subst (λ (o : Option Grown). GrowsOrNot c.expand_first.new.t world trial.tree c.as_slice.result.now o) c.in-None.is g in (
-      ends_without world c.args.limits.now trial c.args.t.now c.expand_first.new.t c.expand_first.new.t c.as_slice.result.now st decides are c.in_ok-ids_of-in-None.field-0 none
+      ends_without world c.args.limits.now trial c.expand_first.new.t c.expand_first.new.t c.as_slice.result.now decides are c.in_ok-ids_of-in-None.field-0 none
           (c.in_ok-ids_of-in-None.ensures ∙ ap (λ (rows : List Row). ids_of rows c.as_slice-in-None.result.now) c.list.ensures
           ∙ ap (λ (l : List Place). ids_of world.rows l) (c.as_slice-in-None.ensures.value ∙ sym c.as_slice.ensures.value)),
       refl,
@@ -34,7 +34,7 @@ returns-then-len-limits c = λ trial st decides notes few.
     let are = own ∙ ap (λ (l : List Note). failed trial.tree l) notes in
     let g = c.in_ok-found.ensures world trial.tree st (are_conditions world c.args.t.now trial.tree c.args.notes.now c.as_slice.result.now st own) in
     let some = subst (λ (o : Option Grown). GrowsOrNot c.expand_first.new.t world trial.tree c.as_slice.result.now o) c.in-Some.is g in
-    ((is_open world c.args.limits.now trial c.args.t.now c.expand_first.new.t c.expand_first.new.t c.as_slice.result.now st decides are c.in-Some.grown some, omega (arith, c.len.ensures, c.if-len-limits.true), refl), refl)
+    ((is_open world c.args.limits.now trial c.expand_first.new.t c.expand_first.new.t c.as_slice.result.now decides are c.in-Some.grown some, omega (arith, c.len.ensures, c.if-len-limits.true), refl), refl)
 
 pub settle_step-requires : goal.settle_step-requires
 settle_step-requires c =
@@ -44,7 +44,7 @@ settle_step-requires c =
     let own = c.as_slice.ensures.value ∙ c.in_ok-places.ensures world tree st in
     let g = c.in_ok-found.ensures world tree st (are_conditions world c.args.t.now tree c.args.notes.now c.as_slice.result.now st own) in
     let some = subst (λ (o : Option Grown). GrowsOrNot c.expand_first.new.t world tree c.as_slice.result.now o) c.in-Some.is g in
-    settle_within world c.args.t.now c.expand_first.new.t tree c.as_slice.result.now st c.requires.2 c.in-Some.grown some
+    settle_within world c.expand_first.new.t tree c.as_slice.result.now c.requires.2 c.in-Some.grown some
 
 pub returns : goal.returns
 returns c =
@@ -55,6 +55,6 @@ returns c =
     let are = own ∙ ap (λ (l : List Note). failed trial.tree l) notes in
     let g = c.in_ok-found.ensures world trial.tree st (are_conditions world c.args.t.now trial.tree c.args.notes.now c.as_slice.result.now st own) in
     let some = subst (λ (o : Option Grown). GrowsOrNot c.expand_first.new.t world trial.tree c.as_slice.result.now o) c.in-Some.is g in
-    settled_ends world c.args.limits.now trial c.args.t.now c.expand_first.new.t c.settle_step.new.t c.as_slice.result.now st decides are c.in-Some.grown some (length c.args.steps.now.items) c.args.steps.now.items
+    settled_ends world c.args.limits.now trial c.expand_first.new.t c.settle_step.new.t c.as_slice.result.now decides are c.in-Some.grown some (length c.args.steps.now.items) c.args.steps.now.items
     c.settle_step.new.steps.items end (omega (arith, few, c.len.ensures, c.if-len-limits.false)) (is _ some.expands.stands (some.expands.template.row, some.expands.sequence)))
     c.settle_step.ensures
