@@ -5,6 +5,7 @@ pub mod AlikeRaised
 pub mod AlikeSettled
 pub mod AlikeTried
 pub mod Beginnings
+pub mod Causes
 pub mod Conditions
 pub mod Growths
 pub mod Joined
@@ -14,11 +15,11 @@ pub mod Marks
 pub mod Nearer
 pub mod OneWay
 pub mod Pairwise
+pub mod PartRows
 pub mod Planned
 pub mod Reaching
 pub mod Rising
 pub mod Settlements
 pub mod Settles
 pub mod Spots
-pub mod Subtrees
 pub mod Trials

@@ -17,7 +17,7 @@ step_line s = comment (codes "expand " ++ decimal s.uid ++ codes " " ++ s.condit
 abbrev pub listed : List (List ℕ) → List ℕ
 listed names = flat_map (λ (name : List ℕ). codes " " ++ name) names
 
--- The words of an end. Names are those of the tree whose run faulted.
+-- The words of an end. The cause of a fault is told by these names, if it has one.
 abbrev pub end_words : LineNames → End → List ℕ
 end_words names (Reached tree tick) = codes "reached tick " ++ decimal tick
 end_words names (NoTemplate failed) = codes "no plan NoTemplate" ++ listed failed

@@ -1,11 +1,13 @@
 ghost use Rattle.std.specs.Prelude.{◌≡◌, List};
 ghost use Rattle.bt_model.specs.declared.world.World.{World};
 ghost use Rattle.bt_model.specs.Drivers.{DriverState};
+ghost use Rattle.bt_model.specs.Lines.{LineNames};
 ghost use Rattle.bt_model.specs.Worlds.{IsValidWorld};
 ghost use Rattle.bt_trace.specs.Cuts.{HaveBegunWithin};
 ghost use Rattle.bt_plan.specs.declared.ending.Limits.{Limits};
 ghost use Rattle.bt_plan.specs.declared.ending.PlanEnd.{PlanEnd};
 ghost use Rattle.bt_plan.specs.Answers.{IsPlan, IsPlanCut};
+ghost use Rattle.bt_plan.specs.Lines.{end_line};
 ghost use Rattle.bt_plan.specs.PlanRuns.{IsReached, PlanRun, Trial};
 
 /// Where a plan run ends at the goals, its tree makes every goal true after the tick that it names,
@@ -28,4 +30,12 @@ pub fn plans_run_one_way()
 pub fn plan_cuts_begin_within()
     ensures { (world : World) (limits : Limits) (before now after : List DriverState) (planned : PlanEnd) → IsValidWorld world →
         IsPlanCut world limits before now → IsPlan world limits before after planned → HaveBegunWithin before now after }
+{}
+
+/// No cause of a plan's fault has a name in it: the line of the end is the same by whatever names it
+/// is told. Planned trees have no scripts, and the rows of their leaves have no input ports.
+pub fn causes_of_plans_have_no_names()
+    ensures { (world : World) (limits : Limits) (planned : PlanEnd) (trials : List Trial) (last : Trial) (names other : LineNames) →
+        IsValidWorld world → PlanRun world limits planned trials last →
+        end_line names planned.end ≡ end_line other planned.end }
 {}

@@ -45,8 +45,8 @@ abbrev pub reached_lines : End → List (List ℕ)
 reached_lines (Reached tree tick) = tree_lines tree
 reached_lines _ = []
 
--- A line for each step, one for the end, and the tree that reaches the goals. No cause of a plan's fault has a name in it,
--- since its leaves have neither keys nor inputs.
+-- A line for each step, one for the end, and the tree that reaches the goals. The line of the end is told without names,
+-- since no cause of a plan's fault has one in it: `causes_of_plans_have_no_names`, a law of `bt_plan`.
 abbrev pub plan_bytes : PlanEnd → List ℕ
 plan_bytes planned = concat (map step_line planned.steps) ++ (end_line no_names planned.end ++ concat (reached_lines planned.end))
 

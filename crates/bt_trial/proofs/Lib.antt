@@ -1,10 +1,13 @@
+pub mod ClaimedRules
+pub mod ClaimedVisits
+pub mod Claims
 pub mod Faults
 pub mod Finishing
+pub mod Portless
+pub mod PortlessRows
 pub mod Resting
 pub mod RootAnswers
 pub mod Rootless
-pub mod RootlessRules
-pub mod RootlessVisits
 pub mod Ticks
 pub mod Traces
 pub mod Wanted

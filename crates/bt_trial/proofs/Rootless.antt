@@ -1,105 +1,130 @@
--- Parts of an event that note no answer of the root, and the words of rules.
-use Rattle.std.proofs.Common.{◌≡◌, ℕ, zero, suc, ◌+◌, Bool, List, [], ◌∷◌, ◌++◌, map, cond, count_by, Result, Ok, Err, refl, arith}
-use Rattle.std.proofs.lemmas.Bool.{cond_both}
+-- No visit and no reset notes an answer of the root, so the notes of a tick tell one at most.
+use Rattle.std.proofs.Common.{◌≡◌, ℕ, ◌+◌, List, [], ◌∷◌, ◌++◌, cond, count_by, Option, Some, None, Result, Ok, Err, map, refl, arith}
+use Rattle.std.specs.List.{AllByRecursion}
+use Rattle.std.specs.Result.{IfErr}
 use Rattle.std.proofs.lemmas.List.Sums.{sum_by-append}
+use Rattle.bt_script.specs.declared.syntax.Script.{Script}
+use Rattle.bt_model.specs.declared.block.Header.{Header}
+use Rattle.bt_model.specs.declared.block.Header.TheVariants as header
 use Rattle.bt_model.specs.declared.fault.NodeFault.{NodeFault}
-use Rattle.bt_model.specs.declared.memory.Memo.{Memo}
-use Rattle.bt_model.specs.declared.memory.Memo.TheVariants.{Nothing}
-use Rattle.bt_model.specs.declared.memory.Memory.{Memory}
-use Rattle.bt_model.specs.declared.moves.Span.{Span}
-use Rattle.bt_model.specs.declared.moves.Span.TheVariants as span
+use Rattle.bt_model.specs.declared.leaf.Phase.{Phase}
+use Rattle.bt_model.specs.declared.leaf.Phase.TheVariants as phase
+use Rattle.bt_model.specs.declared.leaf.Reply.{Reply}
+use Rattle.bt_model.specs.declared.leaf.Reply.TheVariants as reply
+use Rattle.bt_model.specs.declared.memory.Memory.{Memory, out-Memory}
 use Rattle.bt_model.specs.declared.note.Note.{Note}
+use Rattle.bt_model.specs.declared.note.Note.TheVariants.{Root}
 use Rattle.bt_model.specs.declared.status.Answer.{Answer}
-use Rattle.bt_model.specs.declared.status.Answer.TheVariants as answer
-use Rattle.bt_model.specs.Done.{Done, State, carried, done, follow}
-use Rattle.bt_model.specs.Rules.Answers.{pass_on}
-use Rattle.bt_model.specs.Sites.{Meaning, View, children_from, memory_at}
-use Rattle.bt_model.specs.Steps.{Child, Rule, child_at, is_completed, keep, over, reset, reset_within, resets, spans, visit, visit_or_pass}
-use Rattle.bt_trial.specs.Modelled.{is_root}
+use Rattle.bt_model.specs.declared.status.Status.{Status}
+use Rattle.bt_model.specs.declared.term.Term.{Term, Term-F}
+use Rattle.bt_model.specs.declared.term.Term.TheFolds.{map-Term}
+use Rattle.bt_model.specs.declared.term.Tree.{Tree}
+use Rattle.bt_model.specs.declared.world.Row.{Row}
+use Rattle.bt_model.specs.declared.world.World.{World}
+use Rattle.bt_model.specs.Done.{Call, Done, State, carried}
+use Rattle.bt_model.specs.Leaves.{leaf_call, reply_notes, row_of}
+use Rattle.bt_model.specs.Run.{RunState, Runner, root_told, root_view, settled, state_of, tick_step, ticked, told, with_runner}
+use Rattle.bt_model.specs.Sites.{Meaning, Site, View}
+use Rattle.bt_model.specs.Visit.{change, meaning}
+use Rattle.bt_laws.proofs.Induction.{every_term, node_means}
+use Rattle.bt_trial.specs.Modelled.{TellRootOnce, is_root}
+use Rattle.bt_trial.proofs.Claims.{Claim, Meets, TermMeets}
+use Rattle.bt_trial.proofs.ClaimedVisits.{NodeMeets, ScriptMeets, change_meets, node_meets}
 
 -- how many notes tell an answer of the root
-abbrev pub roots : List Note → ℕ
+abbrev roots : List Note → ℕ
 roots notes = count_by is_root notes
 
-pub roots_both : (xs ys : List Note) → roots (xs ++ ys) ≡ roots xs + roots ys
+roots_both : (xs ys : List Note) → roots (xs ++ ys) ≡ roots xs + roots ys
 roots_both xs ys = sum_by-append (λ note. cond (is_root note) 1 0) xs ys
 
--- a part of an event notes no answer of the root
-abbrev pub IsRootless : {A M : Type 0} → Done A M → Type 0
-IsRootless d = roots d.notes ≡ 0
-
-module _ {A M B N : Type 0} where
-  carried_rootless : (r : Result A NodeFault) (d : Done A M) (place : M → N) (go : A → M → State → Done B N) → IsRootless d → ((a : A) → IsRootless (go a d.memory d.state)) → IsRootless (carried r d place go)
-  carried_rootless (Ok a) d place go here goes = omega (arith, here, goes a, roots_both d.notes (go a d.memory d.state).notes)
-  carried_rootless (Err f) d place go here goes = here
-
-  -- a part and the part after it
-  pub follow_rootless : (d : Done A M) (place : M → N) (go : A → M → State → Done B N) → IsRootless d → ((a : A) → IsRootless (go a d.memory d.state)) → IsRootless (follow d place go)
-  follow_rootless d = carried_rootless d.answer d
-
--- ---- Children
-
--- visits and resets of a node note no answer of the root
-pub record Rootless (c : Meaning) : Type 0 where
-  pub reset : (view : View) (uid : ℕ) (m : Memory) (s : State) → IsRootless (c.reset view uid m s)
-  pub visit : (view : View) (uid : ℕ) (m : Memory) (s : State) → IsRootless (c.visit view uid m s)
-
--- .. and so it is for its parent
-pub record RootlessChild (c : Child) : Type 0 where
-  pub reset : (ms : List Memory) (s : State) → IsRootless (c.reset ms s)
-  pub visit : (ms : List Memory) (s : State) → IsRootless (c.visit ms s)
-
-pub children_rootless : {X : Type 0} (means : X → Meaning) → ((c : X) → Rootless (means c)) → (view : View) (cs : List X) (uid first place : ℕ) → RootlessChild (child_at (children_from view (map means cs) uid first) place)
-children_rootless means each view [] uid first place = record { reset = λ ms s. refl; visit = λ ms s. refl }
-children_rootless means each view (c ∷ cs) uid first zero = record {
-  reset = λ ms s. (each c).reset view uid (memory_at ms first) s;
-  visit = λ ms s. (each c).visit view uid (memory_at ms first) s;
+-- no note tells an answer of the root
+abbrev rootless : Claim
+rootless = record {
+  state = λ s. Unit {0};
+  notes = λ notes. roots notes ≡ 0;
+  cause = λ cause. Unit {0};
+  view = λ view. Unit {0};
+  no_note = refl;
+  both = λ xs ys one other. omega (arith, one, other, roots_both xs ys);
+  changed = λ uid old new. refl;
+  halted = λ uid. refl;
+  freed = λ s instances fits. tt;
+  bad_port = λ port. tt;
+  mixed = tt;
+  below = λ v scope seen. tt;
 }
-children_rootless means each view (c ∷ cs) uid first (suc place) = children_rootless means each view cs (uid + (means c).size) (first + 1) place
 
-pub resets_rootless : (span : Span) (ks : List Child) (first : ℕ) (ms : List Memory) (s : State) → ((place : ℕ) → RootlessChild (child_at ks place)) → IsRootless (resets span ks first ms s)
-resets_rootless span [] first ms s each = refl
-resets_rootless span (k ∷ ks) first ms s each =
-    follow_rootless (reset_within span first k ms s) (λ ms1. ms1) (λ _ ms1 s1. resets span ks (first + 1) ms1 s1)
-    (cond_both (spans span first) (k.reset ms s) (done tt ms s) (λ d. IsRootless d) (λ _. (each zero).reset ms s) (λ _. refl))
-    (λ _. resets_rootless span ks (first + 1) (reset_within span first k ms s).memory (reset_within span first k ms s).state (λ place. each (suc place)))
+-- ---- Every term
 
--- ---- Rules
+any_end : {A : Type 0} (answer : Result A NodeFault) → IfErr answer (λ f. Unit {0})
+any_end (Ok a) = tt
+any_end (Err f) = tt
 
-module _ (ks : List Child) (each : (place : ℕ) → RootlessChild (child_at ks place)) where
-  -- this rule notes no answer of the root, with these children
-  abbrev pub RootlessRule : Rule → Type 0
-  RootlessRule rule = (ms : List Memory) (s : State) → IsRootless (rule ks ms s)
+without_notes : {A M : Type 0} (d : Done A M) → roots d.notes ≡ 0 → Meets rootless d
+without_notes d none = record { state = tt; notes = none; end = any_end d.answer }
 
-  pub either_rootless : (b : Bool) (one other : Rule) → RootlessRule one → RootlessRule other → RootlessRule (cond b one other)
-  either_rootless b one other first second = cond_both b one other (λ rule. RootlessRule rule) (λ _. first) (λ _. second)
+any_script : (site : Site) (script : Option Script) → ScriptMeets rootless site script
+any_script site None = tt
+any_script site (Some script) = λ s fits. without_notes _ refl
 
-  pub keep_rootless : (a : Answer) (memo : Memo) → RootlessRule (keep a memo)
-  unfolding keep
-  keep_rootless a memo = λ ms s. refl
+reply_rootless : (p : Phase) (uid : ℕ) (r : Reply) → roots (reply_notes p uid r) ≡ 0
+reply_rootless phase.Start uid reply.Running = refl
+reply_rootless phase.Start uid reply.Success = refl
+reply_rootless phase.Start uid reply.Failure = refl
+reply_rootless _ uid reply.Running = refl
+reply_rootless _ uid reply.Success = refl
+reply_rootless _ uid reply.Failure = refl
+reply_rootless p uid (reply.Broken cause) = refl
 
-  pub visit_rootless : (place : ℕ) (go : Answer → Rule) → ((a : Answer) → RootlessRule (go a)) → RootlessRule (visit place go)
-  unfolding visit
-  visit_rootless place go goes = λ ms s.
-      let d : Done Answer (List Memory) = (child_at ks place).visit ms s in
-      follow_rootless d (λ ms1. ms1) (λ a ms1 s1. go a ks ms1 s1) ((each place).visit ms s) (λ a. goes a d.memory d.state)
+any_leaf : (row : Option Row) (site : Site) (st : Status) (ms : List Memory) (s : State) → Meets rootless (leaf_call row site st ms s)
+any_leaf None site st ms s = without_notes _ refl
+any_leaf (Some row) site st ms s = without_notes (leaf_call (Some row) site st ms s) (reply_rootless _ site.uid _)
 
-  pub pass_rootless : (place : ℕ) (passed : Rule) (go : Answer → Rule) → RootlessRule passed → RootlessRule (visit place go) → RootlessRule (visit_or_pass place passed go)
-  unfolding visit_or_pass
-  pass_rootless place passed go passes goes = λ ms s.
-      cond_both (is_completed ((child_at ks place).status ms)) (passed ks ms s) (visit place go ks ms s) (λ d. IsRootless d) (λ _. passes ms s) (λ _. goes ms s)
+any_node : (site : Site) → NodeMeets rootless site
+any_node site = record {
+  failure_if = any_script site site.node.guards.failure_if;
+  success_if = any_script site site.node.guards.success_if;
+  skip_if = any_script site site.node.guards.skip_if;
+  while_true = any_script site site.node.guards.while_true;
+  on_success = any_script site site.node.guards.on_success;
+  on_failure = any_script site site.node.guards.on_failure;
+  post = any_script site site.node.guards.post;
+  on_halted = any_script site site.node.guards.on_halted;
+  code = any_script site site.node.code;
+  leaf = λ is st ms s fits. any_leaf (row_of site.view.rows site.node.id) site st ms s;
+}
 
-  pub reset_rootless : (span : Span) (rule : Rule) → RootlessRule rule → RootlessRule (reset span rule)
-  unfolding reset
-  reset_rootless span rule rootless = λ ms s.
-      let d : Done (Unit {0}) (List Memory) = resets span ks 0 ms s in
-      follow_rootless d (λ ms1. ms1) (λ _ ms1 s1. rule ks ms1 s1) (resets_rootless span ks 0 ms s each) (λ _. rootless d.memory d.state)
+all_rootless : {X : Type 0} (term : X → Term) → ((c : X) → TermMeets rootless (meaning (term c))) → (cs : List X) → AllByRecursion (TermMeets rootless) (map (λ c. meaning (term c)) cs)
+all_rootless term each [] = tt
+all_rootless term each (c ∷ cs) = (each c, all_rootless term each cs)
 
-  pub over_rootless : (a : Answer) → RootlessRule (over a)
-  over_rootless a = reset_rootless span.All (keep a Nothing) (keep_rootless a Nothing)
+term_rootless : (t : Term) → TermMeets rootless (meaning t)
+term_rootless = every_term (λ t c rules. TermMeets rootless c) (λ X term each node.
+    node_meets rootless (map-Term X Meaning (λ c. meaning (term c)) node) (λ view seen uid. any_node _) (all_rootless term each node.children))
 
-  pub pass_on_rootless : (memo : Memo) (a : Answer) → RootlessRule (pass_on memo a)
-  pass_on_rootless memo answer.Running = keep_rootless answer.Running memo
-  pass_on_rootless memo answer.Success = over_rootless answer.Success
-  pass_on_rootless memo answer.Failure = over_rootless answer.Failure
-  pass_on_rootless memo answer.Skipped = over_rootless answer.Skipped
+-- ---- A tick
+
+module _ (tree : Tree) (runner : ℕ) where
+  told_once : (r : Result Answer NodeFault) (d : Done Answer Memory) → roots d.notes ≡ 0 → TellRootOnce (carried r d (λ m1. m1) (λ a m1 s1. root_told runner a m1 s1)).notes
+  told_once (Ok a) d none =
+      let st : Status = (out-Memory d.memory).status in
+      let change_notes : List Note = change 1 st (settled st) in
+      let root : List Note = Root runner a ∷ [] in
+      omega (arith, none, roots_both d.notes (Root runner a ∷ change_notes ++ []), roots_both root (change_notes ++ []), roots_both change_notes [], change_meets rootless 1 st (settled st))
+  told_once (Err f) d none = omega (arith, none)
+
+  -- a tick tells the root's answer once, or it ends in a fault
+  tick_once : (view : View) (m : Memory) (s : State) → TellRootOnce (ticked tree view runner m s).notes
+  tick_once view m s = let d : Done Answer Memory = (meaning tree.term).visit view 1 m s in told_once d.answer d ((term_rootless tree.term).visit view tt 1 m s tt).notes
+
+  without_fault : (r : Result Answer NodeFault) (header : Header) (notes : List Note) (calls : List Call) (s after : RunState) → TellRootOnce notes → (told r header tree runner notes calls s after).fault ≡ None → TellRootOnce (told r header tree runner notes calls s after).block.notes
+  without_fault (Ok a) header notes calls s after once none = once
+  without_fault (Err f) header notes calls s after once none = absurd (cc none)
+
+  -- the block of a tick without a fault tells the root's answer once at most
+  pub tick_tells_once : (o : Option Runner) (world : World) (at : ℕ) (s : RunState) → (tick_step o tree world runner at s).fault ≡ None → TellRootOnce (tick_step o tree world runner at s).block.notes
+  tick_tells_once None world at s none = omega arith
+  tick_tells_once (Some r) world at s none =
+      let d : Done Answer Memory = ticked tree (root_view tree world) runner r.memory (state_of r s.facts at) in
+      without_fault d.answer (header.Tick runner at) d.notes d.calls s (with_runner s runner at d) (tick_once (root_view tree world) r.memory (state_of r s.facts at)) none

@@ -35,7 +35,7 @@ use Rattle.bt_trial.specs.Modelled.{IsLast, TellRootOnce, decided, goals_hold, h
 use Rattle.bt_trial.specs.Tasks.{HaveFacts, IsInRange, IsTaskOf}
 use Rattle.bt_trial.specs.Ticked.{HasFaulted, HasTicked, IsAfter, TickEnds, TicksEnd}
 use Rattle.bt_trial.specs.Ticking.{alone, calls_after}
-use Rattle.bt_trial.proofs.RootlessVisits.{tick_tells_once}
+use Rattle.bt_trial.proofs.Rootless.{tick_tells_once}
 use Rattle.bt_trial.proofs.Traces.{broke, decided_none, more_calls, ran, some_last}
 
 -- ---- Moments
