@@ -1,10 +1,14 @@
-ghost use Rattle.std.specs.Prelude.{◌≡◌, Some, None, MatchOption};
+ghost use Rattle.std.specs.Prelude.{◌≡◌, ◌≢◌, Ok, Some, None, MatchOption};
 ghost use Rattle.bt_arena.specs.declared.join_fault.JoinFault.TheVariants as join;
 ghost use Rattle.bt_model.specs.Drivers.{NothingHeld};
 ghost use Rattle.bt_model.specs.Worlds.{IsValidWorld};
 ghost use Rattle.bt_refusals.specs.Ends.{EndsAt};
 ghost use Rattle.bt_answers.specs.Lent.{Stays, seen};
+ghost use Rattle.bt_command_line.specs.declared.exit.Exit.{Exit as Given};
+ghost use Rattle.bt_command_line.specs.declared.exit.Exit.TheVariants as exit;
 ghost use Rattle.bt_planning.specs.Plans.{WorldBegun, WorldPlans, first_unserved};
+ghost use Rattle.bt_plan.specs.declared.ending.PlanEnd.{PlanEnd as Planned};
+ghost use Rattle.bt_plan.specs.Answers.{IsPlan};
 ghost use Rattle.bt_plan.specs.PlanRuns.{AreInRange};
 
 use crate::plan_lines::print_plan;
@@ -35,7 +39,8 @@ fn unserved<D: Drivers>(rows: &[Row], drivers: &D) -> Option<DriverKind>
 
 /// Plans for the goals of a world, over drivers that serve all of its rows, and writes the steps and
 /// the end; or is refused, first where there is no goal, and then for the first row that no driver
-/// serves.
+/// serves. The plan is made whole before its first line is written, so a write that fails cuts no
+/// modelled run off.
 pub fn plan_and_print<S: Shelf, K: Sink, C: Clock, D: Drivers>(
     alloc: Global,
     world: &World,
@@ -48,6 +53,8 @@ pub fn plan_and_print<S: Shelf, K: Sink, C: Clock, D: Drivers>(
     ensures ends { EndsAt (λ moments drivers. WorldPlans world.now limits.now drivers) (WorldBegun world.now limits.now) result
         (seen K.written K.faults C.moments D.states outside.old)
         (seen K.written K.faults C.moments D.states outside.new) }
+    ensures made { (given : Given) → result ≡ Ok given → given ≢ exit.Memory → (planned : Planned) ×
+        IsPlan world.now limits.now (D.states outside.old.drivers.now) (D.states outside.new.drivers.now) planned }
     ensures unread { outside.new.shelf.now ≡ outside.old.shelf.now }
     ensures stays { Stays S.faults K.faults D.states outside.old outside.new }
 {
