@@ -145,3 +145,36 @@ fn rounds_have_the_moments_of_the_clock(rt: HostRuntime) -> Result<(), Fail> {
     }
     Ok(())
 }
+
+/// The exit of three rounds of a leaf where the write of this number fails, and the time that the clock
+/// gives next.
+fn asked_at_failure(alloc: Global, write: u64) -> Result<String, NoMemory> {
+    let mut clock = MemClock::new(Vec::from_slice(alloc, &[1, 2, 3, 4])?);
+    let mut sink = MemSink::new(alloc, vec![in alloc; (write, 0)]?);
+    let exit = live(
+        alloc,
+        "<A/>",
+        "action A timed 0",
+        "3",
+        &mut sink,
+        &mut clock,
+    )?;
+    Ok(format!(in alloc; "{exit:?}, next {}", clock.now())?)
+}
+
+/// After a write that fails the clock is asked no more. Each round has five lines, and the finish one.
+#[test]
+fn a_failed_write_asks_the_clock_no_more(rt: HostRuntime) -> Result<(), Fail> {
+    for (write, want) in [
+        (0, "Done, next 4"),
+        (1, "Write, next 2"),
+        (5, "Write, next 2"),
+        (6, "Write, next 3"),
+        (11, "Write, next 4"),
+        (16, "Write, next 4"),
+    ] {
+        let text = asked_at_failure(rt.alloc(), write)?;
+        assert_eq!(rt; text.as_str(), want, "{write}");
+    }
+    Ok(())
+}

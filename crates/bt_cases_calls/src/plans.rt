@@ -58,6 +58,36 @@ fn drivers_count_the_calls_of_modelled_runs(rt: HostRuntime) -> Result<(), Fail>
     Ok(())
 }
 
+/// The exit of a plan whose write of this number fails, and what its drivers have counted.
+fn counted_at_failure(alloc: Global, lines: &str, write: u64) -> Result<String, NoMemory> {
+    let mut shelf = shelf_of_rows(alloc, "", lines)?;
+    let mut sink = MemSink::new(alloc, vec![in alloc; (write, 0)]?);
+    let mut clock = MemClock::new(Vec::new(alloc));
+    let ending = answer(alloc, &["plan", "W"], &mut shelf, &mut sink, &mut clock)?;
+    Ok(format!(in alloc; "{:?}{}", ending.exit, ending.counts)?)
+}
+
+/// A plan is made whole before its first line is written: where this write fails, all modelled runs were made.
+#[test]
+fn a_plan_is_made_before_its_first_line(rt: HostRuntime) -> Result<(), Fail> {
+    for (write, want) in [
+        (
+            0,
+            "Done; Condition 3 0 0 trail 1000007000013; Timed 1 1 0 trail 1000005",
+        ),
+        (
+            1,
+            "Write; Condition 3 0 0 trail 1000007000013; Timed 1 1 0 trail 1000005",
+        ),
+    ] {
+        assert_eq!(rt;
+            counted_at_failure(rt.alloc(), TIMED, write)?.as_str(),
+            want
+        );
+    }
+    Ok(())
+}
+
 /// What a plan writes with these drivers, and its exit after it.
 fn planned_with(
     alloc: Global,

@@ -201,6 +201,45 @@ goal K
 goal C0
 ";
 
+/// Two actions with conflicts: the one that stands first in pre-order threatens the second goal, the other both.
+const ORDER: &str = "bt-world 1
+fact k 0
+fact l 0
+fact m 0
+fact n 0
+condition K is k == 0
+condition L is l == 0
+condition M is m == 1
+condition N is n == 1
+action MakeM timed 0
+needs N
+sets m = 1
+sets k = 1
+sets l = 1
+action MakeN timed 0
+sets n = 1
+sets l = 1
+goal K
+goal L
+goal M
+";
+
+/// An action that uses up what it needs.
+const USES: &str = "bt-world 1
+fact full 0
+fact done 0
+condition Full is full == 1
+condition Done is done == 1
+action Fill timed 0
+sets full = 1
+action Empty timed 0
+needs Full
+sets done = 1
+sets full = 0
+goal Full
+goal Done
+";
+
 /// A plan after its first step.
 static PICK_1: Row = Row {
     world: PICK,
@@ -641,6 +680,72 @@ untried
 "#,
 };
 
+/// Several conflicts at once: of one action the head further left comes first, and before it each of an action that stands
+/// earlier in pre-order.
+static MANY_CONFLICTS: Row = Row {
+    world: ORDER,
+    steps: &[
+        Step::Expand(4),
+        Step::Conflict,
+        Step::Expand(7),
+        Step::Conflict,
+    ],
+    want: r#"expand MakeM
+conflict MakeM K
+expand MakeN
+conflict MakeN L
+<root BTCPP_format="4" main_tree_to_execute="Plan">
+  <BehaviorTree ID="Plan">
+    <ReactiveSequence>
+      <K/>
+      <L/>
+      <ReactiveFallback>
+        <M/>
+        <ReactiveSequence>
+          <ReactiveFallback>
+            <N/>
+            <ReactiveSequence>
+              <MakeN/>
+            </ReactiveSequence>
+          </ReactiveFallback>
+          <MakeM/>
+        </ReactiveSequence>
+      </ReactiveFallback>
+    </ReactiveSequence>
+  </BehaviorTree>
+</root>
+"#,
+};
+
+/// What an action needs it may undo, in its own sequence alone.
+static USES_ITS_NEED: Row = Row {
+    world: USES,
+    steps: &[
+        Step::Expand(3),
+        Step::Conflict,
+        Step::Raise(5),
+        Step::Conflict,
+    ],
+    want: r#"expand Empty
+conflict Empty Full
+raised
+no conflict
+<root BTCPP_format="4" main_tree_to_execute="Plan">
+  <BehaviorTree ID="Plan">
+    <ReactiveSequence>
+      <ReactiveFallback>
+        <Done/>
+        <ReactiveSequence>
+          <Full/>
+          <Empty/>
+        </ReactiveSequence>
+      </ReactiveFallback>
+      <Full/>
+    </ReactiveSequence>
+  </BehaviorTree>
+</root>
+"#,
+};
 /// A node that is no condition, one that is no sequence, and a number that no node has.
 static NO_SUCH_NODES: Row = Row {
     world: NEEDS,
@@ -772,7 +877,7 @@ not raised
 
 #[test]
 fn plan_trees(rt: HostRuntime) -> Result<(), NoMemory> {
-    let rows: [&Row; 13] = [
+    let rows: [&Row; 15] = [
         &PICK_1,
         &PICK_2,
         &PICK_3,
@@ -784,6 +889,8 @@ fn plan_trees(rt: HostRuntime) -> Result<(), NoMemory> {
         &GOAL_TWICE,
         &ADDING,
         &ACHIEVES_AND_THREATENS,
+        &MANY_CONFLICTS,
+        &USES_ITS_NEED,
         &NO_SUCH_NODES,
         &LADDER_10,
     ];

@@ -2,7 +2,7 @@
 
 use bt_outside::{MemClock, MemSink};
 use bt_script::NoMemory;
-use bt_testbed::{answer, given, shelf_of_rows, world_of};
+use bt_testbed::{answer, given, shelf_of_rows, tree_of, world_of};
 use std::alloc::Global;
 use std::test::Fail;
 
@@ -199,6 +199,105 @@ fn plans_are_printed(rt: HostRuntime) -> Result<(), Fail> {
     Ok(())
 }
 
+/// Words, the lines of a world, and how the answer begins: what decides after a tick, which conditions are named and
+/// expanded first, and how often a sequence is raised.
+static BEGINNINGS: [(&[&str], &str, &str); 14] = [
+    // Effects that add: the root succeeds at each tick, and the goal is true after the third.
+    (
+        &["plan", "W"],
+        "fact n 0 / condition Three is n >= 3 / action Inc timed 0 / sets n += 1 / goal Three",
+        "<!-- expand 2 Three Inc raises 0 -->\n<!-- reached tick 3 -->\n<root",
+    ),
+    (
+        &["plan", "W"],
+        "fact n 0 / condition Three is n >= 3 / condition Low is n <= 5 / action Inc timed 0 / sets n += 1 / goal Low / goal Three",
+        "<!-- expand 3 Three Inc raises 1 -->\n<!-- reached tick 3 -->\n<root",
+    ),
+    // The goals are true after tick 2, in which the root answers RUNNING.
+    (
+        &["plan", "W"],
+        "fact g 0 / fact n 0 / fact m 0 / condition G is g == 1 / condition N is n == 1 / condition M is m == 1 / action C gate m == 1 / needs N / sets g = 1 / action B replay 0 FS / sets n = 1 / sets g = 1 / action W timed 100 / sets n = 1 / goal G",
+        "<!-- expand 2 G C raises 0 -->\n<!-- expand 3 G B raises 0 -->\n<!-- expand 5 N B raises 0 -->\n<!-- expand 6 N W raises 0 -->\n<!-- reached tick 2 -->\n<root",
+    ),
+    // .. and here FAILURE, in the last tick that is allowed.
+    (
+        &["plan", "W", "--ticks", "2"],
+        "fact g 0 / fact n 0 / fact m 0 / condition G is g == 1 / condition N is n == 1 / condition M is m == 1 / action C timed 0 / needs N / needs M / sets g = 1 / action B replay 0 FS / sets n = 1 / sets g = 1 / action W timed 100 / sets n = 1 / goal G",
+        "<!-- expand 2 G C raises 0 -->\n<!-- expand 3 G B raises 0 -->\n<!-- expand 5 N B raises 0 -->\n<!-- expand 6 N W raises 0 -->\n<!-- reached tick 2 -->\n<root",
+    ),
+    // .. and here the tick faults after the goals were made true.
+    (
+        &["plan", "W"],
+        "fact g 0 / fact n 0 / fact m 0 / condition G is g == 1 / condition N is n == 1 / condition M is m == 1 / action C timed 0 / fails 1/0 / needs N / sets g = 1 / action B replay 0 FS / sets n = 1 / sets g = 1 / action W timed 100 / sets n = 1 / goal G",
+        "<!-- expand 2 G C raises 0 -->\n<!-- expand 3 G B raises 0 -->\n<!-- expand 5 N B raises 0 -->\n<!-- expand 6 N W raises 0 -->\n<!-- no plan Faulted 11 ZeroDivisor -->\nFault",
+    ),
+    // Only what failed in the tick is named ..
+    (
+        &["plan", "W"],
+        "fact a 0 / fact b 0 / condition G1 is a == 1 / condition G2 is b == 1 / goal G1 / goal G2",
+        "<!-- no plan NoTemplate G1 -->\nNoPlan",
+    ),
+    // .. and twice where it stands twice and failed twice.
+    (
+        &["plan", "W"],
+        "fact g 0 / fact x 0 / condition G is g == 1 / condition X is x == 1 / action A timed 0 / needs X / sets g = 1 / action B timed 0 / needs X / sets g = 1 / goal G",
+        "<!-- expand 2 G A raises 0 -->\n<!-- expand 3 G B raises 0 -->\n<!-- no plan NoTemplate G X X -->\nNoPlan",
+    ),
+    // Each run begins with fresh instances, so that both tries fail in each.
+    (
+        &["plan", "W"],
+        "fact d 0 / condition G is d == 1 / action Try replay 0 FS / sets d = 1 / action Also replay 0 FS / sets d = 1 / goal G",
+        "<!-- expand 2 G Try raises 0 -->\n<!-- expand 3 G Also raises 0 -->\n<!-- no plan NoTemplate G -->\nNoPlan",
+    ),
+    // Level by level: K comes before P, which stands further left and deeper.
+    (
+        &["plan", "W"],
+        "fact g 0 / fact n 0 / fact k 0 / fact p 0 / condition G is g == 1 / condition N is n == 1 / condition K is k == 1 / condition P is p == 1 / action C timed 0 / needs N / sets g = 1 / action D timed 0 / needs K / sets g = 1 / action B timed 0 / needs P / sets n = 1 / action MakeP timed 0 / sets p = 1 / action MakeK timed 0 / sets k = 1 / goal G",
+        "<!-- expand 2 G C raises 0 -->\n<!-- expand 3 G D raises 0 -->\n<!-- expand 5 N B raises 0 -->\n<!-- expand 12 K MakeK raises 0 -->\n<!-- reached tick 1 -->\n<root",
+    ),
+    (
+        &["plan", "W"],
+        "fact g 0 / fact n 0 / fact k 0 / fact p 0 / condition G is g == 1 / condition N is n == 1 / condition K is k == 1 / condition P is p == 1 / action C timed 0 / needs N / sets g = 1 / action D timed 0 / needs K / sets g = 1 / action B timed 0 / needs P / sets n = 1 / goal G",
+        "<!-- expand 2 G C raises 0 -->\n<!-- expand 3 G D raises 0 -->\n<!-- expand 5 N B raises 0 -->\n<!-- no plan NoTemplate G K N P -->\nNoPlan",
+    ),
+    // Two raises in one step.
+    (
+        &["plan", "W"],
+        "fact p 1 / fact q 1 / fact g 0 / condition P is p == 1 / condition Q is q == 1 / condition G is g == 1 / action A timed 0 / sets g = 1 / sets p = 0 / sets q = 0 / action MakeP timed 0 / sets p = 1 / action MakeQ timed 0 / sets q = 1 / goal P / goal Q / goal G",
+        "<!-- expand 4 G A raises 2 -->\n<!-- expand 6 P MakeP raises 0 -->\n<!-- expand 10 Q MakeQ raises 0 -->\n<!-- reached tick 1 -->\n<root",
+    ),
+    // An alternative that could succeed stands in the tree, and is starved by one that keeps RUNNING.
+    (
+        &["plan", "W", "--ticks", "9"],
+        "fact g 0 / fact n 0 / fact k 0 / fact o 0 / condition G is g == 1 / condition N is n == 1 / condition K is k == 1 / action C timed 0 / needs N / sets g = 1 / action D timed 0 / needs K / sets g = 1 / action W gate o == 1 / sets n = 1 / action MakeK timed 0 / sets k = 1 / goal G",
+        "<!-- expand 2 G C raises 0 -->\n<!-- expand 3 G D raises 0 -->\n<!-- expand 5 N W raises 0 -->\n<!-- no plan StillRunning 9 -->\nNoPlan",
+    ),
+    // As many expansions as are allowed, and then the goals.
+    (
+        &["plan", "W", "--expand", "4", "--ticks", "3"],
+        PICK,
+        PICK_STEPS,
+    ),
+    (
+        &["plan", "W", "--ticks", "2"],
+        PICK,
+        "<!-- expand 2 Placed Place raises 0 -->\n<!-- expand 5 AtGoal GoGoal raises 0 -->\n<!-- expand 9 Holding Pick raises 0 -->\n<!-- expand 12 AtItem GoItem raises 1 -->\n<!-- no plan StillRunning 2 -->\nNoPlan",
+    ),
+];
+
+/// Plans by their steps and their ends; the trees of those that are reached follow.
+#[test]
+fn plans_begin_with_their_steps(rt: HostRuntime) -> Result<(), Fail> {
+    let alloc = rt.alloc();
+    let rows = &BEGINNINGS;
+    for (words, lines, want) in rows {
+        let world = world_of(alloc, lines)?;
+        let text = given(alloc, words, b"", world.as_bytes(), &[])?;
+        assert!(rt; text.as_str().starts_with(want), "{words:?} {lines}");
+    }
+    Ok(())
+}
+
 /// The world script is the one file of a plan.
 #[test]
 fn the_world_of_a_plan_may_fail(rt: HostRuntime) -> Result<(), Fail> {
@@ -211,12 +310,12 @@ fn the_world_of_a_plan_may_fail(rt: HostRuntime) -> Result<(), Fail> {
     Ok(())
 }
 
-/// The planned tree reaches the goal when it is ticked as it was planned.
-#[test]
-fn a_planned_tree_is_a_tree_file(rt: HostRuntime) -> Result<(), Fail> {
-    let alloc = rt.alloc();
-    let tree = PICK_STEPS.strip_suffix("Done").unwrap_or("?");
-    let lines = format!(in alloc; "{PICK} / tick 1 / at 100 / tick 1 / at 200 / tick 1")?;
+/// What a search forwards would print: the actions alone, in an order that leads to the goal.
+const FLAT: &str = "<Sequence><GoItem/><Pick/><GoGoal/><Place/></Sequence>";
+
+/// What a run of this tree in the world of the item answers and changes, over these events.
+fn course(alloc: Global, tree: &str, events: &str) -> Result<String, NoMemory> {
+    let lines = format!(in alloc; "{PICK} / {events}")?;
     let world = world_of(alloc, lines.as_str())?;
     let trace = given(
         alloc,
@@ -225,13 +324,65 @@ fn a_planned_tree_is_a_tree_file(rt: HostRuntime) -> Result<(), Fail> {
         world.as_bytes(),
         &[],
     )?;
-    for (line, times) in [
-        ("root 1 RUNNING\n", 2),
-        ("root 1 SUCCESS\n", 1),
-        ("fact at 2\n", 1),
-        ("fact placed 1\n", 1),
-    ] {
-        assert_eq!(rt; trace.matches(line).count(), times, "{line}");
+    let mut told = String::new(alloc);
+    for line in trace.lines() {
+        if line.starts_with("root ") || line.starts_with("fact ") {
+            told.push_str(line)?;
+            told.push('\n')?;
+        }
+    }
+    Ok(told)
+}
+
+/// Events, and what the run of the plan and that of the flat sequence answer and change over them.
+static COURSES: [(&str, &str, &str); 4] = [
+    (
+        "tick 1 / at 100 / tick 1 / at 200 / tick 1",
+        "root 1 RUNNING\nroot 1 RUNNING\nfact at 1\nfact holding 1\nroot 1 SUCCESS\nfact at 2\nfact placed 1\n",
+        "root 1 RUNNING\nroot 1 RUNNING\nfact at 1\nfact holding 1\nroot 1 SUCCESS\nfact at 2\nfact placed 1\n",
+    ),
+    // The item is held already.
+    (
+        "set holding 1 / tick 1 / at 100 / tick 1",
+        "fact holding 1\nroot 1 RUNNING\nroot 1 SUCCESS\nfact at 2\nfact placed 1\n",
+        "fact holding 1\nroot 1 RUNNING\nroot 1 RUNNING\nfact at 1\n",
+    ),
+    // It is placed already.
+    (
+        "set placed 1 / tick 1",
+        "fact placed 1\nroot 1 SUCCESS\n",
+        "fact placed 1\nroot 1 RUNNING\n",
+    ),
+    // It is lost on the way: the plan picks it up again, and the flat sequence places nothing.
+    (
+        "tick 1 / at 100 / tick 1 / set holding 0 / at 200 / tick 1",
+        "root 1 RUNNING\nroot 1 RUNNING\nfact at 1\nfact holding 1\nfact holding 0\nroot 1 SUCCESS\nfact at 2\nfact holding 1\nfact placed 1\n",
+        "root 1 RUNNING\nroot 1 RUNNING\nfact at 1\nfact holding 1\nfact holding 0\nroot 1 SUCCESS\nfact at 2\nfact placed 1\n",
+    ),
+];
+
+/// A plan is a tree file that reaches the goal when it is ticked as it was planned, and no flat sequence of actions,
+/// though one reaches the goal at the same tick: each action stands behind the condition that it achieves, so that what
+/// holds already is not done, and what was undone is done again.
+#[test]
+fn a_plan_is_no_flat_sequence_of_actions(rt: HostRuntime) -> Result<(), Fail> {
+    let alloc = rt.alloc();
+    let flat = tree_of(alloc, FLAT)?;
+    let world = world_of(alloc, PICK)?;
+    let printed = given(alloc, &["plan", "W"], b"", world.as_bytes(), &[])?;
+    let planned = printed.strip_suffix("Done").unwrap_or("?");
+    let rows = &COURSES;
+    for (events, by_plan, by_flat) in rows {
+        assert_eq!(rt;
+            course(alloc, planned, events)?.as_str(),
+            *by_plan,
+            "{events}"
+        );
+        assert_eq!(rt;
+            course(alloc, flat.as_str(), events)?.as_str(),
+            *by_flat,
+            "{events}"
+        );
     }
     Ok(())
 }
@@ -263,6 +414,27 @@ fn a_write_of_a_plan_may_fail(rt: HostRuntime) -> Result<(), Fail> {
     ] {
         let text = cut(rt.alloc(), lines, write, taken)?;
         assert_eq!(rt; text.as_str(), want);
+    }
+    Ok(())
+}
+
+/// The plan of the item, of which each write fails in turn: the lines before are written, and no driver holds anything.
+#[test]
+fn each_write_of_a_plan_may_fail(rt: HostRuntime) -> Result<(), Fail> {
+    let alloc = rt.alloc();
+    let printed = PICK_STEPS.strip_suffix("Done").unwrap_or("?");
+    let mut written = 0_usize;
+    let mut write = 1_u64;
+    for line in printed.split_inclusive('\n') {
+        let before = printed.get(..written).unwrap_or("?");
+        let want = format!(in alloc; "{before}Write false")?;
+        assert_eq!(rt;
+            cut(alloc, PICK, write, 0)?.as_str(),
+            want.as_str(),
+            "{write}"
+        );
+        written = written.saturating_add(line.len());
+        write = write.saturating_add(1);
     }
     Ok(())
 }
