@@ -83,6 +83,17 @@ at 400
 tick 1
 """
 
+# a ground file, in which one mistake is made at a time
+ROOMS = """\
+bt-ground 1
+sort room kitchen hall
+fact at 0
+forall R room
+condition At_$R is at == #R
+end
+goal At_hall
+"""
+
 WITH_A_GOAL = THREE_ROWS.replace("tick 1\n", "condition Home is at == 0\ngoal Home\ntick 1\n", 1)
 
 

@@ -1,6 +1,6 @@
 """World scripts that are refused, and words that are no command."""
 
-from places_cases import THREE_ROWS, THREE_TREES, Case, changed, lines, nodes
+from places_cases import ROOMS, THREE_ROWS, THREE_TREES, Case, changed, lines, nodes
 
 ONE = nodes("<A/>")
 
@@ -13,6 +13,10 @@ def world(name: str, words: str, place: str, said: "tuple[str, ...]", text: str,
 WORLDS = [
     world("no header", "Header 1", "W:1:1:", ("`bt-world 1`",), "bt-world 2\n"),
     world("no lines", "Header 1", "W:1:1:", ("`bt-world 1`",), ""),
+    world("a ground file", "Header 1", "W:1:1:", ("looks like a ground file", "`bt gplan`"), "bt-ground 1\nsort s a\n"),
+    world("a ground file without its header", "Header 1", "W:1:1:", ("looks like a ground file", "`bt-world 1`"),
+          "forall X s\nend\n"),
+    world("a line of a ground file", "BadLine 2", "W:2:1:", ("no line begins with sort", "`bt-ground 1`"), lines("sort s a")),
     world("an unknown line", "BadLine 2", "W:2:1:", ("no line begins with facts", "did you mean fact"), lines("facts x 1")),
     world("a line without its number", "BadLine 3", "W:3:7:", ("number is missing", "`fact NAME INT`"), lines("# x\nfact x")),
     world("a line that goes on", "BadLine 2", "W:2:10:", ("goes on with 2",), lines("fact x 1 2")),
@@ -70,12 +74,34 @@ UNASKED = [
 
 PLANS = [
     Case("no goal", 4, "refused world NoGoal\n", "W: error:", ("has no goal", "`goal ID`"), ONE, lines("action A gate 1"), "plan W"),
+    Case("no goal in a ground file", 4, "refused world NoGoal\n", "W: error:", ("has no goal", "`goal ID`"), ONE, "bt-ground 1\n",
+         "gplan W"),
+    Case("a plan of a ground file", 4, "refused world Header 1\n", "W:1:1:", ("looks like a ground file",), ONE, "bt-ground 1\n", "plan W"),
 ]
 
 
-def ground(name: str, refused: str, place: str, said: str, text: str, words: str = "ground W") -> Case:
+def read(name: str, what: str, words: str, *said: str, asked: bool = True) -> Case:
+    """A file that could not be read."""
+    place = next(word for word in words.split() if word not in ("tick", "check", "mock", "ground", "T", "W"))
+    return Case(name, 7, f"refused read {what}\n", f"{place}: error: the {what} file can't be read: ", said, ONE, words=words, asked=asked)
+
+
+READS = [
+    read("no tree file", "tree", "check none", "there is no such file"),
+    read("no world file", "world", "tick T none", "there is no such file"),
+    read("no rules file", "rules", "mock T W none", "there is no such file"),
+    read("no ground file", "world", "ground none", "there is no such file"),
+    read("a tree in no folder", "tree", "check none/T", "there is no folder none"),
+    read("a name misspelled", "tree", "check TT", "there is no such file", "did you mean T?"),
+    read("mistake 11, file name", "tree", "check delivr.xml", "there is no such file"),
+    read("a folder", "tree", "check .", "it is a folder", asked=False),
+    read("a long name", "tree", "check " + "x" * 300, "file name too long", asked=False),
+]
+
+
+def ground(name: str, refused: str, place: str, said: "tuple[str, ...]", text: str, words: str = "ground W") -> Case:
     """A ground file that is refused."""
-    return Case(name, 4, f"refused ground {refused}\n", place, (said, f"({refused})"), ONE, text, words)
+    return Case(name, 4, f"refused ground {refused}\n", place, said + (f"({refused})",), ONE, text, words)
 
 
 def grounds_of(*rows: str) -> str:
@@ -86,18 +112,28 @@ def grounds_of(*rows: str) -> str:
 NESTED = ("forall A s", "forall B s", "forall C s")
 
 GROUNDS = [
-    ground("a ground file without its header", "Header 1", "W:1:1:", "`bt-ground 1`", "bt-ground 2\n"),
-    ground("a block of no variable", "BadLine 3", "W:3:1:", "has not its form", grounds_of("sort s a b", "forall x s")),
-    ground("a mark of no variable", "BadLine 2", "W:2:1:", "upper-case letters", grounds_of("fact f_$x 1")),
-    ground("a value twice", "DoubleName 2", "W:2:1:", "a second time", grounds_of("sort s a a")),
-    ground("a variable of no open block", "NoName 4", "W:4:3:", "no open block", grounds_of("sort s a", "forall X s", "  fact f_$Y 1", "end")),
-    ground("a fourth block", "TooNested 6", "W:6:1:", "three blocks", grounds_of("sort s a", *NESTED, "forall D s")),
-    ground("a seventeenth sort", "TooMany 18", "W:18:1:", "at most 16", grounds_of(*[f"sort s{n} a" for n in range(17)])),
-    ground("a block without its end", "Unended 4", "W:4:1:", "write `end`", grounds_of("sort s a", *NESTED[:2], "end", "fact x 1").replace("end\n", "", 1)),
-    ground("a script too long", "TooManyGround 1228811", "bt: error: W:", "1,048,576",
+    ground("a ground file of another number", "Header 1", "W:1:1:", ("`bt-ground 1`",), "bt-ground 2\n"),
+    ground("a world script", "Header 1", "W:1:1:", ("this is a world script", "goes to `tick`"), lines("fact x 1")),
+    ground("a block of no variable", "BadLine 3", "W:3:1:", ("has not its form",), grounds_of("sort s a b", "forall x s")),
+    ground("a mark of no variable", "BadLine 2", "W:2:1:", ("upper-case letters",), grounds_of("fact f_$x 1")),
+    ground("a value twice", "DoubleName 2", "W:2:1:", ("a second time",), grounds_of("sort s a a")),
+    ground("mistake 9, unknown sort", "NoName 4", "W:4:1:", ("no earlier line has a sort rom", "did you mean room?", "known sorts: room"),
+           changed(ROOMS, "R room", "R rom")),
+    ground("a sort before all sorts", "NoName 2", "W:2:1:", ("no earlier line has a sort s", "no sorts are known"), grounds_of("forall R s")),
+    ground("a variable of no open block", "NoName 4", "W:4:3:", ("no open block has the variable Y", "`forall Y SORT`"),
+           grounds_of("sort s a", "forall X s", "  fact f_$Y 1", "end")),
+    ground("a fourth block", "TooNested 6", "W:6:1:", ("three blocks",), grounds_of("sort s a", *NESTED, "forall D s")),
+    ground("a seventeenth sort", "TooMany 18", "W:18:1:", ("at most 16",), grounds_of(*[f"sort s{n} a" for n in range(17)])),
+    ground("a block without its end", "Unended 4", "W:4:1:", ("write `end`",), grounds_of("sort s a", *NESTED[:2], "end", "fact x 1").replace("end\n", "", 1)),
+    ground("a script too long", "TooManyGround 1228811", "W: error:", ("1,048,576",),
            grounds_of(f"sort s {' '.join('abcdefghijklmnop')}", *NESTED, "x" * 299, "end", "end", "end")),
-    ground("a faulty line of the script", "World DoubleName 4", "W:4:1:", "comes from this one",
+    ground("mistake 10, faulty line of the world script", "World NoName 5", "W:5:1:",
+           ("no earlier line has a fact att", "in the world script it is `condition At_kitchen is att == 1`", "did you mean at?"),
+           changed(ROOMS, "is at", "is att"), "gplan W"),
+    ground("a line that its block writes twice", "World DoubleName 4", "W:4:1:", ("a second fact f", "writes it once for each value"),
            grounds_of("sort s a b", "forall X s", "fact f 1", "end"), "gplan W"),
+    ground("a line that a block has written", "World DoubleName 6", "W:6:1:", ("a second fact f_b", "W:4:1: note: the first one"),
+           grounds_of("sort s a b", "forall X s", "fact f_$X 1", "end", "fact f_b 1"), "gplan W"),
 ]
 
 
@@ -145,4 +181,4 @@ WORDS = [
     words("an option of another command", "plan W --main M", "'--main' is no option of it"),
 ]
 
-CASES = WORLDS + UNASKED + PLANS + GROUNDS + MOCKS + WORDS
+CASES = WORLDS + UNASKED + PLANS + READS + GROUNDS + MOCKS + WORDS

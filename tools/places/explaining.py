@@ -1,15 +1,17 @@
 """What the program's exit and output mean for the files of its words."""
 
+import os
 from typing import List
 
 from . import grounds
 from .faults import explained
 from .marks import Finding
+from .near import meant
 from .opening import open_file, opened
 from .report import Note, Place, Report
 from .rows import lacking
 from .rules import fault_words
-from .source import MOST_BYTES, Source, read
+from .source import MISSING, MOST_BYTES, Source, beside, read, why_unreadable
 from .table import GROUND, RULES, TREE, WORLD
 from .traces import faulted
 from .trees import read_file
@@ -32,6 +34,8 @@ def explanation(status: int, output: bytes, words: List[str]) -> List[str]:
         return of_ground(command, refused(text, "refused ground "))
     if status == 4:
         return of_world(command, refused(text, "refused world "))
+    if status == 7:
+        return of_read(command, refused(text, "refused read "))
     if status == 10:
         return of_rules(command, refused(text, "refused rules "))
     return of_fault(command, text) if status == 5 else []
@@ -52,6 +56,16 @@ def told(source: Source, finding: Finding) -> List[str]:
 def too_long(name: str, source: Source) -> List[str]:
     """The lines for a file that is too long."""
     return [f"{name}: error: the file has {len(source.data)} bytes, and a file has at most {MOST_BYTES}"]
+
+
+def of_read(command: Command, what: str) -> List[str]:
+    """The lines for a file that could not be read."""
+    name = {"tree": command.tree, "world": command.world, "rules": command.rules}.get(what)
+    why = None if name is None else why_unreadable(name)
+    if name is None or why is None:
+        return []
+    helps = meant(os.path.basename(name), beside(name)) if why == MISSING else []
+    return [f"{name or repr(name)}: error: the {what} file can't be read: {why}"] + ["  help: " + text for text in helps]
 
 
 def of_tree(command: Command, words: str) -> List[str]:
@@ -77,9 +91,11 @@ def of_world(command: Command, words: str) -> List[str]:
     if words == "TooLong":
         return too_long(source.name, source) if len(source.data) > MOST_BYTES else []
     try:
-        world = read_world(source)
+        world = grounds.read_ground(source) if command.name == "gplan" else read_world(source)
     except Finding as finding:
         return told(source, finding) if finding.words == words else []
+    except grounds.Ground:
+        return []
     if kind == "NoDriver" or kind == "NoGoal" and not world.goals:
         return [f"{source.name}: error: {WORLD[kind].wrong} ({words}): {WORLD[kind].right}"]
     file = opened(command.tree, command.main) if kind == "NoRow" and command.rules is None else None
@@ -89,14 +105,24 @@ def of_world(command: Command, words: str) -> List[str]:
 def of_ground(command: Command, words: str) -> List[str]:
     """The lines for a ground file that was refused."""
     source = read(command.world or "")
-    fault = None if source is None or len(source.data) > MOST_BYTES else grounds.fault_of(source)
-    if source is None or fault is None or fault[0] != words:
+    if source is None or len(source.data) > MOST_BYTES:
         return []
-    kind = GROUND[words.split(" ")[0]]
-    span = source.span_of_line(fault[1]) if fault[1] else None
-    place = None if span is None else Place(source, *span)
-    message = f"{kind.wrong} ({words})"
-    return Report("error", message if place else f"{source.name}: {message}", place, "", [kind.right]).lines()
+    try:
+        grounds.read_ground(source)
+    except grounds.Ground as fault:
+        return told_of_ground(source, fault) if fault.words == words else []
+    return []
+
+
+def told_of_ground(source: Source, fault: grounds.Ground) -> List[str]:
+    """The lines for a fault that was found in a ground file."""
+    kind = GROUND[fault.words.split(" ")[0]]
+    message = f"{fault.message or kind.wrong} ({fault.words})"
+    if not fault.line:
+        return [f"{source.name}: error: {message}: {kind.right}"]
+    notes = [Note(message, Place(source, *source.span_of_line(line))) for message, line in fault.notes]
+    place = Place(source, *source.span_of_line(fault.line))
+    return Report("error", message, place, "", fault.helps or [kind.right], notes).lines()
 
 
 def of_rules(command: Command, words: str) -> List[str]:

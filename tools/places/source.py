@@ -10,6 +10,10 @@ MOST_BYTES = 1_048_576
 
 ORDER_MARK = b"\xef\xbb\xbf"
 
+MISSING = "there is no such file"
+
+MOST_BESIDE = 1000
+
 
 @dataclass
 class Source:
@@ -74,3 +78,34 @@ def read(name: str) -> Optional[Source]:
             return Source(name, opened.read())
     except (OSError, ValueError):
         return None
+
+
+def why_unreadable(name: str) -> Optional[str]:
+    """Why a file of this name can't be read; none where it can, and where it is a pipe or a device."""
+    try:
+        mode = os.stat(name).st_mode
+        if stat.S_ISREG(mode):
+            with open(name, "rb"):
+                return None
+        return "it is a folder" if stat.S_ISDIR(mode) else None
+    except OSError as error:
+        return reason(name, error)
+
+
+def reason(name: str, error: OSError) -> str:
+    """What the system says against a file, in words."""
+    folder = os.path.dirname(name)
+    if isinstance(error, PermissionError):
+        return "there is no permission"
+    if folder and not os.path.isdir(folder):
+        return f"there is no folder {folder}"
+    return MISSING if isinstance(error, FileNotFoundError) else (error.strerror or "an error").lower()
+
+
+def beside(name: str) -> List[str]:
+    """The names in the folder in which a file of this name would stand, if they are not very many."""
+    try:
+        names = os.listdir(os.path.dirname(name) or ".")
+    except OSError:
+        return []
+    return sorted(names) if len(names) <= MOST_BESIDE else []

@@ -11,10 +11,13 @@ from .trees import MODELS, PORTS, Node, TreeFile
 # what editors and the library write into files, and the program reads over by design
 SILENT = ("_autoremap", "__autoremap", "_description", "_fullpath", "_uid", "_collapsed", "__shared_blackboard")
 
+# the attributes of the root
+ROOT = ("BTCPP_format", "main_tree_to_execute")
+
 
 def warnings(file: TreeFile) -> List[Report]:
     """The warnings of a file, in the order of the file."""
-    found = [*guard_warnings(file), *model_warnings(file), *tree_warnings(file), *default_warnings(file)]
+    found = [*root_warnings(file), *guard_warnings(file), *model_warnings(file), *tree_warnings(file), *default_warnings(file)]
     return sorted(found, key=lambda report: report.place.start if report.place else 0)
 
 
@@ -26,6 +29,17 @@ def warning(file: TreeFile, span: "tuple[int, int]", message: str, helps: List[s
 def first_nodes(file: TreeFile) -> List[Node]:
     """The nodes of the opened tree, each element once."""
     return list({node.element.at: node for node in reversed(file.nodes)}.values())
+
+
+def root_warnings(file: TreeFile) -> Iterator[Report]:
+    """Attributes of the root that are ignored and are near one that is not."""
+    for attribute in file.root.attributes:
+        meant = misspelled(attribute, ROOT)
+        if meant:
+            as_old = meant == ["BTCPP_format"] and file.root.said("BTCPP_format") is None
+            yield warning(file, attribute.span(), f"the attribute {attribute.name} of the root is ignored",
+                          [f"did you mean {' or '.join(meant)}?"]
+                          + (["without BTCPP_format the file is read as one of version 3"] if as_old else []))
 
 
 def guard_warnings(file: TreeFile) -> Iterator[Report]:
@@ -43,7 +57,7 @@ def guard_warnings(file: TreeFile) -> Iterator[Report]:
 
 
 def misspelled(attribute: Attribute, names: "tuple[str, ...]") -> List[str]:
-    """The guards whose names are near the attribute's."""
+    """The names that are near the attribute's, where it has none of them."""
     if attribute.name in names or attribute.name in SILENT:
         return []
     return [name for name in near(attribute.name, names, 2)

@@ -35,6 +35,13 @@ FORMS = {
     "set": ["set NAME INT"],
 }
 
+GROUND_WORDS = ("sort", "forall", "end")
+
+GROUND_FILE = "a ground file, which begins with `bt-ground 1` and goes to `bt ground` or `bt gplan`"
+
+# the header of a ground file, or a line that a ground file alone has
+OF_GROUND = re.compile(rb"^[ \t]*(?:bt-ground|sort|forall)[ \t]", re.M)
+
 
 @dataclass(frozen=True)
 class Word:
@@ -103,6 +110,8 @@ class Line:
         """The forms of a line with this first word."""
         kind = self.words[0].text
         forms = FORMS.get(kind)
+        if kind in GROUND_WORDS:
+            return ["such a line stands in " + GROUND_FILE]
         return [f"a line of this kind is `{'` or `'.join(forms)}`"] if forms else meant(kind, FORMS) + [
             "a line begins with " + listed(FORMS, 20)]
 
@@ -199,8 +208,9 @@ class World:
         end = self.source.starts[1] - 1 if len(self.source.starts) > 1 else len(self.source.data)
         text = self.source.data[:end]
         if count == 0 or (text[:-1] if text.endswith(b"\r") else text) != HEADER:
+            helps = ["this looks like " + GROUND_FILE] if OF_GROUND.search(self.source.data) else []
             raise Finding("Header 1", (0, end), "the first line is not the header",
-                          [f"write exactly `{HEADER.decode()}`, with no white space or comment before it"])
+                          [*helps, f"write exactly `{HEADER.decode()}`, with no white space or comment before it"])
 
     def read_line(self, line: Line) -> None:
         """Reads a line."""
