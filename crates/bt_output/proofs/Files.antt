@@ -1,5 +1,5 @@
 -- What the files of a command give, and what a command comes to.
-use Rattle.std.proofs.Common.{◌≡◌, ◌∙◌, ℕ, ◌<◌, ◌≤◌, List, [], ◌∷◌, Bool, true, false, inl, inr, Option, Some, None, length, refl, sym, ap, subst, arith, MatchBool, Result, Ok, Err}
+use Rattle.std.proofs.Common.{◌≡◌, ◌∙◌, ℕ, ◌<◌, ◌≤◌, List, [], ◌∷◌, ◌++◌, Bool, true, false, inl, inr, Option, Some, None, length, refl, sym, ap, subst, arith, MatchBool, Result, Ok, Err}
 use Rattle.std.specs.Prelude.{IfSome, MatchOption}
 use Rattle.std.proofs.lemmas.Grind.{common_steps}
 use Rattle.bt_command_line.specs.declared.exit.Exit.{Exit}
@@ -24,19 +24,18 @@ use Rattle.bt_refusals.specs.declared.refusal.File.TheVariants as file
 use Rattle.bt_refusals.specs.declared.refusal.Refusal.{Refusal}
 use Rattle.bt_refusals.specs.declared.refusal.Refusal.TheVariants as refusal
 use Rattle.bt_answers.specs.Answers.{Answers, Gave, Printed, Side, side}
-use Rattle.bt_output.specs.Answers.{AnsweredAfter, ToldIfNamed, WordsAnswered}
+use Rattle.bt_output.specs.Answers.{AnsweredAfter, AreWithin, ToldIfNamed, WordsAnswered}
 use Rattle.bt_refusals.specs.Refused.{IsRefused, refused_as, stopped_as, too_long, tree_refused, unread, world_refused}
-use Rattle.bt_output.specs.Ends.{CommandEnds, EndsAfter, FilesEnd, refusal_of}
 use Rattle.bt_refusals.specs.Ends.{Ends, EndsAt, IsUntouched}
-use Rattle.bt_output.specs.Files.{Contents, no_files, tree_alone, tree_and_world, tree_world_rules, world_alone}
+use Rattle.bt_output.specs.Files.{Contents}
 use Rattle.bt_output.specs.Jobs.{FilesBegin, FilesGive, files_of}
 use Rattle.bt_answers.specs.Output.{AreUncalled, Begun, Ending, Output}
-use Rattle.bt_output.specs.Gives.{Beginning, BeginsNothing, CourseGives, Giving, MockGives, Mocks, PrintGives, Prints, ReadGives, RunGives, RunsOn, ScriptMocks, Standing, StandingGives, is_too_long, itself, mocked, standing_output}
+use Rattle.bt_output.specs.Gives.{CourseGives, Giving, MockGives, Mocks, PrintGives, Prints, ReadGives, RunGives, RunsOn, ScriptMocks, Standing, StandingGives, is_too_long, itself, mocked, standing_output}
 use Rattle.bt_courses.specs.Runs.{Given, JoinGives, given}
 use Rattle.bt_printing.specs.Printed.{print_output}
 use Rattle.bt_outside.specs.declared.shelf.ShelfFault.{ShelfFault}
 use Rattle.bt_outside.specs.declared.shelf.ShelfFault.TheVariants as shelf
-use Rattle.bt_output.specs.Reads.{AllRead, AreRead, IsUnread, NamedFile, Reading, ReadsEnd, StoppedAt, WasRead, in_order}
+use Rattle.bt_output.specs.Reads.{AllRead, AreRead, AreStopped, IsUnread, IsUnreadIfNamed, NamedFile, Reading, ReadsEnd, StoppedAt, WasReadIfNamed, if_named, in_order, refusal_of}
 use Rattle.bt_output.specs.TreeFiles.{ReadsAs, TreeReads}
 use Rattle.bt_refusals.specs.declared.fault.TreeFault.{TreeFault}
 use Rattle.bt_mock.specs.declared.fault.MockFault.{MockFault}
@@ -196,62 +195,67 @@ told_short : (holds : Option (List ℕ → List ℕ)) (name bytes : List ℕ) �
 told_short None name bytes told short = tt
 told_short (Some h) name bytes told short = subst (λ (file : List ℕ). length file ≤ most_file_bytes) told short
 
--- the files of a command are read, over which it ends so
-module _ {Shelf : Type 0} (read_gives : Reading Shelf) (faults : Shelf → ℕ) (holds : Option (List ℕ → List ℕ)) (Over : Result Exit Refusal → Side → Side → Type 0) where
-  abbrev pub EndsBy : List NamedFile → Shelf → Shelf → Result Exit Refusal → Side → Side → Type 0
-  EndsBy files old new result a b = CommandEnds read_gives holds files (Rose (faults old) (faults new)) old new Over result a b
+-- the reads of files that may be named, one after another
+module _ {Shelf : Type 0} (read_gives : Reading Shelf) (faults : Shelf → ℕ) (holds : Option (List ℕ → List ℕ)) where
+  abbrev pub IsRead : Option (List ℕ) → List ℕ → Shelf → Shelf → Type 0
+  IsRead name bytes old new = WasReadIfNamed read_gives holds name bytes old new
+
+  abbrev pub Stops : List NamedFile → Refusal → Shelf → Shelf → Type 0
+  Stops files r old new = AreStopped read_gives holds files (Rose (faults old) (faults new)) r old new
+
+  -- what was read of a file is what the shelf tells, and is not too long
+  pub told_of : (name : Option (List ℕ)) (bytes : List ℕ) (old new : Shelf) → IsRead name bytes old new → ToldIfNamed holds name (λ file. bytes ≡ file)
+  told_of None bytes old new read = tt
+  told_of (Some name) bytes old new read = read.told
+
+  pub short_of : (name : Option (List ℕ)) (bytes : List ℕ) (old new : Shelf) → IsRead name bytes old new → length bytes ≤ most_file_bytes
+  short_of None bytes old new read = subst (λ (z : List ℕ). length z ≤ most_file_bytes) (sym read.0) no_bytes
+  short_of (Some name) bytes old new read = read.short
+
+  -- the first file was read, and then the others
+  pub read_first : (which : File) (name : Option (List ℕ)) (files : List NamedFile) (bytes : List ℕ) (old between new : Shelf) (end : ReadsEnd) → IsRead name bytes old between
+      → AreRead read_gives holds files end between new → AreRead read_gives holds (if_named which name ++ files) end old new
+  read_first which None files bytes old between new end read rest = subst (λ (s : Shelf). AreRead read_gives holds files end s new) read.1 rest
+  read_first which (Some name) files bytes old between new AllRead read rest = (between, read.gave, told_short holds name bytes read.told read.short, rest)
+  read_first which (Some name) files bytes old between new (StoppedAt other gave) read rest = inr (between, read.gave, told_short holds name bytes read.told read.short, rest)
+
+  -- .. of which there are no others
+  pub read_last : (which : File) (name : Option (List ℕ)) (bytes : List ℕ) (old new : Shelf) → IsRead name bytes old new → AreRead read_gives holds (if_named which name) AllRead old new
+  read_last which None bytes old new read = read.1
+  read_last which (Some name) bytes old new read = (new, read.gave, told_short holds name bytes read.told read.short, refl)
+
+  -- .. of which one was refused
+  pub stop_later : (which : File) (name : Option (List ℕ)) (files : List NamedFile) (bytes : List ℕ) (old between new : Shelf) (r : Refusal) → faults old ≤ faults between → IsRead name bytes old between
+      → Stops files r between new → Stops (if_named which name ++ files) r old new
+  stop_later which name files bytes old between new r less read rest = record {
+    which = rest.which;
+    gave = rest.gave;
+    reads = read_first which name files bytes old between new (StoppedAt rest.which rest.gave) read rest.reads;
+    rose = λ failed. Rose-after (faults old) (faults between) (faults new) less (rest.rose failed);
+    is = rest.is;
+  }
 
   -- the read of the first one was refused
-  pub first_unread : (which : File) (name : List ℕ) (files : List NamedFile) (old new : Shelf) (r : Refusal) (a : Side) → IsUnread read_gives faults holds which name r old new → EndsBy ((which, name) ∷ files) old new (Err r) a a
-  first_unread which name files old new (refusal.Unread asked) a u = record { end = StoppedAt asked shelf.Failed; reads = inl (u.0, u.2); ends = (refl, λ is. u.1, still a) }
-  first_unread which name files old new (refusal.TooLong asked) a u = record { end = StoppedAt asked shelf.TooLong; reads = inl (u.0, (u.1, u.2)); ends = (refl, λ is. cc, still a) }
-  first_unread which name files old new refusal.NoMemory a u = record { end = StoppedAt which shelf.NoMemory; reads = inl (refl, u); ends = (refl, λ is. cc, still a) }
-  first_unread which name files old new refusal.Words a u = absurd u
-  first_unread which name files old new (refusal.Tree f) a u = absurd u
-  first_unread which name files old new (refusal.World f) a u = absurd u
-  first_unread which name files old new (refusal.Join f) a u = absurd u
-  first_unread which name files old new refusal.NoGoal a u = absurd u
-  first_unread which name files old new (refusal.Rules f) a u = absurd u
-  first_unread which name files old new (refusal.Ground f) a u = absurd u
+  stop_at : (which : File) (name : List ℕ) (files : List NamedFile) (old new : Shelf) (r : Refusal) → IsUnread read_gives faults holds which name r old new → Stops ((which, name) ∷ files) r old new
+  stop_at which name files old new (refusal.Unread asked) u = record { which = asked; gave = shelf.Failed; reads = inl (u.0, u.2); rose = λ is. u.1; is = refl }
+  stop_at which name files old new (refusal.TooLong asked) u = record { which = asked; gave = shelf.TooLong; reads = inl (u.0, (u.1, u.2)); rose = λ is. cc; is = refl }
+  stop_at which name files old new refusal.NoMemory u = record { which = which; gave = shelf.NoMemory; reads = inl (refl, u); rose = λ is. cc; is = refl }
+  stop_at which name files old new refusal.Words u = absurd u
+  stop_at which name files old new (refusal.Tree f) u = absurd u
+  stop_at which name files old new (refusal.World f) u = absurd u
+  stop_at which name files old new (refusal.Join f) u = absurd u
+  stop_at which name files old new refusal.NoGoal u = absurd u
+  stop_at which name files old new (refusal.Rules f) u = absurd u
+  stop_at which name files old new (refusal.Ground f) u = absurd u
 
-  -- the first one was read
-  module _ (which : File) (name : List ℕ) (files : List NamedFile) (bytes : List ℕ) (old between new : Shelf) (result : Result Exit Refusal) (a b : Side)
-      (less : faults old ≤ faults between) (read : WasRead read_gives holds name bytes old between)
-    where
-      with_first : (end : ReadsEnd) → AreRead read_gives holds files end between new → EndsAfter (Rose (faults between) (faults new)) Over end result a b → EndsBy ((which, name) ∷ files) old new result a b
-      with_first AllRead reads ends = record { end = AllRead; reads = (between, read.gave, told_short holds name bytes read.told read.short, reads); ends = ends }
-      with_first (StoppedAt other gave) reads ends = record {
-        end = StoppedAt other gave;
-        reads = inr (between, read.gave, told_short holds name bytes read.told read.short, reads);
-        ends = (ends.0, λ failed. Rose-after (faults old) (faults between) (faults new) less (ends.1 failed), ends.2);
-      }
+  pub stop_first : (which : File) (name : Option (List ℕ)) (files : List NamedFile) (old new : Shelf) (r : Refusal) → IsUnreadIfNamed read_gives faults holds which name r old new
+      → Stops (if_named which name ++ files) r old new
+  stop_first which None files old new r u = absurd u
+  stop_first which (Some name) files old new r u = stop_at which name files old new r u
 
-      pub first_read : EndsBy files between new result a b → EndsBy ((which, name) ∷ files) old new result a b
-      first_read rest = with_first rest.end rest.reads rest.ends
-
-  -- no more is read
-  pub no_more : (old new : Shelf) (result : Result Exit Refusal) (a b : Side) → new ≡ old → Over result a b → EndsBy [] old new result a b
-  no_more old new result a b same over = record { end = AllRead; reads = same; ends = over }
-
--- both files of a run were read
-pub both_read : (holds : Option (List ℕ → List ℕ)) (tree world first second : List ℕ) (course : Course) (main : Option (List ℕ)) (result : Result Exit Refusal) (a b : Side) → Told holds tree (λ file. first ≡ file)
-    → Told holds world (λ file. second ≡ file) → length first ≤ most_file_bytes → length second ≤ most_file_bytes → EndsAt (CourseGives course main first second) AreUncalled result a b
-    → FilesEnd holds (tree_and_world tree world) (RunsOn course main) BeginsNothing result a b
-both_read holds tree world first second course main result a b of_tree of_world st sw ends = record {
-  files = record { tree = first; world = second; rules = [] };
-  told = record { told = record { tree = of_tree; world = of_world; rules = tt }; tree = st; world = sw; rules = no_bytes };
-  answers = ends;
-}
-
--- the three files of a run of mocks were read
-pub three_read : (holds : Option (List ℕ → List ℕ)) (tree world rules first second third : List ℕ) (main : Option (List ℕ)) (result : Result Exit Refusal) (a b : Side) → Told holds tree (λ file. first ≡ file)
-    → Told holds world (λ file. second ≡ file) → Told holds rules (λ file. third ≡ file) → length first ≤ most_file_bytes → length second ≤ most_file_bytes → length third ≤ most_file_bytes
-    → EndsAt (ScriptMocks main first second third) AreUncalled result a b → FilesEnd holds (tree_world_rules tree world rules) (Mocks main) BeginsNothing result a b
-three_read holds tree world rules first second third main result a b of_tree of_world of_rules st sw sr ends = record {
-  files = record { tree = first; world = second; rules = third };
-  told = record { told = record { tree = of_tree; world = of_world; rules = of_rules }; tree = st; world = sw; rules = sr };
-  answers = ends;
-}
+  pub stop_last : (which : File) (name : Option (List ℕ)) (old new : Shelf) (r : Refusal) → IsUnreadIfNamed read_gives faults holds which name r old new → Stops (if_named which name) r old new
+  stop_last which None old new r u = absurd u
+  stop_last which (Some name) old new r u = stop_at which name [] old new r u
 
 -- the bytes of a world file alone
 abbrev pub alone : List ℕ → Contents
@@ -261,51 +265,24 @@ alone bytes = record { tree = []; world = bytes; rules = [] }
 abbrev pub LongAlone : Giving → Type 0
 LongAlone Gives = (bytes : List ℕ) (moments : Moments) (drivers : List DriverState) → most_file_bytes < length bytes → Gives (alone bytes) moments drivers (too_long file.World)
 
--- it was read
-pub alone_read : (holds : Option (List ℕ → List ℕ)) (Gives : Giving) (Begins : Beginning) (world bytes : List ℕ) (result : Result Exit Refusal) (a b : Side) → Told holds world (λ file. bytes ≡ file) → length bytes ≤ most_file_bytes
-    → EndsAt (Gives (alone bytes)) (Begins (alone bytes)) result a b → FilesEnd holds (world_alone world) Gives Begins result a b
-alone_read holds Gives Begins world bytes result a b told short ends = record {
-  files = alone bytes;
-  told = record { told = record { tree = tt; world = told; rules = tt }; tree = no_bytes; world = short; rules = no_bytes };
-  answers = ends;
-}
+-- the bytes of a tree file that is not too long, of whose tree this is printed
+module _ (print : Print) (main : Option (List ℕ)) (bytes : List ℕ) (short : length bytes ≤ most_file_bytes) where
+  abbrev pub Shown : Ending
+  Shown moments drivers output = PrintGives print main bytes output
 
--- a tree file was read, of whose tree this is printed
-module _ (holds : Option (List ℕ → List ℕ)) (name : List ℕ) (print : Print) (main : Option (List ℕ)) (bytes : List ℕ) (told : Told holds name (λ file. bytes ≡ file)) (short : length bytes ≤ most_file_bytes) where
-  abbrev tree_of_file : Contents
-  tree_of_file = record { tree = bytes; world = []; rules = [] }
-
-  print_files : (result : Result Exit Refusal) (a b : Side) → EndsAt (Prints print main tree_of_file) AreUncalled result a b → FilesEnd holds (tree_alone name) (Prints print main) BeginsNothing result a b
-  print_files result a b ends = record {
-    files = tree_of_file;
-    told = record { told = record { tree = told; world = tt; rules = tt }; tree = short; world = no_bytes; rules = no_bytes };
-    answers = ends;
-  }
-
-  pub print_stopped : (stopped : Stop TreeFault) (a : Side) → ReadsAs (Err stopped) main bytes → FilesEnd holds (tree_alone name) (Prints print main) BeginsNothing (Err (stopped_as refusal.Tree stopped)) a a
-  print_stopped (stop.Fault f) a reads =
-      print_files (Err (refusal.Tree f)) a a (refused_ends (Prints print main tree_of_file) AreUncalled (refusal.Tree f) a (λ moments. print_gives print main bytes (Err f) short reads))
-  print_stopped stop.NoMemory a reads = print_files (Err refusal.NoMemory) a a (refused_ends (Prints print main tree_of_file) AreUncalled refusal.NoMemory a (λ moments. tt))
+  pub print_stopped : (stopped : Stop TreeFault) (a : Side) → ReadsAs (Err stopped) main bytes → EndsAt Shown AreUncalled (Err (stopped_as refusal.Tree stopped)) a a
+  print_stopped (stop.Fault f) a reads = refused_ends Shown AreUncalled (refusal.Tree f) a (λ moments. print_gives print main bytes (Err f) short reads)
+  print_stopped stop.NoMemory a reads = refused_ends Shown AreUncalled refusal.NoMemory a (λ moments. tt)
 
   pub tree_printed : (t : Tree) (exit : Exit) (written : Option (List ℕ)) (faults : ℕ) (a : Side) → ReadsAs (Ok t) main bytes → Printed (print_output print (Ok t)) exit a.written a.faults written faults
-      → FilesEnd holds (tree_alone name) (Prints print main) BeginsNothing (Ok exit) a (side written faults a.clock a.drivers)
+      → EndsAt Shown AreUncalled (Ok exit) a (side written faults a.clock a.drivers)
   tree_printed t exit written faults a reads printed =
-      print_files (Ok exit) a (side written faults a.clock a.drivers)
-      (at_any a.clock (λ moments. Ends (PrintGives print main bytes) AreUncalled (Ok exit) a (side written faults a.clock a.drivers))
-      (λ moments. inl (print_output print (Ok t), print_gives print main bytes (Ok t) short reads, printed a.clock a.drivers a.drivers (λ place. refl))))
+      at_any a.clock (λ moments. Ends (PrintGives print main bytes) AreUncalled (Ok exit) a (side written faults a.clock a.drivers))
+      (λ moments. inl (print_output print (Ok t), print_gives print main bytes (Ok t) short reads, printed a.clock a.drivers a.drivers (λ place. refl)))
 
--- the files of a load, which names none
-pub load_ends : (holds : Option (List ℕ → List ℕ)) (leaves : ℕ) (result : Result Exit Refusal) (a b : Side) → EndsAt (CourseGives (course.Load leaves) None (tree_text leaves) (world_text leaves)) AreUncalled result a b
-    → FilesEnd holds no_files (FilesGive (Load leaves)) BeginsNothing result a b
-load_ends holds leaves result a b ends = record {
-  files = record { tree = []; world = []; rules = [] };
-  told = record { told = record { tree = tt; world = tt; rules = tt }; tree = no_bytes; world = no_bytes; rules = no_bytes };
-  answers = ends;
-}
-
-pub load_stopped : (holds : Option (List ℕ → List ℕ)) (leaves : ℕ) (a : Side) → FilesEnd holds no_files (FilesGive (Load leaves)) BeginsNothing (Err refusal.NoMemory) a a
-load_stopped holds leaves a =
-    load_ends holds leaves (Err refusal.NoMemory) a a (refused_ends (CourseGives (course.Load leaves) None (tree_text leaves) (world_text leaves)) AreUncalled refusal.NoMemory a (λ moments. tt))
+-- memory ran out when the files of a load were made
+pub load_stopped : (leaves : ℕ) (a : Side) → EndsAt (CourseGives (course.Load leaves) None (tree_text leaves) (world_text leaves)) AreUncalled (Err refusal.NoMemory) a a
+load_stopped leaves a = refused_ends (CourseGives (course.Load leaves) None (tree_text leaves) (world_text leaves)) AreUncalled refusal.NoMemory a (λ moments. tt)
 
 -- ---- Words
 
@@ -329,60 +306,50 @@ uncalled_begin (Mock t w rules main) files old new same = same
 uncalled_begin (Ground w) files old new same = same
 uncalled_begin (GroundPlan w expand ticks period) files old new same = inl same
 
--- a command that came to this was answered
+-- a command was answered after its reads
 module _ {Shelf : Type 0} (read_gives : Reading Shelf) (holds : Option (List ℕ → List ℕ)) (command : Command) (rose : Type 0) (old new : Shelf) where
-  abbrev Ended : Result Exit Refusal → Side → Side → Type 0
-  Ended result a b = CommandEnds read_gives holds (in_order (files_of command)) rose old new (FilesEnd holds (files_of command) (FilesGive command) (FilesBegin command)) result a b
-
-  abbrev Over : Result Exit Refusal → Side → Side → Type 0
-  Over = FilesEnd holds (files_of command) (FilesGive command) (FilesBegin command)
-
   abbrev Answer : Exit → Side → Side → Type 0
   Answer exit a b = WordsAnswered read_gives holds (Some command) rose old new exit a b
 
-  exit_by : (exit : Exit) (a b : Side) (end : ReadsEnd) → AreRead read_gives holds (in_order (files_of command)) end old new → (let r : Result Exit Refusal = Ok exit in EndsAfter rose Over end r a b) → Answer exit a b
-  exit_by exit a b AllRead reads ends = record { end = AllRead; reads = reads; answered = ends }
-  exit_by exit a b (StoppedAt which gave) reads ends = let is : Ok exit ≡ Err (refusal_of which gave) = ends.0 in cc
+  abbrev Comes : Contents → Result Exit Refusal → Side → Side → Type 0
+  Comes files result a b = EndsAt (FilesGive command files) (FilesBegin command files) result a b
 
-  -- .. with an exit
-  pub exit_answered : (exit : Exit) (a b : Side) → Ended (Ok exit) a b → Answer exit a b
-  exit_answered exit a b ended = exit_by exit a b ended.end ended.reads ended.ends
+  -- over what was read, with an exit
+  pub exit_answered : (files : Contents) (exit : Exit) (a b : Side) → AreRead read_gives holds (in_order (files_of command)) AllRead old new → AreWithin holds (files_of command) files → Comes files (Ok exit) a b → Answer exit a b
+  exit_answered files exit a b reads within ends = record { end = AllRead; reads = reads; answered = record { files = files; told = within; answers = ends } }
 
-  module _ (end : Exit) (a b : Side) (written : Option (List ℕ)) (faults : ℕ) where
-    refused_answers : (P : Output → Type 0) (H : Begun) (o : Option Output) → (AreUncalled a.drivers b.drivers → H a.drivers b.drivers) → IfSome o P → IsUntouched a b
-        → MatchOption o ((end ≡ exit.Memory) × (written ≡ b.written)) (λ o. Printed o end b.written b.faults written faults) → Answers P H end a (side written faults b.clock b.drivers)
-    refused_answers P H None begun is same x = inr (record { exit = x.0; written = x.1 ∙ same.written; clock = same.clock; drivers = begun same.drivers })
-    refused_answers P H (Some o) begun is same x = inl (o, is, gave_after o end a b written faults same x)
-
-    fault_answered : (which : File) (gave : ShelfFault) → (gave ≡ shelf.Failed → rose) → IsUntouched a b → IsRefused (refusal_of which gave) end b.written b.faults written faults
-        → AnsweredAfter (Some command) holds rose (StoppedAt which gave) end a (side written faults b.clock b.drivers)
-    fault_answered which shelf.Failed rises same refused = (rises refl, gave_after (unread which) end a b written faults same refused)
-    fault_answered which shelf.TooLong rises same refused = gave_after (too_long which) end a b written faults same refused
-    fault_answered which shelf.NoMemory rises same refused = record { exit = refused.0; written = refused.1 ∙ same.written; clock = same.clock; drivers = same.drivers }
-
-    refused_by : (r : Refusal) (last : ReadsEnd) → AreRead read_gives holds (in_order (files_of command)) last old new → (let s : Result Exit Refusal = Err r in EndsAfter rose Over last s a b) → IsRefused r end b.written b.faults written faults
-        → Answer end a (side written faults b.clock b.drivers)
-    refused_by r AllRead reads f refused = record {
-      end = AllRead;
-      reads = reads;
-      answered = record {
-        files = f.files;
-        told = f.told;
-        answers = at_more a.clock (λ moments. Ends (FilesGive command f.files moments a.drivers) (FilesBegin command f.files) (Err r) a b)
-            (λ moments. Answers (FilesGive command f.files moments a.drivers) (FilesBegin command f.files) end a (side written faults b.clock b.drivers))
-            (λ moments x. refused_answers (FilesGive command f.files moments a.drivers) (FilesBegin command f.files) (refused_as r)
-            (uncalled_begin command f.files a.drivers b.drivers) x.0 x.1 refused) f.answers;
-      };
-    }
-    refused_by r (StoppedAt which gave) reads ends refused =
-        let is : r ≡ refusal_of which gave = cc (ends.0) in
-        record {
-          end = StoppedAt which gave;
-          reads = reads;
-          answered = fault_answered which gave ends.1 ends.2 (subst (λ (s : Refusal). IsRefused s end b.written b.faults written faults) is refused);
-        }
+  refused_answers : (P : Output → Type 0) (H : Begun) (o : Option Output) (end : Exit) (a b : Side) (written : Option (List ℕ)) (faults : ℕ) → (AreUncalled a.drivers b.drivers → H a.drivers b.drivers) → IfSome o P → IsUntouched a b
+      → MatchOption o ((end ≡ exit.Memory) × (written ≡ b.written)) (λ o. Printed o end b.written b.faults written faults) → Answers P H end a (side written faults b.clock b.drivers)
+  refused_answers P H None end a b written faults begun is same x = inr (record { exit = x.0; written = x.1 ∙ same.written; clock = same.clock; drivers = begun same.drivers })
+  refused_answers P H (Some o) end a b written faults begun is same x = inl (o, is, gave_after o end a b written faults same x)
 
   -- .. with a refusal, whose line was then written
-  pub refusal_answered : (r : Refusal) (exit : Exit) (a b : Side) (written : Option (List ℕ)) (faults : ℕ) → Ended (Err r) a b → IsRefused r exit b.written b.faults written faults
-      → Answer exit a (side written faults b.clock b.drivers)
-  refusal_answered r exit a b written faults ended refused = refused_by exit a b written faults r ended.end ended.reads ended.ends refused
+  pub refusal_answered : (files : Contents) (r : Refusal) (end : Exit) (a b : Side) (written : Option (List ℕ)) (faults : ℕ) → AreRead read_gives holds (in_order (files_of command)) AllRead old new → AreWithin holds (files_of command) files
+      → Comes files (Err r) a b → IsRefused r end b.written b.faults written faults → Answer end a (side written faults b.clock b.drivers)
+  refusal_answered files r end a b written faults reads within ends refused = record {
+    end = AllRead;
+    reads = reads;
+    answered = record {
+      files = files;
+      told = within;
+      answers = at_more a.clock (λ moments. Ends (FilesGive command files moments a.drivers) (FilesBegin command files) (Err r) a b)
+          (λ moments. Answers (FilesGive command files moments a.drivers) (FilesBegin command files) end a (side written faults b.clock b.drivers))
+          (λ moments x. refused_answers (FilesGive command files moments a.drivers) (FilesBegin command files) (refused_as r) end a b written faults
+          (uncalled_begin command files a.drivers b.drivers) x.0 x.1 refused) ends;
+    };
+  }
+
+  fault_answered : (which : File) (gave : ShelfFault) (end : Exit) (a : Side) (written : Option (List ℕ)) (faults : ℕ) → (gave ≡ shelf.Failed → rose) → IsRefused (refusal_of which gave) end a.written a.faults written faults
+      → AnsweredAfter (Some command) holds rose (StoppedAt which gave) end a (side written faults a.clock a.drivers)
+  fault_answered which shelf.Failed end a written faults rises refused = (rises refl, gave_after (unread which) end a a written faults (still a) refused)
+  fault_answered which shelf.TooLong end a written faults rises refused = gave_after (too_long which) end a a written faults (still a) refused
+  fault_answered which shelf.NoMemory end a written faults rises refused = record { exit = refused.0; written = refused.1; clock = refl; drivers = λ place. refl }
+
+  -- .. by the line of a file that was not read
+  pub unread_answered : (r : Refusal) (end : Exit) (a : Side) (written : Option (List ℕ)) (faults : ℕ) → AreStopped read_gives holds (in_order (files_of command)) rose r old new → IsRefused r end a.written a.faults written faults
+      → Answer end a (side written faults a.clock a.drivers)
+  unread_answered r end a written faults stopped refused = record {
+    end = StoppedAt stopped.which stopped.gave;
+    reads = stopped.reads;
+    answered = fault_answered stopped.which stopped.gave end a written faults stopped.rose (subst (λ (s : Refusal). IsRefused s end a.written a.faults written faults) stopped.is refused);
+  }

@@ -6,20 +6,16 @@ use Rattle.bt_ground.specs.GroundFile.{Grounded, MakesWorld, reads_ground}
 use Rattle.bt_model.specs.declared.world.World.{World}
 use Rattle.bt_model.specs.Drivers.{DriverState}
 use Rattle.bt_model.specs.Limits.{most_file_bytes}
-use Rattle.bt_outside.specs.Files.{Told}
 use Rattle.bt_refusals.specs.declared.refusal.Refusal.{Refusal}
 use Rattle.bt_refusals.specs.declared.refusal.Refusal.TheVariants as refusal
 use Rattle.bt_answers.specs.Answers.{Printed, Side, side}
 use Rattle.bt_refusals.specs.Ends.{Ends, EndsAt}
-use Rattle.bt_output.specs.Ends.{FilesEnd}
-use Rattle.bt_output.specs.Files.{world_alone}
 use Rattle.bt_output.specs.Grounds.{GroundGives, GroundPlanBegins, GroundPlanGives, GroundPlans, GroundedPlans, Grounds}
 use Rattle.bt_printing.specs.Printed.{ground_output}
-use Rattle.bt_answers.specs.Output.{AreUncalled, Output}
-use Rattle.bt_output.specs.Gives.{BeginsNothing}
+use Rattle.bt_answers.specs.Output.{AreUncalled, Ending, Output}
 use Rattle.bt_refusals.specs.Refused.{ground_refused, stopped_as}
 use Rattle.bt_planning.specs.Plans.{WorldBegun, WorldPlans}
-use Rattle.bt_output.proofs.Files.{LongAlone, alone, alone_read, long_is, match_false, match_true, short_is}
+use Rattle.bt_output.proofs.Files.{LongAlone, long_is, match_false, match_true, short_is}
 use Rattle.bt_answers.proofs.Moments.{at_any, at_more}
 use Rattle.bt_refusals.proofs.Ends.{ends_more, refused_ends}
 use Rattle.bt_plan.specs.declared.ending.Limits.{Limits}
@@ -39,35 +35,24 @@ long_ground_plan limits bytes moments drivers long = match_true _ _ _ (long_is b
 
 -- the bytes of a ground file that is not too long
 module _ (bytes : List ℕ) (short : length bytes ≤ most_file_bytes) where
+  abbrev pub Told : Ending
+  Told moments drivers output = GroundGives bytes output
+
   ground_gives : (read : Result Grounded GroundFault) → read ≡ reads_ground bytes → GroundGives bytes (ground_output read)
   ground_gives read said = match_false _ _ _ (short_is bytes short) (ap ground_output said)
 
   -- the file has a fault
-  ground_stopped : (stopped : Stop GroundFault) (a : Side) → (let r : Result Grounded (Stop GroundFault) = Err stopped in Gives r (λ said. said ≡ reads_ground bytes))
-      → EndsAt (Grounds (alone bytes)) AreUncalled (Err (stopped_as refusal.Ground stopped)) a a
-  ground_stopped (stop.Fault f) a said = refused_ends (Grounds (alone bytes)) AreUncalled (refusal.Ground f) a (λ moments. ground_gives (Err f) said)
-  ground_stopped stop.NoMemory a said = refused_ends (Grounds (alone bytes)) AreUncalled refusal.NoMemory a (λ moments. tt)
+  pub ground_stopped : (stopped : Stop GroundFault) (a : Side) → (let r : Result Grounded (Stop GroundFault) = Err stopped in Gives r (λ said. said ≡ reads_ground bytes))
+      → EndsAt Told AreUncalled (Err (stopped_as refusal.Ground stopped)) a a
+  ground_stopped (stop.Fault f) a said = refused_ends Told AreUncalled (refusal.Ground f) a (λ moments. ground_gives (Err f) said)
+  ground_stopped stop.NoMemory a said = refused_ends Told AreUncalled refusal.NoMemory a (λ moments. tt)
 
   -- its text was written
-  ground_written : (g : Grounded) (exit : Exit) (written : Option (List ℕ)) (faults : ℕ) (a : Side) → (let r : Result Grounded (Stop GroundFault) = Ok g in Gives r (λ said. said ≡ reads_ground bytes))
-      → Printed (ground_output (Ok g)) exit a.written a.faults written faults → EndsAt (Grounds (alone bytes)) AreUncalled (Ok exit) a (side written faults a.clock a.drivers)
+  pub ground_written : (g : Grounded) (exit : Exit) (written : Option (List ℕ)) (faults : ℕ) (a : Side) → (let r : Result Grounded (Stop GroundFault) = Ok g in Gives r (λ said. said ≡ reads_ground bytes))
+      → Printed (ground_output (Ok g)) exit a.written a.faults written faults → EndsAt Told AreUncalled (Ok exit) a (side written faults a.clock a.drivers)
   ground_written g exit written faults a said printed =
       at_any a.clock (λ moments. Ends (GroundGives bytes) AreUncalled (Ok exit) a (side written faults a.clock a.drivers))
       (λ moments. inl (ground_output (Ok g), ground_gives (Ok g) said, printed a.clock a.drivers a.drivers (λ place. refl)))
-
--- a ground file was read, whose text is written
-module _ (holds : Option (List ℕ → List ℕ)) (name bytes : List ℕ) (told : Told holds name (λ file. bytes ≡ file)) (short : length bytes ≤ most_file_bytes) where
-  ground_files : (result : Result Exit Refusal) (a b : Side) → EndsAt (Grounds (alone bytes)) AreUncalled result a b → FilesEnd holds (world_alone name) Grounds BeginsNothing result a b
-  ground_files result a b ends = alone_read holds Grounds BeginsNothing name bytes result a b told short ends
-
-  pub ground_refuses : (stopped : Stop GroundFault) (a : Side) → (let r : Result Grounded (Stop GroundFault) = Err stopped in Gives r (λ said. said ≡ reads_ground bytes))
-      → FilesEnd holds (world_alone name) Grounds BeginsNothing (Err (stopped_as refusal.Ground stopped)) a a
-  ground_refuses stopped a said = ground_files (Err (stopped_as refusal.Ground stopped)) a a (ground_stopped bytes short stopped a said)
-
-  pub ground_printed : (g : Grounded) (exit : Exit) (written : Option (List ℕ)) (faults : ℕ) (a : Side) → (let r : Result Grounded (Stop GroundFault) = Ok g in Gives r (λ said. said ≡ reads_ground bytes))
-      → Printed (ground_output (Ok g)) exit a.written a.faults written faults → FilesEnd holds (world_alone name) Grounds BeginsNothing (Ok exit) a (side written faults a.clock a.drivers)
-  ground_printed g exit written faults a said printed =
-      ground_files (Ok exit) a (side written faults a.clock a.drivers) (ground_written bytes short g exit written faults a said printed)
 
 -- ---- Plans
 

@@ -25,12 +25,16 @@ pub record AreTold (holds : Option (List ℕ → List ℕ)) (named : Named) (fil
   pub world : ToldIfNamed holds named.world (λ file. files.world ≡ file)
   pub rules : ToldIfNamed holds named.rules (λ file. files.rules ≡ file)
 
--- .. and none of them is too long
-pub record AreWithin (holds : Option (List ℕ → List ℕ)) (named : Named) (files : Contents) : Type 0 where
-  pub told : AreTold holds named files
+-- none of them is too long
+pub record AreShort (files : Contents) : Type 0 where
   pub tree : length files.tree ≤ most_file_bytes
   pub world : length files.world ≤ most_file_bytes
   pub rules : length files.rules ≤ most_file_bytes
+
+-- .. and these are their bytes, where the shelf tells them
+pub record AreWithin (holds : Option (List ℕ → List ℕ)) (named : Named) (files : Contents) : Type 0 where
+  pub told : AreTold holds named files
+  pub short : AreShort files
 
 -- what is so of the output of some bytes of files, of which this is so, and of some moments, which are those that the clock
 -- tells; and of what may have begun before

@@ -1,11 +1,15 @@
 -- The files of a command: how it names them, and what they hold.
 use Rattle.std.specs.Prelude.{ℕ, List, Option, Some, None}
+use Rattle.bt_output.specs.declared.reading.FilesRead.{FilesRead}
 
 -- the names of the files that a command names
 pub record Named : Type 0 where
   pub tree : Option (List ℕ)
   pub world : Option (List ℕ)
   pub rules : Option (List ℕ)
+
+abbrev pub named : Option (List ℕ) → Option (List ℕ) → Option (List ℕ) → Named
+named tree world rules = record { tree = tree; world = world; rules = rules }
 
 abbrev pub no_files : Named
 no_files = record { tree = None; world = None; rules = None }
@@ -27,3 +31,7 @@ pub record Contents : Type 0 where
   pub tree : List ℕ
   pub world : List ℕ
   pub rules : List ℕ
+
+-- what was read of them
+abbrev pub contents_of : FilesRead → Contents
+contents_of files = record { tree = files.tree.items; world = files.world.items; rules = files.rules.items }

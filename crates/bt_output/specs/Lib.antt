@@ -1,5 +1,4 @@
 pub mod Answers
-pub mod Ends
 pub mod Files
 pub mod Gives
 pub mod Grounds

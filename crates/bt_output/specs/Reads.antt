@@ -40,6 +40,22 @@ IsUnread read_gives faults holds asked name (refusal.TooLong which) old new =
 IsUnread read_gives faults holds asked name refusal.NoMemory old new = read_gives old name (Err fault.NoMemory) new
 IsUnread read_gives faults holds asked name _ old new = ⊥
 
+-- a file that may be named was read, if it is named
+abbrev pub WasReadIfNamed : {Shelf : Type 0} → Reading Shelf → Option (List ℕ → List ℕ) → Option (List ℕ) → List ℕ → Shelf → Shelf → Type 0
+WasReadIfNamed read_gives holds None bytes old new = (bytes ≡ []) × (new ≡ old)
+WasReadIfNamed read_gives holds (Some name) bytes old new = WasRead read_gives holds name bytes old new
+
+-- the read of a file that may be named refuses it so
+abbrev pub IsUnreadIfNamed : {Shelf : Type 0} → Reading Shelf → (Shelf → ℕ) → Option (List ℕ → List ℕ) → File → Option (List ℕ) → Refusal → Shelf → Shelf → Type 0
+IsUnreadIfNamed read_gives faults holds asked None refusal old new = ⊥
+IsUnreadIfNamed read_gives faults holds asked (Some name) refusal old new = IsUnread read_gives faults holds asked name refusal old new
+
+-- the refusal of a file whose read gave this fault
+abbrev pub refusal_of : File → ShelfFault → Refusal
+refusal_of which fault.Failed = refusal.Unread which
+refusal_of which fault.TooLong = refusal.TooLong which
+refusal_of which fault.NoMemory = refusal.NoMemory
+
 -- ---- The reads of a command
 
 -- what is read as this one of the files of a command, and its name
@@ -53,7 +69,7 @@ if_named which (Some name) = (which, name) ∷ []
 
 -- the files that are named, in the order in which they are read
 abbrev pub in_order : Named → List NamedFile
-in_order named = if_named file.Tree named.tree ++ if_named file.World named.world ++ if_named file.Rules named.rules
+in_order named = if_named file.Tree named.tree ++ (if_named file.World named.world ++ if_named file.Rules named.rules)
 
 -- the files of words; those that are no command name none
 abbrev pub files_in : Option Command → List NamedFile
@@ -89,3 +105,11 @@ AreRead read_gives holds (next ∷ files) (StoppedAt which gave) old new =
 -- the read of this one of the files of words failed, after those before it were read
 abbrev pub WordsUnread : {Shelf : Type 0} → Reading Shelf → Option (List ℕ → List ℕ) → Option Command → Shelf → Shelf → File → Type 0
 WordsUnread read_gives holds command old new which = AreRead read_gives holds (files_in command) (StoppedAt which fault.Failed) old new
+
+-- the reads of these files ended at the first one whose read gave a fault, and this is its refusal
+pub record AreStopped {Shelf : Type 0} (read_gives : Reading Shelf) (holds : Option (List ℕ → List ℕ)) (files : List NamedFile) (shelf_rose : Type 0) (refused : Refusal) (old new : Shelf) : Type 0 where
+  pub which : File
+  pub gave : ShelfFault
+  pub reads : AreRead read_gives holds files (StoppedAt which gave) old new
+  pub rose : gave ≡ fault.Failed → shelf_rose
+  pub is : refused ≡ refusal_of which gave

@@ -1,30 +1,29 @@
-ghost use Rattle.std.specs.Prelude.{◌≡◌, ◌≤◌, length};
+ghost use Rattle.std.specs.Prelude.{◌≡◌, ◌≤◌, None, length};
 ghost use Rattle.std.specs.Option.{option_copied};
 ghost use Rattle.bt_command_line.specs.Commands.{IsInRange, command_seen};
-ghost use Rattle.bt_command_line.specs.Words.{Load, command_of};
+ghost use Rattle.bt_command_line.specs.Words.{command_of};
+ghost use Rattle.bt_load.specs.Texts.{tree_text, world_text};
 ghost use Rattle.bt_model.specs.Drivers.{NothingHeld};
 ghost use Rattle.bt_model.specs.Limits.{most_file_bytes, most_leaves};
 ghost use Rattle.bt_model.specs.Trees.{IsValid};
 ghost use Rattle.bt_model.specs.Worlds.{IsValidWorld};
 ghost use Rattle.bt_courses.specs.declared.course.Course.TheVariants as course;
-ghost use Rattle.bt_output.specs.Answers.{CommandAnswered, WordsAnswered};
+ghost use Rattle.bt_output.specs.Answers.{AreShort, WordsAnswered};
 ghost use Rattle.bt_answers.specs.Answers.{side};
 ghost use Rattle.bt_outside.specs.Counts.{Rose};
-ghost use Rattle.bt_output.specs.Ends.{CommandEnds, FilesEnd};
 ghost use Rattle.bt_refusals.specs.Ends.{EndsAt};
 ghost use Rattle.bt_answers.specs.Lent.{Stays, seen};
-ghost use Rattle.bt_output.specs.Files.{no_files, tree_alone, tree_and_world, tree_world_rules, world_alone};
-ghost use Rattle.bt_output.specs.Grounds.{GroundBegins, GroundPlanBegins, GroundPlanGives, GroundPlans, Grounds};
-ghost use Rattle.bt_output.specs.Jobs.{FilesBegin, FilesGive, files_of};
+ghost use Rattle.bt_output.specs.Files.{contents_of};
+ghost use Rattle.bt_output.specs.Grounds.{GroundGives, GroundPlanBegins, GroundPlanGives};
+ghost use Rattle.bt_output.specs.Jobs.{FilesBegin, FilesGive};
 ghost use Rattle.bt_answers.specs.Output.{AreUncalled};
-ghost use Rattle.bt_output.specs.Gives.{BeginsNothing, CourseGives, Mocks, Prints, RunsOn, ScriptMocks, StandingGives, mocked};
-ghost use Rattle.bt_output.specs.Plans.{Begins, PlanBegins, PlanGives, Plans};
+ghost use Rattle.bt_output.specs.Gives.{CourseGives, PrintGives, ScriptMocks, StandingGives, mocked};
+ghost use Rattle.bt_output.specs.Plans.{PlanBegins, PlanGives};
 ghost use Rattle.bt_plan.specs.PlanRuns.{AreInRange};
-ghost use Rattle.bt_output.specs.Reads.{WordsUnread, in_order};
 ghost use Rattle.bt_trace.specs.Traces.{AreKept};
 
 use crate::mocking::mock_tree;
-use crate::reading::read_file;
+use crate::reading::{FilesRead, read_files};
 use crate::tree_file::parse_tree;
 use bt_answers::Outside;
 use bt_command_line::{Command, Exit, read_command};
@@ -37,7 +36,7 @@ use bt_outside::{Clock, Shelf, Sink};
 use bt_plan::Limits;
 use bt_planning::plan_and_print;
 use bt_printing::{Print, print_ground, print_tree};
-use bt_refusals::{File, Refusal, write_refusal};
+use bt_refusals::{Refusal, write_refusal};
 use bt_script::Name;
 use bt_world::read_world;
 use std::alloc::Global;
@@ -77,38 +76,6 @@ fn run_files<S: Shelf, K: Sink, C: Clock, D: Drivers>(
     }
 }
 
-/// Reads both files of a run, and runs the tree of the one in the world of the other.
-fn read_and_run<S: Shelf, K: Sink, C: Clock, D: Drivers>(
-    alloc: Global,
-    tree: &Name,
-    world: &Name,
-    main: Option<&Name>,
-    course: Course,
-    outside: &mut Outside<S, K, C, D>,
-) -> Result<Exit, Refusal>
-    requires quiet { NothingHeld (D.states outside.old.drivers.now) }
-    ensures ends { let old = outside.old.shelf.now in
-        let new = outside.new.shelf.now in
-        let files = tree_and_world tree.now world.now in
-        CommandEnds S.read_gives (S.holds old) (in_order files) (Rose (S.faults old) (S.faults new)) old new
-        (FilesEnd (S.holds old) files (RunsOn course (option_copied main.entry)) BeginsNothing) result
-        (seen K.written K.faults C.moments D.states outside.old)
-        (seen K.written K.faults C.moments D.states outside.new) }
-    ensures held { S.holds outside.new.shelf.now ≡ S.holds outside.old.shelf.now }
-    ensures stays { Stays S.faults K.faults D.states outside.old outside.new }
-{
-    let tree = read_file(alloc, File::Tree, tree, outside.shelf)?;
-    let world = read_file(alloc, File::World, world, outside.shelf)?;
-    run_files(
-        alloc,
-        tree.as_slice(),
-        world.as_slice(),
-        main,
-        course,
-        outside,
-    )
-}
-
 /// Makes both files of a load of so many leaves, and runs them.
 fn make_and_run<S: Shelf, K: Sink, C: Clock, D: Drivers>(
     alloc: Global,
@@ -117,13 +84,10 @@ fn make_and_run<S: Shelf, K: Sink, C: Clock, D: Drivers>(
 ) -> Result<Exit, Refusal>
     requires few { leaves ≤ most_leaves }
     requires quiet { NothingHeld (D.states outside.old.drivers.now) }
-    ensures ends { let old = outside.old.shelf.now in
-        let new = outside.new.shelf.now in
-        CommandEnds S.read_gives (S.holds old) (in_order no_files) (Rose (S.faults old) (S.faults new)) old new
-        (FilesEnd (S.holds old) no_files (FilesGive (Load leaves)) BeginsNothing) result
+    ensures ends { EndsAt (CourseGives (course.Load leaves) None (tree_text leaves) (world_text leaves)) AreUncalled result
         (seen K.written K.faults C.moments D.states outside.old)
         (seen K.written K.faults C.moments D.states outside.new) }
-    ensures held { S.holds outside.new.shelf.now ≡ S.holds outside.old.shelf.now }
+    ensures unread { outside.new.shelf.now ≡ outside.old.shelf.now }
     ensures stays { Stays S.faults K.faults D.states outside.old outside.new }
 {
     let tree = load_tree(alloc, leaves)?;
@@ -139,27 +103,23 @@ fn make_and_run<S: Shelf, K: Sink, C: Clock, D: Drivers>(
     )
 }
 
-/// Reads a tree file and prints this of its tree.
-fn read_and_print<S: Shelf, K: Sink, C: Clock, D: Drivers>(
+/// Prints this of the tree of these bytes of a tree file.
+fn print_file<S: Shelf, K: Sink, C: Clock, D: Drivers>(
     alloc: Global,
-    tree: &Name,
+    tree: &[u8],
     main: Option<&Name>,
     print: Print,
     outside: &mut Outside<S, K, C, D>,
 ) -> Result<Exit, Refusal>
+    requires tree { length tree.now ≤ most_file_bytes }
     requires quiet { NothingHeld (D.states outside.old.drivers.now) }
-    ensures ends { let old = outside.old.shelf.now in
-        let new = outside.new.shelf.now in
-        let files = tree_alone tree.now in
-        CommandEnds S.read_gives (S.holds old) (in_order files) (Rose (S.faults old) (S.faults new)) old new
-        (FilesEnd (S.holds old) files (Prints print (option_copied main.entry)) BeginsNothing) result
+    ensures ends { EndsAt (λ moments drivers. PrintGives print (option_copied main.entry) tree.now) AreUncalled result
         (seen K.written K.faults C.moments D.states outside.old)
         (seen K.written K.faults C.moments D.states outside.new) }
-    ensures held { S.holds outside.new.shelf.now ≡ S.holds outside.old.shelf.now }
+    ensures unread { outside.new.shelf.now ≡ outside.old.shelf.now }
     ensures stays { Stays S.faults K.faults D.states outside.old outside.new }
 {
-    let bytes = read_file(alloc, File::Tree, tree, outside.shelf)?;
-    let tree = parse_tree(alloc, bytes.as_slice(), main)?;
+    let tree = parse_tree(alloc, tree, main)?;
     let exit = print_tree(alloc, &tree, print, outside.out);
     drop(tree);
     Ok(exit)
@@ -187,29 +147,6 @@ fn plan_file<S: Shelf, K: Sink, C: Clock, D: Drivers>(
     ended
 }
 
-/// Reads a world script and plans for its goals.
-fn read_and_plan<S: Shelf, K: Sink, C: Clock, D: Drivers>(
-    alloc: Global,
-    world: &Name,
-    limits: &Limits,
-    outside: &mut Outside<S, K, C, D>,
-) -> Result<Exit, Refusal>
-    requires limits { AreInRange limits.now }
-    requires quiet { NothingHeld (D.states outside.old.drivers.now) }
-    ensures ends { let old = outside.old.shelf.now in
-        let new = outside.new.shelf.now in
-        let files = world_alone world.now in
-        CommandEnds S.read_gives (S.holds old) (in_order files) (Rose (S.faults old) (S.faults new)) old new
-        (FilesEnd (S.holds old) files (Plans limits.now) (Begins limits.now)) result
-        (seen K.written K.faults C.moments D.states outside.old)
-        (seen K.written K.faults C.moments D.states outside.new) }
-    ensures held { S.holds outside.new.shelf.now ≡ S.holds outside.old.shelf.now }
-    ensures stays { Stays S.faults K.faults D.states outside.old outside.new }
-{
-    let bytes = read_file(alloc, File::World, world, outside.shelf)?;
-    plan_file(alloc, bytes.as_slice(), limits, outside)
-}
-
 /// Plans for the goals of the world script that these bytes of a ground file stand for.
 fn plan_ground<S: Shelf, K: Sink, C: Clock, D: Drivers>(
     alloc: Global,
@@ -233,48 +170,21 @@ fn plan_ground<S: Shelf, K: Sink, C: Clock, D: Drivers>(
     ended
 }
 
-/// Reads a ground file and plans for the goals of the world script that it stands for.
-fn read_and_plan_ground<S: Shelf, K: Sink, C: Clock, D: Drivers>(
+/// Writes the world script that these bytes of a ground file stand for.
+fn ground_file<S: Shelf, K: Sink, C: Clock, D: Drivers>(
     alloc: Global,
-    world: &Name,
-    limits: &Limits,
+    bytes: &[u8],
     outside: &mut Outside<S, K, C, D>,
 ) -> Result<Exit, Refusal>
-    requires limits { AreInRange limits.now }
+    requires bytes { length bytes.now ≤ most_file_bytes }
     requires quiet { NothingHeld (D.states outside.old.drivers.now) }
-    ensures ends { let old = outside.old.shelf.now in
-        let new = outside.new.shelf.now in
-        let files = world_alone world.now in
-        CommandEnds S.read_gives (S.holds old) (in_order files) (Rose (S.faults old) (S.faults new)) old new
-        (FilesEnd (S.holds old) files (GroundPlans limits.now) (GroundBegins limits.now)) result
+    ensures ends { EndsAt (λ moments drivers. GroundGives bytes.now) AreUncalled result
         (seen K.written K.faults C.moments D.states outside.old)
         (seen K.written K.faults C.moments D.states outside.new) }
-    ensures held { S.holds outside.new.shelf.now ≡ S.holds outside.old.shelf.now }
+    ensures unread { outside.new.shelf.now ≡ outside.old.shelf.now }
     ensures stays { Stays S.faults K.faults D.states outside.old outside.new }
 {
-    let bytes = read_file(alloc, File::World, world, outside.shelf)?;
-    plan_ground(alloc, bytes.as_slice(), limits, outside)
-}
-
-/// Reads a ground file and writes the world script that it stands for.
-fn read_and_ground<S: Shelf, K: Sink, C: Clock, D: Drivers>(
-    alloc: Global,
-    world: &Name,
-    outside: &mut Outside<S, K, C, D>,
-) -> Result<Exit, Refusal>
-    requires quiet { NothingHeld (D.states outside.old.drivers.now) }
-    ensures ends { let old = outside.old.shelf.now in
-        let new = outside.new.shelf.now in
-        let files = world_alone world.now in
-        CommandEnds S.read_gives (S.holds old) (in_order files) (Rose (S.faults old) (S.faults new)) old new
-        (FilesEnd (S.holds old) files Grounds BeginsNothing) result
-        (seen K.written K.faults C.moments D.states outside.old)
-        (seen K.written K.faults C.moments D.states outside.new) }
-    ensures held { S.holds outside.new.shelf.now ≡ S.holds outside.old.shelf.now }
-    ensures stays { Stays S.faults K.faults D.states outside.old outside.new }
-{
-    let bytes = read_file(alloc, File::World, world, outside.shelf)?;
-    let ground = read_ground(alloc, bytes.as_slice())?;
+    let ground = read_ground(alloc, bytes)?;
     Ok(print_ground(&ground, outside.out))
 }
 
@@ -340,39 +250,6 @@ fn mock_files<S: Shelf, K: Sink, C: Clock, D: Drivers>(
     }
 }
 
-/// Reads a tree file, a world script and a rules file, and runs what the rules make of the tree.
-fn read_and_mock<S: Shelf, K: Sink, C: Clock, D: Drivers>(
-    alloc: Global,
-    tree: &Name,
-    world: &Name,
-    rules: &Name,
-    main: Option<&Name>,
-    outside: &mut Outside<S, K, C, D>,
-) -> Result<Exit, Refusal>
-    requires quiet { NothingHeld (D.states outside.old.drivers.now) }
-    ensures ends { let old = outside.old.shelf.now in
-        let new = outside.new.shelf.now in
-        let files = tree_world_rules tree.now world.now rules.now in
-        CommandEnds S.read_gives (S.holds old) (in_order files) (Rose (S.faults old) (S.faults new)) old new
-        (FilesEnd (S.holds old) files (Mocks (option_copied main.entry)) BeginsNothing) result
-        (seen K.written K.faults C.moments D.states outside.old)
-        (seen K.written K.faults C.moments D.states outside.new) }
-    ensures held { S.holds outside.new.shelf.now ≡ S.holds outside.old.shelf.now }
-    ensures stays { Stays S.faults K.faults D.states outside.old outside.new }
-{
-    let tree = read_file(alloc, File::Tree, tree, outside.shelf)?;
-    let world = read_file(alloc, File::World, world, outside.shelf)?;
-    let rules = read_file(alloc, File::Rules, rules, outside.shelf)?;
-    mock_files(
-        alloc,
-        tree.as_slice(),
-        world.as_slice(),
-        rules.as_slice(),
-        main,
-        outside,
-    )
-}
-
 /// The limits of a plan, by the numbers of its words.
 fn limits_of(expand: u32, ticks: u32, period: u32) -> Limits
     ensures { result ≡ record { expand = expand; ticks = ticks; period = period } }
@@ -384,73 +261,63 @@ fn limits_of(expand: u32, ticks: u32, period: u32) -> Limits
     }
 }
 
-/// Runs a command: its output is written, or it is refused and nothing is written yet.
-fn run_command<S: Shelf, K: Sink, C: Clock, D: Drivers>(
+/// Answers a command over the bytes of its files: its output is written, or it is refused and nothing is
+/// written yet.
+fn answer<S: Shelf, K: Sink, C: Clock, D: Drivers>(
     alloc: Global,
     command: Command,
+    files: &FilesRead,
     outside: &mut Outside<S, K, C, D>,
 ) -> Result<Exit, Refusal>
     requires range { IsInRange (command_seen command) }
+    requires short { AreShort (contents_of files.now) }
     requires quiet { NothingHeld (D.states outside.old.drivers.now) }
-    ensures ends { let old = outside.old.shelf.now in
-        let new = outside.new.shelf.now in
-        let command = command_seen command.entry in
-        let files = files_of command in
-        CommandEnds S.read_gives (S.holds old) (in_order files) (Rose (S.faults old) (S.faults new)) old new
-        (FilesEnd (S.holds old) files (FilesGive command) (FilesBegin command)) result
+    ensures ends { let command = command_seen command.entry in
+        let files = contents_of files.now in
+        EndsAt (FilesGive command files) (FilesBegin command files) result
         (seen K.written K.faults C.moments D.states outside.old)
         (seen K.written K.faults C.moments D.states outside.new) }
-    ensures held { S.holds outside.new.shelf.now ≡ S.holds outside.old.shelf.now }
+    ensures unread { outside.new.shelf.now ≡ outside.old.shelf.now }
     ensures stays { Stays S.faults K.faults D.states outside.old outside.new }
 {
+    let (tree, world, rules) = (
+        files.tree.as_slice(),
+        files.world.as_slice(),
+        files.rules.as_slice(),
+    );
     match command {
-        Command::Tick { tree, world, main } => {
-            read_and_run(alloc, tree, world, main, Course::Script, outside)
+        Command::Tick { main, .. } => run_files(alloc, tree, world, main, Course::Script, outside),
+        Command::Live { rounds, main, .. } => {
+            run_files(alloc, tree, world, main, Course::Rounds(rounds), outside)
         }
-        Command::Live {
-            tree,
-            world,
-            rounds,
-            main,
-        } => read_and_run(alloc, tree, world, main, Course::Rounds(rounds), outside),
         Command::Load { leaves } => make_and_run(alloc, leaves, outside),
-        Command::Check { tree, main } => read_and_print(alloc, tree, main, Print::Whole, outside),
-        Command::Dead { tree, main } => read_and_print(alloc, tree, main, Print::Dead, outside),
+        Command::Check { main, .. } => print_file(alloc, tree, main, Print::Whole, outside),
+        Command::Dead { main, .. } => print_file(alloc, tree, main, Print::Dead, outside),
         Command::Plan {
-            world,
             expand,
             ticks,
             period,
-        } => read_and_plan(alloc, world, &limits_of(expand, ticks, period), outside),
-        Command::Mock {
-            tree,
-            world,
-            rules,
-            main,
-        } => read_and_mock(alloc, tree, world, rules, main, outside),
-        Command::Ground { world } => read_and_ground(alloc, world, outside),
+            ..
+        } => plan_file(alloc, world, &limits_of(expand, ticks, period), outside),
+        Command::Mock { main, .. } => mock_files(alloc, tree, world, rules, main, outside),
+        Command::Ground { .. } => ground_file(alloc, world, outside),
         Command::GroundPlan {
-            world,
             expand,
             ticks,
             period,
-        } => read_and_plan_ground(alloc, world, &limits_of(expand, ticks, period), outside),
+            ..
+        } => plan_ground(alloc, world, &limits_of(expand, ticks, period), outside),
     }
 }
 
-/// Runs the command that the words of a command line are, or writes the line of its refusal.
-fn run_or_refuse<S: Shelf, K: Sink, C: Clock, D: Drivers>(
+/// Reads the files of the command that the words of a command line are, each once, and answers it over
+/// them; or writes the line of its refusal.
+fn answer_words<S: Shelf, K: Sink, C: Clock, D: Drivers>(
     alloc: Global,
     words: &[Name],
     outside: &mut Outside<S, K, C, D>,
 ) -> Exit
     requires quiet { NothingHeld (D.states outside.old.drivers.now) }
-    ensures answered { let old = outside.old.shelf.now in
-        let new = outside.new.shelf.now in
-        CommandAnswered (command_of words.now) (S.holds old) (Rose (S.faults old) (S.faults new))
-        (WordsUnread S.read_gives (S.holds old) (command_of words.now) old new) result
-        (seen K.written K.faults C.moments D.states outside.old)
-        (seen K.written K.faults C.moments D.states outside.new) }
     ensures reads { let old = outside.old.shelf.now in
         let new = outside.new.shelf.now in
         WordsAnswered S.read_gives (S.holds old) (command_of words.now) (Rose (S.faults old) (S.faults new)) old new result
@@ -459,21 +326,21 @@ fn run_or_refuse<S: Shelf, K: Sink, C: Clock, D: Drivers>(
     ensures held { S.holds outside.new.shelf.now ≡ S.holds outside.old.shelf.now }
     ensures stays { Stays S.faults K.faults D.states outside.old outside.new }
 {
-    match read_command(words) {
-        Some(command) => match run_command(alloc, command, outside) {
+    let Some(command) = read_command(words) else {
+        return write_refusal(alloc, &Refusal::Words, outside.out);
+    };
+    match read_files(alloc, command, outside.shelf) {
+        Ok(files) => match answer(alloc, command, &files, outside) {
             Ok(exit) => exit,
-            Err(refusal) => {
-                let exit = write_refusal(alloc, &refusal, outside.out);
-                drop(refusal);
-                exit
-            }
+            Err(refusal) => write_refusal(alloc, &refusal, outside.out),
         },
-        None => write_refusal(alloc, &Refusal::Words, outside.out),
+        Err(refusal) => write_refusal(alloc, &refusal, outside.out),
     }
 }
 
 /// Runs the command that the words of a command line are, over the files of the shelf, the moments of
-/// the clock and the drivers, and writes its output line by line to the sink, or the line of its refusal.
+/// the clock and the drivers, and writes its output line by line to the sink, or the line of its
+/// refusal.
 pub fn run_words<S: Shelf, K: Sink, C: Clock, D: Drivers>(
     alloc: Global,
     words: &[Name],
@@ -483,10 +350,6 @@ pub fn run_words<S: Shelf, K: Sink, C: Clock, D: Drivers>(
     drivers: &mut D,
 ) -> Exit
     requires quiet { NothingHeld (D.states drivers.old) }
-    ensures answered { CommandAnswered (command_of words.now) (S.holds shelf.old) (Rose (S.faults shelf.old) (S.faults shelf.new))
-        (WordsUnread S.read_gives (S.holds shelf.old) (command_of words.now) shelf.old shelf.new) result
-        (side (K.written out.old) (K.faults out.old) (C.moments clock.old) (D.states drivers.old))
-        (side (K.written out.new) (K.faults out.new) (C.moments clock.new) (D.states drivers.new)) }
     ensures reads { WordsAnswered S.read_gives (S.holds shelf.old) (command_of words.now)
         (Rose (S.faults shelf.old) (S.faults shelf.new)) shelf.old shelf.new result
         (side (K.written out.old) (K.faults out.old) (C.moments clock.old) (D.states drivers.old))
@@ -502,5 +365,5 @@ pub fn run_words<S: Shelf, K: Sink, C: Clock, D: Drivers>(
         clock,
         drivers,
     };
-    run_or_refuse(alloc, words, &mut outside)
+    answer_words(alloc, words, &mut outside)
 }
