@@ -256,6 +256,13 @@ if_more : (clock : Option Moments) (P Q : Moments → Type 0) → ((moments : Mo
 if_more None P Q more x = tt
 if_more (Some told) P Q more x = more told x
 
+-- what is so of each output, and what follows
+each_more : (holds : Option (List ℕ → List ℕ)) (command : Option Command) (a : Side) (P Q : Output → Type 0) → ((o : Output) → P o → Q o) → EachOutput holds command a P → EachOutput holds command a Q
+each_more None command a P Q more x = tt
+each_more (Some h) command a P Q more x =
+    if_more (moments_for command a.clock) (λ moments. (o : Output) → CommandGives command h moments a.drivers o → P o) (λ moments. (o : Output) → CommandGives command h moments a.drivers o → Q o)
+    (λ moments each o p. more o (each o p)) x
+
 -- what is so of some moments is so of those that have to be told
 needed : (c : Command) (files : Contents) (result : Exit) (a b : Side) (clock : Option Moments) →
     AtMoments clock (λ moments. Answers (FilesGive c files moments a.drivers) (FilesBegin c files) result a b) → IfTold (moments_for (Some c) clock) (λ moments. Answers (FilesGive c files moments a.drivers) (FilesBegin c files) result a b)
@@ -299,18 +306,6 @@ module _ (one : OneReading) (cuts : CutLaw) (c : Command) (result : Exit) (shelf
   each_clause None x = tt
   each_clause (Some h) x = each_told h x
 
-  complete_told : (o : Output) → Gave o result a b ⊎ ReadFailed shelf IsUnread result a b → (shelf → ⊥) → (Rose a.faults b.faults → ⊥) → (result ≡ exit.Memory) ⊎ IsWhole o result a b
-  complete_told o (inl p) s k = whole_or_memory o result a b k p
-  complete_told o (inr r) s k = absurd (s r.0)
-
-  -- where no count rose, the output is whole or memory ran out
-  pub complete_clause : (holds : Option (List ℕ → List ℕ)) → ReadFailed shelf IsUnread result a b ⊎ Answered holds c result a b → EachOutput holds (Some c) a (λ o. (shelf → ⊥) → (Rose a.faults b.faults → ⊥) → (result ≡ exit.Memory) ⊎ IsWhole o result a b)
-  complete_clause None x = tt
-  complete_clause (Some h) x =
-      if_more (moments_for (Some c) a.clock) (λ moments. (o : Output) → CommandGives (Some c) h moments a.drivers o → Gave o result a b ⊎ ReadFailed shelf IsUnread result a b)
-      (λ moments. (o : Output) → CommandGives (Some c) h moments a.drivers o → (shelf → ⊥) → (Rose a.faults b.faults → ⊥) → (result ≡ exit.Memory) ⊎ IsWhole o result a b)
-      (λ moments each o p. complete_told o (each o p)) (each_told h x)
-
   -- whatever is answered, no more was begun than in the run
   pub begun_clause : (holds : Option (List ℕ → List ℕ)) → ReadFailed shelf IsUnread result a b ⊎ Answered holds c result a b → EachOutput holds (Some c) a (λ o. DriversWithin o.drivers a.drivers b.drivers)
   begun_clause None x = tt
@@ -333,10 +328,6 @@ module _ (result : Exit) (shelf : Type 0) (IsUnread : File → Type 0) (a b : Si
   pub none_each : (holds : Option (List ℕ → List ℕ)) → EachOutput holds None a (λ o. Gave o result a b ⊎ ReadFailed shelf IsUnread result a b)
   none_each None = tt
   none_each (Some h) = λ o e. inl (refused_gave o e)
-
-  pub none_complete : (holds : Option (List ℕ → List ℕ)) → EachOutput holds None a (λ o. (shelf → ⊥) → (Rose a.faults b.faults → ⊥) → (result ≡ exit.Memory) ⊎ IsWhole o result a b)
-  none_complete None = tt
-  none_complete (Some h) = λ o e s k. whole_or_memory o result a b k (refused_gave o e)
 
   pub none_begun : (holds : Option (List ℕ → List ℕ)) → EachOutput holds None a (λ o. DriversWithin o.drivers a.drivers b.drivers)
   none_begun None = tt
@@ -646,9 +637,15 @@ module _ (holds : Option (List ℕ → List ℕ)) (result : Exit) (shelf : Type 
   each_of one cuts None gave = none_each result shelf IsUnread a b gave holds
   each_of one cuts (Some c) answered = each_clause one cuts c result shelf IsUnread a b holds answered
 
-  pub complete_of : OneReading → CutLaw → (command : Option Command) → CommandAnswered command holds shelf IsUnread result a b → EachOutput holds command a (λ o. (shelf → ⊥) → (Rose a.faults b.faults → ⊥) → (result ≡ exit.Memory) ⊎ IsWhole o result a b)
-  complete_of one cuts None gave = none_complete result shelf IsUnread a b gave holds
-  complete_of one cuts (Some c) answered = complete_clause one cuts c result shelf IsUnread a b holds answered
+  complete_told : (o : Output) → Gave o result a b ⊎ ReadFailed shelf IsUnread result a b → (shelf → ⊥) → (Rose a.faults b.faults → ⊥) → (result ≡ exit.Memory) ⊎ IsWhole o result a b
+  complete_told o (inl p) s k = whole_or_memory o result a b k p
+  complete_told o (inr r) s k = absurd (s r.0)
+
+  -- by what each output was given: where no count rose, it is whole or memory ran out
+  pub complete_of : (command : Option Command) → EachOutput holds command a (λ o. Gave o result a b ⊎ ReadFailed shelf IsUnread result a b)
+      → EachOutput holds command a (λ o. (shelf → ⊥) → (Rose a.faults b.faults → ⊥) → (result ≡ exit.Memory) ⊎ IsWhole o result a b)
+  complete_of command each =
+      each_more holds command a (λ o. Gave o result a b ⊎ ReadFailed shelf IsUnread result a b) (λ o. (shelf → ⊥) → (Rose a.faults b.faults → ⊥) → (result ≡ exit.Memory) ⊎ IsWhole o result a b) complete_told each
 
   pub begun_of : OneReading → CutLaw → (command : Option Command) → CommandAnswered command holds shelf IsUnread result a b → EachOutput holds command a (λ o. DriversWithin o.drivers a.drivers b.drivers)
   begun_of one cuts None gave = none_begun result shelf IsUnread a b gave holds

@@ -1,10 +1,9 @@
-ghost use Rattle.std.specs.Prelude.{◌≡◌, ◌≤◌, ◌⊎◌, None, map};
-ghost use Rattle.bt_output.specs.Answers.{CommandAnswered, ReadFailed, WordsAnswered};
-ghost use Rattle.bt_answers.specs.Answers.{DriversWithin, Gave, IsWhole, side};
-ghost use Rattle.bt_refusals.specs.Refused.{words_refused};
+ghost use Rattle.std.specs.Prelude.{◌≡◌, ◌≤◌, ◌⊎◌, map};
+ghost use Rattle.bt_output.specs.Answers.{ReadFailed, WordsAnswered};
+ghost use Rattle.bt_answers.specs.Answers.{DriversWithin, Gave, side};
 ghost use Rattle.bt_output.specs.Reads.{WordsUnread};
 ghost use Rattle.bt_loop.specs.Steps.{IsSameRoster};
-ghost use Rattle.bt_program.specs.Headline.{EachOutput, IsGiven, IsNotLive, ReachesIfPlan, UnreadLine, WholeOutput};
+ghost use Rattle.bt_program.specs.Headline.{EachOutput, IsGiven, ReachesIfPlan, WholeOutput};
 ghost use Rattle.bt_model.specs.Drivers.{NothingHeld};
 ghost use Rattle.bt_outside.specs.Counts.{Rose};
 ghost use Rattle.bt_command_line.specs.Words.{command_of};
@@ -23,7 +22,8 @@ use std::alloc::Global;
 use std::mem;
 
 /// Runs the command that the words of a command line are, over the files of the shelf, the moments of the
-/// clock and the drivers of the roster, and writes its output line by line to the sink.
+/// clock and the drivers of the roster, and writes its output line by line to the sink. What follows of
+/// the clauses stands in `laws`.
 pub fn bt<S: Shelf, K: Sink, C: Clock>(
     alloc: Global,
     words: &[Name],
@@ -33,12 +33,6 @@ pub fn bt<S: Shelf, K: Sink, C: Clock>(
     roster: &mut Vec<Box<dyn Driver>>,
 ) -> Exit
     requires quiet { NothingHeld (map (λ b. state b) roster.old.items) }
-
-    // Words exactly where the words are no command, but for a sink that fails and want of memory.
-    ensures words { result ≡ Exit.Words → command_of words.now ≡ None }
-    ensures no_command { command_of words.now ≡ None → Gave words_refused result
-        (side (K.written out.old) (K.faults out.old) (C.moments clock.old) (map (λ b. state b) roster.old.items))
-        (side (K.written out.new) (K.faults out.new) (C.moments clock.new) (map (λ b. state b) roster.new.items)) }
 
     // At Done, Words, Tree, World, Fault, NoPlan and Rules the whole output of the definition was
     // written, this is its exit, and the drivers are those after its run; where no tree was run, none
@@ -63,16 +57,6 @@ pub fn bt<S: Shelf, K: Sink, C: Clock>(
         EachOutput (S.holds shelf.old) (command_of words.now) old (λ o.
         DriversWithin o.drivers old.drivers (map (λ b. state b) roster.new.items)) }
 
-    // Whatever is answered, no command but a run by the clock asks the clock.
-    ensures unasked { IsNotLive (command_of words.now) → C.moments clock.new ≡ C.moments clock.old }
-
-    // Also where the shelf or the clock tells nothing: this is so of the output of some bytes of its
-    // files, and of some moments.
-    ensures any_shelf { CommandAnswered (command_of words.now) (S.holds shelf.old) (Rose (S.faults shelf.old) (S.faults shelf.new))
-        (WordsUnread S.read_gives (S.holds shelf.old) (command_of words.now) shelf.old shelf.new) result
-        (side (K.written out.old) (K.faults out.old) (C.moments clock.old) (map (λ b. state b) roster.old.items))
-        (side (K.written out.new) (K.faults out.new) (C.moments clock.new) (map (λ b. state b) roster.new.items)) }
-
     // Whatever is answered, the files that the words name were read in their order, each once, and no
     // other, up to the first whose read gave a fault. The line of this fault was given, or memory ran
     // out in the read; where no read gave one, the output of bytes of which no file has too many.
@@ -81,20 +65,6 @@ pub fn bt<S: Shelf, K: Sink, C: Clock>(
         (side (K.written out.old) (K.faults out.old) (C.moments clock.old) (map (λ b. state b) roster.old.items))
         (side (K.written out.new) (K.faults out.new) (C.moments clock.new) (map (λ b. state b) roster.new.items)) }
     ensures held { S.holds shelf.new ≡ S.holds shelf.old }
-
-    // At Read the read of a file failed, and the line of this file was written.
-    ensures read { result ≡ Exit.Read → Rose (S.faults shelf.old) (S.faults shelf.new)
-        × UnreadLine (WordsUnread S.read_gives (S.holds shelf.old) (command_of words.now) shelf.old shelf.new)
-        (side (K.written out.old) (K.faults out.old) (C.moments clock.old) (map (λ b. state b) roster.old.items))
-        (side (K.written out.new) (K.faults out.new) (C.moments clock.new) (map (λ b. state b) roster.new.items)) }
-    ensures write { result ≡ Exit.Write → Rose (K.faults out.old) (K.faults out.new) }
-
-    // Where no count rose, the whole output was written, or memory ran out.
-    ensures complete { let old = side (K.written out.old) (K.faults out.old) (C.moments clock.old) (map (λ b. state b) roster.old.items) in
-        let new = side (K.written out.new) (K.faults out.new) (C.moments clock.new) (map (λ b. state b) roster.new.items) in
-        EachOutput (S.holds shelf.old) (command_of words.now) old (λ o.
-        ¬ Rose (S.faults shelf.old) (S.faults shelf.new) → ¬ Rose old.faults new.faults
-        → (result ≡ Exit.Memory) ⊎ IsWhole o result old new) }
 
     // Where a plan is Done, the tree that was written reads as a tree that makes every goal true after
     // the tick that was written, in its own run, and not all of them after any earlier one.
@@ -107,8 +77,8 @@ pub fn bt<S: Shelf, K: Sink, C: Clock>(
     ensures none { NothingHeld (map (λ b. state b) roster.new.items) }
     ensures roster { IsSameRoster (map (λ b. state b) roster.old.items) (map (λ b. state b) roster.new.items) }
 
-    ensures read_count { S.faults shelf.old ≤ S.faults shelf.new }
-    ensures count { K.faults out.old ≤ K.faults out.new }
+    // No count of failures has fallen.
+    ensures counts { (S.faults shelf.old ≤ S.faults shelf.new) × (K.faults out.old ≤ K.faults out.new) }
 {
     one_element();
     element_or_fault();

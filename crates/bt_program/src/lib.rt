@@ -4,6 +4,7 @@
 
 mod boxes;
 mod headline;
+pub mod laws;
 mod roster;
 
 pub use headline::bt;
