@@ -1,5 +1,5 @@
 -- What the attributes of a node say fits its kind.
-use Rattle.std.proofs.Common.{◌≡◌, inl, inr, ℕ, Bool, true, false, List, Option, Some, None, Ok, refl, sym, subst}
+use Rattle.std.proofs.Common.{◌≡◌, ◌∙◌, inl, inr, ℕ, Bool, true, false, List, Option, Some, None, Ok, refl, sym, subst}
 use Rattle.std.specs.Prelude.{not}
 use Rattle.std.specs.List.{list_all}
 use Rattle.bt_script.specs.declared.syntax.Script.{Script}
@@ -19,7 +19,10 @@ use Rattle.bt_build.specs.declared.content.Content.{Content}
 use Rattle.bt_build.specs.declared.fault.BuildFault.TheVariants.{UnknownPort, OldSubTree}
 use Rattle.bt_build.specs.declared.head.Head.{Head}
 use Rattle.bt_build.specs.declared.version.Form.{Form}
-use Rattle.bt_build.specs.Content.{Rules, all_known, autoremap_in, code_text, content_in, form_fits, guards_in, model_rules, ports_in, refused_if, rest_in, ruled_in, rules_of, script_of, scripts_in}
+use Rattle.bt_build.specs.Content.{Rules, all_known, content_in, form_fits, model_rules, rules_of}
+use Rattle.bt_build.specs.ContentSteps.{autoremap_in, code_text, guards_in, ports_in, rest_in, ruled_in, script_of, scripts_in}
+use Rattle.bt_build.specs.Faults.{refused_if}
+use Rattle.bt_build.proofs.ContentLaw.{content_same}
 use Rattle.bt_build.proofs.ElementTexts.{found}
 use Rattle.bt_build.proofs.HeadFits.{HeadFits}
 use Rattle.bt_build.proofs.KindFits.{fine}
@@ -58,7 +61,8 @@ parts_of uid kind form rules attributes content h =
 
 pub parts : (uid : ℕ) (models : Models) (kind : Kind) (id : List ℕ) (form : Form) (attributes : Attributes) (content : Content) → content_in uid models kind id form attributes ≡ Ok content →
     Parts uid kind form (rules_of models kind id) attributes content
-parts uid models kind id form attributes content h = parts_of uid kind form (rules_of models kind id) attributes content h
+parts uid models kind id form attributes content h =
+    parts_of uid kind form (rules_of models kind id) attributes content (content_same uid kind form (rules_of models kind id) attributes ∙ h)
 
 autoremap_said : (uid : ℕ) (kind : Kind) (form : Form) (attributes : Attributes) (b : Bool) → autoremap_in uid kind form attributes ≡ Ok b → autoremap_fits kind b ≡ true
 autoremap_said uid SubTree form attributes b h = refl

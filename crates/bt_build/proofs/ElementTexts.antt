@@ -25,7 +25,7 @@ use Rattle.bt_build.specs.declared.version.Form.TheVariants.{Plain}
 use Rattle.bt_build.specs.declared.version.Version.{Version}
 use Rattle.bt_build.specs.declared.version.Version.TheVariants.{Three, Four}
 use Rattle.bt_build.specs.Heads.{compact_by, compact_head, explicit_by, explicit_head, head_by, head_of, id_or_empty, is_explicit, is_kept, is_leaf_name}
-use Rattle.bt_build.specs.Reads.{name_in}
+use Rattle.bt_build.specs.ReadSteps.{name_in}
 use Rattle.bt_build.specs.Versions.{id_read, subtree_form}
 use Rattle.bt_build.proofs.PortFits.{some_same}
 

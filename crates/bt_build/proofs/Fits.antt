@@ -28,9 +28,11 @@ use Rattle.bt_build.specs.declared.fault.BuildFault.{BuildFault}
 use Rattle.bt_build.specs.declared.fault.BuildFault.TheVariants.{TooManyNodes, TooDeep, Recursive, TooManyScopes, ChildCount, DoubleTree}
 use Rattle.bt_build.specs.declared.head.Head.{Head}
 use Rattle.bt_build.specs.declared.tree.Numbers.{Numbers}
-use Rattle.bt_build.specs.Content.{content_in, refused_if}
+use Rattle.bt_build.specs.Content.{content_in}
+use Rattle.bt_build.specs.Faults.{refused_if}
 use Rattle.bt_build.specs.Heads.{head_of, id_or_empty}
-use Rattle.bt_build.specs.Reads.{File, Reader, Trees, is_subtree, is_tree, known, main_of, main_read, most_levels, named_read, no_numbers, node_in, node_of, node_with, nodes_by, one_node_more, one_scope_more, opened_by, plain_by, read_node, read_root, reads, root_read, roots_read, term_of, tree_of, with_first, with_id, with_tree, with_trees, within_limits}
+use Rattle.bt_build.specs.Reads.{File, Reader, Trees, is_subtree, is_tree, known, main_of, most_levels, no_numbers, node_of, nodes_by, opened_by, read_node, reads, term_of, tree_of, within_limits}
+use Rattle.bt_build.specs.ReadSteps.{main_read, named_read, node_in, node_with, one_node_more, one_scope_more, plain_by, read_root, root_read, roots_read, with_first, with_id, with_tree, with_trees}
 use Rattle.bt_build.proofs.ContentFits.{ContentStands, Fitting, content_fits, content_stands}
 use Rattle.bt_build.proofs.ElementTexts.{element_stands, found, head_stands, id_stands, name_in_stands}
 use Rattle.bt_build.proofs.HeadFits.{HeadFits, head_fits}

@@ -1,4 +1,5 @@
 pub mod ContentFits
+pub mod ContentLaw
 pub mod ElementTexts
 pub mod Fits
 pub mod HeadFits
@@ -9,6 +10,7 @@ pub mod Nodes
 pub mod PortFits
 pub mod PortLists
 pub mod PortTexts
+pub mod ReadLaw
 pub mod ScriptAnswers
 pub mod ScriptFits
 pub mod Sizes

@@ -9,7 +9,7 @@ use Rattle.bt_model.specs.Boards.{is_private}
 use Rattle.bt_manifest.specs.Attributes.{Attributes, value_of}
 use Rattle.bt_manifest.specs.Steps.{go_on}
 use Rattle.bt_build.specs.declared.fault.BuildFault.{BuildFault}
-use Rattle.bt_build.specs.Content.{guards_in, script_of}
+use Rattle.bt_build.specs.ContentSteps.{guards_in, script_of}
 
 other_name : (key name : List ℕ) → is_private name ≡ false → bytes_eq (95 ∷ key) name ≡ false
 other_name key [] h = refl

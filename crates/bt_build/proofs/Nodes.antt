@@ -6,7 +6,8 @@ use Rattle.bt_model.specs.declared.term.Term.{Term}
 use Rattle.bt_manifest.specs.Steps.{go_on}
 use Rattle.bt_build.specs.declared.fault.BuildFault.{BuildFault}
 use Rattle.bt_build.specs.declared.tree.Numbers.{Numbers}
-use Rattle.bt_build.specs.Reads.{Reader, nodes_by, with_first}
+use Rattle.bt_build.specs.Reads.{Reader, nodes_by}
+use Rattle.bt_build.specs.ReadSteps.{with_first}
 
 abbrev Read : Type 0
 Read = Result (List Term × Numbers) BuildFault

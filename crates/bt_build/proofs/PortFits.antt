@@ -19,7 +19,8 @@ use Rattle.bt_model.specs.Names.{is_among}
 use Rattle.bt_model.specs.Numbers.{int_in, is_canonical, is_int, of_64_bits}
 use Rattle.bt_model.specs.Trees.{is_one_of, names_of}
 use Rattle.bt_model.specs.Values.{in_braces, is_plain, key_said, key_value, literal, literal_value, value_fits, value_in}
-use Rattle.bt_build.specs.Content.{Rules, AnyPort, AnyKey, Modelled, BuiltIn, is_modelled, name_fits, or_bad, port_of, range_among, range_of, with_port}
+use Rattle.bt_build.specs.Content.{Rules, AnyPort, AnyKey, Modelled, BuiltIn, name_fits, range_among, range_of}
+use Rattle.bt_build.specs.ContentSteps.{is_modelled, or_bad, port_of, with_port}
 use Rattle.bt_build.proofs.Sizes.{same_ok}
 
 pub some_same : {X : Type 0} (x y : X) → ◌≡◌ {A = Option X} (Some x) (Some y) → x ≡ y

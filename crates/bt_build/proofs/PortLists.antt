@@ -13,7 +13,8 @@ use Rattle.bt_model.specs.Trees.{is_one_of, names_of}
 use Rattle.bt_model.specs.Values.{value_fits}
 use Rattle.bt_manifest.specs.declared.models.ModelPort.{ModelPort}
 use Rattle.bt_manifest.specs.Attributes.{Attributes, value_of}
-use Rattle.bt_build.specs.Content.{Rules, AnyPort, AnyKey, Modelled, BuiltIn, is_port, name_fits, port_of, ports_in, range_of, with_absent, with_attribute, with_default, with_fallback, with_model, with_modelled, with_ranged, with_rule, with_rules, with_written}
+use Rattle.bt_build.specs.Content.{Rules, AnyPort, AnyKey, Modelled, BuiltIn, is_port, name_fits, range_of}
+use Rattle.bt_build.specs.ContentSteps.{port_of, ports_in, with_absent, with_attribute, with_default, with_fallback, with_model, with_modelled, with_ranged, with_rule, with_rules, with_written}
 use Rattle.bt_build.proofs.PortFits.{Grows, added, among_last, both_true, grows_by, grows_on, port_fits, ranged, stays}
 use Rattle.bt_build.proofs.Sizes.{same_ok, went}
 

@@ -36,7 +36,8 @@ use Rattle.bt_model.specs.Values.{in_braces, is_port_name, key_said, key_value, 
 use Rattle.bt_manifest.specs.declared.models.ModelPort.{ModelPort}
 use Rattle.bt_manifest.specs.Attributes.{Attributes, value_of}
 use Rattle.bt_build.specs.declared.fault.BuildFault.{BuildFault}
-use Rattle.bt_build.specs.Content.{Rules, AnyPort, AnyKey, Modelled, BuiltIn, is_port, name_fits, or_bad, port_of, ports_in, range_of, with_absent, with_attribute, with_default, with_fallback, with_model, with_modelled, with_port, with_ranged, with_rule, with_rules, with_written}
+use Rattle.bt_build.specs.Content.{Rules, AnyPort, AnyKey, Modelled, BuiltIn, is_port, name_fits, range_of}
+use Rattle.bt_build.specs.ContentSteps.{or_bad, port_of, ports_in, with_absent, with_attribute, with_default, with_fallback, with_model, with_modelled, with_port, with_ranged, with_rule, with_rules, with_written}
 use Rattle.bt_build.proofs.PortFits.{all_pushed, int_in_is, some_same}
 use Rattle.bt_build.proofs.Sizes.{same_ok, went}
 

@@ -1,5 +1,5 @@
 -- What the reader of scripts answers is the script that the text reads as.
-use Rattle.std.proofs.Common.{◌≡◌, ℕ, List, Result, Ok, Err, inl, inr, ap}
+use Rattle.std.proofs.Common.{◌≡◌, ℕ, List, Result, Ok, Err, ap}
 use Rattle.bt_script.specs.declared.fault.ScriptFault.{ScriptFault}
 use Rattle.bt_script.specs.declared.stop.Stop.{Stop}
 use Rattle.bt_script.specs.declared.stop.Stop.TheVariants as stop
@@ -8,15 +8,16 @@ use Rattle.bt_script.specs.Reading.{Answers, ReadsScript, StmtsFault}
 use Rattle.bt_script.specs.Stops.{Gives}
 use Rattle.bt_script.proofs.Exclusive.{no-stmts_fault, one-script, one-stmts_fault}
 use Rattle.bt_build.specs.Scripts.{script_in}
-use Rattle.bt_build.specs.EveryText.{Reading, every_text}
+use Rattle.bt_build.specs.Readings.{Reading}
+use Rattle.bt_build.specs.EveryText.{every_text}
 
-is_script : (text : List ℕ) (s : Script) → ReadsScript text s → (r : Reading text) → elim r as (λ _. Result Script ScriptFault) [ inl t ↦ Ok t.0 | inr f ↦ Err f.0 ] ≡ Ok s
-is_script text s h (inl t) = ap (λ (x : Script). Ok x) (one-script text t.0 s t.1 h)
-is_script text s h (inr f) = absurd (no-stmts_fault text s f.0 h f.1)
+is_script : (text : List ℕ) (s : Script) → ReadsScript text s → (r : Reading text) → r.0 ≡ Ok s
+is_script text s h (Ok t, is) = ap (λ (x : Script). Ok x) (one-script text t s is h)
+is_script text s h (Err f, has) = absurd (no-stmts_fault text s f h has)
 
-is_fault : (text : List ℕ) (f : ScriptFault) → StmtsFault text f → (r : Reading text) → elim r as (λ _. Result Script ScriptFault) [ inl t ↦ Ok t.0 | inr g ↦ Err g.0 ] ≡ Err f
-is_fault text f h (inl t) = absurd (no-stmts_fault text t.0 f t.1 h)
-is_fault text f h (inr g) = ap (λ (x : ScriptFault). Err x) (one-stmts_fault text g.0 f g.1 h)
+is_fault : (text : List ℕ) (f : ScriptFault) → StmtsFault text f → (r : Reading text) → r.0 ≡ Err f
+is_fault text f h (Ok t, is) = absurd (no-stmts_fault text t f is h)
+is_fault text f h (Err g, has) = ap (λ (x : ScriptFault). Err x) (one-stmts_fault text g f has h)
 
 -- a text that reads as a script has this script
 pub script_in-script : (text : List ℕ) (s : Script) → ReadsScript text s → script_in text ≡ Ok s

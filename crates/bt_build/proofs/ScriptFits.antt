@@ -1,5 +1,5 @@
 -- The scripts that are read fit their node.
-use Rattle.std.proofs.Common.{◌≡◌, ℕ, Bool, true, false, List, codes, Option, Some, None, Result, Ok, Err, inl, inr, refl, sym, subst}
+use Rattle.std.proofs.Common.{◌≡◌, ℕ, Bool, true, false, List, codes, Option, Some, None, Result, Ok, Err, refl, sym, subst}
 use Rattle.std.specs.Prelude.{option_map, IfSome}
 use Rattle.std.specs.Cmp.Derive.{both_true}
 use Rattle.std.specs.List.{list_all}
@@ -13,18 +13,19 @@ use Rattle.bt_model.specs.Trees.{CodeFits, GuardsFit, ScriptFits, guards_stand, 
 use Rattle.bt_manifest.specs.Attributes.{Attributes, value_of}
 use Rattle.bt_manifest.specs.Steps.{go_on}
 use Rattle.bt_build.specs.declared.fault.BuildFault.{BuildFault}
-use Rattle.bt_build.specs.Content.{code_text, guard_in, guards_in, or_bad, or_bad_script, script_of}
-use Rattle.bt_build.specs.EveryText.{Reading, every_text}
+use Rattle.bt_build.specs.ContentSteps.{code_text, guard_in, guards_in, or_bad, or_bad_script, script_of}
+use Rattle.bt_build.specs.Readings.{Reading}
 use Rattle.bt_build.specs.Scripts.{script_in}
 use Rattle.bt_build.proofs.ElementTexts.{value_there}
+use Rattle.bt_build.specs.EveryText.{every_text}
 use Rattle.bt_build.proofs.Sizes.{same_ok, went}
 
 ok_script : (s t : Script) → ◌≡◌ {A = Result Script ScriptFault} (Ok s) (Ok t) → s ≡ t
 ok_script s t h = cc
 
-chosen : (text : List ℕ) (s : Script) (r : Reading text) → elim r as (λ _. Result Script ScriptFault) [ inl t ↦ Ok t.0 | inr f ↦ Err f.0 ] ≡ Ok s → ReadsScript text s
-chosen text s (inl t) h = subst (λ (x : Script). ReadsScript text x) (ok_script t.0 s h) t.1
-chosen text s (inr f) h = absurd (cc)
+chosen : (text : List ℕ) (s : Script) (r : Reading text) → r.0 ≡ Ok s → ReadsScript text s
+chosen text s (Ok t, is) h = subst (λ (x : Script). ReadsScript text x) (ok_script t s h) is
+chosen text s (Err f, has) h = absurd (cc)
 
 -- a script that is read is one that its text reads as
 pub script_in-reads : (text : List ℕ) (s : Script) → script_in text ≡ Ok s → ReadsScript text s

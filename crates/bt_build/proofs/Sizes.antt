@@ -23,10 +23,13 @@ use Rattle.bt_build.specs.declared.fault.BuildFault.TheVariants.{TooManyNodes, T
 use Rattle.bt_build.specs.declared.head.Head.{Head}
 use Rattle.bt_build.specs.declared.tree.Numbers.{Numbers}
 use Rattle.bt_build.specs.declared.version.Version.{Version}
-use Rattle.bt_build.specs.Content.{content_in, refused_if}
+use Rattle.bt_build.specs.Content.{content_in}
+use Rattle.bt_build.specs.Faults.{refused_if}
 use Rattle.bt_build.specs.Heads.{head_of}
 use Rattle.bt_build.specs.Versions.{version_in}
-use Rattle.bt_build.specs.Reads.{File, Reader, Trees, is_subtree, known, main_of, main_read, most_levels, named_read, no_numbers, node_in, node_of, node_with, nodes_by, not_root, one_node_more, one_scope_more, opened_by, plain_by, read_in, read_node, read_root, reads, root_faults, root_read, roots_read, term_of, tree_of, trees_read, with_first, with_trees, within_limits}
+use Rattle.bt_build.specs.Reads.{File, Reader, Trees, is_subtree, known, main_of, most_levels, no_numbers, node_of, nodes_by, opened_by, read_node, reads, term_of, tree_of, within_limits}
+use Rattle.bt_build.specs.ReadSteps.{main_read, named_read, node_in, node_with, not_root, one_node_more, one_scope_more, plain_by, read_in, read_root, root_faults, root_read, roots_read, trees_read, with_first, with_trees}
+use Rattle.bt_build.proofs.ReadLaw.{file_same}
 
 -- what was read next, where all was read
 pub went : {A B F : Type 0} (next : A → Result B F) (r : Result A F) (y : B) → go_on next r ≡ Ok y → (x : A) × (r ≡ Ok x) × (next x ≡ Ok y)
@@ -235,7 +238,8 @@ pub record FileRead (models : Models) (asked : Option (List ℕ)) (root : Elemen
   pub read : trees_read models asked (attributes_of root) version trees ≡ Ok t
 
 pub file_read : (models : Models) (asked : Option (List ℕ)) (root : Element) (t : Tree) → reads models asked root ≡ Ok t → FileRead models asked root t
-file_read models asked root t h =
+file_read models asked root t g =
+    let h = file_same models asked root ∙ g in
     let trees = with_trees [] (children_of root) in
     let read = λ (version : Version). go_on (trees_read models asked (attributes_of root) version) trees in
     let f = faultless (not_root root) (version_in (value_of (codes "BTCPP_format") (attributes_of root))) read t h in

@@ -17,9 +17,11 @@ use Rattle.bt_build.specs.declared.fault.BuildFault.{BuildFault}
 use Rattle.bt_build.specs.declared.fault.BuildFault.TheVariants.{TooManyNodes, Recursive, TooManyScopes, ChildCount}
 use Rattle.bt_build.specs.declared.head.Head.{Head}
 use Rattle.bt_build.specs.declared.tree.Numbers.{Numbers}
-use Rattle.bt_build.specs.Content.{content_in, refused_if}
+use Rattle.bt_build.specs.Content.{content_in}
+use Rattle.bt_build.specs.Faults.{refused_if}
 use Rattle.bt_build.specs.Heads.{head_of}
-use Rattle.bt_build.specs.Reads.{File, Reader, is_subtree, known, node_by, node_of, node_with, nodes_by, one_node_more, one_scope_more, opened_by, plain_by, read_node, tree_of}
+use Rattle.bt_build.specs.Reads.{File, Reader, is_subtree, known, node_by, node_of, nodes_by, opened_by, read_node, tree_of}
+use Rattle.bt_build.specs.ReadSteps.{node_with, one_node_more, one_scope_more, plain_by}
 
 -- a fault of a part is one of the whole
 pub passed : {A B : Type 0} (e : Stop BuildFault) (part : Result A BuildFault) (whole : Result B BuildFault) →

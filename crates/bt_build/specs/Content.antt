@@ -1,6 +1,7 @@
 -- What the attributes of a node say: its ports and its scripts, or the first fault in them.
-use Rattle.std.specs.Prelude.{ℕ, List, [], ◌∷◌, ◌++◌, codes, Bool, true, false, not, is_some, ◌&&◌, ◌||◌, if◌then◌else◌, Option, Some, None, option_map, Result, Ok, Err}
+use Rattle.std.specs.Prelude.{ℕ, List, [], ◌∷◌, ◌++◌, map, filter, filter_map, codes, Bool, true, false, not, is_some, ◌&&◌, ◌||◌, if◌then◌else◌, Option, Some, None, option_map, option_and_then, unwrap_or, Result}
 use Rattle.std.specs.List.{list_all, list_any}
+use Rattle.std.specs.Result.{result_ok, result_err}
 use Rattle.std.specs.Str.{bytes_eq}
 use Rattle.bt_script.specs.declared.fault.ScriptFault.{ScriptFault}
 use Rattle.bt_script.specs.declared.syntax.Script.{Script}
@@ -11,25 +12,19 @@ use Rattle.bt_model.specs.declared.term.Guards.{Guards}
 use Rattle.bt_model.specs.declared.term.Kind.{Kind}
 use Rattle.bt_model.specs.declared.term.Kind.TheVariants.{SubTree, Leaf}
 use Rattle.bt_model.specs.declared.term.Port.{Port}
-use Rattle.bt_model.specs.declared.term.PortValue.{PortValue}
 use Rattle.bt_model.specs.BuiltIns.{PortRule, has_code, ports_of}
 use Rattle.bt_model.specs.Values.{is_port_name, value_in}
 use Rattle.bt_manifest.specs.declared.models.ModelPort.{ModelPort}
 use Rattle.bt_manifest.specs.declared.models.NodeModel.{NodeModel}
 use Rattle.bt_manifest.specs.Attributes.{Attributes, value_of}
 use Rattle.bt_manifest.specs.Models.{Models, model_of}
-use Rattle.bt_manifest.specs.Steps.{go_on}
 use Rattle.bt_build.specs.declared.content.Content.{Content}
 use Rattle.bt_build.specs.declared.fault.BuildFault.{BuildFault}
 use Rattle.bt_build.specs.declared.fault.BuildFault.TheVariants.{UnknownPort, OldSubTree, BadLiteral, BadScript}
 use Rattle.bt_build.specs.declared.version.Form.{Form}
 use Rattle.bt_build.specs.declared.version.Form.TheVariants as form
+use Rattle.bt_build.specs.Faults.{fault_if, unless}
 use Rattle.bt_build.specs.Scripts.{script_in}
-
--- a fault where something is so, else what is read
-abbrev pub refused_if : {A : Type 0} → Bool → BuildFault → Result A BuildFault → Result A BuildFault
-refused_if true fault read = Err fault
-refused_if false fault read = read
 
 -- ---- Which ports a node may have
 
@@ -56,15 +51,11 @@ abbrev pub range_among : List PortRule → List ℕ → Option Range
 range_among [] name = None
 range_among (rule ∷ rules) name = if bytes_eq name rule.name then Some rule.range else range_among rules name
 
--- whether a model has a port of this name
-abbrev pub is_modelled : List ModelPort → List ℕ → Bool
-is_modelled ports name = list_any (λ port. bytes_eq name port.name) ports
-
 -- the range of the node's port of this name, if it may have one
 abbrev pub range_of : Rules → List ℕ → Option Range
 range_of AnyPort name = Some AnyValue
 range_of AnyKey name = Some AnyValue
-range_of (Modelled ports) name = if is_modelled ports name then Some AnyValue else None
+range_of (Modelled ports) name = if list_any (λ port. bytes_eq name port.name) ports then Some AnyValue else None
 range_of (BuiltIn rules) name = range_among rules name
 
 -- the ports of a SubTree node are identifiers
@@ -80,136 +71,43 @@ is_port with_code name = is_port_name name && not (with_code && bytes_eq name (c
 abbrev pub all_known : Bool → Rules → Attributes → Bool
 all_known with_code rules attributes = list_all (λ a. not (is_port with_code a.0) || is_some (range_of rules a.0)) attributes
 
--- whether a node has no attribute but an ID and a name
-abbrev pub is_bare : Attributes → Bool
-is_bare attributes = list_all (λ a. bytes_eq a.0 (codes "ID") || bytes_eq a.0 (codes "name")) attributes
-
--- an old SubTree has no other attribute
+-- an old SubTree has no attribute but an ID and a name
 abbrev pub form_fits : Form → Attributes → Bool
-form_fits form.OldSubTree attributes = is_bare attributes
+form_fits form.OldSubTree attributes = list_all (λ a. bytes_eq a.0 (codes "ID") || bytes_eq a.0 (codes "name")) attributes
 form_fits form attributes = true
 
--- ---- The values of the ports
+-- ---- The ports
 
--- what is there, or else a bad literal of the node with this uid
-abbrev pub or_bad : {A : Type 0} → ℕ → Option A → Result A BuildFault
-or_bad uid (Some x) = Ok x
-or_bad uid None = Err (BadLiteral uid)
+-- the port of this range and name that a text says, if the text may stand there
+abbrev pub port_said : Range → List ℕ → List ℕ → Option Port
+port_said range name text = option_map (λ value. record { name = name; value = value }) (value_in range name text)
 
--- a port of this name and value
-abbrev pub port_of : List ℕ → PortValue → Port
-port_of name value = record { name = name; value = value }
+-- the port that an attribute says
+abbrev pub port_written : Rules → List ℕ × List ℕ → Option Port
+port_written rules a = if name_fits rules a.0 then option_and_then (λ range. port_said range a.0 a.1) (range_of rules a.0) else None
 
--- the ports with one of this name and text, if the text may stand there
-abbrev pub with_port : ℕ → List Port → Range → List ℕ → List ℕ → Result (List Port) BuildFault
-with_port uid ports range name text = or_bad uid (option_map (λ value. ports ++ port_of name value ∷ []) (value_in range name text))
+-- whether no attribute has this name
+abbrev pub is_absent : Attributes → List ℕ → Bool
+is_absent attributes name = not (is_some (value_of name attributes))
 
--- the ports with one of this name and text, if the name fits and the node may have it
-abbrev pub with_ranged : ℕ → List Port → Bool → Option Range → List ℕ → List ℕ → Result (List Port) BuildFault
-with_ranged uid ports true (Some range) name text = with_port uid ports range name text
-with_ranged uid ports fits range name text = Err (BadLiteral uid)
+-- What the ports say that are not written: of a built-in node each its default, and nothing where it has none, since it has to be
+-- written; of a leaf with a model those that have a fallback, each this.
+abbrev pub ports_absent : Rules → Attributes → List (Option Port)
+ports_absent (BuiltIn rules) attributes =
+    map (λ rule. option_and_then (port_said rule.range rule.name) rule.default) (filter (λ rule. is_absent attributes rule.name) rules)
+ports_absent (Modelled ports) attributes =
+    filter_map (λ port. option_map (port_said AnyValue port.name) port.fallback) (filter (λ port. is_absent attributes port.name) ports)
+ports_absent rules attributes = []
 
--- the ports with that of this attribute, if it is one
-abbrev pub with_attribute : ℕ → Bool → Rules → List Port → List ℕ × List ℕ → Result (List Port) BuildFault
-with_attribute uid with_code rules ports a =
-    if is_port with_code a.0 then with_ranged uid ports (name_fits rules a.0) (range_of rules a.0) a.0 a.1 else Ok ports
+-- what the ports of a node say: those that are written, in their order, and then the others
+abbrev pub ports_said : Bool → Rules → Attributes → List (Option Port)
+ports_said with_code rules attributes = map (port_written rules) (filter (λ a. is_port with_code a.0) attributes) ++ ports_absent rules attributes
 
--- the ports with those that these attributes write, in their order
-abbrev pub with_written : ℕ → Bool → Rules → List Port → Attributes → Result (List Port) BuildFault
-with_written uid with_code rules ports [] = Ok ports
-with_written uid with_code rules ports (a ∷ more) =
-    go_on (λ next. with_written uid with_code rules next more) (with_attribute uid with_code rules ports a)
+-- those that say something
+abbrev pub there : {A : Type 0} → List (Option A) → List A
+there said = filter_map (λ x. x) said
 
--- a built-in node's port that is not written has its default; one without a default must be written
-abbrev pub with_default : ℕ → List Port → PortRule → Option (List ℕ) → Result (List Port) BuildFault
-with_default uid ports rule (Some text) = with_port uid ports rule.range rule.name text
-with_default uid ports rule None = Err (BadLiteral uid)
-
--- a built-in node's port is added where it is not written
-abbrev pub with_rule : ℕ → Attributes → List Port → PortRule → Result (List Port) BuildFault
-with_rule uid attributes ports rule = if is_some (value_of rule.name attributes) then Ok ports else with_default uid ports rule rule.default
-
--- those of all its rules, in order
-abbrev pub with_rules : ℕ → Attributes → List Port → List PortRule → Result (List Port) BuildFault
-with_rules uid attributes ports [] = Ok ports
-with_rules uid attributes ports (rule ∷ more) = go_on (λ next. with_rules uid attributes next more) (with_rule uid attributes ports rule)
-
--- a leaf's port that is not written has the fallback of its model, if there is one
-abbrev pub with_fallback : ℕ → List Port → List ℕ → Option (List ℕ) → Result (List Port) BuildFault
-with_fallback uid ports name (Some text) = with_port uid ports AnyValue name text
-with_fallback uid ports name None = Ok ports
-
--- a leaf's port is added where it is not written
-abbrev pub with_modelled : ℕ → Attributes → List Port → ModelPort → Result (List Port) BuildFault
-with_modelled uid attributes ports port =
-    if is_some (value_of port.name attributes) then Ok ports else with_fallback uid ports port.name port.fallback
-
--- those of all ports of its model, in order
-abbrev pub with_model : ℕ → Attributes → List Port → List ModelPort → Result (List Port) BuildFault
-with_model uid attributes ports [] = Ok ports
-with_model uid attributes ports (port ∷ more) = go_on (λ next. with_model uid attributes next more) (with_modelled uid attributes ports port)
-
--- the ports with those that are not written
-abbrev pub with_absent : ℕ → Attributes → Rules → List Port → Result (List Port) BuildFault
-with_absent uid attributes (Modelled ports) so_far = with_model uid attributes so_far ports
-with_absent uid attributes (BuiltIn rules) so_far = with_rules uid attributes so_far rules
-with_absent uid attributes _ so_far = Ok so_far
-
--- the ports of a node: those that are written, in their order, and then those that are not
-abbrev pub ports_in : ℕ → Bool → Rules → Attributes → Result (List Port) BuildFault
-ports_in uid with_code rules attributes = go_on (with_absent uid attributes rules) (with_written uid with_code rules [] attributes)
-
--- ---- The scripts
-
--- a script, or else a bad script of the node with this uid
-abbrev pub or_bad_script : ℕ → Result Script ScriptFault → Result (Option Script) BuildFault
-or_bad_script uid (Ok script) = Ok (Some script)
-or_bad_script uid (Err fault) = Err (BadScript uid fault)
-
--- the script of a text, if there is one
-abbrev pub script_of : ℕ → Option (List ℕ) → Result (Option Script) BuildFault
-script_of uid None = Ok None
-script_of uid (Some text) = or_bad_script uid (script_in text)
-
--- the text of the node's code: a node that has one must have it written
-abbrev pub code_text : ℕ → Bool → Attributes → Result (Option (List ℕ)) BuildFault
-code_text uid false attributes = Ok None
-code_text uid true attributes = or_bad uid (option_map Some (value_of (codes "code") attributes))
-
--- the guard in the attribute of this name
-abbrev pub guard_in : ℕ → Attributes → List ℕ → Result (Option Script) BuildFault
-guard_in uid attributes name = script_of uid (value_of name attributes)
-
--- the eight guards, in the order in which their faults come
-abbrev pub guards_in : ℕ → Attributes → Result Guards BuildFault
-guards_in uid attributes =
-    go_on (λ failure_if.
-    go_on (λ success_if.
-    go_on (λ skip_if.
-    go_on (λ while_true.
-    go_on (λ on_success.
-    go_on (λ on_failure.
-    go_on (λ post.
-    go_on (λ on_halted. Ok (record {
-      failure_if = failure_if;
-      success_if = success_if;
-      skip_if = skip_if;
-      while_true = while_true;
-      on_success = on_success;
-      on_failure = on_failure;
-      post = post;
-      on_halted = on_halted;
-    }))
-    (guard_in uid attributes (codes "_onHalted")))
-    (guard_in uid attributes (codes "_post")))
-    (guard_in uid attributes (codes "_onFailure")))
-    (guard_in uid attributes (codes "_onSuccess")))
-    (guard_in uid attributes (codes "_while")))
-    (guard_in uid attributes (codes "_skipIf")))
-    (guard_in uid attributes (codes "_successIf")))
-    (guard_in uid attributes (codes "_failureIf"))
-
--- ---- All together
+-- ---- The keys of a SubTree node
 
 -- the truth value that a text says, if it says one
 abbrev pub truth_in : List ℕ → Option Bool
@@ -219,45 +117,91 @@ truth_in text =
     else None
 
 -- the truth value that a text says, and false where there is no text
-abbrev pub said_or_false : ℕ → Option (List ℕ) → Result Bool BuildFault
-said_or_false uid None = Ok false
-said_or_false uid (Some text) = or_bad uid (truth_in text)
+abbrev pub truth_said : Option (List ℕ) → Option Bool
+truth_said None = Some false
+truth_said (Some text) = truth_in text
 
--- what a SubTreePlus says by the older name
-abbrev pub older_autoremap : ℕ → Form → Attributes → Result Bool BuildFault
-older_autoremap uid form.SubTreePlus attributes = said_or_false uid (value_of (codes "__autoremap") attributes)
-older_autoremap uid form attributes = Ok false
+-- the attributes that may say that all keys are mapped; a SubTreePlus has an older name too
+abbrev pub autoremap_names : Kind → Form → List (List ℕ)
+autoremap_names SubTree form.SubTreePlus = codes "_autoremap" ∷ codes "__autoremap" ∷ []
+autoremap_names SubTree form = codes "_autoremap" ∷ []
+autoremap_names kind form = []
 
--- whether all keys of a SubTree node are mapped: either name may say so, and both have to be truth values
-abbrev pub autoremap_in : ℕ → Kind → Form → Attributes → Result Bool BuildFault
-autoremap_in uid SubTree form attributes =
-    go_on (λ now. go_on (λ older. Ok (now || older))
-    (older_autoremap uid form attributes))
-    (said_or_false uid (value_of (codes "_autoremap") attributes))
-autoremap_in uid kind form attributes = Ok false
+-- what they say
+abbrev pub autoremap_said : Kind → Form → Attributes → List (Option Bool)
+autoremap_said kind form attributes = map (λ name. truth_said (value_of name attributes)) (autoremap_names kind form)
 
--- the scripts of a node, whose ports are these
-abbrev pub scripts_in : ℕ → List Port → Option (List ℕ) → Bool → Attributes → Result Content BuildFault
-scripts_in uid ports text autoremap attributes =
-    go_on (λ code. go_on (λ guards. Ok (record { ports = ports; code = code; guards = guards; autoremap = autoremap }))
-    (guards_in uid attributes))
-    (script_of uid text)
+-- ---- The scripts
 
--- the rest of what the attributes of a node say, whose ports are these
-abbrev pub rest_in : ℕ → Kind → Form → Attributes → List Port → Result Content BuildFault
-rest_in uid kind form attributes ports =
-    go_on (λ text. go_on (λ autoremap. scripts_in uid ports text autoremap attributes)
-    (autoremap_in uid kind form attributes))
-    (code_text uid (has_code kind) attributes)
+-- the guards, in the order in which their faults come
+abbrev pub guard_names : List (List ℕ)
+guard_names =
+    codes "_failureIf"
+    ∷ codes "_successIf"
+    ∷ codes "_skipIf"
+    ∷ codes "_while"
+    ∷ codes "_onSuccess"
+    ∷ codes "_onFailure"
+    ∷ codes "_post"
+    ∷ codes "_onHalted"
+    ∷ []
 
--- what the attributes of a node say, which may have these ports: unknown ports come first, then what an old SubTree may not have,
--- then values that may not stand, then scripts that can't be read
-abbrev pub ruled_in : ℕ → Kind → Form → Rules → Attributes → Result Content BuildFault
-ruled_in uid kind form rules attributes =
-    refused_if (not (all_known (has_code kind) rules attributes)) (UnknownPort uid)
-    (refused_if (not (form_fits form attributes)) (OldSubTree uid)
-    (go_on (rest_in uid kind form attributes) (ports_in uid (has_code kind) rules attributes)))
+-- the attributes that are scripts: the code of a node that has one comes before the guards
+abbrev pub script_names : Bool → List (List ℕ)
+script_names with_code = if with_code then codes "code" ∷ guard_names else guard_names
+
+-- the script in the attribute of this name, if it has one
+abbrev pub script_at : Attributes → List ℕ → Option Script
+script_at attributes name = option_and_then (λ text. result_ok (script_in text)) (value_of name attributes)
+
+-- the fault of the script there, if it has one
+abbrev pub script_fault : Attributes → List ℕ → Option ScriptFault
+script_fault attributes name = option_and_then (λ text. result_err (script_in text)) (value_of name attributes)
+
+-- the guards of a node
+abbrev pub guards_at : Attributes → Guards
+guards_at attributes = record {
+  failure_if = script_at attributes (codes "_failureIf");
+  success_if = script_at attributes (codes "_successIf");
+  skip_if = script_at attributes (codes "_skipIf");
+  while_true = script_at attributes (codes "_while");
+  on_success = script_at attributes (codes "_onSuccess");
+  on_failure = script_at attributes (codes "_onFailure");
+  post = script_at attributes (codes "_post");
+  on_halted = script_at attributes (codes "_onHalted");
+}
+
+-- ---- All together
+
+-- whether each port says something, a node that has a code has it written, and each truth value is one
+abbrev pub values_stand : Kind → Form → Rules → Attributes → Bool
+values_stand kind form rules attributes =
+    list_all is_some (ports_said (has_code kind) rules attributes)
+    && ((not (has_code kind) || is_some (value_of (codes "code") attributes))
+    && list_all is_some (autoremap_said kind form attributes))
+
+-- The faults of a node, the first first: a port that it may not have, what an old SubTree may not have, a value that may not stand or
+-- is missing, and the scripts that can't be read.
+abbrev pub faults_of : ℕ → Kind → Form → Rules → Attributes → List BuildFault
+faults_of uid kind form rules attributes =
+    fault_if (not (all_known (has_code kind) rules attributes)) (UnknownPort uid)
+    ++ (fault_if (not (form_fits form attributes)) (OldSubTree uid)
+    ++ (fault_if (not (values_stand kind form rules attributes)) (BadLiteral uid)
+    ++ map (BadScript uid) (filter_map (script_fault attributes) (script_names (has_code kind)))))
+
+-- what a node has that has no fault
+abbrev pub content_of : Kind → Form → Rules → Attributes → Content
+content_of kind form rules attributes = record {
+  ports = there (ports_said (has_code kind) rules attributes);
+  code = if has_code kind then script_at attributes (codes "code") else None;
+  guards = guards_at attributes;
+  autoremap = list_any (λ said. unwrap_or said false) (autoremap_said kind form attributes);
+}
+
+-- what the attributes of a node say that may have these ports
+abbrev pub content_by : ℕ → Kind → Form → Rules → Attributes → Result Content BuildFault
+content_by uid kind form rules attributes = unless (faults_of uid kind form rules attributes) (content_of kind form rules attributes)
 
 -- what the attributes of a node of this kind, ID and form say
 abbrev pub content_in : ℕ → Models → Kind → List ℕ → Form → Attributes → Result Content BuildFault
-content_in uid models kind id form attributes = ruled_in uid kind form (rules_of models kind id) attributes
+content_in uid models kind id form attributes = content_by uid kind form (rules_of models kind id) attributes

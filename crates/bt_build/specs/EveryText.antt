@@ -1,23 +1,20 @@
--- Every text reads as a script by the grammar, or has a fault.
-use Rattle.std.specs.Prelude.{◌≡◌, ℕ, ◌≤◌, ◌⊎◌, List, [], ◌∷◌, length, Bool, true, false, nat_le, Option, Some, None, refl}
-use Rattle.std.proofs.Common.{inl, inr, ap, ◌∙◌}
+-- The proof that every text has a reading. It stands here since a definition picks the reading by it (`Scripts`); what it proves is all
+-- that counts, and stands in `Readings`.
+use Rattle.std.specs.Prelude.{◌≡◌, ℕ, ◌≤◌, List, [], ◌∷◌, length, Bool, true, false, nat_le, Option, Some, None, Ok, Err, refl}
+use Rattle.std.proofs.Common.{ap, ◌∙◌}
 use Rattle.std.proofs.lemmas.Bool.{leb-true, leb-false}
 use Rattle.bt_script.specs.declared.check.Verdict.{Verdict}
 use Rattle.bt_script.specs.declared.check.Verdict.TheVariants as verdict
 use Rattle.bt_script.specs.declared.check.Stage.TheVariants.{Blank}
 use Rattle.bt_script.specs.declared.fault.ScriptFault.{ScriptFault}
 use Rattle.bt_script.specs.declared.fault.ScriptFault.TheVariants.{TooLong, TooNested}
-use Rattle.bt_script.specs.declared.syntax.Script.{Script}
 use Rattle.bt_script.specs.declared.syntax.Stmt.{Stmt}
 use Rattle.bt_script.specs.declared.token.Placed.{Placed}
 use Rattle.bt_script.specs.Grammar.{IsStmts, kept}
-use Rattle.bt_script.specs.Reading.{ReadsScript, StmtsFault, bare, high_stmt, token_fault, tokens_of}
+use Rattle.bt_script.specs.Reading.{bare, high_stmt, token_fault, tokens_of}
 use Rattle.bt_script.specs.Spots.{Checked, Spot, may_end, refused, run, step, then_spot}
 use Rattle.bt_script.proofs.Readings.{script-clean, script-read, script-refused}
-
--- what a text is: a script, or faulty
-abbrev pub Reading : List ℕ → Type 0
-Reading text = ((s : Script) × ReadsScript text s) ⊎ ((f : ScriptFault) × StmtsFault text f)
+use Rattle.bt_build.specs.Readings.{EveryText, Reading}
 
 -- where some tokens lead
 abbrev Found : Spot → List Placed → Type 0
@@ -58,8 +55,8 @@ found s (t ∷ ts) = next s t ts (λ u. found u ts) (step s t.token) refl
 built : (text : List ℕ) → length text ≤ 4096 → token_fault text ≡ None → (slots : List (Option Stmt)) → IsStmts (bare (tokens_of text)) slots →
     (o : Option ℕ) → high_stmt slots (tokens_of text) ≡ o → Reading text
 built text short clean slots is None low =
-    inl (record { text = text; stmts = kept slots }, script-read text text (kept slots) (kept slots) short clean refl refl (slots, is, refl, low))
-built text short clean slots is (Some place) high = inr (TooNested place, (short, record { clean = clean; whole = slots; is = is; high_at = high }))
+    (Ok (record { text = text; stmts = kept slots }), script-read text text (kept slots) (kept slots) short clean refl refl (slots, is, refl, low))
+built text short clean slots is (Some place) high = (Err (TooNested place), (short, record { clean = clean; whole = slots; is = is; high_at = high }))
 
 short_text : (text : List ℕ) → length text ≤ 4096 → Reading text
 short_text text short = by (refused f.0 (token_fault text) (length text)) refl
@@ -68,15 +65,15 @@ short_text text short = by (refused f.0 (token_fault text) (length text)) refl
     f = found (Blank, []) (tokens_of text)
 
     by : (r : Option ScriptFault) → r ≡ refused f.0 (token_fault text) (length text) → Reading text
-    by (Some fault) h = inr (fault, script-refused text f.0 (token_fault text) (length text) fault short f.1 refl refl h)
+    by (Some fault) h = (Err fault, script-refused text f.0 (token_fault text) (length text) fault short f.1 refl refl h)
     by None h =
         let c = script-clean text f.0 (token_fault text) (length text) f.1 refl h in
         built text short c.0 c.1.0 c.1.1 (high_stmt c.1.0 (tokens_of text)) refl
 
 by_length : (text : List ℕ) (b : Bool) → nat_le (length text) 4096 ≡ b → Reading text
 by_length text true h = short_text text (leb-true (length text) 4096 h)
-by_length text false h = inr (TooLong, leb-false (length text) 4096 h)
+by_length text false h = (Err TooLong, leb-false (length text) 4096 h)
 
 -- every text reads as a script, or has a fault
-pub every_text : (text : List ℕ) → Reading text
+pub every_text : EveryText
 every_text text = by_length text (nat_le (length text) 4096) refl

@@ -1,7 +1,11 @@
 pub mod Content
+pub mod ContentSteps
 pub mod EveryText
+pub mod Faults
 pub mod Gives
 pub mod Heads
+pub mod ReadSteps
+pub mod Readings
 pub mod Reads
 pub mod Scripts
 pub mod Seen

@@ -4,7 +4,8 @@ ghost use Rattle.bt_script.specs.Stops.{Gives};
 ghost use Rattle.bt_elements.specs.Elements.{IsValid as IsValidElement};
 ghost use Rattle.bt_model.specs.Trees.{IsValid};
 ghost use Rattle.bt_manifest.specs.Models.{manifest_in};
-ghost use Rattle.bt_build.specs.Reads.{main_of, main_read, most_levels, only_id, read_root, reads, root_read, tree_of, trees_read, within_limits};
+ghost use Rattle.bt_build.specs.Reads.{main_of, most_levels, only_id, reads, tree_of, within_limits};
+ghost use Rattle.bt_build.specs.ReadSteps.{file_steps, main_read, read_root, root_read, trees_read};
 ghost use Rattle.bt_build.specs.Seen.{file_seen, trees_seen};
 
 use crate::fault::BuildFault;
@@ -156,7 +157,7 @@ fn file_read(
     models: &Manifest,
     asked: Option<&Name>,
 ) -> Result<Tree, Stop<BuildFault>>
-    ensures { Gives result (reads models.now (option_copied asked.entry) root.now) }
+    ensures { Gives result (file_steps models.now (option_copied asked.entry) root.now) }
 {
     let attributes = root.attributes.list();
     if let Some(place) = not_root(root) {

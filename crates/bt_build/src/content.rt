@@ -5,7 +5,8 @@ ghost use Rattle.std.specs.Option.{option_copied};
 ghost use Rattle.bt_script.specs.Stops.{Gives};
 ghost use Rattle.bt_model.specs.Boards.{is_private};
 ghost use Rattle.bt_model.specs.BuiltIns.{has_code};
-ghost use Rattle.bt_build.specs.Content.{autoremap_in, code_text, content_in, form_fits, guard_in, guards_in, is_bare, older_autoremap, rest_in, ruled_in, scripts_in, said_or_false, script_of, truth_in};
+ghost use Rattle.bt_build.specs.Content.{content_in, form_fits, truth_in};
+ghost use Rattle.bt_build.specs.ContentSteps.{autoremap_in, code_text, guard_in, guards_in, is_bare, older_autoremap, rest_in, ruled_in, scripts_in, said_or_false, script_of};
 ghost use Rattle.bt_build.specs.Seen.{rules_seen, text_seen};
 
 use crate::fault::BuildFault;

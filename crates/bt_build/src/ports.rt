@@ -1,7 +1,7 @@
 ghost use Rattle.std.specs.Prelude.{◌≡◌, [], true, false, map, option_map, IsUtf8, IfOk};
 ghost use Rattle.std.specs.Option.{option_copied};
 ghost use Rattle.bt_model.specs.BuiltIns.{rule_seen};
-ghost use Rattle.bt_build.specs.Content.{ports_in, with_absent, with_attribute, with_fallback, with_model, with_modelled, with_port, with_ranged, with_rule, with_rules, with_written};
+ghost use Rattle.bt_build.specs.ContentSteps.{ports_in, with_absent, with_attribute, with_fallback, with_model, with_modelled, with_port, with_ranged, with_rule, with_rules, with_written};
 ghost use Rattle.bt_build.specs.Content as content;
 ghost use Rattle.bt_build.specs.Gives.{GivesList};
 ghost use Rattle.bt_build.specs.Seen.{rules_seen};

@@ -1,7 +1,8 @@
 ghost use Rattle.std.specs.Prelude.{◌≡◌, map};
 ghost use Rattle.std.specs.List.{list_all};
 ghost use Rattle.bt_model.specs.BuiltIns.{rule_seen};
-ghost use Rattle.bt_build.specs.Content.{all_known, is_modelled, is_port, name_fits, range_among, range_of, rules_of};
+ghost use Rattle.bt_build.specs.Content.{all_known, is_port, name_fits, range_among, range_of, rules_of};
+ghost use Rattle.bt_build.specs.ContentSteps.{is_modelled};
 ghost use Rattle.bt_build.specs.Seen.{rules_seen};
 
 use crate::head::Head;

@@ -1,7 +1,8 @@
 ghost use Rattle.std.specs.Prelude.{◌≡◌, ◌++◌, ◌∷◌, ◌<◌, [], IfOk, OnOk};
 ghost use Rattle.bt_script.specs.Stops.{Gives};
 ghost use Rattle.bt_model.specs.Names.{is_among};
-ghost use Rattle.bt_build.specs.Reads.{is_subtree, node_by, node_of, name_in, nodes_by, opened_by, read_node, term_of, tree_of};
+ghost use Rattle.bt_build.specs.Reads.{is_subtree, node_by, node_of, nodes_by, opened_by, read_node, term_of, tree_of};
+ghost use Rattle.bt_build.specs.ReadSteps.{name_in};
 ghost use Rattle.bt_build.specs.Seen.{file_seen, ids_seen};
 
 use crate::content::{Content, content_in};

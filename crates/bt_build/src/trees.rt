@@ -3,7 +3,8 @@ ghost use Rattle.std.specs.Option.{option_copied};
 ghost use Rattle.bt_manifest.specs.Models.{attributes_of, children_of};
 ghost use Rattle.bt_build.specs.Gives.{GivesSeen};
 ghost use Rattle.bt_build.specs.Heads as heads;
-ghost use Rattle.bt_build.specs.Reads.{is_tree, may_stand, not_root, stray_place, tree_of, with_id, with_tree, with_trees};
+ghost use Rattle.bt_build.specs.Reads.{is_tree, may_stand, tree_of};
+ghost use Rattle.bt_build.specs.ReadSteps.{not_root, stray_place, with_id, with_tree, with_trees};
 ghost use Rattle.bt_build.specs.Seen.{trees_seen};
 
 use crate::fault::BuildFault;

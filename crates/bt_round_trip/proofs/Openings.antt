@@ -1,42 +1,35 @@
 -- A tree that is read opens its trees alike: what an element reads as depends on the file alone.
-use Rattle.std.proofs.Common.{◌≡◌, ◌⊎◌, inl, inr, ℕ, zero, suc, ◌+◌, Bool, true, false, not, ◌&&◌, cond, if◌then◌else◌, List, [], ◌∷◌, ◌++◌, map, length, codes, Option, Some, None, Result, Ok, Err, refl, ap, sym, ◌∙◌, subst, append_assoc}
-use Rattle.std.specs.Prelude.{bytes_eq, is_some, option_map, nat_eq, nat_le, ◌||◌}
+use Rattle.std.proofs.Common.{◌≡◌, ◌⊎◌, inl, inr, ℕ, zero, suc, ◌+◌, Bool, true, false, not, ◌&&◌, cond, if◌then◌else◌, List, [], ◌∷◌, ◌++◌, map, length, Option, Some, None, Result, Ok, Err, refl, ap, sym, ◌∙◌, subst, append_assoc}
+use Rattle.std.specs.Prelude.{bytes_eq, is_some, filter_map, nat_eq, nat_le}
 use Rattle.std.proofs.lemmas.Slice.Eq.{bytes_eq-Decides}
 use Rattle.std.specs.Cmp.Derive.{both_true}
 use Rattle.std.specs.List.{list_all, AllByRecursion}
 use Rattle.std.specs.Map.{lookup}
 use Rattle.bt_script.specs.declared.fault.ScriptFault.{ScriptFault}
-use Rattle.bt_script.specs.declared.syntax.Script.{Script}
 use Rattle.bt_elements.specs.declared.element.Element.{Element}
-use Rattle.bt_model.specs.declared.built_ins.Range.{Range}
-use Rattle.bt_model.specs.declared.built_ins.Range.TheVariants.{AnyValue}
 use Rattle.bt_model.specs.declared.term.Kind.{Kind}
 use Rattle.bt_model.specs.declared.term.Kind.TheVariants.{SubTree}
-use Rattle.bt_model.specs.declared.term.Port.{Port}
 use Rattle.bt_model.specs.declared.term.Term.{Term, fold-roll-Term}
 use Rattle.bt_model.specs.declared.term.Tree.{Tree}
-use Rattle.bt_model.specs.BuiltIns.{PortRule, has_code, takes}
+use Rattle.bt_model.specs.BuiltIns.{has_code, takes}
 use Rattle.bt_model.specs.Names.{is_among}
-use Rattle.bt_model.specs.Values.{value_in}
-use Rattle.bt_manifest.specs.declared.models.ModelPort.{ModelPort}
-use Rattle.bt_manifest.specs.Attributes.{Attributes, value_of}
+use Rattle.bt_manifest.specs.Attributes.{Attributes}
 use Rattle.bt_manifest.specs.Models.{Models, attributes_of, children_of, name_of}
 use Rattle.bt_manifest.specs.Steps.{go_on}
 use Rattle.bt_build.specs.declared.content.Content.{Content}
 use Rattle.bt_build.specs.declared.fault.BuildFault.{BuildFault}
-use Rattle.bt_build.specs.declared.fault.BuildFault.TheVariants.{UnknownPort, OldSubTree, TooManyNodes, TooDeep, Recursive, TooManyScopes, ChildCount}
+use Rattle.bt_build.specs.declared.fault.BuildFault.TheVariants.{UnknownPort, OldSubTree, BadLiteral, BadScript, TooManyNodes, TooDeep, Recursive, TooManyScopes, ChildCount}
 use Rattle.bt_build.specs.declared.head.Head.{Head}
 use Rattle.bt_build.specs.declared.tree.Numbers.{Numbers}
 use Rattle.bt_build.specs.declared.version.Form.{Form}
-use Rattle.bt_build.specs.declared.version.Form.TheVariants.{SubTreePlus}
-use Rattle.bt_build.specs.Content.{Rules, AnyPort, AnyKey, Modelled, BuiltIn, all_known, autoremap_in, code_text, content_in, form_fits, guard_in, guards_in, is_port, name_fits, older_autoremap, or_bad, or_bad_script, ports_in, range_of, refused_if, rest_in, ruled_in, rules_of, said_or_false, script_of, scripts_in, truth_in, with_absent, with_attribute, with_default, with_fallback, with_model, with_modelled, with_ranged, with_rule, with_rules, with_written}
+use Rattle.bt_build.specs.Content.{all_known, content_in, content_of, form_fits, rules_of, script_fault, script_names, values_stand}
+use Rattle.bt_build.specs.Faults.{fault_if, refused_if, unless}
 use Rattle.bt_build.specs.Heads.{head_of}
-use Rattle.bt_build.specs.Reads.{File, Reader, is_subtree, known, main_of, main_read, most_levels, named_read, no_numbers, node_in, node_of, node_with, nodes_by, one_node_more, one_scope_more, opened_by, plain_by, read_node, read_root, reads, root_read, roots_read, term_of, tree_of, with_first, within_limits}
-use Rattle.bt_build.specs.Scripts.{script_in}
+use Rattle.bt_build.specs.Reads.{File, Reader, is_subtree, known, main_of, most_levels, no_numbers, node_of, nodes_by, opened_by, read_node, reads, term_of, tree_of, within_limits}
+use Rattle.bt_build.specs.ReadSteps.{main_read, named_read, node_in, node_with, one_node_more, one_scope_more, plain_by, read_root, root_read, roots_read, with_first}
 use Rattle.bt_build.proofs.ElementTexts.{found}
 use Rattle.bt_build.proofs.PortFits.{some_same}
 use Rattle.bt_build.proofs.PortTexts.{to_not}
-use Rattle.bt_build.proofs.ScriptFits.{tail_0, tail_1, tail_2, tail_3, tail_4, tail_5, tail_6, tail_7, tail_8}
 use Rattle.bt_build.proofs.Sizes.{both_same, file_read, limited, not_refused, same_ok, went}
 use Rattle.bt_round_trip.specs.Openings.{OpensAlike, fresh_by, fresh_step, opens_fresh}
 use Rattle.bt_round_trip.specs.TreeElements.{Said, Subtree, own_tree, said, said_node}
@@ -48,154 +41,25 @@ use Rattle.bt_round_trip.proofs.ReadNodes.{elements_of, opened_in}
 abbrev Keeps : {A : Type 0} → Result A BuildFault → Result A BuildFault → Type 0
 Keeps {A} r s = (x : A) → r ≡ Ok x → s ≡ Ok x
 
-go_keeps : {A B : Type 0} (f g : A → Result B BuildFault) (r s : Result A BuildFault) → Keeps r s → ((x : A) → Keeps (f x) (g x)) → Keeps (go_on f r) (go_on g s)
-go_keeps f g r s kept next y h =
-    let w = went f r y h in ap (λ (q : Result _ BuildFault). go_on g q) (kept w.0 w.1) ∙ next w.0 y w.2
+first_keeps : {A : Type 0} (b : Bool) (f g : BuildFault) (fs gs : List BuildFault) (x : A) → Keeps (unless fs x) (unless gs x) → Keeps (unless (fault_if b f ++ fs) x) (unless (fault_if b g ++ gs) x)
+first_keeps true f g fs gs x kept y h = absurd (cc)
+first_keeps false f g fs gs x kept y h = kept y h
 
-bad_keeps : {A : Type 0} (u v : ℕ) (o : Option A) → Keeps (or_bad u o) (or_bad v o)
-bad_keeps u v (Some x) y h = h
-bad_keeps u v None y h = absurd (cc)
-
-ranged_keeps : (u v : ℕ) (ports : List Port) (b : Bool) (o : Option Range) (name text : List ℕ) → Keeps (with_ranged u ports b o name text) (with_ranged v ports b o name text)
-ranged_keeps u v ports true (Some range) name text y h = bad_keeps u v (option_map (λ value. ports ++ (record { name = name; value = value }) ∷ []) (value_in range name text)) y h
-ranged_keeps u v ports true None name text y h = absurd (cc)
-ranged_keeps u v ports false (Some range) name text y h = absurd (cc)
-ranged_keeps u v ports false None name text y h = absurd (cc)
-
-if_keeps : {A : Type 0} (b : Bool) (p q r s : Result A BuildFault) → Keeps p r → Keeps q s → Keeps (if b then p else q) (if b then r else s)
-if_keeps true p q r s k l = k
-if_keeps false p q r s k l = l
-
-ok_keeps : {A : Type 0} (x : A) → Keeps (Ok x) (Ok x)
-ok_keeps x y h = h
-
-attribute_keeps : (u v : ℕ) (c : Bool) (rules : Rules) (ports : List Port) (a : List ℕ × List ℕ) → Keeps (with_attribute u c rules ports a) (with_attribute v c rules ports a)
-attribute_keeps u v c rules ports a =
-    if_keeps (is_port c a.0) (with_ranged u ports (name_fits rules a.0) (range_of rules a.0) a.0 a.1) (Ok ports) (with_ranged v ports (name_fits rules a.0) (range_of rules a.0) a.0 a.1) (Ok ports)
-    (ranged_keeps u v ports (name_fits rules a.0) (range_of rules a.0) a.0 a.1) (ok_keeps ports)
-
-written_keeps : (u v : ℕ) (c : Bool) (rules : Rules) (ports : List Port) (A : Attributes) → Keeps (with_written u c rules ports A) (with_written v c rules ports A)
-written_keeps u v c rules ports [] = ok_keeps ports
-written_keeps u v c rules ports (a ∷ A) =
-    go_keeps (λ next. with_written u c rules next A) (λ next. with_written v c rules next A) (with_attribute u c rules ports a) (with_attribute v c rules ports a) (attribute_keeps u v c rules ports a)
-    (λ next. written_keeps u v c rules next A)
-
-default_keeps : (u v : ℕ) (ports : List Port) (rule : PortRule) (o : Option (List ℕ)) → Keeps (with_default u ports rule o) (with_default v ports rule o)
-default_keeps u v ports rule (Some text) y h = bad_keeps u v (option_map (λ value. ports ++ (record { name = rule.name; value = value }) ∷ []) (value_in rule.range rule.name text)) y h
-default_keeps u v ports rule None y h = absurd (cc)
-
-rules_keep : (u v : ℕ) (A : Attributes) (ports : List Port) (rules : List PortRule) → Keeps (with_rules u A ports rules) (with_rules v A ports rules)
-rules_keep u v A ports [] = ok_keeps ports
-rules_keep u v A ports (rule ∷ rules) =
-    go_keeps (λ next. with_rules u A next rules) (λ next. with_rules v A next rules) (with_rule u A ports rule) (with_rule v A ports rule)
-    (if_keeps (is_some (value_of rule.name A)) (Ok ports) (with_default u ports rule rule.default) (Ok ports) (with_default v ports rule rule.default) (ok_keeps ports) (default_keeps u v ports rule rule.default))
-    (λ next. rules_keep u v A next rules)
-
-fallback_keeps : (u v : ℕ) (ports : List Port) (name : List ℕ) (o : Option (List ℕ)) → Keeps (with_fallback u ports name o) (with_fallback v ports name o)
-fallback_keeps u v ports name (Some text) = bad_keeps u v (option_map (λ value. ports ++ (record { name = name; value = value }) ∷ []) (value_in AnyValue name text))
-fallback_keeps u v ports name None = ok_keeps ports
-
-model_keeps : (u v : ℕ) (A : Attributes) (ports : List Port) (model : List ModelPort) → Keeps (with_model u A ports model) (with_model v A ports model)
-model_keeps u v A ports [] = ok_keeps ports
-model_keeps u v A ports (port ∷ more) =
-    go_keeps (λ next. with_model u A next more) (λ next. with_model v A next more) (with_modelled u A ports port) (with_modelled v A ports port)
-    (if_keeps (is_some (value_of port.name A)) (Ok ports) (with_fallback u ports port.name port.fallback) (Ok ports) (with_fallback v ports port.name port.fallback) (ok_keeps ports) (fallback_keeps u v ports port.name port.fallback))
-    (λ next. model_keeps u v A next more)
-
-absent_keeps : (u v : ℕ) (A : Attributes) (rules : Rules) (ports : List Port) → Keeps (with_absent u A rules ports) (with_absent v A rules ports)
-absent_keeps u v A AnyPort ports = ok_keeps ports
-absent_keeps u v A AnyKey ports = ok_keeps ports
-absent_keeps u v A (Modelled model) ports = model_keeps u v A ports model
-absent_keeps u v A (BuiltIn rules) ports = rules_keep u v A ports rules
-
-ports_keep : (u v : ℕ) (c : Bool) (rules : Rules) (A : Attributes) → Keeps (ports_in u c rules A) (ports_in v c rules A)
-ports_keep u v c rules A =
-    go_keeps (with_absent u A rules) (with_absent v A rules) (with_written u c rules [] A) (with_written v c rules [] A) (written_keeps u v c rules [] A) (λ ports. absent_keeps u v A rules ports)
-
-read_keeps : (u v : ℕ) (r : Result Script ScriptFault) → Keeps (or_bad_script u r) (or_bad_script v r)
-read_keeps u v (Ok script) y h = h
-read_keeps u v (Err fault) y h = absurd (cc)
-
-script_keeps : (u v : ℕ) (o : Option (List ℕ)) → Keeps (script_of u o) (script_of v o)
-script_keeps u v None = ok_keeps None
-script_keeps u v (Some text) = read_keeps u v (script_in text)
-
-guard_keeps : (u v : ℕ) (A : Attributes) (name : List ℕ) → Keeps (guard_in u A name) (guard_in v A name)
-guard_keeps u v A name = script_keeps u v (value_of name A)
-
-keep_8 : (u v : ℕ) (A : Attributes) (a b c d e f g h : Option Script) → Keeps (tail_8 u A a b c d e f g h) (tail_8 v A a b c d e f g h)
-keep_8 u v A a b c d e f g h x k = k
-
-keep_7 : (u v : ℕ) (A : Attributes) (a b c d e f g : Option Script) → Keeps (tail_7 u A a b c d e f g) (tail_7 v A a b c d e f g)
-keep_7 u v A a b c d e f g = go_keeps (tail_8 u A a b c d e f g) (tail_8 v A a b c d e f g) (guard_in u A (codes "_onHalted")) (guard_in v A (codes "_onHalted")) (guard_keeps u v A (codes "_onHalted")) (λ x. keep_8 u v A a b c d e f g x)
-
-keep_6 : (u v : ℕ) (A : Attributes) (a b c d e f : Option Script) → Keeps (tail_6 u A a b c d e f) (tail_6 v A a b c d e f)
-keep_6 u v A a b c d e f = go_keeps (tail_7 u A a b c d e f) (tail_7 v A a b c d e f) (guard_in u A (codes "_post")) (guard_in v A (codes "_post")) (guard_keeps u v A (codes "_post")) (λ x. keep_7 u v A a b c d e f x)
-
-keep_5 : (u v : ℕ) (A : Attributes) (a b c d e : Option Script) → Keeps (tail_5 u A a b c d e) (tail_5 v A a b c d e)
-keep_5 u v A a b c d e = go_keeps (tail_6 u A a b c d e) (tail_6 v A a b c d e) (guard_in u A (codes "_onFailure")) (guard_in v A (codes "_onFailure")) (guard_keeps u v A (codes "_onFailure")) (λ x. keep_6 u v A a b c d e x)
-
-keep_4 : (u v : ℕ) (A : Attributes) (a b c d : Option Script) → Keeps (tail_4 u A a b c d) (tail_4 v A a b c d)
-keep_4 u v A a b c d = go_keeps (tail_5 u A a b c d) (tail_5 v A a b c d) (guard_in u A (codes "_onSuccess")) (guard_in v A (codes "_onSuccess")) (guard_keeps u v A (codes "_onSuccess")) (λ x. keep_5 u v A a b c d x)
-
-keep_3 : (u v : ℕ) (A : Attributes) (a b c : Option Script) → Keeps (tail_3 u A a b c) (tail_3 v A a b c)
-keep_3 u v A a b c = go_keeps (tail_4 u A a b c) (tail_4 v A a b c) (guard_in u A (codes "_while")) (guard_in v A (codes "_while")) (guard_keeps u v A (codes "_while")) (λ x. keep_4 u v A a b c x)
-
-keep_2 : (u v : ℕ) (A : Attributes) (a b : Option Script) → Keeps (tail_2 u A a b) (tail_2 v A a b)
-keep_2 u v A a b = go_keeps (tail_3 u A a b) (tail_3 v A a b) (guard_in u A (codes "_skipIf")) (guard_in v A (codes "_skipIf")) (guard_keeps u v A (codes "_skipIf")) (λ x. keep_3 u v A a b x)
-
-keep_1 : (u v : ℕ) (A : Attributes) (a : Option Script) → Keeps (tail_1 u A a) (tail_1 v A a)
-keep_1 u v A a = go_keeps (tail_2 u A a) (tail_2 v A a) (guard_in u A (codes "_successIf")) (guard_in v A (codes "_successIf")) (guard_keeps u v A (codes "_successIf")) (λ x. keep_2 u v A a x)
-
-keep_0 : (u v : ℕ) (A : Attributes) → Keeps (tail_0 u A) (tail_0 v A)
-keep_0 u v A = go_keeps (tail_1 u A) (tail_1 v A) (guard_in u A (codes "_failureIf")) (guard_in v A (codes "_failureIf")) (guard_keeps u v A (codes "_failureIf")) (λ x. keep_1 u v A x)
-
-text_keeps : (u v : ℕ) (c : Bool) (A : Attributes) → Keeps (code_text u c A) (code_text v c A)
-text_keeps u v false A = ok_keeps None
-text_keeps u v true A = bad_keeps u v (option_map Some (value_of (codes "code") A))
-
-truth_keeps : (u v : ℕ) (o : Option (List ℕ)) → Keeps (said_or_false u o) (said_or_false v o)
-truth_keeps u v None = ok_keeps false
-truth_keeps u v (Some text) = bad_keeps u v (truth_in text)
-
-older_keeps : (u v : ℕ) (form : Form) (A : Attributes) → Keeps (older_autoremap u form A) (older_autoremap v form A)
-older_keeps u v SubTreePlus A = truth_keeps u v (value_of (codes "__autoremap") A)
-older_keeps u v form A = ok_keeps false
-
-autoremap_keeps : (u v : ℕ) (kind : Kind) (form : Form) (A : Attributes) → Keeps (autoremap_in u kind form A) (autoremap_in v kind form A)
-autoremap_keeps u v SubTree form A =
-    let said = value_of (codes "_autoremap") A in
-    go_keeps (λ now. go_on (λ older. Ok (now || older)) (older_autoremap u form A)) (λ now. go_on (λ older. Ok (now || older)) (older_autoremap v form A)) (said_or_false u said) (said_or_false v said) (truth_keeps u v said)
-    (λ now. go_keeps (λ older. Ok (now || older)) (λ older. Ok (now || older)) (older_autoremap u form A) (older_autoremap v form A) (older_keeps u v form A) (λ older. ok_keeps (now || older)))
-autoremap_keeps u v kind form A = ok_keeps false
-
-scripts_keep : (u v : ℕ) (ports : List Port) (text : Option (List ℕ)) (b : Bool) (A : Attributes) → Keeps (scripts_in u ports text b A) (scripts_in v ports text b A)
-scripts_keep u v ports text b A =
-    go_keeps (λ code. go_on (λ guards. Ok (record { ports = ports; code = code; guards = guards; autoremap = b })) (guards_in u A)) (λ code. go_on (λ guards. Ok (record { ports = ports; code = code; guards = guards; autoremap = b })) (guards_in v A))
-    (script_of u text) (script_of v text) (script_keeps u v text)
-    (λ code. go_keeps (λ guards. Ok (record { ports = ports; code = code; guards = guards; autoremap = b })) (λ guards. Ok (record { ports = ports; code = code; guards = guards; autoremap = b }))
-    (guards_in u A) (guards_in v A) (keep_0 u v A) (λ guards. ok_keeps (record { ports = ports; code = code; guards = guards; autoremap = b })))
-
-rest_keeps : (u v : ℕ) (kind : Kind) (form : Form) (A : Attributes) (ports : List Port) → Keeps (rest_in u kind form A ports) (rest_in v kind form A ports)
-rest_keeps u v kind form A ports =
-    go_keeps (λ text. go_on (λ b. scripts_in u ports text b A) (autoremap_in u kind form A)) (λ text. go_on (λ b. scripts_in v ports text b A) (autoremap_in v kind form A)) (code_text u (has_code kind) A) (code_text v (has_code kind) A)
-    (text_keeps u v (has_code kind) A)
-    (λ text. go_keeps (λ b. scripts_in u ports text b A) (λ b. scripts_in v ports text b A) (autoremap_in u kind form A) (autoremap_in v kind form A) (autoremap_keeps u v kind form A) (λ b. scripts_keep u v ports text b A))
-
-refused_keeps : {A : Type 0} (b : Bool) (f g : BuildFault) (r s : Result A BuildFault) → Keeps r s → Keeps (refused_if b f r) (refused_if b g s)
-refused_keeps true f g r s kept y h = absurd (cc)
-refused_keeps false f g r s kept y h = kept y h
-
-ruled_keeps : (u v : ℕ) (kind : Kind) (form : Form) (rules : Rules) (A : Attributes) → Keeps (ruled_in u kind form rules A) (ruled_in v kind form rules A)
-ruled_keeps u v kind form rules A =
-    let r = go_on (rest_in u kind form A) (ports_in u (has_code kind) rules A) in
-    let s = go_on (rest_in v kind form A) (ports_in v (has_code kind) rules A) in
-    refused_keeps (not (all_known (has_code kind) rules A)) (UnknownPort u) (UnknownPort v) (refused_if (not (form_fits form A)) (OldSubTree u) r) (refused_if (not (form_fits form A)) (OldSubTree v) s)
-    (refused_keeps (not (form_fits form A)) (OldSubTree u) (OldSubTree v) r s
-    (go_keeps (rest_in u kind form A) (rest_in v kind form A) (ports_in u (has_code kind) rules A) (ports_in v (has_code kind) rules A) (ports_keep u v (has_code kind) rules A) (λ ports. rest_keeps u v kind form A ports)))
+scripts_keep : {A : Type 0} (u v : ℕ) (faults : List ScriptFault) (x : A) → Keeps (unless (map (BadScript u) faults) x) (unless (map (BadScript v) faults) x)
+scripts_keep u v [] x y h = h
+scripts_keep u v (fault ∷ faults) x y h = absurd (cc)
 
 content_keeps : (u v : ℕ) (models : Models) (kind : Kind) (id : List ℕ) (form : Form) (A : Attributes) → Keeps (content_in u models kind id form A) (content_in v models kind id form A)
-content_keeps u v models kind id form A = ruled_keeps u v kind form (rules_of models kind id) A
+content_keeps u v models kind id form A =
+    let rules = rules_of models kind id in
+    let content = content_of kind form rules A in
+    let scripts = filter_map (script_fault A) (script_names (has_code kind)) in
+    let values = not (values_stand kind form rules A) in
+    let fits = not (form_fits form A) in
+    first_keeps (not (all_known (has_code kind) rules A)) (UnknownPort u) (UnknownPort v)
+    (fault_if fits (OldSubTree u) ++ (fault_if values (BadLiteral u) ++ map (BadScript u) scripts)) (fault_if fits (OldSubTree v) ++ (fault_if values (BadLiteral v) ++ map (BadScript v) scripts)) content
+    (first_keeps fits (OldSubTree u) (OldSubTree v) (fault_if values (BadLiteral u) ++ map (BadScript u) scripts) (fault_if values (BadLiteral v) ++ map (BadScript v) scripts) content
+    (first_keeps values (BadLiteral u) (BadLiteral v) (map (BadScript u) scripts) (map (BadScript v) scripts) content (scripts_keep u v scripts content)))
 
 -- ---- How a node was read
 

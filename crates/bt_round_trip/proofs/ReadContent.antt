@@ -28,8 +28,12 @@ use Rattle.bt_build.specs.declared.content.Content.{Content}
 use Rattle.bt_build.specs.declared.fault.BuildFault.{BuildFault}
 use Rattle.bt_build.specs.declared.fault.BuildFault.TheVariants.{UnknownPort}
 use Rattle.bt_build.specs.declared.version.Form.TheVariants.{Plain}
-use Rattle.bt_build.specs.Content.{Rules, AnyPort, AnyKey, BuiltIn, all_known, autoremap_in, code_text, content_in, guard_in, guards_in, is_port, name_fits, older_autoremap, or_bad, or_bad_script, ports_in, range_among, range_of, refused_if, rest_in, rules_of, said_or_false, script_of, scripts_in, with_absent, with_attribute, with_ranged, with_rules, with_default, with_written}
-use Rattle.bt_build.specs.Reads.{name_in, or_else}
+use Rattle.bt_build.specs.Content.{Rules, AnyPort, AnyKey, BuiltIn, all_known, content_in, is_port, name_fits, range_among, range_of, rules_of}
+use Rattle.bt_build.specs.ContentSteps.{autoremap_in, code_text, guard_in, guards_in, older_autoremap, or_bad, or_bad_script, ports_in, rest_in, said_or_false, script_of, scripts_in, with_absent, with_attribute, with_ranged, with_rules, with_default, with_written}
+use Rattle.bt_build.specs.Faults.{refused_if}
+use Rattle.bt_build.specs.Reads.{or_else}
+use Rattle.bt_build.specs.ReadSteps.{name_in}
+use Rattle.bt_build.proofs.ContentLaw.{content_same}
 use Rattle.bt_build.proofs.PortTexts.{neither, not_true}
 use Rattle.bt_build.proofs.ScriptAnswers.{script_in-script}
 use Rattle.bt_round_trip.proofs.Marks.{Row, guards_are_rows, head_all, head_of as head_attributes, no_ports, port_named, ports_all, ports_have_names, row_names, rows_all, rows_of, written_rows}
@@ -602,6 +606,7 @@ content_reads uid x n fits =
     let rules = rules_of [] x.kind x.id in
     let r = rules_read_by x x.kind fits.ports (named_ports x n fits) (sort_of x.kind) in
     let rest = λ (q : Result (List Port) BuildFault). go_on (rest_in uid x.kind Plain A) q in
-    ap (λ (b : Bool). refused_if (not b) (UnknownPort uid) (rest (ports_in uid (has_code x.kind) rules A))) (all_are_known rules x n fits r.read)
+    sym (content_same uid x.kind Plain rules A)
+    ∙ ap (λ (b : Bool). refused_if (not b) (UnknownPort uid) (rest (ports_in uid (has_code x.kind) rules A))) (all_are_known rules x n fits r.read)
     ∙ ap rest (ports_read uid x n fits r)
     ∙ rest_reads uid x n fits

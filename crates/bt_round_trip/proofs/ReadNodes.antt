@@ -26,7 +26,8 @@ use Rattle.bt_build.specs.declared.tree.Numbers.{Numbers}
 use Rattle.bt_build.specs.declared.version.Version.TheVariants.{Four}
 use Rattle.bt_build.specs.Content.{content_in}
 use Rattle.bt_build.specs.Heads.{head_of, plain_head}
-use Rattle.bt_build.specs.Reads.{File, Reader, Trees, is_subtree, node_by, node_of, node_with, nodes_by, one_node_more, one_scope_more, opened_by, plain_by, read_node, term_of, tree_of, with_first}
+use Rattle.bt_build.specs.Reads.{File, Reader, Trees, is_subtree, node_by, node_of, nodes_by, opened_by, read_node, term_of, tree_of}
+use Rattle.bt_build.specs.ReadSteps.{node_with, one_node_more, one_scope_more, plain_by, with_first}
 use Rattle.bt_build.proofs.PortTexts.{not_true}
 use Rattle.bt_build.proofs.Walk.{node_opened, node_plain, read_some}
 use Rattle.bt_round_trip.specs.Openings.{fresh_by, fresh_step, opens_fresh}

@@ -23,11 +23,13 @@ use Rattle.bt_build.specs.declared.fault.BuildFault.{BuildFault}
 use Rattle.bt_build.specs.declared.fault.BuildFault.TheVariants.{DoubleTree, TooManyKeys, TooMuchWork}
 use Rattle.bt_build.specs.declared.tree.Numbers.{Numbers}
 use Rattle.bt_build.specs.declared.version.Version.TheVariants.{Four}
-use Rattle.bt_build.specs.Content.{refused_if}
+use Rattle.bt_build.specs.Faults.{refused_if}
 use Rattle.bt_build.specs.Heads.{id_or_empty}
-use Rattle.bt_build.specs.Reads.{Trees, is_tree, main_read, may_stand, most_levels, no_numbers, not_root, read_in, reads, root_faults, roots_read, stray_place, tree_of, trees_read, with_id, with_tree, with_trees, within_limits}
+use Rattle.bt_build.specs.Reads.{Trees, is_tree, may_stand, most_levels, no_numbers, reads, tree_of, within_limits}
+use Rattle.bt_build.specs.ReadSteps.{main_read, not_root, read_in, root_faults, roots_read, stray_place, trees_read, with_id, with_tree, with_trees}
 use Rattle.bt_build.specs.Versions.{version_in}
 use Rattle.bt_build.proofs.PortTexts.{among_pushed, differ_pushed, neither, not_true, or_false, same_either_way}
+use Rattle.bt_build.proofs.ReadLaw.{file_same}
 use Rattle.bt_round_trip.specs.Openings.{OpensAlike, fresh_by, fresh_step, opens_fresh}
 use Rattle.bt_round_trip.specs.Printed.{unplaced}
 use Rattle.bt_round_trip.specs.TreeElements.{Said, Subtree, element_of, own_tree, said, said_node, subtree_element, subtrees_of, with_subtree, with_subtrees}
@@ -335,7 +337,8 @@ element_reads tree f valid opens h =
     let read = λ (A : Attributes). read_in (version_in (value_of (codes "BTCPP_format") A)) (λ version. go_on (trees_read [] None A version) (with_trees [] es)) in
     let root : not_root f ≡ None =
     ap (λ (name : List ℕ). if bytes_eq name (codes "root") then stray_place es else Some (place_of f)) p.name ∙ stray_none es ts are in
-    ap (λ (o : Option ℕ). root_faults o (read (attributes_of f))) root
+    sym (file_same [] None f)
+    ∙ ap (λ (o : Option ℕ). root_faults o (read (attributes_of f))) root
     ∙ ap read p.attributes
     ∙ ap (λ (r : Result Trees BuildFault). go_on (trees_read [] None (root_attributes tree) Four) r) (trees_are [] es ts are (differ_first tree) (none_at_first ts))
     ∙ main_reads es tree valid opens are

@@ -1,5 +1,5 @@
 use Rattle.std.proofs.Common.{◌≡◌, drop}
-use Rattle.bt_build.specs.Content.{with_model}
+use Rattle.bt_build.specs.ContentSteps.{with_model}
 use Rattle.bt_build.proofs.ports.with_model.Given as goal
 
 abbrev pub invariant-loop-port : goal.invariant-loop-port

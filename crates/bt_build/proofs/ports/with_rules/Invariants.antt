@@ -1,6 +1,6 @@
 use Rattle.std.proofs.Common.{◌≡◌, drop, map}
 use Rattle.bt_model.specs.BuiltIns.{rule_seen}
-use Rattle.bt_build.specs.Content.{with_rules}
+use Rattle.bt_build.specs.ContentSteps.{with_rules}
 use Rattle.bt_build.proofs.ports.with_rules.Given as goal
 
 abbrev pub invariant-loop-rule : goal.invariant-loop-rule

@@ -1,5 +1,5 @@
 use Rattle.std.proofs.Common.{◌≡◌, [], drop}
-use Rattle.bt_build.specs.Content.{with_written}
+use Rattle.bt_build.specs.ContentSteps.{with_written}
 use Rattle.bt_build.specs.Seen.{rules_seen}
 use Rattle.bt_build.proofs.ports.written.Given as goal
 

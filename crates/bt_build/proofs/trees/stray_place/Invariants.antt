@@ -1,5 +1,5 @@
 use Rattle.std.proofs.Common.{◌≡◌, drop}
-use Rattle.bt_build.specs.Reads.{stray_place}
+use Rattle.bt_build.specs.ReadSteps.{stray_place}
 use Rattle.bt_build.proofs.trees.stray_place.Given as goal
 
 abbrev pub invariant-loop-element : goal.invariant-loop-element

@@ -1,5 +1,5 @@
 use Rattle.std.proofs.Common.{◌≡◌, [], drop}
-use Rattle.bt_build.specs.Reads.{with_trees}
+use Rattle.bt_build.specs.ReadSteps.{with_trees}
 use Rattle.bt_build.specs.Seen.{trees_seen}
 use Rattle.bt_build.proofs.trees.trees_of.Given as goal
 
