@@ -1,7 +1,7 @@
 //! When the calls of a run are made.
 
 use bt_command_line::Exit;
-use bt_driver::{Driver, DriverKind, FactTable, Inputs, Outs, ReadyRow, Reply, Totals};
+use bt_driver::{Call, CallPhase, Driver, DriverKind, FactTable, Outs, Reply, Totals};
 use bt_leaves::{Conditions, Timed};
 use bt_outside::{MemSink, Sink, SinkFault};
 use bt_program::add_driver;
@@ -78,30 +78,12 @@ impl<D: Driver> Driver for Marked<D> {
         self.driver.prepare(count)
     }
 
-    fn start(
-        &mut self,
-        instance: u32,
-        row: &ReadyRow,
-        inputs: &Inputs,
-        facts: &mut FactTable,
-        outs: &mut Outs,
-        now: u64,
-    ) -> Reply {
-        self.marks.mark(self.start);
-        self.driver.start(instance, row, inputs, facts, outs, now)
-    }
-
-    fn running(
-        &mut self,
-        instance: u32,
-        row: &ReadyRow,
-        inputs: &Inputs,
-        facts: &mut FactTable,
-        outs: &mut Outs,
-        now: u64,
-    ) -> Reply {
-        self.marks.mark(self.running);
-        self.driver.running(instance, row, inputs, facts, outs, now)
+    fn call(&mut self, call: &Call, facts: &mut FactTable, outs: &mut Outs) -> Reply {
+        self.marks.mark(match call.phase {
+            CallPhase::Start => self.start,
+            CallPhase::Running => self.running,
+        });
+        self.driver.call(call, facts, outs)
     }
 
     fn halted(&mut self, instance: u32) {
@@ -135,8 +117,8 @@ impl<K: Sink> Sink for MarkedSink<K> {
     }
 }
 
-/// Marks what a run does: `C` for a start of a condition, `T`, `t` and `h` for a start, a `running`
-/// and a `halted` of a timed action, and `|` for the first line of a block.
+/// Marks what a run does: `C` where a condition begins, `T`, `t` and `h` where a timed action begins,
+/// goes on and is halted, and `|` for the first line of a block.
 fn run_marked(
     alloc: Global,
     nodes: &str,

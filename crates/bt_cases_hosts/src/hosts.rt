@@ -15,7 +15,7 @@ ghost use Rattle.bt_cases_hosts.specs.Going.{CanGoOn};
 use bt_arena::{Block, JoinFault, block_for};
 use bt_board::{Slots, slots_of};
 use bt_build::build;
-use bt_driver::{Driver, Drivers};
+use bt_driver::{Driver, hold_nothing};
 use bt_elements::{Elements, read_elements};
 use bt_leaves::{Conditions, Replay, Timed};
 use bt_loop::{Runs, event, finish, leaves, runs_of};
@@ -186,7 +186,7 @@ fn joined_text(
     requires tree { IsRunnable tree.now }
     requires world { IsValidWorld world.now }
 {
-    assert!(rt; drivers.holds_nothing());
+    assert!(rt; hold_nothing(drivers));
     let slots = slots_of(alloc, tree)?;
     match runs_of(alloc, tree, &slots, world, drivers) {
         Ok(runs) => {
@@ -266,7 +266,7 @@ fn told(rt: &impl Abort, alloc: Global, row: &Row) -> Result<String, NoMemory> {
     match read_world(alloc, row.world.as_bytes()) {
         Ok(world) => {
             let text = nodes_text(rt, alloc, row.nodes, &world, &mut drivers);
-            assert!(rt; drivers.holds_nothing());
+            assert!(rt; hold_nothing(&drivers));
             text
         }
         Err(_) => Err(NoMemory),

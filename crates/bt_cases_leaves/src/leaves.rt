@@ -7,7 +7,8 @@ ghost use Rattle.bt_driver.specs.Rules.{rule};
 ghost use Rattle.bt_cases_leaves.specs.Stages.{IsAtWork};
 
 use bt_driver::{
-    Driver, Drivers, FactTable, Inputs, Outs, ReadyRow, Reply, facts_of, kind_of, ready,
+    Call, CallPhase, Driver, Drivers, FactTable, Inputs, Outs, ReadyRow, Reply, facts_of, kind_of,
+    ready,
 };
 use bt_leaves::{Conditions, Gate, Replay, Timed};
 use bt_loop::Roster;
@@ -132,7 +133,7 @@ fn since_after(reply: Reply, start: u64, before: Option<u64>) -> Option<u64>
     }
 }
 
-/// Calls `start` for an instance, at the time `now` in milliseconds.
+/// Asks for an instance to begin, at the time `now` in milliseconds.
 fn begin<D: Drivers>(drivers: &mut D, stage: &mut Stage, instance: u32, now: u64) -> Reply
     requires work { IsAtWork (D.states drivers.old) stage.old.place (kind_of_way (rule stage.old.row).way) stage.old.since.items }
     requires table { length stage.old.facts ≡ stage.old.row.facts }
@@ -141,21 +142,19 @@ fn begin<D: Drivers>(drivers: &mut D, stage: &mut Stage, instance: u32, now: u64
     ensures work { IsAtWork (D.states drivers.new) stage.new.place (kind_of_way (rule stage.new.row).way) stage.new.since.items }
     ensures table { length stage.new.facts ≡ stage.new.row.facts }
 {
-    let reply = drivers.start(
-        stage.place,
+    let call = Call {
         instance,
-        &stage.row,
-        &stage.inputs,
-        &mut stage.facts,
-        &mut stage.outs,
-        now,
-    );
+        row: &stage.row,
+        inputs: &stage.inputs,
+        phase: CallPhase::Start,
+        moment: now,
+    };
+    let reply = drivers.call(stage.place, &call, &mut stage.facts, &mut stage.outs);
     stage.since[instance as usize] = since_after(reply, now, None);
     reply
 }
 
-/// Calls `running` for an instance that is held since `start`, at the time `now`, both in
-/// milliseconds.
+/// Asks for an instance that is held since `start` to go on, at the time `now`, both in milliseconds.
 fn go_on<D: Drivers>(
     drivers: &mut D,
     stage: &mut Stage,
@@ -171,15 +170,14 @@ fn go_on<D: Drivers>(
     ensures work { IsAtWork (D.states drivers.new) stage.new.place (kind_of_way (rule stage.new.row).way) stage.new.since.items }
     ensures table { length stage.new.facts ≡ stage.new.row.facts }
 {
-    let reply = drivers.running(
-        stage.place,
+    let call = Call {
         instance,
-        &stage.row,
-        &stage.inputs,
-        &mut stage.facts,
-        &mut stage.outs,
-        now,
-    );
+        row: &stage.row,
+        inputs: &stage.inputs,
+        phase: CallPhase::Running,
+        moment: now,
+    };
+    let reply = drivers.call(stage.place, &call, &mut stage.facts, &mut stage.outs);
     stage.since[instance as usize] = since_after(reply, start, Some(start));
     reply
 }
@@ -197,7 +195,7 @@ fn release<D: Drivers>(drivers: &mut D, stage: &mut Stage, instance: u32, start:
     stage.since[instance as usize] = None;
 }
 
-/// Visits the leaf of an instance at the time `now`: `start` where it is not held, else `running`.
+/// Visits the leaf of an instance at the time `now`: it begins where it is not held, else it goes on.
 /// None where there is no such instance, or where it is held since a later time.
 fn visit<D: Drivers>(drivers: &mut D, stage: &mut Stage, instance: u32, now: u64) -> Option<Reply>
     requires work { IsAtWork (D.states drivers.old) stage.old.place (kind_of_way (rule stage.old.row).way) stage.old.since.items }

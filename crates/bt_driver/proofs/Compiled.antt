@@ -1,7 +1,6 @@
 -- An expression that is compiled over the places of its names gives what it gives over those of its row.
-use Rattle.std.proofs.Common.{◌≡◌, ℕ, ℤ, List, ap, sym, subst, ◌∙◌}
+use Rattle.std.proofs.Common.{◌≡◌, ℕ, List, ap, sym, subst, ◌∙◌}
 use Rattle.std.specs.List.{All}
-use Rattle.bt_script.specs.declared.cells.Seen.{Seen}
 use Rattle.bt_script.specs.declared.syntax.Expr.{Expr}
 use Rattle.bt_script.specs.Entries.{look_of}
 use Rattle.bt_script.specs.Scripts.{names_of}

@@ -1,13 +1,12 @@
-ghost use Rattle.std.specs.Prelude.{◌≡◌, ◌<◌, ◌≤◌, ℕ, length, None, IsSome, OnOk, OnErr};
-ghost use Rattle.bt_model.specs.declared.leaf.Phase.TheVariants as phase;
-ghost use Rattle.bt_model.specs.Drivers.{DriverState, HoldsNothing, IsHeldBy, after_call, after_halted, driver_answer, held_count, instance_of, kind_of_way, prepared};
+ghost use Rattle.std.specs.Prelude.{◌≡◌, ◌<◌, length, IsSome, OnOk, OnErr};
+ghost use Rattle.bt_model.specs.Drivers.{DriverState, HoldsNothing, after_halted, held_count, instance_of, kind_of_way, prepared};
 ghost use Rattle.bt_model.specs.Leaf.{outputs_after};
+ghost use Rattle.bt_driver.specs.Calls.{IsAskedIn, call_answer, call_left};
 ghost use Rattle.bt_driver.specs.Rules.{rule};
 
-use crate::expression::Inputs;
+use crate::call::Call;
 use crate::facts::FactTable;
 use crate::outs::Outs;
-use crate::row::ReadyRow;
 use bt_model::{DriverKind, Reply, Totals};
 use bt_script::NoMemory;
 
@@ -21,7 +20,7 @@ pub trait Driver: Drop {
     fn kind(&self) -> DriverKind
         ensures { result ≡ (state self.now).kind };
 
-    /// Its counts of the calls of `start`, `running` and `halted`, and its trail.
+    /// Its counts of the calls to begin, to go on and to halt, and its trail.
     fn totals(&self) -> Totals
         ensures { result ≡ (state self.now).totals };
 
@@ -36,49 +35,16 @@ pub trait Driver: Drop {
         ensures ok { OnOk result (state self.new ≡ prepared (state self.old) count) }
         ensures err { OnErr result (state self.new ≡ state self.old) };
 
-    /// Begins: the leaf of this instance is visited and is not running. `now` is the time of the
-    /// tick in milliseconds.
-    fn start(
-        &mut self,
-        instance: u32,
-        row: &ReadyRow,
-        inputs: &Inputs,
-        facts: &mut FactTable,
-        outs: &mut Outs,
-        now: u64,
-    ) -> Reply
-        requires there { instance < length (state self.old).table }
-        requires free { (instance_of (state self.old) instance).since ≡ None }
-        requires kind { kind_of_way (rule row.now).way ≡ (state self.old).kind }
-        requires table { length facts.old ≡ row.now.facts }
-        ensures reply { result ≡ (driver_answer (state self.old) instance (rule row.now) phase.Start inputs.now facts.old now).reply }
-        ensures state { state self.new ≡ after_call (state self.old) phase.Start instance
-            (driver_answer (state self.old) instance (rule row.now) phase.Start inputs.now facts.old now).instance }
-        ensures facts { facts.new ≡ (driver_answer (state self.old) instance (rule row.now) phase.Start inputs.now facts.old now).facts }
-        ensures outs { outs.new ≡
-            outputs_after (driver_answer (state self.old) instance (rule row.now) phase.Start inputs.now facts.old now) outs.old };
-
-    /// Goes on: the leaf of this instance is visited and is running. `now` is the time of the tick
-    /// in milliseconds.
-    fn running(
-        &mut self,
-        instance: u32,
-        row: &ReadyRow,
-        inputs: &Inputs,
-        facts: &mut FactTable,
-        outs: &mut Outs,
-        now: u64,
-    ) -> Reply
-        requires there { instance < length (state self.old).table }
-        requires held { IsHeldBy (instance_of (state self.old) instance) now }
-        requires kind { kind_of_way (rule row.now).way ≡ (state self.old).kind }
-        requires table { length facts.old ≡ row.now.facts }
-        ensures reply { result ≡ (driver_answer (state self.old) instance (rule row.now) phase.Running inputs.now facts.old now).reply }
-        ensures state { state self.new ≡ after_call (state self.old) phase.Running instance
-            (driver_answer (state self.old) instance (rule row.now) phase.Running inputs.now facts.old now).instance }
-        ensures facts { facts.new ≡ (driver_answer (state self.old) instance (rule row.now) phase.Running inputs.now facts.old now).facts }
-        ensures outs { outs.new ≡
-            outputs_after (driver_answer (state self.old) instance (rule row.now) phase.Running inputs.now facts.old now) outs.old };
+    /// Answers: the leaf of an instance is visited, and begins or goes on.
+    fn call(&mut self, call: &Call, facts: &mut FactTable, outs: &mut Outs) -> Reply
+        requires there { call.now.instance < length (state self.old).table }
+        requires phase { IsAskedIn call.now.phase (instance_of (state self.old) call.now.instance) call.now.moment }
+        requires kind { kind_of_way (rule call.now.row.now).way ≡ (state self.old).kind }
+        requires table { length facts.old ≡ call.now.row.now.facts }
+        ensures reply { result ≡ (call_answer (state self.old) call.now facts.old).reply }
+        ensures state { state self.new ≡ call_left (state self.old) call.now facts.old }
+        ensures facts { facts.new ≡ (call_answer (state self.old) call.now facts.old).facts }
+        ensures outs { outs.new ≡ outputs_after (call_answer (state self.old) call.now facts.old) outs.old };
 
     /// Halts the leaf of this instance: it is held no longer. The count of its completions stays.
     fn halted(&mut self, instance: u32)

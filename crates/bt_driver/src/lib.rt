@@ -2,6 +2,7 @@
 //! facts, and rows made ready for the calls.
 #![tactic(auto)]
 
+mod call;
 mod driver;
 mod effects;
 mod expression;
@@ -16,13 +17,12 @@ mod row;
 mod sort;
 
 pub use bt_model::{DriverKind, Reply, Totals};
+pub use call::{Call, CallPhase};
 pub use driver::Driver;
 pub use expression::{Inputs, ReadyExpr};
 pub use facts::{FactTable, facts_of};
 pub use outs::Outs;
 pub use readying::{kind_of, ready};
-pub use roster::{
-    Drivers, find_kind, halt_at, hold_nothing, prepare_all, run_at, start_at, totals_of,
-};
+pub use roster::{Drivers, call_at, find_kind, halt_at, hold_nothing, prepare_all, totals_of};
 pub use row::ReadyRow;
 pub use sort::ReadySort;

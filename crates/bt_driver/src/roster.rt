@@ -1,14 +1,13 @@
-ghost use Rattle.std.specs.Prelude.{◌≡◌, ◌<◌, ◌≤◌, ◌↔◌, ℕ, List, length, map, take, None, IsSome, IsTrue, OnOk, OnErr};
-ghost use Rattle.bt_model.specs.declared.leaf.Phase.TheVariants as phase;
-ghost use Rattle.bt_model.specs.Drivers.{DriverState, HoldsNothing, IsHeldBy, IsThere, NothingHeld, after_call, after_halted, driver_answer, driver_at, held_count, instance_at, instance_of, kind_of_way, place_of_kind, prepared, roster_answer, roster_called, roster_halted, roster_prepared, total_held};
+ghost use Rattle.std.specs.Prelude.{◌≡◌, ◌<◌, ◌≤◌, ◌↔◌, ℕ, List, length, map, take, IsSome, IsTrue, OnOk, OnErr};
+ghost use Rattle.bt_model.specs.Drivers.{DriverState, HoldsNothing, IsThere, NothingHeld, after_halted, driver_at, held_count, instance_at, instance_of, kind_of_way, place_of_kind, prepared, roster_halted, roster_prepared, total_held};
 ghost use Rattle.bt_model.specs.Leaf.{outputs_after};
+ghost use Rattle.bt_driver.specs.Calls.{IsAskedIn, answer_at, call_answer, call_left, roster_left};
 ghost use Rattle.bt_driver.specs.Rules.{rule};
 
+use crate::call::Call;
 use crate::driver::Driver;
-use crate::expression::Inputs;
 use crate::facts::FactTable;
 use crate::outs::Outs;
-use crate::row::ReadyRow;
 use bt_model::{DriverKind, Reply, Totals};
 use bt_script::NoMemory;
 
@@ -45,53 +44,16 @@ pub trait Drivers {
         ensures err { OnErr result ((done : ℕ) × (states self.new ≡ roster_prepared (states self.old) (take done counts.now))) }
         ensures quiet { NothingHeld (states self.new) };
 
-    /// Calls `start` of the driver at a place for one of its instances. `now` is in milliseconds.
-    fn start(
-        &mut self,
-        place: usize,
-        instance: u32,
-        row: &ReadyRow,
-        inputs: &Inputs,
-        facts: &mut FactTable,
-        outs: &mut Outs,
-        now: u64,
-    ) -> Reply
-        requires there { IsThere (states self.old) place instance }
-        requires free { (instance_at (states self.old) place instance).since ≡ None }
-        requires kind { kind_of_way (rule row.now).way ≡ (driver_at (states self.old) place).kind }
-        requires table { length facts.old ≡ row.now.facts }
-        ensures reply { result ≡
-            (roster_answer (states self.old) place instance (rule row.now) phase.Start inputs.now facts.old now).reply }
-        ensures states { states self.new ≡ roster_called (states self.old) place phase.Start instance
-            (roster_answer (states self.old) place instance (rule row.now) phase.Start inputs.now facts.old now).instance }
-        ensures facts { facts.new ≡
-            (roster_answer (states self.old) place instance (rule row.now) phase.Start inputs.now facts.old now).facts }
-        ensures outs { outs.new ≡
-            outputs_after (roster_answer (states self.old) place instance (rule row.now) phase.Start inputs.now facts.old now) outs.old };
-
-    /// Calls `running` of the driver at a place for one of its instances. `now` is in milliseconds.
-    fn running(
-        &mut self,
-        place: usize,
-        instance: u32,
-        row: &ReadyRow,
-        inputs: &Inputs,
-        facts: &mut FactTable,
-        outs: &mut Outs,
-        now: u64,
-    ) -> Reply
-        requires there { IsThere (states self.old) place instance }
-        requires held { IsHeldBy (instance_at (states self.old) place instance) now }
-        requires kind { kind_of_way (rule row.now).way ≡ (driver_at (states self.old) place).kind }
-        requires table { length facts.old ≡ row.now.facts }
-        ensures reply { result ≡
-            (roster_answer (states self.old) place instance (rule row.now) phase.Running inputs.now facts.old now).reply }
-        ensures states { states self.new ≡ roster_called (states self.old) place phase.Running instance
-            (roster_answer (states self.old) place instance (rule row.now) phase.Running inputs.now facts.old now).instance }
-        ensures facts { facts.new ≡
-            (roster_answer (states self.old) place instance (rule row.now) phase.Running inputs.now facts.old now).facts }
-        ensures outs { outs.new ≡
-            outputs_after (roster_answer (states self.old) place instance (rule row.now) phase.Running inputs.now facts.old now) outs.old };
+    /// Calls the driver at a place for one of its instances.
+    fn call(&mut self, place: usize, call: &Call, facts: &mut FactTable, outs: &mut Outs) -> Reply
+        requires there { IsThere (states self.old) place call.now.instance }
+        requires phase { IsAskedIn call.now.phase (instance_at (states self.old) place call.now.instance) call.now.moment }
+        requires kind { kind_of_way (rule call.now.row.now).way ≡ (driver_at (states self.old) place).kind }
+        requires table { length facts.old ≡ call.now.row.now.facts }
+        ensures reply { result ≡ (answer_at (states self.old) place call.now facts.old).reply }
+        ensures states { states self.new ≡ roster_left (states self.old) place call.now facts.old }
+        ensures facts { facts.new ≡ (answer_at (states self.old) place call.now facts.old).facts }
+        ensures outs { outs.new ≡ outputs_after (answer_at (states self.old) place call.now facts.old) outs.old };
 
     /// Calls `halted` of the driver at a place for one of its instances.
     fn halted(&mut self, place: usize, instance: u32)
@@ -130,52 +92,23 @@ fn prepare_one(driver: &mut Box<dyn Driver>, count: u32) -> Result<(), NoMemory>
     driver.prepare(count)
 }
 
-/// Calls `start` of one driver. `now` is in milliseconds.
-fn start_one(
+/// Calls one driver.
+fn call_one(
     driver: &mut Box<dyn Driver>,
-    instance: u32,
-    row: &ReadyRow,
-    inputs: &Inputs,
+    call: &Call,
     facts: &mut FactTable,
     outs: &mut Outs,
-    now: u64,
 ) -> Reply
-    requires there { instance < length (state driver.old).table }
-    requires free { (instance_of (state driver.old) instance).since ≡ None }
-    requires kind { kind_of_way (rule row.now).way ≡ (state driver.old).kind }
-    requires table { length facts.old ≡ row.now.facts }
-    ensures reply { result ≡ (driver_answer (state driver.old) instance (rule row.now) phase.Start inputs.now facts.old now).reply }
-    ensures state { state driver.new ≡ after_call (state driver.old) phase.Start instance
-        (driver_answer (state driver.old) instance (rule row.now) phase.Start inputs.now facts.old now).instance }
-    ensures facts { facts.new ≡ (driver_answer (state driver.old) instance (rule row.now) phase.Start inputs.now facts.old now).facts }
-    ensures outs { outs.new ≡
-        outputs_after (driver_answer (state driver.old) instance (rule row.now) phase.Start inputs.now facts.old now) outs.old }
+    requires there { call.now.instance < length (state driver.old).table }
+    requires phase { IsAskedIn call.now.phase (instance_of (state driver.old) call.now.instance) call.now.moment }
+    requires kind { kind_of_way (rule call.now.row.now).way ≡ (state driver.old).kind }
+    requires table { length facts.old ≡ call.now.row.now.facts }
+    ensures reply { result ≡ (call_answer (state driver.old) call.now facts.old).reply }
+    ensures state { state driver.new ≡ call_left (state driver.old) call.now facts.old }
+    ensures facts { facts.new ≡ (call_answer (state driver.old) call.now facts.old).facts }
+    ensures outs { outs.new ≡ outputs_after (call_answer (state driver.old) call.now facts.old) outs.old }
 {
-    driver.start(instance, row, inputs, facts, outs, now)
-}
-
-/// Calls `running` of one driver. `now` is in milliseconds.
-fn run_one(
-    driver: &mut Box<dyn Driver>,
-    instance: u32,
-    row: &ReadyRow,
-    inputs: &Inputs,
-    facts: &mut FactTable,
-    outs: &mut Outs,
-    now: u64,
-) -> Reply
-    requires there { instance < length (state driver.old).table }
-    requires held { IsHeldBy (instance_of (state driver.old) instance) now }
-    requires kind { kind_of_way (rule row.now).way ≡ (state driver.old).kind }
-    requires table { length facts.old ≡ row.now.facts }
-    ensures reply { result ≡ (driver_answer (state driver.old) instance (rule row.now) phase.Running inputs.now facts.old now).reply }
-    ensures state { state driver.new ≡ after_call (state driver.old) phase.Running instance
-        (driver_answer (state driver.old) instance (rule row.now) phase.Running inputs.now facts.old now).instance }
-    ensures facts { facts.new ≡ (driver_answer (state driver.old) instance (rule row.now) phase.Running inputs.now facts.old now).facts }
-    ensures outs { outs.new ≡
-        outputs_after (driver_answer (state driver.old) instance (rule row.now) phase.Running inputs.now facts.old now) outs.old }
-{
-    driver.running(instance, row, inputs, facts, outs, now)
+    driver.call(call, facts, outs)
 }
 
 /// Calls `halted` of one driver.
@@ -199,8 +132,8 @@ pub fn find_kind(roster: &[Box<dyn Driver>], kind: DriverKind) -> Option<usize>
     None
 }
 
-/// Whether none of these drivers holds an instance.
-pub fn hold_nothing(roster: &[Box<dyn Driver>]) -> bool
+/// Whether these drivers count no instance that is held.
+fn count_none(roster: &[Box<dyn Driver>]) -> bool
     ensures { IsTrue result ↔ (total_held (map (λ b. state b) roster.now) ≡ 0) }
 {
     for driver in roster {
@@ -209,6 +142,13 @@ pub fn hold_nothing(roster: &[Box<dyn Driver>]) -> bool
         }
     }
     true
+}
+
+/// Whether none of these drivers holds an instance.
+pub fn hold_nothing(roster: &[Box<dyn Driver>]) -> bool
+    ensures { IsTrue result ↔ NothingHeld (map (λ b. state b) roster.now) }
+{
+    count_none(roster)
 }
 
 /// Prepares these drivers in order, each for its number of instances. Where there is want of
@@ -227,66 +167,24 @@ pub fn prepare_all(roster: &mut Vec<Box<dyn Driver>>, counts: &[u32]) -> Result<
     Ok(())
 }
 
-/// Calls `start` of the driver at a place. `now` is in milliseconds.
-pub fn start_at(
+/// Calls the driver at a place.
+pub fn call_at(
     roster: &mut Vec<Box<dyn Driver>>,
     place: usize,
-    instance: u32,
-    row: &ReadyRow,
-    inputs: &Inputs,
+    call: &Call,
     facts: &mut FactTable,
     outs: &mut Outs,
-    now: u64,
 ) -> Reply
-    requires there { IsThere (map (λ b. state b) roster.old.items) place instance }
-    requires free { (instance_at (map (λ b. state b) roster.old.items) place instance).since ≡ None }
-    requires kind { kind_of_way (rule row.now).way ≡ (driver_at (map (λ b. state b) roster.old.items) place).kind }
-    requires table { length facts.old ≡ row.now.facts }
-    ensures reply { result ≡
-        (roster_answer (map (λ b. state b) roster.old.items) place instance (rule row.now) phase.Start inputs.now facts.old now).reply }
-    ensures states { map (λ b. state b) roster.new.items ≡
-        roster_called (map (λ b. state b) roster.old.items) place phase.Start instance
-        (roster_answer (map (λ b. state b) roster.old.items) place instance
-        (rule row.now) phase.Start inputs.now facts.old now).instance }
-    ensures facts { facts.new ≡
-        (roster_answer (map (λ b. state b) roster.old.items) place instance (rule row.now) phase.Start inputs.now facts.old now).facts }
-    ensures outs { outs.new ≡
-        outputs_after
-        (roster_answer (map (λ b. state b) roster.old.items) place instance
-        (rule row.now) phase.Start inputs.now facts.old now) outs.old }
+    requires there { IsThere (map (λ b. state b) roster.old.items) place call.now.instance }
+    requires phase { IsAskedIn call.now.phase (instance_at (map (λ b. state b) roster.old.items) place call.now.instance) call.now.moment }
+    requires kind { kind_of_way (rule call.now.row.now).way ≡ (driver_at (map (λ b. state b) roster.old.items) place).kind }
+    requires table { length facts.old ≡ call.now.row.now.facts }
+    ensures reply { result ≡ (answer_at (map (λ b. state b) roster.old.items) place call.now facts.old).reply }
+    ensures states { map (λ b. state b) roster.new.items ≡ roster_left (map (λ b. state b) roster.old.items) place call.now facts.old }
+    ensures facts { facts.new ≡ (answer_at (map (λ b. state b) roster.old.items) place call.now facts.old).facts }
+    ensures outs { outs.new ≡ outputs_after (answer_at (map (λ b. state b) roster.old.items) place call.now facts.old) outs.old }
 {
-    start_one(&mut roster[place], instance, row, inputs, facts, outs, now)
-}
-
-/// Calls `running` of the driver at a place. `now` is in milliseconds.
-pub fn run_at(
-    roster: &mut Vec<Box<dyn Driver>>,
-    place: usize,
-    instance: u32,
-    row: &ReadyRow,
-    inputs: &Inputs,
-    facts: &mut FactTable,
-    outs: &mut Outs,
-    now: u64,
-) -> Reply
-    requires there { IsThere (map (λ b. state b) roster.old.items) place instance }
-    requires held { IsHeldBy (instance_at (map (λ b. state b) roster.old.items) place instance) now }
-    requires kind { kind_of_way (rule row.now).way ≡ (driver_at (map (λ b. state b) roster.old.items) place).kind }
-    requires table { length facts.old ≡ row.now.facts }
-    ensures reply { result ≡
-        (roster_answer (map (λ b. state b) roster.old.items) place instance (rule row.now) phase.Running inputs.now facts.old now).reply }
-    ensures states { map (λ b. state b) roster.new.items ≡
-        roster_called (map (λ b. state b) roster.old.items) place phase.Running instance
-        (roster_answer (map (λ b. state b) roster.old.items) place instance
-        (rule row.now) phase.Running inputs.now facts.old now).instance }
-    ensures facts { facts.new ≡
-        (roster_answer (map (λ b. state b) roster.old.items) place instance (rule row.now) phase.Running inputs.now facts.old now).facts }
-    ensures outs { outs.new ≡
-        outputs_after
-        (roster_answer (map (λ b. state b) roster.old.items) place instance
-        (rule row.now) phase.Running inputs.now facts.old now) outs.old }
-{
-    run_one(&mut roster[place], instance, row, inputs, facts, outs, now)
+    call_one(&mut roster[place], call, facts, outs)
 }
 
 /// Calls `halted` of the driver at a place.
@@ -296,58 +194,4 @@ pub fn halt_at(roster: &mut Vec<Box<dyn Driver>>, place: usize, instance: u32)
     ensures { map (λ b. state b) roster.new.items ≡ roster_halted (map (λ b. state b) roster.old.items) place instance }
 {
     halt_one(&mut roster[place], instance)
-}
-
-impl Drivers for Vec<Box<dyn Driver>> {
-    ghost states = { λ roster. map (λ b. (Driver-box b).state b.value) roster.items };
-
-    fn count(&self) -> usize {
-        self.len()
-    }
-
-    fn place_of(&self, kind: DriverKind) -> Option<usize> {
-        find_kind(self, kind)
-    }
-
-    fn totals(&self, place: usize) -> Totals {
-        totals_of(&self[place])
-    }
-
-    fn holds_nothing(&self) -> bool {
-        hold_nothing(self)
-    }
-
-    fn prepare(&mut self, counts: &[u32]) -> Result<(), NoMemory> {
-        prepare_all(self, counts)
-    }
-
-    fn start(
-        &mut self,
-        place: usize,
-        instance: u32,
-        row: &ReadyRow,
-        inputs: &Inputs,
-        facts: &mut FactTable,
-        outs: &mut Outs,
-        now: u64,
-    ) -> Reply {
-        start_at(self, place, instance, row, inputs, facts, outs, now)
-    }
-
-    fn running(
-        &mut self,
-        place: usize,
-        instance: u32,
-        row: &ReadyRow,
-        inputs: &Inputs,
-        facts: &mut FactTable,
-        outs: &mut Outs,
-        now: u64,
-    ) -> Reply {
-        run_at(self, place, instance, row, inputs, facts, outs, now)
-    }
-
-    fn halted(&mut self, place: usize, instance: u32) {
-        halt_at(self, place, instance)
-    }
 }

@@ -1,8 +1,10 @@
-ghost use Rattle.std.specs.Prelude.{◌≡◌, ◌≤◌, ◌+◌, ℕ, Ok, [], length};
+ghost use Rattle.std.specs.Prelude.{◌≡◌, ◌<◌, ◌≤◌, ◌+◌, ℕ, Ok, [], length};
 ghost use Rattle.std.specs.Ordering.{int_cmp};
 ghost use Rattle.bt_script.specs.Operators.{compares};
 ghost use Rattle.bt_model.specs.declared.leaf.DriverKind.TheVariants as driver;
 ghost use Rattle.bt_model.specs.declared.leaf.Instance.{Instance as Held};
+ghost use Rattle.bt_model.specs.declared.leaf.Phase.TheVariants as phase;
+ghost use Rattle.bt_model.specs.Drivers.{after_call, instance_of};
 ghost use Rattle.bt_model.specs.Leaf.{outputs_left};
 ghost use Rattle.bt_driver.specs.Ready.{expr_reach, ready_test};
 ghost use Rattle.bt_leaves.specs.Conditions.{left_by, reply_by};
@@ -10,7 +12,8 @@ ghost use Rattle.bt_leaves.specs.Conditions.{left_by, reply_by};
 use crate::instances::released;
 use crate::ledger::Ledger;
 use bt_driver::{
-    Driver, DriverKind, FactTable, Inputs, Outs, ReadyExpr, ReadyRow, ReadySort, Reply, Totals,
+    Call, CallPhase, Driver, DriverKind, FactTable, Inputs, Outs, ReadyExpr, ReadyRow, ReadySort,
+    Reply, Totals,
 };
 use bt_model::{Instance, Phase};
 use bt_script::{Cmp, NoMemory};
@@ -69,6 +72,17 @@ fn tested(test: &ReadyExpr, inputs: &Inputs, facts: &FactTable, outs: &mut Outs)
         Ok(truth) => replied(truth, outs),
         Err(cause) => Reply::Broken(cause),
     }
+}
+
+/// Counts a call of a condition to go on, after this reply. It is not inlined, since no visit of a
+/// condition leaves it RUNNING.
+#[inline(never)]
+fn record_running(ledger: &mut Ledger, instance: u32, reply: Reply)
+    requires { instance < length ledger.old.table }
+    ensures { ledger.new ≡ after_call ledger.old phase.Running instance (left_by reply (instance_of ledger.old instance)) }
+{
+    let left = left_by(reply, ledger.instance(instance));
+    ledger.record_call(Phase::Running, instance, left);
 }
 
 /// Answers the `is` and `when` rows: conditions, which are never held.
@@ -135,32 +149,14 @@ impl Driver for Conditions {
         self.ledger.prepare(count)
     }
 
-    fn start(
-        &mut self,
-        instance: u32,
-        row: &ReadyRow,
-        inputs: &Inputs,
-        facts: &mut FactTable,
-        outs: &mut Outs,
-        now: u64,
-    ) -> Reply {
-        self.ledger.count(Phase::Start, instance);
-        Self::answer(row, inputs, facts, outs)
-    }
-
-    fn running(
-        &mut self,
-        instance: u32,
-        row: &ReadyRow,
-        inputs: &Inputs,
-        facts: &mut FactTable,
-        outs: &mut Outs,
-        now: u64,
-    ) -> Reply {
-        let reply = Self::answer(row, inputs, facts, outs);
-        let left = left_by(reply, self.ledger.instance(instance));
-        self.ledger.record_call(Phase::Running, instance, left);
-        reply
+    fn call(&mut self, call: &Call, facts: &mut FactTable, outs: &mut Outs) -> Reply {
+        if let CallPhase::Running = call.phase {
+            let reply = Self::answer(call.row, call.inputs, facts, outs);
+            record_running(&mut self.ledger, call.instance, reply);
+            return reply;
+        }
+        self.ledger.count(Phase::Start, call.instance);
+        Self::answer(call.row, call.inputs, facts, outs)
     }
 
     fn halted(&mut self, instance: u32) {

@@ -1,10 +1,10 @@
 ghost use Rattle.std.specs.Prelude.{◌≡◌, ◌≤◌, length};
 ghost use Rattle.bt_model.specs.declared.leaf.DriverKind.TheVariants as driver;
 
-use crate::instances::{held, released};
+use crate::instances::{began, held, released};
 use crate::ledger::Ledger;
-use bt_driver::{Driver, DriverKind, FactTable, Inputs, Outs, ReadyRow, ReadySort, Reply, Totals};
-use bt_model::{Instance, Phase};
+use bt_driver::{Call, Driver, DriverKind, FactTable, Outs, ReadySort, Reply, Totals};
+use bt_model::Instance;
 use bt_script::NoMemory;
 use std::alloc::Global;
 
@@ -17,8 +17,9 @@ pub struct Gate {
 
 impl Gate {
     ghost use Rattle.bt_model.specs.Drivers.{kind_of_way, new_driver};
-    ghost use Rattle.bt_model.specs.Leaf.{answer_by, outputs_after};
+    ghost use Rattle.bt_model.specs.Leaf.{outputs_after};
     ghost use Rattle.bt_driver.specs.Rules.{rule};
+    ghost use Rattle.bt_leaves.specs.Answers.{answer_since};
 
     /// A driver without instances that was not called yet; its mark is 0. It allocates no memory.
     pub fn new(alloc: Global) -> Gate
@@ -29,32 +30,31 @@ impl Gate {
         }
     }
 
-    /// The reply of a leaf that began at `since`, and the instance that is left. Times are in
-    /// milliseconds.
+    /// The reply to a call of a leaf that began at `since`, and the instance that is left. Times are
+    /// in milliseconds.
     #[inline(always)]
     fn answer(
-        row: &ReadyRow,
+        call: &Call,
         since: u64,
         before: Instance,
-        inputs: &Inputs,
         facts: &mut FactTable,
         outs: &mut Outs,
-        now: u64,
     ) -> (Reply, Instance)
-        requires since { since ≤ now }
-        requires kind { kind_of_way (rule row.now).way ≡ driver.Gate }
-        requires table { length facts.old ≡ row.now.facts }
-        ensures reply { result.0 ≡ (answer_by (rule row.now).way (rule row.now) since before inputs.now facts.old now).reply }
-        ensures instance { result.1 ≡ (answer_by (rule row.now).way (rule row.now) since before inputs.now facts.old now).instance }
-        ensures facts { facts.new ≡ (answer_by (rule row.now).way (rule row.now) since before inputs.now facts.old now).facts }
-        ensures outs { outs.new ≡
-            outputs_after (answer_by (rule row.now).way (rule row.now) since before inputs.now facts.old now) outs.old }
+        requires since { since ≤ call.now.moment }
+        requires kind { kind_of_way (rule call.now.row.now).way ≡ driver.Gate }
+        requires table { length facts.old ≡ call.now.row.now.facts }
+        ensures reply { result.0 ≡ (answer_since call.now since before facts.old).reply }
+        ensures instance { result.1 ≡ (answer_since call.now since before facts.old).instance }
+        ensures facts { facts.new ≡ (answer_since call.now since before facts.old).facts }
+        ensures outs { outs.new ≡ outputs_after (answer_since call.now since before facts.old) outs.old }
     {
-        let ReadySort::Gate(test) = &row.sort else {
+        let ReadySort::Gate(test) = &call.row.sort else {
             unreachable!()
         };
-        match test.is_true(inputs, facts) {
-            Ok(true) => row.complete(before, released(before), inputs, facts, outs),
+        match test.is_true(call.inputs, facts) {
+            Ok(true) => call
+                .row
+                .complete(before, released(before), call.inputs, facts, outs),
             Ok(false) => (Reply::Running, held(since, before)),
             Err(cause) => (Reply::Broken(cause), before),
         }
@@ -80,34 +80,12 @@ impl Driver for Gate {
         self.ledger.prepare(count)
     }
 
-    fn start(
-        &mut self,
-        instance: u32,
-        row: &ReadyRow,
-        inputs: &Inputs,
-        facts: &mut FactTable,
-        outs: &mut Outs,
-        now: u64,
-    ) -> Reply {
-        let before = self.ledger.instance(instance);
-        let (reply, left) = Self::answer(row, now, before, inputs, facts, outs, now);
-        self.ledger.record_call(Phase::Start, instance, left);
-        reply
-    }
-
-    fn running(
-        &mut self,
-        instance: u32,
-        row: &ReadyRow,
-        inputs: &Inputs,
-        facts: &mut FactTable,
-        outs: &mut Outs,
-        now: u64,
-    ) -> Reply {
-        let before = self.ledger.instance(instance);
-        let since = before.since.unwrap_or(now);
-        let (reply, left) = Self::answer(row, since, before, inputs, facts, outs, now);
-        self.ledger.record_call(Phase::Running, instance, left);
+    fn call(&mut self, call: &Call, facts: &mut FactTable, outs: &mut Outs) -> Reply {
+        let before = self.ledger.instance(call.instance);
+        let since = began(call, before);
+        let (reply, left) = Self::answer(call, since, before, facts, outs);
+        self.ledger
+            .record_call(call.phase.asked(), call.instance, left);
         reply
     }
 

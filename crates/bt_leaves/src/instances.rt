@@ -1,6 +1,8 @@
-ghost use Rattle.std.specs.Prelude.{◌≡◌};
+ghost use Rattle.std.specs.Prelude.{◌≡◌, ◌≤◌};
 ghost use Rattle.bt_model.specs.Leaf as leaf;
+ghost use Rattle.bt_driver.specs.Calls.{IsAskedIn, phase_asked};
 
+use bt_driver::Call;
 use bt_model::Instance;
 
 /// An instance that was never held.
@@ -41,4 +43,15 @@ pub fn completed(instance: Instance) -> Instance
         since: None,
         completions: instance.completions.saturating_add(1).min(64),
     }
+}
+
+/// When the leaf of this instance began, at a call of it: now where it is not held yet. Times are in
+/// milliseconds.
+#[inline(always)]
+pub fn began(call: &Call, instance: Instance) -> u64
+    requires { IsAskedIn call.now.phase instance call.now.moment }
+    ensures start { result ≡ leaf.start_of (phase_asked call.now.phase) instance call.now.moment }
+    ensures past { result ≤ call.now.moment }
+{
+    instance.since.unwrap_or(call.moment)
 }

@@ -2,10 +2,10 @@ ghost use Rattle.std.specs.Prelude.{◌≡◌, ◌≤◌, length};
 ghost use Rattle.bt_model.specs.declared.leaf.DriverKind.TheVariants as driver;
 ghost use Rattle.bt_model.specs.Leaf as leaf;
 
-use crate::instances::{completed, held};
+use crate::instances::{began, completed, held};
 use crate::ledger::Ledger;
-use bt_driver::{Driver, DriverKind, FactTable, Inputs, Outs, ReadyRow, ReadySort, Reply, Totals};
-use bt_model::{Instance, Phase};
+use bt_driver::{Call, Driver, DriverKind, FactTable, Outs, ReadySort, Reply, Totals};
+use bt_model::Instance;
 use bt_script::NoMemory;
 use std::alloc::Global;
 
@@ -29,8 +29,9 @@ pub struct Replay {
 
 impl Replay {
     ghost use Rattle.bt_model.specs.Drivers.{kind_of_way, new_driver};
-    ghost use Rattle.bt_model.specs.Leaf.{answer_by, outputs_after};
+    ghost use Rattle.bt_model.specs.Leaf.{outputs_after};
     ghost use Rattle.bt_driver.specs.Rules.{rule};
+    ghost use Rattle.bt_leaves.specs.Answers.{answer_since};
 
     /// A driver without instances that was not called yet; its mark is 0. It allocates no memory.
     pub fn new(alloc: Global) -> Replay
@@ -41,35 +42,33 @@ impl Replay {
         }
     }
 
-    /// The reply of a leaf that began at `since`, and the instance that is left. Times are in
-    /// milliseconds.
+    /// The reply to a call of a leaf that began at `since`, and the instance that is left. Times are
+    /// in milliseconds.
     #[inline(always)]
     fn answer(
-        row: &ReadyRow,
+        call: &Call,
         since: u64,
         before: Instance,
-        inputs: &Inputs,
         facts: &mut FactTable,
         outs: &mut Outs,
-        now: u64,
     ) -> (Reply, Instance)
-        requires since { since ≤ now }
-        requires kind { kind_of_way (rule row.now).way ≡ driver.Replay }
-        requires table { length facts.old ≡ row.now.facts }
-        ensures reply { result.0 ≡ (answer_by (rule row.now).way (rule row.now) since before inputs.now facts.old now).reply }
-        ensures instance { result.1 ≡ (answer_by (rule row.now).way (rule row.now) since before inputs.now facts.old now).instance }
-        ensures facts { facts.new ≡ (answer_by (rule row.now).way (rule row.now) since before inputs.now facts.old now).facts }
-        ensures outs { outs.new ≡
-            outputs_after (answer_by (rule row.now).way (rule row.now) since before inputs.now facts.old now) outs.old }
+        requires since { since ≤ call.now.moment }
+        requires kind { kind_of_way (rule call.now.row.now).way ≡ driver.Replay }
+        requires table { length facts.old ≡ call.now.row.now.facts }
+        ensures reply { result.0 ≡ (answer_since call.now since before facts.old).reply }
+        ensures instance { result.1 ≡ (answer_since call.now since before facts.old).instance }
+        ensures facts { facts.new ≡ (answer_since call.now since before facts.old).facts }
+        ensures outs { outs.new ≡ outputs_after (answer_since call.now since before facts.old) outs.old }
     {
-        let ReadySort::Replay { ms, outcomes } = &row.sort else {
+        let ReadySort::Replay { ms, outcomes } = &call.row.sort else {
             unreachable!()
         };
-        if now - since < *ms {
+        if call.moment - since < *ms {
             return (Reply::Running, held(since, before));
         }
         if outcome_at(outcomes.list(), before.completions) {
-            row.complete(before, completed(before), inputs, facts, outs)
+            call.row
+                .complete(before, completed(before), call.inputs, facts, outs)
         } else {
             (Reply::Failure, completed(before))
         }
@@ -95,34 +94,12 @@ impl Driver for Replay {
         self.ledger.prepare(count)
     }
 
-    fn start(
-        &mut self,
-        instance: u32,
-        row: &ReadyRow,
-        inputs: &Inputs,
-        facts: &mut FactTable,
-        outs: &mut Outs,
-        now: u64,
-    ) -> Reply {
-        let before = self.ledger.instance(instance);
-        let (reply, left) = Self::answer(row, now, before, inputs, facts, outs, now);
-        self.ledger.record_call(Phase::Start, instance, left);
-        reply
-    }
-
-    fn running(
-        &mut self,
-        instance: u32,
-        row: &ReadyRow,
-        inputs: &Inputs,
-        facts: &mut FactTable,
-        outs: &mut Outs,
-        now: u64,
-    ) -> Reply {
-        let before = self.ledger.instance(instance);
-        let since = before.since.unwrap_or(now);
-        let (reply, left) = Self::answer(row, since, before, inputs, facts, outs, now);
-        self.ledger.record_call(Phase::Running, instance, left);
+    fn call(&mut self, call: &Call, facts: &mut FactTable, outs: &mut Outs) -> Reply {
+        let before = self.ledger.instance(call.instance);
+        let since = began(call, before);
+        let (reply, left) = Self::answer(call, since, before, facts, outs);
+        self.ledger
+            .record_call(call.phase.asked(), call.instance, left);
         reply
     }
 

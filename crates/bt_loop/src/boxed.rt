@@ -1,8 +1,8 @@
 ghost use Rattle.std.specs.Prelude.{map};
 
 use bt_driver::{
-    Driver, DriverKind, Drivers, FactTable, Inputs, Outs, ReadyRow, Reply, Totals, find_kind,
-    halt_at, hold_nothing, prepare_all, run_at, start_at, totals_of,
+    Call, Driver, DriverKind, Drivers, FactTable, Outs, Reply, Totals, call_at, find_kind, halt_at,
+    hold_nothing, prepare_all, totals_of,
 };
 use bt_script::NoMemory;
 
@@ -36,49 +36,8 @@ impl Drivers for Roster {
     }
 
     #[inline(always)]
-    fn start(
-        &mut self,
-        place: usize,
-        instance: u32,
-        row: &ReadyRow,
-        inputs: &Inputs,
-        facts: &mut FactTable,
-        outs: &mut Outs,
-        now: u64,
-    ) -> Reply {
-        start_at(
-            &mut self.drivers,
-            place,
-            instance,
-            row,
-            inputs,
-            facts,
-            outs,
-            now,
-        )
-    }
-
-    #[inline(always)]
-    fn running(
-        &mut self,
-        place: usize,
-        instance: u32,
-        row: &ReadyRow,
-        inputs: &Inputs,
-        facts: &mut FactTable,
-        outs: &mut Outs,
-        now: u64,
-    ) -> Reply {
-        run_at(
-            &mut self.drivers,
-            place,
-            instance,
-            row,
-            inputs,
-            facts,
-            outs,
-            now,
-        )
+    fn call(&mut self, place: usize, call: &Call, facts: &mut FactTable, outs: &mut Outs) -> Reply {
+        call_at(&mut self.drivers, place, call, facts, outs)
     }
 
     fn halted(&mut self, place: usize, instance: u32) {

@@ -1,12 +1,14 @@
-ghost use Rattle.std.specs.Prelude.{◌≡◌, ◌+◌, ◌≤◌, ◌<◌, ◌++◌, List, OnErr, OnOk, Some, length, replicate, slice_set};
+ghost use Rattle.std.specs.Prelude.{◌≡◌, ◌+◌, ◌≤◌, ◌<◌, ◌++◌, ℕ, List, OnErr, OnOk, Some, length, replicate, slice_set};
 ghost use Rattle.std.specs.List.{All};
 ghost use Rattle.bt_script.specs.declared.cells.Seen.TheVariants.{Absent};
+ghost use Rattle.bt_model.specs.declared.leaf.Instance.{Instance as Held};
 ghost use Rattle.bt_model.specs.declared.memory.Memory.{Memory};
 ghost use Rattle.bt_model.specs.declared.term.Term.{Term-F};
 ghost use Rattle.bt_model.specs.Drivers.{instance_at};
 ghost use Rattle.bt_model.specs.Leaf.{outputs_after, padded};
 ghost use Rattle.bt_model.specs.Leaves.{called, phase_of, reply_answer, reply_notes};
 ghost use Rattle.bt_model.specs.Sites.{Meaning, View};
+ghost use Rattle.bt_driver.specs.Calls.{IsAskedIn, phase_asked};
 ghost use Rattle.bt_arena.specs.Ends.{StaysFit};
 ghost use Rattle.bt_arena.specs.Nodes.{kept_at, leaf_at};
 ghost use Rattle.bt_arena.specs.Rosters.{IsServed};
@@ -19,7 +21,7 @@ ghost use Rattle.bt_nodes.specs.Here.{FitsHereOn, call_on, in_stop};
 use crate::sources::seen_of;
 use bt_arena::{Kept, Notes, ReadyLeaf, Source, Stage, set_held};
 use bt_board::Board;
-use bt_driver::{Drivers, Inputs, Outs};
+use bt_driver::{Call, CallPhase, Drivers, Inputs, Outs};
 use bt_model::{Answer, NodeFault, Note, Reply, Status};
 use bt_script::{Cells, Seen, Stop};
 
@@ -68,7 +70,19 @@ fn write_outputs(sources: &[Source], outputs: &[i64], board: &mut Board)
     }
 }
 
-/// Calls the driver of a leaf of this status: `running` where it is RUNNING, else `start`.
+/// What the driver of a leaf of this status is asked: to go on where it is RUNNING, else to begin.
+#[inline(always)]
+fn asked_at(status: Status) -> CallPhase
+    ensures phase { phase_asked result ≡ phase_of status }
+    ensures fits { (instance : Held) (now : ℕ) → IsInPhase status instance now → IsAskedIn result instance now }
+{
+    match status {
+        Status::Running => CallPhase::Running,
+        _ => CallPhase::Start,
+    }
+}
+
+/// Calls the driver of a leaf of this status.
 #[inline(always)]
 fn call_driver<D: Drivers>(
     stage: &mut Stage<D>,
@@ -86,26 +100,14 @@ fn call_driver<D: Drivers>(
     ensures board { stage.new.board.now ≡ stage.old.board.now }
     ensures outs { outs.new ≡ outputs_after (answer_to D.states stage.old status leaf.now inputs.now) outs.old }
 {
-    match status {
-        Status::Running => stage.drivers.running(
-            leaf.driver,
-            leaf.instance,
-            leaf.row.get(),
-            inputs,
-            stage.facts,
-            outs,
-            stage.moment,
-        ),
-        _ => stage.drivers.start(
-            leaf.driver,
-            leaf.instance,
-            leaf.row.get(),
-            inputs,
-            stage.facts,
-            outs,
-            stage.moment,
-        ),
-    }
+    let call = Call {
+        instance: leaf.instance,
+        row: leaf.row.get(),
+        inputs,
+        phase: asked_at(status),
+        moment: stage.moment,
+    };
+    stage.drivers.call(leaf.driver, &call, stage.facts, outs)
 }
 
 /// Calls the driver of a leaf of this status with its inputs.
@@ -219,8 +221,8 @@ fn tell(
     Ok(answer)
 }
 
-/// Calls the driver of the leaf with this uid, with its inputs: `running` where it is RUNNING, else
-/// `start`. On SUCCESS its outputs are written. The place of the note is reserved before the call,
+/// Calls the driver of the leaf with this uid, with its inputs: to go on where it is RUNNING, else to
+/// begin. On SUCCESS its outputs are written. The place of the note is reserved before the call,
 /// so that each call that was made has its note. The error is the leaf's fault, or want of memory,
 /// which comes before the call.
 #[inline(always)]

@@ -1,6 +1,6 @@
 use Rattle.std.proofs.Common.{◌≡◌, map, drop}
 use Rattle.bt_model.specs.Drivers.{total_held}
-use Rattle.bt_driver.proofs.roster.hold_nothing.Given as goal
+use Rattle.bt_driver.proofs.roster.count_none.Given as goal
 
 -- as many instances are held in all as by the drivers still to come
 abbrev pub invariant-loop-driver : goal.invariant-loop-driver
