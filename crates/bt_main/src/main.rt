@@ -1,12 +1,13 @@
 //! `bt` ticks a behavior tree over the events of a world script and prints the trace.
 #![tactic(auto)]
 
-use bt_command_line::{Exit, NoWords, words_of};
-use bt_driver::Driver;
-use bt_leaves::{Conditions, Gate, Replay, Timed};
-use bt_outside::{DirShelf, HostClock, OutSink};
-use bt_program::{add_driver, bt};
-use bt_script::{Name, NoMemory};
+use base_outside::{DirShelf, HostClock, OutSink};
+use base_texts::{Name, NoMemory};
+use cli_program::{add_driver, bt};
+use cli_words::{NoWords, words_of};
+use run_driver::Driver;
+use run_leaves::{Conditions, Gate, Replay, Timed};
+use spec_program::Exit;
 use std::io;
 use std::process::ExitCode;
 use std::rt::{Clock, Files};

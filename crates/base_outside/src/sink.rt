@@ -1,0 +1,29 @@
+ghost use Rattle.std.specs.Prelude.{◌≤◌, ℕ, List, Option, OnOk, IsErrOf};
+ghost use Rattle.spec_outside.specs.Appending.{Appended, AppendedPrefix};
+ghost use Rattle.spec_outside.specs.Counts.{Rose};
+
+/// Why a write failed.
+#[derive(Clone, Copy, Debug, PartialEq, Eq)]
+pub enum SinkFault {
+    /// The sink did not take the whole piece.
+    Failed,
+    /// Want of memory (out of memory).
+    NoMemory,
+}
+
+/// A sink of bytes, which are written one piece after another.
+pub trait Sink {
+    /// The bytes written so far, where the sink tells them.
+    ghost written: { Self → Option (List ℕ) };
+
+    /// The count of failures. It never falls.
+    ghost faults: { Self → ℕ };
+
+    /// Writes the piece after what was written before. At every return some prefix of the piece
+    /// was written. `SinkFault::Failed` comes only where the count of failures rose in this call.
+    fn write(&mut self, piece: &[u8]) -> Result<(), SinkFault>
+        ensures whole { OnOk result (Appended (written self.old) (written self.new) piece.now) }
+        ensures prefix { AppendedPrefix (written self.old) (written self.new) piece.now }
+        ensures failed { IsErrOf result SinkFault.Failed → Rose (faults self.old) (faults self.new) }
+        ensures count { faults self.old ≤ faults self.new };
+}

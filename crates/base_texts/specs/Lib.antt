@@ -1,0 +1,5 @@
+pub mod Names
+pub mod Options
+pub mod Results
+pub mod Stops
+pub mod formers

@@ -1,6 +1,0 @@
-//! What a command is lent of the outside, what it finds and leaves of it, and what its output is.
-#![tactic(auto)]
-
-mod outside;
-
-pub use outside::Outside;

@@ -1,5 +1,0 @@
-use Rattle.bt_arena.proofs.Prepared.{numbered_are_served}
-use Rattle.bt_arena.proofs.laws.numbered_leaves_are_served.Goals as goal
-
-pub returns : goal.returns
-returns c = numbered_are_served

@@ -1,7 +1,0 @@
-use Rattle.std.proofs.Common.{◌≡◌, drop}
-use Rattle.bt_model.specs.Boards.{port_of}
-use Rattle.bt_arena.proofs.resolving.port_named.Given as goal
-
--- the first among the ports still to come is the first of all
-abbrev pub invariant-loop-port : goal.invariant-loop-port
-invariant-loop-port l = port_of (drop l.port-index l.ports) l.name ≡ port_of l.ports l.name

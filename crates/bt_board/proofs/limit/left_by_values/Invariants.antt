@@ -1,8 +1,0 @@
-use Rattle.std.proofs.Common.{◌+◌, ◌≤◌, length, take}
-use Rattle.std.specs.List.{flat_map}
-use Rattle.bt_model.specs.declared.term.Port.{Port}
-use Rattle.bt_model.specs.Boards.{value_keys}
-use Rattle.bt_board.proofs.limit.left_by_values.Given as goal
-
-abbrev pub invariant-loop-port : goal.invariant-loop-port
-invariant-loop-port l = length (flat_map (λ (port : Port). value_keys port.value) (take l.port-index l.ports)) + l.rest ≤ l.left

@@ -1,6 +1,0 @@
-use Rattle.std.proofs.Common.{◌≡◌, map, take}
-use Rattle.bt_model.specs.declared.cell.Naming.{Naming}
-use Rattle.bt_board.proofs.slots.cells_of.Given as goal
-
-abbrev pub invariant-loop-naming : goal.invariant-loop-naming
-invariant-loop-naming l = l.cells.items ≡ map (λ (n : Naming). n.cell) (take l.naming-index l.namings)

@@ -1,6 +1,0 @@
-use Rattle.std.proofs.Common.{◌≡◌, map}
-use Rattle.bt_board.specs.Slots.{entry_of}
-use Rattle.bt_board.proofs.slots.entries_of.Given as goal
-
-abbrev pub invariant-loop-naming : goal.invariant-loop-naming
-invariant-loop-naming l = l.entries.items ≡ map (entry_of l.cells) l.yielded

@@ -1,6 +1,0 @@
-use Rattle.std.proofs.Common.{◌≡◌, drop}
-use Rattle.bt_build.specs.ReadSteps.{stray_place}
-use Rattle.bt_build.proofs.trees.stray_place.Given as goal
-
-abbrev pub invariant-loop-element : goal.invariant-loop-element
-invariant-loop-element l = stray_place (drop l.element-index l.elements) ≡ stray_place l.elements

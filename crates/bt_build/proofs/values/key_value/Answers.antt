@@ -1,9 +1,0 @@
-use Rattle.std.proofs.Common.{◌≡◌, true, sym, ◌∙◌}
-use Rattle.bt_script.specs.Identifiers.{is_identifier}
-use Rattle.bt_script.proofs.Identifiers.{IsUtf8-from_is_identifier}
-use Rattle.bt_build.proofs.values.key_value.Goals as goal
-
-pub copied-requires : goal.copied-requires
-copied-requires c =
-    let h : is_identifier c.args.key.now ≡ true = sym c.is_identifier.ensures ∙ c.if-not-is_identifier.false in
-    IsUtf8-from_is_identifier c.args.key.now h

@@ -1,9 +1,0 @@
-use Rattle.std.proofs.Common.{◌≡◌, ◌+◌, ◌≤◌, drop, map, min, sum}
-use Rattle.bt_model.specs.Terms.{work_of}
-use Rattle.bt_build.proofs.working.+work_up_to.Given as goal
-
-abbrev pub invariant-loop-child : goal.invariant-loop-child
-invariant-loop-child l = record {
-  small : l.below ≤ l.most;
-  value : min l.most (l.below + sum (map work_of (drop l.child-index l.child-items))) ≡ min l.most (sum (map work_of l.child-items));
-}

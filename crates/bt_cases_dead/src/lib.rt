@@ -1,5 +1,0 @@
-//! Tests alone: the dead nodes of trees.
-#![tactic(auto)]
-
-#[cfg(test)]
-mod dead;

@@ -1,4 +1,0 @@
-use Rattle.bt_cases_hosts.proofs.hosts.joined_text.Given as goal
-
-abbrev pub ghost-begin : goal.ghost-begin
-ghost-begin g a = record { tree = a.tree.now; world = a.world.now }

@@ -1,5 +1,0 @@
-//! Tests alone: tables of runs of a host that holds its own drivers.
-#![tactic(auto)]
-
-#[cfg(test)]
-mod hosts;

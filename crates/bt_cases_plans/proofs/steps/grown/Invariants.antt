@@ -1,5 +1,0 @@
-use Rattle.bt_cases_plans.specs.Stages.{IsPlan}
-use Rattle.bt_cases_plans.proofs.steps.grown.Given as goal
-
-abbrev pub invariant-loop-step : goal.invariant-loop-step
-invariant-loop-step l = IsPlan l.world l.growing.tree l.growing.added

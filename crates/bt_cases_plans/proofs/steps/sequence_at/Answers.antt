@@ -1,8 +1,0 @@
-use Rattle.std.proofs.Common.{Some, ap, sym, ◌∙◌}
-use Rattle.bt_expand.specs.declared.node.Part.{Part}
-use Rattle.bt_cases_plans.proofs.steps.sequence_at.Goals as goal
-
-pub returns-in-Some-Sequence : goal.returns-in-Some-Sequence
-returns-in-Some-Sequence c = λ tree st.
-    let part = c.in-Some-Sequence.ensures.known c.args.world.now tree st (c.in_ok-key.ensures tree st) in
-    (c.in-Some-Sequence.field-0-0, sym part ∙ ap (λ (p : Part). Some p) c.in-Some-Sequence.field-0-is)

@@ -1,8 +1,0 @@
-//! The words of the command line: which command they are, and how the program ends.
-#![tactic(auto)]
-
-mod exit;
-mod words;
-
-pub use exit::Exit;
-pub use words::{Command, NoWords, read_command, word_of, words_of};

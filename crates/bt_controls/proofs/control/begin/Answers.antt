@@ -1,4 +1,0 @@
-use Rattle.bt_controls.proofs.control.begin.Goals as goal
-
-pub returns-in-Parallel-clause-onward : goal.returns-in-Parallel-clause-onward
-returns-in-Parallel-clause-onward c = rw c.in-Parallel.is (c.parallel_to.ensures.onward c.args.memo.now)

@@ -1,4 +1,0 @@
-use Rattle.bt_controls.proofs.rounds.go_on.Goals as goal
-
-pub returns-else-is_passed-clause-onward : goal.returns-else-is_passed-clause-onward
-returns-else-is_passed-clause-onward c = c.end.ensures.onward _ _

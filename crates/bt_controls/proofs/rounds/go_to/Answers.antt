@@ -1,4 +1,0 @@
-use Rattle.bt_controls.proofs.rounds.go_to.Goals as goal
-
-pub returns-else-at-n-clause-onward : goal.returns-else-at-n-clause-onward
-returns-else-at-n-clause-onward c = c.end.ensures.onward _ _

@@ -1,5 +1,0 @@
-use Rattle.bt_controls.proofs.OrderedRows.{memory_hears}
-use Rattle.bt_controls.proofs.whole_visits.memory_over_a_visit.Goals as goal
-
-pub returns : goal.returns
-returns c = memory_hears

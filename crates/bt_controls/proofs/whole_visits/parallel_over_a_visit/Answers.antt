@@ -1,5 +1,0 @@
-use Rattle.bt_controls.proofs.ParallelVisits.{parallel_row}
-use Rattle.bt_controls.proofs.whole_visits.parallel_over_a_visit.Goals as goal
-
-pub returns : goal.returns
-returns c = λ n now picked counts heard unskipped visit. parallel_row n counts unskipped now picked heard visit

@@ -1,5 +1,0 @@
-use Rattle.bt_controls.proofs.OrderedRows.{reactive_fallback_hears, reactive_sequence_hears}
-use Rattle.bt_controls.proofs.whole_visits.reactive_kinds_over_a_visit.Goals as goal
-
-pub returns : goal.returns
-returns c = record { sequence = reactive_sequence_hears; fallback = reactive_fallback_hears }

@@ -1,7 +1,0 @@
-use Rattle.bt_decorators.proofs.decorator.answered.Goals as goal
-
-pub returns-in-KeepRunningUntilFailure-clause-onward : goal.returns-in-KeepRunningUntilFailure-clause-onward
-returns-in-KeepRunningUntilFailure-clause-onward c = rw c.in-KeepRunningUntilFailure.is (c.keep_running.ensures.onward c.args.memo.now _)
-
-pub returns-in-RunOnce-clause-onward : goal.returns-in-RunOnce-clause-onward
-returns-in-RunOnce-clause-onward c = rw c.in-RunOnce.is (c.run_once_answered.ensures.onward c.args.memo.now _)

@@ -1,6 +1,0 @@
-use Rattle.std.proofs.Common.{length}
-use Rattle.bt_driver.proofs.effects.+apply.Given as goal
-
--- there are fewer effects in each call
-abbrev pub decreases-apply : goal.decreases-apply
-decreases-apply l = length l.sets.now

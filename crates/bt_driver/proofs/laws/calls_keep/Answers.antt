@@ -1,5 +1,0 @@
-use Rattle.bt_model.proofs.Calls.{as_many_facts, held_while_running}
-use Rattle.bt_driver.proofs.laws.calls_keep.Goals as goal
-
-pub returns : goal.returns
-returns c = record { held = held_while_running; facts = as_many_facts }

@@ -1,8 +1,0 @@
-use Rattle.std.proofs.Common.{◌≡◌, ◌++◌, drop}
-use Rattle.std.specs.List.{filter}
-use Rattle.bt_expand.specs.Growth.{is_achiever}
-use Rattle.bt_expand.proofs.achievers.achievers_of.Given as goal
-
-abbrev pub invariant-loop-template : goal.invariant-loop-template
-invariant-loop-template l =
-    l.found.items ++ filter (is_achiever l.rules l.test) (drop l.template-index l.templates) ≡ filter (is_achiever l.rules l.test) l.templates

@@ -1,8 +1,0 @@
-use Rattle.std.proofs.Common.{◌≡◌, drop, map}
-use Rattle.bt_ground.specs.Making.{nothing_made}
-use Rattle.bt_ground.specs.Seen.{seen_item}
-use Rattle.bt_ground.proofs.Flat.{made_items}
-use Rattle.bt_ground.proofs.make.lines_of.Given as goal
-
-abbrev pub invariant-loop-item : goal.invariant-loop-item
-invariant-loop-item l = made_items l.sorts l.making (map seen_item (drop l.item-index l.items)) ≡ made_items l.sorts nothing_made (map seen_item l.items)

@@ -1,5 +1,0 @@
-use Rattle.std.proofs.Common.{length}
-use Rattle.bt_ground.proofs.sizes.+mark_size.Given as goal
-
-abbrev pub decreases-mark_size : goal.decreases-mark_size
-decreases-mark_size l = length l.around.now

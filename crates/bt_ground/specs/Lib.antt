@@ -1,9 +1,0 @@
-pub mod Blocks
-pub mod Flat
-pub mod GroundFile
-pub mod Making
-pub mod Readings
-pub mod Seen
-pub mod Sizes
-pub mod Sound
-pub mod Writing

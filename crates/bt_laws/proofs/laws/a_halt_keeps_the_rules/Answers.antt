@@ -1,5 +1,0 @@
-use Rattle.bt_laws.proofs.Keeping.{term_halts}
-use Rattle.bt_laws.proofs.laws.a_halt_keeps_the_rules.Goals as goal
-
-pub returns : goal.returns
-returns c = term_halts

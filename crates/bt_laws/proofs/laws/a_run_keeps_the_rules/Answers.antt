@@ -1,5 +1,0 @@
-use Rattle.bt_laws.proofs.Runs.{run_steady}
-use Rattle.bt_laws.proofs.laws.a_run_keeps_the_rules.Goals as goal
-
-pub returns : goal.returns
-returns c = run_steady

@@ -1,5 +1,0 @@
-use Rattle.bt_laws.proofs.Events.{ticked_leaves}
-use Rattle.bt_laws.proofs.laws.a_tick_keeps_the_rules.Goals as goal
-
-pub returns : goal.returns
-returns c = ticked_leaves

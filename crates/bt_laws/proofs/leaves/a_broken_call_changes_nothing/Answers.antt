@@ -1,5 +1,0 @@
-use Rattle.bt_laws.proofs.LeafCalls.{broken_changes_nothing}
-use Rattle.bt_laws.proofs.leaves.a_broken_call_changes_nothing.Goals as goal
-
-pub returns : goal.returns
-returns c = broken_changes_nothing

@@ -1,7 +1,0 @@
--- The head of a row, as the code has it.
-use Rattle.bt_model.specs.WorldFile as file
-use Rattle.bt_lines.specs.declared.head.Head.{Head}
-
--- a head of the code as the definition has it
-abbrev pub seen_head : Head → file.Head
-seen_head head = record { id = head.id; ports = head.ports.items }

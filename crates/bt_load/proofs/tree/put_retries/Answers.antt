@@ -1,8 +1,0 @@
-use Rattle.std.proofs.Common.{◌+◌, arith}
-use Rattle.bt_load.specs.Texts.{retry_text}
-use Rattle.bt_load.proofs.Sequences.{next_text}
-use Rattle.bt_load.proofs.tree.put_retries.Goals as goal
-
-pub loop-before-preserved : goal.loop-before-preserved
-loop-before-preserved c =
-    next_text retry_text 1 c.loop-before.before (c.loop-before.before + 1) c.args.out.now.items c.loop-before.out.items c.put_retry.new.out.items (omega arith) c.loop-before.invariant c.in_ok-put_retry.ensures

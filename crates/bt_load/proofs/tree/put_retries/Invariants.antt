@@ -1,6 +1,0 @@
-use Rattle.std.proofs.Common.{◌≡◌, ◌++◌}
-use Rattle.bt_load.specs.Texts.{retry_text, texts}
-use Rattle.bt_load.proofs.tree.put_retries.Given as goal
-
-abbrev pub invariant-loop-before : goal.invariant-loop-before
-invariant-loop-before l = l.out.items ≡ l.initial.out.items ++ texts retry_text 1 l.before

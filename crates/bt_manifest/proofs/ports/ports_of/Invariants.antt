@@ -1,6 +1,0 @@
-use Rattle.std.proofs.Common.{◌≡◌, drop}
-use Rattle.bt_manifest.specs.Models.{no_ports, with_children}
-use Rattle.bt_manifest.proofs.ports.ports_of.Given as goal
-
-abbrev pub invariant-loop-child : goal.invariant-loop-child
-invariant-loop-child l = with_children l.ports (drop l.child-index l.children) ≡ with_children no_ports l.children

@@ -1,3 +1,0 @@
-pub mod Attributes
-pub mod Models
-pub mod Steps

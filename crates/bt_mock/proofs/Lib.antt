@@ -1,6 +1,0 @@
-mod Eaches
-mod Replacing
-mod Texts
-mod Ordered
-mod ReadFit
-mod Runs

@@ -1,5 +1,0 @@
-use Rattle.bt_mock.proofs.Ordered.{json_in_order}
-use Rattle.bt_mock.proofs.laws.members_come_in_order.Goals as goal
-
-pub returns : goal.returns
-returns c = json_in_order

@@ -1,6 +1,0 @@
-use Rattle.std.proofs.Common.{◌≡◌, drop, map}
-use Rattle.bt_model.specs.BuiltIns.{kind_among, row_seen}
-use Rattle.bt_model.proofs.built_ins.kind_among.Given as goal
-
-abbrev pub invariant-loop-row : goal.invariant-loop-row
-invariant-loop-row l = kind_among (map row_seen (drop l.row-index l.rows)) l.name ≡ kind_among (map row_seen l.rows) l.name

@@ -1,8 +1,0 @@
--- A Switch that fits has 6 cases at most.
-use Rattle.bt_model.specs.Trees.{FewCases, Node}
-use Rattle.bt_arena.specs.Nodes.{IsFit}
-
--- a node that fits has no more cases than a Switch can
-pub few_cases : (node : Node) → IsFit node → FewCases node.kind
-unfolding IsFit
-few_cases node fit = fit.cases

@@ -1,6 +1,0 @@
-use Rattle.std.proofs.Common.{ap, ◌∙◌}
-use Rattle.bt_model.specs.Visit.{or_bad_port}
-use Rattle.bt_nodes.proofs.ports.picked.Goals as goal
-
-pub returns : goal.returns
-returns c = λ term view whole s k. c.or_bad_port.ensures ∙ ap (or_bad_port c.args.uid) (c.pick.ensures term view whole c.args.uid s k)

@@ -1,6 +1,0 @@
-use Rattle.std.proofs.Common.{◌≡◌, drop}
-use Rattle.bt_nodes.specs.Given.{first_case}
-use Rattle.bt_nodes.proofs.sources.case_with.Given as goal
-
-abbrev pub invariant-loop-place : goal.invariant-loop-place
-invariant-loop-place l = first_case l.board (drop l.place l.cases) l.place l.text ≡ first_case l.board l.cases 0 l.text

@@ -1,6 +1,0 @@
-pub mod Calls
-pub mod Given
-pub mod Here
-pub mod Meeting
-pub mod Needs
-pub mod Settles

@@ -1,9 +1,0 @@
-pub mod Appending
-pub mod Counts
-pub mod Files
-pub mod HostClock
-pub mod MemShelf
-pub mod MemSink
-pub mod Moments
-pub mod OutSink
-pub mod Reads

@@ -1,7 +1,0 @@
-use Rattle.std.proofs.Common.{drop}
-use Rattle.bt_plan.proofs.Rising.{Rising}
-use Rattle.bt_plan.proofs.failing.are_ordered.Given as goal
-
--- where the levels still to come do not fall, none do
-abbrev pub invariant-loop-place : goal.invariant-loop-place
-invariant-loop-place l = Rising l.level (drop l.place-index l.places) → Rising 0 l.places

@@ -1,6 +1,0 @@
-use Rattle.std.proofs.Common.{◌≡◌, take}
-use Rattle.bt_plan.specs.Failing.{levels}
-use Rattle.bt_plan.proofs.failing.levels.Given as goal
-
-abbrev pub invariant-loop-place : goal.invariant-loop-place
-invariant-loop-place l = l.deepest ≡ levels (take l.place-index l.places)

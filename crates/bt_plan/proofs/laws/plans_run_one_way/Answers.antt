@@ -1,5 +1,0 @@
-use Rattle.bt_plan.proofs.OneWay.{one_way}
-use Rattle.bt_plan.proofs.laws.plans_run_one_way.Goals as goal
-
-pub returns : goal.returns
-returns c = λ world limits before valid after other planned again p q. one_way world limits before after other planned again p q

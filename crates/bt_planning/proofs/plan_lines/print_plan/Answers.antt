@@ -1,5 +1,0 @@
-use Rattle.bt_planning.proofs.Plans.{plan_printed}
-use Rattle.bt_planning.proofs.plan_lines.print_plan.Goals as goal
-
-pub returns-in-Ok-clause-printed : goal.returns-in-Ok-clause-printed
-returns-in-Ok-clause-printed g c = rw c.exit_of.ensures (plan_printed c.args.planned.now _ _ _ _ c.in-Ok.ensures.whole)

@@ -1,7 +1,0 @@
-use Rattle.std.proofs.Common.{◌≡◌, drop}
-use Rattle.bt_planning.specs.Plans.{first_unserved}
-use Rattle.bt_planning.proofs.planning.unserved.Given as goal
-
--- what the rows still to come lack is what all lack
-abbrev pub invariant-loop-row : goal.invariant-loop-row
-invariant-loop-row g l = first_unserved (g.D.Drivers.states l.drivers) (drop l.row-index l.rows) ≡ first_unserved (g.D.Drivers.states l.drivers) l.rows

@@ -1,7 +1,0 @@
-//! A plan for the goals of a world, over the drivers that are lent, and its lines.
-#![tactic(auto)]
-
-mod plan_lines;
-mod planning;
-
-pub use planning::plan_and_print;

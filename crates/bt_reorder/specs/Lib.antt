@@ -1,4 +1,0 @@
-pub mod Conflicts
-pub mod Looked
-pub mod Raising
-pub mod Reads

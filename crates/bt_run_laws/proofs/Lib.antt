@@ -1,3 +1,0 @@
-mod DriverTables
-mod Prefixes
-mod RunningLeaves

@@ -1,5 +1,0 @@
-use Rattle.bt_run_laws.proofs.Prefixes.{finished_steady, prefix_steady}
-use Rattle.bt_run_laws.proofs.laws.the_rules_hold_after_every_prefix.Goals as goal
-
-pub returns : goal.returns
-returns c = record { events = prefix_steady; finishes = finished_steady }

@@ -1,4 +1,0 @@
-//! Laws of whole runs: what is held at every moment, and what holds after every prefix of a list of events.
-#![tactic(auto)]
-
-pub mod laws;

@@ -1,5 +1,0 @@
-use Rattle.bt_script.proofs.Identifiers.{IsUtf8-from_continue}
-use Rattle.bt_script.proofs.lexer.word.Goals as goal
-
-pub copied-requires : goal.copied-requires
-copied-requires c = IsUtf8-from_continue c.args.word.now c.requires

@@ -1,7 +1,0 @@
-use Rattle.std.proofs.Common.{◌≡◌, ◌++◌, map, take}
-use Rattle.std.specs.List.{flat_map}
-use Rattle.bt_model.specs.PrintedTree.{attribute_text, port_attribute}
-use Rattle.bt_text.proofs.mark.put_ports.Given as goal
-
-abbrev pub invariant-loop-port : goal.invariant-loop-port
-invariant-loop-port l = l.out.items ≡ l.initial.out.items ++ flat_map attribute_text (map port_attribute (take l.port-index l.ports))

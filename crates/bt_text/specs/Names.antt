@@ -1,7 +1,0 @@
--- Names that are not there.
-use Rattle.std.specs.Prelude.{[]}
-use Rattle.bt_model.specs.Lines.{LineNames}
-
--- no names at all
-abbrev pub no_names : LineNames
-no_names = record { facts = []; cells = []; inputs = [] }

@@ -1,8 +1,0 @@
-use Rattle.std.proofs.Common.{arith}
-use Rattle.bt_tick.proofs.Moving.{as_many_kept, node_there}
-use Rattle.bt_tick.proofs.enter.enter.Goals as goal
-
-pub bounds : goal.bounds
-bounds g c =
-    let (term, view, can) = c.requires.can in
-    omega (arith, node_there can.fits, as_many_kept can.fits)

@@ -1,4 +1,0 @@
-use Rattle.bt_trace.proofs.events.make_event.Given as goal
-
-abbrev pub ghost-run_event : goal.ghost-run_event
-ghost-run_event g a = g.of

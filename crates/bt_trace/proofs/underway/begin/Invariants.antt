@@ -1,4 +1,0 @@
-use Rattle.bt_trace.proofs.underway.begin.Given as goal
-
-abbrev pub ghost-leaves : goal.ghost-leaves
-ghost-leaves g a = g.of

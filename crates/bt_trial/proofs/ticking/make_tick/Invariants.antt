@@ -1,5 +1,0 @@
-use Rattle.bt_trial.specs.Modelled.{modelled}
-use Rattle.bt_trial.proofs.ticking.make_tick.Given as goal
-
-abbrev pub ghost-run_event : goal.ghost-run_event
-ghost-run_event g a = record { tree = g.of.tree; world = modelled g.of.world }

@@ -1,4 +1,0 @@
-pub mod Drafts
-pub mod Readings
-pub mod Rows
-pub mod Tables

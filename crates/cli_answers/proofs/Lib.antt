@@ -1,0 +1,2 @@
+pub mod AboutCourses
+pub mod AboutPlanning

@@ -1,0 +1,10 @@
+use Rattle.cli_answers.proofs.courses.join.run.Given as goal
+
+abbrev pub ghost-run_events : goal.ghost-run_events
+ghost-run_events g a = g.of
+
+abbrev pub ghost-run_rounds : goal.ghost-run_rounds
+ghost-run_rounds g a = g.of
+
+abbrev pub ghost-run_summed : goal.ghost-run_summed
+ghost-run_summed g a = g.of

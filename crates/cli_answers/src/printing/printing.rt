@@ -1,0 +1,84 @@
+ghost use Rattle.std.specs.Prelude.{◌≡◌, ◌≤◌, ◌++◌, IfOk, OnOk, IsErrOf, Ok};
+ghost use Rattle.std.specs.List.{concat};
+ghost use Rattle.cli_refusals.specs.Printing.{Printed};
+ghost use Rattle.spec_program.specs.Printed.{count_line, print_output, printed_bytes};
+ghost use Rattle.spec_tree.specs.PrintedTree.{tree_lines};
+ghost use Rattle.spec_tree.specs.Trees.{IsValid};
+ghost use Rattle.spec_outside.specs.Appending.{Appended, AppendedPrefix};
+ghost use Rattle.spec_outside.specs.Counts.{Rose};
+
+use crate::printing::dead_nodes::write_dead;
+use base_outside::Sink;
+use base_texts::NoMemory;
+use run_arena::nodes_in;
+use spec_program::{Exit, Print};
+use spec_tree::Tree;
+use std::alloc::Global;
+use text_lines::{TextStop, put_bytes, put_number, write_line, write_tree};
+use tree_build::work;
+
+/// The last line of a check.
+fn count_line(alloc: Global, tree: &Tree) -> Result<Vec<u8>, NoMemory>
+    requires { IsValid tree.now }
+    ensures { IfOk result (λ line. line.items ≡ count_line tree.now) }
+{
+    let mut line = Vec::new(alloc);
+    put_bytes(&mut line, b"<!-- nodes ")?;
+    put_number(&mut line, u64::from(nodes_in(&tree.term)))?;
+    put_bytes(&mut line, b" work ")?;
+    put_number(&mut line, u64::from(work(tree)))?;
+    put_bytes(&mut line, b" -->\n")?;
+    Ok(line)
+}
+
+/// Writes the tree and then its counts. `TextStop::WriteFault` comes only where the sink's count of
+/// failures rose in this call.
+#[tactic(auto, using(base_outside::proofs::Appends::appending))]
+fn write_check<K: Sink>(alloc: Global, tree: &Tree, out: &mut K) -> Result<(), TextStop>
+    requires { IsValid tree.now }
+    ensures whole { OnOk result (Appended
+        (K.written out.old) (K.written out.new) (concat (tree_lines tree.now) ++ count_line tree.now)) }
+    ensures prefix { AppendedPrefix
+        (K.written out.old) (K.written out.new) (concat (tree_lines tree.now) ++ count_line tree.now) }
+    ensures failed { IsErrOf result TextStop.WriteFault → Rose (K.faults out.old) (K.faults out.new) }
+    ensures count { K.faults out.old ≤ K.faults out.new }
+{
+    write_tree(alloc, out, tree)?;
+    let line = count_line(alloc, tree)?;
+    write_line(out, line.as_slice())?;
+    Ok(())
+}
+
+/// Writes what is printed of the tree. `TextStop::WriteFault` comes only where the sink's count of
+/// failures rose in this call.
+fn write_printed<K: Sink>(
+    alloc: Global,
+    tree: &Tree,
+    print: Print,
+    out: &mut K,
+) -> Result<(), TextStop>
+    requires { IsValid tree.now }
+    ensures whole { OnOk result (Appended (K.written out.old) (K.written out.new) (printed_bytes print tree.now)) }
+    ensures prefix { AppendedPrefix (K.written out.old) (K.written out.new) (printed_bytes print tree.now) }
+    ensures failed { IsErrOf result TextStop.WriteFault → Rose (K.faults out.old) (K.faults out.new) }
+    ensures count { K.faults out.old ≤ K.faults out.new }
+{
+    match print {
+        Print::Whole => write_check(alloc, tree, out),
+        Print::Dead => write_dead(alloc, tree, out),
+    }
+}
+
+/// Prints this of the tree.
+pub fn print_tree<K: Sink>(alloc: Global, tree: &Tree, print: Print, out: &mut K) -> Exit
+    requires { IsValid tree.now }
+    ensures printed { Printed (print_output print (Ok tree.now)) result
+        (K.written out.old) (K.faults out.old) (K.written out.new) (K.faults out.new) }
+    ensures count { K.faults out.old ≤ K.faults out.new }
+{
+    match write_printed(alloc, tree, print, out) {
+        Ok(()) => Exit::Done,
+        Err(TextStop::WriteFault) => Exit::Write,
+        Err(TextStop::NoMemory) => Exit::Memory,
+    }
+}

@@ -1,0 +1,14 @@
+use Rattle.cli_words.specs.Commands.{command_seen}
+use Rattle.cli_commands.specs.Named.{contents_of}
+use Rattle.cli_commands.proofs.Files.{refusal_answered, unread_answered}
+use Rattle.cli_commands.proofs.command.answer_words.Goals as goal
+
+pub returns-in-Ok-clause-reads : goal.returns-in-Ok-clause-reads
+returns-in-Ok-clause-reads g c =
+    rw (c.answer.ensures.unread, c.in-Some.ensures.command) (refusal_answered g.S.Shelf.read_gives (g.S.Shelf.holds c.args.outside.now.shelf.now) (command_seen c.in-Some.command) _ _ _
+    (contents_of c.in-Ok.files) c.in-Err-answer.refusal _ _ _ _ _ c.in-Ok.ensures.read c.in-Ok.ensures.within c.in-Err-answer.ensures.ends c.write_refusal-in-Err-answer.ensures.refused)
+
+pub returns-clause-reads : goal.returns-clause-reads
+returns-clause-reads g c =
+    rw c.in-Some.ensures.command (unread_answered g.S.Shelf.read_gives (g.S.Shelf.holds c.args.outside.now.shelf.now) (command_seen c.in-Some.command) _ _ _ c.in-Err.refusal _ _ _ _
+    c.in-Err.ensures.unread c.write_refusal-in-Err.ensures.refused)

@@ -1,0 +1,17 @@
+use Rattle.std.proofs.lemmas.Result.{err_from_is_err_and}
+use Rattle.std.specs.Option.{option_copied}
+use Rattle.cli_commands.proofs.Files.{both_mocked, mock_tree_stopped, mock_world_stopped}
+use Rattle.cli_commands.proofs.command.mock_files.Goals as goal
+
+pub returns-in_err-tree-clause-ends : goal.returns-in_err-tree-clause-ends
+returns-in_err-tree-clause-ends g c =
+    let p = err_from_is_err_and c.from_residual.result c.from_residual.ensures.1 in
+    rw (p.1, p.2) (mock_tree_stopped (option_copied c.args.main) c.args.tree.now c.args.world.now c.args.rules.now c.requires.tree c.requires.world c.requires.rules c.in_err-tree.field-0.0 _ c.in_err-tree.ensures.reads)
+
+pub returns-in-Ok-clause-ends : goal.returns-in-Ok-clause-ends
+returns-in-Ok-clause-ends g c =
+    both_mocked (option_copied c.args.main) c.args.tree.now c.args.world.now c.args.rules.now c.requires.tree c.requires.world c.requires.rules _ _ _ _ _ c.in_ok-tree.ensures.reads c.in-Ok.ensures.reads c.run_mocked-ended.ensures.ends
+
+pub returns-in-Err-clause-ends : goal.returns-in-Err-clause-ends
+returns-in-Err-clause-ends g c =
+    rw c.from.ensures (mock_world_stopped (option_copied c.args.main) c.args.tree.now c.args.world.now c.args.rules.now c.requires.tree c.requires.world c.requires.rules _ c.in-Err.stopped _ c.in_ok-tree.ensures.reads c.in-Err.ensures.reads)

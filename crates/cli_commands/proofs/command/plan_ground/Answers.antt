@@ -1,0 +1,17 @@
+use Rattle.std.proofs.lemmas.Result.{err_from_is_err_and}
+use Rattle.cli_commands.proofs.Grounds.{plan_of_text, plan_stopped_at_file, plan_stopped_at_text}
+use Rattle.cli_commands.proofs.command.plan_ground.Goals as goal
+
+pub returns-in_err-ground-clause-ends : goal.returns-in_err-ground-clause-ends
+returns-in_err-ground-clause-ends g c =
+    let p = err_from_is_err_and c.from_residual.result c.from_residual.ensures.1 in
+    rw (p.1, p.2) (plan_stopped_at_file c.args.limits.now c.args.bytes.now c.requires.bytes c.in_err-ground.field-0.0 _ c.in_err-ground.ensures)
+
+pub returns-in_err-world-clause-ends : goal.returns-in_err-world-clause-ends
+returns-in_err-world-clause-ends g c =
+    let p = err_from_is_err_and c.from_residual-in_err-world.result c.from_residual-in_err-world.ensures.1 in
+    rw (p.1, p.2) (plan_stopped_at_text c.args.limits.now c.args.bytes.now c.requires.bytes _ c.in_err-world.field-0.0 _ c.in_ok-ground.ensures c.in_err-world.ensures.reads)
+
+pub returns-clause-ends : goal.returns-clause-ends
+returns-clause-ends g c =
+    plan_of_text c.args.limits.now c.args.bytes.now c.requires.bytes _ _ _ _ _ c.in_ok-ground.ensures c.in_ok-world.ensures.reads c.plan_and_print-ended.ensures.ends

@@ -1,0 +1,55 @@
+//! What follows from the clauses of `bt`, of the same words, with the shelf before and after, the exit, and
+//! what the command finds and leaves.
+
+ghost use Rattle.std.specs.Prelude.{◌≡◌, ◌⊎◌, None, Option};
+ghost use Rattle.spec_program.specs.Answers.{Gave, IsWhole, Side};
+ghost use Rattle.spec_program.specs.declared.exit.Exit.{Exit as Given};
+ghost use Rattle.spec_program.specs.declared.exit.Exit.TheVariants as exit;
+ghost use Rattle.spec_program.specs.Words.{Command};
+ghost use Rattle.cli_commands.specs.Answering.{CommandAnswered};
+ghost use Rattle.spec_program.specs.Answered.{ReadFailed, WordsAnswered};
+ghost use Rattle.spec_program.specs.Reads.{WordsUnread};
+ghost use Rattle.spec_outside.specs.Counts.{Rose};
+ghost use Rattle.spec_program.specs.Headline.{EachOutput};
+ghost use Rattle.cli_program.specs.LawWords.{IsNotLive, UnreadLine};
+ghost use Rattle.spec_program.specs.Refused.{words_refused};
+
+use base_outside::Shelf;
+
+/// By `reads`, also where the shelf or the clock tells nothing: the output of some bytes of the files and
+/// of some moments was given, or a read failed. It follows: at Words the words are no command, and those
+/// that are none have their refusal; no command but a run by the clock asks the clock; at Read the read
+/// of a file failed, and its line was written; at Write the sink's count of failures rose.
+pub fn words_are_answered<S: Shelf>(before: &S, after: &S)
+    ensures any_shelf { (command : Option Command) (result : Given) (old new : Side) →
+        WordsAnswered S.read_gives (S.holds before.now) command (Rose (S.faults before.now) (S.faults after.now)) before.now after.now result old new
+        → CommandAnswered command (S.holds before.now) (Rose (S.faults before.now) (S.faults after.now))
+        (WordsUnread S.read_gives (S.holds before.now) command before.now after.now) result old new }
+    ensures words { (command : Option Command) (result : Given) (old new : Side) →
+        WordsAnswered S.read_gives (S.holds before.now) command (Rose (S.faults before.now) (S.faults after.now)) before.now after.now result old new
+        → result ≡ exit.Words → command ≡ None }
+    ensures no_command { (command : Option Command) (result : Given) (old new : Side) →
+        WordsAnswered S.read_gives (S.holds before.now) command (Rose (S.faults before.now) (S.faults after.now)) before.now after.now result old new
+        → command ≡ None → Gave words_refused result old new }
+    ensures unasked { (command : Option Command) (result : Given) (old new : Side) →
+        WordsAnswered S.read_gives (S.holds before.now) command (Rose (S.faults before.now) (S.faults after.now)) before.now after.now result old new
+        → IsNotLive command → new.clock ≡ old.clock }
+    ensures read { (command : Option Command) (result : Given) (old new : Side) →
+        WordsAnswered S.read_gives (S.holds before.now) command (Rose (S.faults before.now) (S.faults after.now)) before.now after.now result old new
+        → result ≡ exit.Read → Rose (S.faults before.now) (S.faults after.now)
+        × UnreadLine (WordsUnread S.read_gives (S.holds before.now) command before.now after.now) old new }
+    ensures write { (command : Option Command) (result : Given) (old new : Side) →
+        WordsAnswered S.read_gives (S.holds before.now) command (Rose (S.faults before.now) (S.faults after.now)) before.now after.now result old new
+        → result ≡ exit.Write → Rose old.faults new.faults }
+{}
+
+/// By `each`: where no count of failures rose, the whole output was written, or memory ran out.
+pub fn outputs_are_complete<S: Shelf>(before: &S, after: &S)
+    ensures complete { (command : Option Command) (result : Given) (old new : Side) →
+        EachOutput (S.holds before.now) command old (λ o. Gave o result old new
+        ⊎ ReadFailed (Rose (S.faults before.now) (S.faults after.now))
+        (WordsUnread S.read_gives (S.holds before.now) command before.now after.now) result old new)
+        → EachOutput (S.holds before.now) command old (λ o.
+        ¬ Rose (S.faults before.now) (S.faults after.now) → ¬ Rose old.faults new.faults
+        → (result ≡ exit.Memory) ⊎ IsWhole o result old new) }
+{}

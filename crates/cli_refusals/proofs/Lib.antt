@@ -1,0 +1,2 @@
+pub mod AboutLent
+pub mod Ends

@@ -1,0 +1,4 @@
+pub mod Ends
+pub mod Lent
+pub mod Printing
+pub mod Refusing

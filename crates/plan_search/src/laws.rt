@@ -1,0 +1,42 @@
+ghost use Rattle.std.specs.Prelude.{◌≡◌, List};
+ghost use Rattle.spec_world.specs.declared.world.World.{World};
+ghost use Rattle.spec_run.specs.Drivers.{DriverState};
+ghost use Rattle.spec_output.specs.Lines.{LineNames};
+ghost use Rattle.spec_world.specs.Worlds.{IsValidWorld};
+ghost use Rattle.spec_output.specs.Cuts.{HaveBegunWithin};
+ghost use Rattle.spec_plan.specs.declared.ending.Limits.{Limits};
+ghost use Rattle.spec_plan.specs.declared.ending.PlanEnd.{PlanEnd};
+ghost use Rattle.spec_plan.specs.PlanAnswers.{IsPlan, IsPlanCut};
+ghost use Rattle.spec_plan.specs.PlanLines.{end_line};
+ghost use Rattle.plan_search.specs.Reached.{IsReached};
+ghost use Rattle.spec_plan.specs.PlanRuns.{PlanRun, Trial};
+
+/// Where a plan run ends at the goals, its tree makes every goal true after the tick that it names,
+/// and not all of them after any earlier one.
+pub fn plans_reach()
+    ensures { (world : World) (limits : Limits) (planned : PlanEnd) (trials : List Trial) (last : Trial) →
+        PlanRun world limits planned trials last → IsReached world limits planned.end }
+{}
+
+/// All plan runs of a world with these limits are one: they have the same steps, the same tree and
+/// the same end, and leave the drivers alike.
+pub fn plans_run_one_way()
+    ensures { (world : World) (limits : Limits) (before : List DriverState) → IsValidWorld world →
+        (after other : List DriverState) (planned again : PlanEnd) →
+        IsPlan world limits before after planned → IsPlan world limits before other again → (planned ≡ again) × (after ≡ other) }
+{}
+
+/// What was begun of a plan before memory ran out is within what the plan begins: no driver was asked
+/// to start and to go on more often than by the whole plan.
+pub fn plan_cuts_begin_within()
+    ensures { (world : World) (limits : Limits) (before now after : List DriverState) (planned : PlanEnd) → IsValidWorld world →
+        IsPlanCut world limits before now → IsPlan world limits before after planned → HaveBegunWithin before now after }
+{}
+
+/// No cause of a plan's fault has a name in it: the line of the end is the same by whatever names it
+/// is told. Planned trees have no scripts, and the rows of their leaves have no input ports.
+pub fn causes_of_plans_have_no_names()
+    ensures { (world : World) (limits : Limits) (planned : PlanEnd) (trials : List Trial) (last : Trial) (names other : LineNames) →
+        IsValidWorld world → PlanRun world limits planned trials last →
+        end_line names planned.end ≡ end_line other planned.end }
+{}

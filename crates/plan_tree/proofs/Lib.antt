@@ -1,0 +1,16 @@
+pub mod AboutDomain
+pub mod Counted
+pub mod Expands
+pub mod Expansions
+pub mod Indexed
+pub mod NewNodes
+pub mod Places
+pub mod Regrown
+pub mod Rooted
+pub mod RowTexts
+pub mod Searched
+pub mod Split
+pub mod Standing
+pub mod Valid
+pub mod Walked
+pub mod Words

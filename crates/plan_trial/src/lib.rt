@@ -1,0 +1,12 @@
+//! The run of a tree in the modelled world, and what decides it.
+#![tactic(auto)]
+
+mod copying;
+mod goals;
+mod task;
+mod ticking;
+mod trying;
+
+pub use copying::modelled;
+pub use task::{Task, task_of};
+pub use trying::{Tried, run_tree};

@@ -1,0 +1,14 @@
+pub mod Blocks
+pub mod Ends
+pub mod Joining
+pub mod Laying
+pub mod Made
+pub mod Nodes
+pub mod Noted
+pub mod Resolving
+pub mod Rosters
+pub mod Rows
+pub mod Scenes
+pub mod Sources
+pub mod Stages
+pub mod Stands

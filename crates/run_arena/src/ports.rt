@@ -1,0 +1,86 @@
+ghost use Rattle.std.specs.Prelude.{◌≡◌, length, map, IfOk};
+ghost use Rattle.std.specs.List.{All};
+ghost use Rattle.spec_tree.specs.BuiltIns.{ports_of as rules_of};
+ghost use Rattle.spec_tree.specs.Boards.{slots as cells};
+ghost use Rattle.run_arena.specs.Resolving.{AreNamed, port_keys, view_in};
+ghost use Rattle.run_arena.specs.Sources.{IsSourceOf, source_at as source_in};
+
+use crate::resolving::{Setting, source_at};
+use crate::source::Source;
+use base_tables::{PortRule, ports_of};
+use base_texts::{Name, NoMemory};
+use spec_tree::{Kind, Port};
+use spec_world::Out;
+
+/// What the ports of these rules are given, in order, or want of memory.
+fn rule_sources(
+    rules: &[PortRule],
+    ports: &[Port],
+    setting: &Setting,
+    scope: u32,
+) -> Result<Vec<Source>, NoMemory>
+    requires { AreNamed setting.now.tree.now scope (port_keys ports.now) }
+    ensures sources { IfOk result (λ sources. sources.items ≡
+        map (λ port. source_in (view_in setting.now.tree.now setting.now.world.now scope) ports.now port.name.now) rules.now) }
+    ensures slots { IfOk result (λ sources. All (IsSourceOf (length (cells setting.now.tree.now))) sources.items) }
+{
+    let mut sources = Vec::new(setting.alloc);
+    for rule in rules {
+        sources.push(source_at(ports, rule.name.as_bytes(), setting, scope)?)?;
+    }
+    Ok(sources)
+}
+
+/// What the ports of a built-in node are given, in the order of its kind's ports, or want of
+/// memory.
+pub(crate) fn kind_sources(
+    kind: Kind,
+    ports: &[Port],
+    setting: &Setting,
+    scope: u32,
+) -> Result<Vec<Source>, NoMemory>
+    requires { AreNamed setting.now.tree.now scope (port_keys ports.now) }
+    ensures sources { IfOk result (λ sources. sources.items ≡
+        map (λ port. source_in (view_in setting.now.tree.now setting.now.world.now scope) ports.now port.name) (rules_of kind)) }
+    ensures slots { IfOk result (λ sources. All (IsSourceOf (length (cells setting.now.tree.now))) sources.items) }
+{
+    rule_sources(ports_of(kind), ports, setting, scope)
+}
+
+/// What the ports of these names are given, in order, or want of memory.
+pub(crate) fn input_sources(
+    names: &[Name],
+    ports: &[Port],
+    setting: &Setting,
+    scope: u32,
+) -> Result<Vec<Source>, NoMemory>
+    requires { AreNamed setting.now.tree.now scope (port_keys ports.now) }
+    ensures sources { IfOk result (λ sources. sources.items ≡
+        map (λ name. source_in (view_in setting.now.tree.now setting.now.world.now scope) ports.now name) names.now) }
+    ensures slots { IfOk result (λ sources. All (IsSourceOf (length (cells setting.now.tree.now))) sources.items) }
+{
+    let mut sources = Vec::new(setting.alloc);
+    for name in names {
+        sources.push(source_at(ports, name.list(), setting, scope)?)?;
+    }
+    Ok(sources)
+}
+
+/// What the ports of these outputs are given, in order, or want of memory.
+pub(crate) fn output_sources(
+    outs: &[Out],
+    ports: &[Port],
+    setting: &Setting,
+    scope: u32,
+) -> Result<Vec<Source>, NoMemory>
+    requires { AreNamed setting.now.tree.now scope (port_keys ports.now) }
+    ensures sources { IfOk result (λ sources. sources.items ≡
+        map (λ out. source_in (view_in setting.now.tree.now setting.now.world.now scope) ports.now out.port) outs.now) }
+    ensures slots { IfOk result (λ sources. All (IsSourceOf (length (cells setting.now.tree.now))) sources.items) }
+{
+    let mut sources = Vec::new(setting.alloc);
+    for out in outs {
+        sources.push(source_at(ports, out.port.list(), setting, scope)?)?;
+    }
+    Ok(sources)
+}

@@ -1,0 +1,139 @@
+ghost use Rattle.std.specs.Prelude.{◌≡◌, ◌≤◌, ℕ, List, if◌then◌else◌, length, slice_get, Some, None, IfOk, OnOk};
+ghost use Rattle.std.specs.Option.{option_copied, option_or};
+ghost use Rattle.std.specs.Str.{bytes_eq};
+ghost use Rattle.indexmap.specs.IndexMap.{get};
+ghost use Rattle.std.specs.List.{All};
+ghost use Rattle.spec_world.specs.Worlds.{IsValidWorld};
+ghost use Rattle.run_driver.specs.Places.{CanBeReady};
+ghost use Rattle.run_arena.specs.Rows.{AreReady, Finds};
+
+use base_texts::{Items, Name, NoMemory, Shared};
+use indexmap::IndexMap;
+use run_driver::{ReadyRow, ready};
+use spec_world::{Fact, Row, World};
+use std::alloc::Global;
+use std::marker::Model;
+
+/// What stands at a number, where there are so many.
+fn at<T>(items: &[T], number: u32) -> Option<&T>
+    ensures { option_copied result ≡ slice_get items.now number }
+{
+    items.get(number as usize)
+}
+
+/// A row of a world, and what is ready of it.
+#[derive(Clone, Copy)]
+pub(crate) struct FoundRow<'a> {
+    pub row: &'a Row,
+    pub ready: &'a Shared<ReadyRow>,
+}
+
+/// A world with the numbers of its rows by their IDs, and with its rows made ready. Made once, it serves all
+/// arenas of that world, whose leaves share what is ready. Contracts see the world.
+#[derive(Debug, Drop)]
+pub struct IndexedWorld<'a> {
+    world: &'a World,
+    numbers: IndexMap<Name, u32>,
+    ready: Items<Shared<ReadyRow>>,
+}
+
+impl<'a> Model for IndexedWorld<'a> {
+    ghost use Rattle.std.specs.Str.{bytes_eq};
+    ghost use Rattle.indexmap.specs.IndexMap.{get};
+    ghost use Rattle.spec_world.specs.declared.world.World.{World as Whole};
+    ghost use Rattle.run_arena.specs.Rows.{AreReady, Finds};
+    ghost use Rattle.spec_script.specs.contracts.syntax.Expr as expr;
+    ghost use Rattle.std.specs.Coded.{codes};
+
+    ghost Value = { Whole };
+
+    ghost coded = { Prim.hlevel (codes, expr.the_row.coded) };
+
+    ghost view = { λ it. it.world.now };
+
+    ghost invariant = { λ it. Finds it.world.now.rows (get bytes_eq it.numbers) × AreReady it.world.now.facts it.world.now.rows it.ready };
+}
+
+impl<'a> IndexedWorld<'a> {
+    ghost use Rattle.std.specs.Prelude.{◌≡◌, None, Some, MatchOption};
+    ghost use Rattle.spec_run.specs.Leaves.{row_of};
+    ghost use Rattle.run_arena.specs.Rows.{IsReadyRow};
+
+    /// Lends the world.
+    pub fn world(&self) -> &World
+        ensures { result.now ≡ self.now }
+    {
+        self.world
+    }
+
+    /// The row of an ID, with what is ready of it; none where there is no such row.
+    pub(crate) fn find(&self, id: &Name) -> Option<FoundRow>
+        ensures { MatchOption result (row_of self.now.rows id.now ≡ None) (λ found.
+            (row_of self.now.rows id.now ≡ Some found.row.now) × IsReadyRow self.now.facts found.row.now found.ready.now) }
+    {
+        let number = *self.numbers.get(id)?;
+        let row = at(self.world.rows.list(), number)?;
+        let ready = at(self.ready.list(), number)?;
+        Some(FoundRow { row, ready })
+    }
+}
+
+/// Adds the number of a row at its ID, where no earlier row has that ID. The error is want of
+/// memory.
+fn add_row(
+    alloc: Global,
+    row: &Row,
+    number: u32,
+    index: &mut IndexMap<Name, u32>,
+) -> Result<(), NoMemory>
+    ensures { OnOk result ((id : List ℕ) →
+        get bytes_eq index.new id ≡ option_or (get bytes_eq index.old id) (if bytes_eq row.now.id id then Some number else None)) }
+{
+    if !index.contains_key(&row.id) {
+        index.insert(row.id.copy(alloc)?, number)?;
+    }
+    Ok(())
+}
+
+/// The numbers of rows by their IDs, or want of memory. Of several rows of one ID the first counts.
+fn index_of(alloc: Global, rows: &[Row]) -> Result<IndexMap<Name, u32>, NoMemory>
+    requires { length rows.now ≤ 1024 }
+    ensures { IfOk result (λ index. Finds rows.now (get bytes_eq index)) }
+{
+    let mut index = IndexMap::with_capacity(alloc, rows.len())?;
+    let mut number = 0u32;
+    for row in rows {
+        add_row(alloc, row, number, &mut index)?;
+        number += 1;
+    }
+    Ok(index)
+}
+
+/// What is ready of rows over these facts, one for each, or want of memory.
+fn ready_rows(
+    alloc: Global,
+    rows: &[Row],
+    facts: &[Fact],
+) -> Result<Items<Shared<ReadyRow>>, NoMemory>
+    requires { All (CanBeReady facts.now) rows.now }
+    ensures { IfOk result (λ all. AreReady facts.now rows.now all) }
+{
+    let mut all = Vec::with_capacity(alloc, rows.len())?;
+    for row in rows {
+        all.push(Shared::of(alloc, ready(alloc, row, facts)?)?)?;
+    }
+    Ok(Items::of(all))
+}
+
+/// A world, made ready for the arenas that are made for it. The error is want of memory.
+pub fn index_world(alloc: Global, world: &World) -> Result<IndexedWorld, NoMemory>
+    requires { IsValidWorld world.now }
+    ensures { IfOk result (λ indexed. indexed ≡ world.now) }
+{
+    let rows = world.rows.list();
+    Ok(IndexedWorld {
+        world,
+        numbers: index_of(alloc, rows)?,
+        ready: ready_rows(alloc, rows, world.facts.list())?,
+    })
+}

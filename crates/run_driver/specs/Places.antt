@@ -1,0 +1,33 @@
+-- The names that a row's expressions look at, with their places, and what must hold of the row.
+use Rattle.std.specs.Prelude.{ℕ, ◌<◌, ◌≤◌, List, length, map, IfSome}
+use Rattle.std.specs.List.{All}
+use Rattle.spec_world.specs.declared.world.Fact.{Fact}
+use Rattle.spec_world.specs.declared.world.Out.{Out}
+use Rattle.spec_world.specs.declared.world.Row.{Row}
+use Rattle.spec_world.specs.declared.world.Set.{Set}
+use Rattle.spec_world.specs.Worlds.{IsExprOver, names_of_facts}
+use Rattle.spec_world.specs.declared.world.RowSort.{RowSort}
+use Rattle.spec_world.specs.declared.world.RowSort.TheVariants as sort
+
+-- these names with their places
+abbrev pub with_places : (List ℕ → ℕ) → List (List ℕ) → List (List ℕ × ℕ)
+with_places place names = map {B = List ℕ × ℕ} (λ (name : List ℕ). (name, place name)) names
+
+-- ---- Rows that can be made ready
+
+-- how a row answers: by expressions over its ports and the facts, or by the number of a fact
+abbrev pub IsSortOver : List (List ℕ) → List Fact → RowSort → Type 0
+IsSortOver ports facts (sort.Is fact op value) = fact < length facts
+IsSortOver ports facts (sort.When test) = IsExprOver ports (names_of_facts facts) test
+IsSortOver ports facts (sort.Timed ms fails) = IfSome fails (IsExprOver ports (names_of_facts facts))
+IsSortOver ports facts (sort.Replay ms outcomes) = Unit {0}
+IsSortOver ports facts (sort.Gate test) = IsExprOver ports (names_of_facts facts) test
+
+-- what must hold of a row that is made ready; it holds of each valid row of a world with these facts
+pub record CanBeReady (facts : List Fact) (row : Row) : Type 0 where
+  pub few_facts : length facts ≤ 1024
+  pub few_ports : length row.ports ≤ 8
+  pub sort : IsSortOver row.ports facts row.sort
+  pub effects : All (λ (set : Set). set.fact < length facts) row.sets
+  pub few_outs : length row.outs ≤ 8
+  pub outputs : All (λ (out : Out). IsExprOver row.ports (names_of_facts facts) out.expr) row.outs

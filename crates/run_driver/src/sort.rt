@@ -1,0 +1,18 @@
+use crate::expression::ReadyExpr;
+use base_texts::Items;
+use spec_script::Cmp;
+
+/// How a row answers, its expressions made ready.
+#[derive(Debug, Drop)]
+pub enum ReadySort {
+    /// A condition that compares the fact of this number.
+    Is { fact: u32, op: Cmp, value: i64 },
+    /// A condition that is true where the expression is not 0.
+    When(ReadyExpr),
+    /// An action that lasts `ms` milliseconds, and then fails where `fails` is not 0.
+    Timed { ms: u64, fails: Option<ReadyExpr> },
+    /// An action that lasts `ms` milliseconds, and then succeeds or fails by the next outcome.
+    Replay { ms: u64, outcomes: Items<bool> },
+    /// An action that is held until the expression is not 0.
+    Gate(ReadyExpr),
+}

@@ -1,0 +1,104 @@
+ghost use Rattle.std.specs.Prelude.{◌≡◌, ◌≤◌, length};
+ghost use Rattle.spec_run.specs.declared.leaf.DriverKind.TheVariants as driver;
+
+use crate::instances::{began, held, released};
+use crate::ledger::Ledger;
+use base_texts::NoMemory;
+use run_driver::{Call, Driver, FactTable, Outs, ReadySort};
+use spec_run::{DriverKind, Instance, Reply, Totals};
+use std::alloc::Global;
+
+/// Answers the `timed` rows: actions that last a time, and may then fail.
+#[derive(Debug, Drop)]
+pub struct Timed {
+    ledger: Ledger,
+    ghost kind: { ledger.kind ≡ driver.Timed },
+}
+
+impl Timed {
+    ghost use Rattle.base_tables.specs.DriverCalls.{kind_of_way};
+    ghost use Rattle.spec_run.specs.Drivers.{new_driver};
+    ghost use Rattle.base_tables.specs.Outputs.{outputs_after};
+    ghost use Rattle.run_driver.specs.Rules.{rule};
+    ghost use Rattle.run_leaves.specs.Answers.{answer_since};
+
+    /// A driver without instances that was not called yet; its mark is 0. It allocates no memory.
+    pub fn new(alloc: Global) -> Timed
+        ensures { result.ledger ≡ new_driver driver.Timed }
+    {
+        Timed {
+            ledger: Ledger::new(alloc, DriverKind::Timed),
+        }
+    }
+
+    /// The reply to a call of a leaf that began at `since`, and the instance that is left. Times are
+    /// in milliseconds.
+    #[inline(always)]
+    fn answer(
+        call: &Call,
+        since: u64,
+        before: Instance,
+        facts: &mut FactTable,
+        outs: &mut Outs,
+    ) -> (Reply, Instance)
+        requires since { since ≤ call.now.moment }
+        requires kind { kind_of_way (rule call.now.row.now).way ≡ driver.Timed }
+        requires table { length facts.old ≡ call.now.row.now.facts }
+        ensures reply { result.0 ≡ (answer_since call.now since before facts.old).reply }
+        ensures instance { result.1 ≡ (answer_since call.now since before facts.old).instance }
+        ensures facts { facts.new ≡ (answer_since call.now since before facts.old).facts }
+        ensures outs { outs.new ≡ outputs_after (answer_since call.now since before facts.old) outs.old }
+    {
+        let ReadySort::Timed { ms, fails } = &call.row.sort else {
+            unreachable!()
+        };
+        if call.moment - since < *ms {
+            return (Reply::Running, held(since, before));
+        }
+        match fails {
+            None => call
+                .row
+                .complete(before, released(before), call.inputs, facts, outs),
+            Some(test) => match test.is_true(call.inputs, facts) {
+                Ok(true) => (Reply::Failure, released(before)),
+                Ok(false) => call
+                    .row
+                    .complete(before, released(before), call.inputs, facts, outs),
+                Err(cause) => (Reply::Broken(cause), before),
+            },
+        }
+    }
+}
+
+impl Driver for Timed {
+    ghost state = { λ d. d.ledger };
+
+    fn kind(&self) -> DriverKind {
+        self.ledger.kind()
+    }
+
+    fn totals(&self) -> Totals {
+        self.ledger.totals()
+    }
+
+    fn held(&self) -> u32 {
+        self.ledger.held()
+    }
+
+    fn prepare(&mut self, count: u32) -> Result<(), NoMemory> {
+        self.ledger.prepare(count)
+    }
+
+    fn call(&mut self, call: &Call, facts: &mut FactTable, outs: &mut Outs) -> Reply {
+        let before = self.ledger.instance(call.instance);
+        let since = began(call, before);
+        let (reply, left) = Self::answer(call, since, before, facts, outs);
+        self.ledger
+            .record_call(call.phase.asked(), call.instance, left);
+        reply
+    }
+
+    fn halted(&mut self, instance: u32) {
+        self.ledger.halted(instance)
+    }
+}

@@ -1,0 +1,3 @@
+pub mod DriverTables
+pub mod Prefixes
+pub mod RunningLeaves

@@ -1,0 +1,78 @@
+-- What telling a group of facts leaves, of the facts that changed and of what was told.
+use Rattle.std.proofs.Common.{◌≡◌, ℕ, ℤ, zero, suc, ◌+◌, ◌-◌, ◌≤◌, List, [], ◌∷◌, ◌++◌, Bool, true, false, length, take, drop, refl, sym, ap, ◌∙◌, arith}
+use Rattle.std.specs.Prelude.{if◌then◌else◌}
+use Rattle.std.specs.Ordering.{int_eq}
+use Rattle.std.proofs.Math.Seq.{drop_at, take-add, take_at}
+use Rattle.std.proofs.lemmas.Bool.Decides.{Decides-int_eq}
+use Rattle.std.proofs.lemmas.List.{append-nil, append_assoc, drop-drop, drop_all, length-drop, length-take-le, take-append-drop, take_all, take_rest}
+use Rattle.spec_run.specs.Run.{changed_from}
+
+-- ---- The facts that changed
+
+pub none_changed : (first : ℕ) (facts : List ℤ) → changed_from first facts facts ≡ []
+none_changed first [] = refl
+none_changed first (f ∷ facts) =
+    ap (λ alike. if alike then changed_from (first + 1) facts facts else (first, f) ∷ changed_from (first + 1) facts facts) ((Decides-int_eq f f).1 refl)
+    ∙ none_changed (first + 1) facts
+
+added : (b : Bool) (e : ℕ × ℤ) (xs ys zs : List (ℕ × ℤ)) → xs ≡ ys ++ zs → (if b then xs else e ∷ xs) ≡ (if b then ys else e ∷ ys) ++ zs
+added true e xs ys zs same = same
+added false e xs ys zs same = ap (λ changes. e ∷ changes) same
+
+of_no_facts : (first : ℕ) (olds : List ℤ) → changed_from first olds [] ≡ []
+of_no_facts first [] = refl
+of_no_facts first (o ∷ olds) = refl
+
+changed_parts : (first n : ℕ) (olds news : List ℤ) →
+    changed_from first olds news ≡ changed_from first (take n olds) (take n news) ++ changed_from (first + n) (drop n olds) (drop n news)
+changed_parts first zero olds news = let same : first ≡ first + 0 = omega arith in ap (λ k. changed_from k olds news) same
+changed_parts first (suc n) [] news = refl
+changed_parts first (suc n) (o ∷ olds) [] = sym (of_no_facts (first + suc n) (drop n olds))
+changed_parts first (suc n) (o ∷ olds) (m ∷ news) =
+    let same : first + 1 + n ≡ first + suc n = omega arith in
+    added (int_eq o m) (first, m) _ _ _
+    (changed_parts (first + 1) n olds news
+    ∙ ap (λ k. changed_from (first + 1) (take n olds) (take n news) ++ changed_from k (drop n olds) (drop n news)) same)
+
+-- ---- A group, where the facts before it are told
+
+module _ (olds news now : List ℤ) (k : ℕ) (within : k ≤ length news) (so_far : now ≡ take k news ++ drop k olds) where
+  told_before : take k now ≡ take k news
+  told_before = ap (take k) so_far ∙ take_at (take k news) (drop k olds) k (length-take-le k news within)
+
+  told_rest : drop k now ≡ drop k olds
+  told_rest = ap (drop k) so_far ∙ drop_at (take k news) (drop k olds) k (length-take-le k news within)
+
+  module _ (n end : ℕ) (is_end : end ≡ k + n) where
+    -- what differs after the group
+    pub group_changes : (before after whole : List (ℕ × ℤ)) → before ++ changed_from k (drop k olds) (drop k news) ≡ whole →
+        after ≡ before ++ changed_from k (take n (drop k now)) (take n (drop k news)) → after ++ changed_from end (drop end olds) (drop end news) ≡ whole
+    group_changes before after whole all more =
+        ap (λ j. after ++ changed_from j (drop j olds) (drop j news)) is_end
+        ∙ (λ i. (more ∙ ap (λ xs. before ++ changed_from k (take n xs) (take n (drop k news))) told_rest) i
+        ++ changed_from (k + n) (sym (drop-drop n k olds) i) (sym (drop-drop n k news) i))
+        ∙ append_assoc before _ _
+        ∙ ap (λ xs. before ++ xs) (sym (changed_parts k n (drop k olds) (drop k news)))
+        ∙ all
+
+    pub group_told : (new : List ℤ) → new ≡ take n (drop k news) → take k now ++ (new ++ drop n (drop k now)) ≡ take end news ++ drop end olds
+    group_told new told =
+        (λ i. told_before i ++ (told i ++ drop n (told_rest i)))
+        ∙ sym (append_assoc (take k news) _ _)
+        ∙ (λ i. sym (take-add k n news) i ++ drop-drop n k olds i)
+        ∙ ap (λ j. take j news ++ drop j olds) (sym is_end)
+
+  -- the facts after the last group
+  module _ (n : ℕ) (is_rest : n ≡ length now - k) where
+    rest_is : take n (drop k now) ≡ drop k olds
+    rest_is = take_all n (drop k now) (omega (arith, is_rest, length-drop k now)) ∙ told_rest
+
+    pub rest_changes : (before after whole : List (ℕ × ℤ)) → before ++ changed_from k (drop k olds) (drop k news) ≡ whole →
+        after ≡ before ++ changed_from k (take n (drop k now)) (take (length news - k) (drop k news)) → after ≡ whole
+    rest_changes before after whole all more = more ∙ (λ i. before ++ changed_from k (rest_is i) (take_rest news k i)) ∙ all
+
+    pub rest_told : (new : List ℤ) → new ≡ take (length news - k) (drop k news) → take k now ++ (new ++ drop n (drop k now)) ≡ news
+    rest_told new told =
+        (λ i. told_before i ++ ((told ∙ take_rest news k) i ++ drop_all n (drop k now) (omega (arith, is_rest, length-drop k now)) i))
+        ∙ ap (λ xs. take k news ++ xs) (append-nil (drop k news))
+        ∙ take-append-drop k news

@@ -1,0 +1,21 @@
+//! The runs of a tree in a world: one to sixteen runners, each with its arena and its blackboard, over one table of facts
+//! and one roster of drivers; and laws of what is held at every moment.
+#![tactic(auto)]
+
+mod boxed;
+mod counts;
+mod events;
+pub mod held;
+pub mod laws;
+mod making;
+mod openings;
+mod parts;
+mod quenching;
+mod runs;
+mod telling;
+
+pub use boxed::Roster;
+pub use counts::leaves;
+pub use events::{event, finish, run_event, run_finish};
+pub use making::{make_planned_runs, make_runs, runs_of};
+pub use runs::{ReadyRunner, Runs, usable};

@@ -1,0 +1,173 @@
+ghost use Rattle.std.specs.Prelude.{◌≡◌, ◌≤◌, List, IfOk, None, length};
+ghost use Rattle.spec_tree.specs.declared.term.Tree.{Tree as Modelled};
+ghost use Rattle.base_tables.specs.SlotTables.{slot_table};
+ghost use Rattle.spec_run.specs.Drivers.{DriverState};
+ghost use Rattle.spec_tree.specs.Terms.{leaf_ids};
+ghost use Rattle.base_tables.specs.Runnable.{IsRunnable};
+ghost use Rattle.spec_world.specs.Worlds.{IsValidWorld};
+ghost use Rattle.run_arena.specs.Joining.{Joins};
+ghost use Rattle.spec_run.specs.Joins.{first_missing};
+ghost use Rattle.run_loop.specs.Opening.{AreOpening, AreOpeningRuns, IsOpening};
+ghost use Rattle.run_loop.specs.Runs.{boards_in};
+ghost use Rattle.run_loop.specs.Telling.{boards_told};
+
+use crate::runs::{ReadyRunner, Runs, Told};
+use base_texts::{NoMemory, Stop};
+use run_arena::{IndexedWorld, arena_of, first_arena_of};
+use run_driver::{Drivers, FactTable, facts_of};
+use spec_run::JoinFault;
+use spec_script::Value;
+use spec_tree::Tree;
+use spec_world::World;
+use std::alloc::Global;
+use tree_board::{Slots, board_of};
+
+/// A copy of an entry of a blackboard, or want of memory.
+fn copy_entry(alloc: Global, entry: &Option<Value>) -> Result<Option<Value>, NoMemory>
+    ensures { IfOk result (λ copied. copied ≡ entry.now) }
+{
+    match entry {
+        Some(value) => Ok(Some(value.copy(alloc)?)),
+        None => Ok(None),
+    }
+}
+
+/// Copies of these entries, by slot, or want of memory.
+fn copy_entries(alloc: Global, entries: &[Option<Value>]) -> Result<Vec<Option<Value>>, NoMemory>
+    ensures { IfOk result (λ copied. copied.items ≡ entries.now) }
+{
+    let mut copied = Vec::new(alloc);
+    for entry in entries {
+        copied.push(copy_entry(alloc, entry)?)?;
+    }
+    Ok(copied)
+}
+
+/// Copies of the entries of each runner's blackboard, or want of memory.
+fn entries_of(alloc: Global, runners: &[ReadyRunner]) -> Result<Vec<Vec<Option<Value>>>, NoMemory>
+    ensures { IfOk result (λ boards. boards_told boards.items ≡ boards_in runners.now) }
+{
+    let mut boards = Vec::new(alloc);
+    for runner in runners {
+        boards.push(copy_entries(alloc, runner.board.list())?)?;
+    }
+    Ok(boards)
+}
+
+/// What counts as told before the first block: all facts and entries, since a block tells what has
+/// changed. The error is want of memory.
+fn told_of(alloc: Global, facts: &FactTable, runners: &[ReadyRunner]) -> Result<Told, NoMemory>
+    ensures facts { IfOk result (λ told. told.facts.items ≡ facts.now) }
+    ensures boards { IfOk result (λ told. boards_told told.boards.items ≡ boards_in runners.now) }
+{
+    Ok(Told {
+        facts: facts.list().to_vec(alloc)?,
+        boards: entries_of(alloc, runners)?,
+    })
+}
+
+/// The runner of this number before the first event. The fault is what is missing for the first
+/// leaf for which something is missing.
+fn runner_of<D: Drivers>(
+    alloc: Global,
+    tree: &Tree,
+    slots: &Slots,
+    world: &IndexedWorld,
+    drivers: &D,
+    number: u8,
+) -> Result<ReadyRunner, Stop<JoinFault>>
+    requires tree { IsRunnable tree.now }
+    requires slots { slots.now ≡ slot_table tree.now }
+    requires world { IsValidWorld world.now }
+    requires first { 1 ≤ number }
+    requires last { number ≤ world.now.runners }
+    ensures fault { Joins result (first_missing world.now.rows (D.states drivers.now) (leaf_ids tree.now.term)) }
+    ensures runner { IfOk result (λ runner. IsOpening tree.now world.now (D.states drivers.now) number runner) }
+{
+    let arena = arena_of(alloc, tree, slots, world, drivers, number)?;
+    let board = board_of(alloc, tree, slots)?;
+    Ok(ReadyRunner { arena, board })
+}
+
+/// The runners of a world before the first event. The fault is what is missing for the first leaf
+/// for which something is missing.
+fn runners_of<D: Drivers>(
+    alloc: Global,
+    tree: &Tree,
+    slots: &Slots,
+    world: &IndexedWorld,
+    drivers: &D,
+) -> Result<Vec<ReadyRunner>, Stop<JoinFault>>
+    requires tree { IsRunnable tree.now }
+    requires slots { slots.now ≡ slot_table tree.now }
+    requires world { IsValidWorld world.now }
+    ensures fault { Joins result (first_missing world.now.rows (D.states drivers.now) (leaf_ids tree.now.term)) }
+    ensures many { IfOk result (λ runners. length runners.items ≡ world.now.runners) }
+    ensures runners { IfOk result (λ runners. AreOpening tree.now world.now (D.states drivers.now) runners.items) }
+{
+    let mut runners = Vec::new(alloc);
+    for before in 0..world.world().runners {
+        let runner = runner_of(alloc, tree, slots, world, drivers, before + 1)?;
+        runners.push(runner)?;
+    }
+    Ok(runners)
+}
+
+/// The runs of all runners of a world before the first event, or want of memory.
+fn runs_with(alloc: Global, world: &World, runners: Vec<ReadyRunner>) -> Result<Runs, NoMemory>
+    requires { length runners.items ≡ world.now.runners }
+    ensures { (tree : Modelled) (drivers : List DriverState) → AreOpening tree world.now drivers runners.items →
+        IfOk result (AreOpeningRuns tree world.now drivers) }
+{
+    let facts = facts_of(alloc, world)?;
+    let told = told_of(alloc, &facts, runners.as_slice())?;
+    Ok(Runs {
+        runners,
+        facts,
+        told,
+        last: 0,
+        usable: true,
+    })
+}
+
+/// The runs of a tree in a world before the first event, for drivers that are still to be prepared.
+/// The fault is what is missing for the first leaf for which something is missing.
+pub fn opening_runs<D: Drivers>(
+    alloc: Global,
+    tree: &Tree,
+    slots: &Slots,
+    world: &IndexedWorld,
+    drivers: &D,
+) -> Result<Runs, Stop<JoinFault>>
+    requires tree { IsRunnable tree.now }
+    requires slots { slots.now ≡ slot_table tree.now }
+    requires world { IsValidWorld world.now }
+    ensures fault { Joins result (first_missing world.now.rows (D.states drivers.now) (leaf_ids tree.now.term)) }
+    ensures runs { IfOk result (AreOpeningRuns tree.now world.now (D.states drivers.now)) }
+{
+    let runners = runners_of(alloc, tree, slots, world, drivers)?;
+    Ok(runs_with(alloc, world.world(), runners)?)
+}
+
+/// The runs of one runner before the first event, for a tree of which nothing is missing and for
+/// drivers that are still to be prepared. The error is want of memory.
+pub fn planned_runs<D: Drivers>(
+    alloc: Global,
+    tree: &Tree,
+    slots: &Slots,
+    world: &IndexedWorld,
+    drivers: &D,
+) -> Result<Runs, NoMemory>
+    requires tree { IsRunnable tree.now }
+    requires slots { slots.now ≡ slot_table tree.now }
+    requires world { IsValidWorld world.now }
+    requires alone { world.now.runners ≡ 1 }
+    requires joined { first_missing world.now.rows (D.states drivers.now) (leaf_ids tree.now.term) ≡ None }
+    ensures { IfOk result (AreOpeningRuns tree.now world.now (D.states drivers.now)) }
+{
+    let arena = first_arena_of(alloc, tree, slots, world, drivers)?;
+    let board = board_of(alloc, tree, slots)?;
+    let mut runners = Vec::new(alloc);
+    runners.push(ReadyRunner { arena, board })?;
+    runs_with(alloc, world.world(), runners)
+}

@@ -1,0 +1,4 @@
+use Rattle.run_moves.proofs.control.begin.Goals as goal
+
+pub returns-in-Parallel-clause-onward : goal.returns-in-Parallel-clause-onward
+returns-in-Parallel-clause-onward c = rw c.in-Parallel.is (c.parallel_to.ensures.onward c.args.memo.now)

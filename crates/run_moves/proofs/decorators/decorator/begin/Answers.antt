@@ -1,0 +1,10 @@
+use Rattle.run_moves.proofs.decorators.decorator.begin.Goals as goal
+
+pub returns-in-Timeout-clause-onward : goal.returns-in-Timeout-clause-onward
+returns-in-Timeout-clause-onward c = rw c.in-Timeout.is (c.timeout_begun.ensures.onward c.args.memo.now)
+
+pub returns-in-Delay-clause-onward : goal.returns-in-Delay-clause-onward
+returns-in-Delay-clause-onward c = rw c.in-Delay.is (c.delay_begun.ensures.onward c.args.memo.now)
+
+pub returns-in-RunOnce-clause-onward : goal.returns-in-RunOnce-clause-onward
+returns-in-RunOnce-clause-onward c = rw c.in-RunOnce.is (c.run_once_begun.ensures.onward c.args.memo.now)

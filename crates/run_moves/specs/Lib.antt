@@ -1,0 +1,4 @@
+pub mod Decorators
+pub mod Rounds
+pub mod Rows
+pub mod Visits

@@ -1,0 +1,73 @@
+//! What the control nodes answer over all that they hear of their children in one visit.
+
+ghost use Rattle.std.specs.Prelude.{ℕ, ◌≡◌, ◌≤◌, ◌-◌, Bool, false, List, Ok, Option, length, map, take};
+ghost use Rattle.spec_run.specs.declared.memory.Counts.{Counts};
+ghost use Rattle.spec_run.specs.declared.memory.Memo.{Memo};
+ghost use Rattle.spec_run.specs.declared.memory.Memo.TheVariants.{Counts as Counted, Index};
+ghost use Rattle.spec_run.specs.declared.memory.Memory.{Memory};
+ghost use Rattle.spec_run.specs.declared.status.Answer.{Answer};
+ghost use Rattle.spec_tree.specs.declared.term.Kind.{Kind};
+ghost use Rattle.spec_tree.specs.declared.term.Kind.TheVariants.{Fallback, Parallel, ReactiveFallback, ReactiveSequence, Sequence, SequenceWithMemory};
+ghost use Rattle.spec_run.specs.Done.{State, follow};
+ghost use Rattle.spec_run.specs.Rules.Kinds.{rule};
+ghost use Rattle.spec_run.specs.Steps.{Child, Rule};
+ghost use Rattle.run_moves.specs.Rows.{fallback_answer, fallback_stops, halts_others, keeps_counts, keeps_index, last_place, parallel_answer, parallel_stops, remembers_index, sequence_answer, sequence_stops};
+ghost use Rattle.run_moves.specs.Visits.{Hears, IsVisit, Told, all_say, answers_from, heard_from};
+
+/// Where the children say so, one after the other, the visit is what they do and then what is left of the
+/// rule, from whatever memories and state it began.
+pub fn a_rule_hears_what_its_children_say()
+    ensures { (kind : Kind) (rule rest : Rule) (told : List Told) → Hears kind rule told rest →
+        (cs : List Child) (ms : List Memory) (s : State) → (all_say kind cs told ms s).answer ≡ Ok (map (λ t. t.heard) told) →
+        rule cs ms s ≡ follow (all_say kind cs told ms s) (λ ms1. ms1) (λ _ ms1 s1. rest cs ms1 s1) }
+{}
+
+/// Of what all children that are left would answer, just one prefix is the list of the visit.
+pub fn each_visit_has_one_list()
+    ensures one { (stops : List Answer → Bool) (all : List Answer) → 1 ≤ length all →
+        (k : ℕ) × (k ≤ length all) × IsVisit stops (length all) (take k all) }
+    ensures no_other { (stops : List Answer → Bool) (all : List Answer) (j k : ℕ) → j ≤ length all → k ≤ length all →
+        IsVisit stops (length all) (take j all) → IsVisit stops (length all) (take k all) → j ≡ k }
+    ensures one_heard { (stops : List (Option Answer) → Bool) (all : List (Option Answer)) → 1 ≤ length all →
+        (k : ℕ) × (k ≤ length all) × IsVisit stops (length all) (take k all) }
+    ensures no_other_heard { (stops : List (Option Answer) → Bool) (all : List (Option Answer)) (j k : ℕ) → j ≤ length all →
+        k ≤ length all →
+        IsVisit stops (length all) (take j all) → IsVisit stops (length all) (take k all) → j ≡ k }
+{}
+
+/// A Sequence visits its children in order, from the kept index on, up to the first that answers FAILURE
+/// or RUNNING. A Fallback does the same with SUCCESS and FAILURE exchanged.
+pub fn sequence_and_fallback_over_a_visit()
+    ensures sequence { (n now picked at : ℕ) (seen : Bool) (answers : List Answer) → IsVisit sequence_stops (n - at) answers →
+        Hears Sequence (rule Sequence n (Index at seen) picked now) (answers_from at answers)
+        (keeps_index (last_place at answers) (sequence_answer seen answers)) }
+    ensures fallback { (n now picked at : ℕ) (seen : Bool) (answers : List Answer) → IsVisit fallback_stops (n - at) answers →
+        Hears Fallback (rule Fallback n (Index at seen) picked now) (answers_from at answers)
+        (keeps_index (last_place at answers) (fallback_answer seen answers)) }
+{}
+
+/// A SequenceWithMemory goes and answers like a Sequence, and keeps the index of the child that failed.
+pub fn memory_over_a_visit()
+    ensures { (n now picked at : ℕ) (seen : Bool) (answers : List Answer) → IsVisit sequence_stops (n - at) answers →
+        Hears SequenceWithMemory (rule SequenceWithMemory n (Index at seen) picked now) (answers_from at answers)
+        (remembers_index (last_place at answers) (sequence_answer seen answers)) }
+{}
+
+/// The reactive kinds begin each visit at the first child with none seen, whatever they have kept, and on
+/// RUNNING reset all other children.
+pub fn reactive_kinds_over_a_visit()
+    ensures sequence { (n now picked : ℕ) (memo : Memo) (answers : List Answer) → IsVisit sequence_stops n answers →
+        Hears ReactiveSequence (rule ReactiveSequence n memo picked now) (answers_from 0 answers)
+        (halts_others (last_place 0 answers) (sequence_answer false answers)) }
+    ensures fallback { (n now picked : ℕ) (memo : Memo) (answers : List Answer) → IsVisit fallback_stops n answers →
+        Hears ReactiveFallback (rule ReactiveFallback n memo picked now) (answers_from 0 answers)
+        (halts_others (last_place 0 answers) (fallback_answer false answers)) }
+{}
+
+/// A Parallel goes through its children in order, up to the first place at which SUCCESS or FAILURE holds.
+pub fn parallel_over_a_visit()
+    ensures { (n now picked : ℕ) (c : Counts) (heard : List (Option Answer)) → c.skipped ≡ 0 →
+        IsVisit (λ h. parallel_stops n c h) n heard →
+        Hears Parallel (rule Parallel n (Counted c) picked now) (heard_from 0 heard)
+        (keeps_counts c heard (parallel_answer n c heard)) }
+{}

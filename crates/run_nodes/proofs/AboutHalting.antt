@@ -1,0 +1,13 @@
+pub mod Children
+pub mod Ending
+pub mod Halting
+pub mod Keeping
+pub mod Leaving
+pub mod Lent
+pub mod Marks
+pub mod Memories
+pub mod Reaching
+pub mod Releasing
+pub mod Sounding
+pub mod Turns
+pub mod Within

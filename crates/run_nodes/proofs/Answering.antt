@@ -1,0 +1,95 @@
+-- What a call of a leaf's driver leaves is what the definition says.
+use Rattle.std.proofs.Common.{◌≡◌, ℕ, ℤ, List, [], ◌∷◌, map, Option, Some, None, refl, sym, ap, subst, ◌∙◌}
+use Rattle.std.specs.Prelude.{MatchOption}
+use Rattle.spec_script.specs.declared.cells.Seen.{Seen}
+use Rattle.spec_script.specs.declared.value.Value.{Value}
+use Rattle.spec_run.specs.declared.leaf.Phase.{Phase}
+use Rattle.spec_run.specs.declared.leaf.Phase.TheVariants as phase
+use Rattle.spec_run.specs.declared.leaf.Reply.{Reply}
+use Rattle.spec_run.specs.declared.leaf.Reply.TheVariants as reply
+use Rattle.spec_run.specs.declared.status.Answer.{Answer}
+use Rattle.spec_run.specs.declared.status.Status.{Status}
+use Rattle.spec_tree.specs.declared.term.PortValue.{PortValue}
+use Rattle.spec_tree.specs.declared.term.PortValue.TheVariants.{Key, Lit as Literal}
+use Rattle.spec_tree.specs.declared.term.Term.{Term-F}
+use Rattle.spec_world.specs.declared.world.Out.{Out}
+use Rattle.spec_world.specs.declared.world.Row.{Row}
+use Rattle.spec_run.specs.Done.{State}
+use Rattle.spec_run.specs.Drivers.{DriverState}
+use Rattle.spec_run.specs.Leaf.{Answered, Rule, leaf_rule, padded, rule_answer}
+use Rattle.spec_run.specs.Leaves.{called, inputs_of, instance_at, phase_of, reply_board, row_of, sight, with_output, with_outputs}
+use Rattle.spec_run.specs.Ports.{given_at, value_at}
+use Rattle.spec_run.specs.Sites.{Meaning, Site, View}
+use Rattle.spec_run.specs.Visit.{site_of}
+use Rattle.run_driver.proofs.Padding.{padding_is_nothing}
+use Rattle.run_arena.specs.declared.nodes.Node.{Node}
+use Rattle.run_arena.specs.declared.nodes.ReadyLeaf.{ReadyLeaf}
+use Rattle.run_arena.specs.Nodes.{IsLeafOf, LeafStands, leaf_at}
+use Rattle.run_arena.specs.Noted.{calls_named}
+use Rattle.run_arena.specs.Rosters.{leaf_instance}
+use Rattle.run_arena.specs.Scenes.{Scene}
+use Rattle.run_arena.specs.Sources.{source_at, source_of}
+use Rattle.run_arena.specs.Stands.{written}
+use Rattle.run_nodes.specs.Calls.{board_left, leaf_answer, number_written, outputs_written, seen_inputs}
+use Rattle.run_nodes.specs.Here.{FitsHere}
+use Rattle.run_nodes.proofs.PortValues.{given_means}
+
+-- an output is written where the definition writes it
+output_means : (site : Site) (given : Option PortValue) (n : ℤ) (board : List (Option Value)) → number_written (source_of site.view given) n board ≡ with_output site given n board
+output_means site (Some (Literal value)) n board = refl
+output_means site (Some (Key key)) n board = refl
+output_means site None n board = refl
+
+-- a call with an answer has a note
+pub named_once : (p : Phase) (uid : ℕ) (answer : Answer) → 1 ≡ calls_named (called p uid answer ∷ [])
+named_once phase.Start uid answer = refl
+named_once phase.Running uid answer = refl
+named_once phase.Halted uid answer = refl
+
+-- a leaf that stands has the row of its ID
+pub record HasRow (term : Term-F Meaning) (view : View) (leaf : ReadyLeaf) : Type 0 where
+  pub row : Row
+  pub found : row_of view.rows term.id ≡ Some row
+  pub follows : IsLeafOf view term.ports leaf row
+
+row_found : (term : Term-F Meaning) (view : View) (leaf : ReadyLeaf) (found : Option Row) → row_of view.rows term.id ≡ found → MatchOption found ⊥ (IsLeafOf view term.ports leaf) → HasRow term view leaf
+row_found term view leaf (Some row) is k = record { row = row; found = is; follows = k }
+row_found term view leaf None is k = absurd k
+
+pub has_row : (term : Term-F Meaning) (view : View) (uid : ℕ) (nodes : List Node) (s : Scene) (leaf : ReadyLeaf) → FitsHere term view uid nodes s → leaf_at nodes uid ≡ Some leaf → HasRow term view leaf
+has_row term view uid nodes s leaf fits is =
+    let P : Option ReadyLeaf → Type 0 = λ o. LeafStands view (written term) o in
+    row_found term view leaf (row_of view.rows term.id) refl (subst P is fits.node.leaf).1
+
+module _ (term : Term-F Meaning) (view : View) (uid : ℕ) (s : State) where
+  -- the inputs of a leaf are those of its row
+  inputs_mean : (names : List (List ℕ)) →
+      seen_inputs s.board (map (λ name. source_at view term.ports name) names) ≡ map (λ name. sight (value_at (site_of term view uid) s name)) names
+  inputs_mean [] = refl
+  inputs_mean (name ∷ names) = λ i. sight (given_means (site_of term view uid) s (given_at (site_of term view uid) name) i) ∷ inputs_mean names i
+
+  -- and its outputs are written as the row says
+  outputs_mean : (outs : List Out) (ns : List ℤ) (board : List (Option Value)) →
+      outputs_written (map (λ (out : Out). source_at view term.ports out.port) outs) ns board ≡ with_outputs (site_of term view uid) outs ns board
+  outputs_mean [] ns board = refl
+  outputs_mean (out ∷ outs) [] board = refl
+  outputs_mean (out ∷ outs) (n ∷ ns) board =
+      ap (λ b. outputs_written (map (λ (o : Out). source_at view term.ports o.port) outs) ns b) (output_means (site_of term view uid) (given_at (site_of term view uid) out.port) n board)
+      ∙ outputs_mean outs ns (with_output (site_of term view uid) (given_at (site_of term view uid) out.port) n board)
+
+  module _ (leaf : ReadyLeaf) (row : Row) (k : IsLeafOf view term.ports leaf row) where
+    pub board_means : (a : Answered) (r : Reply) → board_left r leaf.outputs a.outputs s.board ≡ reply_board (site_of term view uid) row a s.board r
+    board_means a reply.Success = ap (λ sources. outputs_written sources a.outputs s.board) k.outputs ∙ outputs_mean row.outs a.outputs s.board
+    board_means a reply.Running = refl
+    board_means a reply.Failure = refl
+    board_means a (reply.Broken cause) = refl
+
+    -- what the driver answers is what the leaf rule says
+    pub answer_means : (drivers : List DriverState) (status : Status) → instance_at s uid ≡ leaf_instance drivers (Some leaf) →
+        leaf_answer leaf status s.board s.facts drivers s.moment
+        ≡ leaf_rule view.facts row (phase_of status) (instance_at s uid) (inputs_of (site_of term view uid) s row) s.facts s.moment
+    answer_means drivers status instance =
+        ap (λ (r : Rule). rule_answer r (phase_of status) (leaf_instance drivers (Some leaf)) (padded (seen_inputs s.board leaf.inputs)) s.facts s.moment) k.rule
+        ∙ (λ i. leaf_rule view.facts row (phase_of status) (sym instance i) (padded (seen_inputs s.board (k.inputs i))) s.facts s.moment)
+        ∙ ap (λ (inputs : List Seen). leaf_rule view.facts row (phase_of status) (instance_at s uid) (padded inputs) s.facts s.moment) (inputs_mean row.ports)
+        ∙ padding_is_nothing view.facts row (phase_of status) (instance_at s uid) (inputs_of (site_of term view uid) s row) s.facts s.moment

@@ -1,0 +1,13 @@
+pub mod AboutHalting
+pub mod Answering
+pub mod Cases
+pub mod EndedVisits
+pub mod Filling
+pub mod Following
+pub mod LoneVisits
+pub mod MadeCalls
+pub mod Needed
+pub mod Phases
+pub mod PortValues
+pub mod Settled
+pub mod Standing

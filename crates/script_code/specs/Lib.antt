@@ -1,0 +1,12 @@
+pub mod Arithmetic
+pub mod Codes
+pub mod IntEntries
+pub mod Meeting
+pub mod Places
+pub mod Postfixes
+pub mod Programs
+pub mod Rooms
+pub mod Running
+pub mod Sources
+pub mod Stacks
+pub mod Statements

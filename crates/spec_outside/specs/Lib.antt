@@ -1,0 +1,4 @@
+pub mod Appending
+pub mod Counts
+pub mod Files
+pub mod Moments

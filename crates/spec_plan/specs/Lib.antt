@@ -1,0 +1,14 @@
+pub mod Achievers
+pub mod Conflicts
+pub mod Effects
+pub mod Expansion
+pub mod Failing
+pub mod Forests
+pub mod Modelled
+pub mod PlanAnswers
+pub mod PlanLines
+pub mod PlanRuns
+pub mod Planned
+pub mod Raising
+pub mod Settling
+pub mod Templates

@@ -1,0 +1,17 @@
+pub mod Answered
+pub mod Answers
+pub mod Courses
+pub mod Files
+pub mod Gives
+pub mod Grounds
+pub mod Headline
+pub mod Jobs
+pub mod Output
+pub mod PlanOutputs
+pub mod Plans
+pub mod Printed
+pub mod Reads
+pub mod Refusals
+pub mod Refused
+pub mod TreeFiles
+pub mod Words

@@ -1,0 +1,163 @@
+-- The words of the command line.
+use Rattle.std.specs.Prelude.{ℕ, nat_le, ℤ, pos, List, [], ◌∷◌, codes, Bool, true, false, ◌&&◌, ◌||◌, Option, Some, None, is_none, option_and_then, option_map, if◌then◌else◌}
+use Rattle.std.specs.Str.{bytes_eq}
+use Rattle.spec_program.specs.declared.exit.Exit.{Exit}
+use Rattle.spec_program.specs.declared.exit.Exit.TheVariants as exit
+use Rattle.spec_program.specs.declared.options.Options.{Options}
+use Rattle.spec_program.specs.declared.options.Options.TheVariants as takes
+use Rattle.spec_tree.specs.Limits.{most_leaves, most_rounds}
+use Rattle.spec_tree.specs.Numbers.{int_in}
+
+-- ---- Options
+
+-- the value that options, each a name and a value after it, give to this name
+abbrev pub value_of : List ℕ → List (List ℕ) → Option (List ℕ)
+value_of name [] = None
+value_of name (one ∷ []) = None
+value_of name (other ∷ value ∷ options) = if bytes_eq other name then Some value else value_of name options
+
+-- whether no option has this name
+unfoldable pub is_unset : List ℕ → List (List ℕ) → Bool
+is_unset name options = is_none (value_of name options)
+
+-- whether words are options in any order, whose names pass this test, each at most once
+abbrev pub are_options : (List ℕ → Bool) → List (List ℕ) → Bool
+are_options is_name [] = true
+are_options is_name (one ∷ []) = false
+are_options is_name (name ∷ value ∷ options) = is_name name && is_unset name options && are_options is_name options
+
+-- ---- Commands
+
+-- a command: its files, how many rounds, and the main tree where it names one; how many leaves a load has; or how many
+-- sequences a plan may add, how many ticks a run of it may have, and the time from one tick to the next
+pub data Command : Type 0 where
+  Tick : (tree world : List ℕ) (main : Option (List ℕ)) → Command
+  Live : (tree world : List ℕ) (rounds : ℕ) (main : Option (List ℕ)) → Command
+  Load : (leaves : ℕ) → Command
+  Check : (tree : List ℕ) (main : Option (List ℕ)) → Command
+  Dead : (tree : List ℕ) (main : Option (List ℕ)) → Command
+  Plan : (world : List ℕ) (expand ticks period : ℕ) → Command
+  Mock : (tree world rules : List ℕ) (main : Option (List ℕ)) → Command
+  Ground : (world : List ℕ) → Command
+  GroundPlan : (world : List ℕ) (expand ticks period : ℕ) → Command
+
+-- the options of a command: the ID of the main tree, for some also a number of ticks, and for a plan its limits
+unfoldable pub is_option : Options → List ℕ → Bool
+is_option takes.Main name = bytes_eq name (codes "--main")
+is_option takes.Rounds name = bytes_eq name (codes "--main") || bytes_eq name (codes "--ticks")
+is_option takes.Limits name = bytes_eq name (codes "--expand") || bytes_eq name (codes "--ticks") || bytes_eq name (codes "--period")
+
+-- a number in this range
+abbrev pub in_range : ℕ → ℕ → Option ℤ → Option ℕ
+in_range least most (Some (pos n)) = if nat_le least n && nat_le n most then Some n else None
+in_range least most _ = None
+
+-- a number from 1 to this one
+abbrev pub as_count : ℕ → Option ℤ → Option ℕ
+as_count most number = in_range 1 most number
+
+-- the number in this range, written canonically, that is the value of an option, or this one where the option is not written
+abbrev pub number_or : ℕ → ℕ → ℕ → Option (List ℕ) → Option ℕ
+number_or default least most None = Some default
+number_or default least most (Some word) = in_range least most (int_in word)
+
+-- the number from 1 to `most_rounds` that the option `--ticks` gives, written canonically
+unfoldable pub rounds_in : List (List ℕ) → Option ℕ
+rounds_in options = option_and_then (λ word. as_count most_rounds (int_in word)) (value_of (codes "--ticks") options)
+
+-- `TREE WORLD [--main ID]`
+abbrev pub tick_of : List (List ℕ) → Option Command
+tick_of (tree ∷ world ∷ options) =
+    if are_options (is_option takes.Main) options then Some (Tick tree world (value_of (codes "--main") options)) else None
+tick_of _ = None
+
+-- `TREE WORLD --ticks N [--main ID]`
+abbrev pub live_of : List (List ℕ) → Option Command
+live_of (tree ∷ world ∷ options) =
+    if are_options (is_option takes.Rounds) options
+    then option_map (λ rounds. Live tree world rounds (value_of (codes "--main") options)) (rounds_in options)
+    else None
+live_of _ = None
+
+-- `N`, a number from 1 to `most_leaves`, written canonically
+abbrev pub load_of : List (List ℕ) → Option Command
+load_of (word ∷ []) = option_map Load (as_count most_leaves (int_in word))
+load_of _ = None
+
+-- `TREE [--main ID]`: the tree file, and the ID where it is given
+abbrev pub tree_words : List (List ℕ) → Option (List ℕ × Option (List ℕ))
+tree_words (tree ∷ options) = if are_options (is_option takes.Main) options then Some (tree, value_of (codes "--main") options) else None
+tree_words _ = None
+
+abbrev pub check_of : List (List ℕ) → Option Command
+check_of words = option_map (λ named. Check named.0 named.1) (tree_words words)
+
+abbrev pub dead_of : List (List ℕ) → Option Command
+dead_of words = option_map (λ named. Dead named.0 named.1) (tree_words words)
+
+-- what the options say of the limits of a plan
+abbrev pub expand_in : List (List ℕ) → Option ℕ
+expand_in options = number_or 100 0 120 (value_of (codes "--expand") options)
+
+abbrev pub ticks_in : List (List ℕ) → Option ℕ
+ticks_in options = number_or 1000 1 10000 (value_of (codes "--ticks") options)
+
+abbrev pub period_in : List (List ℕ) → Option ℕ
+period_in options = number_or 100 0 1000000 (value_of (codes "--period") options)
+
+-- a file with these limits
+abbrev pub limited : List ℕ → Option ℕ → Option ℕ → Option ℕ → Option (List ℕ × ℕ × ℕ × ℕ)
+limited world (Some expand) (Some ticks) (Some period) = Some (world, expand, ticks, period)
+limited world _ _ _ = None
+
+-- `WORLD [--expand N] [--ticks N] [--period MS]`: the file, and the limits
+abbrev pub limited_words : List (List ℕ) → Option (List ℕ × ℕ × ℕ × ℕ)
+limited_words (world ∷ options) =
+    if are_options (is_option takes.Limits) options then limited world (expand_in options) (ticks_in options) (period_in options) else None
+limited_words _ = None
+
+abbrev pub plan_of : List (List ℕ) → Option Command
+plan_of words = option_map (λ l. Plan l.0 l.1 l.2 l.3) (limited_words words)
+
+abbrev pub ground_plan_of : List (List ℕ) → Option Command
+ground_plan_of words = option_map (λ l. GroundPlan l.0 l.1 l.2 l.3) (limited_words words)
+
+-- `WORLD`
+abbrev pub ground_of : List (List ℕ) → Option Command
+ground_of (world ∷ []) = Some (Ground world)
+ground_of _ = None
+
+-- `TREE WORLD RULES [--main ID]`
+abbrev pub mock_of : List (List ℕ) → Option Command
+mock_of (tree ∷ world ∷ rules ∷ options) =
+    if are_options (is_option takes.Main) options then Some (Mock tree world rules (value_of (codes "--main") options)) else None
+mock_of _ = None
+
+-- the commands by their first words, each with what it makes of the words after it
+abbrev pub commands : List (List ℕ × (List (List ℕ) → Option Command))
+commands =
+    (codes "tick", tick_of) ∷ (codes "live", live_of) ∷ (codes "load", load_of) ∷ (codes "check", check_of) ∷ (codes "dead", dead_of)
+    ∷ (codes "plan", plan_of) ∷ (codes "mock", mock_of)
+    ∷ (codes "ground", ground_of) ∷ (codes "gplan", ground_plan_of) ∷ []
+
+abbrev pub command_among : List (List ℕ × (List (List ℕ) → Option Command)) → List ℕ → List (List ℕ) → Option Command
+command_among [] word words = None
+command_among (row ∷ rows) word words = if bytes_eq word row.0 then row.1 words else command_among rows word words
+
+-- the command that the words are, or none
+abbrev pub command_of : List (List ℕ) → Option Command
+command_of [] = None
+command_of (word ∷ words) = command_among commands word words
+
+-- the status of the process
+abbrev pub status_of : Exit → ℕ
+status_of exit.Done = 0
+status_of exit.Words = 2
+status_of exit.Tree = 3
+status_of exit.World = 4
+status_of exit.Fault = 5
+status_of exit.NoPlan = 6
+status_of exit.Read = 7
+status_of exit.Write = 8
+status_of exit.Memory = 9
+status_of exit.Rules = 10

@@ -1,0 +1,14 @@
+pub mod Done
+pub mod Drivers
+pub mod Joins
+pub mod Leaf
+pub mod Leaves
+pub mod NodeScripts
+pub mod Ports
+pub mod Rosters
+pub mod Rules
+pub mod Run
+pub mod Served
+pub mod Sites
+pub mod Steps
+pub mod Visit

@@ -1,0 +1,7 @@
+pub mod Answers
+pub mod Choices
+pub mod Decorators
+pub mod Kinds
+pub mod Parallels
+pub mod Sequences
+pub mod Turns

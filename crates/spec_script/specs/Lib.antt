@@ -1,0 +1,12 @@
+pub mod Entries
+pub mod Evaluation
+pub mod ExprFaults
+pub mod Grammar
+pub mod Identifiers
+pub mod Numbers
+pub mod Operators
+pub mod Reading
+pub mod Scripts
+pub mod Spots
+pub mod Texts
+pub mod Tokens

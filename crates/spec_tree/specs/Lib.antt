@@ -1,0 +1,9 @@
+pub mod Boards
+pub mod BuiltIns
+pub mod Limits
+pub mod Names
+pub mod Numbers
+pub mod PrintedTree
+pub mod Terms
+pub mod Trees
+pub mod Values

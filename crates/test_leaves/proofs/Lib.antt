@@ -1,0 +1,2 @@
+pub mod AboutRobots
+pub mod AtWork

@@ -1,0 +1,2 @@
+pub mod Robots
+pub mod Stages

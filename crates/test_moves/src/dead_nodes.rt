@@ -1,0 +1,3 @@
+//! Tests alone: the dead nodes of trees.
+
+mod dead;

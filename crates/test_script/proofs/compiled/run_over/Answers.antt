@@ -1,0 +1,9 @@
+use Rattle.std.proofs.Common.{rules, IsTrue, arith}
+use Rattle.std.proofs.lemmas.Grind.{common_steps}
+use Rattle.test_script.proofs.compiled.run_over.Goals as goal
+
+pub exec-requires : goal.exec-requires
+exec-requires g c =
+    let below : IsTrue c.slots_fit.result = search rules in
+    let reach = c.in_ok-code.ensures.reach c.len-size.result (c.slots_fit.ensures below) in
+    grind (arith, common_steps)

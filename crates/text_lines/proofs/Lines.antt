@@ -1,0 +1,118 @@
+-- Texts that are written one after the other.
+use Rattle.std.proofs.Common.{◌≡◌, ℕ, ◌+◌, ◌<◌, List, [], ◌∷◌, ◌++◌, Option, map, length, get_or, take, drop, ap, sym, subst, ◌∙◌, append-nil}
+use Rattle.std.proofs.lemmas.List.{take_more, drop_more, take-append-drop, map-append}
+use Rattle.std.proofs.lemmas.List.Folds.{concat-append}
+use Rattle.std.specs.List.{concat}
+use Rattle.spec_run.specs.declared.block.Block.{Block}
+use Rattle.spec_output.specs.Lines.{LineNames, entry_line, fact_line, header_line, lines_of, note_line}
+use Rattle.spec_outside.specs.Appending.{Appended, AppendedPrefix}
+use Rattle.base_outside.proofs.Appends.{Appended-trans, AppendedPrefix-whole, AppendedPrefix-longer, AppendedPrefix-after}
+
+-- a text that was added to an empty line is the line
+pub alone : {line old : List ℕ} (text : List ℕ) → old ≡ [] → line ≡ old ++ text → line ≡ text
+alone text none put = put ∙ ap (λ (z : List ℕ). z ++ text) none
+
+-- the texts up to one more
+pub concat-map_more :
+    {X : Type 0} (f : X → List ℕ) (xs : List X) (i : ℕ) (d : X) →
+    i < length xs → concat (map f (take (i + 1) xs)) ≡ concat (map f (take i xs)) ++ f (get_or xs i d)
+concat-map_more f xs i d h =
+    ap (λ ys. concat (map f ys)) (take_more xs i d h) ∙ ap concat (map-append f (take i xs) (get_or xs i d ∷ []))
+    ∙ concat-append (map f (take i xs)) (f (get_or xs i d) ∷ [])
+    ∙ ap (λ (z : List ℕ). concat (map f (take i xs)) ++ z) (append-nil (f (get_or xs i d)))
+
+-- the texts before a place, and the rest
+pub concat-map_split :
+    {X : Type 0} (f : X → List ℕ) (xs : List X) (i : ℕ) →
+    concat (map f xs) ≡ concat (map f (take i xs)) ++ concat (map f (drop i xs))
+concat-map_split f xs i =
+    ap (λ ys. concat (map f ys)) (sym (take-append-drop i xs)) ∙ ap concat (map-append f (take i xs) (drop i xs))
+    ∙ concat-append (map f (take i xs)) (map f (drop i xs))
+
+-- one more text was written
+pub Appended-map_more :
+    {X : Type 0} (f : X → List ℕ) (xs : List X) (i : ℕ) (d : X) (a b c : Option (List ℕ)) →
+    i < length xs → Appended a b (concat (map f (take i xs))) → Appended b c (f (get_or xs i d)) →
+    Appended a c (concat (map f (take (i + 1) xs)))
+Appended-map_more f xs i d a b c h p q =
+    subst (Appended a c) (sym (concat-map_more f xs i d h)) (Appended-trans a b c (concat (map f (take i xs))) (f (get_or xs i d)) p q)
+
+-- the texts before a place were written
+pub AppendedPrefix-map_some :
+    {X : Type 0} (f : X → List ℕ) (xs : List X) (i : ℕ) (a b : Option (List ℕ)) →
+    Appended a b (concat (map f (take i xs))) → AppendedPrefix a b (concat (map f xs))
+AppendedPrefix-map_some f xs i a b p =
+    subst (AppendedPrefix a b) (sym (concat-map_split f xs i))
+    (AppendedPrefix-longer a b (concat (map f (take i xs))) (concat (map f (drop i xs))) (AppendedPrefix-whole a b (concat (map f (take i xs))) p))
+
+-- the texts before a place were written, and a prefix of the next
+pub AppendedPrefix-map_next :
+    {X : Type 0} (f : X → List ℕ) (xs : List X) (i : ℕ) (d : X) (a b c : Option (List ℕ)) →
+    i < length xs → Appended a b (concat (map f (take i xs))) → AppendedPrefix b c (f (get_or xs i d)) →
+    AppendedPrefix a c (concat (map f xs))
+AppendedPrefix-map_next f xs i d a b c h p q =
+    subst (AppendedPrefix a c) (sym (concat-map_split f xs i))
+    (AppendedPrefix-after a b c (concat (map f (take i xs))) (concat (map f (drop i xs))) p
+    (subst (AppendedPrefix b c) (sym (ap (λ ys. concat (map f ys)) (drop_more xs i d h)))
+    (AppendedPrefix-longer b c (f (get_or xs i d)) (concat (map f (drop (i + 1) xs))) q)))
+
+-- the lines of a block were written
+pub Appended-lines_of :
+    (names : LineNames) (block : Block) (a b c d e : Option (List ℕ)) →
+    Appended a b (header_line names block.header) → Appended b c (concat (map (note_line names) block.notes)) →
+    Appended c d (concat (map (fact_line names) block.facts)) → Appended d e (concat (map (entry_line names) block.entries)) →
+    Appended a e (concat (lines_of names block))
+Appended-lines_of names block a b c d e p q r s =
+    let header = header_line names block.header in
+    let notes = map (note_line names) block.notes in
+    let facts = map (fact_line names) block.facts in
+    let entries = map (entry_line names) block.entries in
+    let first = subst (Appended b d) (sym (concat-append notes facts)) (Appended-trans b c d (concat notes) (concat facts) q r) in
+    let rest = subst (Appended b e) (sym (concat-append (notes ++ facts) entries)) (Appended-trans b d e (concat (notes ++ facts)) (concat entries) first s) in
+    Appended-trans a b e header (concat (notes ++ facts ++ entries)) p rest
+
+-- the header of a block was written, and a prefix of its notes
+pub AppendedPrefix-lines_of_notes :
+    (names : LineNames) (block : Block) (a b c : Option (List ℕ)) →
+    Appended a b (header_line names block.header) → AppendedPrefix b c (concat (map (note_line names) block.notes)) →
+    AppendedPrefix a c (concat (lines_of names block))
+AppendedPrefix-lines_of_notes names block a b c p q =
+    let header = header_line names block.header in
+    let notes = map (note_line names) block.notes in
+    let facts = map (fact_line names) block.facts in
+    let entries = map (entry_line names) block.entries in
+    let more = subst (AppendedPrefix b c) (sym (concat-append notes facts)) (AppendedPrefix-longer b c (concat notes) (concat facts) q) in
+    let rest = AppendedPrefix-longer b c (concat (notes ++ facts)) (concat entries) more in
+    AppendedPrefix-after a b c header (concat (notes ++ facts ++ entries)) p
+    (subst (AppendedPrefix b c) (sym (concat-append (notes ++ facts) entries)) rest)
+
+-- the header and the notes of a block were written, and a prefix of its facts
+pub AppendedPrefix-lines_of_facts :
+    (names : LineNames) (block : Block) (a b c d : Option (List ℕ)) →
+    Appended a b (header_line names block.header) → Appended b c (concat (map (note_line names) block.notes)) →
+    AppendedPrefix c d (concat (map (fact_line names) block.facts)) → AppendedPrefix a d (concat (lines_of names block))
+AppendedPrefix-lines_of_facts names block a b c d p q r =
+    let header = header_line names block.header in
+    let notes = map (note_line names) block.notes in
+    let facts = map (fact_line names) block.facts in
+    let entries = map (entry_line names) block.entries in
+    let more = subst (AppendedPrefix b d) (sym (concat-append notes facts)) (AppendedPrefix-after b c d (concat notes) (concat facts) q r) in
+    let rest = AppendedPrefix-longer b d (concat (notes ++ facts)) (concat entries) more in
+    AppendedPrefix-after a b d header (concat (notes ++ facts ++ entries)) p
+    (subst (AppendedPrefix b d) (sym (concat-append (notes ++ facts) entries)) rest)
+
+-- the header, the notes and the facts of a block were written, and a prefix of its entries
+pub AppendedPrefix-lines_of_entries :
+    (names : LineNames) (block : Block) (a b c d e : Option (List ℕ)) →
+    Appended a b (header_line names block.header) → Appended b c (concat (map (note_line names) block.notes)) →
+    Appended c d (concat (map (fact_line names) block.facts)) → AppendedPrefix d e (concat (map (entry_line names) block.entries)) →
+    AppendedPrefix a e (concat (lines_of names block))
+AppendedPrefix-lines_of_entries names block a b c d e p q r s =
+    let header = header_line names block.header in
+    let notes = map (note_line names) block.notes in
+    let facts = map (fact_line names) block.facts in
+    let entries = map (entry_line names) block.entries in
+    let first = subst (Appended b d) (sym (concat-append notes facts)) (Appended-trans b c d (concat notes) (concat facts) q r) in
+    let rest = AppendedPrefix-after b d e (concat (notes ++ facts)) (concat entries) first s in
+    AppendedPrefix-after a b e header (concat (notes ++ facts ++ entries)) p
+    (subst (AppendedPrefix b e) (sym (concat-append (notes ++ facts) entries)) rest)

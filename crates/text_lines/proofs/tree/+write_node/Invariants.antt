@@ -1,0 +1,14 @@
+use Rattle.std.proofs.Common.{◌≤◌, map, take}
+use Rattle.std.specs.List.{concat}
+use Rattle.spec_tree.specs.PrintedTree.{deeper, printed}
+use Rattle.spec_outside.specs.Appending.{Appended}
+use Rattle.text_lines.proofs.tree.+write_node.Given as goal
+
+abbrev pub invariant-loop-node : goal.invariant-loop-node
+invariant-loop-node g l =
+    let written = g.K.Sink.written in
+    let faults = g.K.Sink.faults in
+    record {
+      text : Appended (written l.initial.out) (written l.out) (concat (map (λ n. concat ((printed n).lines (deeper l.blanks))) (take l.node-index l.nodes)));
+      count : faults l.fn.out ≤ faults l.out;
+    }

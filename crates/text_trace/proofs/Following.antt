@@ -1,0 +1,138 @@
+-- Events in order, the finishes, and what follows them.
+use Rattle.std.proofs.Common.{◌≡◌, ℕ, zero, suc, ◌+◌, ◌-◌, ◌<◌, ◌≤◌, max, arith, List, [], ◌∷◌, ◌++◌, length, get_or, drop, Option, Some, None, refl, sym, ap, subst, ◌∙◌, append_assoc}
+use Rattle.std.proofs.lemmas.List.{drop_all, drop_more}
+use Rattle.spec_run.specs.declared.fault.RunFault.{RunFault}
+use Rattle.spec_tree.specs.declared.term.Tree.{Tree}
+use Rattle.spec_world.specs.declared.world.Event.{Event}
+use Rattle.spec_world.specs.declared.world.What.TheVariants.{Tick}
+use Rattle.spec_world.specs.declared.world.World.{World}
+use Rattle.spec_run.specs.Run.{RunState, Stepped, Trace, before_rest, finish, finishes, run_from, step, then_rest}
+use Rattle.run_loop.specs.Steps.{CanCome}
+use Rattle.text_trace.specs.Going.{finishes_then}
+use Rattle.spec_output.specs.Rounds.{events_then, fault_in, live_events, nothing_more, round_of, ticks_from}
+use Rattle.text_trace.specs.Traces.{CanAllCome, last_moment}
+
+pub before_same : (fault : Option RunFault) (d : Stepped) (f g : RunState → Trace) → f d.state ≡ g d.state → before_rest fault d f ≡ before_rest fault d g
+before_same (Some fault) d f g same = refl
+before_same None d f g same = ap (λ (t : Trace). (let all : Trace = record { blocks = d.block ∷ t.blocks; calls = d.calls ++ t.calls; state = t.state; fault = t.fault } in all)) same
+
+module _ (tree : Tree) (world : World) where
+  pub events_both : (events more : List Event) (rest : RunState → Trace) (s : RunState) → events_then tree world (events ++ more) rest s ≡ events_then tree world events (events_then tree world more rest) s
+  events_both [] more rest s = refl
+  events_both (e ∷ events) more rest s = before_same (step tree world e s).fault (step tree world e s) _ _ (events_both events more rest (step tree world e s).state)
+
+  -- the finishes, and nothing more
+  pub finishes_are : (runner many : ℕ) (s : RunState) → finishes_then tree world runner many nothing_more s ≡ finishes tree world runner many s
+  finishes_are runner zero s = refl
+  finishes_are runner (suc others) s = before_same (finish tree world runner s).fault (finish tree world runner s) _ _ (finishes_are (runner + 1) others (finish tree world runner s).state)
+
+  -- a run: its events, then the finishes, and nothing more
+  pub run_is : (events : List Event) (s : RunState) → events_then tree world events (finishes_then tree world 1 world.runners nothing_more) s ≡ run_from tree world events s
+  run_is [] s = finishes_are 1 world.runners s
+  run_is (e ∷ events) s = before_same (step tree world e s).fault (step tree world e s) _ _ (run_is events (step tree world e s).state)
+
+  front_fault : (o : Option RunFault) (d : Stepped) (f g : RunState → Trace) → ((f d.state).fault ≡ None → (g d.state).fault ≡ None) → (before_rest o d f).fault ≡ None → (before_rest o d g).fault ≡ None
+  front_fault (Some fault) d f g then none = none
+  front_fault None d f g then none = then none
+
+  -- events that end in no fault begin with such
+  pub events_front : (events more : List Event) (s : RunState) → (events_then tree world (events ++ more) nothing_more s).fault ≡ None → (events_then tree world events nothing_more s).fault ≡ None
+  events_front [] more s none = refl
+  events_front (e ∷ events) more s none = front_fault (step tree world e s).fault (step tree world e s) _ _ (events_front events more (step tree world e s).state) none
+
+  -- the event that comes next
+  pub event_next : (events : List Event) (i : ℕ) (e : Event) (rest : RunState → Trace) (s : RunState) → i < length events →
+      events_then tree world (drop i events) rest s ≡ then_rest (step tree world (get_or events i e) s) (events_then tree world (drop (i + 1) events) rest)
+  event_next events i e rest s low = ap (λ (es : List Event). events_then tree world es rest s) (drop_more events i e low)
+
+  -- none is left
+  pub events_end : (events : List Event) (i : ℕ) (rest : RunState → Trace) (s : RunState) → length events ≤ i → events_then tree world (drop i events) rest s ≡ rest s
+  events_end events i rest s all = ap (λ (es : List Event). events_then tree world es rest s) (drop_all i events all)
+
+  -- the finish that comes next
+  pub finish_next : (place : ℕ) (rest : RunState → Trace) (s : RunState) → place < world.runners →
+      finishes_then tree world (place + 1) (world.runners - place) rest s ≡ then_rest (finish tree world (place + 1) s) (finishes_then tree world (place + 1 + 1) (world.runners - (place + 1)) rest)
+  finish_next place rest s low =
+      let more : world.runners - place ≡ suc (world.runners - (place + 1)) = omega (arith, low) in
+      ap (λ (others : ℕ). finishes_then tree world (place + 1) others rest s) more
+
+  -- none is left
+  pub finishes_end : (place : ℕ) (rest : RunState → Trace) (s : RunState) → world.runners ≤ place → finishes_then tree world (place + 1) (world.runners - place) rest s ≡ rest s
+  finishes_end place rest s all =
+      let none : world.runners - place ≡ 0 = omega (arith, all) in
+      ap (λ (others : ℕ). finishes_then tree world (place + 1) others rest s) none
+
+  -- all are left
+  pub finishes_first : (rest : RunState → Trace) (s : RunState) → finishes_then tree world 1 world.runners rest s ≡ finishes_then tree world (0 + 1) (world.runners - 0) rest s
+  finishes_first rest s =
+      let all : world.runners ≡ world.runners - 0 = omega arith in
+      ap (λ (others : ℕ). finishes_then tree world 1 others rest s) all
+
+  -- the round that comes next
+  pub round_next : (last moment : ℕ) (later : List ℕ) (rest : RunState → Trace) (s : RunState) →
+      events_then tree world (live_events world last (moment ∷ later)) rest s ≡ events_then tree world (round_of world.runners (max moment last)) (events_then tree world (live_events world (max moment last) later) rest) s
+  round_next last moment later rest s = events_both (round_of world.runners (max moment last)) (live_events world (max moment last) later) rest s
+
+abbrev last_of : ℕ → List ℕ → ℕ
+last_of last [] = last
+last_of last (moment ∷ moments) = last_of (max moment last) moments
+
+live_both : (world : World) (last : ℕ) (xs ys : List ℕ) → live_events world last (xs ++ ys) ≡ live_events world last xs ++ live_events world (last_of last xs) ys
+live_both world last [] ys = refl
+live_both world last (x ∷ xs) ys =
+    let at = max x last in
+    ap (λ (es : List Event). round_of world.runners at ++ es) (live_both world at xs ys)
+    ∙ sym (append_assoc (round_of world.runners at) (live_events world at xs) (live_events world (last_of at xs) ys))
+
+-- rounds that end in no fault begin with such
+pub rounds_front : (tree : Tree) (world : World) (last : ℕ) (xs ys : List ℕ) (s : RunState) → fault_in tree world last (xs ++ ys) s ≡ None → fault_in tree world last xs s ≡ None
+rounds_front tree world last xs ys s none =
+    events_front tree world (live_events world last xs) (live_events world (last_of last xs) ys) s
+    (subst (λ (es : List Event). (events_then tree world es nothing_more s).fault ≡ None) (live_both world last xs ys) none)
+
+-- ---- What can come
+
+-- the event that comes next can, and those after it
+pub come_next : (world : World) (last : ℕ) (events : List Event) (i : ℕ) (e : Event) → i < length events → CanAllCome world last (drop i events) →
+    CanCome world last (get_or events i e) × CanAllCome world (get_or events i e).at (drop (i + 1) events)
+come_next world last events i e low can = subst (CanAllCome world last) (drop_more events i e low) can
+
+pub last_next : (last : ℕ) (events : List Event) (i : ℕ) (e : Event) → i < length events → last_moment last (drop i events) ≡ last_moment (get_or events i e).at (drop (i + 1) events)
+last_next last events i e low = ap (last_moment last) (drop_more events i e low)
+
+pub last_end : (last : ℕ) (events : List Event) (i : ℕ) → length events ≤ i → last_moment last (drop i events) ≡ last
+last_end last events i all = ap (last_moment last) (drop_all i events all)
+
+-- a round at a moment that is not below the last one
+ticks_can_come : (world : World) (last at runner many : ℕ) → last ≤ at → 1 ≤ runner → runner + many ≤ world.runners + 1 → CanAllCome world last (ticks_from runner many at)
+ticks_can_come world last at runner zero low first within = tt
+ticks_can_come world last at runner (suc others) low first within = (
+  ((first, omega (arith, within)), low),
+  ticks_can_come world at at (runner + 1) others (omega arith) (omega arith) (omega (arith, within)),
+)
+
+pub round_can_come : (world : World) (last at : ℕ) → last ≤ at → CanAllCome world last (round_of world.runners at)
+round_can_come world last at low = ticks_can_come world last at 1 world.runners low (omega arith) (omega arith)
+
+ticks_last : (last at runner many : ℕ) → last ≤ at → last_moment last (ticks_from runner many at) ≤ at
+ticks_last last at runner zero low = low
+ticks_last last at runner (suc others) low = ticks_last at at (runner + 1) others (omega arith)
+
+pub round_last : (runners last at : ℕ) → last ≤ at → last_moment last (round_of runners at) ≤ at
+round_last runners last at low = ticks_last last at 1 runners low
+
+-- one tick more
+ticks_add : (runner many at : ℕ) → ticks_from runner (suc many) at ≡ ticks_from runner many at ++ record { at = at; what = Tick (runner + many) } ∷ []
+ticks_add runner zero at =
+    let same : runner ≡ runner + 0 = omega arith in
+    ap (λ (k : ℕ). (record { at = at; what = Tick k }) ∷ []) same
+ticks_add runner (suc many) at =
+    let same : runner + 1 + many ≡ runner + suc many = omega arith in
+    ap (λ (es : List Event). (record { at = at; what = Tick runner }) ∷ es)
+    (ticks_add (runner + 1) many at ∙ ap (λ (k : ℕ). ticks_from (runner + 1) many at ++ (record { at = at; what = Tick k }) ∷ []) same)
+
+pub round_more : (place at : ℕ) → round_of (place + 1) at ≡ round_of place at ++ record { at = at; what = Tick (place + 1) } ∷ []
+round_more place at =
+    let more : place + 1 ≡ suc place = omega arith in
+    let same : 1 + place ≡ place + 1 = omega arith in
+    ap (λ (k : ℕ). ticks_from 1 k at) more ∙ ticks_add 1 place at ∙ ap (λ (k : ℕ). ticks_from 1 place at ++ (record { at = at; what = Tick k }) ∷ []) same

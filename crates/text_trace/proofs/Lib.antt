@@ -1,0 +1,11 @@
+pub mod AboutLoad
+pub mod Cuts
+pub mod Following
+pub mod Lives
+pub mod Notes
+pub mod Parts
+pub mod Rests
+pub mod Steps
+pub mod Unbegun
+pub mod Watching
+pub mod Worlds

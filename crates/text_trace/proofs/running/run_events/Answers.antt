@@ -1,0 +1,59 @@
+use Rattle.std.proofs.Common.{◌∙◌, ap}
+use Rattle.run_loop.specs.declared.runs.Runs.{Runs}
+use Rattle.run_loop.specs.Runs.{arenas_of}
+use Rattle.run_loop.proofs.Rising.{roster_both, same_roster}
+use Rattle.text_trace.specs.Traces.{trace_of}
+use Rattle.text_trace.proofs.Following.{run_is}
+use Rattle.text_trace.proofs.Parts.{begun, come_as, leaves_halted, leaves_nothing, leaves_run, part_few, part_room}
+use Rattle.text_trace.proofs.running.run_events.Goals as goal
+
+pub begin-requires : goal.begin-requires
+begin-requires g c = (g.D.Drivers.states c.args.drivers.now, c.requires.1.1.0)
+
+pub run_script-requires : goal.run_script-requires
+run_script-requires g c = λ lifetimes live. (
+  live.0,
+  (
+    live.1,
+    (
+      begun g.of _ c.args.runs c.in_ok-underway.underway c.requires.1.1.0 c.in_ok-underway.ensures.runs c.in_ok-underway.ensures.room,
+      come_as g.of.world _ c.args.runs c.args.events.now c.in_ok-underway.ensures.runs c.requires.1.1.1,
+    ),
+  ),
+)
+
+pub returns-in_err-underway-clause-leaves : goal.returns-in_err-underway-clause-leaves
+returns-in_err-underway-clause-leaves g c = leaves_nothing c.from_residual.result c.from_residual.ensures.0 _ _ _
+
+pub returns-in_err-underway-clause-kept : goal.returns-in_err-underway-clause-kept
+returns-in_err-underway-clause-kept g c = record { same = same_roster _; none = c.requires.1.1.0.none }
+
+pub returns-in-Ok-clause-leaves : goal.returns-in-Ok-clause-leaves
+returns-in-Ok-clause-leaves g c =
+    leaves_run g.of _ _ _ c.args.runs _ (λ (r : Runs). trace_of g.of (g.D.Drivers.states c.args.drivers.now) r c.args.events.now) c.in_ok-underway.ensures.runs
+    (run_is g.of.tree g.of.world c.args.events.now _) c.in-Ok.ensures.made
+
+pub returns-in-Ok-clause-kept : goal.returns-in-Ok-clause-kept
+returns-in-Ok-clause-kept g c = record { same = c.in-Ok.ensures.made.roster; none = c.in-Ok.ensures.none }
+
+pub finish_unwritten-requires : goal.finish_unwritten-requires
+finish_unwritten-requires g c =
+    let made = c.in-Err.ensures.made in
+    let can = begun g.of _ c.args.runs c.in_ok-underway.underway c.requires.1.1.0 c.in_ok-underway.ensures.runs c.in_ok-underway.ensures.room in
+    λ lifetimes live. (live, (made.stand, (part_few g.of _ _ _ _ _ made can.few, part_room g.of _ _ _ _ _ made can.room)))
+
+pub returns-clause-leaves : goal.returns-clause-leaves
+returns-clause-leaves g c =
+    let made = c.in-Err.ensures.made in
+    leaves_halted _ _ _ _ _ _ _ (made.arenas ∙ ap arenas_of c.in_ok-underway.ensures.runs)
+    (leaves_run g.of _ _ _ c.args.runs _ (λ (r : Runs). trace_of g.of (g.D.Drivers.states c.args.drivers.now) r c.args.events.now) c.in_ok-underway.ensures.runs (run_is g.of.tree g.of.world c.args.events.now _) made)
+    c.finish_unwritten.ensures.halts
+
+pub returns-clause-kept : goal.returns-clause-kept
+returns-clause-kept g c = record { same = roster_both _ _ _ c.in-Err.ensures.made.roster c.finish_unwritten.ensures.kept.same; none = c.finish_unwritten.ensures.kept.none }
+
+pub returns-clause-watcher : goal.returns-clause-watcher
+returns-clause-watcher g c = c.in-Err.ensures.made.watcher
+
+pub returns-in-Ok-clause-watcher : goal.returns-in-Ok-clause-watcher
+returns-in-Ok-clause-watcher g c = c.in-Ok.ensures.made.watcher

@@ -1,0 +1,93 @@
+ghost use Rattle.std.specs.Prelude.{◌≡◌, ◌≤◌, ◌<◌, ◌-◌, ◌^◌, Ok, OnOk, length};
+ghost use Rattle.spec_run.specs.Drivers.{NothingHeld};
+ghost use Rattle.spec_run.specs.Run.{finish as finish_step, then_rest};
+ghost use Rattle.spec_run.specs.Served.{Setup};
+ghost use Rattle.run_loop.specs.Runs.{arenas_of};
+ghost use Rattle.run_loop.specs.Steps.{HaveRoom};
+ghost use Rattle.text_trace.specs.Halted.{HaveHalted};
+ghost use Rattle.text_trace.specs.Going.{AreAtRest, CanGoOn, Makes, Stand, finishes_then, stage, state_at};
+ghost use Rattle.text_trace.specs.Traces.{AreKept};
+
+use crate::ended::Ended;
+use crate::showing::show_event;
+use crate::underway::Underway;
+use crate::watch::Watch;
+use run_driver::Drivers;
+use run_loop::{run_finish, usable};
+use std::alloc::Global;
+use text_lines::TextStop;
+
+/// Finishes a runner and shows its block.
+fn finish_one<D: Drivers, W: Watch>(
+    alloc: Global,
+    underway: &mut Underway,
+    runner: u8,
+    drivers: &mut D,
+    watch: &mut W,
+) -> Result<Ended, TextStop>
+    ghost of: { Setup }
+    requires runs { CanGoOn of (D.states drivers.old) underway.old }
+    requires first { 1 ≤ runner }
+    requires last { runner ≤ of.world.runners }
+    ensures made { let old = stage (D.states drivers.old) (W.state watch.old) underway.old in
+        let new = stage (D.states drivers.new) (W.state watch.new) underway.new in
+        Makes of result old new (λ rest. then_rest (finish_step of.tree of.world runner (state_at of old)) rest) }
+    ensures rests { let old = stage (D.states drivers.old) (W.state watch.old) underway.old in
+        let new = stage (D.states drivers.new) (W.state watch.new) underway.new in
+        result ≡ Ok Ended.Done → AreAtRest (runner - 1) (state_at of old) → AreAtRest runner (state_at of new) }
+{
+    let made = run_finish(
+        alloc,
+        &mut underway.runs,
+        runner,
+        drivers,
+        &mut underway.block,
+    );
+    show_event(alloc, made, &underway.block, watch)
+}
+
+/// Finishes all runners in order, and shows the block of each. A fault ends it.
+pub fn finish_all<D: Drivers, W: Watch>(
+    alloc: Global,
+    underway: &mut Underway,
+    drivers: &mut D,
+    watch: &mut W,
+) -> Result<Ended, TextStop>
+    ghost of: { Setup }
+    requires runs { CanGoOn of (D.states drivers.old) underway.old }
+    ensures made { let old = stage (D.states drivers.old) (W.state watch.old) underway.old in
+        let new = stage (D.states drivers.new) (W.state watch.new) underway.new in
+        Makes of result old new (λ rest. finishes_then of.tree of.world 1 of.world.runners rest (state_at of old)) }
+    ensures none { OnOk result (NothingHeld (D.states drivers.new)) }
+{
+    for place in 0..underway.runs.runners.len() as u8 {
+        if let Ended::Faulted = finish_one(alloc, underway, place + 1, drivers, watch)? {
+            return Ok(Ended::Faulted);
+        }
+    }
+    Ok(Ended::Done)
+}
+
+/// Finishes all runners in order, as long as none stops, and shows nothing. Then nothing is held.
+pub fn finish_unwritten<D: Drivers>(alloc: Global, underway: &mut Underway, drivers: &mut D)
+    ghost of: { Setup }
+    requires stand { Stand of (D.states drivers.old) underway.old.runs }
+    requires few { length underway.old.runs.runners.items < 2 ^ 8 }
+    requires room { HaveRoom (arenas_of underway.old.runs) underway.old.block.notes }
+    ensures halts { HaveHalted (arenas_of underway.old.runs) (D.states drivers.old) (D.states drivers.new) }
+    ensures kept { AreKept (D.states drivers.old) (D.states drivers.new) }
+{
+    for place in 0..underway.runs.runners.len() as u8 {
+        if !usable(&underway.runs) {
+            return;
+        }
+        let _stopped = run_finish(
+            alloc,
+            &mut underway.runs,
+            place + 1,
+            drivers,
+            &mut underway.block,
+        )
+        .is_err();
+    }
+}

@@ -1,0 +1,5 @@
+pub mod ContentSteps
+pub mod Gives
+pub mod ReadSteps
+pub mod Scripts
+pub mod Seen

@@ -1,0 +1,18 @@
+//! From the element of a tree file to the tree.
+#![tactic(auto)]
+
+mod building;
+mod content;
+mod head;
+mod ports;
+mod rules;
+mod scripts;
+mod tree;
+mod trees;
+mod values;
+mod version;
+mod working;
+
+pub use building::build;
+pub use scripts::script;
+pub use working::{is_within_work, work};

@@ -1,0 +1,72 @@
+ghost use Rattle.std.specs.Prelude.{◌≡◌, ◌+◌, ◌*◌, ◌≤◌, ◌<◌, ◌^◌, min, nat_le};
+ghost use Rattle.spec_tree.specs.Terms.{times_of, turns_given, turns_of, work_of};
+
+use spec_script::Value;
+use spec_tree::{Kind, Port, PortValue, Term, Tree};
+
+/// How often a Retry or a Repeat whose limit this is visits its child at most in one visit.
+fn turns_given(value: &PortValue) -> u64
+    ensures { result ≡ turns_given value.now }
+{
+    match value {
+        PortValue::Key(_) => 1000,
+        PortValue::Lit(Value::Int(n)) => { if *n == -1 { 1 } else { n.unsigned_abs() } }
+        PortValue::Lit(Value::Text(_)) => 1,
+    }
+}
+
+/// How often a Retry or a Repeat with these ports does; its limit is the first.
+fn turns_of(ports: &[Port]) -> u64
+    ensures { result ≡ turns_of ports.now }
+{
+    match ports.first() {
+        Some(port) => turns_given(&port.value),
+        None => 1,
+    }
+}
+
+/// How often a node visits its children at most in one visit.
+fn times_of(kind: Kind, ports: &[Port]) -> u64
+    ensures { result ≡ times_of kind ports.now }
+{
+    match kind {
+        Kind::Retry | Kind::Repeat => turns_of(ports),
+        _ => 1,
+    }
+}
+
+/// One visit, and so many times the visits below, up to `most`.
+fn with_own(times: u64, below: u64, most: u64) -> u64
+    requires { most < 2 ^ 33 }
+    ensures { result ≡ min most (1 + times * below) }
+{
+    most.min(times.saturating_mul(below).saturating_add(1))
+}
+
+/// The work of the term, up to `most`.
+fn work_up_to(term: &Term, most: u64) -> u64
+    requires { most < 2 ^ 33 }
+    ensures { result ≡ min most (work_of term.now) }
+{
+    let mut below = 0;
+    for child in term.children.list() {
+        below = most.min(below + work_up_to(child, most));
+    }
+    with_own(times_of(term.kind, term.ports.list()), below, most)
+}
+
+/// Whether one visit of the term's root makes at most so many visits.
+pub fn is_within_work(term: &Term, most: u32) -> bool
+    ensures { result ≡ nat_le (work_of term.now) most }
+{
+    let most = u64::from(most);
+    work_up_to(term, most + 1) <= most
+}
+
+/// How many visits one visit of the tree's root makes at most. It allocates nothing.
+pub fn work(tree: &Tree) -> u32
+    requires { work_of tree.now.term < 2 ^ 32 }
+    ensures { result ≡ work_of tree.now.term }
+{
+    work_up_to(&tree.term, u64::from(u32::MAX)) as u32
+}

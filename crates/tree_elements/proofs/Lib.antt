@@ -1,0 +1,17 @@
+pub mod Ascii
+pub mod Asides
+pub mod Cuts
+pub mod FewNames
+pub mod Files
+pub mod Found
+pub mod Marks
+pub mod Names
+pub mod Nesting
+pub mod Outcomes
+pub mod Prefixes
+pub mod References
+pub mod Searches
+pub mod Skips
+pub mod Standings
+pub mod Verdicts
+pub mod Writing

@@ -1,0 +1,13 @@
+//! The node models of a tree file: which ports its leaves have.
+#![tactic(auto)]
+
+mod attributes;
+mod models;
+mod names;
+mod ports;
+mod read;
+
+pub use attributes::attribute;
+pub use models::{Manifest, model};
+pub use names::is_port_name;
+pub use read::manifest_of;

@@ -1,0 +1,7 @@
+pub mod AboutPatterns
+pub mod Eaches
+pub mod Ordered
+pub mod ReadFit
+pub mod Replacing
+pub mod Runs
+pub mod Texts

@@ -1,0 +1,4 @@
+pub mod FitRules
+pub mod Orders
+pub mod Patterns
+pub mod Seen

@@ -1,0 +1,14 @@
+//! Mocks: a tree tested with its leaves replaced, by rules in a JSON file whose patterns have stars.
+#![tactic(auto)]
+
+pub mod laws;
+mod limits;
+mod names;
+mod nodes;
+mod patterns;
+mod reading;
+mod substituting;
+
+pub use patterns::is_match;
+pub use reading::read_rules;
+pub use substituting::substitute;

@@ -1,0 +1,5 @@
+//! Patterns with stars: whether a pattern matches a text.
+
+mod matching;
+
+pub use matching::is_match;

@@ -1,0 +1,4 @@
+pub mod AboutLines
+pub mod Checked
+pub mod Named
+pub mod RowParts

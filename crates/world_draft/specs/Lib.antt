@@ -1,0 +1,5 @@
+pub mod Drafts
+pub mod Lines
+pub mod Readings
+pub mod Rows
+pub mod Tables

@@ -1,0 +1,19 @@
+//! The lines of world scripts, what stands in a line, and what the lines have made so far: the facts, the rows, the row to
+//! which lines may still add, and the events.
+#![tactic(auto)]
+
+mod draft;
+mod facts;
+mod knowing;
+mod lines;
+mod ports;
+mod reading;
+mod rows;
+mod tables;
+
+pub use draft::Draft;
+pub use lines::{
+    Head, content, cut, head_in, int, is, is_ignored, is_line, is_name, ms, name_of, names_of,
+    numeric, one_of, parts, trimmed, without_rest,
+};
+pub use reading::Reading;

@@ -1,0 +1,71 @@
+-- A file reads as one world at most, or it has one first faulty line.
+use Rattle.std.proofs.Common.{◌≡◌, ℕ, ◌+◌, Bool, true, false, List, [], ◌∷◌, Option, Some, None, Result, Ok, Err, refl, sym, ap, ◌∙◌, subst}
+use Rattle.std.specs.Prelude.{MatchBool, bytes_eq, codes}
+use Rattle.spec_script.specs.declared.syntax.Expr.{Expr}
+use Rattle.script_reader.proofs.Exclusive.{one-expr}
+use Rattle.spec_world.specs.declared.world.World.{World}
+use Rattle.spec_world_file.specs.declared.world_fault.WorldFault.{WorldFault}
+use Rattle.spec_world_file.specs.declared.world_fault.WorldKind.{WorldKind}
+use Rattle.spec_world_file.specs.WorldFile.{Line, FactLine, IsLine, WhenLine, TimedLine, ReplayLine, GateLine, FailsLine, NeedsLine, SetsLine, OutLine, GoalLine, RunnersLine, AtLine, TickLine, HaltLine, SetLine, AfterForm, AfterLine, AfterLines, AfterText, GoesOn, LinesMake, LinesRead, Reading, ReadsNumeric, ReadsWorld, SaysOf, by_expr, content, is_ignored, line_in, lines_in, no_header, nothing_read, without_return, world_after}
+
+one_numeric : (text : List ℕ) (a b : Option Expr) → ReadsNumeric text a → ReadsNumeric text b → a ≡ b
+one_numeric text None None h k = refl
+one_numeric text None (Some e) h k = absurd (h e k.0 k.1)
+one_numeric text (Some e) None h k = absurd (k e h.0 h.1)
+one_numeric text (Some e) (Some f) h k = ap (λ (x : Expr). Some x) (one-expr text e f h.0 k.0)
+
+one_saying : (text : List ℕ) (rule : Expr → Result Reading WorldKind) (a b : Result Reading WorldKind) → SaysOf text rule a → SaysOf text rule b → a ≡ b
+one_saying text rule a b h k = h.is ∙ ap (λ (o : Option Expr). by_expr o rule) (one_numeric text h.expr k.expr h.reads k.reads) ∙ sym k.is
+
+one_line : (r : Reading) (line : Line) (a b : Result Reading WorldKind) → AfterLine r line a → AfterLine r line b → a ≡ b
+one_line r (FactLine name opening) a b h k = h ∙ sym k
+one_line r (IsLine id fact op value) a b h k = h ∙ sym k
+one_line r (WhenLine head expr) a b h k = one_saying expr _ a b h k
+one_line r (TimedLine head ms) a b h k = h ∙ sym k
+one_line r (ReplayLine head ms outcomes) a b h k = h ∙ sym k
+one_line r (GateLine head expr) a b h k = one_saying expr _ a b h k
+one_line r (FailsLine expr) a b h k = one_saying expr _ a b h k
+one_line r (NeedsLine id) a b h k = h ∙ sym k
+one_line r (SetsLine fact how value) a b h k = h ∙ sym k
+one_line r (OutLine port expr) a b h k = one_saying expr _ a b h k
+one_line r (GoalLine id) a b h k = h ∙ sym k
+one_line r (RunnersLine count) a b h k = h ∙ sym k
+one_line r (AtLine ms) a b h k = h ∙ sym k
+one_line r (TickLine runner) a b h k = h ∙ sym k
+one_line r (HaltLine runner) a b h k = h ∙ sym k
+one_line r (SetLine fact value) a b h k = h ∙ sym k
+
+one_form : (r : Reading) (o : Option Line) (a b : Result Reading WorldKind) → AfterForm r o a → AfterForm r o b → a ≡ b
+one_form r None a b h k = h ∙ sym k
+one_form r (Some line) a b h k = one_line r line a b h k
+
+one_text : (r : Reading) (text : List ℕ) (a b : Result Reading WorldKind) → AfterText r text a → AfterText r text b → a ≡ b
+one_text r text a b = by (is_ignored (content text))
+  where
+    by : (t : Bool) → MatchBool t (a ≡ Ok r) (AfterForm r (line_in (content text)) a) → MatchBool t (b ≡ Ok r) (AfterForm r (line_in (content text)) b) → a ≡ b
+    by true h k = h ∙ sym k
+    by false h k = one_form r (line_in (content text)) a b h k
+
+one_after : (n : ℕ) (texts : List (List ℕ)) (r : Reading) (a b : Result Reading WorldFault) → AfterLines n texts r a → AfterLines n texts r b → a ≡ b
+one_after n [] r a b h k = h ∙ sym k
+one_after n (text ∷ texts) r a b h k =
+    by (one_after (n + 1) texts) k.0 (subst (GoesOn n (λ left. AfterLines (n + 1) texts left a) a) (one_text r text h.0 k.0 h.1 k.1) h.2) k.2
+  where
+    by : ((left : Reading) (a b : Result Reading WorldFault) → AfterLines (n + 1) texts left a → AfterLines (n + 1) texts left b → a ≡ b) →
+        (next : Result Reading WorldKind) → GoesOn n (λ left. AfterLines (n + 1) texts left a) a next → GoesOn n (λ left. AfterLines (n + 1) texts left b) b next → a ≡ b
+    by rest (Ok left) x y = rest left a b x y
+    by rest (Err kind) x y = x ∙ sym y
+
+one_making : (texts : List (List ℕ)) (a b : Result World WorldFault) → LinesMake texts a → LinesMake texts b → a ≡ b
+one_making texts a b h k = h.is ∙ ap world_after (one_after 2 texts nothing_read h.after k.after h.lines k.lines) ∙ sym k.is
+
+one_reading : (texts : List (List ℕ)) (a b : Result World WorldFault) → LinesRead texts a → LinesRead texts b → a ≡ b
+one_reading [] a b h k = h ∙ sym k
+one_reading (first ∷ rest) a b h k = by (bytes_eq (without_return first) (codes "bt-world 1")) h k
+  where
+    by : (t : Bool) → MatchBool t (LinesMake rest a) (a ≡ no_header) → MatchBool t (LinesMake rest b) (b ≡ no_header) → a ≡ b
+    by true h k = one_making rest a b h k
+    by false h k = h ∙ sym k
+
+pub one_world : (bytes : List ℕ) (a b : Result World WorldFault) → ReadsWorld bytes a → ReadsWorld bytes b → a ≡ b
+one_world bytes a b h k = one_reading (lines_in bytes) a b h k

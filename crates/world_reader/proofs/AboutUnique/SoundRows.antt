@@ -1,0 +1,240 @@
+-- The world that lines make is valid after each line of a row.
+use Rattle.std.proofs.Common.{◌≡◌, ℕ, ◌<◌, ◌≤◌, Bool, true, false, not, ◌||◌, List, [], ◌∷◌, ◌++◌, length, ℤ, Option, Some, None, Result, Ok, Err, refl, sym, ap, ◌∙◌, subst, arith, if◌then◌else◌}
+use Rattle.std.specs.Prelude.{IfSome, bytes_eq, nat_eq, nat_le, nat_lt}
+use Rattle.std.specs.Option.{option_to_list}
+use Rattle.std.specs.List.{All, list_all, list_any}
+use Rattle.std.proofs.lemmas.List.{append-nil, length-map, map-append}
+use Rattle.std.proofs.lemmas.List.Elements.{All-push, All-nil}
+use Rattle.std.proofs.lemmas.List.Sums.{AllPass-from_list_all}
+use Rattle.spec_script.specs.declared.syntax.Cmp.{Cmp}
+use Rattle.spec_script.specs.declared.syntax.Expr.{Expr}
+use Rattle.spec_world.specs.declared.world.Fact.{Fact}
+use Rattle.spec_world.specs.declared.world.Row.{Row}
+use Rattle.spec_world.specs.declared.world.RowSort.{RowSort}
+use Rattle.spec_world.specs.declared.world.RowSort.TheVariants.{Is, When, Timed, Replay, Gate}
+use Rattle.spec_world.specs.declared.world.Set.{Set}
+use Rattle.spec_world_file.specs.declared.world_fault.WorldKind.{WorldKind}
+use Rattle.spec_tree.specs.Names.{is_reserved}
+use Rattle.spec_world.specs.Worlds.{IsComparisonIn, IsExprOver, AreNames, AreNumbers, IsValidRow, IsValidSet, IsValidSort, IsValidWorld, facts_set, ids_of_rows, is_comparison, is_condition, is_name, names_of_facts, ports_written}
+use Rattle.spec_tree.specs.Numbers.{is_int}
+use Rattle.spec_world_file.specs.WorldFile.{Reading, Head, ReadsNumeric, fact_number, fails_by, is_taken, knows_all, knows_sort, plain_row, repeats, row_with_effect, row_with_fails, row_with_need, row_with_out, with_action, with_comparison, with_head, with_open, with_open_row, with_row, world_of}
+use Rattle.world_reader.proofs.AboutUnique.WellFormed.{NamedHead}
+use Rattle.world_reader.proofs.AboutUnique.Grown.{all-last, names-push, numbers-push, world_with_last, world_with_row}
+use Rattle.world_reader.proofs.AboutUnique.Sound.{Sound, Stays, any-map, at_most, below, distinct_ports, fact_there, no_names, no_numbers, not_both, not_not, nothing_distinct, stays_else, stays_numbered, valid_expr}
+
+-- ---- One more row
+
+plain_valid : (facts : List Fact) (rows : List Row) (id : List ℕ) (ports : List (List ℕ)) (sort : RowSort) → is_reserved id ≡ false → list_all is_name ports ≡ true → repeats [] ports ≡ false → length ports ≤ 8 → IsValidSort facts ports sort → IsValidRow facts rows (plain_row id ports sort)
+plain_valid facts rows id ports sort own named differ few valid = record {
+  own = own;
+  ports = record { few = few; named = AllPass-from_list_all is_name ports named; distinct = distinct_ports [] ports (nothing_distinct bytes_eq) differ };
+  sort = valid;
+  needs = no_numbers 16;
+  needed = All-nil (IsComparisonIn rows);
+  sets = no_numbers 16;
+  effects = All-nil (IsValidSet facts);
+  outs = no_names 8;
+  outputs = All-nil (λ out. IsExprOver ports (names_of_facts facts) out.expr);
+  bare = λ k. (refl, refl, refl);
+}
+
+-- a row that may be added where no row is open
+pub record MayJoin (r : Reading) (row : Row) : Type 0 where
+  pub valid : IsValidRow r.facts r.rows row
+  pub named : is_name row.id ≡ true
+  pub free : list_any (bytes_eq row.id) (ids_of_rows r.rows) ≡ false
+
+joined : (r : Reading) (row : Row) → r.open_row ≡ None → Sound r → MayJoin r row → length r.rows < 1024 → IsValidWorld (record (world_of r) { rows = r.rows ++ row ∷ [] })
+joined r row none h may room =
+    let whole : r.rows ++ option_to_list r.open_row ≡ r.rows = ap (λ (o : Option Row). r.rows ++ option_to_list o) none ∙ append-nil r.rows in
+    world_with_row (record (world_of r) { rows = r.rows }) row
+    (subst (λ (rows : List Row). IsValidWorld (record (world_of r) { rows = rows })) whole h.world)
+    may.valid may.named may.free room
+
+pub stays_row : (r : Reading) (row : Row) → r.open_row ≡ None → Sound r → MayJoin r row → Stays (with_row row r)
+stays_row r row none h may =
+    stays_else (nat_le 1024 (length r.rows)) _ _ (λ room.
+    let all = r.rows ++ row ∷ [] in
+    let whole : all ++ option_to_list r.open_row ≡ all = ap (λ (o : Option Row). all ++ option_to_list o) none ∙ append-nil all in
+    record {
+      world = subst (λ (rows : List Row). IsValidWorld (record (world_of r) { rows = rows })) (sym whole) (joined r row none h may (below 1024 (length r.rows) room));
+      late = h.late;
+      moment = h.moment;
+      action = h.action;
+    })
+
+pub stays_action : (r : Reading) (row : Row) → is_condition row.sort ≡ false → r.open_row ≡ None → Sound r → MayJoin r row → Stays (with_action row r)
+stays_action r row action none h may =
+    stays_else (nat_le 1024 (length r.rows)) _ _ (λ room.
+    record {
+      world = joined r row none h may (below 1024 (length r.rows) room);
+      late = h.late;
+      moment = h.moment;
+      action = action;
+    })
+
+pub stays_head :
+    (r : Reading) (head : Head) (add : Row → Reading → Result Reading WorldKind) (sort : RowSort) → NamedHead head →
+    (knows_sort head.ports r.facts sort ≡ true → IsValidSort r.facts head.ports sort) →
+    (MayJoin r (plain_row head.id head.ports sort) → Stays (add (plain_row head.id head.ports sort) r)) →
+    Stays (with_head head add sort r)
+stays_head r head add sort named valid adds =
+    stays_else (is_taken r.rows head.id || repeats [] head.ports) _ _ (λ single.
+    stays_else (not (knows_sort head.ports r.facts sort)) _ _ (λ known.
+    stays_else (nat_lt 8 (length head.ports)) _ _ (λ few.
+    let apart = not_both (is_taken r.rows head.id) (repeats [] head.ports) single in
+    let own = not_both (is_reserved head.id) (list_any (bytes_eq head.id) (ids_of_rows r.rows)) apart.0 in
+    adds (record {
+      valid = plain_valid r.facts r.rows head.id head.ports sort own.0 named.ports apart.1 (at_most 8 (length head.ports) few) (valid (not_not (knows_sort head.ports r.facts sort) known));
+      named = named.id;
+      free = own.1;
+    }))))
+
+pub stays_comparison : (r : Reading) (id fact : List ℕ) (op : Cmp) (value : ℤ) → r.open_row ≡ None → Sound r → is_name id ≡ true → is_int value ≡ true → Stays (with_comparison id fact op value r)
+stays_comparison r id fact op value none h named int =
+    stays_else (is_taken r.rows id) _ _ (λ free.
+    let own = not_both (is_reserved id) (list_any (bytes_eq id) (ids_of_rows r.rows)) free in
+    stays_numbered (fact_number r.facts fact) _ (λ n is.
+    stays_row r (plain_row id [] (Is n op value)) none h (record {
+      valid = plain_valid r.facts r.rows id [] (Is n op value) own.0 refl refl (omega arith) (fact_there r.facts fact n is, int, refl);
+      named = named;
+      free = own.1;
+    })))
+
+-- ---- More of the open action
+
+-- what an addition makes of a row
+abbrev pub Adds : List Fact → List Row → Row → Result Row WorldKind → Type 0
+Adds facts rows row (Ok new) = (new.id ≡ row.id) × (is_comparison row.sort ≡ is_comparison new.sort) × (is_condition new.sort ≡ false) × IsValidRow facts rows new
+Adds facts rows row (Err kind) = Unit {0}
+
+adds_else : (facts : List Fact) (rows : List Row) (row : Row) (b : Bool) (kind : WorldKind) (said : Result Row WorldKind) → (b ≡ false → Adds facts rows row said) → Adds facts rows row (if b then Err kind else said)
+adds_else facts rows row true kind said h = tt
+adds_else facts rows row false kind said h = h refl
+
+stays_open_row : (r : Reading) (row : Row) (said : Result Row WorldKind) → r.open_row ≡ Some row → Sound r → Adds r.facts (r.rows ++ row ∷ []) row said → Stays (with_open_row r said)
+stays_open_row r row (Err kind) is h adds = tt
+stays_open_row r row (Ok new) is h adds = record {
+  world = world_with_last (world_of r) r.rows row new (ap (λ (o : Option Row). r.rows ++ option_to_list o) is) h.world adds.0 adds.1 (λ old. adds.3);
+  late = h.late;
+  moment = h.moment;
+  action = adds.2;
+}
+
+pub stays_open :
+    (r : Reading) (add : Row → Result Row WorldKind) → Sound r →
+    ((row : Row) → is_condition row.sort ≡ false → IsValidRow r.facts (r.rows ++ row ∷ []) row → Adds r.facts (r.rows ++ row ∷ []) row (add row)) →
+    Stays (with_open r.open_row r add)
+stays_open r add h adds = by r.open_row refl
+  where
+    by : (o : Option Row) → r.open_row ≡ o → Stays (with_open o r add)
+    by None is = tt
+    by (Some row) is =
+        let valid : IsValidRow r.facts (r.rows ++ row ∷ []) row =
+        all-last (IsValidRow r.facts (r.rows ++ row ∷ [])) r.rows row
+        (subst (λ (rows : List Row). All (IsValidRow r.facts rows) rows) (ap (λ (o : Option Row). r.rows ++ option_to_list o) is) h.world.rows) in
+        stays_open_row r row (add row) is h (adds row (subst (λ (o : Option Row). IfSome o (λ w. is_condition w.sort ≡ false)) is h.action) valid)
+
+never_bare : (row : Row) (P : Type 0) → is_condition row.sort ≡ false → is_condition row.sort ≡ true → P
+never_bare row P action h = absurd (cc)
+
+pub adds_need : (facts : List Fact) (rows : List Row) (row : Row) (n : ℕ) → is_condition row.sort ≡ false → IsValidRow facts rows row → IsComparisonIn rows n → Adds facts rows row (row_with_need n row)
+adds_need facts rows row n action h there =
+    adds_else facts rows row (list_any (nat_eq n) row.needs) _ _ (λ free.
+    adds_else facts rows row (nat_le 16 (length row.needs)) _ _ (λ room. (
+      refl,
+      refl,
+      action,
+      record {
+        own = h.own;
+        ports = h.ports;
+        sort = h.sort;
+        needs = numbers-push 16 row.needs n h.needs free (below 16 (length row.needs) room);
+        needed = All-push (IsComparisonIn rows) row.needs n h.needed there;
+        sets = h.sets;
+        effects = h.effects;
+        outs = h.outs;
+        outputs = h.outputs;
+        bare = never_bare row _ action;
+      },
+    )))
+
+pub adds_effect : (facts : List Fact) (rows : List Row) (row : Row) (effect : Set) → is_condition row.sort ≡ false → IsValidRow facts rows row → effect.fact < length facts → is_int effect.value ≡ true → Adds facts rows row (row_with_effect effect row)
+adds_effect facts rows row effect action h there int =
+    adds_else facts rows row (list_any (λ set. nat_eq effect.fact set.fact) row.sets) _ _ (λ free.
+    adds_else facts rows row (nat_le 16 (length row.sets)) _ _ (λ room.
+    let fewer : length (facts_set row.sets) < 16 = omega (arith, length-map row.sets (λ set. set.fact), below 16 (length row.sets) room) in (
+      refl,
+      refl,
+      action,
+      record {
+        own = h.own;
+        ports = h.ports;
+        sort = h.sort;
+        needs = h.needs;
+        needed = h.needed;
+        sets = subst (AreNumbers 16) (sym (map-append (λ set. set.fact) row.sets (effect ∷ [])))
+            (numbers-push 16 (facts_set row.sets) effect.fact h.sets (any-map (nat_eq effect.fact) (λ set. set.fact) row.sets ∙ free) fewer);
+        effects = All-push (IsValidSet facts) row.sets effect h.effects (there, int);
+        outs = h.outs;
+        outputs = h.outputs;
+        bare = never_bare row _ action;
+      },
+    )))
+
+pub adds_out : (facts : List Fact) (rows : List Row) (row : Row) (text port : List ℕ) (e : Expr) → is_condition row.sort ≡ false → IsValidRow facts rows row → is_name port ≡ true → ReadsNumeric text (Some e) → Adds facts rows row (row_with_out facts port e row)
+adds_out facts rows row text port e action h named reads =
+    adds_else facts rows row (list_any (λ out. bytes_eq port out.port) row.outs) _ _ (λ free.
+    adds_else facts rows row (not (knows_all row.ports facts e)) _ _ (λ known.
+    adds_else facts rows row (nat_le 8 (length row.outs)) _ _ (λ room.
+    let fewer : length (ports_written row.outs) < 8 = omega (arith, length-map row.outs (λ out. out.port), below 8 (length row.outs) room) in (
+      refl,
+      refl,
+      action,
+      record {
+        own = h.own;
+        ports = h.ports;
+        sort = h.sort;
+        needs = h.needs;
+        needed = h.needed;
+        sets = h.sets;
+        effects = h.effects;
+        outs = subst (AreNames 8) (sym (map-append (λ out. out.port) row.outs (record { port = port; expr = e } ∷ [])))
+            (names-push 8 (ports_written row.outs) port h.outs named (any-map (bytes_eq port) (λ out. out.port) row.outs ∙ free) fewer);
+        outputs = All-push (λ out. IsExprOver row.ports (names_of_facts facts) out.expr) row.outs (record { port = port; expr = e }) h.outputs
+            (valid_expr text row.ports facts e reads (not_not (knows_all row.ports facts e) known));
+        bare = never_bare row _ action;
+      },
+    ))))
+
+fails_known : (facts : List Fact) (rows : List Row) (row : Row) (text : List ℕ) (e : Expr) (ms : ℕ) (t : Bool) → row.sort ≡ Timed ms None → IsValidRow facts rows row → ReadsNumeric text (Some e) → knows_all row.ports facts e ≡ t → Adds facts rows row (fails_by (Timed ms None) row t e)
+fails_known facts rows row text e ms false is h reads known = tt
+fails_known facts rows row text e ms true is h reads known =
+    let timed : IsValidSort facts row.ports (Timed ms None) = subst (IsValidSort facts row.ports) is h.sort in (
+      refl,
+      ap is_comparison is,
+      refl,
+      record {
+        own = h.own;
+        ports = h.ports;
+        sort = (timed.0, valid_expr text row.ports facts e reads known);
+        needs = h.needs;
+        needed = h.needed;
+        sets = h.sets;
+        effects = h.effects;
+        outs = h.outs;
+        outputs = h.outputs;
+        bare = λ k. absurd (cc);
+      },
+    )
+
+fails_sort : (facts : List Fact) (rows : List Row) (row : Row) (text : List ℕ) (e : Expr) (sort : RowSort) → row.sort ≡ sort → IsValidRow facts rows row → ReadsNumeric text (Some e) → Adds facts rows row (fails_by sort row (knows_all row.ports facts e) e)
+fails_sort facts rows row text e (Timed ms None) is h reads = fails_known facts rows row text e ms (knows_all row.ports facts e) is h reads refl
+fails_sort facts rows row text e (Timed ms (Some other)) is h reads = tt
+fails_sort facts rows row text e (Is n op value) is h reads = tt
+fails_sort facts rows row text e (When w) is h reads = tt
+fails_sort facts rows row text e (Replay ms outcomes) is h reads = tt
+fails_sort facts rows row text e (Gate g) is h reads = tt
+
+pub adds_fails : (facts : List Fact) (rows : List Row) (row : Row) (text : List ℕ) (e : Expr) → IsValidRow facts rows row → ReadsNumeric text (Some e) → Adds facts rows row (row_with_fails facts e row)
+adds_fails facts rows row text e h reads = fails_sort facts rows row text e row.sort refl h reads

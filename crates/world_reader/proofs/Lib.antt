@@ -1,0 +1,3 @@
+pub mod AboutUnique
+pub mod Onward
+pub mod Saying

@@ -1,0 +1,86 @@
+-- What a call leaves is what the definition says of a line of a row.
+use Rattle.std.proofs.Common.{◌≡◌, ℕ, Bool, true, false, ◌||◌, ◌&&◌, ◌==◌, List, map, length, Option, Some, None, Result, Ok, Err, ℤ, refl, sym, ◌∙◌, ap, subst, if◌then◌else◌}
+use Rattle.std.specs.Prelude.{nat_abs, nat_le, nat_lt, option_map, option_and_then}
+use Rattle.std.specs.List.{list_all}
+use Rattle.std.specs.Str.Parse.{signed_digits_value}
+use Rattle.base_texts.specs.declared.stop.Stop.{Stop}
+use Rattle.base_texts.specs.declared.stop.Stop.TheVariants as stop
+use Rattle.spec_script.specs.declared.syntax.Expr.{Expr}
+use Rattle.spec_world.specs.declared.world.Row.{Row}
+use Rattle.spec_world.specs.declared.world.RowSort.{RowSort}
+use Rattle.spec_world_file.specs.declared.world_fault.WorldKind.{WorldKind}
+use Rattle.spec_world_file.specs.WorldFile.{Line, TimedLine, ReplayLine, AfterForm, AfterLine, Reading, following, ends_after, is_ms, outcomes_in, replay_line, timed_line, with_action, word, ReadsNumeric, SaysOf, closed, ranged, with_head}
+use Rattle.spec_tree.specs.Numbers.{is_canonical, number_in}
+use Rattle.spec_world_file.specs.WorldFile as file
+use Rattle.world_draft.specs.Lines.Ranges.{Passes}
+use Rattle.world_draft.specs.Drafts.{DraftSays, row_of}
+use Rattle.world_draft.specs.Readings.{Leaves}
+use Rattle.world_draft.specs.declared.draft.Draft.{Draft}
+
+pub leaves_map : {A X F : Type 0} (result : Result A (Stop F)) (left : X) (P Q : Result X F → Type 0) → ((said : Result X F) → P said → Q said) → Leaves result left P → Leaves result left Q
+leaves_map (Ok a) left P Q h k = h (Ok left) k
+leaves_map (Err stop.NoMemory) left P Q h k = k
+leaves_map (Err (stop.Fault f)) left P Q h k = h (Err f) k
+
+-- what is said of an expression that was read
+pub says_some : (text : List ℕ) (e : Expr) (rule : Expr → Result Reading WorldKind) (said : Result Reading WorldKind) → ReadsNumeric text (Some e) → said ≡ rule e → SaysOf text rule said
+says_some text e rule said reads is = record { expr = Some e; reads = reads; is = is }
+
+-- what is said of a head that was read
+pub of_head : {A : Type 0} (r left : Reading) (line : file.Head → Option Line) (head : file.Head) (word : List ℕ) (result : Result A (Stop WorldKind)) → Some head ≡ file.head_in word → Leaves result left (AfterForm r (line head)) → Leaves result left (AfterForm r (option_and_then line (file.head_in word)))
+of_head r left line head word result is h = subst (λ (o : Option file.Head). Leaves result left (AfterForm r (option_and_then line o))) is h
+
+-- what is said of a head that was read, in a line that the head alone makes
+pub of_mapped : {A : Type 0} (r left : Reading) (line : file.Head → Line) (head : file.Head) (word : List ℕ) (result : Result A (Stop WorldKind)) → Some head ≡ file.head_in word → Leaves result left (AfterForm r (Some (line head))) → Leaves result left (AfterForm r (option_map line (file.head_in word)))
+of_mapped r left line head word result is h = subst (λ (o : Option file.Head). Leaves result left (AfterForm r (option_map line o))) is h
+
+-- what is added is what is said of the head
+pub adds : {A : Type 0} (result : Result A (Stop WorldKind)) (left now : Reading) (head : file.Head) (sort : RowSort) (add : Row → Reading → Result Reading WorldKind) (d : Draft) (row : Row) → DraftSays (Ok d) head sort now → row ≡ row_of d → Leaves result left (λ said. said ≡ add row now) → Leaves result left (λ said. said ≡ with_head head add sort now)
+adds result left now head sort add d row h is = leaves_map result left (λ said. said ≡ add row now) (λ said. said ≡ with_head head add sort now) (λ said k. k ∙ ap (λ (w : Row). add w now) is ∙ sym (h.1 add))
+
+-- and so is its fault
+pub refuses : (s : Stop WorldKind) (left now : Reading) (head : file.Head) (sort : RowSort) (add : Row → Reading → Result Reading WorldKind) → DraftSays (Err s) head sort now → Leaves {A = Unit {0}} (Err s) left (λ said. said ≡ with_head head add sort now)
+refuses stop.NoMemory left now head sort add h = tt
+refuses (stop.Fault kind) left now head sort add h = sym (h add)
+
+-- a row that answers by an expression
+pub says_head :
+    {A : Type 0} (result : Result A (Stop WorldKind)) (left r now : Reading) (text : List ℕ) (e : Expr) (head : file.Head) (add : Row → Reading → Result Reading WorldKind) (sort : Expr → RowSort) →
+    now ≡ closed r → ReadsNumeric text (Some e) → Leaves result left (λ said. said ≡ with_head head add (sort e) now) → Leaves result left (SaysOf text (λ x. with_head head add (sort x) (closed r)))
+says_head result left r now text e head add sort is reads =
+    leaves_map result left (λ said. said ≡ with_head head add (sort e) now) (SaysOf text (λ x. with_head head add (sort x) (closed r)))
+    (λ said k. says_some text e (λ x. with_head head add (sort x) (closed r)) said reads (k ∙ ap (λ (q : Reading). with_head head add (sort e) q) is))
+
+ranged_is : (t : Bool) (said : Result Reading WorldKind) → t ≡ true → said ≡ ranged t said
+ranged_is true said h = refl
+ranged_is false said h = absurd (cc)
+
+number_is : (w text : List ℕ) → w ≡ word 0 text → is_canonical w ≡ true → number_in (word 0 text) ≡ Some (signed_digits_value 10 w)
+number_is w text is canonical = ap number_in (sym is) ∙ ap (λ (t : Bool). if t then Some (signed_digits_value 10 w) else None) canonical
+
+-- a row that lasts
+pub lasts :
+    {A : Type 0} (result : Result A (Stop WorldKind)) (left r now : Reading) (line : Option Line) (z : ℤ) (ms : ℕ) (head : file.Head) (sort : ℕ → RowSort) (form : ℤ → Line) →
+    ((x : ℤ) (said : Result Reading WorldKind) → said ≡ ranged (is_ms x) (with_head head with_action (sort (nat_abs x)) (closed r)) → AfterLine r (form x) said) →
+    now ≡ closed r → line ≡ Some (form z) → Passes is_ms nat_abs z (Some ms) → Leaves result left (λ said. said ≡ with_head head with_action (sort ms) now) → Leaves result left (AfterForm r line)
+lasts result left r now line z ms head sort form after is said_line passes =
+    leaves_map result left (λ said. said ≡ with_head head with_action (sort ms) now) (AfterForm r line)
+    (λ said k. subst (λ (o : Option Line). AfterForm r o said) (sym said_line)
+    (after z said (k ∙ ap (λ (n : ℕ). with_head head with_action (sort n) now) passes.1 ∙ ap (λ (q : Reading). with_head head with_action (sort (nat_abs z)) q) is ∙ ranged_is (is_ms z) (with_head head with_action (sort (nat_abs z)) (closed r)) passes.0)))
+
+ends_is : (text rest : List ℕ) (n : ℕ) → rest ≡ following n text → (length rest == 0) ≡ true → ends_after n text ≡ true
+ends_is text rest n is h = ap (λ (bs : List ℕ). length bs == 0) (sym is) ∙ h
+
+pub timed_is : (text w rest : List ℕ) (head : file.Head) → w ≡ word 0 text → rest ≡ following 1 text → (length rest == 0) ≡ true → is_canonical w ≡ true → timed_line text head ≡ Some (TimedLine head (signed_digits_value 10 w))
+timed_is text w rest head is is_rest none canonical =
+    ap (λ (t : Bool). if t then option_map (TimedLine head) (number_in (word 0 text)) else None) (ends_is text rest 1 is_rest none)
+    ∙ ap (option_map (TimedLine head)) (number_is w text is canonical)
+
+pub replay_is :
+    (text w letters rest : List ℕ) (head : file.Head) → w ≡ word 0 text → letters ≡ word 1 text → rest ≡ following 2 text → (length rest == 0) ≡ true → is_canonical w ≡ true →
+    (nat_lt 0 (length letters) && nat_le (length letters) 64 && list_all (λ b. b == 83 || b == 70) letters) ≡ true →
+    replay_line text head ≡ Some (ReplayLine head (signed_digits_value 10 w) (map (λ b. b == 83) letters))
+replay_is text w letters rest head is is_letters is_rest none canonical all =
+    ap (λ (t : Bool). if t then option_and_then (λ ms. option_map (ReplayLine head ms) (outcomes_in (word 1 text))) (number_in (word 0 text)) else None) (ends_is text rest 2 is_rest none)
+    ∙ ap (option_and_then (λ ms. option_map (ReplayLine head ms) (outcomes_in (word 1 text)))) (number_is w text is canonical)
+    ∙ ap (option_map (ReplayLine head (signed_digits_value 10 w))) (ap outcomes_in (sym is_letters) ∙ ap (λ (t : Bool). if t then Some (map (λ b. b == 83) letters) else None) all)

@@ -1,0 +1,14 @@
+//! The reader of world scripts: from the bytes of a file to the world that they describe; and laws: a file reads in one
+//! way, and as a valid world.
+#![tactic(auto)]
+
+mod actions;
+mod additions;
+mod events;
+mod forms;
+pub mod laws;
+mod read;
+mod unique;
+
+pub use read::read_world;
+pub use unique::{read_worlds_are_valid, worlds_read_one_way};
