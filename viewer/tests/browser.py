@@ -5,8 +5,8 @@ import pathlib
 import shutil
 import sys
 
-HOW = """view: these tests need a browser. On Debian:
-    apt-get install chromium chromium-driver python3-selenium"""
+# What is said where there is no browser.
+MISSING = "skipped: no browser (apt-get install chromium chromium-driver python3-selenium)"
 
 # What the boxes in the page show, after so many frames that all is drawn.
 BOXES = """
@@ -138,6 +138,5 @@ class Browser:
 
 def skip():
     """Says how the browser is installed, and that nothing was tested."""
-    print(HOW)
-    print("0 passed, 0 failed")
+    print(MISSING)
     sys.exit(0)

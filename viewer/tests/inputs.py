@@ -41,10 +41,8 @@ def stand_in(folder):
 
 
 def built_program():
-    """The program that the variable BT names, or one that was proved of these sources; None where there is none."""
-    if os.environ.get("BT"):
-        return str(pathlib.Path(os.environ["BT"]).resolve())
-    finder = TOP / "tools" / "proved"
+    """The program that tests run, or None where there is none."""
+    finder = TOP / "tools" / "program"
     if not finder.exists():
         return None
     return subprocess.run([finder], capture_output=True, text=True).stdout.strip() or None
