@@ -1,0 +1,92 @@
+# Completion in Bash of the words of `bt`, and of `names` and `view` beside it. Source this file, or install the package.
+# The commands are those of docs/trace.md; tests/completion compares.
+
+# The files with one of these endings, and folders; where there are none, all files.
+_bt_files() {
+    local ending endings=("$@")
+    COMPREPLY=()
+    for ending in "${endings[@]}"; do
+        mapfile -t -O ${#COMPREPLY[@]} COMPREPLY < <(compgen -f -X "!*.$ending" -- "$word")
+    done
+    if [ ${#COMPREPLY[@]} = 0 ] && [ -z "$(compgen -d -- "$word")" ]; then
+        mapfile -t COMPREPLY < <(compgen -f -- "$word")
+    else
+        mapfile -t -O ${#COMPREPLY[@]} COMPREPLY < <(compgen -d -- "$word")
+    fi
+    compopt -o filenames 2>/dev/null
+}
+
+# The IDs of the trees in a file that begin as the word does.
+_bt_trees() {
+    local file=${1/#\~\//$HOME/}
+    [ -r "$file" ] || return
+    mapfile -t COMPREPLY < <(compgen -W "$(grep -o '<BehaviorTree[^>]*ID="[A-Za-z0-9_.-]*"' -- "$file" | sed 's/.*ID="//; s/"$//')" -- "$word")
+}
+
+# Completes a word by `sorts` of files, in their order, and then by `options`, each once. The value of an option is a number,
+# but for that of --main, which is a tree of the first file, and that of -o, a file.
+_bt_words() {
+    local place=$1 text first= count=0 left=()
+    for (( ; place < COMP_CWORD; place++)); do
+        text=${COMP_WORDS[place]}
+        if [[ $text == @(--main|-o|--ticks|--expand|--period) ]]; then
+            ((place++))
+        elif [[ $text != -* ]]; then
+            first=${first:-$text}
+            ((count++))
+        fi
+    done
+    case ${COMP_WORDS[COMP_CWORD - 1]} in
+        --main) _bt_trees "$first" ;;
+        -o) _bt_files html ;;
+        --ticks | --expand | --period) ;;
+        *)
+            if [[ $word != -* && $count -lt ${#sorts[@]} ]]; then
+                _bt_files ${sorts[count]}
+                return
+            fi
+            for text in "${options[@]}"; do
+                [[ " ${COMP_WORDS[*]:0:COMP_CWORD} " == *" $text "* ]] || left+=("$text")
+            done
+            mapfile -t COMPREPLY < <(compgen -W "${left[*]}" -- "$word") ;;
+    esac
+}
+
+_bt() {
+    local word=${COMP_WORDS[COMP_CWORD]} sorts=() options=()
+    COMPREPLY=()
+    if [ "$COMP_CWORD" = 1 ]; then
+        mapfile -t COMPREPLY < <(compgen -W 'tick live load check dead plan ground gplan mock help --help --version' -- "$word")
+        return
+    fi
+    case ${COMP_WORDS[1]} in
+        tick) sorts=(xml world) options=(--main) ;;
+        live) sorts=(xml world) options=(--ticks --main) ;;
+        check | dead) sorts=(xml) options=(--main) ;;
+        mock) sorts=(xml world 'rules json') options=(--main) ;;
+        plan) sorts=(world) options=(--expand --ticks --period) ;;
+        ground) sorts=(ground) ;;
+        gplan) sorts=(ground) options=(--expand --ticks --period) ;;
+        *) return ;;
+    esac
+    _bt_words 2
+}
+
+_bt_names() {
+    local word=${COMP_WORDS[COMP_CWORD]} sorts=(xml world) options=(--main --trees --all)
+    COMPREPLY=()
+    _bt_words 1
+}
+
+_bt_view() {
+    local word=${COMP_WORDS[COMP_CWORD]} sorts=(xml world) options=(--main --plan -o)
+    COMPREPLY=()
+    if [[ " ${COMP_WORDS[*]} " == *' --plan '* ]]; then
+        sorts=(world) options=(--expand --ticks --period -o)
+    fi
+    _bt_words 1
+}
+
+complete -F _bt bt ./bt
+complete -F _bt_names bt-names ./names
+complete -F _bt_view bt-view ./view
