@@ -1,5 +1,5 @@
 # Completion in Bash of the words of `bt`, and of `names` and `view` beside it. Source this file, or install the package.
-# The commands are those of docs/trace.md; tests/completion compares.
+# What `bt` takes is read from its help texts, tools/help beside it.
 
 # The files with one of these endings, and folders; where there are none, all files.
 _bt_files() {
@@ -53,22 +53,24 @@ _bt_words() {
 }
 
 _bt() {
-    local word=${COMP_WORDS[COMP_CWORD]} sorts=() options=()
+    local word=${COMP_WORDS[COMP_CWORD]} help command sorts=() options=() usage text
     COMPREPLY=()
+    help=$(readlink -f -- "$(type -P -- "$1")") && help=${help%/*}/tools/help && [ -d "$help" ] || return
     if [ "$COMP_CWORD" = 1 ]; then
-        mapfile -t COMPREPLY < <(compgen -W 'tick live load check dead plan ground gplan mock help --help --version' -- "$word")
+        mapfile -t COMPREPLY < <(compgen -W "$(cd "$help" && echo [[:lower:]]*) --help --version" -- "$word")
         return
     fi
-    case ${COMP_WORDS[1]} in
-        tick) sorts=(xml world) options=(--main) ;;
-        live) sorts=(xml world) options=(--ticks --main) ;;
-        check | dead) sorts=(xml) options=(--main) ;;
-        mock) sorts=(xml world 'rules json') options=(--main) ;;
-        plan) sorts=(world) options=(--expand --ticks --period) ;;
-        ground) sorts=(ground) ;;
-        gplan) sorts=(ground) options=(--expand --ticks --period) ;;
-        *) return ;;
-    esac
+    command=${COMP_WORDS[1]}
+    [[ $command == [[:lower:]]* && -f $help/$command ]] && read -ra usage <"$help/$command" || return
+    for text in "${usage[@]:3}"; do
+        case $command,$text in
+            *,TREE) sorts+=(xml) ;;
+            ground,WORLD | gplan,WORLD) sorts+=(ground) ;;
+            *,WORLD) sorts+=(world) ;;
+            *,RULES) sorts+=('rules json') ;;
+            *,--* | *,\[--*) options+=("${text#[}") ;;
+        esac
+    done
     _bt_words 2
 }
 
