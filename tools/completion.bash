@@ -53,13 +53,15 @@ _bt_words() {
 }
 
 _bt() {
-    local word=${COMP_WORDS[COMP_CWORD]} help command sorts=() options=() usage text
+    local word=${COMP_WORDS[COMP_CWORD]} help command sorts=() options=() commands usage text
     COMPREPLY=()
     help=$(readlink -f -- "$(type -P -- "$1")") && help=${help%/*}/tools/help && [ -d "$help" ] || return
-    if [ "$COMP_CWORD" = 1 ]; then
-        mapfile -t COMPREPLY < <(compgen -W "$(cd "$help" && echo [[:lower:]]*) --help --version" -- "$word")
-        return
-    fi
+    commands=$(cd "$help" && echo [[:lower:]]*)
+    case $COMP_CWORD,${COMP_WORDS[1]} in
+        1,*) mapfile -t COMPREPLY < <(compgen -W "$commands help --help --version" -- "$word") ;;
+        2,help) mapfile -t COMPREPLY < <(compgen -W "$commands" -- "$word") ;;
+    esac
+    [ "$COMP_CWORD" != 1 ] || return
     command=${COMP_WORDS[1]}
     [[ $command == [[:lower:]]* && -f $help/$command ]] && read -ra usage <"$help/$command" || return
     for text in "${usage[@]:3}"; do

@@ -40,7 +40,8 @@ def picture(runs: "list[dict[str, str]]") -> str:
     answers = sum(steps, collections.Counter())
     shares = [f'<tspan fill="{COLOURS[it]}">{it} {answers[it]}</tspan>' for it in COLOURS if answers[it]]
     lines = [
-        f'<svg xmlns="http://www.w3.org/2000/svg" viewBox="0 0 {width} {height}" width="{width}" height="{height}" font-family="sans-serif" font-size="12">',
+        f'<svg xmlns="http://www.w3.org/2000/svg" viewBox="0 0 {width} {height}" width="{width}" height="{height}"',
+        ' font-family="sans-serif" font-size="12">',
         '<rect width="100%" height="100%" fill="white"/>',
         f'<text x="{MARGIN}" y="20">{len(runs)} runs by the second in which they ended: {", ".join(shares)}</text>',
         f'<text x="{MARGIN - 6}" y="{MARGIN + 4}" text-anchor="end">{highest}</text>',
