@@ -91,7 +91,7 @@ NODES = [
     Case("nodes too deep", 3, "refused tree TooDeep 257\n", "T:6:1153:", ("256 round it", "SubTree N (node 128, line 3)"),
          pair("<Inverter>" * 127 + '<SubTree ID="N"/>' + "</Inverter>" * 127, "<RunOnce>" * 128 + "<A/>" + "</RunOnce>" * 128)),
     Case("a node of the library that is not here", 3, "refused tree UnknownNode 1\n", "T:3:1:",
-         ("AsyncSequence", "Sequence does the same"),
+         ("AsyncSequence", "Sequence goes on to the next child in the same tick"),
          nodes("<AsyncSequence><A/></AsyncSequence>")),
     Case("an explicit node without ID", 3, "refused tree UnknownNode 1\n", "T:3:1:", ("this Action has no ID",), nodes("<Action/>")),
     Case("an explicit node of another class", 3, "refused tree UnknownNode 1\n", "T:3:10:", ("Inverter is a Decorator, and no Control",),
@@ -134,6 +134,14 @@ NODES = [
          nodes("<Sequence>" + "".join(f'<A x="{{k{n}}}" y="{{l{n}}}"/>' for n in range(2049)) + "</Sequence>")),
     Case("too much work", 3, "refused tree TooMuchWork\n", "T:3:1:", ("may make 101001 visits", "at most 100000"),
          nodes('<Repeat num_cycles="1000"><Repeat num_cycles="100"><A/></Repeat></Repeat>')),
+    Case("too much work of one below", 3, "refused tree TooMuchWork\n", "T:3:1:",
+         ("one visit of Repeat (node 1) may make 1000501 visits", "T:4:10: note: Repeat 'often' (node 2) has the greatest factor, 1000"),
+         nodes('<Repeat num_cycles="500">\n<Repeat  num_cycles="1000" name="often"><Inverter><A/></Inverter></Repeat></Repeat>')),
+    Case("too much work by a key", 3, "refused tree TooMuchWork\n", "T:3:11:",
+         ("T:3:69: note: RetryUntilSuccessful (node 3) has the greatest factor, 1000",
+          "RetryUntilSuccessful (node 3): the number comes from a key, and 1000 is counted"),
+         nodes('<Sequence><Repeat num_cycles="200"><RetryUntilSuccessful            num_attempts="{tries}"><A/></RetryUntilSuccessful></Repeat>'
+               '</Sequence>')),
     Case("a file too long", 3, "refused tree TooLong\n", "T: error:", ("1048577 bytes", "at most 1048576"), " " * 1_048_577),
 ]
 

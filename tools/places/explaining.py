@@ -65,6 +65,8 @@ def of_read(command: Command, what: str) -> List[str]:
     if name is None or why is None:
         return []
     helps = meant(os.path.basename(name), beside(name)) if why == MISSING else []
+    if name.startswith("-"):
+        helps = [f"the word {name} stands where the file's name is expected: options come after the files"]
     return [f"{name or repr(name)}: error: the {what} file can't be read: {why}"] + ["  help: " + text for text in helps]
 
 

@@ -120,10 +120,7 @@ def was_halted(node: Node, ended: Faulted) -> bool:
 def is_below(node: Node, line: str) -> bool:
     """Whether the line tells of a node below this one."""
     told = CALL.fullmatch(line) or NODE.fullmatch(line)
-    last = node
-    while last.children:
-        last = last.children[-1]
-    return told is not None and node.uid < int(told.group(1)) <= last.uid
+    return told is not None and node.uid < int(told.group(1)) <= node.last().uid
 
 
 def may_answer_at_once(node: Node) -> bool:

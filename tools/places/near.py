@@ -29,7 +29,7 @@ def plain(name: str) -> str:
 def near(name: str, names: Iterable[str], count: int = 3) -> List[str]:
     """The names that are near this one, the nearest first."""
     wanted = plain(name)
-    most = max(1, len(wanted) // 3)
+    most = max(len(wanted) > 1, len(wanted) // 3)
     found = []
     for other in dict.fromkeys(names):
         letters = plain(other)

@@ -10,6 +10,9 @@ MOST_SHOWN = 110
 
 TAIL = 50
 
+# a variable of the environment: where it is set, a tool that fails in itself says so, and is not silent
+FAILS_ALOUD = "BT_FAILS_ALOUD"
+
 
 @dataclass(frozen=True)
 class Place:

@@ -2,8 +2,8 @@
 
 from typing import Dict, List
 
-from .built_ins import is_row_id
-from .near import near
+from .built_ins import ABSENT, is_row_id
+from .near import meant, near
 from .report import Note, Place, Report
 from .trees import Node, TreeFile, quoted
 from .worlds import MOST, World, is_name
@@ -37,6 +37,16 @@ def row_for(file: TreeFile, nodes: List[Node]) -> str:
     return f"condition {head} when 1" if is_condition(file, node) else f"action {head} timed 0"
 
 
+def near_rows(file: TreeFile, world: World, id_: str) -> List[str]:
+    """What else may be meant by a leaf's ID that has no row: a node that is not here, a row that no leaf uses, or any row."""
+    if id_ in ABSENT:
+        return [f"{id_} is no leaf of yours: {ABSENT[id_]}"]
+    unused = near(id_, [other for other in world.rows if other not in leaves_of(file)], 1)
+    if unused:
+        return [f"the row {unused[0]} is near, and no leaf uses it"]
+    return meant(id_, world.rows)
+
+
 def lacking(file: TreeFile, world: World, words: str) -> List[str]:
     """The lines for leaves that lack rows."""
     missing = {id_: nodes for id_, nodes in leaves_of(file).items() if id_ not in world.rows}
@@ -45,11 +55,10 @@ def lacking(file: TreeFile, world: World, words: str) -> List[str]:
     first, *others = [nodes[0] for nodes in missing.values()]
     report = Report("error", f"the leaf {first.said()} has no row in {world.source.name}",
                     Place(file.source, *first.element.span()), file.where(first))
-    unused = [id_ for id_ in world.rows if id_ not in leaves_of(file)]
-    report.helps += [f"the row {other} is near, and no leaf uses it" for other in near(first.id, unused, 1)]
+    report.helps += near_rows(file, world, first.id)
     report.notes += [Note(f"{node.said()} has no row either", Place(file.source, *node.element.span()))
                      for node in others[:8]]
-    rows = [row_for(file, nodes) for id_, nodes in missing.items() if is_row_id(id_)]
+    rows = [row_for(file, nodes) for id_, nodes in missing.items() if is_row_id(id_) and id_ not in ABSENT]
     lines = report.lines()
     if rows:
         lines += ["  help: lines to begin with, each of which may be a condition or an action of another sort:", *rows]

@@ -1,8 +1,9 @@
 """The slots of a tree and its work, both of which have limits."""
 
-from typing import Dict, Iterator, Set, Tuple
+from typing import Dict, Iterator, List, Set, Tuple
 
 from .marks import Finding
+from .near import listed
 from .scripts import ScriptFault, statements
 from .trees import Node, TreeFile
 from .values import is_key, key_of, number
@@ -57,18 +58,36 @@ def check_sizes(file: TreeFile, loops: Dict[str, str]) -> None:
     heavy = [node for node in file.nodes if works[node.uid] > MOST_WORK]
     if heavy:
         node = heavy[-1]
+        helps, notes = greatest(file, node, loops)
         raise Finding("TooMuchWork", node.element.span(),
                       f"one visit of {node.said()} may make {works[node.uid]} visits",
                       [f"at most {MOST_WORK} in one tick; a RetryUntilSuccessful or Repeat makes as many as its number "
-                       "times those below it, and 1000 times where its number is a key; with -1 it makes one round a tick"],
-                      inside=file.where(node))
+                       "times those below it; with -1 it makes one round a tick", *helps], notes, file.where(node))
+
+
+def greatest(file: TreeFile, node: Node, loops: Dict[str, str]) -> "tuple[List[str], List[Tuple[str, Tuple[int, int]]]]":
+    """What makes most of the work of a node: the one with the greatest factor, of it and of those below, and which of
+    them have their number from a key."""
+    found = [other for other in file.nodes[node.uid - 1:node.last().uid] if times_of(other, loops) > 1]
+    if not found:
+        return [], []
+    most = max(found, key=lambda other: times_of(other, loops))
+    attribute = most.element.attribute(loops[most.kind])
+    notes = [(f"{most.said()} has the greatest factor, {times_of(most, loops)}", attribute.span())] if attribute else []
+    keys = [other for other in found if number(other.element.said(loops[other.kind]) or "") is None]
+    helps = [f"{listed(dict.fromkeys(other.said() for other in keys), 4)}: the number comes from a key, "
+             "and 1000 is counted: write a number"] if keys else []
+    return helps, notes
+
+
+def times_of(node: Node, loops: Dict[str, str]) -> int:
+    """How often one visit of a node visits its child at most: 1000 times where a key says the number."""
+    if node.kind not in loops:
+        return 1
+    times = number(node.element.said(loops[node.kind]) or "")
+    return 1000 if times is None else 1 if times == -1 else times
 
 
 def work_of(node: Node, works: Dict[int, int], loops: Dict[str, str]) -> int:
     """How many visits one visit of a node makes at most."""
-    below = sum(works[child.uid] for child in node.children)
-    times = 1
-    if node.kind in loops:
-        times = number(node.element.said(loops[node.kind]) or "")
-        times = 1000 if times is None else 1 if times == -1 else times
-    return 1 + times * below
+    return 1 + times_of(node, loops) * sum(works[child.uid] for child in node.children)

@@ -58,6 +58,10 @@ class Node:
         """The SubTree nodes round it, from the outermost."""
         return [] if self.inside is None else self.inside.chain() + [self.inside]
 
+    def last(self) -> "Node":
+        """The last one, in pre-order, of the node and all below it."""
+        return self.children[-1].last() if self.children else self
+
     def is_port(self, name: str) -> bool:
         """Whether an attribute of this name is a port."""
         return is_port_name(name) and not (self.kind in WITH_CODE and name == "code")

@@ -35,6 +35,8 @@ FORMS = {
     "set": ["set NAME INT"],
 }
 
+TRUTHS = {"true": 1, "yes": 1, "on": 1, "false": 0, "no": 0, "off": 0}
+
 GROUND_WORDS = ("sort", "forall", "end")
 
 GROUND_FILE = "a ground file, which begins with `bt-ground 1` and goes to `bt ground` or `bt gplan`"
@@ -102,9 +104,9 @@ class Line:
         """A fault of this line."""
         return Finding(f"{kind} {self.number}", span, message, helps, notes)
 
-    def bad(self, span: Tuple[int, int], message: str) -> NoReturn:
+    def bad(self, span: Tuple[int, int], message: str, helps: Optional[List[str]] = None) -> NoReturn:
         """Raises that the line has no form."""
-        raise self.fault("BadLine", span, message, self.forms())
+        raise self.fault("BadLine", span, message, (helps or []) + self.forms())
 
     def forms(self) -> List[str]:
         """The forms of a line with this first word."""
@@ -134,21 +136,39 @@ class Line:
         """The next word, which is one of these signs."""
         word = self.next(" or ".join(signs))
         if word.text not in signs:
-            self.bad(word.span(), f"here stands {' or '.join(signs)}, with white space round it, and not {word.text}")
+            self.bad(word.span(), f"here stands {' or '.join(signs)}, with white space round it, and not {word.text}",
+                     self.head_in_parts() + self.taken_away(signs))
         return word
 
-    def canonical(self, what: str) -> Word:
+    def head_in_parts(self) -> List[str]:
+        """That a row's head has no blanks, where this line's has some."""
+        text = " ".join(word.text for word in self.words[1:])
+        found = re.match(r"([^( ]+) ?\(([^()]*)\)", text)
+        if found is None or " " not in found.group():
+            return []
+        ports = ",".join(part.strip() for part in found.group(2).split(","))
+        return [f"a row's head has no blanks: write {found.group(1)}({ports})"]
+
+    def taken_away(self, signs: Tuple[str, ...]) -> List[str]:
+        """What stands in the place of a -=, where the line has one and += may stand."""
+        rest = [word.text for word in self.words[self.taken - 1:]]
+        if rest[0] != "-=" or "+=" not in signs or len(rest) < 2 or not CANONICAL.fullmatch(rest[1]):
+            return []
+        return [f"to take away write += {rest[1][1:] if rest[1].startswith('-') else '-' + rest[1]}"]
+
+    def canonical(self, what: str, helps: Optional[List[str]] = None) -> Word:
         """The next word, which is a number."""
         word = self.next(what)
         if not CANONICAL.fullmatch(word.text):
-            self.bad(word.span(), f"{word.text} is no number: it has a - or none, and digits of which the first is not 0")
+            self.bad(word.span(), f"{word.text} is no number: it has a - or none, and digits of which the first is not 0",
+                     number_helps(word.text) or helps)
         return word
 
-    def stop(self) -> None:
+    def stop(self, helps: Optional[List[str]] = None) -> None:
         """The line has no further word."""
         if self.taken < len(self.words):
             rest = self.words[self.taken]
-            self.bad((rest.start, self.end), f"the line goes on with {rest.text} where it has ended")
+            self.bad((rest.start, self.end), f"the line goes on with {rest.text} where it has ended", helps)
 
     def expr(self) -> Expr:
         """The rest of the line, an expression without texts."""
@@ -171,6 +191,25 @@ class Line:
         if value is None or not least <= value <= most:
             raise self.fault("Range", word.span(), f"{word.text} is out of the range of {what}", [f"it is {least} to {most}"])
         return value
+
+
+def number_helps(text: str) -> List[str]:
+    """What may stand in the place of a word that is no number."""
+    if text.lower() in TRUTHS:
+        return [f"yes and no are 1 and 0: write {TRUTHS[text.lower()]}"]
+    if re.fullmatch(r"[-+]?[0-9]*\.[0-9]+", text):
+        return ["numbers are whole: count in smaller units, 15 in place of 1.5"]
+    return []
+
+
+def as_when(line: Line, id_: Word) -> List[str]:
+    """A condition's line with `when`, where what stands behind its `is` is an expression."""
+    text = line.source.data[line.words[3].start:line.end]
+    try:
+        expression(text)
+    except ScriptFault:
+        return []
+    return [f"with `is` one fact is compared with one number; for more write `condition {id_.text} when {text.decode('latin-1')}`"]
 
 
 def is_name(text: str) -> bool:
@@ -345,8 +384,9 @@ class World:
             line.bad(id_.span(), f"{id_.text} is no ID: a condition with `is` has no ports")
         fact = line.name("fact")
         line.sign(*COMPARISONS)
-        value = line.canonical("number")
-        line.stop()
+        helps = as_when(line, id_)
+        value = line.canonical("number", helps)
+        line.stop(helps)
         self.close()
         line.in_range(value, -2 ** 63, 2 ** 63 - 1, "a fact")
         self.free_id(line, id_)
