@@ -3,23 +3,24 @@
 from dataclasses import dataclass
 from typing import Tuple
 
-from places_cases import THREE_ROWS, THREE_TREES, changed, nodes
+from places_cases import THREE_ROWS, THREE_TREES, changed, nodes, pair
 
 
 @dataclass(frozen=True)
 class Warned:
-    """A tree file, and texts of its warnings, one for each; none where it has none."""
+    """A tree file, and texts of its warnings, one for each; none where it has none. With a world, those of a run."""
 
     name: str
     said: Tuple[str, ...]
     tree: str
+    world: str = ""
 
 
 GREETING = """\
 <root BTCPP_format="4" main_tree_to_execute="Main">
   <BehaviorTree ID="Main">
     <Sequence>
-      <SubTree ID="Greet"/>
+      <SubTree ID="Greet" who="you"/>
       <Say message="hello"/>
     </Sequence>
   </BehaviorTree>
@@ -33,6 +34,8 @@ GREETING = """\
 </root>
 """
 
+WITHOUT_WHO = changed(GREETING, ' who="you"', "")
+
 WARNED = [
     Warned("nothing to warn of", (), GREETING),
     Warned("three trees", (), THREE_TREES),
@@ -40,8 +43,8 @@ WARNED = [
     Warned("a guard in other letters", ("T:3:11: warning: the attribute _skipif is ignored: it is no guard",),
            nodes('<Sequence _skipif="1"><A/></Sequence>')),
     Warned("a guard cut short", ("T:3:4: warning: the attribute _onHalt is ignored",), nodes('<A _onHalt="x := 1"/>')),
-    Warned("a mapping misspelled", ("T:4:27: warning: the attribute _autoreamp is ignored",),
-           changed(GREETING, '<SubTree ID="Greet"/>', '<SubTree ID="Greet" _autoreamp="1"/>')),
+    Warned("a mapping misspelled", ("T:4:37: warning: the attribute _autoreamp is ignored",),
+           changed(GREETING, ' who="you"/>', ' who="you" _autoreamp="1"/>')),
     Warned("a mapping at another node", ("T:3:4: warning: _autoremap is ignored",), nodes('<A _autoremap="true"/>')),
     Warned("a format misspelled", ("T:1:7: warning: the attribute BTCPP_formt of the root is ignored",),
            nodes("<A/>", 'BTCPP_formt="4"')),
@@ -51,11 +54,69 @@ WARNED = [
     Warned("a leaf without model", ("T:5:7: warning: the leaf Sya has no model",),
            changed(GREETING, '<Say message="hello"/>', '<Sya message="hello"/>')),
     Warned("a tree that is never opened", ("T:8:17: warning: the tree 'Greet' is never opened from 'Main'",),
-           changed(GREETING, '<SubTree ID="Greet"/>', '<Say message="hi"/>')),
+           changed(GREETING, '<SubTree ID="Greet" who="you"/>', '<Say message="hi"/>')),
     Warned("a default of a SubTree", ("T:13:48: warning: the default of who is not used",),
-           changed(GREETING, '<input_port name="who"/>', '<input_port name="who" default="you"/>')),
-    Warned("a default that is written", (), changed(GREETING, '<input_port name="who"/>', '<input_port name="who" default="you"/>')
-           .replace('<SubTree ID="Greet"/>', '<SubTree ID="Greet" who="me"/>')),
+           changed(WITHOUT_WHO, '<input_port name="who"/>', '<input_port name="who" default="you"/>')),
+    Warned("a default that is written", (), changed(GREETING, '<input_port name="who"/>', '<input_port name="who" default="you"/>')),
+    Warned("a port of a SubTree's model", ("T:13:25: warning: the port who is not asked for: the model of a SubTree is ignored",), WITHOUT_WHO),
+    Warned("an output of a SubTree's model", ("T:4:7: warning: Greet (node 2) is opened without who",),
+           changed(WITHOUT_WHO, '<input_port name="who"/></SubTree>', '<output_port name="who"/></SubTree>')),
+]
+
+SCRIPTS = '<Sequence><Script code="accepted := 0"/>\n%s</Sequence>'
+
+# tests that are none, and keys that nothing writes
+KEYS = [
+    Warned("an assignment in the place of a test", ("T:4:24: warning: code of ScriptCondition (node 3) writes accepted",),
+           nodes(SCRIPTS % '<ScriptCondition code="accepted = 1"/>')),
+    Warned("an assignment in a guard", ("T:4:24: warning: _skipIf of A (node 3) writes accepted",), nodes(SCRIPTS % '<A _skipIf="1 == 1; 2; accepted := 1"/>')),
+    Warned("an assignment of a test", (), nodes(SCRIPTS % '<A _while="accepted := accepted == 0" _failureIf="accepted += 1"/>')),
+    Warned("an assignment after the answer", (), nodes(SCRIPTS % '<A _onSuccess="accepted = 1" _post="accepted := 1"/>')),
+    Warned("a key misspelled", ("T:4:24: warning: nothing writes the key acepted, which code of ScriptCondition (node 3) looks at",),
+           nodes(SCRIPTS % '<ScriptCondition code="acepted == 1"/>')),
+    Warned("a key in a guard", ("nothing writes the key battery, which _failureIf of A (node 3) looks at",), nodes(SCRIPTS % '<A _failureIf="battery"/>')),
+    Warned("a key that a leaf may put out", (), nodes(SCRIPTS % '<A level="{battery}"/><B _failureIf="battery"/>')),
+    Warned("a key at a port", ("T:4:10: warning: nothing writes the key time, which the port msec of Timeout (node 3) reads",),
+           nodes(SCRIPTS % '<Timeout msec="{time}"><A/></Timeout>')),
+    Warned("a key that is changed and not made", ("write `count := ..` first",), nodes('<Script code="count += 1"/>')),
+    Warned("a key by its own name", (), pair('<Sequence><Script code="n := 1"/><SubTree ID="N" n="{=}"/></Sequence>', '<Script code="m := n"/>')),
+    Warned("keys that are mapped", (), pair('<Sequence><Script code="n := 1"/><SubTree ID="N" _autoremap="1"/></Sequence>', '<Script code="m := n"/>')),
+    Warned("a key without braces", ("T:4:4: warning: the port goal of A (node 3) is the text 'accepted', and accepted is a key",),
+           nodes(SCRIPTS % '<A goal="accepted"/>')),
+    Warned("a key without braces at a SubTree", ("T:3:38: warning: the port goal of N (node 3) is the text 'room'",),
+           pair('<Sequence><A room="{room}"/><SubTree goal="room" ID="N"/></Sequence>', '<B to="{goal}"/>')),
+    Warned("a SubTree without a port", ("T:3:1: warning: N (node 1) is opened without goal, which its tree reads",),
+           pair('<SubTree ID="N"/>', '<ScriptCondition code="goal == 1"/>')),
+    Warned("a SubTree that is opened twice", ("T:3:47: warning: N (node 4) is opened without goal",),
+           pair('<Sequence><SubTree ID="N" goal="1"/>          <SubTree ID="N"/></Sequence>', '<ScriptCondition code="goal == 1"/>')),
+    Warned("a port of a SubTree misspelled", ("T:3:17: warning: the tree 'N' does not use the port targt of N (node 1)",),
+           pair('<SubTree ID="N" targt="1"/>', '<ScriptCondition code="target == 1"/>')),
+    Warned("a port that a tree has not", ("T:3:17: warning: the tree 'N' does not use the port speed", ),
+           pair('<SubTree ID="N" speed="1"/>', '<A/>')),
+    Warned("a tree that others open", ("the tree 'N' is never opened",), pair('<Script code="m := n"/>', '<SubTree ID="M" n="1"/>')),
+    Warned("a key of another name above", ("T:3:59: warning: nothing writes the key rom",),
+           pair('<Sequence><Script code="room := 1"/><SubTree ID="N"       goal="{rom}"/></Sequence>', '<ScriptCondition code="goal == 1"/>')),
+    Warned("an input that only a host could write", (), changed(GREETING, ' who="you"', ' who="{guest}"')),
+]
+
+# leaves and their models, their like and their rows
+PORTS = [
+    Warned("an input of a model", ("T:5:7: warning: Say (node 4) does not give message, which its model has",), changed(GREETING, ' message="hello"', "")),
+    Warned("an output of a model", (), changed(GREETING, '<input_port name="message"/>', '<output_port name="message"/>').replace(' message="hello"', "")),
+    Warned("a port that others have not", ("T:3:42: warning: no other A has the port forse",),
+           nodes('<Sequence><A force="1"/><A force="2"/><A forse="3"/></Sequence>')),
+    Warned("ports that few have", (), nodes('<Sequence><A force="1"/><A force="2"/><A width="3"/></Sequence>')),
+    Warned("a leaf by the name of a node", ("T:3:1: warning: AlwaysSucces is read as a leaf of yours",), nodes("<AlwaysSucces/>")),
+    Warned("a leaf by a name of version 3", ("T:3:1: warning: SubTreePlus is read as a leaf of yours",), nodes('<SubTreePlus ID="M"/>')),
+    Warned("a row and a tree that meet", (), THREE_TREES, THREE_ROWS),
+    Warned("an input of a row", ("T:21:7: warning: Grip (node 10) does not give force, which its row has",), changed(THREE_TREES, ' force="3"', ""), THREE_ROWS),
+    Warned("a port of a row misspelled", ("T:21:13: warning: the row of Grip (node 10) does not name its port forse",),
+           changed(THREE_TREES, "force", "forse"), THREE_ROWS),
+    Warned("a port that a row does not need", (), changed(THREE_TREES, ' force="3"', ' force="3" grip="1"'), THREE_ROWS),
+    Warned("an output that no row has", ("T:15:28: warning: nothing writes the key steps",), THREE_TREES,
+           changed(THREE_ROWS, "out steps = to - at\n", "")),
+    Warned("a key that a row reads", ("T:6:7: warning: DriveTo (node 3) is opened without goal, which its tree reads",),
+           changed(THREE_TREES, ' goal="{room}"', ""), THREE_ROWS),
 ]
 
 NODE_LIST = """\

@@ -9,7 +9,7 @@ from .marks import Element, Finding
 from .near import listed, meant
 from .slots import check_sizes
 from .source import MOST_BYTES, read
-from .trees import Node, TreeFile, quoted, read_file
+from .trees import Node, TreeFile, is_opening, quoted, read_file
 
 MOST_NODES = 4096
 
@@ -25,7 +25,7 @@ def renamed(file: TreeFile, name: str, wanted: str, in_version_4: str) -> str:
 
 def head_of(file: TreeFile, element: Element) -> Optional[Tuple[str, str]]:
     """The kind and the ID of the node that an element is, if it is one."""
-    if renamed(file, element.name, "SubTreePlus", "SubTree") == "SubTree":
+    if is_opening(file, element):
         return "SubTree", element.said("ID") or ""
     id_ = element.said("ID") if element.name in EXPLICIT else element.name
     if id_ is None:

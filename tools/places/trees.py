@@ -102,20 +102,28 @@ class TreeFile:
             parts.append(f"SubTree {name} (node {around.uid}, line {line})")
         return " > ".join(parts)
 
+    def mapped(self, scope: int, key: str) -> Iterator[Tuple[int, str, Optional[Attribute]]]:
+        """A key and what it is mapped to, scope by scope up to the one that owns its cell, each with the port that says so."""
+        port: Optional[Attribute] = None
+        while True:
+            yield scope, key, port
+            if not scope:
+                return
+            around = self.nodes[scope - 1]
+            found = around.element.attribute(key) if around.is_port(key) else None
+            if found is not None:
+                text = found.value.text()
+                if not is_key(text):
+                    return
+                key, port = key_of(key, text), found
+            elif not is_remapped(around) or key.startswith("_"):
+                return
+            scope = around.scope()
+
     def cell(self, scope: int, key: str) -> Tuple[int, str]:
         """The cell at the end of all mappings: the scope that owns it, and its key there."""
-        while scope:
-            around = self.nodes[scope - 1]
-            port = around.element.attribute(key)
-            if port is not None and around.is_port(key):
-                text = port.value.text()
-                if not is_key(text):
-                    return scope, key
-                key = key_of(key, text)
-            elif not is_remapped(around) or key.startswith("_"):
-                return scope, key
-            scope = around.scope()
-        return scope, key
+        *_, (owner, name, _) = self.mapped(scope, key)
+        return owner, name
 
 
 def is_port_name(name: str) -> bool:
@@ -126,7 +134,17 @@ def is_port_name(name: str) -> bool:
 def is_remapped(node: Node) -> bool:
     """Whether all keys of a SubTree node are mapped."""
     names = ("_autoremap", "__autoremap") if node.element.name == "SubTreePlus" else ("_autoremap",)
-    return any(node.element.said(name) in ("true", "1") for name in names)
+    return any(is_true(node.element.said(name)) for name in names)
+
+
+def is_true(text: Optional[str]) -> bool:
+    """Whether the text of an attribute says so."""
+    return text in ("true", "1")
+
+
+def is_opening(file: "TreeFile", element: Element) -> bool:
+    """Whether an element is a SubTree node."""
+    return element.name == "SubTree" or element.name == "SubTreePlus" and file.version == 3
 
 
 def models_of(root: Element) -> Dict[str, Model]:

@@ -1,12 +1,16 @@
 """What the program reads over and a user may have meant: warnings of a tree file that was read."""
 
-from typing import Dict, Iterator, List, Set
+import re
+from typing import Dict, Iterator, List, Optional, Set, Tuple
 
 from .built_ins import GUARDS
+from .keys import key_warnings, literal_warnings
 from .marks import Attribute, Element
 from .near import distance, listed, near, plain
+from .ports import input_warnings, leaf_warnings, like_warnings, row_warnings, test_warnings
 from .report import Place, Report
-from .trees import MODELS, PORTS, Node, TreeFile
+from .trees import MODELS, PORTS, Node, TreeFile, is_remapped
+from .worlds import World
 
 # what editors and the library write into files, and the program reads over by design
 SILENT = ("_autoremap", "__autoremap", "_description", "_fullpath", "_uid", "_collapsed", "__shared_blackboard")
@@ -14,11 +18,31 @@ SILENT = ("_autoremap", "__autoremap", "_description", "_fullpath", "_uid", "_co
 # the attributes of the root
 ROOT = ("BTCPP_format", "main_tree_to_execute")
 
+NUMBER = re.compile(r"\(node [0-9]+\)")
+
 
 def warnings(file: TreeFile) -> List[Report]:
     """The warnings of a file, in the order of the file."""
-    found = [*root_warnings(file), *guard_warnings(file), *model_warnings(file), *tree_warnings(file), *default_warnings(file)]
-    return sorted(found, key=lambda report: report.place.start if report.place else 0)
+    ignored = ignored_ports(file)
+    return in_order([*root_warnings(file), *guard_warnings(file), *model_warnings(file), *tree_warnings(file), *ignored.values(),
+                     *test_warnings(file), *leaf_warnings(file), *input_warnings(file), *like_warnings(file), *literal_warnings(file),
+                     *key_warnings(file, told=set(ignored))])
+
+
+def run_warnings(file: TreeFile, world: World) -> List[Report]:
+    """The warnings of a tree and the world over which it runs, in the order of the tree."""
+    return in_order([*row_warnings(file, world), *key_warnings(file, world)])
+
+
+def in_order(reports: List[Report]) -> List[Report]:
+    """The reports in the order of the file, one for each place: a tree that is opened twice has its nodes twice."""
+    found = {(at_of(report), NUMBER.sub("", report.message)): report for report in reversed(reports)}
+    return sorted(found.values(), key=at_of)
+
+
+def at_of(report: Report) -> int:
+    """Where a report stands."""
+    return report.place.start if report.place is not None else 0
 
 
 def warning(file: TreeFile, span: "tuple[int, int]", message: str, helps: List[str], inside: str = "") -> Report:
@@ -89,24 +113,35 @@ def tree_warnings(file: TreeFile) -> Iterator[Report]:
                           [f"`./names --all {file.source.name}` checks each tree"])
 
 
-def default_warnings(file: TreeFile) -> Iterator[Report]:
-    """Defaults in the models of SubTrees, which are ignored."""
+def ignored_ports(file: TreeFile) -> Dict[Tuple[str, str], Report]:
+    """Ports in the models of SubTrees, which are ignored, that a SubTree node does not write, by the tree's ID and their name."""
     opened: Dict[str, List[Node]] = {}
     for node in file.nodes:
         if node.kind == "SubTree":
             opened.setdefault(node.id, []).append(node)
+    found: Dict[Tuple[str, str], Report] = {}
     for model in subtree_models(file):
-        nodes = opened.get(model.said("ID") or "", [])
+        id_ = model.said("ID") or ""
         for port in model.children:
-            name, default = port.said("name"), port.attribute("default")
-            if port.name not in PORTS or name is None or default is None:
-                continue
-            lacking = [node for node in nodes if node.element.attribute(name) is None]
-            if lacking:
-                lines = listed(dict.fromkeys(str(file.source.line_of(node.element.at)) for node in lacking))
-                yield warning(file, default.span(),
-                              f"the default of {name} is not used: the model of a SubTree is ignored",
-                              [f'write {name}="{default.value.text()}" at the SubTree of line {lines}'])
+            name = port.said("name")
+            lacking = [node for node in opened.get(id_, []) if name is not None and node.element.attribute(name) is None]
+            report = ignored_port(file, port, lacking) if port.name in PORTS and name is not None and lacking else None
+            if report is not None:
+                found[id_, name or ""] = report
+    return found
+
+
+def ignored_port(file: TreeFile, port: Element, lacking: List[Node]) -> Optional[Report]:
+    """A port in the model of a SubTree that these nodes do not write, if they may need it."""
+    lines = listed(dict.fromkeys(str(file.source.line_of(node.element.at)) for node in lacking))
+    name, default = port.said("name"), port.attribute("default")
+    if default is not None:
+        return warning(file, default.span(), f"the default of {name} is not used: the model of a SubTree is ignored",
+                       [f'write {name}="{default.value.text()}" at the SubTree of line {lines}'])
+    if port.name == "output_port" or all(map(is_remapped, lacking)):
+        return None
+    return warning(file, port.span(), f"the port {name} is not asked for: the model of a SubTree is ignored",
+                   [f'write {name}=".." at the SubTree of line {lines}'])
 
 
 def subtree_models(file: TreeFile) -> Iterator[Element]:

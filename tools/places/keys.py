@@ -1,0 +1,219 @@
+"""Which keys of a tree are written and which are looked at, cell by cell: warnings of keys that nothing writes."""
+
+from dataclasses import dataclass
+from typing import AbstractSet, Dict, Iterator, List, Optional, Set, Tuple
+
+from .built_ins import is_identifier
+from .listing import elements
+from .marks import Attribute
+from .near import meant, near
+from .report import Note, Place, Report
+from .scripts import ScriptFault, statements
+from .trees import Node, TreeFile, is_opening, is_true
+from .values import is_key, key_of
+from .worlds import World
+
+Cell = Tuple[int, str]
+
+ROLES = {"input_port": "in", "output_port": "out", "inout_port": "both"}
+
+
+@dataclass(frozen=True)
+class Use:
+    """A place of a tree that names a key, in the scope of its node, and in words what it does with it."""
+
+    node: Node
+    key: str
+    span: Tuple[int, int]
+    said: str
+    makes: bool = False
+    looks: bool = False
+    # whether a run surely needs the value: a row may do without an input
+    needs: bool = False
+    # whether it is a port of a leaf that the leaf's row does not name
+    silent: bool = False
+
+
+def role_of(file: TreeFile, world: Optional[World], node: Node, port: str) -> str:
+    """What a leaf does at its port: `in`, `out`, `both`, `none`, or `any` where nobody says so."""
+    row = world.rows.get(node.id) if world is not None else None
+    if row is not None:
+        return {(True, False): "in", (False, True): "out", (True, True): "both"}.get((port in row.ports, port in row.outs), "none")
+    model = file.models.get(node.id)
+    if model is not None and port in model.ports:
+        return ROLES[model.ports[port].sort]
+    return "any"
+
+
+def port_use(file: TreeFile, world: Optional[World], node: Node, name: str, attribute: Attribute) -> Use:
+    """What a node does with the key at its port of this name; the attribute may be a default of a model."""
+    key = key_of(name, attribute.value.text())
+    said = f"the port {name} of {node.said()} reads"
+    if node.kind == "SubTree":
+        return Use(node, key, attribute.span(), said)
+    if node.kind != "Leaf":
+        return Use(node, key, attribute.span(), said, looks=True, needs=True)
+    role = role_of(file, world, node, name)
+    return Use(node, key, attribute.span(), said, makes=role in ("out", "both", "any"), looks=role in ("in", "both"),
+               silent=role == "none")
+
+
+def script_uses(node: Node, attribute: Attribute) -> Iterator[Use]:
+    """The keys that a script names."""
+    try:
+        parts = statements(attribute.value.said())
+    except ScriptFault:
+        return
+    value = attribute.value
+    said = f"{attribute.name} of {node.said()} looks at"
+    for part in parts:
+        for token in part.looks():
+            changes = token is part.target
+            yield Use(node, token.text, (value.place(token.start), value.place(token.end)),
+                      f"{attribute.name} of {node.said()} changes" if changes else said, looks=True, needs=True)
+        if part.target is not None and part.sign == ":=":
+            token = part.target
+            yield Use(node, token.text, (value.place(token.start), value.place(token.end)), said, makes=True)
+
+
+def uses_of(file: TreeFile, world: Optional[World]) -> Iterator[Use]:
+    """All places of the opened tree that name a key."""
+    for node in file.nodes:
+        for attribute in node.ports():
+            if is_key(attribute.value.text()):
+                yield port_use(file, world, node, attribute.name, attribute)
+        model = file.models.get(node.id) if node.kind == "Leaf" else None
+        for port in model.ports.values() if model is not None else ():
+            if port.default is not None and is_key(port.default.value.text()) and node.element.attribute(port.name) is None:
+                yield port_use(file, world, node, port.name, port.default)
+        for attribute in node.scripts():
+            yield from script_uses(node, attribute)
+
+
+class Keys:
+    """The keys of a tree: what makes them, what looks at them, and which keys of which scopes are named at all."""
+
+    def __init__(self, file: TreeFile, world: Optional[World]):
+        self.file = file
+        self.made: Set[Cell] = set()
+        self.looked: Dict[Cell, List[Use]] = {}
+        self.silent: Dict[Cell, Use] = {}
+        self.named: Dict[int, Set[str]] = {}
+        # where the main tree itself is opened by another one of the file
+        self.above = [element for element in elements(file.root) if is_opening(file, element) and element.said("ID") == file.main]
+        for use in uses_of(file, world):
+            self.take(use)
+        for node in file.nodes:
+            for attribute in node.ports() if node.kind == "SubTree" else ():
+                if not is_key(attribute.value.text()):
+                    self.made.add((node.uid, attribute.name))
+
+    def take(self, use: Use) -> None:
+        """Takes a place that names a key."""
+        cell = (0, "")
+        for scope, key, _ in self.file.mapped(use.node.scope(), use.key):
+            self.named.setdefault(scope, set()).add(key)
+            cell = scope, key
+        if use.makes:
+            self.made.add(cell)
+        if use.silent:
+            self.silent.setdefault(cell, use)
+        if use.looks:
+            self.looked.setdefault(cell, []).append(use)
+
+    def made_in(self, scope: int) -> List[str]:
+        """The keys of a scope that have something which makes them."""
+        return sorted(key for key in self.named.get(scope, ()) if self.file.cell(scope, key) in self.made)
+
+    def lacking(self) -> Iterator[Tuple[Cell, Use]]:
+        """Each cell that is looked at and never made, with the first place that looks at it, one that needs it before others."""
+        for cell, uses in self.looked.items():
+            if cell not in self.made and not self.is_given_above(*cell):
+                yield cell, next((use for use in uses if use.needs), uses[0])
+
+    def is_given_above(self, scope: int, key: str) -> bool:
+        """Whether a key of the main tree is given where this tree is opened elsewhere in the file."""
+        return scope == 0 and any(element.attribute(key) is not None or is_true(element.said("_autoremap"))
+                                  or is_true(element.said("__autoremap")) for element in self.above)
+
+    def unused(self, node: Node) -> List[Attribute]:
+        """The ports of a SubTree node that its tree does not name."""
+        return [port for port in node.ports() if port.name not in self.named.get(node.uid, ())]
+
+
+def key_warnings(file: TreeFile, world: Optional[World] = None, told: AbstractSet[Tuple[str, str]] = frozenset()) -> Iterator[Report]:
+    """Keys that nothing writes, and ports of SubTree nodes that their trees do not know. Keys of trees that are told of
+    already are left out."""
+    keys = Keys(file, world)
+    meant_at = {cell for cell, _ in keys.lacking() if cell[0] and (file.nodes[cell[0] - 1].id, cell[1]) in told}
+    for node in file.nodes:
+        for port in keys.unused(node) if node.kind == "SubTree" else ():
+            yield unused_port(keys, node, port, meant_at)
+    for cell, use in keys.lacking():
+        report = unwritten(keys, cell, use) if cell not in meant_at else None
+        if report is not None:
+            yield report
+
+
+def unused_port(keys: Keys, node: Node, port: Attribute, meant_at: Set[Cell]) -> Report:
+    """A port of a SubTree node that its tree does not name. The cells that it may be meant for are noted."""
+    lacking = [key for (scope, key), _ in keys.lacking() if scope == node.uid]
+    wanted = near(port.name, lacking, 1) or near(port.name, keys.named.get(node.uid, ()), 1)
+    meant_at |= {(node.uid, key) for key in wanted}
+    helps = meant(port.name, wanted) or [f"the tree {node.id} names no key {port.name}"]
+    return Report("warning", f"the tree '{node.id}' does not use the port {port.name} of {node.said()}",
+                  Place(keys.file.source, *port.span()), keys.file.where(node), helps)
+
+
+def unwritten(keys: Keys, cell: Cell, use: Use) -> Optional[Report]:
+    """A cell that is looked at and never written, if that is a mistake by what can be seen."""
+    file, (scope, key) = keys.file, cell
+    helps = meant(key, keys.made_in(scope)) + no_output(keys, cell)
+    if not helps and scope:
+        return not_given(keys, cell, use)
+    if not helps and not use.needs:
+        return None
+    if not helps and use.said.endswith(" changes"):
+        helps = [f"`=` and its like change an entry that is there: write `{key} := ..` first"]
+    helps = helps or [f"write it first, with `{key} := ..`, by an output of a leaf or by a port of a SubTree"]
+    looked = Place(file.source, *use.span)
+    port = next((port for owner, name, port in file.mapped(use.node.scope(), use.key) if (owner, name) == cell), None)
+    if port is None:
+        return Report("warning", f"nothing writes the key {key}, which {use.said}", looked, file.where(use.node), helps)
+    around = file.nodes[scope_below(file, use) - 1]
+    return Report("warning", f"nothing writes the key {key}", Place(file.source, *port.span()), file.where(around), helps,
+                  [Note(f"{use.said} it as {use.key}", looked)])
+
+
+def no_output(keys: Keys, cell: Cell) -> List[str]:
+    """That a row has no output for a cell that its leaf names at a port."""
+    use = keys.silent.get(cell)
+    return [] if use is None else [f"{use.said[:-6]} is neither an input nor an output of its row: an output is a line `out PORT = ..`"]
+
+
+def scope_below(file: TreeFile, use: Use) -> int:
+    """The last scope on the way from a place to its cell, before the cell's own."""
+    return [owner for owner, _, _ in file.mapped(use.node.scope(), use.key)][-2]
+
+
+def not_given(keys: Keys, cell: Cell, use: Use) -> Report:
+    """A key that the tree of a SubTree node reads and the node does not give."""
+    node = keys.file.nodes[cell[0] - 1]
+    return Report("warning", f"{node.said()} is opened without {cell[1]}, which its tree reads",
+                  Place(keys.file.source, *node.element.span()), keys.file.where(node),
+                  [f'write {cell[1]}="{{..}}", or a value, at the SubTree'],
+                  [Note(f"{use.said} it", Place(keys.file.source, *use.span))])
+
+
+def literal_warnings(file: TreeFile) -> Iterator[Report]:
+    """Texts at ports that are keys of the same tree in other places, and have no braces."""
+    keys: Dict[int, Set[str]] = {}
+    for use in uses_of(file, None):
+        keys.setdefault(use.node.scope(), set()).add(use.key)
+    for node in file.nodes:
+        for attribute in node.ports():
+            text = attribute.value.text()
+            if is_identifier(text) and text in keys.get(node.scope(), ()) and not attribute.name.startswith("case_"):
+                yield Report("warning", f"the port {attribute.name} of {node.said()} is the text '{text}', and {text} is a key of this tree",
+                             Place(file.source, *attribute.span()), file.where(node),
+                             [f'for the value of the key write {attribute.name}="{{{text}}}"'])
