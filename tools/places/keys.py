@@ -20,18 +20,23 @@ ROLES = {"input_port": "in", "output_port": "out", "inout_port": "both"}
 
 @dataclass(frozen=True)
 class Use:
-    """A place of a tree that names a key, in the scope of its node, and in words what it does with it."""
+    """A place of a tree that names a key, in the scope of its node, and in words what it is and does with it."""
 
     node: Node
     key: str
     span: Tuple[int, int]
-    said: str
+    name: str
+    verb: str = "reads"
     makes: bool = False
     looks: bool = False
     # whether a run surely needs the value: a row may do without an input
     needs: bool = False
     # whether it is a port of a leaf that the leaf's row does not name
     silent: bool = False
+
+    def said(self) -> str:
+        """What it does, in words before the key."""
+        return f"{self.name} {self.verb}"
 
 
 def role_of(file: TreeFile, world: Optional[World], node: Node, port: str) -> str:
@@ -48,7 +53,7 @@ def role_of(file: TreeFile, world: Optional[World], node: Node, port: str) -> st
 def port_use(file: TreeFile, world: Optional[World], node: Node, name: str, attribute: Attribute) -> Use:
     """What a node does with the key at its port of this name; the attribute may be a default of a model."""
     key = key_of(name, attribute.value.text())
-    said = f"the port {name} of {node.said()} reads"
+    said = f"the port {name} of {node.said()}"
     if node.kind == "SubTree":
         return Use(node, key, attribute.span(), said)
     if node.kind != "Leaf":
@@ -64,16 +69,14 @@ def script_uses(node: Node, attribute: Attribute) -> Iterator[Use]:
         parts = statements(attribute.value.said())
     except ScriptFault:
         return
-    value = attribute.value
-    said = f"{attribute.name} of {node.said()} looks at"
+    value, said = attribute.value, f"{attribute.name} of {node.said()}"
     for part in parts:
         for token in part.looks():
-            changes = token is part.target
-            yield Use(node, token.text, (value.place(token.start), value.place(token.end)),
-                      f"{attribute.name} of {node.said()} changes" if changes else said, looks=True, needs=True)
+            span = value.place(token.start), value.place(token.end)
+            yield Use(node, token.text, span, said, "changes" if token is part.target else "looks at", looks=True, needs=True)
         if part.target is not None and part.sign == ":=":
-            token = part.target
-            yield Use(node, token.text, (value.place(token.start), value.place(token.end)), said, makes=True)
+            span = value.place(part.target.start), value.place(part.target.end)
+            yield Use(node, part.target.text, span, said, "writes", makes=True)
 
 
 def uses_of(file: TreeFile, world: Optional[World]) -> Iterator[Use]:
@@ -173,22 +176,22 @@ def unwritten(keys: Keys, cell: Cell, use: Use) -> Optional[Report]:
         return not_given(keys, cell, use)
     if not helps and not use.needs:
         return None
-    if not helps and use.said.endswith(" changes"):
+    if not helps and use.verb == "changes":
         helps = [f"`=` and its like change an entry that is there: write `{key} := ..` first"]
     helps = helps or [f"write it first, with `{key} := ..`, by an output of a leaf or by a port of a SubTree"]
     looked = Place(file.source, *use.span)
     port = next((port for owner, name, port in file.mapped(use.node.scope(), use.key) if (owner, name) == cell), None)
     if port is None:
-        return Report("warning", f"nothing writes the key {key}, which {use.said}", looked, file.where(use.node), helps)
+        return Report("warning", f"nothing writes the key {key}, which {use.said()}", looked, file.where(use.node), helps)
     around = file.nodes[scope_below(file, use) - 1]
     return Report("warning", f"nothing writes the key {key}", Place(file.source, *port.span()), file.where(around), helps,
-                  [Note(f"{use.said} it as {use.key}", looked)])
+                  [Note(f"{use.said()} it as {use.key}", looked)])
 
 
 def no_output(keys: Keys, cell: Cell) -> List[str]:
     """That a row has no output for a cell that its leaf names at a port."""
     use = keys.silent.get(cell)
-    return [] if use is None else [f"{use.said[:-6]} is neither an input nor an output of its row: an output is a line `out PORT = ..`"]
+    return [] if use is None else [f"{use.name} is neither an input nor an output of its row: an output is a line `out PORT = ..`"]
 
 
 def scope_below(file: TreeFile, use: Use) -> int:
@@ -202,7 +205,7 @@ def not_given(keys: Keys, cell: Cell, use: Use) -> Report:
     return Report("warning", f"{node.said()} is opened without {cell[1]}, which its tree reads",
                   Place(keys.file.source, *node.element.span()), keys.file.where(node),
                   [f'write {cell[1]}="{{..}}", or a value, at the SubTree'],
-                  [Note(f"{use.said} it", Place(keys.file.source, *use.span))])
+                  [Note(f"{use.said()} it", Place(keys.file.source, *use.span))])
 
 
 def literal_warnings(file: TreeFile) -> Iterator[Report]:
