@@ -5,12 +5,37 @@ from places_cases import THREE_ROWS, THREE_TREES, Case, changed, lines, nodes, p
 TICK = "tick T W"
 
 
-def fault(name: str, output: str, place: str, said: "tuple[str, ...]", tree: str, world: str) -> Case:
-    """A run that ends so; the lines of its trace stand between slashes."""
-    return Case(name, 5, output.replace(" / ", "\n") + "\n", place, said, tree, world, TICK)
+def fault(name: str, output: str, place: str, said: "tuple[str, ...]", tree: str, world: str, rules: str = "") -> Case:
+    """A run that ends so; the lines of its trace stand between slashes. With rules it is one of `mock`."""
+    words = "mock T W R" if rules else TICK
+    return Case(name, 5, output.replace(" / ", "\n") + "\n", place, said, tree, world, words, rules=rules)
 
 
-CASES = [
+# a configuration whose script divides by 0, and one that writes nothing
+MOCKED = """\
+{ "TestNodeConfigs": { "New": { "return_status": "SUCCESS", "async_delay": 0,
+      "post_script": "n := 1 / 0" } },
+  "SubstitutionRules": { "A": "%s" } }
+"""
+
+MOCKS = [
+    fault("a fault behind a mock", "tick 1 at 0 / node 1 IDLE RUNNING / node 2 IDLE SUCCESS / fault 1 3 NoEntry 0 z", "T:3:35:",
+          ("the script code of Script (node 3) faulted at 0 ms: the entry z of the main tree has no value", "no leaf was held",
+           "R:1:24: warning: no rule names the configuration New"),
+          nodes('<Sequence><A/> <Script code="y := z"/></Sequence>'), lines("tick 1"), MOCKED % "AlwaysSuccess"),
+    fault("a fault of a configuration", "tick 1 at 0 / node 1 IDLE RUNNING / node 2 IDLE RUNNING / fault 1 3 ZeroDivisor", "R:2:22:",
+          ("post_script of New faulted at 0 ms: a division by 0", "T:3:11: note: the node that it replaces"),
+          nodes("<Sequence><A/><B/></Sequence>"), lines("action B timed 0\ntick 1"), MOCKED % "New"),
+    fault("a fault of a leaf that takes the place of one", "tick 1 at 0 / node 1 IDLE RUNNING / fault 1 2 NoInput p", "W:2:21:",
+          ("the row of B 'A' (node 2) faulted", "the node does not write p", "T:3:11: note: the node"),
+          nodes("<Sequence><A/></Sequence>"), lines("condition B(p) when p\ntick 1"),
+          '{"SubstitutionRules": {"A": "B"}}'),
+    fault("a guard of a leaf that is replaced", "tick 1 at 0 / fault 1 1 NoEntry 0 n", "T:3:16:",
+          ("the script _skipIf of Delay 'A' (node 1)", "the entry n of the main tree has no value"),
+          nodes('<A _skipIf="1==n"/>'), lines("tick 1"), MOCKED % "New"),
+]
+
+TICKS = [
     fault("mistake 8, fault at run time",
           "tick 1 at 0 / node 1 IDLE RUNNING / call 2 start SUCCESS / node 2 IDLE SUCCESS / node 3 IDLE RUNNING / "
           "node 4 IDLE RUNNING / node 5 IDLE RUNNING / call 6 start RUNNING / node 6 IDLE RUNNING / root 1 RUNNING / "
@@ -77,3 +102,5 @@ CASES = [
           nodes("<A/>"),
           lines("fact n 9223372036854775807\naction A timed 0\nsets n += 1\ntick 1")),
 ]
+
+CASES = TICKS + MOCKS

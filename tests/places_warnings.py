@@ -8,12 +8,14 @@ from places_cases import THREE_ROWS, THREE_TREES, changed, nodes, pair
 
 @dataclass(frozen=True)
 class Warned:
-    """A tree file, and texts of its warnings, one for each; none where it has none. With a world, those of a run."""
+    """A tree file, and texts of its warnings, one for each; none where it has none. With a world, those of a run, and
+    with mock rules those of a run by them."""
 
     name: str
     said: Tuple[str, ...]
     tree: str
     world: str = ""
+    rules: str = ""
 
 
 GREETING = """\
@@ -119,6 +121,32 @@ PORTS = [
            changed(THREE_TREES, ' goal="{room}"', ""), THREE_ROWS),
 ]
 
+def mocked(name: str, said: "tuple[str, ...]", rules: str, configurations: str = '"Stuck": { "return_status": "FAILURE" }') -> Warned:
+    """Rules, which begin on line 3, for the file of three trees, and texts of their warnings."""
+    text = '{ "TestNodeConfigs": {\n %s },\n"SubstitutionRules": { %s }}' % (configurations, rules)
+    return Warned(name, said, THREE_TREES, THREE_ROWS, text)
+
+
+MOCKS = [
+    mocked("rules that all replace", (), '"DriveTo/Drive": "Stuck", "*Grip": "AlwaysSuccess"'),
+    mocked("a rule by a leaf's ID", ("R:3:24: warning: the rule 'Drive' replaces no node", "R:2:2: warning: no rule names the configuration Stuck"),
+           '"Drive": "AlwaysFailure"'),
+    mocked("a path of the library", ("R:3:24: warning: the rule 'DriveTo::3/Drive::6' replaces no node",), '"DriveTo::3/Drive::6": "Stuck"'),
+    mocked("a path misspelled", ("R:3:24: warning: the rule 'DriveTo/Driv' replaces no node",), '"DriveTo/Driv": "Stuck"'),
+    mocked("a rule of a SubTree", ("R:3:24: warning: the rule 'DriveTo' replaces no node",), '"DriveTo": "Stuck"'),
+    mocked("a rule behind another", ("R:3:43: warning: the rule 'DriveTo/Drive' replaces no node",), '"Drive*": "Stuck", "DriveTo/Drive": "AlwaysSuccess"'),
+    mocked("a configuration misspelled", ("R:3:36: warning: Stck is no configuration",), '"HandOver": "Stck"'),
+    mocked("members that are not read", ("R:2:41: warning: the member success_script is not read", "R:2:64: warning: the member failure_script is not read",
+                                         "R:2:87: warning: the member asyncdelay is not read"), '"HandOver": "Stuck"',
+           '"Stuck": { "return_status": "FAILURE", "success_script": "1", "failure_script": "1", "asyncdelay": 1 }'),
+    Warned("a document misspelled", ("R:1:2: warning: the member TestNodeConfig is not read", "R:1:69: warning: AlwaysSucces is no configuration"),
+           THREE_TREES, THREE_ROWS, '{"TestNodeConfig": {"Stuck": {}}, "SubstitutionRules": {"HandOver": "AlwaysSucces"}}'),
+    Warned("a rule that the library reads otherwise", ("R:1:25: warning: the rule 'A' replaces no node but those of this path",),
+           pair('<Sequence><A/><SubTree ID="N"/></Sequence>', "<A/>"), "bt-world 1\n", '{"SubstitutionRules": { "A": "AlwaysSuccess" }}'),
+    Warned("a leaf of another row", ("T:7:7: warning: Grip 'HandOver' (node 11) does not give force, which its row has",), THREE_TREES, THREE_ROWS,
+           '{"SubstitutionRules": {"HandOver": "Grip"}}'),
+]
+
 NODE_LIST = """\
 1   control    Sequence              top                   4
 2   leaf       ReadAddress           ReadAddress           5
@@ -131,6 +159,39 @@ NODE_LIST = """\
 9   decorator  Timeout               Timeout               20  DriveTo (3) > Dock (8)
 10  leaf       Grip                  Grip                  21  DriveTo (3) > Dock (8)
 11  leaf       HandOver              HandOver              7
+"""
+
+STUCK = """\
+{ "TestNodeConfigs": { "Stuck": { "return_status": "FAILURE", "async_delay": 250 } },
+  "SubstitutionRules": { "DriveTo/Drive": "Stuck", "*/Grip": "AlwaysSuccess" } }
+"""
+
+MOCKED_LIST = """\
+1   control    Sequence              top                   4
+2   leaf       ReadAddress           ReadAddress           5
+3   subtree    DriveTo               DriveTo               6
+4   control    Sequence              Sequence              11  DriveTo (3)
+5   decorator  RetryUntilSuccessful  RetryUntilSuccessful  12  DriveTo (3)
+6   decorator  Delay                 Drive                 13  DriveTo (3)
+7   built-in   AlwaysFailure         AlwaysFailure         13  DriveTo (3)
+8   built-in   Script                Script                15  DriveTo (3)
+9   subtree    Dock                  Dock                  16  DriveTo (3)
+10  decorator  Timeout               Timeout               20  DriveTo (3) > Dock (9)
+11  built-in   AlwaysSuccess         Grip                  21  DriveTo (3) > Dock (9)
+12  leaf       HandOver              HandOver              7
+"""
+
+MOCKED_TRACE = """\
+tick 1 at 0
+node 1 IDLE RUNNING
+call 2 start SUCCESS
+node 2 IDLE SUCCESS
+node 3 IDLE RUNNING
+node 4 IDLE RUNNING
+node 5 IDLE RUNNING
+node 6 IDLE RUNNING
+root 1 RUNNING
+board 1 0 room 12
 """
 
 TRACE = """\

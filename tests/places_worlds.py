@@ -157,20 +157,41 @@ GROUNDS = [
 ]
 
 
-def rules(name: str, refused: str, text: str, *said: str, nodes: str = ONE) -> Case:
+def rules(name: str, refused: str, text: str, *said: str, nodes: str = ONE, place: str = "R: error:") -> Case:
     """Mock rules that are refused, or that make of a tree one that is."""
-    return Case(name, 10, f"refused rules {refused}\n", "R: error:", said, nodes, lines("tick 1"), "mock T W R", rules=text)
+    return Case(name, 10, f"refused rules {refused}\n", place, said, nodes, lines("tick 1"), "mock T W R", rules=text)
+
+
+def configured(text: str) -> str:
+    """Rules with a configuration that has these members, which begin on line 2."""
+    return '{"TestNodeConfigs": {"New": {\n' + text + '\n}}}'
 
 
 # a leaf becomes a Delay over another one, whose script names an entry
 NEW = '{"TestNodeConfigs": {"New": {"return_status": "SUCCESS", "post_script": "m := 1"}}, "SubstitutionRules": {"A": "New"}}'
 
 MOCKS = [
-    rules("no JSON", "Json", "{", "is no JSON text"),
-    rules("no object", "Form ''", '{"SubstitutionRules": []}', "has not its form (Form '')"),
-    rules("a status of another text", "Form 'New'", '{"TestNodeConfigs": {"New": {"return_status": "RUNNING"}}}', "(Form 'New')"),
-    rules("a post_script", "BadScript 'New' Syntax 4", '{"TestNodeConfigs": {"New": {"return_status": "SUCCESS", "post_script": "m :="}}}',
-          "(BadScript 'New' Syntax 4)"),
+    rules("no JSON", "Json", "{", "is no JSON text", "expecting property name", place="R:1:2: error:"),
+    rules("JSON with a comma too many", "Json", '{\n"SubstitutionRules": {"A": "B",}\n}', "is no JSON text", place="R:2:32: error:"),
+    rules("JSON that goes on", "Json", "{}\n{}", "goes on after its value", place="R:2:1: error:"),
+    rules("rules that are not UTF-8", "Json", '{\n"\udcff": 1}', "the file is not UTF-8", place="R:2:2: error:"),
+    rules("half a character", "Json", '{"a": "\\ud800"}', "is no JSON text", place="R:1:1: error:"),
+    rules("a number that is none", "Json", '{"a": NaN}', "is no JSON text", place="R:1:1: error:"),
+    rules("rules that are a list", "Form ''", "[]", "the rules are no object (Form '')", place="R:1:1: error:"),
+    rules("no object", "Form ''", '{"SubstitutionRules": []}', "SubstitutionRules is no object (Form '')", place="R:1:23: error:"),
+    rules("a configuration that is a text", "Form 'New'", '{"TestNodeConfigs": {"New": "SUCCESS"}}', "(Form 'New')", place="R:1:29: error:"),
+    rules("a status of another text", "Form 'New'", configured('"return_status": "RUNNING"'), "(Form 'New')", place="R:2:18: error:"),
+    rules("a status misspelled", "Form 'New'", configured('"return_status": "SUCESS"'), "return_status of New is neither SUCCESS nor FAILURE (Form 'New')",
+          "did you mean SUCCESS?", place="R:2:18: error:"),
+    rules("no status", "Form 'New'", configured('"return_stats": "SUCCESS"'), "has no return_status", "did you mean return_status?", place="R:1:29: error:"),
+    rules("a delay with a point", "Form 'New'", configured('"return_status": "SUCCESS",\n"async_delay": 1.5'), "in digits alone", place="R:3:16: error:"),
+    rules("a delay with an exponent", "Form 'New'", configured('"return_status": "SUCCESS",\n"async_delay": 1e3'), "in digits alone",
+          place="R:3:16: error:"),
+    rules("a script that is a number", "Form 'New'", configured('"return_status": "SUCCESS",\n"post_script": 1'), "post_script of New is no text",
+          place="R:3:16: error:"),
+    rules("a rule of no text", "Form 'A'", '{"SubstitutionRules": {\n"A": {"return_status": "SUCCESS"}}}', "(Form 'A')", place="R:2:6: error:"),
+    rules("a post_script", "BadScript 'New' Syntax 4", configured('"return_status": "SUCCESS", "post_script": "m :="'),
+          "(BadScript 'New' Syntax 4)", "post_script of New", place="R:2:44: error:"),
     rules("rules that are too long", "TooLong", "{}" + " " * 1_048_575, "1048577 bytes"),
     rules("mocks of too many nodes", "TooManyNodes", NEW, "two nodes of one", nodes=nodes(f"<Sequence>{'<A/>' * 2_048}</Sequence>")),
     rules("mocks that are too deep", "TooDeep", NEW, "two nodes of one", nodes=nodes("<Inverter>" * 255 + "<A/>" + "</Inverter>" * 255)),
@@ -178,6 +199,15 @@ MOCKS = [
           nodes=nodes("<Sequence><B " + " ".join(f'p{n}="{{k{n}}}"' for n in range(4_096)) + "/><A/></Sequence>")),
     rules("mocks with too much work", "TooMuchWork", NEW, "at most 100,000",
           nodes=nodes('<Repeat num_cycles="1000"><Repeat num_cycles="98"><A/></Repeat></Repeat>')),
+]
+
+
+MOCKS += [
+    Case("a mocked tree without a row", 4, "refused world NoRow 'Stck'\n", "T:3:11:",
+         ("the leaf Stck 'A' (node 2) has no row in W", "R:2:30: warning: Stck is no configuration", "did you mean Stuck?",
+          "R:2:38: warning: the rule 'C' replaces no node", "the paths are 'A', 'B'"),
+         nodes("<Sequence><A/><B/></Sequence>"), lines("action B timed 0\ntick 1"), "mock T W R",
+         rules='{ "TestNodeConfigs": { "Stuck": { "return_status": "FAILURE" } },\n  "SubstitutionRules": {"A": "Stck", "C": "AlwaysSuccess"} }'),
 ]
 
 

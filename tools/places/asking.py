@@ -4,27 +4,34 @@ import os
 import stat
 import subprocess
 import sys
-from typing import List, Optional
+from typing import Dict, List, Optional
 
 from .explaining import explanation, told
 from .listing import join_lines, node_lines, tree_lines
 from .marks import Finding, read_marks
-from .naming import Naming
+from .mocks import mocked
+from .naming import Naming, OtherTree
 from .opening import open_file
 from .report import tell
+from .rules import read_rules
 from .source import Source
 from .trees import TreeFile, main_of, read_file, trees_of
 from .worlds import read_world
 
 USAGE = """\
-./names TREE [--main ID]            a line a node: uid, kind, ID, name, line, and the SubTree nodes round it
-./names TREE [--main ID] < TRACE    the trace, with the name of each node after its line
-./names TREE WORLD [--main ID]      leaves without rows, rows without leaves, and ports that do not meet
-./names --trees TREE                a line a tree of the file
-./names --all TREE                  what `bt check` says of each tree of the file as the main tree
+./names TREE [OPTIONS]            a line a node: uid, kind, ID, name, line, and the SubTree nodes round it
+./names TREE [OPTIONS] < TRACE    the trace, with the name of each node after its line
+./names TREE WORLD [OPTIONS]      leaves without rows, rows without leaves, and ports that do not meet
+./names --trees TREE              a line a tree of the file
+./names --all TREE                what `bt check` says of each tree of the file as the main tree
+the options, in any order:
+  --main ID       the main tree
+  --mock RULES    the nodes of the tree that these mock rules make
 """
 
-TREE_REFUSED, WORLD_REFUSED, WORDS, UNREAD = 3, 4, 2, 7
+TREE_REFUSED, WORLD_REFUSED, RULES_REFUSED, WORDS, UNREAD, OTHER = 3, 4, 10, 2, 7, 1
+
+OPTIONS = ("--main", "--mock")
 
 
 def file_of(name: str) -> Source:
@@ -58,16 +65,23 @@ def opened(source: Source, main: Optional[str]) -> TreeFile:
     return file
 
 
-def name_nodes(file: TreeFile) -> None:
+def name_nodes(file: TreeFile, is_mocked: bool) -> int:
     """Lists the nodes of a tree, or names them in the trace on standard input."""
     if not has_trace() or not sys.stdin.buffer.peek(1):
         write(node_lines(file))
-        return
+        return 0
     naming = Naming(file)
-    for line in naming.lines(sys.stdin.buffer):
-        sys.stdout.buffer.write(line)
+    try:
+        for line in naming.lines(sys.stdin.buffer):
+            sys.stdout.buffer.write(line)
+    except OtherTree as fault:
+        sys.stdout.buffer.flush()
+        tell([f"names: {fault}", "  help: " + ("the rules or the tree are others" if is_mocked else
+              "the nodes of a run of `bt mock` have other numbers: give its rules by `--mock RULES`")])
+        return OTHER
     sys.stdout.buffer.flush()
     tell(filter(None, [naming.complaint()]))
+    return 0
 
 
 def join(file: TreeFile, world: Source) -> int:
@@ -107,30 +121,46 @@ def check_all(source: Source, program: str) -> int:
     return status
 
 
-def about(source: Source, world: Optional[Source], words: List[str], program: str) -> int:
-    """Does what the words say of a tree file. Raises its first fault."""
-    if words[0] == "--all":
-        return check_all(source, program)
-    if words[0] == "--trees":
-        list_trees(source)
-        return 0
-    file = opened(source, words[-1] if words[-2:-1] == ["--main"] else None)
-    if world is not None:
-        return join(file, world)
-    name_nodes(file)
-    return 0
+def by_rules(file: TreeFile, source: Source) -> TreeFile:
+    """The tree that the rules of a file make; ends with 10 where this has a fault."""
+    try:
+        return mocked(file, read_rules(source)).file
+    except Finding as finding:
+        tell(told(source, finding))
+        sys.exit(RULES_REFUSED)
+
+
+def about(source: Source, world: Optional[Source], options: Dict[str, str]) -> int:
+    """Does what the words say of a tree file and its options. Raises its first fault."""
+    file = opened(source, options.get("--main"))
+    if "--mock" in options:
+        file = by_rules(file, file_of(options["--mock"]))
+    return name_nodes(file, "--mock" in options) if world is None else join(file, world)
+
+
+def parted(words: List[str]) -> "tuple[List[str], Dict[str, str]]":
+    """The files at the front of the words, and the options behind them."""
+    first = next((at for at, word in enumerate(words) if word in OPTIONS), len(words))
+    names, rest = words[:first], words[first:]
+    options = dict(zip(rest[::2], rest[1::2]))
+    return (names, options) if 2 * len(options) == len(rest) and all(option in OPTIONS for option in options) else ([], {})
 
 
 def answer(words: List[str], program: str) -> int:
     """Does what the words say, and gives the exit. `--all` calls the program."""
     whole = len(words) == 2 and words[0] in ("--trees", "--all")
-    names = words[1:] if whole else words[:-2] if len(words) > 2 and words[-2] == "--main" else words
+    names, options = (words[1:], {}) if whole else parted(words)
     if not 1 <= len(names) <= 2 or names[0].startswith("--"):
         tell(USAGE.splitlines())
         return WORDS
     source, *others = map(file_of, names)
     try:
-        return about(source, others[0] if others else None, words, program)
+        if words[0] == "--all":
+            return check_all(source, program)
+        if words[0] == "--trees":
+            list_trees(source)
+            return 0
+        return about(source, others[0] if others else None, options)
     except Finding as finding:
         tell(told(source, finding))
         return TREE_REFUSED

@@ -1,22 +1,24 @@
 """What the program's exit and output mean for the files of its words."""
 
 import os
-from typing import List
+from dataclasses import dataclass, field
+from typing import Dict, List, Optional
 
 from . import grounds
-from .faults import explained
+from .faults import cause_said, explained, quenched
 from .marks import Finding
+from .mocks import mocked, rule_warnings
 from .near import meant
 from .opening import open_file, opened
 from .report import Note, Place, Report
 from .rows import lacking
-from .rules import fault_words
+from .rules import Configuration, Rules, read_rules
 from .source import MISSING, MOST_BYTES, Source, beside, read, why_unreadable
-from .table import GROUND, RULES, TREE, WORLD
-from .traces import faulted
-from .trees import read_file
+from .table import CAUSES, GROUND, RULES, TREE, WORLD
+from .traces import Faulted, faulted
+from .trees import TreeFile, read_file
 from .words import Command, command_of, usage, wrong
-from .worlds import read_world
+from .worlds import World, read_world
 
 
 def explanation(status: int, output: bytes, words: List[str]) -> List[str]:
@@ -100,8 +102,8 @@ def of_world(command: Command, words: str) -> List[str]:
         return []
     if kind == "NoDriver" or kind == "NoGoal" and not world.goals:
         return [f"{source.name}: error: {WORLD[kind].wrong} ({words}): {WORLD[kind].right}"]
-    file = opened(command.tree, command.main) if kind == "NoRow" and command.rules is None else None
-    return [] if file is None else lacking(file, world, words)
+    run = run_of(command) if kind == "NoRow" else None
+    return [] if run is None else lacking(run.file, run.world, words) + rule_lines(run)
 
 
 def of_ground(command: Command, words: str) -> List[str]:
@@ -135,23 +137,67 @@ def of_rules(command: Command, words: str) -> List[str]:
         return []
     if words == "TooLong":
         return too_long(source.name, source) if len(source.data) > MOST_BYTES else []
-    of_tree_made = kind not in ("Json", "Form", "BadScript")
-    if fault_words(source.data) != ("" if of_tree_made else words):
+    try:
+        read_rules(source)
+    except Finding as finding:
+        return told(source, finding) if finding.words == words else []
+    if kind in ("Json", "Form", "BadScript"):
         return []
     return [f"{source.name}: error: {RULES[kind].wrong} ({words}): {RULES[kind].right}"]
 
 
 def of_fault(command: Command, text: str) -> List[str]:
     """The lines for a run of a tree file that ended in a fault."""
-    if command.rules is not None:
-        return []
     ended = faulted(text)
-    file = opened(command.tree, command.main)
-    source = read(command.world or "")
-    if ended is None or file is None or source is None:
+    run = run_of(command)
+    if ended is None or run is None:
         return []
+    report = of_configuration(run, ended) or explained(run.file, run.world, ended)
+    return [] if report is None else report.lines() + rule_lines(run)
+
+
+@dataclass
+class Run:
+    """What a command runs: a tree, or the one that mock rules make of it, over a world."""
+
+    file: TreeFile
+    world: World
+    before: Optional[TreeFile] = None
+    rules: Optional[Rules] = None
+    configured: Dict[int, Configuration] = field(default_factory=dict)
+
+
+def run_of(command: Command) -> Optional[Run]:
+    """What a command runs, or none where a file is not as the program has read it."""
+    file, source = opened(command.tree, command.main), read(command.world or "")
+    if file is None or source is None:
+        return None
     try:
-        report = explained(file, read_world(source), ended)
+        world = read_world(source)
+        if command.rules is None:
+            return Run(file, world)
+        rules = read_rules(read(command.rules) or Source("", b""))
     except Finding:
+        return None
+    made = mocked(file, rules)
+    return Run(made.file, world, file, rules, made.configured)
+
+
+def rule_lines(run: Run) -> List[str]:
+    """The lines for rules that do nothing, none where there are no rules."""
+    if run.rules is None or run.before is None:
         return []
-    return [] if report is None else report.lines()
+    return [line for report in rule_warnings(run.before, run.rules) for line in report.lines()]
+
+
+def of_configuration(run: Run, ended: Faulted) -> Optional[Report]:
+    """What is to say of a fault in the script of a configuration."""
+    configuration = run.configured.get(ended.uid)
+    script = configuration.members.get("post_script") if configuration is not None else None
+    if configuration is None or script is None or run.rules is None or ended.cause[0] not in CAUSES:
+        return None
+    node = run.file.nodes[ended.uid - 1]
+    message = f"post_script of {configuration.name.value} faulted at {ended.moment} ms: {cause_said(run.file, node, ended)}"
+    return Report("error", message, Place(run.rules.source, *script.value.span(run.rules.source)), "", [CAUSES[ended.cause[0]].right,
+                  f"it was in the event `{ended.header}`, of runner {ended.runner}; {quenched(run.file, ended)}"],
+                  [Note("the node that it replaces", Place(run.file.source, *node.element.span()))])

@@ -3,11 +3,16 @@
 import re
 from typing import BinaryIO, Iterator, Optional, Set
 
+from .built_ins import NODES
 from .listing import opening_said
 from .traces import HEADER
 from .trees import Node, TreeFile
 
 UID = re.compile(r"(?:node|call) ([0-9]+) .*|(?:fault|quench) [0-9]+ ([0-9]+)(?: .*)?|board [0-9]+ ([0-9]+) .*")
+
+
+class OtherTree(Exception):
+    """A trace that is surely of another tree."""
 
 
 class Naming:
@@ -17,9 +22,11 @@ class Naming:
         self.file = file
         self.moment = "0"
         self.strange: Set[int] = set()
+        self.before = ""
+        self.has_calls = False
 
     def named(self, line: str) -> str:
-        """What belongs after a line of the trace; nothing where it names no node."""
+        """What belongs after a line of the trace; nothing where it names no node. Raises where it calls a node that is no leaf."""
         header = HEADER.fullmatch(line)
         if header is not None:
             self.moment = header.group(2)
@@ -32,14 +39,28 @@ class Naming:
         node = self.file.nodes[uid - 1] if 1 <= uid <= len(self.file.nodes) else None
         if node is None:
             return ""
-        moment = f" at {self.moment}" if line.startswith("call ") else ""
+        is_call = line.startswith("call ")
+        self.check(line, node, is_call)
+        moment = f" at {self.moment}" if is_call else ""
         return "\t" + name_said(node) + moment + around_said(node)
+
+    def check(self, line: str, node: Node, is_call: bool) -> None:
+        """Raises where no run of this tree has the line: a leaf is called before it is RUNNING, and no other node is called."""
+        self.has_calls |= is_call
+        is_lone = node.kind in NODES and not node.children
+        becomes_running = line.endswith(" IDLE RUNNING") and not is_call
+        if is_call and node.kind != "Leaf" or becomes_running and is_lone:
+            raise OtherTree(f"the trace is of another tree: it has `{line}`, and {node.said()} of this tree is no leaf that is called")
+        if becomes_running and node.kind == "Leaf" and self.has_calls and self.before != f"call {node.uid} start RUNNING":
+            raise OtherTree(f"the trace is of another tree: it has `{line}` without a call of {node.said()} before it")
 
     def lines(self, trace: BinaryIO) -> Iterator[bytes]:
         """The lines of the trace, each with what belongs after it."""
         for line in trace:
             text = line.rstrip(b"\n")
-            yield text + self.named(text.decode("utf-8", "replace")).encode() + line[len(text):]
+            said = text.decode("utf-8", "replace")
+            yield text + self.named(said).encode() + line[len(text):]
+            self.before = said
 
     def complaint(self) -> Optional[str]:
         """That the trace names nodes which the tree does not have."""

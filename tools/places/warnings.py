@@ -1,15 +1,19 @@
 """What the program reads over and a user may have meant: warnings of a tree file that was read."""
 
 import re
-from typing import Dict, Iterator, List, Optional, Set, Tuple
+from typing import Dict, Iterable, Iterator, List, Optional, Set, Tuple
 
 from .built_ins import GUARDS
+from .explaining import run_of
 from .keys import key_warnings, literal_warnings
 from .marks import Attribute, Element
+from .mocks import rule_warnings
 from .near import distance, listed, near, plain
+from .opening import opened
 from .ports import input_warnings, leaf_warnings, like_warnings, row_warnings, test_warnings
 from .report import Place, Report
 from .trees import MODELS, PORTS, Node, TreeFile, is_remapped
+from .words import Command
 from .worlds import World
 
 # what editors and the library write into files, and the program reads over by design
@@ -19,6 +23,19 @@ SILENT = ("_autoremap", "__autoremap", "_description", "_fullpath", "_uid", "_co
 ROOT = ("BTCPP_format", "main_tree_to_execute")
 
 NUMBER = re.compile(r"\(node [0-9]+\)")
+
+
+def command_warnings(command: Command) -> List[Report]:
+    """The warnings of the files that a command names; none where they can't be read as the program has read them."""
+    if command.name == "check":
+        file = opened(command.tree, command.main)
+        return [] if file is None else warnings(file)
+    run = run_of(command) if command.name in ("tick", "live", "mock") else None
+    if run is None:
+        return []
+    if run.rules is not None and run.before is not None:
+        return [*rule_warnings(run.before, run.rules), *in_order(row_warnings(run.file, run.world))]
+    return run_warnings(run.file, run.world)
 
 
 def warnings(file: TreeFile) -> List[Report]:
@@ -34,9 +51,9 @@ def run_warnings(file: TreeFile, world: World) -> List[Report]:
     return in_order([*row_warnings(file, world), *key_warnings(file, world)])
 
 
-def in_order(reports: List[Report]) -> List[Report]:
+def in_order(reports: Iterable[Report]) -> List[Report]:
     """The reports in the order of the file, one for each place: a tree that is opened twice has its nodes twice."""
-    found = {(at_of(report), NUMBER.sub("", report.message)): report for report in reversed(reports)}
+    found = {(at_of(report), NUMBER.sub("", report.message)): report for report in reversed(list(reports))}
     return sorted(found.values(), key=at_of)
 
 
