@@ -10,6 +10,7 @@ from .marks import Finding
 from .mocks import mocked, rule_warnings
 from .near import meant
 from .opening import open_file, opened
+from .plans import Planned, planned
 from .report import Note, Place, Report
 from .rows import lacking
 from .rules import Configuration, Rules, read_rules
@@ -40,6 +41,8 @@ def explanation(status: int, output: bytes, words: List[str]) -> List[str]:
         return of_read(command, refused(text, "refused read "))
     if status == 10:
         return of_rules(command, refused(text, "refused rules "))
+    if status in (5, 6) and command.name in ("plan", "gplan"):
+        return of_plan(command, text)
     return of_fault(command, text) if status == 5 else []
 
 
@@ -154,6 +157,18 @@ def of_fault(command: Command, text: str) -> List[str]:
         return []
     report = of_configuration(run, ended) or explained(run.file, run.world, ended)
     return [] if report is None else report.lines() + rule_lines(run)
+
+
+def of_plan(command: Command, text: str) -> List[str]:
+    """The lines for a plan that was not found, or that ended in a fault."""
+    ended, source = planned(text), read(command.world or "")
+    if ended is None or source is None:
+        return []
+    try:
+        goals = Planned(source, command.name == "gplan")
+    except (Finding, grounds.Ground):
+        return []
+    return [line for report in goals.reports(ended) for line in report.lines()]
 
 
 @dataclass

@@ -186,5 +186,6 @@ def in_row(world: World, row: Row, ended: Faulted) -> Iterator[Suspect]:
                 continue
             yield Suspect("the row of ", Place(world.source, expr.start, expr.start + len(expr.text)))
     if kind == "Overflow":
-        for added in row.adds:
-            yield Suspect("an effect of the row of ", Place(world.source, *added.span()))
+        for effect in row.sets.values():
+            if effect.sign == "+=":
+                yield Suspect("an effect of the row of ", Place(world.source, *effect.fact.span()))

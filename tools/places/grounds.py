@@ -46,15 +46,20 @@ def fault_at(kind: str, line: int, message: str = "", helps: Sequence[str] = ())
 
 def read_ground(source: Source) -> World:
     """The world of the script that a ground file stands for. Raises the first fault."""
-    lines = read_lines(source.data)
-    text = "".join(line.text + "\n" for line in lines)
-    if len(text) > MOST_BYTES:
-        raise Ground(f"TooManyGround {len(text)}", 0)
-    script = Source(source.name, text.encode("latin-1"))
+    lines, script = script_of(source)
     try:
         return read_world(script)
     except Finding as finding:
         raise of_script(lines, script, finding, source) from finding
+
+
+def script_of(source: Source) -> Tuple[List[Line], Source]:
+    """The script that a ground file stands for, as lines and as bytes. Raises the first fault."""
+    lines = read_lines(source.data)
+    text = "".join(line.text + "\n" for line in lines)
+    if len(text) > MOST_BYTES:
+        raise Ground(f"TooManyGround {len(text)}", 0)
+    return lines, Source(source.name, text.encode("latin-1"))
 
 
 def of_script(lines: List[Line], script: Source, finding: Finding, source: Source) -> Ground:

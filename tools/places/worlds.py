@@ -71,6 +71,61 @@ class Expr:
         return [Word(t.text, self.start + t.start, self.start + t.end) for t in self.read.looks()]
 
 
+@dataclass(frozen=True)
+class Test:
+    """What a condition with `is` compares."""
+
+    fact: str
+    sign: str
+    value: int
+
+    def said(self) -> str:
+        """As it is written."""
+        return f"{self.fact} {self.sign} {self.value}"
+
+    def holds(self, value: int) -> bool:
+        """Whether it is true where the fact has this value."""
+        return {"==": value == self.value, "!=": value != self.value, "<": value < self.value, "<=": value <= self.value,
+                ">": value > self.value, ">=": value >= self.value}[self.sign]
+
+
+@dataclass(frozen=True)
+class Effect:
+    """What an action does to a fact."""
+
+    fact: Word
+    sign: str
+    value: int
+
+    def said(self) -> str:
+        """As it is written."""
+        return f"{self.fact.text} {self.sign} {self.value}"
+
+    def achieves(self, test: Test) -> bool:
+        """Whether it may turn a test true: what adds is judged by its sign alone."""
+        if self.fact.text != test.fact:
+            return False
+        return test.holds(self.value) if self.sign == "=" else self.leads(test, ("==", "!=", *self.onward()))
+
+    def threatens(self, test: Test) -> bool:
+        """Whether it may turn a test false."""
+        if self.fact.text != test.fact:
+            return False
+        return not test.holds(self.value) if self.sign == "=" else self.leads(test, ("==", "!=", *self.backward()))
+
+    def leads(self, test: Test, signs: Tuple[str, ...]) -> bool:
+        """Whether it adds something, and the test compares by one of these."""
+        return self.value != 0 and test.sign in signs
+
+    def onward(self) -> Tuple[str, ...]:
+        """The comparisons towards which it leads."""
+        return (">", ">=") if self.value > 0 else ("<", "<=")
+
+    def backward(self) -> Tuple[str, ...]:
+        """The comparisons from which it leads away."""
+        return ("<", "<=") if self.value > 0 else (">", ">=")
+
+
 @dataclass
 class Row:
     """A row: its ID, its input ports, how it answers, and what it has besides."""
@@ -81,9 +136,9 @@ class Row:
     exprs: List[Expr] = field(default_factory=list)
     fails: Optional[Word] = None
     needs: Dict[str, Word] = field(default_factory=dict)
-    sets: Dict[str, Word] = field(default_factory=dict)
-    adds: List[Word] = field(default_factory=list)
+    sets: Dict[str, Effect] = field(default_factory=dict)
     outs: Dict[str, Word] = field(default_factory=dict)
+    test: Optional[Test] = None
 
 
 class Line:
@@ -383,16 +438,16 @@ class World:
         if not is_name(id_.text):
             line.bad(id_.span(), f"{id_.text} is no ID: a condition with `is` has no ports")
         fact = line.name("fact")
-        line.sign(*COMPARISONS)
+        sign = line.sign(*COMPARISONS)
         helps = as_when(line, id_)
         value = line.canonical("number", helps)
         line.stop(helps)
         self.close()
-        line.in_range(value, -2 ** 63, 2 ** 63 - 1, "a fact")
+        number_ = line.in_range(value, -2 ** 63, 2 ** 63 - 1, "a fact")
         self.free_id(line, id_)
         self.known_fact(line, fact)
         self.not_too_many(line, len(self.rows), "rows")
-        self.rows[id_.text] = Row(id_, [], "is")
+        self.rows[id_.text] = Row(id_, [], "is", test=Test(fact.text, sign.text, number_))
 
     def read_action(self, line: Line) -> None:
         """`action ROW timed MS`, `action ROW replay MS OUTCOMES` or `action ROW gate EXPR`"""
@@ -454,12 +509,12 @@ class World:
         value = line.canonical("number")
         line.stop()
         row = self.opened(line)
-        line.in_range(value, -2 ** 63, 2 ** 63 - 1, "a fact")
+        number_ = line.in_range(value, -2 ** 63, 2 ** 63 - 1, "a fact")
         self.known_fact(line, fact)
-        self.once(line, fact, row.sets.get(fact.text), f"{row.id.text} sets {fact.text} already")
+        earlier = row.sets.get(fact.text)
+        self.once(line, fact, earlier.fact if earlier else None, f"{row.id.text} sets {fact.text} already")
         self.not_too_many(line, len(row.sets), "sets")
-        row.sets[fact.text] = fact
-        row.adds += [fact] if sign.text == "+=" else []
+        row.sets[fact.text] = Effect(fact, sign.text, number_)
 
     def read_out(self, line: Line) -> None:
         """`out PORT = EXPR`"""
