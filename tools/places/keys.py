@@ -44,21 +44,21 @@ def role_of(file: TreeFile, world: Optional[World], node: Node, port: str) -> st
     row = world.rows.get(node.id) if world is not None else None
     if row is not None:
         return {(True, False): "in", (False, True): "out", (True, True): "both"}.get((port in row.ports, port in row.outs), "none")
-    model = file.models.get(node.id)
+    model = file.model_of(node)
     if model is not None and port in model.ports:
         return ROLES[model.ports[port].sort]
     return "any"
 
 
-def port_use(file: TreeFile, world: Optional[World], node: Node, name: str, attribute: Attribute) -> Use:
-    """What a node does with the key at its port of this name; the attribute may be a default of a model."""
-    key = key_of(name, attribute.value.text())
-    said = f"the port {name} of {node.said()}"
+def port_use(file: TreeFile, world: Optional[World], node: Node, attribute: Attribute) -> Use:
+    """What a node does with the key at a port, which may have a default of a model."""
+    key = key_of(attribute.name, attribute.value.text())
+    said = f"the port {attribute.name} of {node.said()}"
     if node.kind == "SubTree":
         return Use(node, key, attribute.span(), said)
     if node.kind != "Leaf":
         return Use(node, key, attribute.span(), said, looks=True, needs=True)
-    role = role_of(file, world, node, name)
+    role = role_of(file, world, node, attribute.name)
     return Use(node, key, attribute.span(), said, makes=role in ("out", "both", "any"), looks=role in ("in", "both"),
                silent=role == "none")
 
@@ -82,13 +82,9 @@ def script_uses(node: Node, attribute: Attribute) -> Iterator[Use]:
 def uses_of(file: TreeFile, world: Optional[World]) -> Iterator[Use]:
     """All places of the opened tree that name a key."""
     for node in file.nodes:
-        for attribute in node.ports():
+        for attribute in node.ports() + file.defaults(node):
             if is_key(attribute.value.text()):
-                yield port_use(file, world, node, attribute.name, attribute)
-        model = file.models.get(node.id) if node.kind == "Leaf" else None
-        for port in model.ports.values() if model is not None else ():
-            if port.default is not None and is_key(port.default.value.text()) and node.element.attribute(port.name) is None:
-                yield port_use(file, world, node, port.name, port.default)
+                yield port_use(file, world, node, attribute)
         for attribute in node.scripts():
             yield from script_uses(node, attribute)
 

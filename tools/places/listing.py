@@ -96,9 +96,7 @@ def port_lines(file: TreeFile, row: Row, node: Node) -> Iterator[str]:
     for attribute in node.ports():
         if attribute.name not in row.ports and attribute.name not in row.outs:
             yield placed(file.source, attribute.at, f"the port {attribute.name} of {node.id} is not named by its row")
-    model = file.models.get(node.id)
-    given = {attribute.name for attribute in node.ports()}
-    given |= {port.name for port in model.ports.values() if port.default is not None} if model is not None else set()
+    given = {attribute.name for attribute in node.ports() + file.defaults(node)}
     for port in row.ports:
         if port not in given:
             yield placed(file.source, node.element.at, f"{node.id} does not give the input {port} of its row")

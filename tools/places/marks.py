@@ -114,6 +114,17 @@ class Element:
         return self.at, self.at + 1 + len(self.name.encode())
 
 
+@dataclass
+class StandIn(Element):
+    """An element that stands in no file, in the place of one that does."""
+
+    shown: Tuple[int, int] = (0, 0)
+
+    def span(self) -> Tuple[int, int]:
+        """The bytes of the element that it replaces."""
+        return self.shown
+
+
 class Finding(Exception):
     """A fault of a file: the words that the program prints of it, where it is, and words for a reader."""
 

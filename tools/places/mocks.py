@@ -5,7 +5,7 @@ from dataclasses import dataclass, field
 from typing import Dict, Iterator, List, Optional, Tuple
 
 from .built_ins import GUARDS
-from .marks import Attribute, Element, Value
+from .marks import Attribute, Element, StandIn, Value
 from .near import listed, meant
 from .report import Place, Report
 from .rules import Configuration, Rule, Rules
@@ -14,17 +14,6 @@ from .trees import Node, TreeFile
 ALWAYS = ("AlwaysSuccess", "AlwaysFailure")
 
 UID = re.compile(r"::[0-9]+")
-
-
-@dataclass
-class StandIn(Element):
-    """An element that stands in no file, in the place of one that does."""
-
-    shown: Tuple[int, int] = (0, 0)
-
-    def span(self) -> Tuple[int, int]:
-        """The bytes of the element that it replaces."""
-        return self.shown
 
 
 @dataclass
@@ -83,7 +72,7 @@ class Making:
         named = rule.named.value
         configuration = self.rules.configurations.get(named)
         if configuration is None:
-            ports = [] if named in ALWAYS else node.ports()
+            ports = [] if named in ALWAYS else node.ports() + self.made.file.defaults(node)
             kind = named if named in ALWAYS else "Leaf"
             return self.add(kind, named, stand_in(node, named, ports), depth, node, inside)
         delay = attribute_of(node, "delay_msec", str(configuration.get("async_delay", 0)))

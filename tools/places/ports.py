@@ -101,9 +101,7 @@ def row_warnings(file: TreeFile, world: World) -> Iterator[Report]:
 
 def of_row(file: TreeFile, world: World, row: Row, node: Node) -> Iterator[Report]:
     """Where a leaf and its row do not meet."""
-    model = file.models.get(node.id)
-    given = {port.name for port in node.ports()}
-    given |= {port.name for port in model.ports.values() if port.default is not None} if model is not None else set()
+    given = {port.name for port in node.ports() + file.defaults(node)}
     notes = [Note("its row", Place(world.source, *row.id.span()))]
     seen: Set[str] = set()
     for port in node.ports():

@@ -34,12 +34,10 @@ def keys_of(node: Node) -> Iterator[Tuple[int, str]]:
 
 def default_keys(file: TreeFile, node: Node) -> Iterator[Tuple[int, str]]:
     """The keys that the defaults of a leaf's model name at a node."""
-    model = file.models.get(node.id) if node.kind == "Leaf" else None
-    for port in model.ports.values() if model is not None else ():
-        if port.default is not None and node.element.attribute(port.name) is None:
-            text = port.default.value.text()
-            if is_key(text):
-                yield node.scope(), key_of(port.name, text)
+    for default in file.defaults(node):
+        text = default.value.text()
+        if is_key(text):
+            yield node.scope(), key_of(default.name, text)
 
 
 def check_sizes(file: TreeFile, loops: Dict[str, str]) -> None:

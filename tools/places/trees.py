@@ -5,7 +5,7 @@ from dataclasses import dataclass, field
 from typing import Dict, Iterator, List, Optional, Tuple
 
 from .built_ins import GUARDS, NODES, WITH_CODE
-from .marks import MODELS, NAME, Attribute, Element, Finding, read_marks
+from .marks import MODELS, NAME, Attribute, Element, Finding, StandIn, read_marks
 from .near import listed, meant
 from .source import Source
 from .values import is_key, key_of
@@ -92,6 +92,16 @@ class TreeFile:
     version: int
     main: str
     nodes: List[Node] = field(default_factory=list)
+
+    def model_of(self, node: Node) -> Optional[Model]:
+        """The model that says which ports a leaf has; none for one that stands in the place of another."""
+        return self.models.get(node.id) if node.kind == "Leaf" and not isinstance(node.element, StandIn) else None
+
+    def defaults(self, node: Node) -> List[Attribute]:
+        """The defaults of a leaf's model for ports that it does not write, each with the port's name."""
+        model = self.model_of(node)
+        found = [port for port in model.ports.values() if node.element.attribute(port.name) is None] if model is not None else []
+        return [Attribute(port.name, port.default.at, port.default.value, port.default.end) for port in found if port.default is not None]
 
     def where(self, node: Node) -> str:
         """The chain of SubTree nodes that leads to a node, with lines."""
