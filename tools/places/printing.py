@@ -1,8 +1,13 @@
 """An opened tree as a tree file, in the form in which `bt check` prints it."""
 
-from typing import Dict, Iterator, List, Tuple
+from typing import Dict, Iterator, List, Optional, Tuple
 
 from .built_ins import GUARDS, KEPT, NODES, WITH_CODE, is_identifier
+from .marks import Finding
+from .mocks import mocked
+from .opening import opened
+from .rules import read_rules
+from .source import read
 from .trees import Node, TreeFile, is_remapped
 from .values import is_key, key_of
 
@@ -99,3 +104,12 @@ def printed(file: TreeFile) -> str:
     for id_, body in printing.bodies.items():
         lines += [f"  <BehaviorTree ID={spelled(id_)}>", *body, "  </BehaviorTree>"]
     return "".join(line + "\n" for line in [*lines, "</root>"])
+
+
+def mocked_text(tree: str, main: Optional[str], rules: str) -> Optional[str]:
+    """The text of the tree that mock rules make of a tree file; none where a file can't be read as the program has read it."""
+    file, source = opened(tree, main), read(rules)
+    try:
+        return None if file is None or source is None else printed(mocked(file, read_rules(source)).file)
+    except Finding:
+        return None
