@@ -94,6 +94,33 @@ end
 goal At_hall
 """
 
+# a world to plan in, in which one mistake is made
+HOME = """\
+bt-world 1
+fact at 0
+fact light 0
+condition AtHome is at == 1
+condition Lit is light == 1
+action GoHome timed 100
+needs Lit
+sets at = 1
+action Light timed 0
+sets light = 1
+goal AtHome
+"""
+
+# mock rules, in which one mistake is made
+STUCK = """\
+{
+  "TestNodeConfigs": {
+    "Stuck": { "return_status": "FAILURE", "async_delay": 250 }
+  },
+  "SubstitutionRules": {
+    "DriveTo/Drive": "Stuck"
+  }
+}
+"""
+
 WITH_A_GOAL = THREE_ROWS.replace("tick 1\n", "condition Home is at == 0\ngoal Home\ntick 1\n", 1)
 
 

@@ -1,6 +1,7 @@
 """Plans that were not found, or that ended in a fault."""
 
-from places_cases import Case, lines, nodes
+from places_cases import HOME as PAGE_HOME
+from places_cases import Case, changed, lines, nodes
 
 HOME = lines("fact at 0\ncondition AtHome is at == 1\n%s\ngoal AtHome")
 
@@ -25,6 +26,8 @@ goal At_hall
 """
 
 CASES = [
+    plan("mistake 12, an input of a planned action", "<!-- no plan NoTemplate AtHome -->\n", "W:4:11:",
+         ("W:8:6: note: GoHome sets at = 1, and has the input speed",), changed(PAGE_HOME, "GoHome timed", "GoHome(speed) timed")),
     plan("an action with an input", "<!-- no plan NoTemplate AtHome -->\n", "W:3:11: error: AtHome failed, and no action that is left makes at == 1 true",
          ("W:5:6: note: Go sets at = 1, and has the input speed: a planned action has no inputs",),
          HOME % "action Go(speed) timed 0\nsets at = 1"),

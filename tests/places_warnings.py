@@ -65,6 +65,8 @@ WARNED = [
            changed(WITHOUT_WHO, '<input_port name="who"/></SubTree>', '<output_port name="who"/></SubTree>')),
 ]
 
+OF_THE_PAGE = changed(changed(THREE_TREES, 'goal="{room}"', 'gaol="{room}"'), "<HandOver/>", '<ScriptCondition code="way = 20"/>')
+
 SCRIPTS = '<Sequence><Script code="accepted := 0"/>\n%s</Sequence>'
 
 # tests that are none, and keys that nothing writes

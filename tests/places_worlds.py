@@ -1,6 +1,6 @@
 """World scripts that are refused, and words that are no command."""
 
-from places_cases import ROOMS, THREE_ROWS, THREE_TREES, Case, changed, lines, nodes
+from places_cases import ROOMS, STUCK, THREE_ROWS, THREE_TREES, Case, changed, lines, nodes
 
 ONE = nodes("<A/>")
 
@@ -171,6 +171,8 @@ def configured(text: str) -> str:
 NEW = '{"TestNodeConfigs": {"New": {"return_status": "SUCCESS", "post_script": "m := 1"}}, "SubstitutionRules": {"A": "New"}}'
 
 MOCKS = [
+    rules("mistake 13, status misspelled", "Form 'Stuck'", changed(STUCK, "FAILURE", "FALIURE"), "return_status of Stuck is neither SUCCESS nor FAILURE",
+          "did you mean FAILURE?", nodes=THREE_TREES, place="R:3:33: error:"),
     rules("no JSON", "Json", "{", "is no JSON text", "expecting property name", place="R:1:2: error:"),
     rules("JSON with a comma too many", "Json", '{\n"SubstitutionRules": {"A": "B",}\n}', "is no JSON text", place="R:2:32: error:"),
     rules("JSON that goes on", "Json", "{}\n{}", "goes on after its value", place="R:2:1: error:"),

@@ -28,7 +28,7 @@ def test_warnings(file: TreeFile) -> Iterator[Report]:
             value = attribute.value
             name, rest = last.target.text, value.said()[last.tokens[0].start:last.tokens[-1].end].decode("utf-8", "replace")
             yield warned(file, node, (value.place(last.target.start), value.place(last.tokens[-1].end)),
-                         f"{attribute.name} of {node.said()} writes {name} where it is to test, and is true where it writes no 0",
+                         f"{attribute.name} of {node.said()} writes {name} and tests nothing: its answer is what it writes",
                          [f"to compare write `{name} == {rest}`"])
 
 
