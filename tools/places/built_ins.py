@@ -92,8 +92,10 @@ AFTER = {"SUCCESS": ("_onSuccess", "_post"), "FAILURE": ("_onFailure", "_post")}
 
 # nodes of BehaviorTree.CPP that have children and are not known here, with what may stand in their place
 ABSENT = {
-    "AsyncSequence": "Sequence goes on to the next child in the same tick, where AsyncSequence answers RUNNING first, so that it can be halted between two children",
-    "AsyncFallback": "Fallback goes on to the next child in the same tick, where AsyncFallback answers RUNNING first, so that it can be halted between two children",
+    "AsyncSequence": "Sequence goes on to the next child in the same tick, where AsyncSequence answers RUNNING first, "
+                     "so that it can be halted between two children",
+    "AsyncFallback": "Fallback goes on to the next child in the same tick, where AsyncFallback answers RUNNING first, "
+                     "so that it can be halted between two children",
     "SequenceStar": "in version 4 it is SequenceWithMemory",
     "SubTreePlus": 'in version 4 it is SubTree, with _autoremap="true" for __autoremap',
     "ParallelAll": "Parallel with success_count and failure_count stops early, and is the nearest",

@@ -4,7 +4,9 @@ from dataclasses import dataclass
 from typing import Iterator, List, Optional, Tuple
 
 from .built_ins import AFTER, BEFORE, NODES, RANGES, WITH_CODE
+from .keys import Keys
 from .marks import Attribute
+from .near import meant
 from .report import Note, Place, Report
 from .scripts import ScriptFault, Token, statements
 from .table import CAUSES
@@ -37,7 +39,7 @@ def explained(file: TreeFile, world: World, ended: Faulted) -> Optional[Report]:
     if len(suspects) == 1:
         report.place = suspects[0].place
         report.message = suspects[0].name + report.message
-    report.helps += given(file, node, ended) or [CAUSES[ended.cause[0]].right]
+    report.helps += given(file, world, node, ended) or [CAUSES[ended.cause[0]].right]
     report.notes += [Note(f"it may be {suspect.name}this node", suspect.place) for suspect in suspects[:4] if len(suspects) > 1]
     if len(suspects) == 1 and suspects[0].place.source is world.source:
         report.notes.append(Note("the node", Place(file.source, *node.element.span())))
@@ -68,9 +70,11 @@ def quenched(file: TreeFile, ended: Faulted) -> str:
     return "halted: " + ", ".join(names)
 
 
-def given(file: TreeFile, node: Node, ended: Faulted) -> List[str]:
-    """What the node says of the port that the cause names."""
+def given(file: TreeFile, world: World, node: Node, ended: Faulted) -> List[str]:
+    """What the node says of the port that the cause names, or which entry may be meant by the one without a value."""
     kind, rest = ended.cause[0], ended.cause[1:]
+    if kind == "NoEntry" and len(rest) == 2 and rest[0].isdigit():
+        return meant(rest[1], Keys(file, world).made_in(int(rest[0]))) + [CAUSES[kind].right]
     if kind not in ("NoInput", "BadPort") or not rest:
         return []
     attribute = node.element.attribute(rest[0])

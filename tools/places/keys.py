@@ -29,7 +29,7 @@ class Use:
     verb: str = "reads"
     makes: bool = False
     looks: bool = False
-    # whether a run surely needs the value: a row may do without an input
+    # whether the value is needed: a row may have an input and not look at it
     needs: bool = False
     # whether it is a port of a leaf that the leaf's row does not name
     silent: bool = False
@@ -59,7 +59,9 @@ def port_use(file: TreeFile, world: Optional[World], node: Node, attribute: Attr
     if node.kind != "Leaf":
         return Use(node, key, attribute.span(), said, looks=True, needs=True)
     role = role_of(file, world, node, attribute.name)
-    return Use(node, key, attribute.span(), said, makes=role in ("out", "both", "any"), looks=role in ("in", "both"),
+    row = world.rows.get(node.id) if world is not None else None
+    needs = row is not None and role == "in" and attribute.name in row.looks()
+    return Use(node, key, attribute.span(), said, makes=role in ("out", "both", "any"), looks=role in ("in", "both"), needs=needs,
                silent=role == "none")
 
 

@@ -2,11 +2,11 @@
 
 import re
 from dataclasses import dataclass, field
-from typing import Dict, Iterator, List, Optional, Tuple
+from typing import Dict, Iterator, List, Optional, Set
 
 from .built_ins import GUARDS
 from .marks import Attribute, Element, StandIn, Value
-from .near import listed, meant
+from .near import listed, meant, near, said
 from .report import Place, Report
 from .rules import Configuration, Rule, Rules
 from .trees import Node, TreeFile
@@ -153,13 +153,14 @@ def named_warnings(rules: Rules) -> Iterator[Report]:
     """Configurations that no rule names, and texts of rules that are near to one."""
     named = {rule.named.value for rule in rules.rules}
     idle = [name for name in rules.configurations if name not in named]
-    near_idle = set()
+    near_idle: Set[str] = set()
     for rule in rules.rules:
-        helps = meant(rule.named.value, [*idle, *ALWAYS]) if rule.named.value not in rules.configurations and rule.named.value not in ALWAYS else []
-        if helps:
-            near_idle |= {name for name in idle if name in helps[0]}
-            yield Report("warning", f"{rule.named.value} is no configuration: the leaf gets this ID", Place(rules.source, *rule.named.span(rules.source)),
-                         "", helps)
+        name = rule.named.value
+        found = [] if name in rules.configurations or name in ALWAYS else near(name, [*idle, *ALWAYS])
+        if found:
+            near_idle.update(found)
+            yield Report("warning", f"{name} is no configuration: the leaf gets this ID",
+                         Place(rules.source, *rule.named.span(rules.source)), "", [f"did you mean {said(found)}?"])
     for name in idle:
         if name not in near_idle:
             yield Report("warning", f"no rule names the configuration {name}",

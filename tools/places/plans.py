@@ -100,8 +100,9 @@ class Planned:
         test = undone.test if undone is not None else None
         for effect in row.sets.values() if row is not None and undone is not None and test is not None else ():
             if effect.threatens(test):
-                yield Report("error", f"{action} may make {condition} false, which has to hold before it ({test.said()}), and no other place is left for it",
-                             self.place(effect.fact.span()), "", ["write the goals, or the lines `needs`, in another order, or look for two that can't hold together"],
+                helps = ["write the goals, or the lines `needs`, in another order, or look for two that can't hold together"]
+                message = f"{action} may make {condition} false, which has to hold before it ({test.said()}), and no other place is left for it"
+                yield Report("error", message, self.place(effect.fact.span()), "", helps,
                              [Note(f"the condition {condition}", self.place(undone.id.span()))])
                 return
 

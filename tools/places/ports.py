@@ -12,6 +12,10 @@ from .trees import Node, TreeFile
 from .worlds import Row, World
 
 
+# how long a name is at least that is judged by another one that is near: `p1` and `p2` are two ports
+SHORTEST = 4
+
+
 def warned(file: TreeFile, node: Node, span: Tuple[int, int], message: str, helps: List[str],
            notes: Optional[List[Note]] = None) -> Report:
     """A warning of a node at a part of the file."""
@@ -71,7 +75,7 @@ def like_warnings(file: TreeFile) -> Iterator[Report]:
         for node in first_of(nodes):
             lacking = [name for name, count in counts.items() if count > 1 and node.element.attribute(name) is None]
             for port in node.ports():
-                if counts[port.name] == 1 and near(port.name, lacking, 1):
+                if counts[port.name] == 1 and len(port.name) >= SHORTEST and near(port.name, lacking, 1):
                     yield warned(file, node, port.span(), f"no other {id_} has the port {port.name}", meant(port.name, lacking))
 
 

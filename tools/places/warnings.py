@@ -3,7 +3,7 @@
 import re
 from typing import Dict, Iterable, Iterator, List, Optional, Set, Tuple
 
-from .built_ins import GUARDS
+from .built_ins import ABSENT, GUARDS
 from .explaining import run_of
 from .keys import key_warnings, literal_warnings
 from .marks import Attribute, Element
@@ -112,7 +112,7 @@ def model_warnings(file: TreeFile) -> Iterator[Report]:
         return
     seen: Set[str] = set()
     for node in first_nodes(file):
-        if node.kind == "Leaf" and node.id not in file.models and node.id not in seen:
+        if node.kind == "Leaf" and node.id not in file.models and node.id not in seen and node.id not in ABSENT:
             seen.add(node.id)
             helps = [f"did you mean {' or '.join(near(node.id, file.models))}?"] if near(node.id, file.models) else []
             yield warning(file, node.element.span(), f"the leaf {node.id} has no model in {MODELS}: it may have any port",

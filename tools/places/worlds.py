@@ -140,6 +140,10 @@ class Row:
     outs: Dict[str, Word] = field(default_factory=dict)
     test: Optional[Test] = None
 
+    def looks(self) -> List[str]:
+        """The names at which its expressions look."""
+        return [word.text for expr in self.exprs for word in expr.names()]
+
 
 class Line:
     """The words of a line, taken one after another."""
