@@ -98,7 +98,9 @@ class Planned:
         """An action that undoes a condition before it."""
         row, undone = self.world.rows.get(action), self.world.rows.get(condition)
         test = undone.test if undone is not None else None
-        for effect in row.sets.values() if row is not None and undone is not None and test is not None else ():
+        if row is None or undone is None or test is None:
+            return
+        for effect in row.sets.values():
             if effect.threatens(test):
                 helps = ["write the goals, or the lines `needs`, in another order, or look for two that can't hold together"]
                 message = f"{action} may make {condition} false, which has to hold before it ({test.said()}), and no other place is left for it"

@@ -2,7 +2,7 @@
 
 from typing import Dict, Iterator, List, Optional, Set, Tuple
 
-from .built_ins import ABSENT, BEFORE, NODES, WITH_CODE
+from .built_ins import ABSENT, BEFORE, NODES
 from .marks import Attribute
 from .near import distance, meant, near, plain
 from .report import Note, Place, Report
@@ -99,8 +99,8 @@ def row_warnings(file: TreeFile, world: World) -> Iterator[Report]:
     """Inputs of a row that its leaf does not give, and ports that are near to what the row names."""
     for id_, nodes in leaves_of(file).items():
         row = world.rows.get(id_)
-        for node in nodes if row is not None else ():
-            yield from of_row(file, world, row, node)
+        if row is not None:
+            yield from (report for node in nodes for report in of_row(file, world, row, node))
 
 
 def of_row(file: TreeFile, world: World, row: Row, node: Node) -> Iterator[Report]:
