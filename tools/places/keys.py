@@ -6,7 +6,7 @@ from typing import AbstractSet, Dict, Iterator, List, Optional, Set, Tuple
 from .built_ins import is_identifier
 from .listing import elements
 from .marks import Attribute
-from .near import meant, near
+from .near import meant, near, said
 from .report import Note, Place, Report
 from .scripts import ScriptFault, statements
 from .trees import Node, TreeFile, is_opening, is_true
@@ -14,6 +14,10 @@ from .values import is_key, key_of
 from .worlds import World
 
 Cell = Tuple[int, str]
+
+# how many keys that nothing writes are told of, each of which is compared with those that are written, if these are not
+# very many
+MOST_TOLD, MOST_COMPARED = 20, 500
 
 ROLES = {"input_port": "in", "output_port": "out", "inout_port": "both"}
 
@@ -53,15 +57,15 @@ def role_of(file: TreeFile, world: Optional[World], node: Node, port: str) -> st
 def port_use(file: TreeFile, world: Optional[World], node: Node, attribute: Attribute) -> Use:
     """What a node does with the key at a port, which may have a default of a model."""
     key = key_of(attribute.name, attribute.value.text())
-    said = f"the port {attribute.name} of {node.said()}"
+    name = f"the port {attribute.name} of {node.said()}"
     if node.kind == "SubTree":
-        return Use(node, key, attribute.span(), said)
+        return Use(node, key, attribute.span(), name)
     if node.kind != "Leaf":
-        return Use(node, key, attribute.span(), said, looks=True, needs=True)
+        return Use(node, key, attribute.span(), name, looks=True, needs=True)
     role = role_of(file, world, node, attribute.name)
     row = world.rows.get(node.id) if world is not None else None
     needs = row is not None and role == "in" and attribute.name in row.looks()
-    return Use(node, key, attribute.span(), said, makes=role in ("out", "both", "any"), looks=role in ("in", "both"), needs=needs,
+    return Use(node, key, attribute.span(), name, makes=role in ("out", "both", "any"), looks=role in ("in", "both"), needs=needs,
                silent=role == "none")
 
 
@@ -71,14 +75,14 @@ def script_uses(node: Node, attribute: Attribute) -> Iterator[Use]:
         parts = statements(attribute.value.said())
     except ScriptFault:
         return
-    value, said = attribute.value, f"{attribute.name} of {node.said()}"
+    value, name = attribute.value, f"{attribute.name} of {node.said()}"
     for part in parts:
         for token in part.looks():
             span = value.place(token.start), value.place(token.end)
-            yield Use(node, token.text, span, said, "changes" if token is part.target else "looks at", looks=True, needs=True)
+            yield Use(node, token.text, span, name, "changes" if token is part.target else "looks at", looks=True, needs=True)
         if part.target is not None and part.sign == ":=":
             span = value.place(part.target.start), value.place(part.target.end)
-            yield Use(node, part.target.text, span, said, "writes", makes=True)
+            yield Use(node, part.target.text, span, name, "writes", makes=True)
 
 
 def uses_of(file: TreeFile, world: Optional[World]) -> Iterator[Use]:
@@ -100,6 +104,7 @@ class Keys:
         self.looked: Dict[Cell, List[Use]] = {}
         self.silent: Dict[Cell, Use] = {}
         self.named: Dict[int, Set[str]] = {}
+        self.known: Dict[int, List[str]] = {}
         # where the main tree itself is opened by another one of the file
         self.above = [element for element in elements(file.root) if is_opening(file, element) and element.said("ID") == file.main]
         for use in uses_of(file, world):
@@ -124,13 +129,15 @@ class Keys:
 
     def made_in(self, scope: int) -> List[str]:
         """The keys of a scope that have something which makes them."""
-        return sorted(key for key in self.named.get(scope, ()) if self.file.cell(scope, key) in self.made)
+        if scope not in self.known:
+            self.known[scope] = sorted(key for key in self.named.get(scope, ()) if self.file.cell(scope, key) in self.made)
+        return self.known[scope]
 
-    def lacking(self) -> Iterator[Tuple[Cell, Use]]:
-        """Each cell that is looked at and never made, with the first place that looks at it, one that needs it before others."""
-        for cell, uses in self.looked.items():
-            if cell not in self.made and not self.is_given_above(*cell):
-                yield cell, next((use for use in uses if use.needs), uses[0])
+    def lacking(self) -> Dict[Cell, Use]:
+        """The cells that are looked at and never made, each with the first place that looks at it, one that needs it before
+        others."""
+        return {cell: next((use for use in uses if use.needs), uses[0]) for cell, uses in self.looked.items()
+                if cell not in self.made and not self.is_given_above(*cell)}
 
     def is_given_above(self, scope: int, key: str) -> bool:
         """Whether a key of the main tree is given where this tree is opened elsewhere in the file."""
@@ -146,22 +153,24 @@ def key_warnings(file: TreeFile, world: Optional[World] = None, told: AbstractSe
     """Keys that nothing writes, and ports of SubTree nodes that their trees do not know. Keys of trees that are told of
     already are left out."""
     keys = Keys(file, world)
-    meant_at = {cell for cell, _ in keys.lacking() if cell[0] and (file.nodes[cell[0] - 1].id, cell[1]) in told}
+    lacking = keys.lacking()
     for node in file.nodes:
-        for port in keys.unused(node) if node.kind == "SubTree" else ():
-            yield unused_port(keys, node, port, meant_at)
-    for cell, use in keys.lacking():
-        report = unwritten(keys, cell, use) if cell not in meant_at else None
+        unused = keys.unused(node) if node.kind == "SubTree" else []
+        wanted = [key for scope, key in lacking if scope == node.uid] if unused else []
+        for port in unused:
+            meant_keys = near(port.name, wanted, 1)
+            yield unused_port(keys, node, port, meant_keys or near(port.name, keys.named.get(node.uid, ()), 1))
+            lacking = {cell: use for cell, use in lacking.items() if cell[0] != node.uid or cell[1] not in meant_keys}
+    left = [(cell, use) for cell, use in lacking.items() if not cell[0] or (file.nodes[cell[0] - 1].id, cell[1]) not in told]
+    for cell, use in left[:MOST_TOLD]:
+        report = unwritten(keys, cell, use)
         if report is not None:
             yield report
 
 
-def unused_port(keys: Keys, node: Node, port: Attribute, meant_at: Set[Cell]) -> Report:
-    """A port of a SubTree node that its tree does not name. The cells that it may be meant for are noted."""
-    lacking = [key for (scope, key), _ in keys.lacking() if scope == node.uid]
-    wanted = near(port.name, lacking, 1) or near(port.name, keys.named.get(node.uid, ()), 1)
-    meant_at |= {(node.uid, key) for key in wanted}
-    helps = meant(port.name, wanted) or [f"the tree {node.id} names no key {port.name}"]
+def unused_port(keys: Keys, node: Node, port: Attribute, wanted: List[str]) -> Report:
+    """A port of a SubTree node that its tree does not name, and the key for which it may be meant."""
+    helps = [f"did you mean {said(wanted)}?"] if wanted else [f"the tree {node.id} names no key {port.name}"]
     return Report("warning", f"the tree '{node.id}' does not use the port {port.name} of {node.said()}",
                   Place(keys.file.source, *port.span()), keys.file.where(node), helps)
 
@@ -169,7 +178,8 @@ def unused_port(keys: Keys, node: Node, port: Attribute, meant_at: Set[Cell]) ->
 def unwritten(keys: Keys, cell: Cell, use: Use) -> Optional[Report]:
     """A cell that is looked at and never written, if that is a mistake by what can be seen."""
     file, (scope, key) = keys.file, cell
-    helps = meant(key, keys.made_in(scope)) + no_output(keys, cell)
+    made = keys.made_in(scope)
+    helps = meant(key, made if len(made) <= MOST_COMPARED else []) + no_output(keys, cell)
     if not helps and scope:
         return not_given(keys, cell, use)
     if not helps and not use.needs:

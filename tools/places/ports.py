@@ -72,11 +72,13 @@ def like_warnings(file: TreeFile) -> Iterator[Report]:
         for node in first_of(nodes):
             for port in node.ports():
                 counts[port.name] = counts.get(port.name, 0) + 1
-        for node in first_of(nodes):
-            lacking = [name for name, count in counts.items() if count > 1 and node.element.attribute(name) is None]
+        often = [name for name, count in counts.items() if count > 1]
+        for node in first_of(nodes) if often else ():
             for port in node.ports():
-                if counts[port.name] == 1 and len(port.name) >= SHORTEST and near(port.name, lacking, 1):
-                    yield warned(file, node, port.span(), f"no other {id_} has the port {port.name}", meant(port.name, lacking))
+                lone = counts[port.name] == 1 and len(port.name) >= SHORTEST
+                helps = meant(port.name, [name for name in often if node.element.attribute(name) is None]) if lone else []
+                if helps:
+                    yield warned(file, node, port.span(), f"no other {id_} has the port {port.name}", helps)
 
 
 def first_of(nodes: List[Node]) -> List[Node]:

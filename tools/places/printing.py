@@ -91,6 +91,8 @@ class Printing:
         if lines == self.bodies[node.id]:
             return node.id
         id_ = f"{node.id} ({node.uid})"
+        while id_ in self.bodies or id_ in self.file.trees:
+            id_ += "+"
         self.bodies[id_] = lines
         return id_
 
