@@ -133,6 +133,7 @@ NESTED = ("forall A s", "forall B s", "forall C s")
 
 GROUNDS = [
     ground("a ground file of another number", "Header 1", "W:1:1:", ("`bt-ground 1`",), "bt-ground 2\n"),
+    ground("a header with white space", "Header 1", "W:1:1:", ("exactly `bt-ground 1`",), "bt-ground 1 \n"),
     ground("a world script", "Header 1", "W:1:1:", ("this is a world script", "goes to `tick`"), lines("fact x 1")),
     ground("a block of no variable", "BadLine 3", "W:3:1:", ("has not its form",), grounds_of("sort s a b", "forall x s")),
     ground("a mark of no variable", "BadLine 2", "W:2:1:", ("upper-case letters",), grounds_of("fact f_$x 1")),

@@ -80,7 +80,7 @@ def read_lines(data: bytes) -> List[Line]:
     """The lines of the script. Raises the first fault."""
     texts = data.decode("latin-1").split("\n")
     texts = texts[:-1] if texts[-1] == "" else texts
-    if not texts or without_return(texts[0]).strip(GAP) != "bt-ground 1":
+    if not texts or without_return(texts[0]) != "bt-ground 1":
         is_world = bool(texts) and without_return(texts[0]) == "bt-world 1"
         raise fault_at("Header", 1, "this is a world script, and no ground file" if is_world else "",
                        ["a world script goes to `tick`, `live`, `mock` or `plan`"] if is_world else [])

@@ -66,7 +66,7 @@ WORLD: Dict[str, Kind] = {
 }
 
 GROUND: Dict[str, Kind] = {
-    "Header": Kind("the file does not begin as a ground file", "its first line is `bt-ground 1`"),
+    "Header": Kind("the file does not begin as a ground file", "its first line is exactly `bt-ground 1`, with no white space before or behind it"),
     "BadLine": Kind("the line has not its form or its place", "the forms are in docs/formats.md; `$` and `#` stand before upper-case letters"),
     "DoubleName": Kind("a name stands a second time", "sorts, the values of a sort, and the variables of open blocks differ"),
     "NoName": Kind("no earlier line has the sort, or no open block the variable", "write the sort above, or the line in a block of the variable"),
