@@ -200,7 +200,7 @@ MOCKS = [
     rules("mocks that are too deep", "TooDeep", NEW, "two nodes of one", nodes=nodes("<Inverter>" * 255 + "<A/>" + "</Inverter>" * 255)),
     rules("mocks with too many keys", "TooManyKeys", NEW, "at most 4,096",
           nodes=nodes("<Sequence><B " + " ".join(f'p{n}="{{k{n}}}"' for n in range(4_096)) + "/><A/></Sequence>")),
-    rules("mocks with too much work", "TooMuchWork", NEW, "at most 100,000",
+    rules("mocks with too much work", "TooMuchWork", NEW, "at most 100,000", "T:3:1: error: one visit of Repeat (node 1) may make 197001 visits",
           nodes=nodes('<Repeat num_cycles="1000"><Repeat num_cycles="98"><A/></Repeat></Repeat>')),
 ]
 

@@ -5,6 +5,7 @@ from dataclasses import dataclass, field
 from typing import Dict, List, Optional
 
 from . import grounds
+from .built_ins import LOOPS
 from .faults import cause_said, explained, quenched
 from .marks import Finding
 from .mocks import mocked, rule_warnings
@@ -14,6 +15,7 @@ from .plans import Planned, planned
 from .report import Note, Place, Report
 from .rows import lacking
 from .rules import Configuration, Rules, read_rules
+from .slots import check_sizes
 from .source import MISSING, MOST_BYTES, Source, beside, read, why_unreadable
 from .table import CAUSES, GROUND, RULES, TREE, WORLD
 from .traces import Faulted, faulted
@@ -141,12 +143,23 @@ def of_rules(command: Command, words: str) -> List[str]:
     if words == "TooLong":
         return too_long(source.name, source) if len(source.data) > MOST_BYTES else []
     try:
-        read_rules(source)
+        rules = read_rules(source)
     except Finding as finding:
         return told(source, finding) if finding.words == words else []
     if kind in ("Json", "Form", "BadScript"):
         return []
-    return [f"{source.name}: error: {RULES[kind].wrong} ({words}): {RULES[kind].right}"]
+    return [f"{source.name}: error: {RULES[kind].wrong} ({words}): {RULES[kind].right}"] + of_made(command, rules, words)
+
+
+def of_made(command: Command, rules: Rules, words: str) -> List[str]:
+    """Where the tree that the rules make has too many keys or too much work, as for a tree file."""
+    file = opened(command.tree, command.main)
+    try:
+        if file is not None:
+            check_sizes(mocked(file, rules).file, LOOPS)
+    except Finding as finding:
+        return told(file.source, finding) if finding.words == words else []
+    return []
 
 
 def of_fault(command: Command, text: str) -> List[str]:
