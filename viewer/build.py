@@ -1,19 +1,46 @@
-"""Makes one HTML file of the page, its style and scripts, and the texts of a run."""
+"""Makes one HTML file of the page, its style and modules, and the texts of a run."""
 import json
 import pathlib
 import re
 
 FOLDER = pathlib.Path(__file__).resolve().parent
+IMPORT = re.compile(r'^import \* as (\w+) from "\./([\w-]+)\.js";\n', re.M)
+EXPORT = re.compile(r"^export \{([^}]*)\};\n", re.M)
 
 
 def text_of(name):
     return (FOLDER / name).read_text(encoding="utf-8")
 
 
+def inner_name(module):
+    """The name that the exports of a module have in the joined script."""
+    return "module_" + module.replace("-", "_")
+
+
+def joined(module, seen=()):
+    """
+    The modules that this one imports, each once, and the module itself, as one script. A page that is opened as a file
+    can't load modules, so each becomes a function that is called once and answers its exports.
+    """
+    if module in seen:
+        raise ValueError(f"viewer: the modules {' '.join(seen)} import each other")
+    done = {}
+    for _, other in IMPORT.findall(text_of(f"{module}.js")):
+        done.update(joined(other, (*seen, module)))
+    body = IMPORT.sub(lambda found: f"const {found[1]} = {inner_name(found[2])};\n", text_of(f"{module}.js"))
+    body = EXPORT.sub(lambda found: f"return {{{found[1]}}};\n", body)
+    return {**done, module: f"const {inner_name(module)} = (() => {{\n{body}}})();\n"}
+
+
+def script_of(module):
+    return '"use strict";\n' + "\n".join(joined(module).values())
+
+
 def inlined(html):
-    """The page with its style and its scripts in it, in place of the names of their files."""
+    """The page with its style and its modules in it, in place of the names of their files."""
     html = re.sub(r'<link rel="stylesheet" href="([^"]+)">', lambda link: f"<style>\n{text_of(link[1])}</style>", html)
-    return re.sub(r'<script src="([^"]+)"></script>', lambda link: f"<script>\n{text_of(link[1])}</script>", html)
+    script = r'<script type="module" src="([\w-]+)\.js"></script>'
+    return re.sub(script, lambda link: f"<script>\n{script_of(link[1])}</script>", html)
 
 
 def embedded(data):
@@ -25,7 +52,9 @@ def page(data):
     """
     The whole page that shows this data when it is opened. The data are texts by name, as the program printed and read
     them: `tree` and `trace`, or `plan` and `trace`, or `refusal`; and `world`, `source` (the tree file), `said`
-    (the program's standard error), `names` (of the tree and of the world) and `exit` (the status).
+    (the program's standard error), `names` (of the tree and of the world) and `exit` (the status). `other` is the
+    trace of another run of the tree, and `live` where the lines of the trace come from later. Without data the page
+    asks for files.
     """
     before, after = inlined(text_of("page.html")).split('id="run-data">', 1)
-    return f'{before}id="run-data">{embedded(data)}{after}'
+    return f'{before}id="run-data">{embedded(data) if data else ""}{after}'

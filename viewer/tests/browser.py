@@ -75,6 +75,20 @@ class Browser:
     def open(self, file):
         self.driver.get(pathlib.Path(file).resolve().as_uri())
 
+    def resize(self, width, height):
+        """Gives the page a window of this size."""
+        metrics = {"width": width, "height": height, "deviceScaleFactor": 1, "mobile": False}
+        self.driver.execute_cdp_cmd("Emulation.setDeviceMetricsOverride", metrics)
+
+    def theme(self, name):
+        """Makes the system's setting the light theme or the dark one."""
+        self.driver.execute_cdp_cmd("Emulation.setEmulatedMedia", {"features": [{"name": "prefers-color-scheme", "value": name}]})
+
+    def reset(self):
+        """The window and the theme as they are at first."""
+        self.driver.execute_cdp_cmd("Emulation.clearDeviceMetricsOverride", {})
+        self.driver.execute_cdp_cmd("Emulation.setEmulatedMedia", {"features": []})
+
     def processor_seconds(self):
         """The processor's time that the page's own thread has taken since the page was opened."""
         self.driver.execute_cdp_cmd("Performance.enable", {})
@@ -117,14 +131,6 @@ class Browser:
         size = element.size
         actions = webdriver.ActionChains(self.driver)
         actions.move_to_element_with_offset(element, int(x - size["width"] / 2), int(y - size["height"] / 2)).click().perform()
-
-    def picture(self, file, width, height):
-        """Writes what a window of this size shows."""
-        self.driver.set_window_size(width, height + 139)
-        inner = self.run("return [innerWidth, innerHeight]")
-        self.driver.set_window_size(width + width - inner[0], 2 * height + 139 - inner[1])
-        self.wait("const done = arguments[0]; setTimeout(() => requestAnimationFrame(() => requestAnimationFrame(done)), 150)")
-        self.driver.save_screenshot(str(file))
 
     def complaints(self):
         """What the page wrote to the console since this was asked last."""

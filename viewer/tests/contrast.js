@@ -5,10 +5,10 @@ const numbers = (colour) => (colour.match(/[\d.]+/g) ?? []).map(Number);
 const isOpaque = (colour) => numbers(colour).length === 3 || numbers(colour)[3] > 0.9;
 
 function groundOf(element) {
-  const box = element.closest(".fold") ?? element.closest(".strip") ?? element.closest(".node");
+  const box = element.closest(".fold, .strip, .tag") ?? element.closest(".node");
   if (box && element.closest("svg")) {
     const rect = box.matches(".node") ? box.querySelector(".box") : box.querySelector("rect");
-    return getComputedStyle(rect).fill;
+    if (getComputedStyle(rect).fill !== "none") return getComputedStyle(rect).fill;
   }
   for (let at = element; at; at = at.parentElement) {
     const { backgroundColor } = getComputedStyle(at);
