@@ -1,4 +1,4 @@
-//! What a command is lent of the outside, what it finds and leaves of it, and what its output is.
+//! What a command is lent of the outside.
 
 mod outside;
 

@@ -1,4 +1,4 @@
-//! The words of the command line: which command they are, and how the program ends.
+//! The words of the command line: which command they are.
 #![tactic(auto)]
 
 mod words;

@@ -44,7 +44,7 @@ reached_lines (Reached tree tick) = tree_lines tree
 reached_lines _ = []
 
 -- A line for each step, one for the end, and the tree that reaches the goals. The line of the end is told without names,
--- since no cause of a plan's fault has one in it: `causes_of_plans_have_no_names`, a law of `bt_plan`.
+-- since no cause of a plan's fault has one in it: `causes_of_plans_have_no_names`, a law of `plan_search`.
 abbrev pub plan_bytes : PlanEnd → List ℕ
 plan_bytes planned = concat (map step_line planned.steps) ++ (end_line no_names planned.end ++ concat (reached_lines planned.end))
 

@@ -1,4 +1,4 @@
--- The lines of refusals.
+-- The words of refusals.
 use Rattle.std.specs.Prelude.{ℕ, List, ◌++◌, codes, decimal}
 use Rattle.spec_run.specs.declared.join_fault.JoinFault.{JoinFault}
 use Rattle.spec_run.specs.declared.join_fault.JoinFault.TheVariants as join
