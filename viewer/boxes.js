@@ -192,4 +192,4 @@ function summaryOf({ statuses, changed }, height, lowered) {
   return [summary];
 }
 
-export { make, makeBlock, edgeOf, stateParts, blockParts, sizeOf, detailsOf, titleOf, STRIP_ROOM };
+export { make, makeBlock, edgeOf, stateParts, blockParts, sizeOf, titleOf, STRIP_ROOM };

@@ -100,4 +100,4 @@ class Comparison {
   }
 }
 
-export { Comparison, partOf };
+export { Comparison };

@@ -49,61 +49,69 @@ class Trace:
             return self.lines[count:count + AT_ONCE]
 
 
-def handler_of(html, token, trace):
-    """What answers requests: the page and its events below the token, and nothing else to nobody else."""
+class Server(http.server.ThreadingHTTPServer):
+    """The server of one page and its trace, below a random token."""
 
-    class Handler(http.server.BaseHTTPRequestHandler):
-        def do_GET(self):  # noqa: N802, the name is the library's.
-            host = self.headers.get("Host", "")
-            if host not in (f"{ADDRESS}:{self.server.server_port}", f"localhost:{self.server.server_port}"):
-                self.send_error(403)
-            elif self.path == f"/{token}/":
-                self.send_page()
-            elif self.path == f"/{token}/events":
-                self.send_events()
-            else:
-                self.send_error(404)
+    daemon_threads = True
 
-        def begin(self, sort):
-            self.send_response(200)
-            for name, value in (("Content-Type", sort), ("Cache-Control", "no-store"), ("Content-Security-Policy", POLICY),
-                                ("Referrer-Policy", "no-referrer"), ("X-Content-Type-Options", "nosniff")):
-                self.send_header(name, value)
+    def __init__(self, port: int, html: str, trace: Trace):
+        self.html, self.trace, self.token = html, trace, secrets.token_urlsafe(18)
+        super().__init__((ADDRESS, port), Handler)
 
-        def send_page(self):
-            page = html.encode("utf-8")
-            self.begin("text/html; charset=utf-8")
-            self.send_header("Content-Length", str(len(page)))
-            self.end_headers()
-            self.wfile.write(page)
 
-        def send_events(self):
-            """The lines from where the reader is, by its last id, and at the end the status."""
-            known = self.headers.get("Last-Event-ID", "0")
-            count = int(known) if known.isascii() and known.isdigit() else 0
-            self.begin("text/event-stream; charset=utf-8")
-            self.end_headers()
-            try:
-                self.send_lines(count)
-            except (BrokenPipeError, ConnectionResetError):
-                pass  # The reader has gone.
+class Handler(http.server.BaseHTTPRequestHandler):
+    """Answers requests: the page and its events below the token, and nothing else."""
 
-        def send_lines(self, count):
-            while True:
-                lines = trace.after(count)
-                count += len(lines)
-                message = f"id: {count}\n" + "".join(f"data: {line}\n" for line in lines) if lines else ": alive\n"
-                self.wfile.write(f"{message}\n".encode("utf-8"))
-                self.wfile.flush()
-                if trace.has_ended and count == len(trace.lines):
-                    end = json.dumps({"exit": trace.status, "cut": trace.cut})
-                    self.wfile.write(f"event: end\ndata: {end}\n\n".encode("utf-8"))
-                    return
+    def do_GET(self):  # noqa: N802, the name is the library's.
+        host = self.headers.get("Host", "")
+        if host not in (f"{ADDRESS}:{self.server.server_port}", f"localhost:{self.server.server_port}"):
+            self.send_error(403)
+        elif self.path == f"/{self.server.token}/":
+            self.send_page()
+        elif self.path == f"/{self.server.token}/events":
+            self.send_events()
+        else:
+            self.send_error(404)
 
-        def log_message(self, *words):
-            pass  # A line for each request would hide what the command says.
+    def begin(self, sort):
+        self.send_response(200)
+        for name, value in (("Content-Type", sort), ("Cache-Control", "no-store"), ("Content-Security-Policy", POLICY),
+                            ("Referrer-Policy", "no-referrer"), ("X-Content-Type-Options", "nosniff")):
+            self.send_header(name, value)
 
-    return Handler
+    def send_page(self):
+        page = self.server.html.encode("utf-8")
+        self.begin("text/html; charset=utf-8")
+        self.send_header("Content-Length", str(len(page)))
+        self.end_headers()
+        self.wfile.write(page)
+
+    def send_events(self):
+        """The lines from where the reader is, by its last id, and at the end the status."""
+        known = self.headers.get("Last-Event-ID", "0")
+        count = min(int(known) if known.isascii() and known.isdigit() else 0, len(self.server.trace.lines))
+        self.begin("text/event-stream; charset=utf-8")
+        self.end_headers()
+        try:
+            self.send_lines(count)
+        except (BrokenPipeError, ConnectionResetError):
+            pass  # The reader has gone.
+
+    def send_lines(self, count):
+        trace = self.server.trace
+        while True:
+            lines = trace.after(count)
+            count += len(lines)
+            message = f"id: {count}\n" + "".join(f"data: {line}\n" for line in lines) if lines else ": alive\n"
+            self.wfile.write(f"{message}\n".encode("utf-8"))
+            self.wfile.flush()
+            if trace.has_ended and count == len(trace.lines):
+                end = json.dumps({"exit": trace.status, "cut": trace.cut})
+                self.wfile.write(f"event: end\ndata: {end}\n\n".encode("utf-8"))
+                return
+
+    def log_message(self, *words):
+        pass  # A line for each request would hide what the command says.
 
 
 def feed(trace, call):
@@ -114,14 +122,13 @@ def feed(trace, call):
 
 def serve(html, port, command):
     """Serves until it is interrupted. Answers the status of the command, or 0 where it goes on or where there is none."""
-    token, trace = secrets.token_urlsafe(18), Trace()
-    server = http.server.ThreadingHTTPServer((ADDRESS, port), handler_of(html, token, trace))
-    server.daemon_threads = True
+    trace = Trace()
+    server = Server(port, html, trace)
     call = subprocess.Popen(command, stdin=subprocess.DEVNULL, stdout=subprocess.PIPE) if command else None
     threading.Thread(target=feed, args=(trace, call), daemon=True).start()
     for number in (signal.SIGINT, signal.SIGTERM):  # A shell may have it ignored in what it starts in the background.
         signal.signal(number, signal.default_int_handler)
-    print(f"http://{ADDRESS}:{server.server_port}/{token}/", flush=True)
+    print(f"http://{ADDRESS}:{server.server_port}/{server.token}/", flush=True)
     try:
         server.serve_forever()
     except KeyboardInterrupt:

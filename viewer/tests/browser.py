@@ -1,6 +1,5 @@
 """A headless Chromium, and what the tests ask of a page in it."""
 import contextlib
-import json
 import pathlib
 import shutil
 import sys

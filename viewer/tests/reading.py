@@ -22,8 +22,8 @@ class Reading:
         labels = self.browser.run(LABELS)
         holds(f"equal names are not told apart: {labels}", any("IsAt" in label and "in GoTo dock" in label for label in labels))
         rows = self.browser.run(ROWS)
-        visited = self.browser.run("return page.run.tree.nodes.slice(1).filter((node) => page.run.changes.of(page.run.place(1, node.uid))"
-                                   ".length > 0).map((node) => node.uid)")
+        visited = self.browser.run("""return page.run.tree.nodes.slice(1).filter((node) =>
+                page.run.changes.of(page.run.place(1, node.uid)).length > 0).map((node) => node.uid)""")
         holds("a row of what was never visited", set(uid for uid in rows if isinstance(uid, int)) <= set(visited))
         self.look("time_line")
         self.browser.find("#rows-visited").click()
