@@ -22,6 +22,6 @@ pub use expression::{Inputs, ReadyExpr};
 pub use facts::{FactTable, facts_of};
 pub use outs::Outs;
 pub use readying::{kind_of, ready};
-pub use roster::{Drivers, call_at, find_kind, halt_at, hold_nothing, prepare_all, totals_of};
+pub use roster::{Drivers, call_at, find_kind, halt_at, hold_nothing, prepare_all, tell_at, totals_of};
 pub use row::ReadyRow;
 pub use sort::ReadySort;

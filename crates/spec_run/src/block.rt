@@ -9,6 +9,8 @@ pub enum Header {
     Halt { runner: u8, at: u64 },
     Change { fact: u32, value: i64, at: u64 },
     Finish { runner: u8, at: u64 },
+    /// A leaf was told that it succeeded, or that it failed.
+    Tell { runner: u8, uid: u32, succeeds: bool, at: u64 },
 }
 
 /// What one event gives to the trace.

@@ -34,7 +34,8 @@ use Rattle.spec_program.specs.Answers.{AtMoments, ClockLeft, ClockWithin, Gave, 
 use Rattle.cli_answers.specs.Courses.Courses.{exit_of, course_output, trace_output}
 use Rattle.cli_refusals.specs.Ends.{Ends, EndsAt, IsUntouched}
 use Rattle.spec_program.specs.Output.{AreUncalled, Asked, Output, UpToFault}
-use Rattle.spec_program.specs.Courses.{Given, asked_by, given, joined_output, lack_of, run_exit}
+use Rattle.spec_program.specs.Courses.{Given, asked_by, given, joined_output, run_exit}
+use Rattle.spec_run.specs.Joins.{lack_of}
 use Rattle.cli_answers.specs.Courses.Joined.{JoinGives}
 use Rattle.cli_refusals.specs.Refusing.{stopped_as}
 use Rattle.cli_refusals.proofs.AboutLent.Moments.{at_any}
