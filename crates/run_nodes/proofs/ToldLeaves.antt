@@ -42,38 +42,28 @@ use Rattle.run_nodes.specs.Tellings.{CanBeTold, telling_at}
 
 -- ---- What a telling leaves
 
--- a leaf stands among the nodes
-pub leaf_within : (nodes : List Node) (uid : ℕ) (leaf : ReadyLeaf) → leaf_at nodes uid ≡ Some leaf → uid < length nodes
-leaf_within [] uid leaf is = absurd (cc is)
-leaf_within (node ∷ nodes) zero leaf is = omega arith
-leaf_within (node ∷ nodes) (suc uid) leaf is = omega (arith, leaf_within nodes uid leaf is)
-
-module _ (nodes : List Node) (drivers : List DriverState) (uid : ℕ) (telling : Telling) (are : AreServed drivers nodes) (can : CanBeTold nodes uid) where
-  abbrev leaf : ReadyLeaf
-  leaf = can.leaf
-
+module _ (nodes : List Node) (drivers : List DriverState) (uid : ℕ) (telling : Telling) (leaf : ReadyLeaf) (are : AreServed drivers nodes) (is : leaf_at nodes uid ≡ Some leaf) where
   -- its driver serves rows whose leaves are told what they answer
-  pub serves_told : (driver_at drivers leaf.driver).kind ≡ driver.Told
-  serves_told = sym (are.served uid leaf can.here).kind ∙ can.kind
+  pub serves_told : CanBeTold nodes uid → (driver_at drivers leaf.driver).kind ≡ driver.Told
+  serves_told can =
+      let same : can.leaf ≡ leaf = cc (can.here, is) in
+      sym (are.served uid leaf is).kind ∙ ap (λ (l : ReadyLeaf). kind_of_way (rule l.row).way) (sym same) ∙ can.kind
 
   pub is_there : IsThere drivers leaf.driver leaf.instance
-  is_there = (are.served uid leaf can.here).there
+  is_there = (are.served uid leaf is).there
 
   module _ (drivers1 : List DriverState) (was : drivers1 ≡ roster_told drivers leaf.driver leaf.instance telling) where
     abbrev left : Instance
     left = told telling (instance_at drivers leaf.driver leaf.instance)
 
-    same : (telling_at nodes drivers uid telling).left ≡ left
-    same = ap (told telling) (instance_at_uid nodes drivers uid ∙ ap (leaf_instance drivers) can.here)
-
-    pub told_drivers : drivers1 ≡ roster_after nodes (telling_at nodes drivers uid telling ∷ []) drivers
-    told_drivers = was ∙ sym (roster_after_call nodes drivers uid leaf phase.Told left are can.here (telling_at nodes drivers uid telling) [] refl refl same)
+    left_is : (telling_at nodes drivers uid telling).left ≡ left
+    left_is = ap (told telling) (instance_at_uid nodes drivers uid ∙ ap (leaf_instance drivers) is)
 
     pub told_instances : instances_of nodes drivers1 ≡ set (instances_of nodes drivers) uid (telling_at nodes drivers uid telling).left
     told_instances =
         ap (instances_of nodes) was
-        ∙ instances_called nodes drivers uid leaf phase.Told left are can.here
-        ∙ ap (set (instances_of nodes drivers) uid) (sym same)
+        ∙ instances_called nodes drivers uid leaf phase.Told left are is
+        ∙ ap (set (instances_of nodes drivers) uid) (sym left_is)
 
     -- no instance is held that was not, and none is let go
     held_alike : map is_held (instances_of nodes drivers1) ≡ map is_held (instances_of nodes drivers)
@@ -123,10 +113,10 @@ module _ (rows : List Row) (nodes : List Node) where
       ∙ told_kind (place_of first.ports view.facts) first.sort (ap (λ (r : Row). is_told r.sort) same ∙ tells)
 
   hears : (view : View) (node : TreeNode) (uid : ℕ) (found : Option ReadyLeaf) → view.rows ≡ rows → leaf_at nodes uid ≡ found → LeafStands view node found → Hears node uid
-  hears view node uid None same is stands row there tells = absurd (no_row (is_leaf node.kind) (row_of rows node.id) row stands there)
-  hears view node uid (Some leaf) same is stands row there tells =
+  hears view node uid None rows_are is stands row there tells = absurd (no_row (is_leaf node.kind) (row_of rows node.id) row stands there)
+  hears view node uid (Some leaf) rows_are is stands row there tells =
       let found : row_of view.rows node.id ≡ Some row =
-      ap (λ (rs : List Row). row_of rs node.id) same
+      ap (λ (rs : List Row). row_of rs node.id) rows_are
       ∙ sym (ap {B = Option Row} (λ (kind : Kind). if is_leaf kind then row_of rows node.id else None) stands.0) ∙ there in
       record { leaf = leaf; here = is; kind = leaf_hears view node leaf (row_of view.rows node.id) row stands.1 found tells }
 
@@ -155,7 +145,7 @@ module _ (rows : List Row) (nodes : List Node) where
       let whole : (meaning (roll-Term x)).size ≡ 1 + sizes (map meaning x.children) = ap (λ (m : Meaning). m.size) (fold-roll-Term Meaning meaning_of_node x) in
       let next : uid + (meaning (roll-Term x)).size ≡ uid + 1 + sizes (map meaning x.children) = omega (arith, whole) in
       let children : AllHear (flat_map (λ ns. ns) (map nodes_of x.children) ++ rest) (uid + 1) =
-      subst (λ (z : Term-F Term). AreHeard z.children) is (all_heard y.children) (view_under view uid (written x)) (uid + 1) rest same here.2.0 (subst (AllHear rest) next hear) in
+      subst (λ (z : Term-F Term). AreHeard z.children) is (all_heard y.children) (view_under view uid (written x)) (uid + 1) rest same here.2 (subst (AllHear rest) next hear) in
       subst (λ (ns : List TreeNode). AllHear ns uid) (sym all) (hears view (written x) uid (leaf_at nodes uid) same refl here.1.leaf, children))
 
   hear_at : (ns : List TreeNode) (uid place : ℕ) (node : TreeNode) → AllHear ns uid → slice_get ns place ≡ Some node → Hears node (uid + place)
@@ -191,4 +181,4 @@ telling_finds term view nodes s runner (suc place) telling fits none =
     let all : AllHear view.rows nodes (nodes_of term) 1 =
     subst (λ (ns : List TreeNode). AllHear view.rows nodes ns 1) (append-nil (nodes_of term)) (heard view.rows nodes term view 1 [] refl fits.stands tt) in
     let found = row_found view.rows nodes (option_and_then (row_of_node view.rows) (slice_get (nodes_of term) place)) (suc place) telling none in
-    node_found view.rows nodes (nodes_of term) place (slice_get (nodes_of term) place) found.0 all refl found.1.0 found.1.1
+    node_found view.rows nodes (nodes_of term) place (slice_get (nodes_of term) place) found.0 all refl found.1 found.2
