@@ -1,8 +1,10 @@
 -- What is missing for what the nodes of an arena are told.
-use Rattle.std.specs.Prelude.{ℕ, Bool, true, false, if◌then◌else◌, List, Option, Some, None, bytes_eq}
+use Rattle.std.specs.Prelude.{ℕ, Bool, true, false, if◌then◌else◌, List, [], ◌∷◌, Option, Some, None, bytes_eq}
 use Rattle.std.specs.List.{list_all, list_any}
+use Rattle.std.specs.Option.{option_or}
 use Rattle.spec_run.specs.declared.join_fault.JoinFault.{JoinFault}
 use Rattle.spec_run.specs.declared.join_fault.JoinFault.TheVariants.{NoLeaf, NoOutput}
+use Rattle.spec_world.specs.declared.world.Event.{Event}
 use Rattle.spec_world.specs.declared.world.Telling.{Telling}
 use Rattle.spec_world.specs.declared.world.Telling.TheVariants as telling
 use Rattle.spec_world.specs.declared.world.ToldOut.{ToldOut}
@@ -42,3 +44,8 @@ leaf_lacks None uid telling = Some (NoLeaf uid)
 abbrev pub nodes_lack : List Node → What → Option JoinFault
 nodes_lack nodes (Tell runner uid telling) = leaf_lacks (leaf_at nodes uid) uid telling
 nodes_lack nodes _ = None
+
+-- what is missing for the first of these events for which something is missing
+abbrev pub first_lack : List Node → List Event → Option JoinFault
+first_lack nodes [] = None
+first_lack nodes (e ∷ events) = option_or (nodes_lack nodes e.what) (first_lack nodes events)

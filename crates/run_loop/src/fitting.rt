@@ -6,7 +6,7 @@ ghost use Rattle.spec_run.specs.Served.{Setup};
 ghost use Rattle.spec_tree.specs.Trees.{nodes_of};
 ghost use Rattle.spec_world.specs.Worlds.{IsValidWorld};
 ghost use Rattle.run_driver.specs.Ready.{ready_told};
-ghost use Rattle.run_loop.specs.Fitting.{is_named, is_ready_told, nodes_lack, sort_lacks};
+ghost use Rattle.run_loop.specs.Fitting.{first_lack, is_named, is_ready_told, nodes_lack, sort_lacks};
 ghost use Rattle.run_loop.specs.Runs.{AreRuns};
 
 use crate::runs::Runs;
@@ -40,14 +40,15 @@ fn sort_fits(sort: &ReadySort, uid: u32, telling: &Telling) -> Result<(), JoinFa
     if !is_told(sort) {
         return Err(JoinFault::NoLeaf { uid });
     }
-    let fits = match telling {
-        Telling::Success(outs) => outs.list().iter().all(|out| has_out(sort, out)),
-        Telling::Failure => true,
-    };
-    if fits {
-        Ok(())
-    } else {
-        Err(JoinFault::NoOutput { uid })
+    match telling {
+        Telling::Success(outs) => {
+            if outs.list().iter().all(|out| has_out(sort, out)) {
+                Ok(())
+            } else {
+                Err(JoinFault::NoOutput { uid })
+            }
+        }
+        Telling::Failure => Ok(()),
     }
 }
 
@@ -77,6 +78,17 @@ pub fn event_fits(runs: &Runs, event: &Event) -> Result<(), JoinFault>
     fits_nodes(runs.runners[0].arena.nodes.as_slice(), event)
 }
 
+/// Whether all of these events of a runner with these nodes fit them. The fault is what is missing for the first one that
+/// does not.
+fn all_fit(nodes: &[Node], events: &[Event]) -> Result<(), JoinFault>
+    ensures { result_err result ≡ first_lack nodes.now events.now }
+{
+    for event in events {
+        fits_nodes(nodes, event)?;
+    }
+    Ok(())
+}
+
 /// Whether all of these events fit the tree of these runs. The fault is what is missing for the first one that does not.
 pub fn tellings_fit(runs: &Runs, events: &[Event]) -> Result<(), JoinFault>
     ghost of: { Setup }
@@ -84,8 +96,5 @@ pub fn tellings_fit(runs: &Runs, events: &[Event]) -> Result<(), JoinFault>
     requires runs { (drivers : List DriverState) × AreRuns of.tree of.world drivers runs.now }
     ensures { result_err result ≡ first_untold of.world.rows (nodes_of of.tree.term) events.now }
 {
-    for event in events {
-        event_fits(runs, event)?;
-    }
-    Ok(())
+    all_fit(runs.runners[0].arena.nodes.as_slice(), events)
 }
