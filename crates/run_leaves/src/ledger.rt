@@ -107,7 +107,8 @@ impl Ledger {
         self.table[instance as usize]
     }
 
-    /// Counts a call to begin of a leaf that is not held, and leaves its instance as it is.
+    /// Counts a call to begin of a leaf that is not held, and leaves its instance as it is. The instance is looked at for
+    /// the contract alone, which says that it was told nothing.
     #[inline(always)]
     pub fn count_start(&mut self, instance: u32)
         requires there { instance < length self.old.table }
