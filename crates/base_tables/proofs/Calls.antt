@@ -15,6 +15,7 @@ use Rattle.spec_world.specs.declared.world.RowSort.TheVariants as sort
 use Rattle.spec_world.specs.declared.world.Set.{Set}
 use Rattle.spec_world.specs.declared.world.Telling.{Telling}
 use Rattle.spec_world.specs.declared.world.Telling.TheVariants as telling
+use Rattle.spec_world.specs.declared.world.ToldOut.{ToldOut}
 use Rattle.spec_run.specs.Leaf.{Answered, Rule, Test, Way, Tests, Lasts, Replays, Waits, Heeds, Obeys, answer_by, completed, completion, decided, effects_of, fact_at, finished, held, judged, lasting, leaf_rule, released, made_by, outcome_at, outputs_of, replied, rule_answer, rule_of, sensed, start_of, timed_end, told_end, unheld, way_of}
 use Rattle.base_tables.specs.Outputs.{since_after}
 use Rattle.base_tables.specs.Shapes.{Lasts as SortLasts}
@@ -56,6 +57,10 @@ module _ (way : Way) (rule : Rule) (since : ℕ) (instance : Instance) (inputs :
   failed_keeps : (after : Instance) → after.since ≡ None → Kept (replied Failure after facts)
   failed_keeps after free = record { held_while_running = free; as_many = refl; lasts = λ e. cc; breaks = λ c e. cc }
 
+  succeeded_keeps : (told : List ToldOut) (after : Instance) → after.since ≡ None →
+      Kept (record { reply = Success; instance = after; facts = facts; outputs = []; told = told })
+  succeeded_keeps told after free = record { held_while_running = free; as_many = refl; lasts = λ e. cc; breaks = λ c e. cc }
+
   running_keeps : WayLasts way → Kept (replied Running (held since instance) facts)
   running_keeps lasts = record { held_while_running = refl; as_many = refl; lasts = λ e. lasts; breaks = λ c e. cc }
 
@@ -86,22 +91,22 @@ module _ (way : Way) (rule : Rule) (since : ℕ) (instance : Instance) (inputs :
       ]
 
   tested_keeps : (b : Bool) → Kept (replied (if b then Success else Failure) (released instance) facts)
-  tested_keeps true = record { held_while_running = refl; as_many = refl; lasts = λ e. cc; breaks = λ c e. cc }
+  tested_keeps true = succeeded_keeps [] (released instance) refl
   tested_keeps false = failed_keeps (released instance) refl
 
   awaited_keeps : WayLasts way → (b : Bool) → Kept (if b then completion rule instance (released instance) inputs facts else replied Running (held since instance) facts)
   awaited_keeps lasts true = decided_keeps true (released instance) refl
   awaited_keeps lasts false = running_keeps lasts
 
-  sensed_keeps : (told : Option Telling) → Kept (replied (sensed told) (unheld instance) facts)
-  sensed_keeps (Some (telling.Success outs)) = record { held_while_running = refl; as_many = refl; lasts = λ e. cc; breaks = λ c e. cc }
+  sensed_keeps : (o : Option Telling) → Kept (replied (sensed o) (unheld instance) facts)
+  sensed_keeps (Some (telling.Success outs)) = succeeded_keeps [] (unheld instance) refl
   sensed_keeps (Some telling.Failure) = failed_keeps (unheld instance) refl
   sensed_keeps None = failed_keeps (unheld instance) refl
 
-  told_keeps : WayLasts way → (told : Option Telling) → Kept (told_end told since instance facts)
-  told_keeps lasts (Some (telling.Success outs)) = record { held_while_running = refl; as_many = refl; lasts = λ e. cc; breaks = λ c e. cc }
-  told_keeps lasts (Some telling.Failure) = failed_keeps (released instance) refl
-  told_keeps lasts None = running_keeps lasts
+  obeyed_keeps : WayLasts way → (o : Option Telling) → Kept (told_end o since instance facts)
+  obeyed_keeps lasts (Some (telling.Success outs)) = succeeded_keeps outs (released instance) refl
+  obeyed_keeps lasts (Some telling.Failure) = failed_keeps (released instance) refl
+  obeyed_keeps lasts None = running_keeps lasts
 
 answer_keeps : (way : Way) (rule : Rule) (since : ℕ) (instance : Instance) (inputs : List Seen) (facts : List ℤ) (now : ℕ) → Keeps way since instance facts (answer_by way rule since instance inputs facts now)
 answer_keeps (Tests test) rule since instance inputs facts now =
@@ -115,7 +120,7 @@ answer_keeps (Waits test) rule since instance inputs facts now =
     judged_keeps (Waits test) rule since instance inputs facts (test inputs facts) (λ b. if b then completion rule instance (released instance) inputs facts else replied Running (held since instance) facts)
     (awaited_keeps (Waits test) rule since instance inputs facts tt)
 answer_keeps Heeds rule since instance inputs facts now = sensed_keeps Heeds rule since instance inputs facts instance.told
-answer_keeps Obeys rule since instance inputs facts now = told_keeps Obeys rule since instance inputs facts tt instance.told
+answer_keeps Obeys rule since instance inputs facts now = obeyed_keeps Obeys rule since instance inputs facts tt instance.told
 
 -- a call by a rule
 pub call_keeps : (rule : Rule) (phase : Phase) (instance : Instance) (inputs : List Seen) (facts : List ℤ) (now : ℕ) →

@@ -118,7 +118,7 @@ pub record IsBegun (since : Since) (moment : ℕ) (ports : List Port) (name : Li
   pub first : since.first ≤ moment
   pub length : IsGivenAt range.Duration ports name (pos since.length)
 
--- the row of a leaf that can be RUNNING is timed, replay or gate, or an action that is told how it ended
+-- the row of a leaf that can be RUNNING is timed, replay, gate or told
 abbrev pub Lasts : RowSort → Type 0
 Lasts (Timed ms fails) = Unit {0}
 Lasts (Replay ms outcomes) = Unit {0}
