@@ -64,6 +64,10 @@ fn copy_sort(alloc: Global, sort: &RowSort) -> Result<RowSort, NoMemory>
             outcomes: Items::of(Vec::from_slice(alloc, outcomes.list())?),
         }),
         RowSort::Gate(test) => Ok(RowSort::Gate(copy_expr(alloc, test)?)),
+        RowSort::Sensed => Ok(RowSort::Sensed),
+        RowSort::Told { outs } => Ok(RowSort::Told {
+            outs: copy_names(alloc, outs.list())?,
+        }),
     }
 }
 

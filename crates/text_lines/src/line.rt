@@ -29,6 +29,31 @@ pub fn put_header(out: &mut Vec<u8>, header: Header, names: &Names) -> Result<()
             put_bytes(out, b"\n")
         }
         Header::Finish { runner, at } => put_runner_event(out, b"finish ", runner, at),
+        Header::Tell {
+            runner,
+            uid,
+            succeeds,
+            at,
+        } => {
+            put_bytes(out, b"tell ")?;
+            put_number(out, u64::from(runner))?;
+            put_bytes(out, b" ")?;
+            put_number(out, u64::from(uid))?;
+            put_bytes(out, told_words(succeeds))?;
+            put_number(out, at)?;
+            put_bytes(out, b"\n")
+        }
+    }
+}
+
+/// What a leaf was told, and what stands before the moment.
+fn told_words(succeeds: bool) -> &'static [u8]
+    ensures { result.now ≡ (if succeeds then codes " SUCCESS at " else codes " FAILURE at ") }
+{
+    if succeeds {
+        b" SUCCESS at "
+    } else {
+        b" FAILURE at "
     }
 }
 
