@@ -14,6 +14,10 @@ pub record Outputs : Type 0 where
 abbrev pub no_outputs : Outputs
 no_outputs = record { numbers = []; told = [] }
 
+-- these numbers
+abbrev pub numbered : List ℤ → Outputs
+numbered numbers = record { numbers = numbers; told = [] }
+
 -- the outputs that a call gives
 abbrev pub outputs_given : Answered → Outputs
 outputs_given a = record { numbers = a.outputs; told = a.told }

@@ -1,5 +1,5 @@
 -- Rows made ready, as the rules that they stand for, and the facts that they look at.
-use Rattle.std.specs.Prelude.{ℕ, ◌+◌, Option, Some, None, option_map}
+use Rattle.std.specs.Prelude.{ℕ, ◌+◌, List, [], Option, Some, None, option_map}
 use Rattle.spec_script.specs.Entries.{look_of}
 use Rattle.script_code.specs.Codes.{formula}
 use Rattle.spec_run.specs.Leaf.{Number, Test, Way, Tests, Lasts, Replays, Waits, Heeds, Obeys, sights, as_number, truth_of, comparison}
@@ -24,6 +24,11 @@ ready_way (sort.Replay ms outcomes) = Replays ms outcomes
 ready_way (sort.Gate test) = Waits (ready_test test)
 ready_way sort.Sensed = Heeds
 ready_way (sort.Told outs) = Obeys
+
+-- the outputs for which a leaf may be told a value
+abbrev pub ready_told : ReadySort → List (List ℕ)
+ready_told (sort.Told outs) = outs
+ready_told _ = []
 
 -- how many places an expression looks at: each of its places is less than this
 abbrev pub expr_reach : ReadyExpr → ℕ

@@ -215,12 +215,7 @@ pub fn halt_at(roster: &mut Vec<Box<dyn Driver>>, place: usize, instance: u32)
 }
 
 /// Tells one of the instances of the driver at a place.
-pub fn tell_at(
-    roster: &mut Vec<Box<dyn Driver>>,
-    place: usize,
-    instance: u32,
-    telling: Telling,
-)
+pub fn tell_at(roster: &mut Vec<Box<dyn Driver>>, place: usize, instance: u32, telling: Telling)
     requires there { IsThere (map (λ b. state b) roster.old.items) place instance }
     requires kind { (driver_at (map (λ b. state b) roster.old.items) place).kind ≡ kinds.Told }
     ensures { map (λ b. state b) roster.new.items ≡ roster_told (map (λ b. state b) roster.old.items) place instance telling }
