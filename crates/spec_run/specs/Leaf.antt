@@ -1,5 +1,5 @@
 -- The leaf rule: what a driver answers for a row of the world, and what the call leaves.
-use Rattle.std.specs.Prelude.{ℕ, ℤ, pos, ◌+◌, ◌+ℤ◌, ◌-◌, nat_lt, min, List, [], ◌∷◌, ◌++◌, map, length, replicate, slice_index_or, slice_set, Bool, true, false, not, if◌then◌else◌, Option, Some, None, option_map, unwrap_or, Result, Ok, Err}
+use Rattle.std.specs.Prelude.{ℕ, ℤ, pos, ◌+◌, ◌+ℤ◌, ◌-◌, nat_lt, min, List, [], ◌∷◌, ◌++◌, map, length, replicate, slice_index_or, slice_set, Bool, true, false, not, if◌then◌else◌, Option, Some, None, option_map, is_some, unwrap_or, Result, Ok, Err}
 use Rattle.std.specs.Ordering.{int_cmp}
 use Rattle.std.specs.Str.{bytes_eq}
 use Rattle.spec_script.specs.declared.cells.Seen.{Seen}
@@ -166,6 +166,10 @@ released instance = record { since = None; completions = instance.completions; t
 -- an instance that is not held, and keeps what it was told
 abbrev pub unheld : Instance → Instance
 unheld instance = record { since = None; completions = instance.completions; told = instance.told }
+
+-- an instance after a quench: one that was held is released, and any other stays as it is
+abbrev pub let_go : Instance → Instance
+let_go instance = record { since = None; completions = instance.completions; told = if is_some instance.since then None else instance.told }
 
 -- an instance that has completed once more; completions are counted up to 64
 abbrev pub completed : Instance → Instance

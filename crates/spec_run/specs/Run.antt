@@ -27,7 +27,7 @@ use Rattle.spec_world.specs.declared.world.What.TheVariants.{Tick, Halt, Change,
 use Rattle.spec_world.specs.declared.world.World.{World}
 use Rattle.spec_tree.specs.Boards.{main_scope, opening_board, slots}
 use Rattle.spec_run.specs.Done.{Call, Done, State, following, done, follow}
-use Rattle.spec_run.specs.Leaf.{fresh, released}
+use Rattle.spec_run.specs.Leaf.{fresh, let_go, released}
 use Rattle.spec_run.specs.Leaf as leaf
 use Rattle.spec_run.specs.Sites.{View, remembered}
 use Rattle.spec_tree.specs.Terms.{node_count}
@@ -125,7 +125,7 @@ quench_calls runner (r ∷ runners) = runner_calls runner (releases 0 r.instance
 
 -- all nodes become IDLE and their memos are cleared, and no instance is held; no script runs
 abbrev pub quenched_runner : Tree → Runner → Runner
-quenched_runner tree r = record { memory = idle tree.term; board = r.board; instances = map released r.instances }
+quenched_runner tree r = record { memory = idle tree.term; board = r.board; instances = map let_go r.instances }
 
 -- the state after a quench
 abbrev pub quenched : Tree → RunState → RunState
