@@ -1,4 +1,4 @@
-ghost use Rattle.std.specs.Prelude.{◌≡◌, ◌++◌, OnOk, IsTrue, IsFalse, codes, decimal};
+ghost use Rattle.std.specs.Prelude.{◌≡◌, ◌++◌, if◌then◌else◌, OnOk, IsTrue, IsFalse, codes, decimal};
 ghost use Rattle.spec_output.specs.Lines.{LineNames, cause_words, entry_line, fact_line, header_line, note_line};
 ghost use Rattle.text_lines.specs.Notes.{is_long};
 
