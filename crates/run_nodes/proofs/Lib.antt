@@ -11,3 +11,4 @@ pub mod Phases
 pub mod PortValues
 pub mod Settled
 pub mod Standing
+pub mod ToldValues
