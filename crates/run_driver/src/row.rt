@@ -30,7 +30,7 @@ pub struct ReadyRow {
 
 impl ReadyRow {
     ghost use Rattle.std.specs.Prelude.{◌≡◌, [], Ok, Err, IfErr, OnErr, OnOk};
-    ghost use Rattle.std.specs.Result.{result_map};
+    ghost use Rattle.std.specs.Result.{result_map_both};
     ghost use Rattle.spec_run.specs.Leaf.{completion, worked_out, outputs_of};
     ghost use Rattle.base_tables.specs.Outputs.{numbered, outputs_after};
     ghost use Rattle.run_driver.specs.Rules.{rule};
@@ -40,7 +40,7 @@ impl ReadyRow {
     #[inline(never)]
     fn outputs(&self, inputs: &Inputs, facts: &FactTable) -> Result<Outs, Cause>
         requires { length facts.now ≡ self.now.facts }
-        ensures { result ≡ result_map numbered (outputs_of (rule self.now).outs inputs.now facts.now) }
+        ensures { result ≡ result_map_both numbered (λ cause. cause) (outputs_of (rule self.now).outs inputs.now facts.now) }
     {
         let mut outs = Outs::new();
         for e in self.outs.list() {

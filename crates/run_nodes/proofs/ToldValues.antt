@@ -1,19 +1,28 @@
 -- The values that a leaf was told, taken one after the other for the names of its outputs.
-use Rattle.std.proofs.Common.{◌≡◌, ℕ, zero, suc, ◌+◌, ◌<◌, ◌≤◌, List, [], ◌∷◌, length, drop, get_or, Bool, true, false, cond, Option, Some, None, refl, sym, ap, ◌∙◌, arith}
+use Rattle.std.proofs.Common.{◌≡◌, ℕ, zero, suc, ◌+◌, ◌<◌, ◌≤◌, List, [], ◌∷◌, length, drop, get_or, Bool, true, false, pos, cond, Option, Some, None, refl, sym, ap, subst, ◌∙◌, arith}
 use Rattle.std.specs.Prelude.{option_map, slice_get}
 use Rattle.std.specs.List.{AllByRecursion, IsDistinct, find, position_or_len, remove}
 use Rattle.std.specs.Str.{bytes_eq}
 use Rattle.std.proofs.lemmas.List.Folds.{find_at}
+use Rattle.std.proofs.lemmas.List.Sums.{passes_at_first}
 use Rattle.std.proofs.lemmas.Map.Keys.{IsDistinct-head, IsDistinct-tail}
+use Rattle.std.proofs.lemmas.Option.{slice_get_past, slice_get_read}
+use Rattle.std.proofs.lemmas.Slice.Eq.{bytes_eq-Decides}
 use Rattle.spec_script.specs.declared.value.Value.{Value}
+use Rattle.spec_script.specs.declared.value.Value.TheVariants.{Int}
 use Rattle.spec_world.specs.declared.world.ToldOut.{ToldOut}
 use Rattle.spec_run.specs.Leaves.{told_for}
+use Rattle.base_tables.specs.Outputs.{Outputs}
 use Rattle.run_arena.specs.declared.source.Source.{Source}
 use Rattle.run_arena.specs.declared.source.Source.TheVariants.{Absent, Lit, Slot}
-use Rattle.run_nodes.specs.Calls.{told_written, value_written}
+use Rattle.run_nodes.specs.Calls.{leaf_written, told_written, value_written}
 
 abbrev value_of : Option ToldOut → Option Value
 value_of = option_map (λ (out : ToldOut). out.value)
+
+-- some value, for a name of no bytes
+abbrev pub unnamed : ToldOut
+unnamed = record { port = []; value = Int (pos 0) }
 
 -- whether a value was told for this name
 abbrev pub is_for : List ℕ → ToldOut → Bool
@@ -21,26 +30,15 @@ is_for name out = bytes_eq out.port name
 
 -- ---- What is found
 
-at_place : (told : List ToldOut) (place : ℕ) (out : ToldOut) → place < length told → out ≡ get_or told place out → slice_get told place ≡ Some out
-at_place [] place out within is = absurd (omega (arith, within))
-at_place (first ∷ told) zero out within is = ap Some (sym is)
-at_place (first ∷ told) (suc place) out within is = at_place told place out (omega (arith, within)) is
-
-past_all : (told : List ToldOut) (place : ℕ) → length told ≤ place → slice_get told place ≡ None
-past_all [] place past = refl
-past_all (first ∷ told) zero past = absurd (omega (arith, past))
-past_all (first ∷ told) (suc place) past = past_all told place (omega (arith, past))
-
 -- the value at the first place that was told for a name
 pub found_value : (told : List ToldOut) (name : List ℕ) (place : ℕ) (out : ToldOut) → place ≡ position_or_len (is_for name) told → place < length told →
     out ≡ get_or told place out → Some out.value ≡ told_for told name
 found_value told name place out first within is =
-    sym (ap value_of (find_at (is_for name) told ∙ ap (slice_get told) (sym first) ∙ at_place told place out within is))
+    sym (ap value_of (find_at (is_for name) told ∙ ap (slice_get told) (sym first) ∙ slice_get_read told (length told) place out refl within is))
 
 -- where there is no such place, no value was told for the name
-pub found_none : (told : List ToldOut) (name : List ℕ) → position_or_len (is_for name) told ≡ length told → None ≡ told_for told name
-found_none told name none =
-    sym (ap value_of (find_at (is_for name) told ∙ ap (slice_get told) none ∙ past_all told (length told) (omega arith)))
+pub found_none : (told : List ToldOut) (name : List ℕ) → length told ≤ position_or_len (is_for name) told → None ≡ told_for told name
+found_none told name past = sym (ap value_of (find_at (is_for name) told ∙ slice_get_past told (position_or_len (is_for name) told) past))
 
 -- ---- What is left
 
@@ -51,10 +49,14 @@ found_without p (first ∷ told) zero d within fails = sym (ap (λ (b : Bool). c
 found_without p (first ∷ told) (suc place) d within fails =
     ap (λ (rest : Option ToldOut). cond (p first) (Some first) rest) (found_without p told place d (omega (arith, within)) fails)
 
--- the first value that was told for a name passes no test for another name
-pub left_for_others : (told : List ToldOut) (name other : List ℕ) (place : ℕ) (d : ToldOut) → place < length told →
-    bytes_eq (get_or told place d).port other ≡ false → told_for (remove told place) other ≡ told_for told other
-left_for_others told name other place d within apart = ap value_of (found_without (is_for other) told place d within apart)
+-- without the first value that was told for a name, what was told for the others is found as before
+pub left_for_others : (told : List ToldOut) (name other : List ℕ) (place : ℕ) (d : ToldOut) → place ≡ position_or_len (is_for name) told → place < length told →
+    bytes_eq name other ≡ false → told_for (remove told place) other ≡ told_for told other
+left_for_others told name other place d first within apart =
+    let named : is_for name (get_or told place d) ≡ true =
+    ap (λ (k : ℕ). is_for name (get_or told k d)) first ∙ passes_at_first (is_for name) told d (subst (λ (k : ℕ). k < length told) first within) in
+    let same : (get_or told place d).port ≡ name = (bytes_eq-Decides (get_or told place d).port name).0 named in
+    ap value_of (found_without (is_for other) told place d within (ap (λ (port : List ℕ). bytes_eq port other) same ∙ apart))
 
 -- ---- What is written
 
@@ -98,3 +100,15 @@ differ_from [] zero apart = apart
 differ_from [] (suc place) apart = apart
 differ_from (name ∷ names) zero apart = apart
 differ_from (name ∷ names) (suc place) apart = differ_from names place (IsDistinct-tail bytes_eq name names apart)
+
+-- nothing is written where there are no sources
+pub no_sources : (names : List (List ℕ)) (told : List ToldOut) (board : List (Option Value)) → told_written names [] told board ≡ board
+no_sources [] told board = refl
+no_sources (name ∷ names) told board = refl
+
+-- where a leaf has names for values, and none was told, its board stays
+pub untold_leaf : (names : List (List ℕ)) (sources : List Source) (given : Outputs) (board : List (Option Value)) → 1 ≤ length names → [] ≡ given.told →
+    board ≡ leaf_written names sources given board
+untold_leaf [] sources given board some none = absurd (omega (arith, some))
+untold_leaf (name ∷ names) sources given board some none =
+    sym (nothing_told (name ∷ names) sources board) ∙ ap (λ (told : List ToldOut). told_written (name ∷ names) sources told board) none

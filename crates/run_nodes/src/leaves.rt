@@ -90,7 +90,7 @@ fn take_value(told: &mut Vec<ToldOut>, name: &Name) -> Option<Value>
     ensures others { (other : List ℕ) → bytes_eq name.now other ≡ false → told_for told.new.items other ≡ told_for told.old.items other }
 {
     let place = place_told(told, name);
-    if place == told.len() {
+    if place >= told.len() {
         return None;
     }
     let ToldOut { port: _, value } = told.remove(place);
