@@ -1,7 +1,7 @@
 -- What is said of the leaves of an arena, one after the other, is what is said of the nodes of the tree that stands there.
 use Rattle.std.proofs.Common.{◌≡◌, ℕ, zero, suc, ◌+◌, List, [], ◌∷◌, ◌++◌, Option, map, length, sum, refl, sym, ap, subst, ◌∙◌, arith}
 use Rattle.std.specs.List.{flat_map}
-use Rattle.std.proofs.lemmas.List.{map-append}
+use Rattle.std.proofs.lemmas.List.{length-map, map-append}
 use Rattle.std.proofs.lemmas.List.Sums.{sum_by-cons}
 use Rattle.spec_tree.specs.declared.term.Term.{Term, Term-F, fold-roll-Term, ind-Term, roll-Term}
 use Rattle.spec_world.specs.declared.world.Row.{Row}
@@ -70,8 +70,10 @@ module _ {A : Type 0} (said : Option ReadyLeaf → A) where
     matched = ind-Term IsMatched (λ x y is view uid same stands.
         let here = subst (λ (p : Standing). p nodes view uid) (stands_roll x) stands in
         let count : node_count (roll-Term x) ≡ suc (sum (map node_count x.children)) = fold-roll-Term ℕ (λ node. 1 + sum node.children) x ∙ omega arith in
-        let all : map of_node (nodes_of (roll-Term x)) ≡ of_node (written x) ∷ map of_node (flat_map (λ ns. ns) (map nodes_of x.children)) = ap (map of_node) (fold-roll-Term (List TreeNode) nodes_step x) in
+        let rest : List A = map of_node (flat_map (λ ns. ns) (map nodes_of x.children)) in
+        let all : map of_node (nodes_of (roll-Term x)) ≡ of_node (record (written x) { children = length (map nodes_of x.children) }) ∷ rest = ap (map of_node) (fold-roll-Term (List TreeNode) nodes_step x) in
+        let as_many : of_node (record (written x) { children = length (map nodes_of x.children) }) ≡ of_node (written x) = ap (λ n. of_node (record (written x) { children = n })) (length-map x.children nodes_of) in
         let first : said (leaf_at nodes uid) ≡ of_node (written x) = own view (written x) uid same here.1.leaf in
-        let children : said_from nodes (uid + 1) (sum (map node_count x.children)) ≡ map of_node (flat_map (λ ns. ns) (map nodes_of x.children)) =
+        let children : said_from nodes (uid + 1) (sum (map node_count x.children)) ≡ rest =
         subst (λ (z : Term-F Term). AllMatched z.children) is (all_matched y.children) (view_under view uid (written x)) (uid + 1) same here.2 in
-        ap (said_from nodes uid) count ∙ (λ i. first i ∷ children i) ∙ sym all)
+        ap (said_from nodes uid) count ∙ (λ i. (first ∙ sym as_many) i ∷ children i) ∙ sym all)

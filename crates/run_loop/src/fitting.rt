@@ -1,4 +1,5 @@
 ghost use Rattle.std.specs.Prelude.{◌≡◌, List};
+ghost use Rattle.std.specs.List.{list_all};
 ghost use Rattle.std.specs.Result.{result_err};
 ghost use Rattle.spec_run.specs.Drivers.{DriverState};
 ghost use Rattle.spec_run.specs.Joins.{event_lacks, first_untold};
@@ -32,6 +33,13 @@ fn has_out(sort: &ReadySort, out: &ToldOut) -> bool
     }
 }
 
+/// Whether the leaves of a row may be told a value for each of these outputs.
+fn has_outs(sort: &ReadySort, outs: &[ToldOut]) -> bool
+    ensures { result ≡ list_all (is_named (ready_told sort.now)) outs.now }
+{
+    outs.iter().all(|out| has_out(sort, out))
+}
+
 /// Whether the leaf of a uid, which has a row of this sort, can be told this. The fault is that its row is told nothing,
 /// or has no such output.
 fn sort_fits(sort: &ReadySort, uid: u32, telling: &Telling) -> Result<(), JoinFault>
@@ -41,14 +49,8 @@ fn sort_fits(sort: &ReadySort, uid: u32, telling: &Telling) -> Result<(), JoinFa
         return Err(JoinFault::NoLeaf { uid });
     }
     match telling {
-        Telling::Success(outs) => {
-            if outs.list().iter().all(|out| has_out(sort, out)) {
-                Ok(())
-            } else {
-                Err(JoinFault::NoOutput { uid })
-            }
-        }
-        Telling::Failure => Ok(()),
+        Telling::Success(outs) if !has_outs(sort, outs.list()) => Err(JoinFault::NoOutput { uid }),
+        _ => Ok(()),
     }
 }
 

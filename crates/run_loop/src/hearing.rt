@@ -10,6 +10,7 @@ use crate::beginning::begin;
 use crate::runs::Runs;
 use run_arena::Block;
 use run_driver::Drivers;
+use run_nodes::tell_leaf;
 use spec_run::Header;
 use spec_world::Telling;
 
@@ -56,8 +57,6 @@ pub fn hear<D: Drivers>(message: Message, runs: &mut Runs, drivers: &mut D, bloc
     } = message;
     begin(block, header_of(runner, uid, &telling, at));
     runs.last = at;
-    let nodes = &runs.runners[runner as usize - 1].arena.nodes;
-    if let Some(leaf) = &nodes[uid as usize].leaf {
-        drivers.tell(leaf.driver, leaf.instance, telling);
-    }
+    let nodes = runs.runners[runner as usize - 1].arena.nodes.as_slice();
+    tell_leaf(nodes, drivers, uid, telling);
 }

@@ -19,7 +19,7 @@ use Rattle.spec_world.specs.declared.world.What.{What}
 use Rattle.spec_world.specs.declared.world.What.TheVariants.{Tick, Halt, Change, Tell}
 use Rattle.spec_world.specs.declared.world.World.{World}
 use Rattle.spec_run.specs.Done.{Call, Done, State, done}
-use Rattle.spec_run.specs.Leaf.{fresh, released}
+use Rattle.spec_run.specs.Leaf.{fresh, let_go, released}
 use Rattle.spec_run.specs.Run.{RunState, Runner, Stepped, Trace, before_rest, called, finish, finishes, fresh_runner, releases, opening, quench_notes, quenched, quenched_notes, quenched_runner, reset_step, root_reset, root_told, root_view, run_from, run_over, runner_at, settled, state_of, step, step_by, tell_call, tell_step, tick_step, ticked, told, with_runner}
 use Rattle.spec_run.specs.Sites.{View, remembered}
 use Rattle.spec_run.specs.Visit.{change, idle, meaning}
@@ -39,10 +39,10 @@ use Rattle.tree_dead.proofs.Visits.{change_live}
 abbrev held_in : List Instance → ℕ → Option Bool
 held_in instances p = option_map (λ (i : Instance). is_some i.since) (slice_get instances p)
 
-released_free : (instances : List Instance) (p : ℕ) → held_in (map released instances) p ≡ Some true → ⊥
-released_free [] p e = cc
-released_free (i ∷ instances) zero e = cc
-released_free (i ∷ instances) (suc p) e = released_free instances p e
+gone_free : (instances : List Instance) (p : ℕ) → held_in (map let_go instances) p ≡ Some true → ⊥
+gone_free [] p e = cc
+gone_free (i ∷ instances) zero e = cc
+gone_free (i ∷ instances) (suc p) e = gone_free instances p e
 
 fresh_free : (n p : ℕ) → held_in (replicate n fresh) p ≡ Some true → ⊥
 fresh_free zero p e = cc
@@ -95,7 +95,7 @@ module _ (is_dead : ℕ → Bool) where
 
     quenched_steady : (s : RunState) → AllSteady (quenched tree s)
     quenched_steady s k r is =
-        mapped_entry (λ (x : Runner). IsSteady x.memory x.instances) (quenched_runner tree) s.runners k r (λ x here. record { stands = opens; free = λ p dead held. released_free x.instances p held }) is
+        mapped_entry (λ (x : Runner). IsSteady x.memory x.instances) (quenched_runner tree) s.runners k r (λ x here. record { stands = opens; free = λ p dead held. gone_free x.instances p held }) is
 
     -- ---- One runner
 
