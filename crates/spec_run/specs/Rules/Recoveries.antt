@@ -1,5 +1,5 @@
 -- RecoveryNode: it visits its first child again after its second has helped.
-use Rattle.std.specs.Prelude.{ℕ, zero, suc, ◌+◌, ◌-◌, Bool, true, false, if◌then◌else◌}
+use Rattle.std.specs.Prelude.{ℕ, zero, suc, ◌+◌, ◌-◌, Bool, true, false}
 use Rattle.spec_run.specs.declared.memory.Memo.{Memo}
 use Rattle.spec_run.specs.declared.memory.Memo.TheVariants.{Recoveries as Recovering}
 use Rattle.spec_run.specs.declared.memory.Recoveries.{Recoveries}
