@@ -27,8 +27,8 @@ use Rattle.spec_run.specs.Visit.{meaning}
 use Rattle.spec_dead.specs.declared.answers.Answers.{Answers}
 use Rattle.spec_dead.specs.Dead.{outlook}
 use Rattle.spec_dead.specs.Guards.{answers_after, before_rule}
-use Rattle.spec_dead.specs.Reached.{all_pass, answers_at, reaches}
-use Rattle.spec_dead.specs.Rules.{given, is_zero, last_skips, rule_answers, some_seen}
+use Rattle.spec_dead.specs.Reached.{all_pass, answers_at, given, is_zero, reaches}
+use Rattle.spec_dead.specs.Rules.{last_skips, rule_answers, some_seen}
 use Rattle.tree_dead.specs.Runs.{HasRow}
 use Rattle.tree_dead.proofs.Sets.{Has}
 

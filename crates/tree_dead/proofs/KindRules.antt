@@ -17,8 +17,8 @@ use Rattle.spec_run.specs.Rules.Sequences.{index_of, seen_of}
 use Rattle.spec_run.specs.Rules.Turns.{turns_of}
 use Rattle.spec_dead.specs.declared.answers.Answers.{Answers}
 use Rattle.spec_dead.specs.Answers.{becoming, exchanged}
-use Rattle.spec_dead.specs.Reached.{always_selected, answers_at, may_be_selected, reaches}
-use Rattle.spec_dead.specs.Rules.{given, never_skips}
+use Rattle.spec_dead.specs.Reached.{always_selected, answers_at, given, may_be_selected, reaches}
+use Rattle.spec_dead.specs.Rules.{never_skips}
 use Rattle.tree_dead.proofs.Branches.{becomes_in, child_fits, delay_fits, if_fits, keep_running_fits, run_once_fits, stays_in, switch_fits, timeout_fits, turns_fit, while_fits}
 use Rattle.tree_dead.proofs.Fits.{Begins}
 use Rattle.tree_dead.proofs.Rounds.{Gives, memory_fits, parallel_fits, reactive_fits, sequence_fits}

@@ -1,7 +1,7 @@
 ghost use Rattle.std.specs.Prelude.{◌≡◌, length};
 ghost use Rattle.std.specs.Option.{option_copied};
-ghost use Rattle.spec_dead.specs.Reached.{all_pass, may_be_selected};
-ghost use Rattle.spec_dead.specs.Rules.{all_skip, branch_answers, decorator_answers, is_zero, last_skips, never_skips, otherwise, reached_answers, round_answers, rule_answers, some_seen, turned};
+ghost use Rattle.spec_dead.specs.Reached.{all_pass, is_zero, may_be_selected};
+ghost use Rattle.spec_dead.specs.Rules.{all_skip, branch_answers, decorator_answers, last_skips, never_skips, otherwise, reached_answers, round_answers, rule_answers, some_seen, turned};
 ghost use Rattle.tree_dead.specs.Steps.{selected_of};
 
 use crate::reached::{answers_at, given, may_be_selected, still_passes};
