@@ -123,10 +123,9 @@ RunSteady term rows run =
 
 -- ---- Work
 
--- a call of `halted` begins no work, and neither does a telling
+-- a call of `halted` begins no work; no visit tells a leaf anything
 abbrev pub begins : Phase → ℕ
 begins phase.Halted = 0
-begins phase.Told = 0
 begins _ = 1
 
 -- how many of these calls are calls of start and running

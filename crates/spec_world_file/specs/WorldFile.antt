@@ -2,6 +2,7 @@
 use Rattle.std.specs.Prelude.{◌≡◌, ℕ, zero, suc, ◌+◌, ◌-◌, ◌*◌, ◌==◌, IsTrue, Bool, true, false, not, ◌&&◌, ◌||◌, nat_lt, nat_le, nat_eq, if◌then◌else◌, MatchBool, List, [], ◌∷◌, ◌++◌, map, length, take, drop, codes, bytes_eq, ℤ, pos, nat_abs, Option, Some, None, is_some, option_map, option_and_then, option_to_list, unwrap_or, Result, Ok, Err, position, slice_get}
 use Rattle.std.specs.Char.{is_ascii_digit}
 use Rattle.std.specs.List.{slice_split, list_all, list_any, ends_with, starts_with, prefix_len, suffix_len, position_or_len}
+use Rattle.std.specs.Str.{is_utf8}
 use Rattle.std.specs.Str.Parse.{signed_digits_value}
 use Rattle.spec_script.specs.Reading.{ReadsExpr}
 use Rattle.spec_script.specs.declared.syntax.Cmp.{Cmp}
@@ -199,16 +200,16 @@ is_line id text =
     then option_and_then (λ op. option_map (IsLine id (word 0 text) op) (number_in (word 2 text))) (comparison_in (word 1 text))
     else None
 
--- `ROW told`, after `told`
-abbrev pub told_line : (Head → Line) → List ℕ → Option Line
-told_line line text = if ends_after 2 text then option_map line (head_in (word 0 text)) else None
+-- nothing more, of the row that a word is
+abbrev pub told_line : (Head → Line) → List ℕ → List ℕ → Option Line
+told_line line row text = if length text == 0 then option_map line (head_in row) else None
 
 -- `ROW is NAME OP INT`, `ROW when EXPR` or `ROW told`
 abbrev pub condition_line : List ℕ → Option Line
 condition_line text =
     if bytes_eq (word 1 text) (codes "is") then is_line (word 0 text) (following 2 text)
     else if bytes_eq (word 1 text) (codes "when") then option_map (λ head. WhenLine head (following 2 text)) (head_in (word 0 text))
-    else if bytes_eq (word 1 text) (codes "told") then told_line SensedLine text
+    else if bytes_eq (word 1 text) (codes "told") then told_line SensedLine (word 0 text) (following 2 text)
     else None
 
 -- `MS`, of an action that lasts
@@ -228,7 +229,7 @@ action_line text =
     if bytes_eq (word 1 text) (codes "timed") then option_and_then (timed_line (following 2 text)) (head_in (word 0 text))
     else if bytes_eq (word 1 text) (codes "replay") then option_and_then (replay_line (following 2 text)) (head_in (word 0 text))
     else if bytes_eq (word 1 text) (codes "gate") then option_map (λ head. GateLine head (following 2 text)) (head_in (word 0 text))
-    else if bytes_eq (word 1 text) (codes "told") then told_line ToldLine text
+    else if bytes_eq (word 1 text) (codes "told") then told_line ToldLine (word 0 text) (following 2 text)
     else None
 
 -- whether a word of a telling says SUCCESS or FAILURE
@@ -316,11 +317,15 @@ abbrev mutual
   after_x (high ∷ low ∷ rest) = with_digits (digit_value high) (digit_value low) (text_to_quote rest)
   after_x _ = None
 
+-- a text that was found, where it is UTF-8
+abbrev pub text_value : List ℕ × List ℕ → Option (Value × List ℕ)
+text_value found = if is_utf8 found.0 then Some (Text found.0, found.1) else None
+
 -- the value at the front of a text, and what follows it: a quoted text, or a number
 abbrev pub value_at_front : List ℕ → Option (Value × List ℕ)
 value_at_front text =
     if starts_with nat_eq text (codes "'")
-    then option_map (λ found. (Text found.0, found.1)) (text_to_quote (drop 1 text))
+    then option_and_then text_value (text_to_quote (drop 1 text))
     else option_map (λ n. (Int n, drop (length (front_word text)) text)) (number_in (front_word text))
 
 -- nothing follows, or a gap
