@@ -209,10 +209,17 @@ no_fault_told (Tick runner) tree world at s tells = absurd tells
 no_fault_told (Halt runner) tree world at s tells = absurd tells
 no_fault_told (Change fact value) tree world at s tells = absurd tells
 
+-- an event that tells a leaf something is a telling
+pub is_telling : (what : What) → Tells what → ((runner uid : ℕ) (telling : Telling) → what ≡ Tell runner uid telling → ⊥) → ⊥
+is_telling (Tell runner uid telling) tells other = other runner uid telling refl
+is_telling (Tick runner) tells other = tells
+is_telling (Halt runner) tells other = tells
+is_telling (Change fact value) tells other = tells
+
 -- an event that tells a leaf something is cut off before it
-pub telling_cut : (tree : Tree) (world : World) (event : Event) (drivers after : List DriverState) (runs runs1 : Runs) (told noted : List Note) → Tells event.what →
-    told ≡ [] → IsQuenched tree drivers after runs runs1 told noted → IsCutOff (arenas_of runs1) drivers after noted (step tree world event (state_of_runs tree.term drivers runs))
-telling_cut tree world event drivers after runs runs1 told noted tells none q =
+pub telling_cut : (tree : Tree) (world : World) (event : Event) (drivers after : List DriverState) (runs left : Runs) (told noted : List Note) → Tells event.what →
+    told ≡ [] → IsQuenched tree drivers after runs left told noted → IsCutOff (arenas_of left) drivers after noted (step tree world event (state_of_runs tree.term drivers runs))
+telling_cut tree world event drivers after runs left told noted tells none q =
     let s : RunState = state_of_runs tree.term drivers runs in
     let d : Stepped = step tree world event s in
     record {
