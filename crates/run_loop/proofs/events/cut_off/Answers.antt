@@ -15,10 +15,10 @@ returns g c = λ of are.
     let drivers = g.D.Drivers.states c.args.drivers.now in
     let runs = c.args.runs.now in
     let begun : c.match-event.block.notes ≡ record { list = []; reserve = c.args.block.now.notes.full; full = c.args.block.now.notes.full } =
-        elim c.match-event.branch [
-          | in-Tell w ↦ ap (λ (b : Block). b.notes) w.block-is ∙ w.begin.ensures.notes
-          | in_default w ↦ absurd (is_telling c.args.event.now.what c.requires.tells w.in_default.not-Tell)
-        ]
+    elim c.match-event.branch [
+      | in-Tell w ↦ ap (λ (b : Block). b.notes) w.block-is ∙ w.begin.ensures.notes
+      | in_default w ↦ absurd (is_telling c.args.event.now.what c.requires.tells w.in_default.not-Tell)
+    ]
     in
     let q = c.stop.ensures.quenched of are.fit in
     record {
