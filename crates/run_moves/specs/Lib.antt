@@ -1,3 +1,4 @@
+pub mod AtHand
 pub mod Decorators
 pub mod Rounds
 pub mod Rows
