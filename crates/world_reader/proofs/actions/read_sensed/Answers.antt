@@ -19,6 +19,6 @@ pub returns-in-Err : goal.returns-in-Err
 returns-in-Err c =
     let now = c.close.new.self in
     let head = seen_head c.in-Some.head in
-    nothing_more (Err c.in-Err.stop) now c.args.reading.now now SensedLine head c.args.row.now c.args.text.now with_row Sensed (λ said k. k) c.in_ok-close.ensures
+    nothing_more {A = Unit {0}} (Err c.in-Err.stop) now c.args.reading.now now SensedLine head c.args.row.now c.args.text.now with_row Sensed (λ said k. k) c.in_ok-close.ensures
     (ap (option_map seen_head) (sym c.in-Some.is) ∙ c.in_ok-head.ensures) (sym c.is_empty.ensures ∙ c.if-not-is_empty.false)
     (refuses c.in-Err.stop now now head Sensed with_row c.in-Err.ensures)

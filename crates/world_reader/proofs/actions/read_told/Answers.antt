@@ -23,7 +23,7 @@ returns-in-Err c =
     let now = c.close.new.self in
     let head = seen_head c.in-Some.head in
     let none : c.of-outs.result ≡ [] = c.of-outs.ensures ∙ c.new.ensures.items in
-    nothing_more (Err c.in-Err.stop) now c.args.reading.now now ToldLine head c.args.row.now c.args.text.now with_action (Told []) (λ said k. k) c.in_ok-close.ensures
+    nothing_more {A = Unit {0}} (Err c.in-Err.stop) now c.args.reading.now now ToldLine head c.args.row.now c.args.text.now with_action (Told []) (λ said k. k) c.in_ok-close.ensures
     (ap (option_map seen_head) (sym c.in-Some.is) ∙ c.in_ok-head.ensures) (sym c.is_empty.ensures ∙ c.if-not-is_empty.false)
     (refuses c.in-Err.stop now now head (Told []) with_action
     (subst (λ (outs : List (List ℕ)). DraftSays (Err c.in-Err.stop) head (Told outs) now) none c.in-Err.ensures))
