@@ -30,6 +30,8 @@ WORLDS = [
     world("ports with a blank behind their comma", "BadLine 2", "W:2:20:", ("no blanks: write Grip(force,width)",),
           lines("action Grip(force, width) timed 100")),
     world("ports behind a blank", "BadLine 2", "W:2:16:", ("no blanks: write Grip(force)",), lines("condition Grip (force) when force")),
+    world("a failure in words", "BadLine 4", "W:4:9:", ("write `n == 1`",), lines("fact n 1\naction A timed 0\nfails n is 1")),
+    world("a failure with the word of a condition", "BadLine 4", "W:4:12:", ("write `n > 1`",), lines("fact n 1\naction A timed 0\nfails when n > 1")),
     world("an effect that takes away", "BadLine 4", "W:4:8:", ("here stands = or +=", "write += -15"),
           lines("fact x 1\naction A timed 0\nsets x -= 15")),
     world("an effect that takes away less than nothing", "BadLine 4", "W:4:8:", ("write += 15",),

@@ -260,7 +260,7 @@ class Line:
             read = expression(text)
         except ScriptFault as fault:
             message = fault.message + (f"; {fault.help}" if fault.help else "")
-            self.bad((start + fault.start, start + max(fault.end, fault.start)), message)
+            self.bad((start + fault.start, start + max(fault.end, fault.start)), message, by_signs(text))
         for token in read.tokens:
             if token.kind == "text":
                 self.bad((start + token.start, start + token.end), "an expression of a world script has no texts, numbers only")
@@ -342,6 +342,16 @@ def is_utf8(text: bytes) -> bool:
     except UnicodeDecodeError:
         return False
     return True
+
+
+def by_signs(text: bytes) -> List[str]:
+    """The expression that is meant by a text with `is` or `=` in it, or with `when` or `if` before it."""
+    meant_text = re.sub(rb"\bis\b|(?<![:=!<>])=(?!=)", b"==", re.sub(rb"^(when|if)\b[ \t]*", b"", text))
+    try:
+        expression(meant_text)
+    except ScriptFault:
+        return []
+    return [f"write `{meant_text.decode('latin-1')}`"] if meant_text != text else []
 
 
 def as_when(line: Line, id_: Word) -> List[str]:
