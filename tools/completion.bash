@@ -26,7 +26,7 @@ _bt_trees() {
 # Completes a word by `sorts` of files, in their order, and then by `options`, each once. The value of an option is a number,
 # but for that of --main, which is a tree of the first file, and that of -o, a file.
 _bt_words() {
-    local place=$1 text first= count=0 left=()
+    local place=$1 text first='' count=0 left=()
     for (( ; place < COMP_CWORD; place++)); do
         text=${COMP_WORDS[place]}
         if [[ $text == @(--main|-o|--ticks|--expand|--period) ]]; then
@@ -42,6 +42,7 @@ _bt_words() {
         --ticks | --expand | --period) ;;
         *)
             if [[ $word != -* && $count -lt ${#sorts[@]} ]]; then
+                # shellcheck disable=SC2086 # (several endings are several words)
                 _bt_files ${sorts[count]}
                 return
             fi

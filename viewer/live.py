@@ -11,6 +11,8 @@ from typing import List, Optional
 ADDRESS = "127.0.0.1"
 # So many lines go into one message at most, and a line of a comment every so many seconds keeps a connection open.
 AT_ONCE, ALIVE_SECONDS = 2000, 15
+# No line that the program prints has so many bytes; of one that was cut off so much is shown.
+MOST_LINE, MOST_CUT = 1 << 23, 1000
 POLICY = ("default-src 'none'; script-src 'unsafe-inline'; style-src 'unsafe-inline'; connect-src 'self'; img-src data:; "
           "frame-ancestors 'none'; base-uri 'none'; form-action 'none'")
 
@@ -26,16 +28,19 @@ class Trace:
         self.changed = threading.Condition()
 
     def take(self, source):
-        """Takes the lines of a source up to its end. A last one without its line feed was cut off, and is no line."""
-        for line in iter(source.readline, b""):
+        """Takes the lines of a source up to its end, or to a line that no trace has, since it is too long. A last one without
+        its line feed was cut off, and is no line."""
+        for line in iter(lambda: source.readline(MOST_LINE), b""):
             with self.changed:
                 # No line of a trace has a carriage return, which would end a line of a message. The page refuses what comes of it.
                 text = line.decode("utf-8", "replace").replace("\r", "\ufffd")
                 if text.endswith("\n"):
                     self.lines.append(text[:-1])
                 else:
-                    self.cut = text
+                    self.cut = text[:MOST_CUT]
                 self.changed.notify_all()
+            if self.cut:
+                return
 
     def end(self, status=None):
         with self.changed:

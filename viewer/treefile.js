@@ -55,7 +55,7 @@ function resolved(value) {
 
 function attributesOf(text) {
   const attributes = new Map();
-  for (const [, name, double, single] of text.matchAll(/([^\s=]+)\s*=\s*(?:"([^"]*)"|'([^']*)')/g)) {
+  for (const [, name, double, single] of text.matchAll(/([^ \t\r\n=]+)[ \t\r\n]*=[ \t\r\n]*(?:"([^"]*)"|'([^']*)')/g)) {
     attributes.set(name, resolved(double ?? single));
   }
   return attributes;
@@ -66,7 +66,7 @@ function attributesOf(text) {
  * Comments and instructions are left out.
  */
 function elementsOf(text) {
-  const marks = /<!--[^]*?-->|<\?[^]*?\?>|<\/([^\s>]+)\s*>|<([^\s/>]+)((?:\s+[^\s=/>]+\s*=\s*(?:"[^"]*"|'[^']*'))*)\s*(\/?)>/g;
+  const marks = /<!--[^]*?-->|<\?[^]*?\?>|<\/([^ \t\r\n>]+)[ \t\r\n]*>|<([^ \t\r\n/>]+)((?:[ \t\r\n]+[^ \t\r\n=/>]+[ \t\r\n]*=[ \t\r\n]*(?:"[^"]*"|'[^']*'))*)[ \t\r\n]*(\/?)>/g;
   const file = { name: "", attributes: new Map(), children: [] };
   const open = [file];
   for (const { 0: mark, 1: ended, 2: name, 3: attributes, 4: empty, index } of text.matchAll(marks)) {

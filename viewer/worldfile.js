@@ -13,8 +13,8 @@ function rowOf(sort, words) {
   return { id, sort: sort === "action" ? words[2] : "condition", rule: words.slice(2).join(" "), needs: [], effects: [] };
 }
 
-/** The lines that are read. A script may have 100,000 others, its events. */
-const LINES = /^[ \t]*(?:fact|condition|action|needs|sets|out|fails|goal|runners)[ \t].*$/gm;
+/** The lines that are read. A script may have 100,000 others, its events. A line feed alone ends a line. */
+const LINES = /(?<=^|\n)[ \t]*(?:fact|condition|action|needs|sets|out|fails|goal|runners)[ \t][^\n]*/g;
 
 function read(text) {
   const world = none();

@@ -46,7 +46,7 @@ def main(words: "list[str]") -> int:
         return ran.returncode if ran.returncode > 0 else 128 - ran.returncode
     kept = pathlib.Path(words[1]).with_suffix(".row")
     part = kept.with_name(f"{kept.name}.{os.getpid()}")
-    part.write_text(",".join(map(str, row_of(ran.stdout.decode().splitlines()))) + "\n")
+    part.write_text(",".join(map(str, row_of(ran.stdout.decode().split("\n")[:-1]))) + "\n")
     part.replace(kept)
     return 0
 

@@ -6,15 +6,16 @@ import subprocess
 import sys
 from typing import Dict, List, Optional
 
+from .escapes import escaped
 from .explaining import explanation, told
 from .listing import join_lines, node_lines, tree_lines
 from .marks import Finding, read_marks
 from .mocks import mocked
-from .naming import Naming, OtherTree
+from .naming import Naming, NoTrace, OtherTree, lines_of
 from .opening import open_file
 from .report import tell
 from .rules import read_rules
-from .source import Source
+from .source import MOST_BYTES, Source, bytes_of, complaint
 from .trees import TreeFile, main_of, read_file, trees_of
 from .worlds import read_world
 
@@ -34,19 +35,22 @@ TREE_REFUSED, WORLD_REFUSED, RULES_REFUSED, WORDS, UNREAD, OTHER = 3, 4, 10, 2, 
 OPTIONS = ("--main", "--mock")
 
 
-def file_of(name: str) -> Source:
-    """The file of this name; ends with 7 where it can't be read."""
+def file_of(name: str, too_long: int) -> Source:
+    """The file of this name; ends with 7 where it can't be read, and with the status that is given where it is too long."""
     try:
-        with open(name, "rb") as opened:
-            return Source(name, opened.read())
+        source = Source(name, bytes_of(name))
     except (OSError, ValueError) as error:
-        tell([f"names: {error}"])
+        tell([f"names: {complaint(error)}"])
         sys.exit(UNREAD)
+    if len(source.data) > MOST_BYTES:
+        tell([f"names: {name}: the file has more than {MOST_BYTES} bytes"])
+        sys.exit(too_long)
+    return source
 
 
 def write(lines: List[str]) -> None:
-    """Writes lines to standard output."""
-    sys.stdout.buffer.write("".join(line + "\n" for line in lines).encode("utf-8", "surrogateescape"))
+    """Writes lines to standard output, each of which stays one line."""
+    sys.stdout.buffer.write("".join(escaped(line) + "\n" for line in lines).encode("utf-8"))
 
 
 def has_trace() -> bool:
@@ -72,12 +76,16 @@ def name_nodes(file: TreeFile, is_mocked: bool) -> int:
         return 0
     naming = Naming(file)
     try:
-        for line in naming.lines(sys.stdin.buffer):
+        for line in naming.lines(lines_of(sys.stdin.buffer)):
             sys.stdout.buffer.write(line)
     except OtherTree as fault:
         sys.stdout.buffer.flush()
         tell([f"names: {fault}", "  help: " + ("the rules or the tree are others" if is_mocked else
               "the nodes of a run of `bt mock` have other numbers: give its rules by `--mock RULES`")])
+        return OTHER
+    except NoTrace as fault:
+        sys.stdout.buffer.flush()
+        tell([f"names: {fault}"])
         return OTHER
     sys.stdout.buffer.flush()
     tell(filter(None, [naming.complaint()]))
@@ -106,18 +114,23 @@ def list_trees(source: Source) -> None:
     write(tree_lines(source, trees, main))
 
 
+def lines_said(printed: bytes) -> List[str]:
+    """The lines that a program has printed."""
+    return list(filter(None, printed.decode("utf-8", "replace").split("\n")))
+
+
 def check_all(source: Source, program: str) -> int:
     """Has the program check each tree of a file as the main tree."""
     status = 0
     for name, tree in trees_of(read_marks(source)).items():
         words = ["check", source.name, "--main", name]
         ran = subprocess.run([program, *words], stdout=subprocess.PIPE, stderr=subprocess.PIPE, stdin=subprocess.DEVNULL)
-        said = ran.stdout.decode("utf-8", "replace").splitlines() or [f"exit {ran.returncode}"]
+        said = lines_said(ran.stdout) or [f"exit {ran.returncode}"]
         write([f"{name}: line {source.line_of(tree.at)}: {said[-1].replace('<!-- ', '').replace(' -->', '')}"])
         sys.stdout.flush()
         if ran.returncode != 0:
             status = ran.returncode
-            tell(explanation(ran.returncode, ran.stdout, words) or ran.stderr.decode("utf-8", "replace").splitlines())
+            tell(explanation(ran.returncode, ran.stdout, words) or lines_said(ran.stderr))
     return status
 
 
@@ -134,7 +147,7 @@ def about(source: Source, world: Optional[Source], options: Dict[str, str]) -> i
     """Does what the words say of a tree file and its options. Raises its first fault."""
     file = opened(source, options.get("--main"))
     if "--mock" in options:
-        file = by_rules(file, file_of(options["--mock"]))
+        file = by_rules(file, file_of(options["--mock"], RULES_REFUSED))
     return name_nodes(file, "--mock" in options) if world is None else join(file, world)
 
 
@@ -151,9 +164,9 @@ def answer(words: List[str], program: str) -> int:
     whole = len(words) == 2 and words[0] in ("--trees", "--all")
     names, options = (words[1:], {}) if whole else parted(words)
     if not 1 <= len(names) <= 2 or names[0].startswith("--"):
-        tell(USAGE.splitlines())
+        tell(USAGE.split("\n")[:-1])
         return WORDS
-    source, *others = map(file_of, names)
+    source, *others = map(file_of, names, (TREE_REFUSED, WORLD_REFUSED))
     try:
         if words[0] == "--all":
             return check_all(source, program)

@@ -47,8 +47,9 @@ def port_names(file: TreeFile, node: Node) -> Optional[List[str]]:
 def check_known(file: TreeFile, node: Node) -> None:
     """Raises where an attribute is a port that the node does not have."""
     names = port_names(file, node)
+    known = set(names or ())
     for attribute in node.ports():
-        if names is None or attribute.name in names:
+        if names is None or attribute.name in known:
             continue
         others = names + list(GUARDS) + (["code"] if node.kind in WITH_CODE else [])
         has = f"its ports: {listed(names)}" if names else "it has no ports"
@@ -85,7 +86,7 @@ def check_written(file: TreeFile, node: Node) -> None:
 
 def check_absent(file: TreeFile, node: Node) -> None:
     """Raises where a port is missing, or where a model's default may not stand."""
-    written = [attribute.name for attribute in node.ports()]
+    written = {attribute.name for attribute in node.ports()}
     if node.kind in NODES:
         for port in NODES[node.kind].ports:
             if port.name not in written and port.default is None:

@@ -1,5 +1,6 @@
 """What the program's exit and output mean for the files of its words."""
 
+import itertools
 import os
 from dataclasses import dataclass, field
 from typing import Dict, List, Optional
@@ -9,23 +10,25 @@ from .built_ins import LOOPS
 from .faults import cause_said, explained, quenched
 from .marks import Finding
 from .mocks import mocked, rule_warnings
-from .near import meant
+from .near import Effort, meant
 from .opening import open_file, opened
 from .plans import Planned, planned
-from .report import Note, Place, Report
+from .report import MOST_FOUND, Note, Place, Report, warning_lines
 from .rows import lacking
 from .rules import Configuration, Rules, read_rules
 from .slots import check_sizes
 from .source import MISSING, MOST_BYTES, Source, beside, read, why_unreadable
 from .table import CAUSES, GROUND, RULES, TREE, WORLD
-from .traces import Faulted, faulted
+from .tellings import untold
+from .traces import MOST_OUTPUT, Faulted, faulted
 from .trees import TreeFile, read_file
 from .words import Command, command_of, usage, wrong
 from .worlds import World, read_world
 
 
 def explanation(status: int, output: bytes, words: List[str]) -> List[str]:
-    """The lines that explain an exit, none where nothing sure can be said."""
+    """The lines that explain an exit, none where nothing sure can be said. The output of a run may be its end alone."""
+    Effort.begin()
     if status == 2:
         problem = wrong(words)
         return [] if problem is None else [f"bt: {problem}", *usage()]
@@ -45,7 +48,7 @@ def explanation(status: int, output: bytes, words: List[str]) -> List[str]:
         return of_rules(command, refused(text, "refused rules "))
     if status in (5, 6) and command.name in ("plan", "gplan"):
         return of_plan(command, text)
-    return of_fault(command, text) if status == 5 else []
+    return of_fault(command, text, len(output) < MOST_OUTPUT) if status == 5 else []
 
 
 def refused(text: str, front: str) -> str:
@@ -62,7 +65,7 @@ def told(source: Source, finding: Finding) -> List[str]:
 
 def too_long(name: str, source: Source) -> List[str]:
     """The lines for a file that is too long."""
-    return [f"{name}: error: the file has {len(source.data)} bytes, and a file has at most {MOST_BYTES}"]
+    return [f"{name}: error: the file has {os.path.getsize(name)} bytes, and a file has at most {MOST_BYTES}"]
 
 
 def of_read(command: Command, what: str) -> List[str]:
@@ -107,8 +110,10 @@ def of_world(command: Command, words: str) -> List[str]:
         return []
     if kind == "NoDriver" or kind == "NoGoal" and not world.goals:
         return [f"{source.name}: error: {WORLD[kind].wrong} ({words}): {WORLD[kind].right}"]
-    run = run_of(command) if kind == "NoRow" else None
-    return [] if run is None else lacking(run.file, run.world, words) + rule_lines(run)
+    run = run_of(command) if kind in ("NoRow", "NoLeaf", "NoOutput") else None
+    if run is None:
+        return []
+    return (lacking if kind == "NoRow" else untold)(run.file, run.world, words) + rule_lines(run)
 
 
 def of_ground(command: Command, words: str) -> List[str]:
@@ -162,9 +167,9 @@ def of_made(command: Command, rules: Rules, words: str) -> List[str]:
     return []
 
 
-def of_fault(command: Command, text: str) -> List[str]:
-    """The lines for a run of a tree file that ended in a fault."""
-    ended = faulted(text)
+def of_fault(command: Command, text: str, is_whole: bool) -> List[str]:
+    """The lines for a run of a tree file that ended in a fault, by its trace or the end of that."""
+    ended = faulted(text, is_whole)
     run = run_of(command)
     if ended is None or run is None:
         return []
@@ -215,7 +220,7 @@ def rule_lines(run: Run) -> List[str]:
     """The lines for rules that do nothing, none where there are no rules."""
     if run.rules is None or run.before is None:
         return []
-    return [line for report in rule_warnings(run.before, run.rules) for line in report.lines()]
+    return warning_lines(list(itertools.islice(rule_warnings(run.before, run.rules), MOST_FOUND)))
 
 
 def of_configuration(run: Run, ended: Faulted) -> Optional[Report]:

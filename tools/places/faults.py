@@ -10,7 +10,7 @@ from .near import meant
 from .report import Note, Place, Report
 from .scripts import ScriptFault, Token, statements
 from .table import CAUSES
-from .traces import CALL, NODE, Faulted
+from .traces import CALL, NODE, UNKNOWN, Faulted
 from .trees import Node, TreeFile
 from .worlds import Row, World
 
@@ -141,11 +141,11 @@ def possible(node: Node, ended: Faulted) -> Tuple[str, ...]:
     if call is not None and int(call.group(1)) == node.uid:
         return AFTER.get(call.group(3) or "", ())
     after = ("_onSuccess", "_onFailure", "_post")
+    running = ("_while",) if node.kind == "Leaf" else after if is_below(node, ended.before) else ("_while",) + after
     if ended.status == "RUNNING":
-        return ("_while",) if node.kind == "Leaf" else after if is_below(node, ended.before) else ("_while",) + after
-    if not may_answer_at_once(node):
-        after = ()
-    return BEFORE + (("code",) if node.kind in WITH_CODE else ()) + after
+        return running
+    started = BEFORE + (("code",) if node.kind in WITH_CODE else ()) + (after if may_answer_at_once(node) else ())
+    return started + running if ended.status == UNKNOWN else started
 
 
 def in_script(file: TreeFile, node: Node, attribute: Attribute, ended: Faulted) -> Iterator[Suspect]:

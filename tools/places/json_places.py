@@ -23,7 +23,7 @@ class Value:
 
     def span(self, source: Source) -> Tuple[int, int]:
         """Its bytes in the file."""
-        return byte_of(source, self.start), byte_of(source, self.end)
+        return source.byte_of(self.start), source.byte_of(self.end)
 
 
 @dataclass(frozen=True)
@@ -56,11 +56,6 @@ DECODER = json.JSONDecoder(parse_constant=no_number, parse_float=number_of, pars
 def text_of(source: Source) -> str:
     """The text of a file that is UTF-8."""
     return source.data.decode("utf-8")
-
-
-def byte_of(source: Source, at: int) -> int:
-    """The byte at which the character of this number begins."""
-    return len(text_of(source)[:at].encode("utf-8"))
 
 
 def skipped(text: str, at: int) -> int:

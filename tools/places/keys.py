@@ -15,9 +15,8 @@ from .worlds import World
 
 Cell = Tuple[int, str]
 
-# how many keys that nothing writes are told of, each of which is compared with those that are written, if these are not
-# very many
-MOST_TOLD, MOST_COMPARED = 20, 500
+# how many keys that nothing writes are told of
+MOST_TOLD = 20
 
 ROLES = {"input_port": "in", "output_port": "out", "inout_port": "both"}
 
@@ -158,9 +157,10 @@ def key_warnings(file: TreeFile, world: Optional[World] = None, told: AbstractSe
         unused = keys.unused(node) if node.kind == "SubTree" else []
         wanted = [key for scope, key in lacking if scope == node.uid] if unused else []
         for port in unused:
-            meant_keys = near(port.name, wanted, 1)
+            meant_keys = near(port.name, [key for key in wanted if (node.uid, key) in lacking], 1)
             yield unused_port(keys, node, port, meant_keys or near(port.name, keys.named.get(node.uid, ()), 1))
-            lacking = {cell: use for cell, use in lacking.items() if cell[0] != node.uid or cell[1] not in meant_keys}
+            for key in meant_keys:
+                del lacking[node.uid, key]
     left = [(cell, use) for cell, use in lacking.items() if not cell[0] or (file.nodes[cell[0] - 1].id, cell[1]) not in told]
     for cell, use in left[:MOST_TOLD]:
         report = unwritten(keys, cell, use)
@@ -179,7 +179,7 @@ def unwritten(keys: Keys, cell: Cell, use: Use) -> Optional[Report]:
     """A cell that is looked at and never written, if that is a mistake by what can be seen."""
     file, (scope, key) = keys.file, cell
     made = keys.made_in(scope)
-    helps = meant(key, made if len(made) <= MOST_COMPARED else []) + no_output(keys, cell)
+    helps = meant(key, made) + no_output(keys, cell)
     if not helps and scope:
         return not_given(keys, cell, use)
     if not helps and not use.needs:

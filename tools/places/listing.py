@@ -3,6 +3,7 @@
 from typing import Dict, Iterator, List, Set
 
 from .built_ins import NODES
+from .escapes import escaped
 from .marks import Element
 from .rows import leaves_of
 from .source import Source
@@ -12,6 +13,7 @@ from .worlds import Row, World
 
 def columns(rows: List[List[str]]) -> List[str]:
     """Rows of cells as lines, the cells of a column below one another."""
+    rows = [list(map(escaped, row)) for row in rows]
     widths = [max(map(len, column)) for column in zip(*rows)]
     return ["  ".join(cell.ljust(width) for cell, width in zip(row, widths)).rstrip() for row in rows]
 

@@ -2,7 +2,7 @@
 
 import re
 from dataclasses import dataclass, field
-from typing import Iterator, List, NoReturn, Optional, Tuple
+from typing import Dict, Iterator, List, NoReturn, Optional, Tuple
 
 from .source import ORDER_MARK, Source
 
@@ -99,10 +99,13 @@ class Element:
     end: int
     attributes: List[Attribute]
     children: List["Element"] = field(default_factory=list)
+    named: Optional[Dict[str, Attribute]] = None
 
     def attribute(self, name: str) -> Optional[Attribute]:
         """The attribute of this name."""
-        return next((a for a in self.attributes if a.name == name), None)
+        if self.named is None:
+            self.named = {attribute.name: attribute for attribute in reversed(self.attributes)}
+        return self.named.get(name)
 
     def said(self, name: str) -> Optional[str]:
         """What the attribute of this name says."""
@@ -235,7 +238,7 @@ class Reader:
     def other_end(self, at: int, name: str, end: int) -> Finding:
         """An end mark of another element than the innermost one."""
         inner = self.open[-1]
-        line, _ = self.source.position(inner.at)
+        line = self.source.line_of(inner.at)
         helps = [f"<{inner.name}> needs </{inner.name}> before this mark, or /> at its own end"]
         if all(element.name != name for element in self.open):
             helps = [f"write </{inner.name}>, or the mark <{name}> that this one ends"]

@@ -32,8 +32,17 @@ def path_of(node: Node) -> str:
 
 
 def is_match(pattern: str, path: str) -> bool:
-    """Whether a pattern matches a path: each star stands for any text."""
-    return re.fullmatch(".*".join(map(re.escape, pattern.split("*"))), path, re.S) is not None
+    """Whether a pattern matches a path: each star stands for any text. Each part is taken where it comes first."""
+    first, *parts = pattern.split("*")
+    if not parts:
+        return pattern == path
+    at = len(first)
+    for part in parts[:-1]:
+        found = path.find(part, at)
+        if found < 0:
+            return False
+        at = found + len(part)
+    return path.startswith(first) and path.endswith(parts[-1]) and len(path) - len(parts[-1]) >= at
 
 
 def rule_of(rules: Rules, node: Node) -> Optional[Rule]:

@@ -1,18 +1,27 @@
 """A trace with the name of each node after its line, and the moment after each call."""
 
 import re
-from typing import BinaryIO, Iterator, Optional, Set
+from typing import BinaryIO, Iterable, Iterator, Optional, Set
 
 from .built_ins import NODES
+from .escapes import escaped
 from .listing import opening_said
 from .traces import HEADER
 from .trees import Node, TreeFile
 
-UID = re.compile(r"(?:node|call) ([0-9]+) .*|(?:fault|quench) [0-9]+ ([0-9]+)(?: .*)?|board [0-9]+ ([0-9]+) .*")
+UID = re.compile(r"(?:node|call) ([0-9]+) .*|(?:fault|quench|tell) [0-9]+ ([0-9]+)(?: .*)?|board [0-9]+ ([0-9]+) .*")
+
+
+# no line that the program prints has so many bytes
+MOST_LINE = 1 << 23
 
 
 class OtherTree(Exception):
     """A trace that is surely of another tree."""
+
+
+class NoTrace(Exception):
+    """What is surely no trace."""
 
 
 class Naming:
@@ -42,7 +51,7 @@ class Naming:
         is_call = line.startswith("call ")
         self.check(line, node, is_call)
         moment = f" at {self.moment}" if is_call else ""
-        return "\t" + name_said(node) + moment + around_said(node)
+        return "\t" + escaped(name_said(node) + moment + around_said(node))
 
     def check(self, line: str, node: Node, is_call: bool) -> None:
         """Raises where no run of this tree has the line: a leaf is called before it is RUNNING, and no other node is called."""
@@ -54,7 +63,7 @@ class Naming:
         if becomes_running and node.kind == "Leaf" and self.has_calls and self.before != f"call {node.uid} start RUNNING":
             raise OtherTree(f"the trace is of another tree: it has `{line}` without a call of {node.said()} before it")
 
-    def lines(self, trace: BinaryIO) -> Iterator[bytes]:
+    def lines(self, trace: Iterable[bytes]) -> Iterator[bytes]:
         """The lines of the trace, each with what belongs after it."""
         for line in trace:
             text = line.rstrip(b"\n")
@@ -67,6 +76,14 @@ class Naming:
         if not self.strange:
             return None
         return f"names: the trace has node {max(self.strange)}, and the tree has {len(self.file.nodes)}: it is of another tree"
+
+
+def lines_of(trace: BinaryIO) -> Iterator[bytes]:
+    """The lines of a file. Raises where one is longer than any line of a trace."""
+    for line in iter(lambda: trace.readline(MOST_LINE), b""):
+        if len(line) == MOST_LINE:
+            raise NoTrace(f"this is no trace: a line has more than {MOST_LINE - 1} bytes")
+        yield line
 
 
 def name_said(node: Node) -> str:

@@ -28,10 +28,10 @@ class Ended:
 
 def planned(text: str) -> Optional[Ended]:
     """How planning ended, by what it printed, if it found no plan."""
-    lines = text.splitlines()
-    end = END.fullmatch(lines[-1]) if lines else None
-    steps = [step.groups() for step in map(STEP.fullmatch, lines[:-1]) if step is not None]
-    if end is None or len(steps) != len(lines) - 1:
+    *lines, last, after = ["", *text.split("\n")]
+    end = END.fullmatch(last)
+    steps = [step.groups() for step in map(STEP.fullmatch, lines[1:]) if step is not None]
+    if after or end is None or len(steps) != len(lines) - 1:
         return None
     return Ended(end.group(1), end.group(2).split(" "), [(condition, action) for condition, action in steps])
 

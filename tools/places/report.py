@@ -1,17 +1,30 @@
 """Messages in the form of a compiler's: file, line, column, the line itself and a caret."""
 
+import itertools
+import os
+import signal
 import sys
 from dataclasses import dataclass, field
 from typing import Iterable, List, Optional
 
+from .escapes import escaped, shortened
 from .source import Source
 
 MOST_SHOWN = 110
 
 TAIL = 50
 
+# how many signs of a line are told, and how many lines of one message
+MOST_SIGNS, MOST_LINES = 600, 500
+
+# how many warnings of a call are told, and how many of one kind are looked for
+MOST_WARNINGS, MOST_FOUND = 20, 500
+
 # a variable of the environment: where it is set, a tool that fails in itself says so, and is not silent
 FAILS_ALOUD = "BT_FAILS_ALOUD"
+
+# how long a tool that explains or warns may work, in seconds; what it does is bounded otherwise
+MOST_SECONDS = 1.0
 
 
 @dataclass(frozen=True)
@@ -101,12 +114,34 @@ def width(sign: str) -> int:
     return 2 if unicodedata.east_asian_width(sign) in "WF" else 1
 
 
+def warning_lines(reports: List[Report]) -> List[str]:
+    """The lines of the first of these warnings, and how many more there are."""
+    lines = [line for report in reports[:MOST_WARNINGS] for line in report.lines()]
+    more = len(reports) - MOST_WARNINGS
+    return lines + [f"bt: {more} more warning{'s' * (more > 1)}"] if more > 0 else lines
+
+
+def end_after(seconds: float) -> None:
+    """Lets the process end without a word more when it has worked so long. The processor's time counts, so a machine that is
+    busy with other work changes nothing."""
+    def end(*_: object) -> None:
+        if FAILS_ALOUD in os.environ:
+            os.write(2, b"the time is over\n")
+        os._exit(int(FAILS_ALOUD in os.environ))
+
+    signal.signal(signal.SIGPROF, end)
+    signal.setitimer(signal.ITIMER_PROF, seconds)
+
+
 def tell(lines: Iterable[str]) -> None:
-    """Writes lines to standard error."""
-    text = "".join(line + "\n" for line in lines)
+    """Writes lines to standard error: each stays one line, whatever names it has of a file, and what is very long is cut."""
+    told = list(itertools.islice(lines, MOST_LINES + 1))
+    if len(told) > MOST_LINES:
+        told[MOST_LINES:] = ["bt: and so on"]
+    text = "".join(escaped(shortened(line, MOST_SIGNS), "\t") + "\n" for line in told)
     try:
         sys.stderr.flush()
-        sys.stderr.buffer.write(text.encode("utf-8", "surrogateescape"))
+        sys.stderr.buffer.write(text.encode("utf-8"))
         sys.stderr.buffer.flush()
     except OSError:
         pass

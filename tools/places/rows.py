@@ -41,7 +41,8 @@ def near_rows(file: TreeFile, world: World, id_: str) -> List[str]:
     """What else may be meant by a leaf's ID that has no row: a node that is not here, a row that no leaf uses, or any row."""
     if id_ in ABSENT:
         return [f"{id_} is no leaf of yours: {ABSENT[id_]}"]
-    unused = near(id_, [other for other in world.rows if other not in leaves_of(file)], 1)
+    leaves = leaves_of(file)
+    unused = near(id_, [other for other in world.rows if other not in leaves], 1)
     if unused:
         return [f"the row {unused[0]} is near, and no leaf uses it"]
     return meant(id_, world.rows)

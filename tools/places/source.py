@@ -1,10 +1,11 @@
 """A file with its lines, so that a place in it can be told as a line and a column."""
 
 import bisect
+import itertools
 import os
 import stat
 from dataclasses import dataclass, field
-from typing import List, Optional, Tuple
+from typing import List, Optional, Sequence, Tuple
 
 MOST_BYTES = 1_048_576
 
@@ -14,6 +15,8 @@ MISSING = "there is no such file"
 
 MOST_BESIDE = 1000
 
+SORTS = {stat.S_IFDIR: "a folder", stat.S_IFIFO: "a pipe", stat.S_IFSOCK: "a socket"}
+
 
 @dataclass
 class Source:
@@ -22,6 +25,7 @@ class Source:
     name: str
     data: bytes
     starts: List[int] = field(default_factory=list)
+    offsets: Sequence[int] = ()
 
     def __post_init__(self) -> None:
         self.starts = [0]
@@ -29,6 +33,13 @@ class Source:
         while at >= 0:
             self.starts.append(at + 1)
             at = self.data.find(b"\n", at + 1)
+
+    def byte_of(self, at: int) -> int:
+        """The byte at which the character of this number begins, in a file that is UTF-8."""
+        if not self.offsets:
+            begins = [at for at, byte in enumerate(self.data) if byte & 0xC0 != 0x80] if not self.data.isascii() else range(len(self.data))
+            self.offsets = [*begins, len(self.data)]
+        return self.offsets[at]
 
     def line_of(self, at: int) -> int:
         """The line of a place, from 1."""
@@ -69,13 +80,29 @@ def characters(part: bytes) -> str:
     return part.decode("utf-8", "replace")
 
 
+class NoFile(OSError):
+    """That a name is one of a pipe or a device, which may have no end and can be read only once."""
+
+
+def check_file(name: str) -> None:
+    """Raises where there is something else than a file, or nothing."""
+    mode = os.stat(name).st_mode
+    if not stat.S_ISREG(mode):
+        raise NoFile(0, f"it is {SORTS.get(stat.S_IFMT(mode), 'a device')}, and only a file is read here", name)
+
+
+def bytes_of(name: str, most: int = MOST_BYTES) -> bytes:
+    """What a file holds, cut one byte after so many, as the program cuts it. Raises where it can't be read; a pipe that
+    nobody writes to is not waited for."""
+    check_file(name)
+    with open(os.open(name, os.O_RDONLY | os.O_NONBLOCK), "rb") as opened:
+        return opened.read(most + 1)
+
+
 def read(name: str) -> Optional[Source]:
     """The file of this name, or none where it can't be read a second time as it was."""
     try:
-        if not stat.S_ISREG(os.stat(name).st_mode):
-            return None
-        with open(name, "rb") as opened:
-            return Source(name, opened.read())
+        return Source(name, bytes_of(name))
     except (OSError, ValueError):
         return None
 
@@ -92,6 +119,13 @@ def why_unreadable(name: str) -> Optional[str]:
         return reason(name, error)
 
 
+def complaint(error: "OSError | ValueError") -> str:
+    """What is wrong with a file that can't be read, in one line."""
+    if isinstance(error, OSError):
+        return f"{os.fsdecode(error.filename or '')}: {(error.strerror or 'an error').lower()}"
+    return str(error)
+
+
 def reason(name: str, error: OSError) -> str:
     """What the system says against a file, in words."""
     folder = os.path.dirname(name)
@@ -105,7 +139,8 @@ def reason(name: str, error: OSError) -> str:
 def beside(name: str) -> List[str]:
     """The names in the folder in which a file of this name would stand, if they are not very many."""
     try:
-        names = os.listdir(os.path.dirname(name) or ".")
+        with os.scandir(os.path.dirname(name) or ".") as entries:
+            names = sorted(entry.name for entry in itertools.islice(entries, MOST_BESIDE + 1))
     except OSError:
         return []
-    return sorted(names) if len(names) <= MOST_BESIDE else []
+    return names if len(names) <= MOST_BESIDE else []

@@ -56,7 +56,11 @@ class Node:
 
     def chain(self) -> List["Node"]:
         """The SubTree nodes round it, from the outermost."""
-        return [] if self.inside is None else self.inside.chain() + [self.inside]
+        found, around = [], self.inside
+        while around is not None:
+            found.append(around)
+            around = around.inside
+        return found[::-1]
 
     def last(self) -> "Node":
         """The last one, in pre-order, of the node and all below it."""
@@ -107,9 +111,8 @@ class TreeFile:
         """The chain of SubTree nodes that leads to a node, with lines."""
         parts = [f"tree '{self.main}'"]
         for around in node.chain():
-            line, _ = self.source.position(around.element.at)
             name = around.name() if around.name() == around.id else f"{around.id} '{around.name()}'"
-            parts.append(f"SubTree {name} (node {around.uid}, line {line})")
+            parts.append(f"SubTree {name} (node {around.uid}, line {self.source.line_of(around.element.at)})")
         return " > ".join(parts)
 
     def mapped(self, scope: int, key: str) -> Iterator[Tuple[int, str, Optional[Attribute]]]:

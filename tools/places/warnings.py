@@ -1,5 +1,6 @@
 """What the program reads over and a user may have meant: warnings of a tree file that was read."""
 
+import itertools
 import re
 from typing import Dict, Iterable, Iterator, List, Optional, Set, Tuple
 
@@ -8,10 +9,10 @@ from .explaining import run_of
 from .keys import key_warnings, literal_warnings
 from .marks import Attribute, Element
 from .mocks import rule_warnings
-from .near import distance, listed, near, plain
+from .near import Effort, distance, listed, near, plain
 from .opening import opened
 from .ports import input_warnings, leaf_warnings, like_warnings, row_warnings, test_warnings
-from .report import Place, Report
+from .report import MOST_FOUND, Place, Report
 from .trees import MODELS, PORTS, Node, TreeFile, is_remapped
 from .words import Command
 from .worlds import World
@@ -27,6 +28,7 @@ NUMBER = re.compile(r"\(node [0-9]+\)")
 
 def command_warnings(command: Command) -> List[Report]:
     """The warnings of the files that a command names; none where they can't be read as the program has read them."""
+    Effort.begin()
     if command.name == "check":
         file = opened(command.tree, command.main)
         return [] if file is None else warnings(file)
@@ -34,26 +36,28 @@ def command_warnings(command: Command) -> List[Report]:
     if run is None:
         return []
     if run.rules is not None and run.before is not None:
-        return [*rule_warnings(run.before, run.rules), *in_order(row_warnings(run.file, run.world))]
+        return [*itertools.islice(rule_warnings(run.before, run.rules), MOST_FOUND), *in_order(row_warnings(run.file, run.world))]
     return run_warnings(run.file, run.world)
 
 
 def warnings(file: TreeFile) -> List[Report]:
     """The warnings of a file, in the order of the file."""
     ignored = ignored_ports(file)
-    return in_order([*root_warnings(file), *guard_warnings(file), *model_warnings(file), *tree_warnings(file), *ignored.values(),
-                     *test_warnings(file), *leaf_warnings(file), *input_warnings(file), *like_warnings(file), *literal_warnings(file),
-                     *key_warnings(file, told=set(ignored))])
+    return in_order(root_warnings(file), guard_warnings(file), model_warnings(file), tree_warnings(file), ignored.values(),
+                    test_warnings(file), leaf_warnings(file), input_warnings(file), like_warnings(file), literal_warnings(file),
+                    key_warnings(file, told=set(ignored)))
 
 
 def run_warnings(file: TreeFile, world: World) -> List[Report]:
     """The warnings of a tree and the world over which it runs, in the order of the tree."""
-    return in_order([*row_warnings(file, world), *key_warnings(file, world)])
+    return in_order(row_warnings(file, world), key_warnings(file, world))
 
 
-def in_order(reports: Iterable[Report]) -> List[Report]:
-    """The reports in the order of the file, one for each place: a tree that is opened twice has its nodes twice."""
-    found = {(at_of(report), NUMBER.sub("", report.message)): report for report in reversed(list(reports))}
+def in_order(*parts: Iterable[Report]) -> List[Report]:
+    """The first reports of each part in the order of the file, one for each place: a tree that is opened twice has its
+    nodes twice."""
+    reports = [report for part in parts for report in itertools.islice(part, MOST_FOUND)]
+    found = {(at_of(report), NUMBER.sub("", report.message)): report for report in reversed(reports)}
     return sorted(found.values(), key=at_of)
 
 

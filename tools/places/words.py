@@ -68,7 +68,7 @@ def wrong(words: List[str]) -> Optional[str]:
         return "a command is missing"
     for word in words:
         if not is_utf8(word):
-            return f"{word!r} is not UTF-8"
+            return f"'{word}' is not UTF-8"
     form = COMMANDS.get(words[0])
     if form is None:
         asked = meant(words[0], COMMANDS)

@@ -1,4 +1,7 @@
-ghost use Rattle.std.specs.Prelude.{◌≡◌, ◌<◌, ◌≤◌, ◌+◌, ◌-◌, ◌^◌, [], OnOk, IsErrOf, IfSome, length};
+ghost use Rattle.std.specs.Prelude.{◌≡◌, ◌≢◌, ◌<◌, ◌≤◌, ◌+◌, ◌-◌, ◌^◌, [], OnOk, IfErr, IsErrOf, IfSome, length};
+ghost use Rattle.std.specs.Io.{ReadsAtMost};
+ghost use Rattle.std.specs.IoError.{error_kind};
+ghost use Rattle.std.specs.Io.KnownBytes.{ReadConsumes};
 ghost use Rattle.spec_outside.specs.Counts.{Rose};
 ghost use Rattle.base_outside.specs.Files.{IsPrefix};
 
@@ -6,7 +9,7 @@ use crate::shelf::Shelf;
 use base_texts::Name;
 use spec_outside::ShelfFault;
 use std::fs;
-use std::io::Read;
+use std::io::{self, ErrorKind, Read};
 use std::marker::Model;
 use std::rt::Files;
 
@@ -38,6 +41,26 @@ impl<R: Files + Drop> DirShelf<R> {
 /// The most bytes of one turn.
 const TURN: usize = 4096;
 
+/// One turn of reading. Where a signal interrupts it before it gives a byte it is tried again, as a write is.
+fn read_turn<F: Read>(file: &mut F, turn: &mut [u8]) -> io::Result<usize>
+    ensures bound { ReadsAtMost result turn.new }
+    ensures bytes { ReadConsumes (F.remaining file.old) (F.remaining file.new) result turn.new }
+    ensures size { length turn.new ≡ length turn.old }
+    ensures retried { IfErr result (λ error. error_kind error ≢ ErrorKind.Interrupted) }
+{
+    for _ in 0..u64::MAX {
+        match file.read(turn) {
+            Ok(given) => return Ok(given),
+            Err(error) => {
+                if error.kind() != ErrorKind::Interrupted {
+                    return Err(error);
+                }
+            }
+        }
+    }
+    Err(ErrorKind::Other.into())
+}
+
 /// Reads what is left of a file, in turns that each give at least one byte: one that gives none is the
 /// file's end. It stops after `limit + 1` bytes, with `TooLong`. `Failed` where the host fails to read,
 /// `NoMemory` (want of memory, that is, out of memory) where the room cannot grow.
@@ -55,7 +78,7 @@ fn read_turns<F: Read>(file: &mut F, room: &mut Vec<u8>, limit: u64) -> Result<(
     'turns: while room.len() as u64 <= limit {
         let left = (limit + 1) - room.len() as u64;
         let most = left.min(TURN as u64) as usize;
-        match file.read(&mut turn[..most]) {
+        match read_turn(file, &mut turn[..most]) {
             Err(_) => return Err(ShelfFault::Failed),
             Ok(0) => return Ok(()),
             Ok(given) => {

@@ -72,4 +72,3 @@ run_output tree world g = traced tree world g (run_over tree world (g.events wor
 abbrev pub joined_output : Option JoinFault → Tree → World → Given → Output
 joined_output None tree world g = run_output tree world g
 joined_output (Some fault) tree world g = join_refused fault
-

@@ -86,7 +86,10 @@ pub enum What {
     /// Halts this runner.
     Halt(u8),
     /// Changes the fact of this number.
-    Change { fact: u32, value: i64 },
+    Change {
+        fact: u32,
+        value: i64,
+    },
     /// Tells the leaf of this uid of a runner.
     Tell {
         runner: u8,

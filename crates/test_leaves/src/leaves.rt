@@ -339,10 +339,10 @@ fn answers_text<D: Drivers>(
 /// The values that were told last, as `; told p=5`; nothing where there is none.
 fn told_text(alloc: Global, told: Option<Items<ToldOut>>) -> Result<String, NoMemory> {
     let mut text = String::new(alloc);
-    let Some(told) = told else {
-        return Ok(text);
-    };
-    text.push_str("; told")?;
+    let told = told.unwrap_or(Items::of(Vec::new(alloc)));
+    if !told.list().is_empty() {
+        text.push_str("; told")?;
+    }
     for out in told.list() {
         let Ok(port) = str::from_utf8(out.port.list()) else {
             continue;

@@ -153,13 +153,15 @@ call 2 start SUCCESS
 node 2 IDLE SUCCESS
 call 3 start RUNNING
 node 3 IDLE RUNNING
+node 2 SUCCESS IDLE
 root 1 RUNNING
 tick 1 at 10
 call 2 start SUCCESS
+node 2 IDLE SUCCESS
 call 3 running RUNNING
+node 2 SUCCESS IDLE
 root 1 RUNNING
 halt 1 at 10
-node 2 SUCCESS IDLE
 call 3 halted
 node 3 RUNNING IDLE
 node 1 RUNNING IDLE
@@ -169,11 +171,12 @@ call 2 start SUCCESS
 node 2 IDLE SUCCESS
 call 3 start RUNNING
 node 3 IDLE RUNNING
+node 2 SUCCESS IDLE
 root 1 RUNNING
 tell 1 2 FAILURE at 20
 tick 1 at 20
 call 2 start FAILURE
-node 2 SUCCESS FAILURE
+node 2 IDLE FAILURE
 node 2 FAILURE IDLE
 call 3 halted
 node 3 RUNNING IDLE

@@ -7,6 +7,7 @@ use Rattle.spec_world.specs.declared.world.Event.{Event}
 use Rattle.spec_world.specs.declared.world.What.TheVariants.{Tick}
 use Rattle.spec_world.specs.declared.world.World.{World}
 use Rattle.spec_run.specs.Run.{RunState, Stepped, Trace, before_rest, finish, finishes, run_from, step, then_rest}
+use Rattle.spec_run.specs.Served.{Setup}
 use Rattle.run_loop.specs.Steps.{CanCome}
 use Rattle.text_trace.specs.Going.{finishes_then}
 use Rattle.spec_output.specs.Rounds.{events_then, fault_in, live_events, nothing_more, round_of, ticks_from}
@@ -93,9 +94,9 @@ rounds_front tree world last xs ys s none =
 -- ---- What can come
 
 -- the event that comes next can, and those after it
-pub come_next : (world : World) (last : ℕ) (events : List Event) (i : ℕ) (e : Event) → i < length events → CanAllCome world last (drop i events) →
-    CanCome world last (get_or events i e) × CanAllCome world (get_or events i e).at (drop (i + 1) events)
-come_next world last events i e low can = subst (CanAllCome world last) (drop_more events i e low) can
+pub come_next : (of : Setup) (last : ℕ) (events : List Event) (i : ℕ) (e : Event) → i < length events → CanAllCome of last (drop i events) →
+    CanCome of last (get_or events i e) × CanAllCome of (get_or events i e).at (drop (i + 1) events)
+come_next of last events i e low can = subst (CanAllCome of last) (drop_more events i e low) can
 
 pub last_next : (last : ℕ) (events : List Event) (i : ℕ) (e : Event) → i < length events → last_moment last (drop i events) ≡ last_moment (get_or events i e).at (drop (i + 1) events)
 last_next last events i e low = ap (last_moment last) (drop_more events i e low)
@@ -104,15 +105,15 @@ pub last_end : (last : ℕ) (events : List Event) (i : ℕ) → length events �
 last_end last events i all = ap (last_moment last) (drop_all i events all)
 
 -- a round at a moment that is not below the last one
-ticks_can_come : (world : World) (last at runner many : ℕ) → last ≤ at → 1 ≤ runner → runner + many ≤ world.runners + 1 → CanAllCome world last (ticks_from runner many at)
-ticks_can_come world last at runner zero low first within = tt
-ticks_can_come world last at runner (suc others) low first within = (
-  ((first, omega (arith, within)), low),
-  ticks_can_come world at at (runner + 1) others (omega arith) (omega arith) (omega (arith, within)),
+ticks_can_come : (of : Setup) (last at runner many : ℕ) → last ≤ at → 1 ≤ runner → runner + many ≤ of.world.runners + 1 → CanAllCome of last (ticks_from runner many at)
+ticks_can_come of last at runner zero low first within = tt
+ticks_can_come of last at runner (suc others) low first within = (
+  ((first, omega (arith, within)), (low, refl)),
+  ticks_can_come of at at (runner + 1) others (omega arith) (omega arith) (omega (arith, within)),
 )
 
-pub round_can_come : (world : World) (last at : ℕ) → last ≤ at → CanAllCome world last (round_of world.runners at)
-round_can_come world last at low = ticks_can_come world last at 1 world.runners low (omega arith) (omega arith)
+pub round_can_come : (of : Setup) (last at : ℕ) → last ≤ at → CanAllCome of last (round_of of.world.runners at)
+round_can_come of last at low = ticks_can_come of last at 1 of.world.runners low (omega arith) (omega arith)
 
 ticks_last : (last at runner many : ℕ) → last ≤ at → last_moment last (ticks_from runner many at) ≤ at
 ticks_last last at runner zero low = low

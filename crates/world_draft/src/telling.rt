@@ -1,6 +1,5 @@
-ghost use Rattle.std.specs.Prelude.{◌≡◌, ◌≤◌, IfOk, IsTrue, [], length, map, true, false};
+ghost use Rattle.std.specs.Prelude.{◌≡◌, ◌||◌, IfOk, [], length, map, nat_lt, true, false};
 ghost use Rattle.std.specs.List.{list_all, list_any};
-ghost use Rattle.spec_world.specs.Worlds.{ports_told};
 ghost use Rattle.spec_world_file.specs.WorldFile as file;
 ghost use Rattle.spec_world_file.specs.WorldFile.{repeats};
 ghost use Rattle.world_draft.specs.Lines.Written.{seen_out, seen_value};
@@ -47,6 +46,13 @@ fn some_long(outs: &[WrittenOut]) -> bool
     ensures { result ≡ list_any (λ out. file.is_long (seen_value out.value)) outs.now }
 {
     outs.iter().any(|out| is_long(&out.value))
+}
+
+/// Whether there are too many outputs, or some value is a text that is too long.
+fn are_many(outs: &[WrittenOut]) -> bool
+    ensures { result ≡ (nat_lt 8 (length outs.now) || list_any (λ out. file.is_long (seen_value out.value)) outs.now) }
+{
+    outs.len() > MOST_OUTPUTS || some_long(outs)
 }
 
 /// Whether an output stands twice.
@@ -101,7 +107,7 @@ pub fn told_outs(alloc: Global, outs: &[WrittenOut]) -> Result<Items<ToldOut>, S
     if has_double(alloc, outs)? {
         return Err(Stop::Fault(WorldKind::DoubleName));
     }
-    if outs.len() > MOST_OUTPUTS || some_long(outs) {
+    if are_many(outs) {
         return Err(Stop::Fault(WorldKind::TooMany));
     }
     Ok(Items::of(told(alloc, outs)?))

@@ -479,7 +479,43 @@ tick 2
 at 40
 tick 1
 ",
-    want: "?",
+    want: "\
+tick 1 at 0
+node 1 IDLE RUNNING
+call 2 start FAILURE
+node 2 IDLE FAILURE
+node 2 FAILURE IDLE
+node 1 RUNNING FAILURE
+root 1 FAILURE
+node 1 FAILURE IDLE
+tell 1 2 SUCCESS at 0
+tick 1 at 20
+node 1 IDLE RUNNING
+call 2 start SUCCESS
+node 2 IDLE SUCCESS
+call 3 start RUNNING
+node 3 IDLE RUNNING
+root 1 RUNNING
+tell 1 3 FAILURE at 20
+tick 2 at 20
+node 1 IDLE RUNNING
+call 2 start FAILURE
+node 2 IDLE FAILURE
+node 2 FAILURE IDLE
+node 1 RUNNING FAILURE
+root 2 FAILURE
+node 1 FAILURE IDLE
+tick 1 at 40
+call 3 running FAILURE
+node 3 RUNNING FAILURE
+node 2 SUCCESS IDLE
+node 3 FAILURE IDLE
+node 1 RUNNING FAILURE
+root 1 FAILURE
+node 1 FAILURE IDLE
+finish 1 at 40
+finish 2 at 40
+",
 };
 
 /// What is told is for no leaf.

@@ -5,9 +5,9 @@ use Rattle.spec_script.specs.declared.value.Value.TheVariants as value
 use Rattle.spec_script.specs.declared.value.Value.{Value}
 use Rattle.spec_world.specs.declared.world.ToldOut.{ToldOut}
 use Rattle.spec_world_file.specs.WorldFile.{BeginsWith}
-use Rattle.world_draft.specs.declared.lines.told.Written.{Written}
-use Rattle.world_draft.specs.declared.lines.told.Written.TheVariants.{Number, Text}
-use Rattle.world_draft.specs.declared.lines.told.WrittenOut.{WrittenOut}
+use Rattle.world_draft.specs.declared.lines.values.Written.{Written}
+use Rattle.world_draft.specs.declared.lines.values.Written.TheVariants.{Number, Text}
+use Rattle.world_draft.specs.declared.lines.values.WrittenOut.{WrittenOut}
 
 -- the value that is written
 abbrev pub seen_value : Written → Value

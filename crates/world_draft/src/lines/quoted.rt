@@ -1,4 +1,4 @@
-ghost use Rattle.std.specs.Prelude.{◌≡◌, ◌*◌, ◌+◌, IfOk, option_map};
+ghost use Rattle.std.specs.Prelude.{◌≡◌, ◌≤◌, length, IfOk, IfSome, option_map};
 ghost use Rattle.spec_world_file.specs.WorldFile as file;
 ghost use Rattle.spec_world_file.specs.WorldFile.{digit_value};
 ghost use Rattle.world_draft.specs.Lines.Quotes.{EscapeAtFront, ByteAtFront, byte_of};
@@ -50,7 +50,8 @@ fn byte_at_front(text: &[u8]) -> Option<(u8, &[u8])>
 
 /// The text from after its first quote on, and what follows its last one. None where no text ends there.
 pub fn text_to_quote(alloc: Global, text: &[u8]) -> Result<Option<(Vec<u8>, &[u8])>, NoMemory>
-    ensures { IfOk result (λ found. option_map (λ x. (x.0.items, x.1.now)) found ≡ file.text_to_quote text.now) }
+    ensures found { IfOk result (λ found. option_map (λ x. (x.0.items, x.1.now)) found ≡ file.text_to_quote text.now) }
+    ensures within { IfOk result (λ found. IfSome found (λ x. length x.1.now ≤ length text.now)) }
 {
     let mut bytes = Vec::new(alloc);
     let mut rest = text;

@@ -10,7 +10,7 @@ loop-next-init g c = record { made = part_none g.of _ _ _ c.requires.1.1.0.are (
 pub make_event-requires : goal.make_event-requires
 make_event-requires g c = λ lifetimes live.
     let low : c.loop-next.next-index < length c.args.events.now = omega arith in
-    (live.0, (live.1, (go_on g.of _ _ _ _ c.loop-next.invariant.made c.requires.1.1.0, (come_next g.of.world _ _ _ _ low c.loop-next.invariant.come).0)))
+    (live.0, (live.1, (go_on g.of _ _ _ _ c.loop-next.invariant.made c.requires.1.1.0, (come_next g.of _ _ _ _ low c.loop-next.invariant.come).0)))
 
 pub returns-in-Faulted-clause-made : goal.returns-in-Faulted-clause-made
 returns-in-Faulted-clause-made g c =
@@ -25,7 +25,7 @@ loop-next-preserved g c =
     let last = c.make_event.ensures.last done in
     record {
       made = part_on g.of _ _ _ _ c.make_event.result _ _ _ done c.loop-next.invariant.made (λ rest. event_next g.of.tree g.of.world c.args.events.now c.loop-next.next-index _ rest _ low) c.make_event.ensures.made;
-      come = subst (λ (x : _). CanAllCome g.of.world x (drop (c.loop-next.next-index + 1) c.args.events.now)) (sym last) (come_next g.of.world _ _ _ _ low c.loop-next.invariant.come).1;
+      come = subst (λ (x : _). CanAllCome g.of x (drop (c.loop-next.next-index + 1) c.args.events.now)) (sym last) (come_next g.of _ _ _ _ low c.loop-next.invariant.come).1;
       last = ap (λ (x : _). last_moment x (drop (c.loop-next.next-index + 1) c.args.events.now)) last ∙ sym (last_next _ c.args.events.now c.loop-next.next-index _ low) ∙ c.loop-next.invariant.last;
     }
 
