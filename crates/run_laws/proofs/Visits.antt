@@ -49,7 +49,7 @@ shape_rests status.Success kind ports row moment memo ss rests shape = shape
 shape_rests status.Failure kind ports row moment memo ss rests shape = shape
 
 -- what a node remembers is a memo of a node that is not RUNNING
-remembered_shape : (st : Status) (ports : List Port) (moment : ℕ) (memo : Memo) (kind : Kind) (ss : List Status) → RestingShape ports moment memo kind ss → RestingShape ports moment (remembers st memo) kind ss
+pub remembered_shape : (st : Status) (ports : List Port) (moment : ℕ) (memo : Memo) (kind : Kind) (ss : List Status) → RestingShape ports moment memo kind ss → RestingShape ports moment (remembers st memo) kind ss
 remembered_shape status.Idle ports moment (Paced p) RateController ss shape = shape.2
 remembered_shape status.Idle ports moment (Paced p) _ ss shape = absurd shape
 remembered_shape _ ports moment _ kind ss shape = shape
