@@ -12,7 +12,6 @@ use Rattle.spec_run.specs.declared.fault.PortId.{PortId}
 use Rattle.spec_run.specs.declared.fault.PortId.TheVariants as port
 use Rattle.spec_run.specs.declared.memory.Memo.{Memo}
 use Rattle.spec_run.specs.declared.memory.Memo.TheVariants.{Nothing, Index, Turns as Turned, Since as Begun, Finished, Recoveries as Recovered, Rotation as Rotating, Pace as Paced}
-use Rattle.spec_run.specs.declared.memory.Rotation.{Rotation}
 use Rattle.spec_run.specs.declared.status.Answer.{Answer}
 use Rattle.spec_run.specs.declared.status.Answer.TheVariants as answer
 use Rattle.spec_run.specs.declared.status.Status.{Status}

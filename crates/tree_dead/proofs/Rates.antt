@@ -1,5 +1,5 @@
 -- RateController.
-use Rattle.std.proofs.Common.{◌≡◌, ℕ, List, Bool, true, refl}
+use Rattle.std.proofs.Common.{◌≡◌, ℕ, List, Bool, true, false, refl}
 use Rattle.std.proofs.lemmas.Bool.{cond_both}
 use Rattle.spec_run.specs.declared.memory.Memo.TheVariants.{Pace as Paced}
 use Rattle.spec_run.specs.declared.memory.Pace.{Pace}

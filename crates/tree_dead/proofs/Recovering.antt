@@ -12,7 +12,7 @@ use Rattle.spec_tree.specs.declared.term.Port.{Port}
 use Rattle.spec_tree.specs.declared.term.PortValue.{PortValue}
 use Rattle.spec_world.specs.declared.world.Row.{Row}
 use Rattle.spec_run.specs.Rules.Recoveries.{attempt, attempt_after, attempt_on, one_recovered, recover, recoveries_left, recovery_after, recovery_node}
-use Rattle.spec_run.specs.Steps.{Rule, visit}
+use Rattle.spec_run.specs.Steps.{Rule, over, visit}
 use Rattle.spec_dead.specs.declared.answers.Answers.{Answers}
 use Rattle.spec_dead.specs.Answers.{only, only_if}
 use Rattle.spec_dead.specs.Reached.{answers_at, given, is_zero, may_recover, recovery_reached}

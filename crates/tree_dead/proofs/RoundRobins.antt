@@ -63,9 +63,9 @@ fails_here (c ∷ cs) (suc place) within fails = or_right c.failure (some_fails 
 
 ends_so : (a : Answer) (set : Answers) → (a ≡ answer.Running → ⊥) → Has a set → may_end set ≡ true
 ends_so answer.Running set other has = absurd (other refl)
-ends_so answer.Success set other has = or_left set.success (set.failure || set.skipped) has
-ends_so answer.Failure set other has = or_right set.success (set.failure || set.skipped) (or_left set.failure set.skipped has)
-ends_so answer.Skipped set other has = or_right set.success (set.failure || set.skipped) (or_right set.failure set.skipped has)
+ends_so answer.Success set other has = or_left (set.success || set.failure) set.skipped (or_left set.success set.failure has)
+ends_so answer.Failure set other has = or_left (set.success || set.failure) set.skipped (or_right set.success set.failure has)
+ends_so answer.Skipped set other has = or_right (set.success || set.failure) set.skipped has
 
 module _ (children : List Answers) where
   abbrev stopping : Answers

@@ -57,8 +57,8 @@ fn round_reached(kind: Kind, children: &[Answers]) -> (Answers, bool)
     (reached, passes)
 }
 
-/// What a node of this kind may answer that visits its children in a round. `skips` says whether it
-/// may be skipped.
+/// What a node may answer that visits its children in a round, as one of this kind does. `skips` says
+/// whether it may be skipped.
 fn round_answers(kind: Kind, skips: bool, children: &[Answers]) -> Answers
     ensures { result ≡ rounded kind skips children.now }
 {
@@ -193,12 +193,18 @@ pub(crate) fn rule_answers(
     ensures { result ≡ rule_answers kind ports.now children.now }
 {
     match kind {
-        Kind::Sequence
-        | Kind::ReactiveSequence
-        | Kind::Fallback
-        | Kind::ReactiveFallback
-        | Kind::PipelineSequence => round_answers(kind, all_skip(children), children),
-        Kind::SequenceWithMemory => round_answers(kind, last_skips(children), children),
+        Kind::Sequence | Kind::ReactiveSequence => {
+            round_answers(Kind::Sequence, all_skip(children), children)
+        }
+        Kind::SequenceWithMemory => {
+            round_answers(Kind::Sequence, last_skips(children), children)
+        }
+        Kind::Fallback | Kind::ReactiveFallback => {
+            round_answers(Kind::Fallback, all_skip(children), children)
+        }
+        Kind::PipelineSequence => {
+            round_answers(Kind::PipelineSequence, all_skip(children), children)
+        }
         Kind::RecoveryNode => {
             recovery_answers(ports, answers_at(children, 0), answers_at(children, 1))
         }
