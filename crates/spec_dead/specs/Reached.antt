@@ -20,6 +20,11 @@ use Rattle.spec_dead.specs.Answers.{may, only}
 abbrev pub answers_at : List Answers → ℕ → Answers
 answers_at children place = slice_index_or children place (only Skipped)
 
+-- whether something holds of what each child before a place may answer
+abbrev pub all_before : (Answers → Bool) → List Answers → ℕ → Bool
+all_before holds children zero = true
+all_before holds children (suc place) = all_before holds children place && holds (answers_at children place)
+
 -- ---- Sequences and Fallbacks
 
 -- a child may let its round go on, which goes on after SKIPPED and after this answer
@@ -28,8 +33,7 @@ may_pass goes child = may goes child || child.skipped
 
 -- whether all children before a place may let the round go on
 abbrev pub all_pass : Answer → List Answers → ℕ → Bool
-all_pass goes children zero = true
-all_pass goes children (suc place) = all_pass goes children place && may_pass goes (answers_at children place)
+all_pass goes children place = all_before (may_pass goes) children place
 
 -- ---- Switch
 
@@ -94,17 +98,18 @@ abbrev pub may_recover : List Port → Answers → Bool
 may_recover ports first = first.failure && not (is_zero (given ports (codes "number_of_retries")))
 
 -- the first child of a RecoveryNode, and the second where the first may fail and a recovery may be left
-abbrev pub recovery_reached : List Port → List Answers → ℕ → Bool
-recovery_reached ports children zero = true
-recovery_reached ports children (suc zero) = may_recover ports (answers_at children 0)
-recovery_reached ports children _ = false
+abbrev pub recovery_reached : List Port → Answers → ℕ → Bool
+recovery_reached ports first zero = true
+recovery_reached ports first (suc zero) = may_recover ports first
+recovery_reached ports first _ = false
 
--- whether all children of a PipelineSequence before a place may let it go on, as RUNNING of a child does that is not the
--- farthest
+-- a child may let its PipelineSequence go on, as RUNNING of a child does that is not the farthest
+abbrev pub may_flow : Answers → Bool
+may_flow child = may_pass Success child || child.running
+
+-- whether all children of a PipelineSequence before a place may let it go on
 abbrev pub all_flow : List Answers → ℕ → Bool
-all_flow children zero = true
-all_flow children (suc place) =
-    all_flow children place && (may_pass Success (answers_at children place) || (answers_at children place).running)
+all_flow children place = all_before may_flow children place
 
 -- whether a child may answer other than RUNNING
 abbrev pub may_end : Answers → Bool
@@ -112,8 +117,7 @@ may_end child = child.success || child.failure || child.skipped
 
 -- whether all children of a RoundRobin before a place may answer other than RUNNING
 abbrev pub all_end : List Answers → ℕ → Bool
-all_end children zero = true
-all_end children (suc place) = all_end children place && may_end (answers_at children place)
+all_end children place = all_before may_end children place
 
 -- ---- All kinds
 
@@ -127,7 +131,7 @@ reaches ReactiveFallback ports children place = all_pass Failure children place
 reaches (Switch cases) ports children place = may_be_selected (always_selected (ports_of (Switch cases)) ports) place
 reaches IfThenElse ports children place = branch_reached (answers_at children 0) place
 reaches WhileDoElse ports children place = branch_reached (answers_at children 0) place
-reaches RecoveryNode ports children place = recovery_reached ports children place
+reaches RecoveryNode ports children place = recovery_reached ports (answers_at children 0) place
 reaches PipelineSequence ports children place = all_flow children place
 reaches RoundRobin ports children place = all_end children place
 reaches AlwaysSuccess ports children place = false

@@ -70,12 +70,16 @@ pipeline_answers children =
     either (without Skipped (without Success (reached_answers (all_flow children) 0 children)))
     (either (only_if (all_flow children (length children) && some_seen Success children) (only Success)) (only_if (all_skip children) (only Skipped)))
 
+-- whether some child may fail
+abbrev pub some_fails : List Answers → Bool
+some_fails children = list_any (λ (child : Answers). child.failure) children
+
 -- A RoundRobin ends at a child that is reached and succeeds or is RUNNING. It fails where every child may fail or be
 -- skipped, and some child fails; and it is skipped where all are.
 abbrev pub robin_answers : List Answers → Answers
 robin_answers children =
     either (without Skipped (without Failure (reached_answers (all_end children) 0 children)))
-    (either (only_if (all_pass Failure children (length children) && list_any (λ (child : Answers). child.failure) children) (only Failure)) (only_if (all_skip children) (only Skipped)))
+    (either (only_if (all_pass Failure children (length children) && some_fails children) (only Failure)) (only_if (all_skip children) (only Skipped)))
 
 -- ---- Decorators
 

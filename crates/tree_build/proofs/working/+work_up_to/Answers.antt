@@ -16,7 +16,7 @@ returns t c =
     let value = ap (λ (xs : List Term). min most (below + sum (map work_of xs))) (sym (drop_of_length-le items {i = c.loop-child.child-index} ended)) ∙ c.loop-child.invariant.value in
     let first : c.loop-child.first ≡ first_work most items = c.loop-child.invariant.first ∙ ap (first_work most) (take_all c.loop-child.child-index items ended) in
     let once : more ≡ min most (once_more node.kind (map work_of items)) =
-        c.once_more.ensures ∙ ap (λ (o : Option ℕ). once_more node.kind (option_to_list o)) first ∙ more_up_to node.kind most items in
+    c.once_more.ensures ∙ ap (λ (o : Option ℕ). once_more node.kind (option_to_list o)) first ∙ more_up_to node.kind most items in
     c.with_own.ensures
     ∙ ap (λ (times : ℕ). min most (1 + (times * below + more))) (c.times_of-times.ensures ∙ ap (times_of node.kind) c.list.ensures)
     ∙ limited most (times_of node.kind node.ports) below (sum (map work_of items)) more (once_more node.kind (map work_of items)) c.loop-child.invariant.small value once
