@@ -57,7 +57,7 @@ pub rows_once : (world : World) → IsValidWorld world → All TellsEachOnce wor
 rows_once world valid k row within =
     let is = valid.rows k row within in
     record {
-      bare = λ told. (is.bare (told_not_modelled _ told)).1.1;
+      bare = λ told. (is.bare (told_not_modelled _ told)).2;
       distinct = names_differ world.facts _ _ is.sort;
     }
 

@@ -156,8 +156,8 @@ module _ (tree : Tree) (world : World) (run : RunState) (steady : RunSteady tree
   tell_steady runner uid telling (Some r) is =
       let c : Call = tell_call uid telling (slice_index_or r.instances uid fresh) in
       let here : Steady tree.term world.rows r.memory (state_of (called r c) run.facts at) =
-          steady_since tree.term world.rows r.memory (state_of r run.facts at) (state_of (called r c) run.facts at) (λ p. told_since r.instances uid p telling) (length-set r.instances uid c.left) (omega arith)
-          (runner_later tree world.rows run steady at ahead (runner - 1) r run.facts is)
+      steady_since tree.term world.rows r.memory (state_of r run.facts at) (state_of (called r c) run.facts at) (λ p. told_since r.instances uid p telling) (length-set r.instances uid c.left) (omega arith)
+      (runner_later tree world.rows run steady at ahead (runner - 1) r run.facts is)
       in
       λ k x found. set_entry (λ (y : Runner). Steady tree.term world.rows y.memory (state_of y run.facts at)) run.runners (runner - 1) k (called r c) x here (λ y old. runner_later tree world.rows run steady at ahead k y run.facts old) found
 

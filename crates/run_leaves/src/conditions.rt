@@ -156,7 +156,7 @@ impl Driver for Conditions {
             record_running(&mut self.ledger, call.instance, reply);
             return reply;
         }
-        self.ledger.count(Phase::Start, call.instance);
+        self.ledger.count_start(call.instance);
         Self::answer(call.row, call.inputs, facts, outs)
     }
 

@@ -2,6 +2,7 @@ ghost use Rattle.std.specs.Prelude.{◌≡◌, ◌<◌, ◌^◌, IfOk, OnOk, OnE
 ghost use Rattle.spec_run.specs.Drivers.{after_call, counted, instance_of, is_held, new_driver, prepared};
 ghost use Rattle.base_tables.specs.DriverCalls.{after_halted, held_count};
 ghost use Rattle.spec_run.specs.Leaf as leaf;
+ghost use Rattle.spec_run.specs.declared.leaf.Phase.TheVariants as phase;
 
 use crate::instances::{fresh, released};
 use crate::tally::{count, no_calls};
@@ -106,12 +107,18 @@ impl Ledger {
         self.table[instance as usize]
     }
 
-    /// Counts a call for an instance, in place.
+    /// Counts a call to begin of a leaf that is not held, and leaves its instance as it is. The instance is looked at for
+    /// the contract alone, which says that it was told nothing.
     #[inline(always)]
-    pub fn count(&mut self, phase: Phase, instance: u32)
-        ensures { self.new ≡ record self.old { totals = counted self.old.totals phase instance } }
+    pub fn count_start(&mut self, instance: u32)
+        requires there { instance < length self.old.table }
+        requires free { (instance_of self.old instance).since ≡ None }
+        ensures totals { self.new ≡ record self.old { totals = counted self.old.totals phase.Start instance } }
+        ensures left { leaf.released (instance_of self.old instance) ≡ instance_of self.old instance }
     {
-        count(&mut self.totals, phase, instance);
+        let hold = &self.table[instance as usize];
+        let _ = &hold.since;
+        count(&mut self.totals, Phase::Start, instance);
     }
 
     /// Counts a call for an instance, which leaves the instance so.
@@ -120,7 +127,7 @@ impl Ledger {
         requires { instance < length self.old.table }
         ensures { self.new ≡ after_call self.old phase instance left }
     {
-        self.count(phase, instance);
+        count(&mut self.totals, phase, instance);
         self.table[instance as usize] = left;
     }
 

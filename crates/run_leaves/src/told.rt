@@ -56,8 +56,7 @@ fn heed(kept: &mut Instance, outs: &mut Outs) -> Reply
             outs.clear();
             Reply::Success
         }
-        Some(Telling::Failure) => Reply::Failure,
-        None => Reply::Failure,
+        Some(Telling::Failure) | None => Reply::Failure,
     }
 }
 
@@ -131,7 +130,7 @@ impl Driver for Told {
         Ok(())
     }
 
-    fn call(&mut self, call: &Call, facts: &mut FactTable, outs: &mut Outs) -> Reply {
+    fn call(&mut self, call: &Call, _facts: &mut FactTable, outs: &mut Outs) -> Reply {
         count(&mut self.totals, call.phase.asked(), call.instance);
         let kept = &mut self.table[call.instance as usize];
         match &call.row.sort {

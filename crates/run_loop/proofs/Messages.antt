@@ -1,20 +1,29 @@
 -- A leaf that is told something, compared with the definition's step.
-use Rattle.std.proofs.Common.{◌≡◌, ℕ, ◌+◌, ◌-◌, List, [], ◌∷◌, Bool, true, false, if◌then◌else◌, Option, Some, None, Ok, map, length, get_or, slice_get, set, option_map, refl, sym, ap, subst, ◌∙◌, arith}
+use Rattle.std.proofs.Common.{◌≡◌, ℕ, ◌+◌, ◌-◌, List, [], ◌∷◌, ◌++◌, Bool, true, false, if◌then◌else◌, Option, Some, None, IfSome, Ok, map, slice_get, set, option_map, refl, sym, ap, subst, ◌∙◌, arith}
 use Rattle.std.proofs.lemmas.List.{length-map, set-get_or}
 use Rattle.std.proofs.lemmas.Option.{get_or_from_slice_get, slice_get-map}
 use Rattle.spec_script.specs.declared.value.Value.{Value}
 use Rattle.spec_run.specs.declared.block.Header.TheVariants as header
 use Rattle.spec_run.specs.declared.join_fault.JoinFault.{JoinFault}
 use Rattle.spec_run.specs.declared.leaf.DriverKind.TheVariants as driver
+use Rattle.spec_run.specs.declared.fault.RunFault.{RunFault}
+use Rattle.spec_run.specs.declared.note.Note.{Note}
 use Rattle.spec_tree.specs.declared.term.Term.{Term}
+use Rattle.spec_tree.specs.declared.term.Tree.{Tree}
+use Rattle.spec_world.specs.declared.world.Event.{Event}
 use Rattle.spec_world.specs.declared.world.Telling.{Telling}
-use Rattle.spec_world.specs.declared.world.What.TheVariants.{Tell}
+use Rattle.spec_world.specs.declared.world.What.{What}
+use Rattle.spec_world.specs.declared.world.What.TheVariants.{Tick, Halt, Change, Tell}
+use Rattle.spec_world.specs.declared.world.World.{World}
+use Rattle.spec_world.specs.Worlds.{IsValidWhat}
 use Rattle.spec_run.specs.Done.{Call}
 use Rattle.spec_run.specs.Drivers.{DriverState}
+use Rattle.spec_run.specs.Joins.{event_lacks}
 use Rattle.spec_run.specs.Rosters.{IsSameRoster}
-use Rattle.spec_run.specs.Run.{RunState, Runner, RunnerCall, called, changed_boards, changed_entries, root_view, runner_at, runner_calls, succeeds, tell_step}
+use Rattle.spec_run.specs.Run.{RunState, Runner, RunnerCall, Stepped, called, changed_boards, changed_entries, quench_calls, quench_notes, root_view, runner_at, runner_calls, step, step_by, succeeds, tell_step}
 use Rattle.base_tables.specs.DriverCalls.{kind_of_way}
 use Rattle.spec_run.specs.Served.{Setup}
+use Rattle.spec_tree.specs.Trees.{nodes_of}
 use Rattle.run_laws.proofs.Events.{step_steady}
 use Rattle.run_driver.specs.declared.sort.ReadySort.{ReadySort}
 use Rattle.run_driver.specs.declared.sort.ReadySort.TheVariants as ready
@@ -30,18 +39,34 @@ use Rattle.run_nodes.specs.Tellings.{CanBeTold, telling_at}
 use Rattle.run_loop.specs.declared.hearing.Message.{Message}
 use Rattle.run_loop.specs.declared.runs.ReadyRunner.{ReadyRunner}
 use Rattle.run_loop.specs.declared.runs.Runs.{Runs}
+use Rattle.run_loop.specs.Ending.{IsQuenched}
 use Rattle.run_loop.specs.Fitting.{is_ready_told, leaf_lacks}
-use Rattle.run_loop.specs.Hearing.{CanHear, message_step}
+use Rattle.run_loop.specs.Hearing.{CanHear, Tells, message_step}
 use Rattle.run_loop.specs.Parts.{scene_of}
-use Rattle.run_loop.specs.Runs.{RunnerFits, RunnersFit, arenas_of, roster_over, runner_in, runners_in, state_of_runs}
-use Rattle.run_loop.specs.Steps.{EventEnds, EventLeft, event_side}
+use Rattle.run_loop.specs.Runs.{AreRuns, RunnerFits, RunnersFit, arenas_of, roster_over, runner_in, runners_in, state_of_runs}
+use Rattle.run_loop.specs.Steps.{CanCome, EndsInFault, EventEnds, EventLeft, IsCutOff, event_side}
 use Rattle.run_loop.proofs.Groups.{none_changed}
 use Rattle.run_loop.proofs.Lacking.{telling_lacks}
 use Rattle.run_loop.proofs.Others.{over_runner}
 use Rattle.run_loop.proofs.Putting.{fit_put, nodes_are, runners_put}
 use Rattle.run_loop.proofs.Rising.{over_same}
-use Rattle.run_loop.proofs.Stepping.{StayRuns, board_of, one_board, same_entries}
+use Rattle.run_loop.proofs.Stepping.{StayRuns, board_of, instances_are, one_board, same_entries}
 use Rattle.run_loop.proofs.Whole.{steady_after}
+
+-- ---- The event
+
+-- an event that tells a leaf something can be heard where it can come
+pub can_hear_event : (of : Setup) (drivers : List DriverState) (runs : Runs) (event : Event) (runner uid : ℕ) (telling : Telling) → event.what ≡ Tell runner uid telling →
+    AreRuns of.tree of.world drivers runs → CanCome of runs.last event → CanHear of (record { runner = runner; uid = uid; telling = telling; at = event.at }) drivers runs
+can_hear_event of drivers runs event runner uid telling is are can =
+    let valid : IsValidWhat of.world.facts of.world.runners (Tell runner uid telling) = subst (IsValidWhat of.world.facts of.world.runners) is can.0 in
+    record {
+      are = are;
+      first = valid.0;
+      last = valid.1;
+      known = subst (λ (what : What). event_lacks of.world.rows (nodes_of of.tree.term) what ≡ None) is can.2;
+      ahead = can.1;
+    }
 
 -- ---- The leaf
 
@@ -170,3 +195,44 @@ module _ (of : Setup) (message : Message) (drivers : List DriverState) (runs : R
         room = ap (λ (n : Noted). n.full) notes_are;
         roster = subst (IsSameRoster drivers) (sym drivers_now) (over_same (arenas_of runs) calls drivers);
       }
+
+-- ---- Want of memory
+
+-- nothing faults where a leaf is told something
+no_fault : (o : Option Runner) (runner uid : ℕ) (telling : Telling) (at : ℕ) (s : RunState) → (tell_step o runner uid telling at s).fault ≡ None
+no_fault None runner uid telling at s = refl
+no_fault (Some r) runner uid telling at s = refl
+
+no_fault_told : (what : What) (tree : Tree) (world : World) (at : ℕ) (s : RunState) → Tells what → (step_by what tree world at s).fault ≡ None
+no_fault_told (Tell runner uid telling) tree world at s tells = no_fault (runner_at s runner) runner uid telling at s
+no_fault_told (Tick runner) tree world at s tells = absurd tells
+no_fault_told (Halt runner) tree world at s tells = absurd tells
+no_fault_told (Change fact value) tree world at s tells = absurd tells
+
+-- an event that tells a leaf something is a telling
+pub is_telling : (what : What) → Tells what → ((runner uid : ℕ) (telling : Telling) → what ≡ Tell runner uid telling → ⊥) → ⊥
+is_telling (Tell runner uid telling) tells other = other runner uid telling refl
+is_telling (Tick runner) tells other = tells
+is_telling (Halt runner) tells other = tells
+is_telling (Change fact value) tells other = tells
+
+-- an event that tells a leaf something is cut off before it
+pub telling_cut : (tree : Tree) (world : World) (event : Event) (drivers after : List DriverState) (runs left : Runs) (told noted : List Note) → Tells event.what →
+    told ≡ [] → IsQuenched tree drivers after runs left told noted → IsCutOff (arenas_of left) drivers after noted (step tree world event (state_of_runs tree.term drivers runs))
+telling_cut tree world event drivers after runs left told noted tells none q =
+    let s : RunState = state_of_runs tree.term drivers runs in
+    let d : Stepped = step tree world event s in
+    record {
+      told = [];
+      untold = d.block.notes;
+      made = [];
+      unmade = d.calls;
+      held = s.runners;
+      all_notes = refl;
+      all_calls = refl;
+      named = refl;
+      before_fault = subst (λ (fault : Option RunFault). IfSome fault (λ f. EndsInFault f d.block.notes d.calls)) (sym (no_fault_told event.what tree world event.at s tells)) tt;
+      instances = instances_are tree.term drivers runs.runners.items ∙ ap (map (λ nodes. instances_of nodes drivers)) (sym q.arenas);
+      noted = q.notes ∙ ap (λ (ns : List Note). ns ++ quench_notes 1 s.runners) none;
+      drivers = q.drivers ∙ ap (λ (arenas : List (List Node)). roster_over arenas (quench_calls 1 s.runners) drivers) (sym q.arenas);
+    }

@@ -1,5 +1,5 @@
 -- What a leaf of a runner is told.
-use Rattle.std.specs.Prelude.{◌≡◌, ℕ, ◌≤◌, List, None}
+use Rattle.std.specs.Prelude.{◌≡◌, ◌≤◌, List, None}
 use Rattle.spec_world.specs.declared.world.What.{What}
 use Rattle.spec_world.specs.declared.world.What.TheVariants.{Tell}
 use Rattle.spec_run.specs.Drivers.{DriverState}

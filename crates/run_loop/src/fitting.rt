@@ -62,9 +62,12 @@ fn fits_nodes(nodes: &[Node], event: &Event) -> Result<(), JoinFault>
         return Ok(());
     };
     match nodes.get(*uid as usize) {
-        Some(Node {
-            leaf: Some(leaf), ..
-        }) => sort_fits(&leaf.row.get().sort, *uid, telling),
+        Some(
+            Node {
+                leaf: Some(leaf),
+                ..
+            },
+        ) => sort_fits(&leaf.row.get().sort, *uid, telling),
         _ => Err(JoinFault::NoLeaf { uid: *uid }),
     }
 }

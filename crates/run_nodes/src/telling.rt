@@ -1,16 +1,9 @@
-ghost use Rattle.std.specs.Prelude.{◌≡◌, ◌∷◌, [], ℕ, ℤ, List, Option, None, slice_set};
+ghost use Rattle.std.specs.Prelude.{◌≡◌, ◌∷◌, [], ℤ, List, Option, slice_set};
 ghost use Rattle.spec_script.specs.declared.value.Value.{Value};
-ghost use Rattle.spec_tree.specs.declared.term.Term.{Term};
-ghost use Rattle.spec_tree.specs.Trees.{nodes_of};
-ghost use Rattle.spec_world.specs.declared.world.Telling.{Telling as Told};
-ghost use Rattle.spec_world.specs.declared.world.What.TheVariants as what;
-ghost use Rattle.spec_run.specs.Joins.{event_lacks};
-ghost use Rattle.spec_run.specs.Sites.{View};
 ghost use Rattle.run_arena.specs.declared.nodes.Kept.{Kept};
-ghost use Rattle.run_arena.specs.declared.nodes.Node.{Node as NodeOf};
 ghost use Rattle.run_arena.specs.Ends.{StaysFit};
 ghost use Rattle.run_arena.specs.Rosters.{AreServed, instances_of, roster_after};
-ghost use Rattle.run_arena.specs.Scenes.{Fits, Scene, scene};
+ghost use Rattle.run_arena.specs.Scenes.{scene};
 ghost use Rattle.run_nodes.specs.Tellings.{CanBeTold, telling_at};
 
 use run_arena::{Node, node};
@@ -35,9 +28,3 @@ pub fn tell_leaf<D: Drivers>(nodes: &[Node], drivers: &mut D, uid: u32, telling:
         None => unreachable!(),
     }
 }
-
-/// Where nothing is missing for a telling, its leaf can be told in each arena in which the tree fits.
-pub fn tellings_find_their_leaves()
-    ensures { (term : Term) (view : View) (nodes : List NodeOf) (s : Scene) (runner uid : ℕ) (telling : Told) →
-        Fits term view 1 nodes s → event_lacks view.rows (nodes_of term) (what.Tell runner uid telling) ≡ None → CanBeTold nodes uid }
-{}

@@ -1,6 +1,5 @@
 use Rattle.std.proofs.Common.{◌≡◌, length, true, sym, ap, ◌∙◌, arith}
 use Rattle.std.proofs.lemmas.List.Sums.{position_or_len_is}
-use Rattle.spec_world.specs.declared.world.ToldOut.{ToldOut}
 use Rattle.run_nodes.proofs.ToldValues.{is_for, unnamed}
 use Rattle.run_nodes.proofs.leaves.place_told.Goals as goal
 

@@ -1,4 +1,4 @@
-use Rattle.std.proofs.Common.{◌≡◌, ◌<◌, ◌≤◌, ℕ, List, length, get_or, false}
+use Rattle.std.proofs.Common.{◌≡◌, ◌<◌, ℕ, get_or, false}
 use Rattle.std.specs.Str.{bytes_eq}
 use Rattle.spec_world.specs.declared.world.ToldOut.{ToldOut}
 use Rattle.run_nodes.proofs.leaves.place_told.Given as goal
