@@ -28,7 +28,8 @@ def without_leaf(file: TreeFile, world: World, telling: Telling) -> Report:
     message = f"the tree has no node {telling.uid}: it has {len(file.nodes)}" if node is None else \
         f"{node.said()} can't be told what it answers: its row is not told" if node.kind == "Leaf" else f"{node.said()} is no leaf with a row"
     notes = [] if node is None else [Note(f"node {telling.uid}", Place(file.source, *node.element.span()))]
-    helps = [f"leaves that are told: {listed(told)}" if told else "no leaf of the tree has a row `condition ROW told` or `action ROW told`"]
+    helps = [f"leaves that are told: {listed(told)}" if told else
+             "no leaf of the tree has a row `condition ROW told` or `action ROW told`"]
     return Report("error", message, Place(world.source, *telling.leaf.span()), "", helps, notes)
 
 

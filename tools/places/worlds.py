@@ -282,27 +282,29 @@ class Line:
     def output(self, at: int) -> Tuple[Word, Word]:
         """The output `NAME=VALUE` that begins at a place."""
         text = self.source.data[at:self.end]
-        front = (re.match(rb"[^ \t=]*", text) or re.match(b"", text)).group().decode("latin-1")  # type: ignore[union-attr]
+        front = re.split(rb"[ \t=]", text, maxsplit=1)[0].decode("latin-1")
         name = Word(front, at, at + len(front))
         if not is_name(front):
             self.bad((at, at + max(len(front), 1)), f"an output is told as NAME=VALUE, and {front or 'the ='} is no name")
         if text[len(front):len(front) + 1] != b"=":
-            self.bad(name.span(), f"an output is told as NAME=VALUE, with no white space round the =")
+            self.bad(name.span(), "an output is told as NAME=VALUE, with no white space round the =")
         return name, self.value(name.end + 1)
 
     def value(self, at: int) -> Word:
         """The value that begins at a place: a number, or a quoted text."""
         text = self.source.data[at:self.end]
         if text[:1] != b"'":
-            word = (re.match(rb"[^ \t]*", text) or re.match(b"", text)).group().decode("latin-1")  # type: ignore[union-attr]
+            word = re.split(rb"[ \t]", text, maxsplit=1)[0].decode("latin-1")
             if not CANONICAL.fullmatch(word):
                 helps = number_helps(word) or [f"a text stands between quotes: '{word}'"] if word else []
-                self.bad((at, at + max(len(word), 1)), f"a value is a number or a text between quotes, and {word or 'none'} is neither", helps)
+                said = f"a value is a number or a text between quotes, and {word or 'none'} is neither"
+                self.bad((at, at + max(len(word), 1)), said, helps)
             return Word(word, at, at + len(word))
         found = QUOTED.match(text)
         if found is None:
             self.bad((at, self.end), "the text does not end, or a byte of it is not escaped",
-                     ["in a text stand \\' for a quote, \\\\ for a backslash, \\n for a line feed, and \\x with two digits as in \\x1f for any byte"])
+                     ["in a text stand \\' for a quote, \\\\ for a backslash, \\n for a line feed, and \\x with two digits, as in \\x1f, "
+                      "for any byte"])
         if not is_utf8(unescaped(found.group(1))):
             self.bad((at, at + found.end()), "the bytes of the text are no UTF-8")
         return Word(found.group().decode("latin-1"), at, at + found.end())
@@ -720,7 +722,8 @@ class World:
     def few_outputs(self, line: Line, outs: List[Tuple[Word, Word]]) -> None:
         """Raises where a telling has too many outputs, or too long a text."""
         if len(outs) > MOST["outs"]:
-            raise line.fault("TooMany", outs[MOST["outs"]][0].span(), f"the telling has {len(outs)} outputs", [f"at most {MOST['outs']} outs"])
+            raise line.fault("TooMany", outs[MOST["outs"]][0].span(), f"the telling has {len(outs)} outputs",
+                             [f"at most {MOST['outs']} outs"])
         for name, value in outs:
             text = unescaped(value.text[1:-1].encode("latin-1")) if value.text.startswith("'") else b""
             if len(text) > MOST_TEXT_BYTES:

@@ -9,7 +9,7 @@ use Rattle.spec_script.specs.declared.syntax.Expr.{Expr}
 use Rattle.spec_world.specs.declared.world.Row.{Row}
 use Rattle.spec_world.specs.declared.world.RowSort.{RowSort}
 use Rattle.spec_world_file.specs.declared.world_fault.WorldKind.{WorldKind}
-use Rattle.spec_world_file.specs.WorldFile.{Line, TimedLine, ReplayLine, TellLine, AfterForm, AfterLine, Reading, following, ends_after, is_ms, outcomes_in, replay_line, success_in, tell_line, timed_line, told_line, with_action, word, ReadsNumeric, SaysOf, closed, ranged, with_head}
+use Rattle.spec_world_file.specs.WorldFile.{Line, TimedLine, ReplayLine, AfterForm, AfterLine, Reading, following, ends_after, is_ms, outcomes_in, replay_line, timed_line, told_line, with_action, word, ReadsNumeric, SaysOf, closed, ranged, with_head}
 use Rattle.spec_tree.specs.Numbers.{is_canonical, number_in}
 use Rattle.spec_world_file.specs.WorldFile as file
 use Rattle.world_draft.specs.Lines.Ranges.{Passes}
@@ -95,14 +95,3 @@ nothing_more result left r now line head row text add sort after is is_head none
     ap (λ (t : Bool). if t then option_map line (file.head_in row) else None) none ∙ ap (option_map line) (sym is_head) in
     leaves_map result left (λ said. said ≡ with_head head add sort now) (AfterForm r (told_line line row text))
     (λ said k. subst (λ (o : Option Line). AfterForm r o said) (sym said_line) (after said (k ∙ ap (λ (q : Reading). with_head head add sort q) is)))
-
--- a telling
-pub tell_is :
-    (text w v rest : List ℕ) (succeeds : Bool) → w ≡ word 0 text → v ≡ word 1 text → rest ≡ following 3 text → is_canonical w ≡ true → is_canonical v ≡ true →
-    success_in (word 2 text) ≡ Some succeeds → (succeeds || ends_after 3 text) ≡ true → tell_line text ≡ Some (TellLine (signed_digits_value 10 w) (signed_digits_value 10 v) succeeds rest)
-tell_is text w v rest succeeds is_runner is_uid is_rest runner uid status ends =
-    ap (λ (o : Option ℤ). option_and_then (λ n. option_and_then (λ m. option_and_then (λ b. if b || ends_after 3 text then Some (TellLine n m b (following 3 text)) else None) (success_in (word 2 text))) (number_in (word 1 text))) o) (number_is w text is_runner runner)
-    ∙ ap (λ (o : Option ℤ). option_and_then (λ m. option_and_then (λ b. if b || ends_after 3 text then Some (TellLine (signed_digits_value 10 w) m b (following 3 text)) else None) (success_in (word 2 text))) o) (ap number_in (sym is_uid) ∙ ap (λ (t : Bool). if t then Some (signed_digits_value 10 v) else None) uid)
-    ∙ ap (option_and_then (λ (b : Bool). if b || ends_after 3 text then Some (TellLine (signed_digits_value 10 w) (signed_digits_value 10 v) b (following 3 text)) else None)) status
-    ∙ ap (λ (t : Bool). if t then Some (TellLine (signed_digits_value 10 w) (signed_digits_value 10 v) succeeds (following 3 text)) else None) ends
-    ∙ ap (λ (bs : List ℕ). Some (TellLine (signed_digits_value 10 w) (signed_digits_value 10 v) succeeds bs)) (sym is_rest)
