@@ -141,6 +141,16 @@ class Browser:
             self.driver.quit()
 
 
+def begin(tries=3):
+    """A new browser, which may fail to start on a busy machine, and is tried again then."""
+    for left in reversed(range(tries)):
+        try:
+            return Browser()
+        except WebDriverException:
+            if left == 0:
+                raise
+
+
 def skip():
     """Says how the browser is installed, and that nothing was tested."""
     print(MISSING)

@@ -10,7 +10,7 @@ use Rattle.spec_world.specs.declared.world.What.{What}
 use Rattle.spec_world.specs.declared.world.World.{World}
 use Rattle.spec_run.specs.Drivers.{DriverState, NothingHeld}
 use Rattle.spec_run.specs.Run.{RunState, Stepped, Trace, before_rest, step_by, then_rest}
-use Rattle.run_laws.proofs.Runs.{step_last}
+use Rattle.run_laws.proofs.Runs.{step_last as step_moment}
 use Rattle.spec_outside.specs.Appending.{AppendedPrefix}
 use Rattle.base_outside.proofs.Appends.{AppendedPrefix-longer, AppendedPrefix-nothing}
 use Rattle.text_lines.specs.declared.stop.TextStop.{TextStop}
@@ -144,5 +144,5 @@ event_makes of old new d made result left shows watcher = record {
 -- after an event the last moment is its own
 pub last_is : (made : Result (Unit {0}) (Stop RunFault)) (tree : Tree) (world : World) (before after : List DriverState) (runs : Runs) (block : Block) (what : What) (at : ℕ) (s : RunState) →
     made ≡ Ok tt → EventEnds made tree.term before after runs block (step_by what tree world at s) → runs.last ≡ at
-last_is (Ok done) tree world before after runs block what at s is ends = ap (λ (x : RunState). x.last) ends.1.state ∙ step_last what tree world at s
+last_is (Ok done) tree world before after runs block what at s is ends = ap (λ (x : RunState). x.last) ends.1.state ∙ step_moment what tree world at s
 last_is (Err e) tree world before after runs block what at s is ends = cc

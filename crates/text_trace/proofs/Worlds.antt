@@ -26,7 +26,7 @@ module _ (of : Setup) where
   all_can_come last [] valid order following told = tt
   all_can_come last (e ∷ events) valid order following told =
       let each = neither (event_lacks of.world.rows (nodes_of of.tree.term) e.what) (first_untold of.world.rows (nodes_of of.tree.term) events) told in (
-        ((valid 0 e (omega arith)).1, (following 0 e (omega arith), each.0)),
+        ((valid 0 e (omega arith)).1, following 0 e (omega arith), each.0),
         all_can_come e.at events (λ k d within. valid (suc k) d (omega (arith, within))) (λ i j d low within. order (suc i) (suc j) d (omega (arith, low)) (omega (arith, within))) (λ k d within. order 0 (suc k) d (omega arith) (omega (arith, within)))
             each.1,
       )
