@@ -1,6 +1,7 @@
 -- What a host knows when an event comes, and after it.
 use Rattle.std.proofs.Common.{◌≡◌, ◌<◌, ◌≤◌, ℕ, zero, suc, List, [], ◌∷◌, length, get_or, Option, Some, None, Result, Ok, refl, ap, sym, subst, ◌∙◌, arith}
-use Rattle.std.specs.Prelude.{OnOk, option_or}
+use Rattle.std.specs.Prelude.{OnOk}
+use Rattle.std.specs.Option.{option_or}
 use Rattle.std.specs.List.{All}
 use Rattle.base_texts.specs.declared.stop.Stop.{Stop}
 use Rattle.spec_run.specs.declared.fault.RunFault.{RunFault}
