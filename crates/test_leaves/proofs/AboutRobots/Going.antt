@@ -1,6 +1,7 @@
 -- What a host knows when an event comes, and after it.
 use Rattle.std.proofs.Common.{◌≡◌, ◌<◌, ◌≤◌, ℕ, zero, suc, List, [], ◌∷◌, length, get_or, Option, Some, None, Result, Ok, refl, ap, sym, subst, ◌∙◌, arith}
-use Rattle.std.specs.Prelude.{OnOk, option_or}
+use Rattle.std.specs.Prelude.{OnOk}
+use Rattle.std.specs.Option.{option_or}
 use Rattle.std.specs.List.{All}
 use Rattle.base_texts.specs.declared.stop.Stop.{Stop}
 use Rattle.spec_run.specs.declared.fault.RunFault.{RunFault}
@@ -13,7 +14,7 @@ use Rattle.spec_world.specs.declared.world.Event.{Event}
 use Rattle.spec_world.specs.declared.world.World.{World}
 use Rattle.spec_run.specs.Drivers.{DriverState}
 use Rattle.spec_run.specs.Run.{Stepped}
-use Rattle.spec_world.specs.Worlds.{IsValidEvent, IsValidWorld}
+use Rattle.spec_world.specs.Worlds.{IsValidEvent, IsValidWhat, IsValidWorld}
 use Rattle.run_arena.specs.declared.block.Block.{Block}
 use Rattle.run_loop.specs.declared.runs.Runs.{Runs}
 use Rattle.run_loop.specs.Runs.{AreRuns, arenas_of, leaves_of}
@@ -46,14 +47,16 @@ all_told rows nodes (e ∷ events) told (suc place) none within =
 -- an event of a world, at no moment before the last one, can come
 pub comes : (of : Setup) (last : ℕ) (events : List Event) (place : ℕ) (none next : Event) → IsValidWorld of.world →
     first_untold of.world.rows (nodes_of of.tree.term) of.world.events ≡ None → events ≡ of.world.events → place < length events →
-    next ≡ get_or events place none → last ≤ (get_or events place none).at → CanCome of last next
+    next ≡ get_or events place none → last ≤ next.at → CanCome of last next
 comes of last events place none next valid told listed within is ahead =
     let fits = ap (first_untold of.world.rows (nodes_of of.tree.term)) listed ∙ told in
-    subst (λ (e : Event). CanCome of last e) (sym is) (
+    let There = λ (e : Event). IsValidWhat of.world.facts of.world.runners e.what × (event_lacks of.world.rows (nodes_of of.tree.term) e.what ≡ None) in
+    let there =
+    subst There (sym is) (
       (subst (All (IsValidEvent of.world.facts of.world.runners)) (sym listed) valid.events place none within).1,
-      ahead,
       all_told of.world.rows (nodes_of of.tree.term) events fits place none within,
-    )
+    ) in
+    (there.0, ahead, there.1)
 
 -- after an event that was made the runs can go on
 pub goes_on : (of : Setup) {made : Result (Unit {0}) (Stop RunFault)} {old new : EventSide} {d : Stepped} {runs : Runs} {block : Block} → EventLeft of made old new d →

@@ -32,5 +32,5 @@ returns-clause-ends g c =
     c.in_ok-runs.ensures.begun.calls c.run.result
     (seen g.K.Sink.written g.K.Sink.faults g.C.Clock.moments g.D.Drivers.states c.args.outside.now) _ c.run.ensures.gave
 
-pub run-requires-clause-told : goal.run-requires-clause-told
-run-requires-clause-told g c = all_told g.of (g.D.Drivers.states c.args.outside.now.drivers.now) c.in_ok-runs.ensures.fault
+pub run-requires : goal.run-requires
+run-requires g c = ?
