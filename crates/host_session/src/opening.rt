@@ -1,4 +1,4 @@
-ghost use Rattle.std.specs.Prelude.{◌≡◌, IfOk};
+ghost use Rattle.std.specs.Prelude.{◌≡◌, [], IfOk};
 ghost use Rattle.std.specs.Option.{option_copied};
 ghost use Rattle.base_tables.specs.Runnable.{IsRunnable};
 ghost use Rattle.spec_world.specs.Worlds.{IsValidWorld};
@@ -16,14 +16,14 @@ use run_loop::{leaves, make_runs, tellings_fit};
 use spec_run::JoinFault;
 use spec_session::OpenFault;
 use spec_tree::Tree;
-use spec_world::World;
+use spec_world::{Event, World};
 use std::alloc::Global;
 use std::collections::VecDeque;
 use tree_board::slots_of;
 use world_reader::read_world;
 
 /// A world without its own events, and these.
-fn parted(alloc: Global, world: World) -> (World, VecDeque<spec_world::Event>)
+fn parted(alloc: Global, world: World) -> (World, VecDeque<Event>)
     ensures world { result.0 ≡ record world { events = [] } }
     ensures own { result.1.items ≡ world.events }
 {
@@ -54,7 +54,9 @@ fn join(alloc: Global, tree: Tree, world: World) -> Result<Session, Stop<JoinFau
     let slots = slots_of(alloc, &tree)?;
     let mut five = Five::new(alloc);
     let runs = make_runs(alloc, &tree, &slots, &world, &mut five)?;
-    tellings_fit(&runs, world.events.list()).map_err(Stop::Fault)?;
+    if let Err(fault) = tellings_fit(&runs, world.events.list()) {
+        return Err(Stop::Fault(fault));
+    }
     let block = block_for(alloc, leaves(&runs) as u32)?;
     let (world, own) = parted(alloc, world);
     Ok(Session {

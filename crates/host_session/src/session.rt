@@ -1,5 +1,4 @@
-ghost use Rattle.std.specs.Prelude.{◌≡◌, None, IfNone};
-ghost use Rattle.spec_run.specs.Served.{Setup};
+ghost use Rattle.std.specs.Prelude.{◌≡◌, ◌≤◌, ℕ, true, IfNone};
 ghost use Rattle.spec_session.specs.Events.{EventGives, FinishGives, Leaves, NextGives, event_step, finish_misuse, finish_step, misuse};
 ghost use Rattle.run_loop.specs.Steps.{CanCome};
 ghost use Rattle.host_session.specs.Ending.{ended_of};
@@ -66,10 +65,16 @@ fn ended(made: Result<(), Stop<RunFault>>) -> Result<(), Ended>
 impl Session {
     ghost use Rattle.host_session.specs.Sittings.{setup_of};
     ghost use Rattle.spec_session.specs.Events.{what_misuse};
-    ghost use Rattle.spec_world.specs.Worlds.{IsValidWhat};
+    ghost use Rattle.spec_world.specs.Worlds.{IsValidTelling, IsValidWhat};
 
     /// What is wrong with a telling of a leaf of this runner, in a session that takes events.
-    fn tell_misuse(&self, event: &Event, runner: u8, telling: &Telling) -> Option<Misuse> {
+    fn tell_misuse(&self, event: &Event, runner: u8, telling: &Telling) -> Option<Misuse>
+        ghost uid: { ℕ }
+        requires usable { self.now.usable ≡ true }
+        requires what { event.now.what ≡ What.Tell runner uid telling.now }
+        ensures misuse { result ≡ what_misuse self.now.tree self.now.world (What.Tell runner uid telling.now) }
+        ensures valid { IfNone result (IsValidTelling telling.now) }
+    {
         if let Some(misuse) = runner_misuse(self.world.runners, runner) {
             return Some(misuse);
         }
@@ -156,7 +161,8 @@ impl Session {
 
     /// Why the finish of a runner is not taken; none where it is.
     fn finish_misuse(&self, runner: u8) -> Option<Misuse>
-        ensures { result ≡ finish_misuse self.now runner }
+        ensures misuse { result ≡ finish_misuse self.now runner }
+        ensures can { IfNone result ((self.now.usable ≡ true) × (1 ≤ runner) × (runner ≤ self.now.world.runners)) }
     {
         if self.runs.usable {
             runner_misuse(self.world.runners, runner)
@@ -167,7 +173,9 @@ impl Session {
 
     /// Makes the finish of a runner that is taken.
     fn make_finish(&mut self, runner: u8) -> Result<(), Ended>
-        requires { finish_misuse self.old runner ≡ None }
+        requires usable { self.old.usable ≡ true }
+        requires first { 1 ≤ runner }
+        requires last { runner ≤ self.old.world.runners }
         ensures { Leaves self.old (finish_step self.old runner) result self.new }
     {
         let made = run_finish(

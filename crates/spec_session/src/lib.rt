@@ -1,5 +1,5 @@
 //! Definitions: what a session is, in which a host drives a tree event by event: what it keeps, which events it takes
-//! and what each leaves, and what a host reads of it.
+//! and what each leaves.
 #![tactic(auto)]
 
 mod ended;

@@ -33,8 +33,9 @@ fn word<'a>(call: &'a str, place: usize) -> &'a str {
 }
 
 /// The output that a word `NAME=VALUE` tells: a number, or else a text.
-fn out_of(alloc: Global, word: &str) -> Result<ToldOut, NoMemory> {
+fn out_of(rt: &impl Abort, alloc: Global, word: &str) -> Result<ToldOut, NoMemory> {
     let (name, value) = word.split_once("=").unwrap_or((word, ""));
+    assert!(rt; value.len() <= 4096);
     let value = match value.parse::<i64>() {
         Ok(n) => Value::Int(n),
         Err(_) => Value::Text(Txt::of(Vec::from_slice(alloc, value.as_bytes())?)),
@@ -46,19 +47,19 @@ fn out_of(alloc: Global, word: &str) -> Result<ToldOut, NoMemory> {
 }
 
 /// What a call `tell R UID STATUS MS NAME=VALUE ..` tells.
-fn telling_of(alloc: Global, call: &str) -> Result<Telling, NoMemory> {
+fn telling_of(rt: &impl Abort, alloc: Global, call: &str) -> Result<Telling, NoMemory> {
     if word(call, 3) != "SUCCESS" {
         return Ok(Telling::Failure);
     }
     let mut outs = Vec::new(alloc);
     for word in call.split_whitespace().skip(5) {
-        outs.push(out_of(alloc, word)?)?;
+        outs.push(out_of(rt, alloc, word)?)?;
     }
     Ok(Telling::Success(Items::of(outs)))
 }
 
 /// What a call asks for: `tick R MS`, `halt R MS`, `set FACT MS VALUE` or `tell R UID STATUS MS NAME=VALUE ..`.
-fn what_of(alloc: Global, call: &str) -> Result<What, NoMemory> {
+fn what_of(rt: &impl Abort, alloc: Global, call: &str) -> Result<What, NoMemory> {
     let first = number(call, 1);
     let runner = u8::try_from(first).unwrap_or(0);
     Ok(match word(call, 0) {
@@ -67,7 +68,7 @@ fn what_of(alloc: Global, call: &str) -> Result<What, NoMemory> {
         "tell" => What::Tell {
             runner,
             uid: u32::try_from(number(call, 2)).unwrap_or(0),
-            telling: telling_of(alloc, call)?,
+            telling: telling_of(rt, alloc, call)?,
         },
         _ => What::Change {
             fact: u32::try_from(first).unwrap_or(0),
@@ -77,14 +78,19 @@ fn what_of(alloc: Global, call: &str) -> Result<What, NoMemory> {
 }
 
 /// Makes a call of a session.
-fn make(alloc: Global, session: &mut Session, call: &str) -> Result<Result<(), Ended>, NoMemory> {
+fn make(
+    rt: &impl Abort,
+    alloc: Global,
+    session: &mut Session,
+    call: &str,
+) -> Result<Result<(), Ended>, NoMemory> {
     match word(call, 0) {
         "own" => Ok(session.own_event()),
         "finish" => Ok(session.finish(u8::try_from(number(call, 1)).unwrap_or(0))),
         kind => {
             let place = if kind == "tell" { 4 } else { 2 };
             let at = u64::try_from(number(call, place)).unwrap_or(0);
-            Ok(session.event(what_of(alloc, call)?, at))
+            Ok(session.event(what_of(rt, alloc, call)?, at))
         }
     }
 }
@@ -113,7 +119,7 @@ fn call_text(
     call: &str,
     text: &mut String,
 ) -> Result<(), NoMemory> {
-    match make(alloc, session, call)? {
+    match make(rt, alloc, session, call)? {
         Ok(()) => tell(alloc, session, names, text),
         Err(Ended::Misused(misuse)) => {
             text.push_str(format!(in alloc; "{misuse:?}\n")?.as_str())?;
@@ -155,10 +161,7 @@ fn file_of(alloc: Global, nodes: &str) -> Result<String, NoMemory> {
 fn told(rt: &impl Abort, alloc: Global, row: &Row) -> Result<String, NoMemory> {
     let file = file_of(alloc, row.nodes)?;
     match Session::open(alloc, file.as_bytes(), row.world.as_bytes(), None) {
-        Ok(session) => {
-            let mut session = session;
-            calls_text(rt, alloc, &mut session, row.calls)
-        }
+        Ok(mut session) => calls_text(rt, alloc, &mut session, row.calls),
         Err(Stop::Fault(fault)) => Ok(format!(in alloc; "{fault:?}")?),
         Err(Stop::NoMemory) => Err(NoMemory),
     }
@@ -387,13 +390,13 @@ static REFUSED: [Row; 3] = [
         nodes: "<Wave>",
         world: "",
         calls: "",
-        want: "Tree(Elements(",
+        want: "Tree(Elements(Unmatched { place: 50 }))",
     },
     Row {
         nodes: "<Wave/>",
         world: "bt-world 2\n",
         calls: "",
-        want: "World(WorldFault { kind: Header, line: 1 })",
+        want: "World(WorldFault { line: 1, kind: Header })",
     },
     Row {
         nodes: "<Wave/>",
