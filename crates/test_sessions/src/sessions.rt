@@ -4,8 +4,9 @@
 use base_outside::SureSink;
 use base_texts::{Items, Name, NoMemory, Stop, Txt};
 use host_session::Session;
+use spec_run::JoinFault;
 use spec_script::Value;
-use spec_session::Ended;
+use spec_session::{Ended, OpenFault};
 use spec_world::{Telling, ToldOut, What};
 use std::alloc::Global;
 use std::process::Abort;
@@ -162,6 +163,9 @@ fn told(rt: &impl Abort, alloc: Global, row: &Row) -> Result<String, NoMemory> {
     let file = file_of(alloc, row.nodes)?;
     match Session::open(alloc, file.as_bytes(), row.world.as_bytes(), None) {
         Ok(mut session) => calls_text(rt, alloc, &mut session, row.calls),
+        Err(Stop::Fault(OpenFault::Join(JoinFault::NoRow { id }))) => {
+            Ok(format!(in alloc; "NoRow {}", str::from_utf8(id.list()).unwrap_or("?"))?)
+        }
         Err(Stop::Fault(fault)) => Ok(format!(in alloc; "{fault:?}")?),
         Err(Stop::NoMemory) => Err(NoMemory),
     }
@@ -328,17 +332,21 @@ call 2 start SUCCESS
 node 2 IDLE SUCCESS
 call 3 start RUNNING
 node 3 IDLE RUNNING
+node 2 SUCCESS IDLE
 root 1 RUNNING
 tick 1 at 1
 call 2 start SUCCESS
+node 2 IDLE SUCCESS
+call 3 running RUNNING
+node 2 SUCCESS IDLE
 root 1 RUNNING
 tell 1 2 FAILURE at 2
 tick 1 at 2
 call 2 start FAILURE
-node 2 SUCCESS FAILURE
+node 2 IDLE FAILURE
+node 2 FAILURE IDLE
 call 3 halted
 node 3 RUNNING IDLE
-node 2 FAILURE IDLE
 node 1 RUNNING FAILURE
 root 1 FAILURE
 node 1 FAILURE IDLE
@@ -402,7 +410,7 @@ static REFUSED: [Row; 3] = [
         nodes: "<Wave/>",
         world: "bt-world 1\n",
         calls: "",
-        want: "Join(NoRow { id: [87, 97, 118, 101] })",
+        want: "NoRow Wave",
     },
 ];
 
